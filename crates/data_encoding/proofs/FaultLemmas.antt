@@ -1,0 +1,173 @@
+-- A text has no fault exactly where it means something.
+use Rattle.std.proofs.Common.{◌≡◌, ℕ, zero, suc, ◌+◌, ◌*◌, ◌/◌, ◌%◌, ◌<◌, ◌≤◌, ◌==◌, Bool, true, false, not, cond, ◌&&◌, List, [], ◌∷◌, length, map, get_or, Option, Some, None, is_some, IsOkAnd, IfErr, Result, Err, refl, sym, ap, ◌∙◌, subst, arith}
+use Rattle.std.proofs.lemmas.Bool.{false≢true, cases_Bool}
+use Rattle.std.proofs.lemmas.List.{length-map}
+use Rattle.std.proofs.lemmas.List.FromFn.{length-enumerate_from}
+use Rattle.std.proofs.Math.Nat.{mul-le-mul_left}
+use Rattle.std.specs.Prelude.{flat_map, slice_get}
+use Rattle.std.specs.List.{AllByRecursion, list_any, filter_map, take_while, enumerate_from}
+use Rattle.data_encoding.specs.declared.encoding.Character.{Character}
+use Rattle.data_encoding.specs.declared.encoding.Character.TheVariants.{Symbol, Padding, Ignored, Invalid}
+use Rattle.data_encoding.specs.declared.decode.DecodeError.{DecodeError}
+use Rattle.data_encoding.specs.Base.{Base, meaning, is_padded, is_ignored, ignores_some, group_symbols, group_bytes}
+use Rattle.data_encoding.specs.Bits.{runs}
+use Rattle.data_encoding.specs.Grammar.{Placed, placed, kept, groups, PlainMeans, Means, MeansBy}
+use Rattle.data_encoding.specs.Lengths.{length_fault, is_valid_length, is_valid_count, greatest_valid_length, most_bytes, decoded_len, unless_fault}
+use Rattle.data_encoding.specs.Fault.{plain_fault, group_fault, padded_fault_at, count_before_padding, bytes_of_group, fault_of, first_fault, or_else, sound_groups, sound_bytes, IsRefusal}
+use Rattle.data_encoding.specs.declared.decode.DecodeFault.{DecodeFault}
+use Rattle.data_encoding.specs.declared.decode.DecodeFault.TheVariants.{Error}
+use Rattle.data_encoding.proofs.GroupLemmas.{PlainMeans-valid, PlainMeans-count}
+use Rattle.data_encoding.proofs.GrammarLemmas.{ArePlain, PlainMeans-from_groups, groups-PlainMeans}
+use Rattle.data_encoding.proofs.ListLemmas.{AllFail, AllFail-list_any, filter-all, length-filter, take_while-all, first-none, filter_map-none, none-filter_map}
+use Rattle.data_encoding.proofs.WidthLemmas.{IsWidth}
+
+-- each character of a text, and its place
+pub length-placed : (text : List ℕ) → length (placed text) ≡ length text
+length-placed text =
+    length-map (enumerate_from 0 text) (λ (p : ℕ × ℕ). record { place = p.0; byte = p.1 })
+    ∙ length-enumerate_from 0 text
+
+not_ignored_at : (meanings : List Character) → AllFail is_ignored meanings
+    → (byte : ℕ) → is_ignored (get_or meanings byte Invalid) ≡ false
+not_ignored_at [] h byte = refl
+not_ignored_at (m ∷ meanings) h zero = h.0
+not_ignored_at (m ∷ meanings) h (suc byte) = not_ignored_at meanings h.1 byte
+
+each_kept : (base : Base) → ((byte : ℕ) → is_ignored (meaning base byte) ≡ false)
+    → (ks : List Placed) → AllByRecursion (λ k. not (is_ignored (meaning base k.byte)) ≡ true) ks
+each_kept base h [] = tt
+each_kept base h (k ∷ ks) = (ap not (h k.byte), each_kept base h ks)
+
+-- where nothing is ignored, each character is kept
+pub kept-all : (base : Base) (text : List ℕ) → ignores_some base ≡ false
+    → kept base text ≡ placed text
+kept-all base text h =
+    filter-all (λ (k : Placed). not (is_ignored (meaning base k.byte))) (placed text)
+    (each_kept base (not_ignored_at base.meanings (AllFail-list_any is_ignored base.meanings h))
+    (placed text))
+
+module _ (base : Base) (unpadded : base.padding ≡ None) where
+  pub group_fault-plain : (group : List Placed) → group_fault base group ≡ plain_fault base group
+  group_fault-plain group =
+      ap (λ o. cond (is_some o) (padded_fault_at base group (count_before_padding base group))
+      (plain_fault base group)) unpadded
+
+  pub is_valid_length-plain : (len : ℕ) → is_valid_length base len ≡ is_valid_count base.width len
+  is_valid_length-plain len =
+      ap (λ o. cond (is_some o) (len % group_symbols base.width == 0)
+      (is_valid_count base.width len)) unpadded
+
+  to_plain : (gs : List (List Placed)) → AllByRecursion (λ g. group_fault base g ≡ None) gs
+      → AllByRecursion (λ g. plain_fault base g ≡ None) gs
+  to_plain [] h = tt
+  to_plain (g ∷ gs) h = (sym (group_fault-plain g) ∙ h.0, to_plain gs h.1)
+
+  from_plain : (gs : List (List Placed)) → AllByRecursion (λ g. plain_fault base g ≡ None) gs
+      → AllByRecursion (λ g. group_fault base g ≡ None) gs
+  from_plain [] h = tt
+  from_plain (g ∷ gs) h = (group_fault-plain g ∙ h.0, from_plain gs h.1)
+
+-- no group before the first faulty one is left out where none is faulty
+sound_pass : (base : Base) (gs : List (List Placed))
+    → AllByRecursion (λ g. group_fault base g ≡ None) gs
+    → AllByRecursion (λ g. not (is_some (group_fault base g)) ≡ true) gs
+sound_pass base [] h = tt
+sound_pass base (g ∷ gs) h = (ap (λ o. not (is_some o)) h.0, sound_pass base gs h.1)
+
+pub sound_groups-all : (base : Base) (gs : List (List Placed))
+    → AllByRecursion (λ g. group_fault base g ≡ None) gs → sound_groups base gs ≡ gs
+sound_groups-all base gs h =
+    take_while-all (λ (g : List Placed). not (is_some (group_fault base g))) gs
+    (sound_pass base gs h)
+
+neither_fault : (o p : Option DecodeError) → or_else o p ≡ None → (o ≡ None) × (p ≡ None)
+neither_fault None p h = (refl, h)
+neither_fault (Some error) p h = cc
+
+no_fault_of_length : (ignores valid : Bool) (fault : DecodeError)
+    → (ignores ≡ false → valid ≡ true) → cond (not ignores && not valid) (Some fault) None ≡ None
+no_fault_of_length true valid fault h = refl
+no_fault_of_length false valid fault h = ap (λ b. cond (not b) (Some fault) None) (h refl)
+
+module _ (base : Base) (width : IsWidth base.width) (unpadded : base.padding ≡ None)
+    (text : List ℕ) where
+  -- a text with no fault means its bytes
+  pub Means-no_fault : fault_of base text ≡ None → Means base text (sound_bytes base text)
+  Means-no_fault h =
+      let none = neither_fault (length_fault base (length text))
+      (first_fault base (groups base text)) h in
+      let sound = none-filter_map (group_fault base) (groups base text) (first-none _ none.1) in
+      let means = PlainMeans-from_groups base width (kept base text)
+      (to_plain base unpadded (groups base text) sound) in
+      let all = sound_groups-all base (groups base text) sound in
+      subst (λ padding. MeansBy padding base text (sound_bytes base text)) (sym unpadded)
+      (subst (λ gs. PlainMeans base (kept base text) (flat_map (bytes_of_group base) gs))
+      (sym all) means)
+
+  length-kept : ignores_some base ≡ false → length (kept base text) ≡ length text
+  length-kept h = ap length (kept-all base text h) ∙ length-placed text
+
+  no_length_fault : (bytes : List ℕ) → PlainMeans base (kept base text) bytes
+      → length_fault base (length text) ≡ None
+  no_length_fault bytes means =
+      no_fault_of_length (ignores_some base) (is_valid_length base (length text)) _
+      (λ none.
+      is_valid_length-plain base unpadded (length text)
+      ∙ ap (is_valid_count base.width) (sym (length-kept none))
+      ∙ PlainMeans-valid base width (kept base text) bytes means)
+
+  -- a text that means something has no fault
+  pub no_fault-Means : (bytes : List ℕ) → Means base text bytes → fault_of base text ≡ None
+  no_fault-Means bytes h =
+      let means = subst (λ padding. MeansBy padding base text bytes) unpadded h in
+      let sound = from_plain base unpadded (groups base text)
+      (groups-PlainMeans base width (kept base text) bytes means) in
+      ap (λ o. or_else o (first_fault base (groups base text))) (no_length_fault bytes means)
+      ∙ ap (λ l. slice_get l 0) (filter_map-none (group_fault base) (groups base text) sound)
+
+  -- a text means at most as many bytes as its length allows
+  pub length-Means : (bytes : List ℕ) → Means base text bytes
+      → length bytes ≤ most_bytes base (length text)
+  length-Means bytes h =
+      let means = subst (λ padding. MeansBy padding base text bytes) unpadded h in
+      let count = PlainMeans-count base width (kept base text) bytes means in
+      let few : length (kept base text) ≤ length text =
+      omega (
+        arith,
+        length-filter (λ (k : Placed). not (is_ignored (meaning base k.byte)))
+            (placed text),
+        length-placed text,
+      ) in
+      let bits : base.width * length (kept base text) ≤ base.width * length text =
+      mul-le-mul_left base.width few in
+      let most : length bytes ≤ base.width * length text / 8 = omega (arith, count, bits) in
+      subst (λ n. length bytes ≤ n)
+      (ap (λ o. cond (is_some o) (length text / group_symbols base.width * group_bytes base.width)
+      (base.width * length text / 8)) (sym unpadded))
+      most
+
+  -- the length of a text that means something has no fault, and allows as many bytes
+  pub decoded_len-Means : (bytes : List ℕ) → Means base text bytes
+      → IsOkAnd (decoded_len base (length text)) (λ most. length bytes ≤ most)
+  decoded_len-Means bytes h =
+      let means = subst (λ padding. MeansBy padding base text bytes) unpadded h in
+      subst (λ o. IsOkAnd (unless_fault o (most_bytes base (length text)))
+      (λ most. length bytes ≤ most))
+      (sym (no_length_fault bytes means)) (length-Means bytes h)
+
+-- a fault that was found is a refusal
+pub IsRefusal-fault : {A : Type 0} (base : Base) (text : List ℕ) (error : DecodeError)
+    (result : Result A DecodeFault) → result ≡ Err (Error error) → fault_of base text ≡ Some error
+    → IfErr result (IsRefusal base text)
+IsRefusal-fault base text error result is h =
+    subst (λ r. IfErr r (IsRefusal base text)) (sym is) h
+
+pub not_both : (o : Option DecodeError) (error : DecodeError) → o ≡ Some error → o ≡ None → ⊥
+not_both o error h k = cc
+
+-- the one error of a result
+pub position_of : {A : Type 0} (len : ℕ) (result : Result A DecodeFault) (error other : DecodeError)
+    → result ≡ Err (Error error) → error.position < len → result ≡ Err (Error other)
+    → other.position < len
+position_of len result error other h e k =
+    let same : error ≡ other = cc in subst (λ x. x.position < len) same e

@@ -1,0 +1,46 @@
+-- What an encoding means: its base.
+use Rattle.std.specs.Prelude.{ℕ, ◌*◌, ◌/◌, ◌%◌, ◌==◌, Bool, true, false, List, Option, is_some, slice_index_or, if◌then◌else◌}
+use Rattle.std.specs.List.{list_any}
+use Rattle.data_encoding.specs.declared.encoding.BitOrder.{BitOrder}
+use Rattle.data_encoding.specs.declared.encoding.Character.{Character}
+use Rattle.data_encoding.specs.declared.encoding.Character.TheVariants.{Ignored, Invalid}
+
+-- lines of column characters, each followed by the separator
+pub record Wrapping : Type 0 where
+  pub column : ℕ
+  pub separator : List ℕ
+
+-- symbols of width bits in order of value, and the meaning of each byte below 128
+pub record Base : Type 0 where
+  pub width : ℕ
+  pub order : BitOrder
+  pub symbols : List ℕ
+  pub checks_trailing_bits : Bool
+  pub padding : Option ℕ
+  pub meanings : List Character
+  pub wrapping : Option Wrapping
+
+-- what a byte means: one from 128 on is invalid
+abbrev pub meaning : Base → ℕ → Character
+meaning base byte = slice_index_or base.meanings byte Invalid
+
+-- the symbol of a value
+abbrev pub symbol : Base → ℕ → ℕ
+symbol base value = slice_index_or base.symbols value 0
+
+abbrev pub is_ignored : Character → Bool
+is_ignored Ignored = true
+is_ignored _ = false
+
+abbrev pub is_padded : Base → Bool
+is_padded base = is_some base.padding
+
+abbrev pub ignores_some : Base → Bool
+ignores_some base = list_any is_ignored base.meanings
+
+-- the bytes and the symbols of a whole group, the fewest of which the bits are as many
+abbrev pub group_bytes : ℕ → ℕ
+group_bytes width = if width == 5 then 5 else if width % 3 == 0 then 3 else 1
+
+abbrev pub group_symbols : ℕ → ℕ
+group_symbols width = group_bytes width * 8 / width

@@ -1,0 +1,59 @@
+-- Which texts mean which data (RFC 4648, sections 3.2 to 3.5).
+use Rattle.std.specs.Prelude.{◌≡◌, ℕ, ◌<◌, true, List, [], ◌∷◌, ◌++◌, map, length, flat_map, filter, replicate, All, Option, Some, None, not}
+use Rattle.std.specs.List.{enumerate_from}
+use Rattle.data_encoding.specs.declared.encoding.Character.TheVariants.{Symbol, Padding}
+use Rattle.data_encoding.specs.Base.{Base, meaning, is_ignored, group_symbols}
+use Rattle.data_encoding.specs.Bits.{bits_of_bytes, bits_of, runs}
+
+-- a byte of a text, with its place there
+pub record Placed : Type 0 where
+  pub place : ℕ
+  pub byte : ℕ
+
+abbrev pub placed : List ℕ → List Placed
+placed text = map (λ (p : ℕ × ℕ). record { place = p.0; byte = p.1 }) (enumerate_from 0 text)
+
+-- the bytes that are not ignored
+abbrev pub kept : Base → List ℕ → List Placed
+kept base text = filter (λ k. not (is_ignored (meaning base k.byte))) (placed text)
+
+-- in groups, the last perhaps shorter
+abbrev pub groups : Base → List ℕ → List (List Placed)
+groups base text = runs (group_symbols base.width) (kept base text)
+
+-- Symbols alone mean the bytes: their bits are those of the bytes, and then fewer than a symbol's,
+-- which are zeros where that is checked.
+pub record PlainMeans (base : Base) (characters : List Placed) (bytes : List ℕ) : Type 0 where
+  pub values : List ℕ
+  pub rest : List ℕ
+  pub are_symbols : map (λ k. meaning base k.byte) characters ≡ map (λ value. Symbol value) values
+  pub same_bits : flat_map (bits_of base.order base.width) values
+      ≡ bits_of_bytes base.order bytes ++ rest
+  pub rest_is_short : length rest < base.width
+  pub rest_is_zero : base.checks_trailing_bits ≡ true → rest ≡ replicate (length rest) 0
+  pub are_bytes : All (λ byte. byte < 256) bytes
+
+-- A whole group of one or more symbols, and then padding alone, means what its symbols mean.
+pub record GroupMeans (base : Base) (group : List Placed) (bytes : List ℕ) : Type 0 where
+  pub symbols : List Placed
+  pub padding : List Placed
+  pub is_group : group ≡ symbols ++ padding
+  pub is_whole : length group ≡ group_symbols base.width
+  pub is_begun : 0 < length symbols
+  pub is_padding : map (λ k. meaning base k.byte) padding ≡ replicate (length padding) Padding
+  pub means : PlainMeans base symbols bytes
+
+-- Each group means a piece, and the bytes are the pieces joined: so padded texts may be joined.
+abbrev pub GroupsMean : Base → List (List Placed) → List ℕ → Type 0
+GroupsMean base [] bytes = bytes ≡ []
+GroupsMean base (group ∷ others) bytes =
+    (piece more : List ℕ) × (bytes ≡ piece ++ more)
+    × GroupMeans base group piece × GroupsMean base others more
+
+abbrev pub MeansBy : Option ℕ → Base → List ℕ → List ℕ → Type 0
+MeansBy None base text bytes = PlainMeans base (kept base text) bytes
+MeansBy (Some character) base text bytes = GroupsMean base (groups base text) bytes
+
+-- The text means the data.
+abbrev pub Means : Base → List ℕ → List ℕ → Type 0
+Means base text bytes = MeansBy base.padding base text bytes

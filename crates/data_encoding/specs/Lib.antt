@@ -1,0 +1,11 @@
+pub mod Base
+pub mod Bits
+pub mod Text
+pub mod Grammar
+pub mod Lengths
+pub mod Fault
+pub mod Fields
+pub mod IsBase
+pub mod Encoding
+pub mod Printed
+pub mod Predefined

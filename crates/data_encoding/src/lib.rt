@@ -1,0 +1,19 @@
+//! Base encodings, proved: data as text over an alphabet of symbols, and back.
+//!
+//! What an encoding means is stated by the definitions of `specs/`: `text_of` is the text of data,
+//! `Means` says which texts mean which data, and `fault_of` is the one fault of any other text. The
+//! contracts of the public calls compare with them.
+#![tactic(auto)]
+
+mod decode;
+mod encode;
+mod encoding;
+mod predefined;
+
+pub use decode::{DECODE_LIMIT, DecodeError, DecodeFault, DecodeKind};
+pub use encode::ENCODE_LIMIT;
+pub use encoding::{BitOrder, Character, Encoding};
+pub use predefined::hexlower;
+
+#[cfg(test)]
+mod tests;
