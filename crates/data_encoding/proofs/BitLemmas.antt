@@ -1,15 +1,14 @@
 -- Numbers as bits, in either order.
-use Rattle.std.proofs.Common.{◌≡◌, ℕ, zero, suc, ◌+◌, ◌-◌, ◌*◌, ◌/◌, ◌%◌, ◌^◌, ◌<◌, ◌≤◌, List, [], ◌∷◌, ◌++◌, length, map, take, drop, reverse, replicate, refl, sym, ap, ◌∙◌, subst, arith}
-use Rattle.std.proofs.Common.{length-append, append_assoc, take-append-drop, length-take-le}
-use Rattle.std.proofs.lemmas.List.{length-reverse, reverse-reverse, reverse-append, append-nil, take_at, drop_at}
-use Rattle.std.proofs.lemmas.List.Concat.{flat_map-append}
-use Rattle.std.proofs.Math.Nat.{zero-div, zero-mod, pow-succ', zero-add, suc-add, div-one, div-div-eq-div-mul, mod-lt}
+use Rattle.std.proofs.Common.{◌≡◌, ℕ, zero, suc, ◌+◌, ◌*◌, ◌/◌, ◌%◌, ◌^◌, ◌<◌, List, [], ◌∷◌, ◌++◌, length, take, drop, reverse, refl, sym, ap, ◌∙◌, subst, arith}
+use Rattle.std.proofs.Common.{length-append, take-append-drop}
+use Rattle.std.proofs.lemmas.List.{length-reverse, reverse-reverse, reverse-append}
+use Rattle.std.proofs.Math.Nat.{pow-succ', zero-add, suc-add, div-one, div-div-eq-div-mul, mod-lt}
 use Rattle.std.proofs.lemmas.Nat.{div-add-mod', mod-mul-add, pow_pos}
 use Rattle.std.specs.Prelude.{flat_map}
 use Rattle.std.specs.List.{AllByRecursion}
 use Rattle.data_encoding.specs.declared.encoding.BitOrder.{BitOrder}
 use Rattle.data_encoding.specs.declared.encoding.BitOrder.TheVariants.{MostSignificantFirst, LeastSignificantFirst}
-use Rattle.data_encoding.specs.Bits.{low_bits, number_of_low_bits, bits_of, number_of, bits_of_bytes}
+use Rattle.data_encoding.specs.Bits.{low_bits, number_of_low_bits, bits_of, number_of}
 
 -- each is 0 or 1
 abbrev pub AreBits : List ℕ → Type 0

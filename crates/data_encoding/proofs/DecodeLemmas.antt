@@ -1,10 +1,10 @@
 -- A text decoded group by group, where nothing is padded or ignored.
-use Rattle.std.proofs.Common.{◌≡◌, ℕ, zero, suc, ◌+◌, ◌-◌, ◌*◌, ◌/◌, ◌%◌, ◌<◌, ◌≤◌, Bool, true, false, not, cond, List, [], ◌∷◌, ◌++◌, length, map, take, drop, get_or, Option, Some, None, is_some, refl, sym, ap, ◌∙◌, subst, arith}
+use Rattle.std.proofs.Common.{◌≡◌, ℕ, suc, ◌+◌, ◌≤◌, false, not, cond, List, [], ◌∷◌, ◌++◌, length, map, take, drop, Option, Some, None, is_some, sym, ap, ◌∙◌, arith}
 use Rattle.std.proofs.Common.{append_assoc, take-append-drop, length-take-le}
 use Rattle.std.proofs.lemmas.List.{append-nil, map-append, length-drop, drop-drop, drop_all, length-map}
 use Rattle.std.proofs.lemmas.List.FromFn.{length-enumerate_from}
 use Rattle.std.specs.Prelude.{flat_map, slice_get}
-use Rattle.std.specs.List.{filter_map, take_while, prefix_len, enumerate_from, cons_option}
+use Rattle.std.specs.List.{filter_map, prefix_len, enumerate_from, cons_option}
 use Rattle.data_encoding.specs.declared.decode.DecodeError.{DecodeError}
 use Rattle.data_encoding.specs.Base.{Base, ignores_some, group_symbols}
 use Rattle.data_encoding.specs.Bits.{runs}

@@ -1,23 +1,21 @@
 -- A text has no fault exactly where it means something.
-use Rattle.std.proofs.Common.{◌≡◌, ℕ, zero, suc, ◌+◌, ◌*◌, ◌/◌, ◌%◌, ◌<◌, ◌≤◌, ◌==◌, Bool, true, false, not, cond, ◌&&◌, List, [], ◌∷◌, length, map, get_or, Option, Some, None, is_some, IsOkAnd, IfErr, Result, Err, refl, sym, ap, ◌∙◌, subst, arith}
-use Rattle.std.proofs.lemmas.Bool.{false≢true, cases_Bool}
+use Rattle.std.proofs.Common.{◌≡◌, ℕ, zero, suc, ◌*◌, ◌/◌, ◌%◌, ◌<◌, ◌≤◌, ◌==◌, Bool, true, false, not, cond, ◌&&◌, List, [], ◌∷◌, length, get_or, Option, Some, None, is_some, IsOkAnd, IfErr, Result, Err, refl, sym, ap, ◌∙◌, subst, arith}
 use Rattle.std.proofs.lemmas.List.{length-map}
 use Rattle.std.proofs.lemmas.List.FromFn.{length-enumerate_from}
 use Rattle.std.proofs.Math.Nat.{mul-le-mul_left}
 use Rattle.std.specs.Prelude.{flat_map, slice_get}
-use Rattle.std.specs.List.{AllByRecursion, list_any, filter_map, take_while, enumerate_from}
+use Rattle.std.specs.List.{AllByRecursion, enumerate_from}
 use Rattle.data_encoding.specs.declared.encoding.Character.{Character}
-use Rattle.data_encoding.specs.declared.encoding.Character.TheVariants.{Symbol, Padding, Ignored, Invalid}
+use Rattle.data_encoding.specs.declared.encoding.Character.TheVariants.{Invalid}
 use Rattle.data_encoding.specs.declared.decode.DecodeError.{DecodeError}
-use Rattle.data_encoding.specs.Base.{Base, meaning, is_padded, is_ignored, ignores_some, group_symbols, group_bytes}
-use Rattle.data_encoding.specs.Bits.{runs}
+use Rattle.data_encoding.specs.Base.{Base, meaning, is_ignored, ignores_some, group_symbols, group_bytes}
 use Rattle.data_encoding.specs.Grammar.{Placed, placed, kept, groups, PlainMeans, Means, MeansBy}
-use Rattle.data_encoding.specs.Lengths.{length_fault, is_valid_length, is_valid_count, greatest_valid_length, most_bytes, decoded_len, unless_fault}
+use Rattle.data_encoding.specs.Lengths.{length_fault, is_valid_length, is_valid_count, most_bytes, decoded_len, unless_fault}
 use Rattle.data_encoding.specs.Fault.{plain_fault, group_fault, padded_fault_at, count_before_padding, bytes_of_group, fault_of, first_fault, or_else, sound_groups, sound_bytes, IsRefusal}
 use Rattle.data_encoding.specs.declared.decode.DecodeFault.{DecodeFault}
 use Rattle.data_encoding.specs.declared.decode.DecodeFault.TheVariants.{Error}
 use Rattle.data_encoding.proofs.GroupLemmas.{PlainMeans-valid, PlainMeans-count}
-use Rattle.data_encoding.proofs.GrammarLemmas.{ArePlain, PlainMeans-from_groups, groups-PlainMeans}
+use Rattle.data_encoding.proofs.GrammarLemmas.{PlainMeans-from_groups, groups-PlainMeans}
 use Rattle.data_encoding.proofs.ListLemmas.{AllFail, AllFail-list_any, filter-all, length-filter, take_while-all, first-none, filter_map-none, none-filter_map}
 use Rattle.data_encoding.proofs.WidthLemmas.{IsWidth}
 

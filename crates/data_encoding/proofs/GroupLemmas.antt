@@ -1,12 +1,12 @@
 -- Symbols of one group: the bytes that they mean, and their fault.
-use Rattle.std.proofs.Common.{◌≡◌, ℕ, zero, suc, ◌+◌, ◌-◌, ◌*◌, ◌/◌, ◌%◌, ◌^◌, ◌<◌, ◌≤◌, ◌==◌, Bool, true, false, not, cond, ◌&&◌, ◌||◌, nat_lt, List, [], ◌∷◌, ◌++◌, length, map, take, drop, get_or, replicate, Option, Some, None, refl, sym, ap, ◌∙◌, subst, arith}
-use Rattle.std.proofs.Common.{length-append, append_assoc, take-append-drop, length-take-le}
-use Rattle.std.proofs.lemmas.Bool.{false≢true, cases_Bool}
+use Rattle.std.proofs.Common.{◌≡◌, ℕ, zero, suc, ◌+◌, ◌-◌, ◌*◌, ◌/◌, ◌%◌, ◌^◌, ◌<◌, ◌≤◌, ◌==◌, Bool, true, false, not, cond, ◌&&◌, nat_lt, List, [], ◌∷◌, ◌++◌, length, map, take, drop, replicate, Option, Some, None, refl, sym, ap, ◌∙◌, subst, arith}
+use Rattle.std.proofs.Common.{length-append, take-append-drop, length-take-le}
+use Rattle.std.proofs.lemmas.Bool.{false≢true}
 use Rattle.std.proofs.lemmas.Bool.Decides.{nat_tests}
-use Rattle.std.proofs.lemmas.List.{length-map, length-drop, append-nil, take_at, drop_at}
+use Rattle.std.proofs.lemmas.List.{length-map, length-drop, take_at, drop_at}
 use Rattle.std.proofs.lemmas.Nat.{div-add-mod'}
 use Rattle.std.specs.Prelude.{flat_map}
-use Rattle.std.specs.List.{AllByRecursion, All, list_any, filter_map, position}
+use Rattle.std.specs.List.{AllByRecursion, list_any, filter_map, position}
 use Rattle.std.proofs.lemmas.List.Elements.{All-from_recursion, recursion_from_All}
 use Rattle.data_encoding.specs.declared.decode.DecodeError.{DecodeError}
 use Rattle.data_encoding.specs.declared.encoding.BitOrder.{BitOrder}
@@ -19,8 +19,8 @@ use Rattle.data_encoding.specs.Lengths.{is_valid_count, greatest_valid_count}
 use Rattle.data_encoding.specs.Fault.{is_symbol, value_of, symbol_bits, trailing_bits, bytes_of_group, plain_fault, symbols_fault, trailing_fault, fault_at_first, fault_at}
 use Rattle.data_encoding.specs.declared.decode.DecodeKind.TheVariants.{Length as LengthFault}
 use Rattle.data_encoding.proofs.BitLemmas.{AreBits, AreBits-take, AreBits-drop, AreBits-flat_map, AreBits-bits_of, length-bits_of, length-pieces, bits_of-number_of, number_of-bits_of, number_of-below}
-use Rattle.data_encoding.proofs.ListLemmas.{AllFail, position-none, AllFail-position, list_any-none, AllFail-list_any, filter_map-map, parts_same, zeros}
-use Rattle.data_encoding.proofs.RunsLemmas.{runs-first, runs-nil, runs-flat_map}
+use Rattle.data_encoding.proofs.ListLemmas.{AllFail, position-none, AllFail-position, list_any-none, AllFail-list_any, filter_map-map, zeros}
+use Rattle.data_encoding.proofs.RunsLemmas.{runs-first, runs-flat_map}
 use Rattle.data_encoding.proofs.WidthLemmas.{IsWidth}
 
 -- whole bytes of bits are the bits of those bytes

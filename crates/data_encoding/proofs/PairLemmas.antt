@@ -1,23 +1,20 @@
 -- Two symbols of four bits, by the table of values.
-use Rattle.std.proofs.Common.{◌≡◌, ℕ, zero, suc, ◌+◌, ◌-◌, ◌*◌, ◌/◌, ◌%◌, ◌<◌, ◌≤◌, Bool, true, false, not, cond, nat_lt, List, [], ◌∷◌, ◌++◌, length, map, take, drop, get_or, Option, Some, None, Ok, refl, sym, ap, ◌∙◌, subst, arith}
+use Rattle.std.proofs.Common.{◌≡◌, ℕ, ◌+◌, ◌*◌, ◌/◌, ◌%◌, ◌<◌, ◌≤◌, true, false, not, cond, nat_lt, List, [], ◌∷◌, ◌++◌, length, take, drop, get_or, Option, Some, None, Ok, refl, sym, ap, ◌∙◌, subst, arith}
 use Rattle.std.proofs.lemmas.Bool.Decides.{nat_tests}
 use Rattle.std.proofs.lemmas.List.{append-nil, drop_more}
-use Rattle.std.specs.Prelude.{flat_map}
 use Rattle.std.specs.List.{position}
 use Rattle.std.proofs.lemmas.List.Elements.{All-from_recursion}
-use Rattle.data_encoding.specs.declared.encoding.BitOrder.{BitOrder}
 use Rattle.data_encoding.specs.declared.encoding.BitOrder.TheVariants.{MostSignificantFirst}
-use Rattle.data_encoding.specs.declared.encoding.Character.{Character}
 use Rattle.data_encoding.specs.declared.encoding.Character.TheVariants.{Symbol, Invalid}
 use Rattle.data_encoding.specs.declared.encoding.Encoding.TheInside.{Inside}
 use Rattle.data_encoding.specs.declared.decode.DecodeError.{DecodeError}
 use Rattle.data_encoding.specs.declared.decode.DecodeKind.TheVariants.{Length as LengthFault, Symbol as SymbolFault}
 use Rattle.data_encoding.specs.Base.{Base, meaning, group_symbols}
 use Rattle.data_encoding.specs.Bits.{bits_of, bits_of_bytes}
-use Rattle.data_encoding.specs.Encoding.{base_of_tables, meaning_of_entry, HasTables}
+use Rattle.data_encoding.specs.Encoding.{base_of_tables, HasTables}
 use Rattle.data_encoding.specs.Grammar.{Placed, PlainMeans, Means, groups}
 use Rattle.data_encoding.specs.Lengths.{is_valid_count, greatest_valid_count, length_fault, decoded_len}
-use Rattle.data_encoding.specs.Fault.{is_symbol, plain_fault, symbols_fault, fault_at, fault_at_first, group_fault, trailing_fault, bytes_of_group, first_fault, fault_of, or_else}
+use Rattle.data_encoding.specs.Fault.{is_symbol, symbols_fault, fault_at, fault_at_first, group_fault, trailing_fault, bytes_of_group, first_fault, fault_of, or_else}
 use Rattle.data_encoding.proofs.DecodeLemmas.{HasDecoded, HasDecoded-none, HasDecoded-more, HasDecoded-fault, HasDecoded-all, sound_bytes-all, placed_from}
 use Rattle.data_encoding.proofs.FaultLemmas.{group_fault-plain, Means-no_fault, no_fault-Means}
 use Rattle.data_encoding.proofs.GroupLemmas.{PlainMeans-no_fault, PlainMeans-bytes}

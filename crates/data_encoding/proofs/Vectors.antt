@@ -1,6 +1,5 @@
 -- Worked rows, computed from the definitions.
-use Rattle.std.proofs.Common.{◌≡◌, ℕ, true, List, [], ◌∷◌, ◌++◌, codes, replicate, length, Option, Some, None, Result, Ok, Err, refl}
-use Rattle.data_encoding.specs.declared.encoding.BitOrder.TheVariants.{MostSignificantFirst}
+use Rattle.std.proofs.Common.{◌≡◌, ℕ, List, [], ◌∷◌, ◌++◌, codes, replicate, Option, Some, None, Result, Ok, Err, refl}
 use Rattle.data_encoding.specs.declared.decode.DecodeError.{DecodeError}
 use Rattle.data_encoding.specs.declared.decode.DecodeKind.{DecodeKind}
 use Rattle.data_encoding.specs.declared.decode.DecodeKind.TheVariants.{Length, Symbol, Trailing, Padding}

@@ -1,5 +1,5 @@
 -- The six widths.
-use Rattle.std.proofs.Common.{◌≡◌, ℕ, zero, suc, ◌+◌, ◌*◌, ◌<◌, ◌≤◌, refl, arith}
+use Rattle.std.proofs.Common.{◌≡◌, ℕ, zero, suc, ◌*◌, ◌<◌, ◌≤◌, refl, arith}
 use Rattle.data_encoding.specs.Base.{group_bytes, group_symbols}
 
 -- A symbol has one to six bits.

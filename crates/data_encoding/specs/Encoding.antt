@@ -1,5 +1,5 @@
 -- What a contract sees of an `Encoding`: the base of its tables.
-use Rattle.std.specs.Prelude.{◌≡◌, ℕ, ◌/◌, ◌^◌, ◌==◌, nat_lt, ◌||◌, true, IsTrue, if◌then◌else◌, List, map, replicate, take, drop, slice_index, None}
+use Rattle.std.specs.Prelude.{◌≡◌, ℕ, ◌/◌, ◌^◌, ◌==◌, nat_lt, ◌||◌, true, IsTrue, if◌then◌else◌, map, replicate, take, drop, slice_index, None}
 use Rattle.std.specs.List.{concat, list_all, range_with_len}
 use Rattle.data_encoding.specs.declared.encoding.BitOrder.TheVariants.{MostSignificantFirst}
 use Rattle.data_encoding.specs.declared.encoding.Character.{Character}
@@ -23,9 +23,9 @@ base_of_tables e = record {
   wrapping = None;
 }
 
--- The symbols are ASCII, and fill their table again and again. Each has its own value; any other byte
--- has the value of a symbol, or 128, as each from 128 on. For now a symbol has four bits, the most
--- significant first.
+-- The symbols are ASCII, and fill their table again and again. Each has its own value; any other
+-- byte has the value of a symbol, or 128, as each from 128 on. For now a symbol has four bits, the
+-- most significant first.
 pub record HasTables (e : Inside) : Type 0 where
   pub four_bits : e.width ≡ 4
   pub heaviest_first : e.order ≡ MostSignificantFirst

@@ -139,9 +139,9 @@ impl Encoding {
 
     /// The data that the text means.
     ///
-    /// A text that means nothing has one fault: where no byte is ignored, its length is judged first;
-    /// then the first faulty group decides. Want of memory is answered only for a text of a valid
-    /// length that may mean one byte or more.
+    /// A text that means nothing has one fault: where no byte is ignored, its length is judged
+    /// first; then the first faulty group decides. Want of memory is answered only for a text of a
+    /// valid length that may mean one byte or more.
     pub fn decode(&self, alloc: Global, input: &[u8]) -> Result<Vec<u8>, DecodeFault>
         requires { length input.now ≤ DECODE_LIMIT }
         ensures means { IfOk result (λ bytes. Means self.now input.now bytes.items) }

@@ -1,4 +1,4 @@
-use Rattle.std.proofs.Common.{◌≡◌, ℕ, ◌+◌, ◌*◌, ◌<◌, ◌≤◌, List, [], ◌∷◌, ◌++◌, length, get_or, Some, None, Ok, Err, sym, ap, ◌∙◌, subst, refl, arith}
+use Rattle.std.proofs.Common.{◌≡◌, ◌+◌, ◌*◌, ◌<◌, [], ◌∷◌, ◌++◌, Some, Err, sym, ap, ◌∙◌, subst, refl, arith}
 use Rattle.std.proofs.lemmas.Grind.{common_steps}
 use Rattle.std.proofs.lemmas.Slice.{pushed}
 use Rattle.std.proofs.lemmas.Result.{err_from_is_err_and}
@@ -7,7 +7,7 @@ use Rattle.data_encoding.specs.declared.decode.DecodeFault.{DecodeFault}
 use Rattle.data_encoding.specs.Fault.{fault_of}
 use Rattle.data_encoding.proofs.DecodeLemmas.{HasDecoded}
 use Rattle.data_encoding.proofs.FaultLemmas.{IsRefusal-fault, not_both, position_of}
-use Rattle.data_encoding.proofs.PairLemmas.{HasPairs, HasPairs-decoded_len, HasDecoded-start, HasDecoded-two, Means-decoded, fault_of-first, fault_of-second, no_fault-means}
+use Rattle.data_encoding.proofs.PairLemmas.{HasPairs-decoded_len, HasDecoded-start, HasDecoded-two, Means-decoded, fault_of-first, fault_of-second, no_fault-means}
 use Rattle.data_encoding.proofs.TableLemmas.{entry-below}
 use Rattle.data_encoding.proofs.encoding.Encoding.decode.Goals as goal
 

@@ -1,7 +1,7 @@
-use Rattle.std.proofs.Common.{◌≡◌, ◌≤◌, Ok, Err, IsOkAnd, Option, None, Some, length, sym, ap, ◌∙◌, subst, refl, arith}
+use Rattle.std.proofs.Common.{◌≡◌, ◌≤◌, Err, IsOkAnd, length, sym, ap, ◌∙◌, subst, refl, arith}
 use Rattle.data_encoding.specs.Encoding.{base_of_tables}
 use Rattle.data_encoding.specs.Grammar.{Means}
-use Rattle.data_encoding.specs.Lengths.{decoded_len, most_bytes}
+use Rattle.data_encoding.specs.Lengths.{decoded_len}
 use Rattle.data_encoding.proofs.FaultLemmas.{decoded_len-Means}
 use Rattle.data_encoding.proofs.LengthLemmas.{decoded_len-valid, decoded_len-invalid, symbols_fault}
 use Rattle.data_encoding.proofs.TableLemmas.{IsWidth-tables, ignores-none}

@@ -1,8 +1,7 @@
-use Rattle.std.proofs.Common.{◌≡◌, ◌+◌, ◌*◌, ◌/◌, ◌%◌, ◌<◌, ◌≤◌, [], ◌∷◌, ◌++◌, length, take, get_or, bit_and, sym, ap, ◌∙◌, subst, refl, arith}
+use Rattle.std.proofs.Common.{◌≡◌, ◌*◌, ◌/◌, ◌%◌, [], ◌∷◌, ◌++◌, length, take, get_or, bit_and, sym, ap, ◌∙◌, subst, refl, arith}
 use Rattle.std.proofs.lemmas.Bool.{false≢true}
 use Rattle.std.proofs.lemmas.List.{take_more}
 use Rattle.std.proofs.lemmas.Nat.{and_mask}
-use Rattle.std.specs.String.{string_bytes}
 use Rattle.data_encoding.specs.Text.{text_of}
 use Rattle.data_encoding.proofs.ListLemmas.{pushed_two}
 use Rattle.data_encoding.proofs.TableLemmas.{symbol-ascii, text_of-byte, text_of-nil, length-text_of}

@@ -1,0 +1,6 @@
+pub mod Watch
+pub mod Input
+pub mod Faults
+pub mod Names
+pub mod Words
+pub mod Run

@@ -1,0 +1,120 @@
+//! A reader or a writer that remembers whether a call of it failed.
+
+ghost use Rattle.std.specs.Prelude.{◌≡◌, ◌||◌, false, is_err, OnOk};
+ghost use Rattle.std.specs.Io.{ReadsAtMost, WritesAtMost};
+ghost use Rattle.std.specs.Io.KnownBytes.{Appends, Keeps, ReadConsumes, WriteAppends};
+ghost use Rattle.basecode.specs.Watch.{AppendsFront, has_failed, inner_of, is_refused};
+
+use std::io;
+use std::io::{Read, Write};
+
+/// Passes each call on to a reader or a writer, and remembers whether one of them failed.
+///
+/// A call fails where it answers an error of any kind, an interruption too, and where a write of
+/// one or more bytes takes none. Once a call has failed, `failed` stays `true`.
+#[derive(Debug, Drop)]
+pub struct Watch<T> {
+    inner: T,
+    has_failed: bool,
+}
+
+impl<T> Watch<T> {
+    /// Watches a reader or a writer, no call of which has failed.
+    pub fn new(inner: T) -> Watch<T>
+        ensures inner { inner_of result ≡ inner }
+        ensures fresh { has_failed result ≡ false }
+    {
+        Watch {
+            inner,
+            has_failed: false,
+        }
+    }
+
+    /// Whether a call has failed since this watch began.
+    pub fn failed(&self) -> bool
+        ensures { result ≡ has_failed self.now }
+    {
+        self.has_failed
+    }
+
+    /// The reader or the writer that was watched, as the calls left it.
+    pub fn into_inner(self) -> T
+        ensures { result ≡ inner_of self }
+    {
+        let Watch {
+            inner,
+            has_failed: _,
+        } = self;
+        inner
+    }
+}
+
+impl<T: Read> Read for Watch<T> {
+    ghost remaining = { λ w. T.remaining (inner_of w) };
+
+    /// Reads once. An error reads nothing.
+    fn read(&mut self, buf: &mut [u8]) -> io::Result<usize>
+        ensures bound { ReadsAtMost result buf.new }
+        ensures bytes { ReadConsumes (T.remaining (inner_of self.old))
+            (T.remaining (inner_of self.new)) result buf.new }
+        ensures failed { has_failed self.new ≡ (has_failed self.old || is_err result) }
+    {
+        let result = self.inner.read(buf);
+        if result.is_err() {
+            self.has_failed = true;
+        }
+        result
+    }
+}
+
+impl<T: Write> Write for Watch<T> {
+    ghost contents = { λ w. T.contents (inner_of w) };
+
+    /// Writes once. An error writes nothing.
+    fn write(&mut self, buf: &[u8]) -> io::Result<usize>
+        ensures bound { WritesAtMost result buf.now }
+        ensures bytes { WriteAppends (T.contents (inner_of self.old))
+            (T.contents (inner_of self.new)) result buf.now }
+        ensures failed { has_failed self.new ≡ (has_failed self.old || is_refused result buf.now) }
+    {
+        let result = self.inner.write(buf);
+        match &result {
+            Ok(0) if !buf.is_empty() => self.has_failed = true,
+            Ok(_) => {}
+            Err(_) => self.has_failed = true,
+        }
+        result
+    }
+
+    /// Writes all bytes. The first call that fails ends it, an interrupted one too; by then a
+    /// beginning of the bytes is written.
+    fn write_all(&mut self, buf: &[u8]) -> io::Result<()>
+        ensures bytes { OnOk result (Appends (T.contents (inner_of self.old))
+            (T.contents (inner_of self.new)) buf.now) }
+        ensures begun { AppendsFront (T.contents (inner_of self.old))
+            (T.contents (inner_of self.new)) buf.now }
+        ensures failed { has_failed self.new ≡ (has_failed self.old || is_err result) }
+    {
+        let mut done = 0;
+        while done < buf.len() {
+            let count = self.write(&buf[done..])?;
+            if count == 0 {
+                return Err(io::Error::from(io::ErrorKind::WriteZero));
+            }
+            done += count;
+        }
+        Ok(())
+    }
+
+    /// Flushes once. It writes nothing.
+    fn flush(&mut self) -> io::Result<()>
+        ensures bytes { Keeps (T.contents (inner_of self.old)) (T.contents (inner_of self.new)) }
+        ensures failed { has_failed self.new ≡ (has_failed self.old || is_err result) }
+    {
+        let result = self.inner.flush();
+        if result.is_err() {
+            self.has_failed = true;
+        }
+        result
+    }
+}
