@@ -4,14 +4,15 @@ use Rattle.std.proofs.lemmas.List.{length-map}
 use Rattle.std.proofs.lemmas.List.FromFn.{length-enumerate_from}
 use Rattle.std.proofs.Math.Nat.{mul-le-mul_left}
 use Rattle.std.specs.Prelude.{flat_map, slice_get}
-use Rattle.std.specs.List.{AllByRecursion, enumerate_from}
+use Rattle.std.specs.List.{AllByRecursion, enumerate_from, position}
 use Rattle.data_encoding.specs.declared.encoding.Character.{Character}
 use Rattle.data_encoding.specs.declared.encoding.Character.TheVariants.{Invalid}
 use Rattle.data_encoding.specs.declared.decode.DecodeError.{DecodeError}
 use Rattle.data_encoding.specs.Base.{Base, meaning, is_ignored, ignores_some, group_symbols, group_bytes}
 use Rattle.data_encoding.specs.Grammar.{Placed, placed, kept, groups, PlainMeans, Means, MeansBy}
-use Rattle.data_encoding.specs.Lengths.{length_fault, is_valid_length, is_valid_count, most_bytes, decoded_len, unless_fault}
-use Rattle.data_encoding.specs.Fault.{plain_fault, group_fault, padded_fault_at, count_before_padding, bytes_of_group, fault_of, first_fault, or_else, sound_groups, sound_bytes, IsRefusal}
+use Rattle.data_encoding.specs.declared.decode.DecodeKind.TheVariants.{Length as LengthFault}
+use Rattle.data_encoding.specs.Lengths.{length_fault, is_valid_length, is_valid_count, greatest_valid_count, most_bytes, decoded_len, unless_fault}
+use Rattle.data_encoding.specs.Fault.{is_symbol, symbol_fault, symbols_fault, trailing_fault, fault_at, fault_at_first, plain_fault, group_fault, padded_fault_at, count_before_padding, bytes_of_group, fault_of, first_fault, or_else, sound_groups, sound_bytes, IsRefusal}
 use Rattle.data_encoding.specs.declared.decode.DecodeFault.{DecodeFault}
 use Rattle.data_encoding.specs.declared.decode.DecodeFault.TheVariants.{Error}
 use Rattle.data_encoding.proofs.GroupLemmas.{PlainMeans-valid, PlainMeans-count}
@@ -60,7 +61,7 @@ module _ (base : Base) (unpadded : base.padding ≡ None) where
   to_plain [] h = tt
   to_plain (g ∷ gs) h = (sym (group_fault-plain g) ∙ h.0, to_plain gs h.1)
 
-  from_plain : (gs : List (List Placed)) → AllByRecursion (λ g. plain_fault base g ≡ None) gs
+  pub from_plain : (gs : List (List Placed)) → AllByRecursion (λ g. plain_fault base g ≡ None) gs
       → AllByRecursion (λ g. group_fault base g ≡ None) gs
   from_plain [] h = tt
   from_plain (g ∷ gs) h = (group_fault-plain g ∙ h.0, from_plain gs h.1)
@@ -169,3 +170,39 @@ pub position_of : {A : Type 0} (len : ℕ) (result : Result A DecodeFault) (erro
     → other.position < len
 position_of len result error other h e k =
     let same : error ≡ other = cc in subst (λ x. x.position < len) same e
+
+-- faults of a group of a valid count
+pub plain_fault-valid : (base : Base) (group : List Placed)
+    → is_valid_count base.width (length group) ≡ true
+    → plain_fault base group ≡ symbols_fault base group
+plain_fault-valid base group h =
+    ap (λ b. cond b (symbols_fault base group)
+    (fault_at LengthFault group (greatest_valid_count base.width (length group)))) h
+
+first_of : (o : Option ℕ) (group : List Placed) (other : Option DecodeError) (error : DecodeError)
+    → fault_at_first o group None ≡ Some error → fault_at_first o group other ≡ Some error
+first_of None group other error h = cc
+first_of (Some index) group other error h = h
+
+none_of : (o : Option ℕ) (group : List Placed) (other : Option DecodeError)
+    → fault_at_first o group None ≡ None → fault_at_first o group other ≡ other
+none_of None group other h = refl
+none_of (Some index) group other h = cc
+
+-- the first byte that is no symbol is the fault
+pub plain_fault-symbol : (base : Base) (group : List Placed) (error : DecodeError)
+    → is_valid_count base.width (length group) ≡ true → symbol_fault base group ≡ Some error
+    → plain_fault base group ≡ Some error
+plain_fault-symbol base group error valid h =
+    plain_fault-valid base group valid
+    ∙ first_of (position (λ k. not (is_symbol (meaning base k.byte))) group) group
+    (trailing_fault base group) error h
+
+-- and where all are symbols, only bits that are left can be
+pub plain_fault-symbols : (base : Base) (group : List Placed)
+    → is_valid_count base.width (length group) ≡ true → symbol_fault base group ≡ None
+    → plain_fault base group ≡ trailing_fault base group
+plain_fault-symbols base group valid h =
+    plain_fault-valid base group valid
+    ∙ none_of (position (λ k. not (is_symbol (meaning base k.byte))) group) group
+    (trailing_fault base group) h

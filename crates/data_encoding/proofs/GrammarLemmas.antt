@@ -25,7 +25,7 @@ module _ (base : Base) (width : IsWidth base.width) where
   abbrev bits : List ℕ → List ℕ
   bits values = flat_map (bits_of base.order base.width) values
 
-  PlainMeans-nil : PlainMeans base [] []
+  pub PlainMeans-nil : PlainMeans base [] []
   PlainMeans-nil = record {
     values = [];
     rest = [];
@@ -36,14 +36,12 @@ module _ (base : Base) (width : IsWidth base.width) where
     are_bytes = All-from_recursion (λ byte. byte < 256) [] tt;
   }
 
-  -- a whole group and others mean their bytes joined
-  pub PlainMeans-join : (group others : List Placed) (bytes more : List ℕ)
-      → length group ≡ group_symbols base.width → PlainMeans base group bytes
+  -- symbols of so many whole bytes and others mean their bytes joined
+  pub PlainMeans-append : (group others : List Placed) (bytes more : List ℕ) (whole : ℕ)
+      → base.width * length group ≡ 8 * whole → PlainMeans base group bytes
       → PlainMeans base others more → PlainMeans base (group ++ others) (bytes ++ more)
-  PlainMeans-join group others bytes more whole first second =
+  PlainMeans-append group others bytes more whole all first second =
       let count = PlainMeans-count base width group bytes first in
-      let all : base.width * length group ≡ 8 * group_bytes base.width =
-      ap (λ n. base.width * n) whole ∙ group_bits base.width width in
       let none : first.rest ≡ [] =
       nil_from_length first.rest (omega (arith, count, all, first.rest_is_short, width.few)) in
       let exact : bits first.values ≡ bits_of_bytes base.order bytes =
@@ -65,6 +63,13 @@ module _ (base : Base) (width : IsWidth base.width) where
         rest_is_zero = second.rest_is_zero;
         are_bytes = All-append (λ byte. byte < 256) bytes more first.are_bytes second.are_bytes;
       }
+
+  PlainMeans-join : (group others : List Placed) (bytes more : List ℕ)
+      → length group ≡ group_symbols base.width → PlainMeans base group bytes
+      → PlainMeans base others more → PlainMeans base (group ++ others) (bytes ++ more)
+  PlainMeans-join group others bytes more whole first second =
+      PlainMeans-append group others bytes more (group_bytes base.width)
+      (ap (λ n. base.width * n) whole ∙ group_bits base.width width) first second
 
   -- what a whole group and others mean is joined of what each means
   pub record AreJoined (group others : List Placed) (bytes : List ℕ) : Type 0 where

@@ -141,7 +141,7 @@ module _ (base : Base) where
       (fail-map (λ m. not (is_symbol m)) (λ (k : Placed). meaning base k.byte) group
       (subst (AllFail (λ m. not (is_symbol m))) (sym h) (symbols_pass values)))
 
-  are_symbols : (group : List Placed)
+  pub are_symbols : (group : List Placed)
       → position (λ k. not (is_symbol (meaning base k.byte))) group ≡ None
       → meanings_in group ≡ map (λ value. Symbol value) (values_in group)
   are_symbols group h =

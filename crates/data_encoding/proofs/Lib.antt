@@ -3,11 +3,22 @@ pub mod BitLemmas
 pub mod WidthLemmas
 pub mod ListLemmas
 pub mod GroupLemmas
+pub mod PlacedLemmas
 pub mod GrammarLemmas
 pub mod FaultLemmas
 pub mod TextLemmas
 pub mod TableLemmas
 pub mod LengthLemmas
-pub mod DecodeLemmas
-pub mod PairLemmas
+pub mod PlaceLemmas
+pub mod EncodeLemmas
+pub mod PartialLemmas
+pub mod StepLemmas
+pub mod LastLemmas
+pub mod WordLemmas
+pub mod KernelLemmas
+pub mod ListTests
+pub mod EntryLemmas
+pub mod JudgementLemmas
+pub mod RepeatLemmas
+pub mod MadeLemmas
 mod Vectors

@@ -3,7 +3,7 @@ use Rattle.std.proofs.Common.{◌≡◌, ℕ, suc, ◌+◌, ◌≤◌, Bool, tru
 use Rattle.std.proofs.lemmas.Bool.Decides.{nat_tests}
 use Rattle.std.specs.List.{AllByRecursion, list_any, filter, filter_map, take_while, position, prefix_len, slice_get, cons_option}
 use Rattle.std.proofs.lemmas.List.{take_at, drop_at, take_all}
-use Rattle.std.proofs.Common.{append_assoc, length-append}
+use Rattle.std.proofs.Common.{length-append}
 
 -- none passes the test
 abbrev pub AllFail : {X : Type 0} → (X → Bool) → List X → Type 0
@@ -134,11 +134,6 @@ none-filter_map f (x ∷ xs) h =
 pub zeros : (xs : List ℕ) → AllByRecursion (λ x. x ≡ 0) xs → xs ≡ replicate (length xs) 0
 zeros [] h = refl
 zeros (x ∷ xs) h = (λ i. h.0 i ∷ zeros xs h.1 i)
-
--- two elements, one after the other
-pub pushed_two : {X : Type 0} (xs ys zs : List X) (x y : X) → ys ≡ xs ++ x ∷ [] → zs ≡ ys ++ y ∷ []
-    → zs ≡ xs ++ x ∷ y ∷ []
-pushed_two xs ys zs x y h k = k ∙ ap (λ l. l ++ y ∷ []) h ∙ append_assoc xs (x ∷ []) (y ∷ [])
 
 -- the first that passes is found
 pub position-first : {X : Type 0} (test : X → Bool) (xs : List X) (x : X) (ys : List X)

@@ -1,20 +1,19 @@
 -- What the tables of an encoding say of its base.
-use Rattle.std.proofs.Common.{◌≡◌, ℕ, zero, suc, ◌+◌, ◌-◌, ◌*◌, ◌/◌, ◌%◌, ◌^◌, ◌<◌, ◌≤◌, ◌==◌, Bool, true, false, ◌||◌, nat_lt, cond, List, [], ◌∷◌, ◌++◌, length, map, take, get_or, refl, sym, ap, ◌∙◌, subst, arith, ⊎_elim}
+use Rattle.std.proofs.Common.{◌≡◌, ℕ, zero, suc, ◌+◌, ◌-◌, ◌^◌, ◌<◌, ◌≤◌, ◌==◌, Bool, true, false, ◌||◌, nat_lt, cond, List, [], ◌∷◌, length, map, take, get_or, refl, sym, ap, ◌∙◌, subst, arith, ⊎_elim}
 use Rattle.std.proofs.lemmas.Bool.{cases_lt}
 use Rattle.std.proofs.lemmas.Bool.Decides.{nat_tests}
-use Rattle.std.proofs.lemmas.List.{get_or-map, get_or-take, get_or-drop, get_or_past, get_or-replicate, length-map, length-replicate, length-take-le, length-drop, nil_from_length}
+use Rattle.std.proofs.lemmas.List.{get_or-map, get_or-take, get_or-drop, get_or_past, get_or-replicate, length-map, length-replicate, length-take-le, length-drop}
 use Rattle.std.proofs.lemmas.List.FromFn.{length-range_with_len}
 use Rattle.std.specs.Cmp.{first_so, second_so}
 use Rattle.std.specs.List.{list_all, list_any}
 use Rattle.data_encoding.specs.declared.encoding.Character.TheVariants.{Symbol, Invalid}
 use Rattle.data_encoding.specs.declared.encoding.Encoding.TheInside.{Inside}
-use Rattle.data_encoding.specs.Base.{meaning, symbol, is_ignored, ignores_some}
-use Rattle.data_encoding.specs.Encoding.{base_of_tables, meaning_of_entry, HasTables}
-use Rattle.data_encoding.specs.Bits.{bits_of_bytes}
-use Rattle.data_encoding.specs.Text.{text_of}
-use Rattle.data_encoding.proofs.TextLemmas.{plain_text-join, length-plain_text, text_by, text_by-byte}
-use Rattle.data_encoding.proofs.RunsLemmas.{run_count}
-use Rattle.data_encoding.proofs.WidthLemmas.{IsWidth}
+use Rattle.data_encoding.specs.Base.{Base, meaning, symbol, is_ignored}
+use Rattle.data_encoding.specs.Encoding.{base_of_tables, HasTables}
+use Rattle.data_encoding.specs.Entries.{meaning_of_entry}
+use Rattle.data_encoding.specs.Fault.{is_symbol}
+use Rattle.data_encoding.specs.Tables.{IsBare, HoldsSymbols, HoldsValues, Writes, Reads}
+use Rattle.data_encoding.proofs.WidthLemmas.{IsWidth, by_width}
 
 -- a test that all pass, at one place
 pub passes_at : {X : Type 0} (test : X → Bool) (xs : List X) (i : ℕ) (d : X) → list_all test xs
@@ -37,22 +36,26 @@ none_ignored (v ∷ values) =
     ap (λ b. b || list_any is_ignored (map meaning_of_entry values)) (entry_kept v)
     ∙ none_ignored values
 
-small_entry : (v width : ℕ) → width ≡ 4 → (nat_lt v (2 ^ width) || (v == 128)) ≡ true → v < 64
-    → v < 16
-small_entry v width e h k = grind (arith, nat_tests)
+small_entry : (v width : ℕ) → (nat_lt v (2 ^ width) || (v == 128)) ≡ true → v < 128
+    → v < 2 ^ width
+small_entry v width h k = grind (arith, nat_tests)
 
 module _ (e : Inside) (tables : HasTables e) where
   pub IsWidth-tables : IsWidth e.width
-  IsWidth-tables =
-      record { some = omega (arith, tables.four_bits); few = omega (arith, tables.four_bits) }
+  IsWidth-tables = record { some = tables.some_bits; few = tables.few_bits }
 
   length-values : length e.values ≡ 256
   length-values =
       let half = ap length tables.invalid_from_128 ∙ length-replicate {A = ℕ} 128 128 in
       omega (arith, length-drop 128 e.values, half)
 
-  pub ignores-none : ignores_some (base_of_tables e) ≡ false
-  ignores-none = none_ignored (take 128 e.values)
+  -- nothing is padded, ignored or wrapped
+  pub IsBare-tables : IsBare (base_of_tables e)
+  IsBare-tables = record {
+    unpadded = refl;
+    unwrapped = refl;
+    ignores_none = none_ignored (take 128 e.values);
+  }
 
   high_entry : (byte : ℕ) → 128 ≤ byte → byte < 256 → get_or e.values byte 0 ≡ 128
   high_entry byte low high =
@@ -66,7 +69,7 @@ module _ (e : Inside) (tables : HasTables e) where
   length-low = length-take-le 128 e.values (omega (arith, length-values))
 
   -- a byte means what its entry says
-  pub meaning-entry : (byte : ℕ) → byte < 256
+  meaning-entry : (byte : ℕ) → byte < 256
       → meaning (base_of_tables e) byte ≡ meaning_of_entry (get_or e.values byte 0)
   meaning-entry byte h =
       let low_len = length-low in
@@ -81,8 +84,8 @@ module _ (e : Inside) (tables : HasTables e) where
       (cases_lt byte 128)
 
   -- an entry that is a value is that of a symbol
-  pub entry-below : (byte : ℕ) → byte < 256 → get_or e.values byte 0 < 64
-      → get_or e.values byte 0 < 16
+  entry-below : (byte : ℕ) → byte < 256 → get_or e.values byte 0 < 128
+      → get_or e.values byte 0 < 2 ^ e.width
   entry-below byte h small =
       let low_len = length-low in
       ⊎_elim
@@ -90,54 +93,84 @@ module _ (e : Inside) (tables : HasTables e) where
       let same = get_or-take 128 e.values byte 0 low in
       let test = passes_at (λ v. nat_lt v (2 ^ e.width) || (v == 128)) (take 128 e.values) byte 0
       tables.entries (omega arith) in
-      small_entry (get_or e.values byte 0) e.width tables.four_bits
+      small_entry (get_or e.values byte 0) e.width
       (subst (λ v. (nat_lt v (2 ^ e.width) || (v == 128)) ≡ true) same test) small)
       (λ (high : 128 ≤ byte). absurd (omega (arith, high_entry byte high h)))
       (cases_lt byte 128)
+
+  few_symbols : 2 ^ e.width ≤ 64
+  few_symbols = by_width (λ w. 2 ^ w ≤ 64) (omega arith) (omega arith) (omega arith) (omega arith)
+      (omega arith) (omega arith) e.width IsWidth-tables
+
+  pub HoldsValues-tables : HoldsValues (base_of_tables e) e.values
+  HoldsValues-tables = record {
+    some_bits = tables.some_bits;
+    few_bits = tables.few_bits;
+    symbols = λ byte h small.
+        let below : get_or e.values byte 0 < 64 =
+        omega (arith, entry-below byte h small, few_symbols) in
+        let test : nat_lt (get_or e.values byte 0) 64 ≡ true = grind (arith, nat_tests) in
+        meaning-entry byte h
+        ∙ ap (λ b. cond b (Symbol (get_or e.values byte 0)) Invalid) test;
+    below = entry-below;
+    others = λ byte h large.
+        let test : nat_lt (get_or e.values byte 0) 64 ≡ false = grind (arith, nat_tests) in
+        ap is_symbol (meaning-entry byte h
+        ∙ ap (λ b. cond b (Symbol (get_or e.values byte 0)) Invalid) test);
+  }
 
   length-symbols : length (take (2 ^ e.width) e.symbols) ≡ 2 ^ e.width
   length-symbols =
       sym (length-map (take (2 ^ e.width) e.symbols) (λ s. get_or e.values s 0))
       ∙ ap length tables.own_values ∙ length-range_with_len 0 (2 ^ e.width)
 
-  -- the symbol of a value stands in the table
-  pub symbol-entry : (value : ℕ) → value < 16
-      → symbol (base_of_tables e) value ≡ get_or e.symbols value 0
-  symbol-entry value h =
-      let count : 2 ^ e.width ≡ 16 = ap (λ n. 2 ^ n) tables.four_bits in
-      get_or-take (2 ^ e.width) e.symbols value 0 (omega arith)
+  pub HoldsSymbols-tables : HoldsSymbols (base_of_tables e) e.symbols
+  HoldsSymbols-tables = record {
+    some_bits = tables.some_bits;
+    few_bits = tables.few_bits;
+    at_value = λ value h. get_or-take (2 ^ e.width) e.symbols value 0 h;
+  }
 
-  pub symbol-ascii : (value : ℕ) → value < 16 → get_or e.symbols value 0 < 128
-  symbol-ascii value h =
-      let count : 2 ^ e.width ≡ 16 = ap (λ n. 2 ^ n) tables.four_bits in
+  -- each symbol is ASCII, and so is what stands for a value that none has
+  pub symbol-ascii : (value : ℕ) → symbol (base_of_tables e) value < 128
+  symbol-ascii value =
+      ⊎_elim
+      (λ (inside : value < length (take (2 ^ e.width) e.symbols)).
       let test = passes_at (λ s. nat_lt s 128) (take (2 ^ e.width) e.symbols) value 0
-      tables.symbols_are_ascii (omega (arith, length-symbols)) in
-      let below : get_or (take (2 ^ e.width) e.symbols) value 0 < 128 = grind (arith, nat_tests) in
-      subst (λ s. s < 128) (symbol-entry value h) below
+      tables.symbols_are_ascii inside in
+      grind (arith, nat_tests))
+      (λ (past : length (take (2 ^ e.width) e.symbols) ≤ value).
+      let zero_there = get_or_past (take (2 ^ e.width) e.symbols) value 0 past in
+      omega (arith, zero_there))
+      (cases_lt value (length (take (2 ^ e.width) e.symbols)))
 
-  -- the text of one more byte
-  pub text_of-byte : (bytes : List ℕ) (byte : ℕ) → byte < 256
-      → text_of (base_of_tables e) (bytes ++ byte ∷ [])
-      ≡ text_of (base_of_tables e) bytes
-      ++ get_or e.symbols (byte / 16) 0 ∷ get_or e.symbols (byte % 16) 0 ∷ []
-  text_of-byte bytes byte h =
-      let base = base_of_tables e in
-      let high = symbol-entry (byte / 16) (omega arith) in
-      let low = symbol-entry (byte % 16) (omega arith) in
-      let whole : 8 * length bytes % e.width ≡ 0 =
-      subst (λ w. 8 * length bytes % w ≡ 0) (sym tables.four_bits) (omega arith) in
-      plain_text-join base bytes (byte ∷ []) (IsWidth-tables).some whole
-      ∙ ap (λ l. text_of base bytes ++ l)
-      ((λ i. text_by base (tables.four_bits i) (tables.heaviest_first i)
-      (bits_of_bytes (tables.heaviest_first i) (byte ∷ [])))
-      ∙ text_by-byte base byte h
-      ∙ (λ i. high i ∷ low i ∷ []))
+-- what a contract knows of the base that it sees
+module _ (e : Inside) (tables : HasTables e) (seen : Base) (is : base_of_tables e ≡ seen) where
+  pub IsBare-seen : IsBare seen
+  IsBare-seen = subst IsBare is (IsBare-tables e tables)
 
-  pub length-text_of : (bytes : List ℕ) → length (text_of (base_of_tables e) bytes)
-      ≡ 2 * length bytes
-  length-text_of bytes =
-      length-plain_text (base_of_tables e) bytes (IsWidth-tables).some
-      ∙ ap (λ w. run_count w (8 * length bytes)) tables.four_bits ∙ omega arith
+  pub IsWidth-seen : IsWidth seen.width
+  IsWidth-seen = subst (λ b. IsWidth b.width) is (IsWidth-tables e tables)
 
-  pub text_of-nil : text_of (base_of_tables e) [] ≡ []
-  text_of-nil = nil_from_length (text_of (base_of_tables e) []) (length-text_of [])
+  pub symbols-seen : (value : ℕ) → symbol seen value < 128
+  symbols-seen value = subst (λ b. symbol b value < 128) is (symbol-ascii e tables value)
+
+  pub Writes-tables : (width : ℕ) → e.width ≡ width → Writes seen e.symbols width e.order
+  Writes-tables width h =
+      subst (λ b. Writes b e.symbols width e.order) is (record {
+        bare = IsBare-tables e tables;
+        width_is = h;
+        order_is = refl;
+        holds = HoldsSymbols-tables e tables;
+      })
+
+  pub Reads-tables : (width : ℕ) → e.width ≡ width
+      → Reads seen e.values width e.order e.checks_trailing_bits
+  Reads-tables width h =
+      subst (λ b. Reads b e.values width e.order e.checks_trailing_bits) is (record {
+        bare = IsBare-tables e tables;
+        width_is = h;
+        order_is = refl;
+        checks_is = refl;
+        holds = HoldsValues-tables e tables;
+      })

@@ -1,21 +1,22 @@
 -- The text of data, in parts.
-use Rattle.std.proofs.Common.{◌≡◌, ℕ, ◌+◌, ◌-◌, ◌*◌, ◌/◌, ◌%◌, ◌^◌, ◌<◌, ◌≤◌, min, List, [], ◌∷◌, ◌++◌, length, map, replicate, reverse, refl, sym, ap, ◌∙◌, arith, ⊎_elim}
+use Rattle.std.proofs.Common.{◌≡◌, ℕ, ◌+◌, ◌-◌, ◌*◌, ◌/◌, ◌%◌, ◌^◌, ◌<◌, ◌≤◌, min, List, [], ◌∷◌, ◌++◌, length, map, replicate, refl, sym, ap, ◌∙◌, subst, arith, ⊎_elim}
 use Rattle.std.proofs.Common.{length-append, append_assoc}
-use Rattle.std.proofs.lemmas.List.{length-map, map-append, append-nil, length-replicate, reverse-append}
+use Rattle.std.proofs.lemmas.List.{length-map, map-append, append-nil, length-replicate, nil_from_length}
 use Rattle.std.proofs.lemmas.List.Concat.{flat_map-append}
 use Rattle.std.proofs.lemmas.Bool.{cases_lt}
 use Rattle.std.proofs.lemmas.Nat.{div-add-mod', mod_below}
-use Rattle.std.proofs.Math.Nat.{add-mod, mod-mod, mod-eq_of_lt, mod_self, div-eq_of_lt-le}
+use Rattle.std.proofs.Math.Nat.{add-mod, mod-mod, mod-eq_of_lt, mod_self, div-eq_of_lt-le, div-eq_of_lt}
 use Rattle.std.specs.Prelude.{flat_map}
 use Rattle.std.specs.Int.{div_ceil}
 use Rattle.std.specs.List.{AllByRecursion}
 use Rattle.data_encoding.specs.declared.encoding.BitOrder.{BitOrder}
-use Rattle.data_encoding.specs.declared.encoding.BitOrder.TheVariants.{MostSignificantFirst}
-use Rattle.data_encoding.specs.Base.{Base, symbol}
-use Rattle.data_encoding.specs.Bits.{low_bits, bits_of, number_of, bits_of_bytes, missing, runs}
-use Rattle.data_encoding.specs.Text.{filled_with, plain_text}
-use Rattle.data_encoding.proofs.BitLemmas.{length-bits_of, number_of-bits_of, low_bits-add, low_bits-mod}
+use Rattle.data_encoding.specs.Base.{Base, symbol, group_symbols}
+use Rattle.data_encoding.specs.Tables.{IsBare}
+use Rattle.data_encoding.specs.Bits.{bits_of, number_of, bits_of_bytes, missing, runs}
+use Rattle.data_encoding.specs.Text.{filled_with, plain_text, in_lines, with_padding, text_of}
+use Rattle.data_encoding.proofs.BitLemmas.{length-bits_of, number_of-bits_of}
 use Rattle.data_encoding.proofs.GroupLemmas.{length-bits_of_bytes}
+use Rattle.data_encoding.proofs.WidthLemmas.{IsWidth}
 use Rattle.data_encoding.proofs.RunsLemmas.{run_count, length-runs, runs-join, runs-flat_map}
 
 missing-join : (size a b : ℕ) → 0 < size → a % size ≡ 0 → missing size (a + b) ≡ missing size b
@@ -123,6 +124,11 @@ length-plain_text base bytes h =
     ∙ run_count-missing base.width (length bits) h
     ∙ ap (run_count base.width) (length-bits_of_bytes base.order bytes)
 
+pub plain_text-nil : (base : Base) → 0 < base.width → plain_text base [] ≡ []
+plain_text-nil base h =
+    nil_from_length (plain_text base [])
+    (length-plain_text base [] h ∙ div-eq_of_lt (omega (arith, h)))
+
 ceil_by : (size n q r : ℕ) → n ≡ q * size + r → 0 < r → r < size → run_count size n ≡ q + min 1 r
 ceil_by size n q r e some few =
     div-eq_of_lt-le {k = q + 1} size {m = n + (size - 1)} (omega arith) (omega arith)
@@ -142,35 +148,27 @@ run_count-ceil size n h =
     (λ (none : n % size ≤ 0). exact_by size n (n / size) (n % size) whole h none)
     (cases_lt 0 (n % size))
 
--- a byte of two symbols of four bits, the heaviest first
-halves : (byte : ℕ)
-    → bits_of MostSignificantFirst 8 byte
-    ≡ bits_of MostSignificantFirst 4 (byte / 16) ++ bits_of MostSignificantFirst 4 (byte % 16)
-halves byte =
-    ap reverse (low_bits-add 4 4 byte)
-    ∙ reverse-append (low_bits 4 byte) (low_bits 4 (byte / 16))
-    ∙ ap (λ l. reverse (low_bits 4 (byte / 16)) ++ reverse l) (sym (low_bits-mod 4 byte))
+module _ (base : Base) (bytes : List ℕ) (bare : IsBare base) where
+  -- where nothing is padded or wrapped
+  pub text_of-bare : text_of base bytes ≡ plain_text base bytes
+  text_of-bare =
+      (λ i. in_lines (bare.unwrapped i)
+      (with_padding (bare.unpadded i) (group_symbols base.width) (plain_text base bytes)))
 
-pub bits-halves : (high low : ℕ) → low < 16
-    → bits_of MostSignificantFirst 4 high ++ bits_of MostSignificantFirst 4 low
-    ≡ bits_of MostSignificantFirst 8 (16 * high + low)
-bits-halves high low h =
-    let first : (16 * high + low) / 16 ≡ high = omega arith in
-    let second : (16 * high + low) % 16 ≡ low = omega arith in
-    sym (halves (16 * high + low)
-    ∙ (λ i. bits_of MostSignificantFirst 4 (first i) ++ bits_of MostSignificantFirst 4 (second i)))
+  pub length-text_of : IsWidth base.width
+      → length (text_of base bytes) ≡ run_count base.width (8 * length bytes)
+  length-text_of width = ap length text_of-bare ∙ length-plain_text base bytes width.some
 
-pub text_by-byte : (base : Base) (byte : ℕ) → byte < 256
-    → text_by base 4 MostSignificantFirst (bits_of_bytes MostSignificantFirst (byte ∷ []))
-    ≡ symbol base (byte / 16) ∷ symbol base (byte % 16) ∷ []
-text_by-byte base byte h =
-    let pair = bits-halves (byte / 16) (byte % 16) (omega arith) in
-    let whole : 16 * (byte / 16) + byte % 16 ≡ byte = omega arith in
-    let bits = bits_of_bytes MostSignificantFirst (byte ∷ []) in
-    text_by-values base 4 MostSignificantFirst bits (byte / 16 ∷ byte % 16 ∷ []) (omega arith)
-    (omega arith, (omega arith, tt))
-    (filled-whole 4 bits (ap (λ n. n % 4) (length-bits_of_bytes MostSignificantFirst (byte ∷ [])))
-    ∙ append-nil (bits_of MostSignificantFirst 8 byte)
-    ∙ sym (ap (λ l. bits_of MostSignificantFirst 4 (byte / 16) ++ l)
-    (append-nil (bits_of MostSignificantFirst 4 (byte % 16)))
-    ∙ pair ∙ ap (bits_of MostSignificantFirst 8) whole))
+  shown_ascii : ((value : ℕ) → symbol base value < 128) → (runs_of : List (List ℕ))
+      → AllByRecursion (λ byte. byte < 128)
+      (map (λ run. symbol base (number_of base.order run)) runs_of)
+  shown_ascii h [] = tt
+  shown_ascii h (run ∷ others) = (h (number_of base.order run), shown_ascii h others)
+
+  -- a text of ASCII symbols is ASCII
+  pub ascii-text_of : ((value : ℕ) → symbol base value < 128)
+      → AllByRecursion (λ byte. byte < 128) (text_of base bytes)
+  ascii-text_of h =
+      subst (AllByRecursion (λ byte. byte < 128)) (sym text_of-bare)
+      (shown_ascii h (runs base.width
+      (filled_with 0 base.width (bits_of_bytes base.order bytes))))

@@ -5,8 +5,9 @@ use Rattle.data_encoding.specs.declared.decode.DecodeKind.{DecodeKind}
 use Rattle.data_encoding.specs.declared.decode.DecodeKind.TheVariants.{Length, Symbol, Trailing, Padding}
 use Rattle.data_encoding.specs.Base.{Base}
 use Rattle.data_encoding.specs.Fault.{fault_of, sound_bytes}
-use Rattle.data_encoding.specs.Fields.{Fields, base_of, Refusal}
-use Rattle.data_encoding.specs.Fields.{Duplicate, ExtraPadding}
+use Rattle.data_encoding.specs.declared.spec.Refusal.{Refusal}
+use Rattle.data_encoding.specs.declared.spec.Refusal.TheVariants.{Duplicate, ExtraPadding}
+use Rattle.data_encoding.specs.Fields.{Fields, base_of}
 use Rattle.data_encoding.specs.Predefined.{plain_fields, padded_fields, hexlower_fields, base64_fields, base64_mime_fields, base32_dnscurve_fields}
 use Rattle.data_encoding.specs.Text.{text_of}
 

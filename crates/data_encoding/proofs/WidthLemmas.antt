@@ -1,5 +1,5 @@
 -- The six widths.
-use Rattle.std.proofs.Common.{◌≡◌, ℕ, zero, suc, ◌*◌, ◌<◌, ◌≤◌, refl, arith}
+use Rattle.std.proofs.Common.{◌≡◌, ℕ, zero, suc, ◌*◌, ◌/◌, ◌^◌, ◌<◌, ◌≤◌, refl, arith}
 use Rattle.data_encoding.specs.Base.{group_bytes, group_symbols}
 
 -- A symbol has one to six bits.
@@ -33,4 +33,18 @@ group_bytes-pos =
 pub group_symbols-pos : (width : ℕ) → IsWidth width → 0 < group_symbols width
 group_symbols-pos =
     by_width (λ w. 0 < group_symbols w) (omega arith) (omega arith) (omega arith) (omega arith)
+    (omega arith) (omega arith)
+
+-- the symbols fill their table
+pub times_symbols : (width : ℕ) → IsWidth width → 256 / 2 ^ width * 2 ^ width ≡ 256
+times_symbols = by_width (λ w. 256 / 2 ^ w * 2 ^ w ≡ 256) refl refl refl refl refl refl
+
+pub times-pos : (width : ℕ) → IsWidth width → 0 < 256 / 2 ^ width
+times-pos =
+    by_width (λ w. 0 < 256 / 2 ^ w) (omega arith) (omega arith) (omega arith) (omega arith)
+    (omega arith) (omega arith)
+
+pub symbols-few : (width : ℕ) → IsWidth width → 2 ^ width ≤ 64
+symbols-few =
+    by_width (λ w. 2 ^ w ≤ 64) (omega arith) (omega arith) (omega arith) (omega arith)
     (omega arith) (omega arith)

@@ -58,6 +58,11 @@ abbrev pub fault_at_first : Option ℕ → List Placed → Option DecodeError �
 fault_at_first None symbols otherwise = otherwise
 fault_at_first (Some index) symbols otherwise = fault_at SymbolFault symbols index
 
+-- the first that is no symbol
+abbrev pub symbol_fault : Base → List Placed → Option DecodeError
+symbol_fault base symbols =
+    fault_at_first (position (λ k. not (is_symbol (meaning base k.byte))) symbols) symbols None
+
 -- the first that is no symbol, or else that
 abbrev pub symbols_fault : Base → List Placed → Option DecodeError
 symbols_fault base symbols =

@@ -4,6 +4,8 @@ use Rattle.std.specs.List.{enumerate_from}
 use Rattle.data_encoding.specs.declared.encoding.BitOrder.{BitOrder}
 use Rattle.data_encoding.specs.declared.encoding.Character.{Character}
 use Rattle.data_encoding.specs.declared.encoding.Character.TheVariants.{Symbol, Padding, Ignored, Invalid}
+use Rattle.data_encoding.specs.declared.spec.Refusal.{Refusal}
+use Rattle.data_encoding.specs.declared.spec.Refusal.TheVariants.{BadSize, NotAscii, Duplicate, ExtraPadding, WrapLength, WrapWidth, FromTo, Undefined}
 use Rattle.data_encoding.specs.Base.{Base, group_symbols}
 
 -- what a specification says, with its texts as bytes
@@ -17,16 +19,6 @@ pub record Fields : Type 0 where
   pub separator : List ℕ
   pub from : List ℕ
   pub to : List ℕ
-
-pub data Refusal : Type 0 where
-  BadSize : Refusal
-  NotAscii : Refusal
-  Duplicate : ℕ → Refusal
-  ExtraPadding : Refusal
-  WrapLength : Refusal
-  WrapWidth : ℕ → Refusal
-  FromTo : Refusal
-  Undefined : ℕ → Refusal
 
 -- what is judged in turn: a test, a byte with its meaning, a byte with what another means by then
 pub data Judgement : Type 0 where
@@ -61,6 +53,10 @@ judged meanings (Require holds refusal) = if holds then Ok meanings else Err ref
 judged meanings (Define byte m) = defined meanings byte m
 judged meanings (Translate from to) = translated meanings from to
 
+-- before any judgement
+abbrev pub no_meanings : List Character
+no_meanings = replicate 128 Invalid
+
 -- the meanings after all judgements, or the first refusal
 abbrev pub meanings_after : Result (List Character) Refusal → List Judgement
     → Result (List Character) Refusal
@@ -73,11 +69,19 @@ meanings_after (Ok meanings) (judgement ∷ others) =
 abbrev pub width_of : ℕ → Option ℕ
 width_of count = position (λ n. n == count) (1 ∷ 2 ∷ 4 ∷ 8 ∷ 16 ∷ 32 ∷ 64 ∷ [])
 
+-- each symbol with its value, from this one on
+abbrev pub symbol_judgements : ℕ → List ℕ → List Judgement
+symbol_judgements value symbols =
+    map (λ (p : ℕ × ℕ). Define p.1 (Symbol p.0)) (enumerate_from value symbols)
+
 abbrev pub padding_judgements : ℕ → Option ℕ → List Judgement
 padding_judgements width None = []
 padding_judgements width (Some character) =
     Require (not (8 % width == 0)) ExtraPadding ∷ Require (nat_lt character 128) NotAscii
     ∷ Define character Padding ∷ []
+
+abbrev pub ignored_judgements : List ℕ → List Judgement
+ignored_judgements bytes = map (λ byte. Define byte Ignored) bytes
 
 abbrev pub wraps : Fields → Bool
 wraps fields = not (fields.column == 0) && not (length fields.separator == 0)
@@ -87,17 +91,21 @@ wrapping_judgements width fields =
     if wraps fields
     then Require (nat_lt fields.column 256 && nat_lt (length fields.separator) 256) WrapLength
     ∷ Require (fields.column % group_symbols width == 0) (WrapWidth (group_symbols width))
-    ∷ map (λ byte. Define byte Ignored) fields.separator
+    ∷ ignored_judgements fields.separator
     else []
+
+abbrev pub translation_judgements : Fields → List Judgement
+translation_judgements fields =
+    Require (length fields.from == length fields.to) FromTo
+    ∷ map (λ (p : ℕ × ℕ). Translate p.0 p.1) (zip fields.from fields.to)
 
 abbrev pub judgements : ℕ → Fields → List Judgement
 judgements width fields =
-    map (λ (p : ℕ × ℕ). Define p.1 (Symbol p.0)) (enumerate_from 0 fields.symbols)
+    symbol_judgements 0 fields.symbols
     ++ padding_judgements width fields.padding
-    ++ map (λ byte. Define byte Ignored) fields.ignored
+    ++ ignored_judgements fields.ignored
     ++ wrapping_judgements width fields
-    ++ (Require (length fields.from == length fields.to) FromTo
-    ∷ map (λ (p : ℕ × ℕ). Translate p.0 p.1) (zip fields.from fields.to))
+    ++ translation_judgements fields
 
 abbrev pub base_with : ℕ → Fields → Result (List Character) Refusal → Result Base Refusal
 base_with width fields (Err refusal) = Err refusal
@@ -118,7 +126,7 @@ base_by None fields = Err BadSize
 base_by (Some zero) fields = Err BadSize
 base_by (Some (suc n)) fields =
     base_with (suc n) fields
-    (meanings_after (Ok (replicate 128 Invalid)) (judgements (suc n) fields))
+    (meanings_after (Ok no_meanings) (judgements (suc n) fields))
 
 -- the base of a specification, or its refusal
 abbrev pub base_of : Fields → Result Base Refusal

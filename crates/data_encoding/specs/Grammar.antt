@@ -10,8 +10,13 @@ pub record Placed : Type 0 where
   pub place : ℕ
   pub byte : ℕ
 
+-- the bytes of a part that begins at a place
+abbrev pub placed_from : ℕ → List ℕ → List Placed
+placed_from place part =
+    map (λ (p : ℕ × ℕ). record { place = p.0; byte = p.1 }) (enumerate_from place part)
+
 abbrev pub placed : List ℕ → List Placed
-placed text = map (λ (p : ℕ × ℕ). record { place = p.0; byte = p.1 }) (enumerate_from 0 text)
+placed text = placed_from 0 text
 
 -- the bytes that are not ignored
 abbrev pub kept : Base → List ℕ → List Placed

@@ -1,11 +1,16 @@
 pub mod Base
 pub mod Bits
+pub mod Words
 pub mod Text
 pub mod Grammar
 pub mod Lengths
 pub mod Fault
+pub mod Partial
 pub mod Fields
 pub mod IsBase
+pub mod Entries
+pub mod Meanings
 pub mod Encoding
+pub mod Tables
 pub mod Printed
 pub mod Predefined

@@ -1,14 +1,15 @@
 -- The specifications of the eighteen encodings (RFC 4648, RFC 5155, DNSCurve; RFC 2045's lines).
-use Rattle.std.specs.Prelude.{ℕ, true, false, List, [], ◌∷◌, codes, Some, None}
+use Rattle.std.specs.Prelude.{ℕ, Bool, true, false, List, [], ◌∷◌, codes, Some, None}
+use Rattle.data_encoding.specs.declared.encoding.BitOrder.{BitOrder}
 use Rattle.data_encoding.specs.declared.encoding.BitOrder.TheVariants.{MostSignificantFirst, LeastSignificantFirst}
 use Rattle.data_encoding.specs.Fields.{Fields}
 
--- symbols alone, the most significant bit first, with trailing bits checked
-abbrev pub plain_fields : List ℕ → Fields
-plain_fields symbols = record {
+-- symbols alone
+abbrev pub symbols_alone : List ℕ → BitOrder → Bool → Fields
+symbols_alone symbols order check = record {
   symbols = symbols;
-  order = MostSignificantFirst;
-  checks_trailing_bits = true;
+  order = order;
+  checks_trailing_bits = check;
   padding = None;
   ignored = [];
   column = 0;
@@ -16,6 +17,10 @@ plain_fields symbols = record {
   from = [];
   to = [];
 }
+
+-- the most significant bit first, with trailing bits checked
+abbrev pub plain_fields : List ℕ → Fields
+plain_fields symbols = symbols_alone symbols MostSignificantFirst true
 
 -- with the character '='
 abbrev pub padded_fields : Fields → Fields

@@ -1,11 +1,15 @@
 //! From data to text.
 
-ghost use Rattle.std.specs.Prelude.{◌≡◌, ℕ, ◌+◌, ◌<◌, ◌≤◌, List, [], ◌∷◌, ◌++◌, length, IfOk, IsOk};
-ghost use Rattle.std.specs.String.{string_bytes, string_capacity, string_len};
+ghost use Rattle.std.specs.Prelude.{◌≡◌, All, ℕ, ◌<◌, ◌+◌, ◌-◌, ◌*◌, ◌/◌, ◌≤◌, List, length, replicate, IfOk, IsOk};
+ghost use Rattle.std.specs.String.{string_bytes};
+ghost use Rattle.data_encoding.specs.Base.{Base};
 ghost use Rattle.data_encoding.specs.IsBase.{IsBase};
+ghost use Rattle.data_encoding.specs.Lengths.{alignment};
+ghost use Rattle.data_encoding.specs.Tables.{IsGroup, Writes};
 ghost use Rattle.data_encoding.specs.Text.{text_of};
 
-use crate::encoding::Encoding;
+use crate::bits::encode_group;
+use crate::encoding::{BitOrder, Encoding};
 use std::alloc::{AllocError, Global};
 
 /// The greatest length of data that is encoded in one call, in bytes.
@@ -17,9 +21,50 @@ impl Encoding {
         requires { len ≤ ENCODE_LIMIT }
         ensures length { (bytes : List ℕ) → length bytes ≡ len
             → length (text_of self.now bytes) ≡ result }
+        ensures empty { len ≡ 0 → result ≡ 0 }
         ensures base { IsBase self.now }
     {
         (8 * len).div_ceil(self.width as usize)
+    }
+
+    /// The bytes of data of a whole group of symbols: at its multiples texts may be joined.
+    pub fn encode_align(&self) -> usize
+        ensures { result ≡ alignment self.now }
+    {
+        match self.width {
+            3 | 6 => 3,
+            5 => 5,
+            _ => 1,
+        }
+    }
+
+    /// Writes the text of the data into `output`, which has exactly its length.
+    pub fn encode_mut(&self, input: &[u8], output: &mut [u8])
+        requires limit { length input.now ≤ ENCODE_LIMIT }
+        requires exact { length output.old ≡ length (text_of self.now input.now) }
+        ensures text { output.new ≡ text_of self.now input.now }
+        ensures ascii { All (λ byte. byte < 128) output.new }
+    {
+        let symbols = &self.symbols;
+        let order = self.order;
+        match self.width {
+            1 => encode_in_order::<1, 1, 8>(symbols, order, input, output),
+            2 => encode_in_order::<2, 1, 4>(symbols, order, input, output),
+            3 => encode_in_order::<3, 3, 8>(symbols, order, input, output),
+            4 => encode_in_order::<4, 1, 2>(symbols, order, input, output),
+            5 => encode_in_order::<5, 5, 8>(symbols, order, input, output),
+            _ => encode_in_order::<6, 3, 4>(symbols, order, input, output),
+        }
+    }
+
+    /// Writes the text of the data into `output`, which has exactly its length, and hands it out.
+    pub fn encode_mut_str<'a>(&self, input: &[u8], output: &'a mut [u8]) -> &'a str
+        requires limit { length input.now ≤ ENCODE_LIMIT }
+        requires exact { length output.old ≡ length (text_of self.now input.now) }
+        ensures { result.now ≡ text_of self.now input.now }
+    {
+        self.encode_mut(input, output);
+        unsafe { str::from_utf8_unchecked(output) }
     }
 
     /// The text of the data.
@@ -30,23 +75,78 @@ impl Encoding {
         ensures text { IfOk result (λ text. string_bytes text ≡ text_of self.now input.now) }
         ensures empty { length input.now ≡ 0 → IsOk result }
     {
-        let symbols = &self.symbols;
-        let mut text = String::with_capacity(alloc, self.encode_len(input.len()))?;
-        for byte in input {
-            push_ascii(&mut text, symbols[(*byte >> 4) as usize]);
-            push_ascii(&mut text, symbols[(*byte & 15) as usize]);
-        }
-        Ok(text)
+        let mut output = zeros(alloc, self.encode_len(input.len()))?;
+        self.encode_mut(input, &mut output);
+        Ok(unsafe { String::from_utf8_unchecked(output) })
     }
 }
 
-// Appends an ASCII character, for which there is room.
-fn push_ascii(text: &mut String, byte: u8)
-    requires ascii { byte < 128 }
-    requires room { string_len text.old < string_capacity text.old }
-    ensures bytes { string_bytes text.new ≡ string_bytes text.old ++ byte ∷ [] }
-    ensures len { string_len text.new ≡ string_len text.old + 1 }
-    ensures capacity { string_capacity text.old ≤ string_capacity text.new }
+// So many zeros.
+pub(crate) fn zeros(alloc: Global, len: usize) -> Result<Vec<u8>, AllocError>
+    ensures items { IfOk result (λ bytes. bytes.items ≡ replicate len 0) }
+    ensures none { len ≡ 0 → IsOk result }
 {
-    text.push(char::from(byte)).unwrap();
+    let mut bytes = Vec::with_capacity(alloc, len)?;
+    bytes.resize(len, 0)?;
+    Ok(bytes)
+}
+
+// With the order as a constant, so that every shift of the loops below is one.
+fn encode_in_order<const WIDTH: usize, const ENC: usize, const DEC: usize>(
+    symbols: &[u8; 256],
+    order: BitOrder,
+    input: &[u8],
+    output: &mut [u8],
+)
+    requires group { IsGroup WIDTH ENC DEC }
+    requires limit { length input.now ≤ ENCODE_LIMIT }
+    requires exact { length output.old ≡ (8 * length input.now + (WIDTH - 1)) / WIDTH }
+    ensures { (base : Base) → Writes base symbols.now WIDTH order
+        → output.new ≡ text_of base input.now }
+{
+    match order {
+        BitOrder::MostSignificantFirst => {
+            encode_groups::<WIDTH, ENC, DEC>(symbols, BitOrder::MostSignificantFirst, input, output)
+        }
+        BitOrder::LeastSignificantFirst => {
+            encode_groups::<WIDTH, ENC, DEC>(
+                symbols,
+                BitOrder::LeastSignificantFirst,
+                input,
+                output,
+            )
+        }
+    }
+}
+
+// Group by group, the last perhaps shorter.
+fn encode_groups<const WIDTH: usize, const ENC: usize, const DEC: usize>(
+    symbols: &[u8; 256],
+    order: BitOrder,
+    input: &[u8],
+    output: &mut [u8],
+)
+    requires group { IsGroup WIDTH ENC DEC }
+    requires limit { length input.now ≤ ENCODE_LIMIT }
+    requires exact { length output.old ≡ (8 * length input.now + (WIDTH - 1)) / WIDTH }
+    ensures { (base : Base) → Writes base symbols.now WIDTH order
+        → output.new ≡ text_of base input.now }
+{
+    let count = input.len() / ENC;
+    for index in 0..count {
+        let read = index * ENC;
+        let written = index * DEC;
+        encode_group::<WIDTH, ENC, DEC>(
+            symbols,
+            order,
+            &input[read..read + ENC],
+            &mut output[written..written + DEC],
+        );
+    }
+    encode_group::<WIDTH, ENC, DEC>(
+        symbols,
+        order,
+        &input[count * ENC..],
+        &mut output[count * DEC..],
+    );
 }

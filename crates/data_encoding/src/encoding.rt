@@ -1,5 +1,8 @@
 //! Encodings, and the words that describe them.
 
+ghost use Rattle.std.specs.Prelude.{◌≡◌};
+ghost use Rattle.data_encoding.specs.IsBase.{IsBase};
+
 use std::marker::Model;
 
 /// Which bit of a byte comes first.
@@ -51,4 +54,14 @@ impl Model for Encoding {
     ghost view = { base_of_tables };
 
     ghost invariant = { HasTables };
+}
+
+impl Encoding {
+    /// The number of bits of a symbol: from 1 to 6.
+    pub fn bit_width(&self) -> usize
+        ensures width { result ≡ self.now.width }
+        ensures base { IsBase self.now }
+    {
+        self.width as usize
+    }
 }

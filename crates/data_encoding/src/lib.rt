@@ -5,15 +5,19 @@
 //! contracts of the public calls compare with them.
 #![tactic(auto)]
 
+mod bits;
 mod decode;
+mod definition;
 mod encode;
 mod encoding;
 mod predefined;
+mod spec;
 
-pub use decode::{DECODE_LIMIT, DecodeError, DecodeFault, DecodeKind};
+pub use decode::{DECODE_LIMIT, DecodeError, DecodeFault, DecodeKind, DecodePartial};
 pub use encode::ENCODE_LIMIT;
 pub use encoding::{BitOrder, Character, Encoding};
 pub use predefined::hexlower;
+pub use spec::SpecificationError;
 
 #[cfg(test)]
 mod tests;

@@ -1,12 +1,12 @@
-use Rattle.std.proofs.Common.{refl}
+use Rattle.std.proofs.Common.{refl, arith}
 use Rattle.data_encoding.specs.Predefined.{hexlower_fields}
 use Rattle.data_encoding.proofs.predefined.hexlower.Goals as goal
 
 pub invariant_of-result : goal.invariant_of-result
 invariant_of-result c = record {
-  four_bits = refl;
-  heaviest_first = refl;
-  checks = refl;
+  some_bits = omega arith;
+  few_bits = omega arith;
+  whole_checked = refl;
   symbols_repeat = refl;
   symbols_are_ascii = refl;
   own_values = refl;

@@ -4,7 +4,7 @@ use Rattle.data_encoding.specs.Grammar.{Means}
 use Rattle.data_encoding.specs.Lengths.{decoded_len}
 use Rattle.data_encoding.proofs.FaultLemmas.{decoded_len-Means}
 use Rattle.data_encoding.proofs.LengthLemmas.{decoded_len-valid, decoded_len-invalid, symbols_fault}
-use Rattle.data_encoding.proofs.TableLemmas.{IsWidth-tables, ignores-none}
+use Rattle.data_encoding.proofs.TableLemmas.{IsWidth-tables, IsBare-tables}
 use Rattle.data_encoding.proofs.encoding.Encoding.decode_len.Goals as goal
 
 pub returns-then-trailing-width-clause-value : goal.returns-then-trailing-width-clause-value
@@ -12,8 +12,8 @@ returns-then-trailing-width-clause-value c =
     let e = c.self.inside in
     subst (λ base. Err (symbols_fault e.width c.args.len) ≡ decoded_len base c.args.len)
     c.self.view_is
-    (sym (decoded_len-invalid (base_of_tables e) c.args.len refl (ignores-none e c.self.invariant)
-    (omega arith)))
+    (sym (decoded_len-invalid (base_of_tables e) c.args.len refl
+    (IsBare-tables e c.self.invariant).ignores_none (omega arith)))
 
 pub returns-then-trailing-width-clause-most : goal.returns-then-trailing-width-clause-most
 returns-then-trailing-width-clause-most c text bytes h means =
@@ -22,7 +22,8 @@ returns-then-trailing-width-clause-most c text bytes h means =
     let known = subst (λ b. Means b text bytes) (sym c.self.view_is) means in
     subst (λ r. IsOkAnd r (λ most. length bytes ≤ most))
     (ap (decoded_len base) h
-    ∙ decoded_len-invalid base c.args.len refl (ignores-none e c.self.invariant) (omega arith))
+    ∙ decoded_len-invalid base c.args.len refl (IsBare-tables e c.self.invariant).ignores_none
+    (omega arith))
     (decoded_len-Means base (IsWidth-tables e c.self.invariant) refl text bytes known)
 
 pub returns-clause-most : goal.returns-clause-most
@@ -32,5 +33,6 @@ returns-clause-most c text bytes h means =
     let known = subst (λ b. Means b text bytes) (sym c.self.view_is) means in
     subst (λ r. IsOkAnd r (λ most. length bytes ≤ most))
     (ap (decoded_len base) h
-    ∙ decoded_len-valid base c.args.len refl (ignores-none e c.self.invariant) (omega arith))
+    ∙ decoded_len-valid base c.args.len refl (IsBare-tables e c.self.invariant).ignores_none
+    (omega arith))
     (decoded_len-Means base (IsWidth-tables e c.self.invariant) refl text bytes known)

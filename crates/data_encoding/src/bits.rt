@@ -1,0 +1,168 @@
+//! A group of bytes or of symbols as bits, in one word.
+
+ghost use Rattle.std.specs.Prelude.{◌≡◌, ℕ, ◌+◌, ◌-◌, ◌*◌, ◌/◌, ◌%◌, ◌^◌, ◌<◌, ◌≤◌, ◌↔◌, List, length, map, slice_index, IsTrue};
+ghost use Rattle.std.specs.List.{range_with_len};
+ghost use Rattle.data_encoding.specs.Base.{Base};
+ghost use Rattle.data_encoding.specs.Fault.{bytes_of_group};
+ghost use Rattle.data_encoding.specs.Grammar.{Placed};
+ghost use Rattle.data_encoding.specs.Tables.{IsGroup, HoldsSymbols, HoldsValues};
+ghost use Rattle.data_encoding.specs.Text.{plain_text};
+ghost use Rattle.data_encoding.specs.Words.{weight, digit, word_of};
+
+use crate::encoding::BitOrder;
+
+// How many bits of a word of `count` digits, each of `size` bits, are below this one.
+fn weight_at(order: BitOrder, size: usize, count: usize, index: usize) -> usize
+    requires inside { index < count }
+    requires fits { size * count ≤ 40 }
+    ensures weight { result ≡ weight order size count index }
+    ensures inside { result + size ≤ 40 }
+{
+    match order {
+        BitOrder::MostSignificantFirst => size * (count - 1 - index),
+        BitOrder::LeastSignificantFirst => size * index,
+    }
+}
+
+// The `SIZE` bits of the word from this one on.
+fn digit_at<const SIZE: usize>(word: u64, weight: usize) -> usize
+    requires few { SIZE ≤ 8 }
+    requires inside { weight < 64 }
+    ensures { result ≡ word / 2 ^ weight % 2 ^ SIZE }
+{
+    ((word >> weight) & ((1 << SIZE) - 1)) as usize
+}
+
+// The bytes as a word, with zeros for those that are missing.
+fn word_of_bytes<const ENC: usize>(order: BitOrder, input: &[u8]) -> u64
+    requires fits { ENC ≤ 5 }
+    requires few { length input.now ≤ ENC }
+    ensures { result ≡ word_of order 8 ENC input.now }
+{
+    let mut word = 0;
+    for index in 0..input.len() {
+        word += (input[index] as u64) << weight_at(order, 8, ENC, index);
+    }
+    word
+}
+
+// Writes the symbols of the first digits of a word.
+fn symbols_of_word<const WIDTH: usize, const DEC: usize>(
+    symbols: &[u8; 256],
+    order: BitOrder,
+    word: u64,
+    output: &mut [u8],
+)
+    requires narrow { WIDTH ≤ 6 }
+    requires fits { WIDTH * DEC ≤ 40 }
+    requires few { length output.old ≤ DEC }
+    ensures { output.new ≡ map (λ k. slice_index symbols.now (digit order WIDTH DEC word k))
+        (range_with_len 0 (length output.old)) }
+{
+    for index in 0..output.len() {
+        let weight = weight_at(order, WIDTH, DEC, index);
+        output[index] = symbols[digit_at::<WIDTH>(word, weight)];
+    }
+}
+
+/// Writes the text of a group of bytes, or of the fewer that are left.
+#[inline]
+pub(crate) fn encode_group<const WIDTH: usize, const ENC: usize, const DEC: usize>(
+    symbols: &[u8; 256],
+    order: BitOrder,
+    input: &[u8],
+    output: &mut [u8],
+)
+    requires group { IsGroup WIDTH ENC DEC }
+    requires few { length input.now ≤ ENC }
+    requires exact { length output.old ≡ (8 * length input.now + (WIDTH - 1)) / WIDTH }
+    ensures text { (base : Base) → base.width ≡ WIDTH → base.order ≡ order
+        → HoldsSymbols base symbols.now → output.new ≡ plain_text base input.now }
+{
+    let word = word_of_bytes::<ENC>(order, input);
+    symbols_of_word::<WIDTH, DEC>(symbols, order, word, output);
+}
+
+// What a table says of a byte.
+fn entry_of(values: &[u8; 256], byte: u8) -> u8
+    ensures { result ≡ slice_index values.now byte }
+{
+    values[byte as usize]
+}
+
+// The values of the symbols as a word, with zeros for those that are missing, and the bits that any
+// entry has: an entry that is no value has its highest bit, and spoils the word.
+fn word_of_symbols<const WIDTH: usize, const DEC: usize>(
+    values: &[u8; 256],
+    order: BitOrder,
+    input: &[u8],
+) -> (u64, u8)
+    requires fits { WIDTH * DEC ≤ 40 }
+    requires some { 0 < WIDTH }
+    requires few { length input.now ≤ DEC }
+    ensures word { ((k : ℕ) → k < length input.now
+        → slice_index values.now (slice_index input.now k) < 2 ^ WIDTH)
+        → result.0 ≡ word_of order WIDTH DEC (map (slice_index values.now) input.now) }
+    ensures entries { (result.1 < 128) ↔ ((k : ℕ) → k < length input.now
+        → slice_index values.now (slice_index input.now k) < 128) }
+{
+    let mut word = 0;
+    let mut entries = 0;
+    for index in 0..input.len() {
+        let entry = entry_of(values, input[index]);
+        entries |= entry;
+        word += (entry as u64) << weight_at(order, WIDTH, DEC, index);
+    }
+    (word, entries)
+}
+
+// Writes the first bytes of a word.
+fn bytes_of_word<const ENC: usize>(order: BitOrder, word: u64, output: &mut [u8])
+    requires fits { ENC ≤ 5 }
+    requires few { length output.old ≤ ENC }
+    ensures { output.new ≡ map (digit order 8 ENC word) (range_with_len 0 (length output.old)) }
+{
+    for index in 0..output.len() {
+        output[index] = digit_at::<8>(word, weight_at(order, 8, ENC, index)) as u8;
+    }
+}
+
+/// Writes the bytes of a group of symbols, or of the fewer that are left, without the bits after
+/// the last whole byte; `false`, and any bytes, where some byte of the input is no symbol.
+#[inline]
+pub(crate) fn decode_group<const WIDTH: usize, const ENC: usize, const DEC: usize>(
+    values: &[u8; 256],
+    order: BitOrder,
+    input: &[u8],
+    output: &mut [u8],
+) -> bool
+    requires group { IsGroup WIDTH ENC DEC }
+    requires few { length input.now ≤ DEC }
+    requires exact { length output.old ≡ WIDTH * length input.now / 8 }
+    ensures symbols { IsTrue result ↔ ((k : ℕ) → k < length input.now
+        → slice_index values.now (slice_index input.now k) < 128) }
+    ensures bytes { (base : Base) (ks : List Placed) → base.width ≡ WIDTH → base.order ≡ order
+        → HoldsValues base values.now → map (λ k. k.byte) ks ≡ input.now → IsTrue result
+        → output.new ≡ bytes_of_group base ks }
+{
+    let (word, entries) = word_of_symbols::<WIDTH, DEC>(values, order, input);
+    bytes_of_word::<ENC>(order, word, output);
+    entries < 128
+}
+
+/// The place of the first byte that is no symbol, or the length.
+#[cold]
+pub(crate) fn symbol_position(values: &[u8; 256], input: &[u8]) -> usize
+    ensures before { (k : ℕ) → k < result
+        → slice_index values.now (slice_index input.now k) < 128 }
+    ensures inside { result ≤ length input.now }
+    ensures there { result < length input.now
+        → 128 ≤ slice_index values.now (slice_index input.now result) }
+{
+    for index in 0..input.len() {
+        if entry_of(values, input[index]) >= 128 {
+            return index;
+        }
+    }
+    input.len()
+}
