@@ -11,7 +11,8 @@ use borrow.Rule.Slice.PartMut.{put_mid}
 use Rattle.data_encoding.specs.Base.{Base}
 use Rattle.data_encoding.specs.Text.{plain_text, text_of}
 use Rattle.data_encoding.specs.declared.encoding.Encoding.TheInside.{Inside}
-use Rattle.data_encoding.specs.Encoding.{base_of_tables, HasTables}
+use Rattle.data_encoding.specs.Encoding.{base_of_tables, KeepsRules}
+use Rattle.data_encoding.specs.Plain.{IsPlain}
 use Rattle.data_encoding.proofs.PlaceLemmas.{IsWhole}
 use Rattle.data_encoding.proofs.TableLemmas.{IsBare-seen, IsWidth-seen, symbols-seen}
 use Rattle.data_encoding.proofs.TextLemmas.{plain_text-join, plain_text-nil, length-text_of, ascii-text_of}
@@ -80,18 +81,19 @@ module _ (base : Base) (width bytes symbols : ℕ) (whole : IsWhole width bytes 
         ∙ ap (plain_text base) (take_all (i * bytes + more) input (omega (arith, all)))
 
 -- the length of a text, by the tables of an encoding
-pub room-tables : (e : Inside) (tables : HasTables e) (seen : Base) (is : base_of_tables e ≡ seen)
-    (input : List ℕ) (size width : ℕ) → e.width ≡ width → size ≡ length (text_of seen input)
-    → size ≡ (8 * length input + (width - 1)) / width
-room-tables e tables seen is input size width h exact =
+pub room-tables : (e : Inside) (rules : KeepsRules e) (seen : Base) (is : base_of_tables e ≡ seen)
+    (plain : IsPlain seen) (input : List ℕ) (size width : ℕ) → e.width ≡ width
+    → size ≡ length (text_of seen input) → size ≡ (8 * length input + (width - 1)) / width
+room-tables e rules seen is plain input size width h exact =
     exact
-    ∙ length-text_of seen input (IsBare-seen e tables seen is) (IsWidth-seen e tables seen is)
+    ∙ length-text_of seen input (IsBare-seen e rules seen is plain) (IsWidth-seen e rules seen is)
     ∙ ap (λ w. (8 * length input + (w - 1)) / w) (ap (λ b. b.width) (sym is) ∙ h)
 
 -- what is written by the tables of an encoding is ASCII
-pub ascii-tables : (e : Inside) (tables : HasTables e) (seen : Base) (is : base_of_tables e ≡ seen)
-    (input output : List ℕ) → output ≡ text_of seen input → All (λ byte. byte < 128) output
-ascii-tables e tables seen is input output h =
+pub ascii-tables : (e : Inside) (rules : KeepsRules e) (seen : Base) (is : base_of_tables e ≡ seen)
+    (plain : IsPlain seen) (input output : List ℕ) → output ≡ text_of seen input
+    → All (λ byte. byte < 128) output
+ascii-tables e rules seen is plain input output h =
     All-from_recursion (λ b. b < 128) output
     (subst (AllByRecursion (λ b. b < 128)) (sym h)
-    (ascii-text_of seen input (IsBare-seen e tables seen is) (symbols-seen e tables seen is)))
+    (ascii-text_of seen input (IsBare-seen e rules seen is plain) (symbols-seen e rules seen is)))

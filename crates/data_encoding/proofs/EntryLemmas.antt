@@ -1,28 +1,23 @@
 -- The table of values, and what its entries mean.
-use Rattle.std.proofs.Common.{◌≡◌, ◌≢◌, ℕ, ◌<◌, ◌≤◌, ◌==◌, Bool, true, false, nat_le, if◌then◌else◌, List, length, map, take, get_or, Result, Ok, Err, refl, sym, ap, ◌∙◌, subst, arith}
+use Rattle.std.proofs.Common.{◌≡◌, ◌≢◌, ℕ, ◌+◌, ◌-◌, ◌<◌, ◌≤◌, ◌==◌, Bool, true, false, nat_le, if◌then◌else◌, List, length, map, take, get_or, Result, Ok, Err, refl, sym, ap, ◌∙◌, subst, arith, ⊎_elim}
 use Rattle.std.proofs.lemmas.Bool.Decides.{nat_tests}
-use Rattle.std.proofs.lemmas.List.{get_or-map, get_or-take, length-take-le, length-drop, length-replicate, drop-set-lt, map-set}
+use Rattle.std.proofs.lemmas.Bool.{cases_lt}
+use Rattle.std.proofs.lemmas.List.{get_or-drop, get_or-replicate, get_or_past, length-map, get_or-map, get_or-take, length-take-le, length-drop, length-replicate, drop-set-lt, map-set}
 use Rattle.std.proofs.Math.ListN.{set}
 use Rattle.std.specs.List.{list_all}
 use Rattle.data_encoding.specs.declared.encoding.Character.{Character}
 use Rattle.data_encoding.specs.declared.encoding.Character.TheVariants.{Symbol, Padding, Ignored, Invalid}
 use Rattle.data_encoding.specs.declared.spec.Refusal.{Refusal}
 use Rattle.data_encoding.specs.declared.spec.Refusal.TheVariants.{NotAscii, Duplicate}
-use Rattle.data_encoding.specs.Entries.{meaning_of_entry, is_entry, HoldsEntries}
+use Rattle.data_encoding.specs.Entries.{meaning_of_entry, is_entry_of, HoldsEntries}
 use Rattle.data_encoding.specs.Fields.{defined, is_same}
+use Rattle.data_encoding.specs.Layout.{code_of}
 use Rattle.data_encoding.proofs.ListTests.{passes_at, list_all-set, take-set-lt}
 
--- the entry of a meaning
-abbrev code_of : Character → ℕ
-code_of (Symbol value) = value
-code_of Invalid = 128
-code_of Ignored = 129
-code_of Padding = 130
-
-entry_back : (v : ℕ) → is_entry v ≡ true → code_of (meaning_of_entry v) ≡ v
+pub entry_back : (v : ℕ) → is_entry_of 64 v ≡ true → code_of (meaning_of_entry v) ≡ v
 entry_back v h = grind (arith, nat_tests)
 
-pub is_entry-value : (v : ℕ) → v < 64 → is_entry v ≡ true
+pub is_entry-value : (v : ℕ) → v < 64 → is_entry_of 64 v ≡ true
 is_entry-value v h = grind (arith, nat_tests)
 
 same_number : (a b : ℕ) → (a == b) ≡ true → a ≡ b
@@ -55,7 +50,7 @@ same-is_same Invalid Padding h = cc
 same-is_same Invalid Ignored h = cc
 same-is_same Invalid Invalid h = refl
 
-false_or : (b : Bool) → (b ≡ true → ⊥) → b ≡ false
+pub false_or : (b : Bool) → (b ≡ true → ⊥) → b ≡ false
 false_or true h = absurd (h refl)
 false_or false h = refl
 
@@ -65,7 +60,7 @@ same_meanings a b e =
     ap (λ n. is_same (meaning_of_entry a) (meaning_of_entry n)) (sym e)
     ∙ is_same-self (meaning_of_entry a)
 
-other_meanings : (a b : ℕ) → is_entry a ≡ true → is_entry b ≡ true → a ≢ b
+other_meanings : (a b : ℕ) → is_entry_of 64 a ≡ true → is_entry_of 64 b ≡ true → a ≢ b
     → is_same (meaning_of_entry a) (meaning_of_entry b) ≡ false
 other_meanings a b h k ne =
     false_or (is_same (meaning_of_entry a) (meaning_of_entry b))
@@ -104,10 +99,37 @@ module _ (values : List ℕ) (holds : HoldsEntries values) where
       get_or-map meaning_of_entry (take 128 values) byte 0 Invalid (omega (arith, length-low))
       ∙ ap meaning_of_entry (get_or-take 128 values byte 0 h)
 
-  pub is_entry-low : (byte : ℕ) → byte < 128 → is_entry (get_or values byte 0) ≡ true
+  pub is_entry-low : (byte : ℕ) → byte < 128 → is_entry_of 64 (get_or values byte 0) ≡ true
   is_entry-low byte h =
-      subst (λ v. is_entry v ≡ true) (get_or-take 128 values byte 0 h)
-      (passes_at is_entry (take 128 values) byte 0 holds.entries (omega (arith, length-low)))
+      subst (λ v. is_entry_of 64 v ≡ true) (get_or-take 128 values byte 0 h)
+      (passes_at (is_entry_of 64) (take 128 values) byte 0 holds.entries
+      (omega (arith, length-low)))
+
+  pub high_entry : (byte : ℕ) → 128 ≤ byte → byte < 256 → get_or values byte 0 ≡ 128
+  high_entry byte low high =
+      let place : 128 + (byte - 128) ≡ byte = omega arith in
+      ap (λ n. get_or values n 0) (sym place)
+      ∙ sym (get_or-drop 128 values (byte - 128) 0)
+      ∙ ap (λ l. get_or l (byte - 128) 0) holds.invalid_from_128
+      ∙ get_or-replicate 128 (byte - 128) 128 0 (omega arith)
+
+  -- a byte means what its entry says, also where it is no ASCII
+  pub meaning-any : (byte : ℕ) → byte < 256
+      → get_or (map meaning_of_entry (take 128 values)) byte Invalid
+      ≡ meaning_of_entry (get_or values byte 0)
+  meaning-any byte h =
+      ⊎_elim (λ (low : byte < 128). meaning-low byte low)
+      (λ (high : 128 ≤ byte).
+      get_or_past (map meaning_of_entry (take 128 values)) byte Invalid
+      (omega (arith, length-map (take 128 values) meaning_of_entry, length-low, high))
+      ∙ ap meaning_of_entry (sym (high_entry byte high h)))
+      (cases_lt byte 128)
+
+  pub is_entry-any : (byte : ℕ) → byte < 256 → is_entry_of 64 (get_or values byte 0) ≡ true
+  is_entry-any byte h =
+      ⊎_elim (λ (low : byte < 128). is_entry-low byte low)
+      (λ (high : 128 ≤ byte). ap (is_entry_of 64) (high_entry byte high h))
+      (cases_lt byte 128)
 
   module _ (byte entry : ℕ) (low : byte < 128) where
     ms : List Character
@@ -135,7 +157,7 @@ module _ (values : List ℕ) (holds : HoldsEntries values) where
     unfolding ms had
     defined-same e = defined-cases true _ (same_meanings had entry e) refl
 
-    pub defined-other : is_entry entry ≡ true → get_or values byte 0 ≢ entry
+    pub defined-other : is_entry_of 64 entry ≡ true → get_or values byte 0 ≢ entry
         → get_or values byte 0 ≢ 128
         → defined (map meaning_of_entry (take 128 values)) byte (meaning_of_entry entry)
         ≡ Err (Duplicate byte)
@@ -144,7 +166,7 @@ module _ (values : List ℕ) (holds : HoldsEntries values) where
         defined-cases false false (other_meanings had entry (is_entry-low byte low) k ne)
         (other_meanings had 128 (is_entry-low byte low) refl taken)
 
-    pub defined-free : is_entry entry ≡ true → get_or values byte 0 ≢ entry
+    pub defined-free : is_entry_of 64 entry ≡ true → get_or values byte 0 ≢ entry
         → get_or values byte 0 ≡ 128
         → defined (map meaning_of_entry (take 128 values)) byte (meaning_of_entry entry)
         ≡ Ok (map meaning_of_entry (take 128 (set values byte entry)))
@@ -155,10 +177,10 @@ module _ (values : List ℕ) (holds : HoldsEntries values) where
         ∙ ap (λ l. Ok l) (sym (map-set meaning_of_entry (take 128 values) byte entry)
         ∙ ap (map meaning_of_entry) (sym (take-set-lt 128 values byte entry low)))
 
-    pub HoldsEntries-set : is_entry entry ≡ true → HoldsEntries (set values byte entry)
+    pub HoldsEntries-set : is_entry_of 64 entry ≡ true → HoldsEntries (set values byte entry)
     HoldsEntries-set k = record {
       entries =
-          ap (list_all is_entry) (take-set-lt 128 values byte entry low)
-          ∙ list_all-set is_entry (take 128 values) byte entry k holds.entries;
+          ap (list_all (is_entry_of 64)) (take-set-lt 128 values byte entry low)
+          ∙ list_all-set (is_entry_of 64) (take 128 values) byte entry k holds.entries;
       invalid_from_128 = drop-set-lt 128 values byte entry low ∙ holds.invalid_from_128;
     }

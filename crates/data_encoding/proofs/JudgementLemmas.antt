@@ -15,7 +15,7 @@ use Rattle.data_encoding.specs.Fields.{Require, Define, Translate}
 use Rattle.data_encoding.proofs.EntryLemmas.{defined_by, same-is_same}
 use Rattle.data_encoding.proofs.ListTests.{list_all-set, passes_at}
 
-abbrev Judged : Type 0
+abbrev pub Judged : Type 0
 Judged = Result (List Character) Refusal
 
 -- the first judgements, and then the others
@@ -185,7 +185,7 @@ pub record IsStep (before : List Character) (j : Judgement) (after : List Charac
   pub long : length after ≡ length before
   pub held : length before ≡ 128 → IsHeld after j
 
-judged-ok : (before after : List Character) (j : Judgement) → judged before j ≡ Ok after
+pub judged-ok : (before after : List Character) (j : Judgement) → judged before j ≡ Ok after
     → IsStep before j after
 judged-ok before after (Require holds refusal) h =
     let is = required-ok holds refusal before after h in
@@ -222,7 +222,7 @@ first-ok : (r : Judged) (js : List Judgement) (after : List Character)
 first-ok (Ok mid) js after h = (mid, refl, h)
 first-ok (Err refusal) js after h = cc
 
-AreKept-join : (before mid after : List Character) → AreKept before mid → AreKept mid after
+pub AreKept-join : (before mid after : List Character) → AreKept before mid → AreKept mid after
     → AreKept before after
 AreKept-join before mid after first second byte some =
     let same = first byte some in

@@ -5,7 +5,8 @@ use Rattle.std.proofs.lemmas.Bool.Decides.{nat_tests}
 use Rattle.data_encoding.specs.declared.decode.DecodeError.{DecodeError}
 use Rattle.data_encoding.specs.declared.decode.DecodeKind.TheVariants.{Length as LengthFault}
 use Rattle.data_encoding.specs.declared.encoding.Encoding.TheInside.{Inside}
-use Rattle.data_encoding.specs.Encoding.{base_of_tables, HasTables}
+use Rattle.data_encoding.specs.Encoding.{base_of_tables, KeepsRules}
+use Rattle.data_encoding.specs.Plain.{IsPlain}
 use Rattle.data_encoding.proofs.TableLemmas.{IsBare-tables}
 use Rattle.data_encoding.specs.Base.{Base, ignores_some, group_bytes, group_symbols}
 use Rattle.data_encoding.specs.Lengths.{decoded_len, unless_fault, length_fault, most_bytes, is_valid_count, greatest_valid_count}
@@ -91,11 +92,13 @@ module _ (base : Base) (len : ℕ) (unpadded : base.padding ≡ None) (none : ig
       (cases_lt (base.width * len % 8) base.width)
 
 -- what the length of an output says, by the tables of an encoding
-pub counted-tables : (e : Inside) (tables : HasTables e) (seen : Base)
-    (is : base_of_tables e ≡ seen) (len count : ℕ) → decoded_len seen len ≡ Ok count
-    → IsCounted (base_of_tables e) len (IsBare-tables e tables).unpadded
-    (IsBare-tables e tables).ignores_none count
-counted-tables e tables seen is len count h =
-    let bare = IsBare-tables e tables in
+pub counted-tables : (e : Inside) (rules : KeepsRules e) (seen : Base)
+    (is : base_of_tables e ≡ seen) (plain : IsPlain seen) (len count : ℕ)
+    → decoded_len seen len ≡ Ok count
+    → IsCounted (base_of_tables e) len
+    (IsBare-tables e rules (subst IsPlain (sym is) plain)).unpadded
+    (IsBare-tables e rules (subst IsPlain (sym is) plain)).ignores_none count
+counted-tables e rules seen is plain len count h =
+    let bare = IsBare-tables e rules (subst IsPlain (sym is) plain) in
     IsCounted-decoded_len (base_of_tables e) len bare.unpadded bare.ignores_none count
     (subst (λ b. decoded_len b len ≡ Ok count) (sym is) h)

@@ -8,6 +8,7 @@ pub mod GrammarLemmas
 pub mod FaultLemmas
 pub mod TextLemmas
 pub mod TableLemmas
+pub mod PlainLemmas
 pub mod LengthLemmas
 pub mod PlaceLemmas
 pub mod EncodeLemmas
@@ -20,5 +21,11 @@ pub mod ListTests
 pub mod EntryLemmas
 pub mod JudgementLemmas
 pub mod RepeatLemmas
+pub mod RuleLemmas
+pub mod AgainLemmas
+pub mod KeepLemmas
+pub mod TableLayout
+pub mod TranslationLemmas
+pub mod DescriptionLemmas
 pub mod MadeLemmas
 mod Vectors

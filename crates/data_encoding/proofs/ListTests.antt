@@ -1,8 +1,9 @@
 -- Tests that all elements of a list pass.
-use Rattle.std.proofs.Common.{◌≡◌, ℕ, zero, suc, ◌<◌, Bool, true, ◌&&◌, List, [], ◌∷◌, length, map, take, get_or, refl, ap, ◌∙◌, arith}
+use Rattle.std.proofs.Common.{◌≡◌, ℕ, zero, suc, ◌+◌, ◌<◌, ◌≤◌, Bool, true, false, ◌&&◌, cond, List, [], ◌∷◌, ◌++◌, length, map, take, get_or, refl, ap, ◌∙◌, subst, arith, ⊎_elim}
 use Rattle.std.proofs.Math.ListN.{set}
 use Rattle.std.specs.Cmp.{first_so, second_so}
-use Rattle.std.specs.List.{list_all}
+use Rattle.std.specs.List.{AllByRecursion, filter, list_all, range_with_len}
+use Rattle.std.proofs.lemmas.Bool.{cases_eq}
 
 -- at one place
 pub passes_at : {X : Type 0} (test : X → Bool) (xs : List X) (i : ℕ) (d : X) → list_all test xs
@@ -58,3 +59,50 @@ take-set-lt zero xs i y h = absurd (omega (arith, h))
 take-set-lt (suc n) [] i y h = refl
 take-set-lt (suc n) (x ∷ xs) zero y h = refl
 take-set-lt (suc n) (x ∷ xs) (suc i) y h = ap (λ l. x ∷ l) (take-set-lt n xs i y (omega (arith, h)))
+
+-- what holds of all of two lists
+pub all_parts : {X : Type 0} (P : X → Type 0) (xs ys : List X) → AllByRecursion P (xs ++ ys)
+    → AllByRecursion P xs × AllByRecursion P ys
+all_parts P [] ys h = (tt, h)
+all_parts P (x ∷ xs) ys h = let rest = all_parts P xs ys h.1 in ((h.0, rest.0), rest.1)
+
+pub all_joined : {X : Type 0} (P : X → Type 0) (xs ys : List X) → AllByRecursion P xs
+    → AllByRecursion P ys → AllByRecursion P (xs ++ ys)
+all_joined P [] ys h k = k
+all_joined P (x ∷ xs) ys h k = (h.0, all_joined P xs ys h.1 k)
+
+-- of the numbers of a range that pass a test
+pub all_in_range : (P : ℕ → Type 0) (test : ℕ → Bool) (a n : ℕ)
+    → ((k : ℕ) → a ≤ k → k < a + n → test k ≡ true → P k)
+    → AllByRecursion P (filter test (range_with_len a n))
+all_in_range P test a zero h = tt
+all_in_range P test a (suc n) h =
+    first (test a) (λ e. h a (omega arith) (omega arith) e)
+    (all_in_range P test (a + 1) n (λ k low high. h k (omega arith) (omega arith))) where
+      first : (b : Bool) → (b ≡ true → P a)
+          → AllByRecursion P (filter test (range_with_len (a + 1) n))
+          → AllByRecursion P (cond b (a ∷ filter test (range_with_len (a + 1) n))
+          (filter test (range_with_len (a + 1) n)))
+      first true here rest = (here refl, rest)
+      first false here rest = rest
+
+pub at_in_range : (P : ℕ → Type 0) (test : ℕ → Bool) (a n k : ℕ)
+    → AllByRecursion P (filter test (range_with_len a n)) → a ≤ k → k < a + n → test k ≡ true
+    → P k
+at_in_range P test a zero k all low high h = absurd (omega arith)
+at_in_range P test a (suc n) k all low high h =
+    let parts = split (test a) refl all in
+    ⊎_elim
+    (λ (same : a ≡ k). subst P same (parts.0 (ap test same ∙ h)))
+    (λ (apart : a ≡ k → ⊥).
+    at_in_range P test (a + 1) n k parts.1 (omega arith) (omega arith) h)
+    (cases_eq a k) where
+      split : (b : Bool) → test a ≡ b
+          → AllByRecursion P (cond b (a ∷ filter test (range_with_len (a + 1) n))
+          (filter test (range_with_len (a + 1) n)))
+          → (test a ≡ true → P a) × AllByRecursion P (filter test (range_with_len (a + 1) n))
+      split true is all = ((λ e. all.0), all.1)
+      split false is all = ((λ e. absurd (differ (test a) e is)), all)
+        where
+          differ : (b : Bool) → b ≡ true → b ≡ false → ⊥
+          differ b h k = cc

@@ -1,32 +1,18 @@
--- What an encoding is made of.
-use Rattle.std.proofs.Common.{◌≡◌, ℕ, zero, suc, ◌+◌, ◌/◌, ◌%◌, ◌^◌, ◌<◌, ◌==◌, Bool, true, false, not, ◌||◌, nat_lt, cond, List, [], ◌∷◌, ◌++◌, length, map, take, get_or, replicate, Some, None, Result, Ok, Err, refl, sym, ap, ◌∙◌, arith}
-use Rattle.std.proofs.lemmas.Bool.{or_left, or_right, lt-ltb}
-use Rattle.std.proofs.lemmas.List.{length-map, get_or-map, ext_get_or}
-use Rattle.std.proofs.lemmas.List.FromFn.{length-range_with_len, get_or-range_with_len}
-use Rattle.std.specs.List.{list_all, concat, range_with_len, AllByRecursion}
-use Rattle.data_encoding.specs.declared.encoding.BitOrder.{BitOrder}
+-- What the builder makes of a specification.
+use Rattle.std.proofs.Common.{◌≡◌, ℕ, zero, suc, ◌%◌, ◌/◌, ◌^◌, ◌<◌, ◌==◌, Bool, true, false, ◌||◌, cond, List, [], ◌++◌, length, map, take, replicate, Option, Some, None, IfSome, Result, Ok, refl, sym, ap, ◌∙◌, arith}
+use Rattle.std.specs.List.{concat}
 use Rattle.data_encoding.specs.declared.encoding.Character.{Character}
-use Rattle.data_encoding.specs.declared.encoding.Character.TheVariants.{Symbol, Invalid}
+use Rattle.data_encoding.specs.declared.encoding.Encoding.TheInside.{Inside}
 use Rattle.data_encoding.specs.declared.spec.Refusal.{Refusal}
-use Rattle.data_encoding.specs.declared.spec.Refusal.TheVariants.{FromTo}
 use Rattle.data_encoding.specs.Base.{Base}
-use Rattle.data_encoding.specs.Encoding.{base_of_tables, HasTables}
-use Rattle.data_encoding.specs.Entries.{meaning_of_entry, is_entry, HoldsEntries}
-use Rattle.data_encoding.specs.Fields.{Fields, base_of, base_by, base_with, judgements, meanings_after, no_meanings, symbol_judgements, padding_judgements, ignored_judgements, wrapping_judgements, translation_judgements, width_of}
-use Rattle.data_encoding.specs.Fields.{Require}
-use Rattle.data_encoding.specs.Predefined.{symbols_alone}
-use Rattle.data_encoding.proofs.EntryLemmas.{meaning-low}
-use Rattle.data_encoding.proofs.JudgementLemmas.{meanings_after-append, meanings_after-ok, meanings_after-pass, symbols-held, symbols-bring, IsHeld}
-use Rattle.data_encoding.proofs.ListTests.{list_all-map, list_all-places, list_all-both}
+use Rattle.data_encoding.specs.Encoding.{KeepsRules, base_of_tables, wrapping_by}
+use Rattle.data_encoding.specs.Entries.{HoldsEntries, meaning_of_entry}
+use Rattle.data_encoding.specs.Fields.{Fields, Judgement, base_of, base_with, ignored_judgements, judgements, meanings_after, no_meanings, padding_judgements, symbol_judgements, translation_judgements, width_of, wrapping_judgements, wraps}
+use Rattle.data_encoding.proofs.JudgementLemmas.{Judged, meanings_after-append}
+use Rattle.data_encoding.proofs.KeepLemmas.{KeepsRules-ruled}
 use Rattle.data_encoding.proofs.RepeatLemmas.{take-repeats}
+use Rattle.data_encoding.proofs.RuleLemmas.{IsRuledPadding, IsRuledWrapping, IsRuled-yield, base_from, base_of-width}
 use Rattle.data_encoding.proofs.WidthLemmas.{IsWidth, times-pos}
-
-pub base_of-width : (fields : Fields) (width : ℕ) → width_of (length fields.symbols) ≡ Some width
-    → 0 < width
-    → base_of fields
-    ≡ base_with width fields (meanings_after (Ok no_meanings) (judgements width fields))
-base_of-width fields zero h some = absurd (omega (arith, some))
-base_of-width fields (suc n) h some = ap (λ o. base_by o fields) h
 
 -- the judgements, part after part
 pub judged-parts : (width : ℕ) (fields : Fields) (r : Result (List Character) Refusal)
@@ -35,169 +21,165 @@ pub judged-parts : (width : ℕ) (fields : Fields) (r : Result (List Character) 
     (meanings_after r (symbol_judgements 0 fields.symbols))
     (padding_judgements width fields.padding))
     (ignored_judgements fields.ignored))
-    (wrapping_judgements width fields))
-    (translation_judgements fields)
+    (wrapping_judgements width fields.column fields.separator))
+    (translation_judgements fields.from fields.to)
 judged-parts width fields r =
     let a = symbol_judgements 0 fields.symbols in
     let b = padding_judgements width fields.padding in
     let c = ignored_judgements fields.ignored in
-    let d = wrapping_judgements width fields in
-    let e = translation_judgements fields in
+    let d = wrapping_judgements width fields.column fields.separator in
+    let e = translation_judgements fields.from fields.to in
     meanings_after-append r (a ++ b ++ c ++ d) e
     ∙ ap (λ s. meanings_after s e) (meanings_after-append r (a ++ b ++ c) d
     ∙ ap (λ s. meanings_after s d) (meanings_after-append r (a ++ b) c
     ∙ ap (λ s. meanings_after s c) (meanings_after-append r a b)))
 
-nothing-else : (r : Result (List Character) Refusal)
-    → meanings_after (meanings_after (meanings_after (meanings_after r []) []) [])
-    (Require true FromTo ∷ []) ≡ r
-nothing-else (Ok meanings) = refl
-nothing-else (Err refusal) = refl
+-- the judgements up to each part
+module _ (width : ℕ) (fields : Fields) where
+  abbrev a : List Judgement
+  a = symbol_judgements 0 fields.symbols
 
--- symbols alone are judged by their own judgements
-pub alone-judged : (symbols : List ℕ) (order : BitOrder) (check : Bool) (width : ℕ)
-    (r : Result (List Character) Refusal)
-    → meanings_after (Ok no_meanings) (symbol_judgements 0 symbols) ≡ r
-    → meanings_after (Ok no_meanings) (judgements width (symbols_alone symbols order check)) ≡ r
-alone-judged symbols order check width r h =
-    judged-parts width (symbols_alone symbols order check) (Ok no_meanings)
-    ∙ ap (λ s. meanings_after (meanings_after (meanings_after (meanings_after s []) []) [])
-    (Require true FromTo ∷ [])) h
-    ∙ nothing-else r
+  abbrev b : List Judgement
+  b = padding_judgements width fields.padding
 
--- What the builder has of symbols that are not refused.
-pub record IsMadeOf (symbols table values : List ℕ) (width : ℕ) : Type 0 where
-  pub width_is : width_of (length symbols) ≡ Some width
-  pub is_width : IsWidth width
-  pub count : 2 ^ width ≡ length symbols
-  pub repeat : table ≡ concat (replicate (256 / 2 ^ width) symbols)
-  pub entries : HoldsEntries values
-  pub meanings : meanings_after (Ok no_meanings) (symbol_judgements 0 symbols)
-      ≡ Ok (map meaning_of_entry (take 128 values))
+  abbrev c : List Judgement
+  c = ignored_judgements fields.ignored
 
--- a symbol's value is below the number of symbols
-abbrev is_within : ℕ → Character → Bool
-is_within limit (Symbol value) = nat_lt value limit
-is_within limit _ = true
+  abbrev d : List Judgement
+  d = wrapping_judgements width fields.column fields.separator
 
-symbol_entry : (v n : ℕ) → meaning_of_entry v ≡ Symbol n → v ≡ n
-symbol_entry v n h = by_test (nat_lt v 64) h where
-  by_test : (b : Bool) → cond b (Symbol v) Invalid ≡ Symbol n → v ≡ n
-  by_test true h = cc
-  by_test false h = cc
+  abbrev e : List Judgement
+  e = translation_judgements fields.from fields.to
 
-entry_within : (v limit : ℕ) → is_entry v ≡ true → is_within limit (meaning_of_entry v) ≡ true
-    → (nat_lt v limit || (v == 128)) ≡ true
-entry_within v limit h k = by_test (nat_lt v 64) h k where
-  by_test : (b : Bool) → (b || (v == 128)) ≡ true
-      → is_within limit (cond b (Symbol v) Invalid) ≡ true
-      → (nat_lt v limit || (v == 128)) ≡ true
-  by_test true h k = or_left (nat_lt v limit) (v == 128) k
-  by_test false h k = or_right (nat_lt v limit) (v == 128) h
+  abbrev all : Judged
+  all = meanings_after (Ok no_meanings) (judgements width fields)
 
-always_checked : (check whole : Bool) → ((check || whole) || not whole) ≡ true
-always_checked true true = refl
-always_checked true false = refl
-always_checked false true = refl
-always_checked false false = refl
+  pub after-symbols : (r : Judged) → meanings_after (Ok no_meanings) a ≡ r
+      → all ≡ meanings_after (meanings_after (meanings_after (meanings_after r b) c) d) e
+  after-symbols r h =
+      judged-parts width fields (Ok no_meanings)
+      ∙ ap (λ s. meanings_after (meanings_after (meanings_after (meanings_after s b) c) d) e) h
 
-module _ (symbols table values : List ℕ) (width : ℕ) (made : IsMadeOf symbols table values width)
-  where
-    take-table : take (2 ^ width) table ≡ symbols
-    take-table =
-        ap (take (2 ^ width)) made.repeat
-        ∙ ap (λ n. take n (concat (replicate (256 / 2 ^ width) symbols))) made.count
-        ∙ take-repeats (256 / 2 ^ width) symbols (times-pos width made.is_width)
+  pub after-padding : (one : List Character) (r : Judged)
+      → meanings_after (Ok no_meanings) a ≡ Ok one → meanings_after (Ok one) b ≡ r
+      → all ≡ meanings_after (meanings_after (meanings_after r c) d) e
+  after-padding one r h k =
+      after-symbols (Ok one) h
+      ∙ ap (λ s. meanings_after (meanings_after (meanings_after s c) d) e) k
 
-    held : AllByRecursion (IsHeld (map meaning_of_entry (take 128 values)))
-        (symbol_judgements 0 symbols)
-    held =
-        (meanings_after-ok (symbol_judgements 0 symbols) no_meanings
-        (map meaning_of_entry (take 128 values)) made.meanings).held refl
+  pub after-ignored : (one two : List Character) (r : Judged)
+      → meanings_after (Ok no_meanings) a ≡ Ok one → meanings_after (Ok one) b ≡ Ok two
+      → meanings_after (Ok two) c ≡ r → all ≡ meanings_after (meanings_after r d) e
+  after-ignored one two r h k l =
+      after-padding one (Ok two) h k ∙ ap (λ s. meanings_after (meanings_after s d) e) l
 
-    symbol-low : (i : ℕ) → i < length symbols → get_or symbols i 0 < 128
-    symbol-low i h =
-        (symbols-held (map meaning_of_entry (take 128 values)) 0 symbols held i h).0
+  pub after-wrapping : (one two three : List Character) (r : Judged)
+      → meanings_after (Ok no_meanings) a ≡ Ok one → meanings_after (Ok one) b ≡ Ok two
+      → meanings_after (Ok two) c ≡ Ok three → meanings_after (Ok three) d ≡ r
+      → all ≡ meanings_after r e
+  after-wrapping one two three r h k l m =
+      after-ignored one two (Ok three) h k l ∙ ap (λ s. meanings_after s e) m
 
-    value-own : (i : ℕ) → i < length symbols → get_or values (get_or symbols i 0) 0 ≡ i
-    value-own i h =
-        let is = symbols-held (map meaning_of_entry (take 128 values)) 0 symbols held i h in
-        symbol_entry (get_or values (get_or symbols i 0) 0) (0 + i)
-        (sym (meaning-low values made.entries (get_or symbols i 0) is.0) ∙ is.1)
-        ∙ omega arith
+  pub after-translation : (one two three four : List Character) (r : Judged)
+      → meanings_after (Ok no_meanings) a ≡ Ok one → meanings_after (Ok one) b ≡ Ok two
+      → meanings_after (Ok two) c ≡ Ok three → meanings_after (Ok three) d ≡ Ok four
+      → meanings_after (Ok four) e ≡ r → all ≡ r
+  after-translation one two three four r h k l m n =
+      after-wrapping one two three (Ok four) h k l m ∙ n
 
-    ascii : list_all (λ s. nat_lt s 128) symbols ≡ true
-    ascii =
-        list_all-places (λ s. nat_lt s 128) symbols 0
-        (λ i h. lt-ltb (get_or symbols i 0) 128 (symbol-low i h))
+-- the lines that the builder keeps
+pub wrapping_by-kept : (column : ℕ) (separator : List ℕ)
+    → wrapping_by (cond (wraps column separator) column 0)
+    (cond (wraps column separator) separator [])
+    ≡ cond (wraps column separator)
+    (Some (record { column = column; separator = separator })) None
+wrapping_by-kept column separator = by_test (wraps column separator) refl where
+  by_number : (n : ℕ) → wraps n separator ≡ true
+      → wrapping_by n separator ≡ Some (record { column = n; separator = separator })
+  by_number zero h = cc
+  by_number (suc n) h = refl
 
-    own_values : map (λ s. get_or values s 0) symbols ≡ range_with_len 0 (2 ^ width)
-    own_values =
-        let long : length (map (λ s. get_or values s 0) symbols) ≡ length symbols =
-        length-map symbols (λ s. get_or values s 0) in
-        ext_get_or 0 (map (λ s. get_or values s 0) symbols) (range_with_len 0 (2 ^ width))
-        (long ∙ sym made.count ∙ sym (length-range_with_len 0 (2 ^ width)))
-        (λ i less.
-        let within : i < length symbols = omega (arith, less, long) in
-        let below : i < 2 ^ width = omega (arith, within, made.count) in
-        get_or-map (λ s. get_or values s 0) symbols i 0 0 within ∙ value-own i within
-        ∙ sym (get_or-range_with_len 0 (2 ^ width) i 0 below ∙ omega arith))
+  by_test : (b : Bool) → wraps column separator ≡ b
+      → wrapping_by (cond b column 0) (cond b separator [])
+      ≡ cond b (Some (record { column = column; separator = separator })) None
+  by_test true h = by_number column h
+  by_test false h = refl
 
-    within : list_all (is_within (2 ^ width)) (map meaning_of_entry (take 128 values)) ≡ true
-    within =
-        meanings_after-pass (is_within (2 ^ width)) (symbol_judgements 0 symbols) no_meanings
-        (map meaning_of_entry (take 128 values)) refl
-        (symbols-bring (is_within (2 ^ width)) 0 symbols
-        (λ v h. lt-ltb v (2 ^ width) (omega (arith, h, made.count))))
-        refl made.meanings
+-- no lines have no separator
+pub nothing-kept : (column : ℕ) (separator : List ℕ)
+    → cond (wraps column separator) column 0 ≡ 0
+    → cond (wraps column separator) separator [] ≡ []
+nothing-kept column separator = by_test (wraps column separator) refl where
+  by_number : (n : ℕ) → wraps n separator ≡ true → n ≡ 0 → separator ≡ []
+  by_number zero h e = cc
+  by_number (suc n) h e = absurd (omega (arith, e))
 
-    module _ (order : BitOrder) (check : Bool) where
-      pub symbols_alone-yields : base_of (symbols_alone symbols order check)
-          ≡ Ok (base_of_tables (record {
-            symbols = table;
-            values = values;
-            width = width;
-            order = order;
-            checks_trailing_bits = check || (8 % width == 0);
-          }))
-      symbols_alone-yields =
-          base_of-width (symbols_alone symbols order check) width made.width_is made.is_width.some
-          ∙ ap (base_with width (symbols_alone symbols order check))
-          (alone-judged symbols order check width (Ok (map meaning_of_entry (take 128 values)))
-          made.meanings)
-          ∙ ap (λ (l : List ℕ). let b : Base = record {
-            width = width;
-            order = order;
-            symbols = l;
-            checks_trailing_bits = check || (8 % width == 0);
-            padding = None;
-            meanings = map meaning_of_entry (take 128 values);
-            wrapping = None;
-          } in let r : Result Base Refusal = Ok b in r) (sym take-table)
+  by_test : (b : Bool) → wraps column separator ≡ b → cond b column 0 ≡ 0
+      → cond b separator [] ≡ []
+  by_test true h e = by_number column h e
+  by_test false h e = refl
 
-      pub tables-made : HasTables (record {
-        symbols = table;
-        values = values;
-        width = width;
-        order = order;
-        checks_trailing_bits = check || (8 % width == 0);
-      })
-      tables-made = record {
-        some_bits = made.is_width.some;
-        few_bits = made.is_width.few;
-        whole_checked = always_checked check (8 % width == 0);
-        symbols_repeat =
-            made.repeat
-            ∙ ap (λ l. concat (replicate (256 / 2 ^ width) l)) (sym take-table);
-        symbols_are_ascii = ap (list_all (λ s. nat_lt s 128)) take-table ∙ ascii;
-        own_values = ap (map (λ s. get_or values s 0)) take-table ∙ own_values;
-        entries =
-            list_all-both is_entry (λ v. is_within (2 ^ width) (meaning_of_entry v))
-            (λ v. nat_lt v (2 ^ width) || (v == 128)) (λ v. entry_within v (2 ^ width))
-            (take 128 values) made.entries.entries
-            (sym (list_all-map (is_within (2 ^ width)) meaning_of_entry (take 128 values))
-            ∙ within);
-        invalid_from_128 = made.entries.invalid_from_128;
-        is_base =
-            record { fields = symbols_alone symbols order check; yields = symbols_alone-yields };
+pub padding-ascii : (base : Base) (o : Option ℕ) → IsRuledPadding base o
+    → IfSome o (λ character. character < 128)
+padding-ascii base None rule = tt
+padding-ascii base (Some character) rule = rule.0
+
+pub lines-short : (base : Base) (b : Bool) (column : ℕ) (separator : List ℕ)
+    → IsRuledWrapping base (cond b (Some (record { column = column; separator = separator })) None)
+    → b ≡ true → (column < 256) × (length separator < 256)
+lines-short base true column separator rule h = (rule.short, rule.ends_short)
+lines-short base false column separator rule h = cc
+
+-- What the builder has of a specification that is not refused.
+pub record IsMadeOf (fields : Fields) (e : Inside) (meanings : List Character) : Type 0 where
+  pub width_is : width_of (length fields.symbols) ≡ Some e.width
+  pub is_width : IsWidth e.width
+  pub count : 2 ^ e.width ≡ length fields.symbols
+  pub judged : meanings_after (Ok no_meanings) (judgements e.width fields) ≡ Ok meanings
+  pub repeat : e.symbols ≡ concat (replicate (256 / 2 ^ e.width) fields.symbols)
+  pub holds : HoldsEntries e.values
+  pub values : map meaning_of_entry (take 128 e.values) ≡ meanings
+  pub order : e.order ≡ fields.order
+  pub checks : e.checks_trailing_bits ≡ (fields.checks_trailing_bits || (8 % e.width == 0))
+  pub padding : e.padding ≡ fields.padding
+  pub column : e.column ≡ cond (wraps fields.column fields.separator) fields.column 0
+  pub separator : e.separator.items
+      ≡ cond (wraps fields.column fields.separator) fields.separator []
+
+module _ (fields : Fields) (e : Inside) (meanings : List Character)
+    (made : IsMadeOf fields e meanings) where
+  take-symbols : take (2 ^ e.width) e.symbols ≡ fields.symbols
+  take-symbols =
+      ap (take (2 ^ e.width)) made.repeat
+      ∙ ap (λ n. take n (concat (replicate (256 / 2 ^ e.width) fields.symbols))) made.count
+      ∙ take-repeats (256 / 2 ^ e.width) fields.symbols (times-pos e.width made.is_width)
+
+  base-made : base_of_tables e ≡ base_from e.width fields meanings
+  base-made =
+      let symbols = take-symbols in
+      let wrapping =
+      (λ i. wrapping_by (made.column i) (made.separator i))
+      ∙ wrapping_by-kept fields.column fields.separator in
+      λ i. record {
+        width = e.width;
+        order = made.order i;
+        symbols = symbols i;
+        checks_trailing_bits = made.checks i;
+        padding = made.padding i;
+        meanings = made.values i;
+        wrapping = wrapping i;
       }
+
+  pub yields-made : base_of fields ≡ Ok (base_of_tables e)
+  yields-made =
+      base_of-width fields e.width made.width_is made.is_width.some
+      ∙ ap (base_with e.width fields) made.judged
+      ∙ ap (λ b. Ok b) (sym (base-made))
+
+  pub rules-made : KeepsRules e
+  rules-made =
+      KeepsRules-ruled e (IsRuled-yield fields (base_of_tables e) (yields-made)) made.holds
+      (made.repeat
+      ∙ ap (λ l. concat (replicate (256 / 2 ^ e.width) l)) (sym (take-symbols)))
+      (λ none. made.separator
+      ∙ nothing-kept fields.column fields.separator (sym made.column ∙ none))

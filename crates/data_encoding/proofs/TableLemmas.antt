@@ -1,176 +1,169 @@
 -- What the tables of an encoding say of its base.
-use Rattle.std.proofs.Common.{◌≡◌, ℕ, zero, suc, ◌+◌, ◌-◌, ◌^◌, ◌<◌, ◌≤◌, ◌==◌, Bool, true, false, ◌||◌, nat_lt, cond, List, [], ◌∷◌, length, map, take, get_or, refl, sym, ap, ◌∙◌, subst, arith, ⊎_elim}
-use Rattle.std.proofs.lemmas.Bool.{cases_lt}
+use Rattle.std.proofs.Common.{◌≡◌, ℕ, zero, suc, ◌^◌, ◌<◌, ◌≤◌, ◌==◌, Bool, true, false, nat_lt, cond, ◌||◌, List, [], ◌∷◌, length, map, take, get_or, Option, Some, None, refl, sym, ap, ◌∙◌, subst, arith, ⊎_elim}
+use Rattle.std.proofs.lemmas.Bool.{cases_lt, false≢true, eqb-true}
 use Rattle.std.proofs.lemmas.Bool.Decides.{nat_tests}
-use Rattle.std.proofs.lemmas.List.{get_or-map, get_or-take, get_or-drop, get_or_past, get_or-replicate, length-map, length-replicate, length-take-le, length-drop}
-use Rattle.std.proofs.lemmas.List.FromFn.{length-range_with_len}
-use Rattle.std.specs.Cmp.{first_so, second_so}
-use Rattle.std.specs.List.{list_all, list_any}
-use Rattle.data_encoding.specs.declared.encoding.Character.TheVariants.{Symbol, Invalid}
+use Rattle.std.proofs.lemmas.List.{get_or-take, get_or_past, length-map}
+use Rattle.std.specs.List.{list_any}
+use Rattle.data_encoding.specs.declared.encoding.Character.TheVariants.{Symbol, Padding, Ignored, Invalid}
 use Rattle.data_encoding.specs.declared.encoding.Encoding.TheInside.{Inside}
 use Rattle.data_encoding.specs.Base.{Base, meaning, symbol, is_ignored}
-use Rattle.data_encoding.specs.Encoding.{base_of_tables, HasTables}
-use Rattle.data_encoding.specs.Entries.{meaning_of_entry}
-use Rattle.data_encoding.specs.Fault.{is_symbol}
+use Rattle.data_encoding.specs.Encoding.{KeepsPadding, KeepsRules, KeepsWrapping, base_of_tables, wrapping_by}
+use Rattle.data_encoding.specs.Entries.{is_entry_of, meaning_of_entry}
+use Rattle.data_encoding.specs.Fault.{is_padding, is_symbol}
+use Rattle.data_encoding.specs.Plain.{IsPlain}
 use Rattle.data_encoding.specs.Tables.{IsBare, HoldsSymbols, HoldsValues, Writes, Reads}
-use Rattle.data_encoding.proofs.WidthLemmas.{IsWidth, by_width}
+use Rattle.data_encoding.proofs.EntryLemmas.{high_entry, length-entries, length-low, meaning-any}
+use Rattle.data_encoding.proofs.KeepLemmas.{HoldsEntries-tables, IsWidth-tables, length-symbols, symbol-ascii, value-symbol}
+use Rattle.data_encoding.proofs.ListTests.{passes_at}
+use Rattle.data_encoding.proofs.WidthLemmas.{IsWidth, symbols-few}
 
--- a test that all pass, at one place
-pub passes_at : {X : Type 0} (test : X → Bool) (xs : List X) (i : ℕ) (d : X) → list_all test xs
-    ≡ true
-    → i < length xs → test (get_or xs i d) ≡ true
-passes_at test [] i d h e = absurd (omega (arith, e))
-passes_at test (x ∷ xs) zero d h e = first_so (test x) (list_all test xs) h
-passes_at test (x ∷ xs) (suc i) d h e =
-    passes_at test xs i d (second_so (test x) (list_all test xs) h) (omega (arith, e))
+small_entry : (v count : ℕ) → is_entry_of count v ≡ true → v < 128 → v < count
+small_entry v count h k = grind (arith, nat_tests)
 
-entry_kept : (v : ℕ) → is_ignored (meaning_of_entry v) ≡ false
-entry_kept v = kept (nat_lt v 64) where
-  kept : (b : Bool) → is_ignored (cond b (Symbol v) Invalid) ≡ false
-  kept true = refl
-  kept false = refl
+no_symbol : (v : ℕ) → 128 ≤ v → is_symbol (meaning_of_entry v) ≡ false
+no_symbol v h =
+    let large : nat_lt v 64 ≡ false = grind (arith, nat_tests) in
+    ap (λ b. is_symbol (cond b (Symbol v)
+    (cond (v == 129) Ignored (cond (v == 130) Padding Invalid)))) large
+    ∙ others (v == 129) (v == 130) where
+      others : (a b : Bool) → is_symbol (cond a Ignored (cond b Padding Invalid)) ≡ false
+      others true b = refl
+      others false true = refl
+      others false false = refl
 
-none_ignored : (values : List ℕ) → list_any is_ignored (map meaning_of_entry values) ≡ false
-none_ignored [] = refl
-none_ignored (v ∷ values) =
-    ap (λ b. b || list_any is_ignored (map meaning_of_entry values)) (entry_kept v)
-    ∙ none_ignored values
+-- a test that each fails is passed by none
+none_passes : {X : Type 0} (test : X → Bool) (xs : List X) (d : X)
+    → ((i : ℕ) → i < length xs → test (get_or xs i d) ≡ false) → list_any test xs ≡ false
+none_passes test [] d h = refl
+none_passes test (x ∷ xs) d h =
+    ap (λ b. b || list_any test xs) (h 0 (omega arith))
+    ∙ none_passes test xs d (λ i k. h (suc i) (omega (arith, k)))
 
-small_entry : (v width : ℕ) → (nat_lt v (2 ^ width) || (v == 128)) ≡ true → v < 128
-    → v < 2 ^ width
-small_entry v width h k = grind (arith, nat_tests)
-
-module _ (e : Inside) (tables : HasTables e) where
-  pub IsWidth-tables : IsWidth e.width
-  IsWidth-tables = record { some = tables.some_bits; few = tables.few_bits }
-
-  length-values : length e.values ≡ 256
-  length-values =
-      let half = ap length tables.invalid_from_128 ∙ length-replicate {A = ℕ} 128 128 in
-      omega (arith, length-drop 128 e.values, half)
-
-  -- nothing is padded, ignored or wrapped
-  pub IsBare-tables : IsBare (base_of_tables e)
-  IsBare-tables = record {
-    unpadded = refl;
-    unwrapped = refl;
-    ignores_none = none_ignored (take 128 e.values);
-  }
-
-  high_entry : (byte : ℕ) → 128 ≤ byte → byte < 256 → get_or e.values byte 0 ≡ 128
-  high_entry byte low high =
-      let place : 128 + (byte - 128) ≡ byte = omega arith in
-      ap (λ n. get_or e.values n 0) (sym place)
-      ∙ sym (get_or-drop 128 e.values (byte - 128) 0)
-      ∙ ap (λ l. get_or l (byte - 128) 0) tables.invalid_from_128
-      ∙ get_or-replicate 128 (byte - 128) 128 0 (omega arith)
-
-  length-low : length (take 128 e.values) ≡ 128
-  length-low = length-take-le 128 e.values (omega (arith, length-values))
-
-  -- a byte means what its entry says
-  meaning-entry : (byte : ℕ) → byte < 256
-      → meaning (base_of_tables e) byte ≡ meaning_of_entry (get_or e.values byte 0)
-  meaning-entry byte h =
-      let low_len = length-low in
-      ⊎_elim
-      (λ (low : byte < 128).
-      get_or-map meaning_of_entry (take 128 e.values) byte 0 Invalid (omega arith)
-      ∙ ap meaning_of_entry (get_or-take 128 e.values byte 0 low))
-      (λ (high : 128 ≤ byte).
-      get_or_past (map meaning_of_entry (take 128 e.values)) byte Invalid
-      (omega (arith, length-map (take 128 e.values) meaning_of_entry))
-      ∙ ap meaning_of_entry (sym (high_entry byte high h)))
-      (cases_lt byte 128)
-
+module _ (e : Inside) (rules : KeepsRules e) where
   -- an entry that is a value is that of a symbol
   entry-below : (byte : ℕ) → byte < 256 → get_or e.values byte 0 < 128
       → get_or e.values byte 0 < 2 ^ e.width
   entry-below byte h small =
-      let low_len = length-low in
+      let holds = HoldsEntries-tables e rules in
       ⊎_elim
       (λ (low : byte < 128).
-      let same = get_or-take 128 e.values byte 0 low in
-      let test = passes_at (λ v. nat_lt v (2 ^ e.width) || (v == 128)) (take 128 e.values) byte 0
-      tables.entries (omega arith) in
-      small_entry (get_or e.values byte 0) e.width
-      (subst (λ v. (nat_lt v (2 ^ e.width) || (v == 128)) ≡ true) same test) small)
-      (λ (high : 128 ≤ byte). absurd (omega (arith, high_entry byte high h)))
+      small_entry (get_or e.values byte 0) (2 ^ e.width)
+      (subst (λ v. is_entry_of (2 ^ e.width) v ≡ true) (get_or-take 128 e.values byte 0 low)
+      (passes_at (is_entry_of (2 ^ e.width)) (take 128 e.values) byte 0 rules.entries
+      (omega (arith, low, length-low e.values holds))))
+      small)
+      (λ (high : 128 ≤ byte).
+      absurd (omega (arith, small, high_entry e.values holds byte high h)))
       (cases_lt byte 128)
-
-  few_symbols : 2 ^ e.width ≤ 64
-  few_symbols = by_width (λ w. 2 ^ w ≤ 64) (omega arith) (omega arith) (omega arith) (omega arith)
-      (omega arith) (omega arith) e.width IsWidth-tables
 
   pub HoldsValues-tables : HoldsValues (base_of_tables e) e.values
   HoldsValues-tables = record {
-    some_bits = tables.some_bits;
-    few_bits = tables.few_bits;
+    some_bits = rules.some_bits;
+    few_bits = rules.few_bits;
     symbols = λ byte h small.
-        let below : get_or e.values byte 0 < 64 =
-        omega (arith, entry-below byte h small, few_symbols) in
-        let test : nat_lt (get_or e.values byte 0) 64 ≡ true = grind (arith, nat_tests) in
-        meaning-entry byte h
-        ∙ ap (λ b. cond b (Symbol (get_or e.values byte 0)) Invalid) test;
+        meaning-any e.values (HoldsEntries-tables e rules) byte h
+        ∙ value-symbol (get_or e.values byte 0)
+        (omega (arith, entry-below byte h small, symbols-few e.width (IsWidth-tables e rules)));
     below = entry-below;
     others = λ byte h large.
-        let test : nat_lt (get_or e.values byte 0) 64 ≡ false = grind (arith, nat_tests) in
-        ap is_symbol (meaning-entry byte h
-        ∙ ap (λ b. cond b (Symbol (get_or e.values byte 0)) Invalid) test);
+        ap is_symbol (meaning-any e.values (HoldsEntries-tables e rules) byte h)
+        ∙ no_symbol (get_or e.values byte 0) large;
   }
-
-  length-symbols : length (take (2 ^ e.width) e.symbols) ≡ 2 ^ e.width
-  length-symbols =
-      sym (length-map (take (2 ^ e.width) e.symbols) (λ s. get_or e.values s 0))
-      ∙ ap length tables.own_values ∙ length-range_with_len 0 (2 ^ e.width)
 
   pub HoldsSymbols-tables : HoldsSymbols (base_of_tables e) e.symbols
   HoldsSymbols-tables = record {
-    some_bits = tables.some_bits;
-    few_bits = tables.few_bits;
+    some_bits = rules.some_bits;
+    few_bits = rules.few_bits;
     at_value = λ value h. get_or-take (2 ^ e.width) e.symbols value 0 h;
   }
 
   -- each symbol is ASCII, and so is what stands for a value that none has
-  pub symbol-ascii : (value : ℕ) → symbol (base_of_tables e) value < 128
-  symbol-ascii value =
+  any_symbol-ascii : (value : ℕ) → symbol (base_of_tables e) value < 128
+  any_symbol-ascii value =
       ⊎_elim
-      (λ (inside : value < length (take (2 ^ e.width) e.symbols)).
-      let test = passes_at (λ s. nat_lt s 128) (take (2 ^ e.width) e.symbols) value 0
-      tables.symbols_are_ascii inside in
-      grind (arith, nat_tests))
-      (λ (past : length (take (2 ^ e.width) e.symbols) ≤ value).
-      let zero_there = get_or_past (take (2 ^ e.width) e.symbols) value 0 past in
+      (λ (inside : value < 2 ^ e.width). symbol-ascii e rules value inside)
+      (λ (past : 2 ^ e.width ≤ value).
+      let zero_there = get_or_past (take (2 ^ e.width) e.symbols) value 0
+      (omega (arith, past, length-symbols e rules)) in
       omega (arith, zero_there))
-      (cases_lt value (length (take (2 ^ e.width) e.symbols)))
+      (cases_lt value (2 ^ e.width))
+
+  module _ (plain : IsPlain (base_of_tables e)) where
+    unpadded-by : (o : Option ℕ) → KeepsPadding o e.width e.values → o ≡ None
+    unpadded-by None keeps = refl
+    unpadded-by (Some character) keeps =
+        let few : character < 256 = omega (arith, keeps.0) in
+        let means : meaning (base_of_tables e) character ≡ Padding =
+        meaning-any e.values (HoldsEntries-tables e rules) character few
+        ∙ ap meaning_of_entry keeps.1 in
+        absurd (false≢true (sym (plain.none_pads character few) ∙ ap is_padding means))
+
+    never_129 : (byte : ℕ) → get_or e.values byte 0 ≡ 129 → ⊥
+    never_129 byte h =
+        let holds = HoldsEntries-tables e rules in
+        ⊎_elim
+        (λ (few : byte < 256).
+        let means : meaning (base_of_tables e) byte ≡ Ignored =
+        meaning-any e.values holds byte few ∙ ap meaning_of_entry h in
+        false≢true (sym (plain.none_ignored byte few) ∙ ap is_ignored means))
+        (λ (past : 256 ≤ byte).
+        let zero_there = get_or_past e.values byte 0
+        (omega (arith, past, length-entries e.values holds)) in
+        absurd (omega (arith, h, zero_there)))
+        (cases_lt byte 256)
+
+    unwrapped-by : (column : ℕ) (separator : List ℕ)
+        → KeepsWrapping column separator e.width e.values → wrapping_by column separator ≡ None
+    unwrapped-by zero separator keeps = refl
+    unwrapped-by (suc n) separator keeps =
+        absurd (never_129 (get_or separator 0 0)
+        (eqb-true (get_or e.values (get_or separator 0 0) 0) 129
+        (passes_at (λ byte. get_or e.values byte 0 == 129) separator 0 0 keeps.4 keeps.2)))
+
+    -- nothing is padded, ignored or wrapped
+    pub IsBare-tables : IsBare (base_of_tables e)
+    IsBare-tables = record {
+      unpadded = unpadded-by e.padding rules.padding;
+      unwrapped = unwrapped-by e.column e.separator.items rules.wrapping;
+      ignores_none =
+          none_passes is_ignored (map meaning_of_entry (take 128 e.values)) Invalid
+          (λ i h. plain.none_ignored i
+          (omega (
+            arith,
+            h,
+            length-map (take 128 e.values) meaning_of_entry,
+            length-low e.values (HoldsEntries-tables e rules),
+          )));
+    }
 
 -- what a contract knows of the base that it sees
-module _ (e : Inside) (tables : HasTables e) (seen : Base) (is : base_of_tables e ≡ seen) where
-  pub IsBare-seen : IsBare seen
-  IsBare-seen = subst IsBare is (IsBare-tables e tables)
-
+module _ (e : Inside) (rules : KeepsRules e) (seen : Base) (is : base_of_tables e ≡ seen) where
   pub IsWidth-seen : IsWidth seen.width
-  IsWidth-seen = subst (λ b. IsWidth b.width) is (IsWidth-tables e tables)
+  IsWidth-seen = subst (λ b. IsWidth b.width) is (IsWidth-tables e rules)
 
   pub symbols-seen : (value : ℕ) → symbol seen value < 128
-  symbols-seen value = subst (λ b. symbol b value < 128) is (symbol-ascii e tables value)
+  symbols-seen value = subst (λ b. symbol b value < 128) is (any_symbol-ascii e rules value)
 
-  pub Writes-tables : (width : ℕ) → e.width ≡ width → Writes seen e.symbols width e.order
-  Writes-tables width h =
-      subst (λ b. Writes b e.symbols width e.order) is (record {
-        bare = IsBare-tables e tables;
-        width_is = h;
-        order_is = refl;
-        holds = HoldsSymbols-tables e tables;
-      })
+  module _ (plain : IsPlain seen) where
+    pub IsBare-seen : IsBare seen
+    IsBare-seen = subst IsBare is (IsBare-tables e rules (subst IsPlain (sym is) plain))
 
-  pub Reads-tables : (width : ℕ) → e.width ≡ width
-      → Reads seen e.values width e.order e.checks_trailing_bits
-  Reads-tables width h =
-      subst (λ b. Reads b e.values width e.order e.checks_trailing_bits) is (record {
-        bare = IsBare-tables e tables;
-        width_is = h;
-        order_is = refl;
-        checks_is = refl;
-        holds = HoldsValues-tables e tables;
-      })
+    pub Writes-tables : (width : ℕ) → e.width ≡ width → Writes seen e.symbols width e.order
+    Writes-tables width h =
+        subst (λ b. Writes b e.symbols width e.order) is (record {
+          bare = IsBare-tables e rules (subst IsPlain (sym is) plain);
+          width_is = h;
+          order_is = refl;
+          holds = HoldsSymbols-tables e rules;
+        })
+
+    pub Reads-tables : (width : ℕ) → e.width ≡ width
+        → Reads seen e.values width e.order e.checks_trailing_bits
+    Reads-tables width h =
+        subst (λ b. Reads b e.values width e.order e.checks_trailing_bits) is (record {
+          bare = IsBare-tables e rules (subst IsPlain (sym is) plain);
+          width_is = h;
+          order_is = refl;
+          checks_is = refl;
+          holds = HoldsValues-tables e rules;
+        })

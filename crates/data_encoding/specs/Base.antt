@@ -32,6 +32,10 @@ abbrev pub is_ignored : Character → Bool
 is_ignored Ignored = true
 is_ignored _ = false
 
+abbrev pub is_invalid : Character → Bool
+is_invalid Invalid = true
+is_invalid _ = false
+
 abbrev pub is_padded : Base → Bool
 is_padded base = is_some base.padding
 

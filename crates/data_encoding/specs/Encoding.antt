@@ -1,10 +1,14 @@
 -- What a contract sees of an `Encoding`: the base of its tables.
-use Rattle.std.specs.Prelude.{◌≡◌, ◌/◌, ◌%◌, ◌^◌, ◌<◌, ◌≤◌, ◌==◌, nat_lt, ◌||◌, not, IsTrue, map, replicate, take, drop, slice_index, None}
+use Rattle.std.specs.Prelude.{◌≡◌, ℕ, zero, suc, ◌/◌, ◌%◌, ◌^◌, ◌<◌, ◌≤◌, ◌==◌, nat_lt, ◌||◌, not, IsTrue, List, [], length, map, replicate, take, drop, slice_index, Option, None, Some}
 use Rattle.std.specs.List.{concat, list_all, range_with_len}
 use Rattle.data_encoding.specs.declared.encoding.Encoding.TheInside.{Inside}
-use Rattle.data_encoding.specs.Base.{Base}
-use Rattle.data_encoding.specs.Entries.{meaning_of_entry}
-use Rattle.data_encoding.specs.IsBase.{IsBase}
+use Rattle.data_encoding.specs.Base.{Base, Wrapping, group_symbols}
+use Rattle.data_encoding.specs.Entries.{meaning_of_entry, is_entry_of}
+
+-- lines of no characters are no lines
+abbrev pub wrapping_by : ℕ → List ℕ → Option Wrapping
+wrapping_by zero separator = None
+wrapping_by (suc n) separator = Some (record { column = suc n; separator = separator })
 
 abbrev pub base_of_tables : Inside → Base
 base_of_tables e = record {
@@ -12,15 +16,29 @@ base_of_tables e = record {
   order = e.order;
   symbols = take (2 ^ e.width) e.symbols;
   checks_trailing_bits = e.checks_trailing_bits;
-  padding = None;
+  padding = e.padding;
   meanings = map meaning_of_entry (take 128 e.values);
-  wrapping = None;
+  wrapping = wrapping_by e.column e.separator.items;
 }
+
+-- Without padding no byte means it; and padding is only where eight bits are no whole symbols.
+abbrev pub KeepsPadding : Option ℕ → ℕ → List ℕ → Type 0
+KeepsPadding None width values = IsTrue (list_all (λ v. not (v == 130)) (take 128 values))
+KeepsPadding (Some character) width values =
+    (character < 128) × (slice_index values character ≡ 130) × IsTrue (not (8 % width == 0))
+
+-- Lines are whole groups, and each byte of the separator is ignored.
+abbrev pub KeepsWrapping : ℕ → List ℕ → ℕ → List ℕ → Type 0
+KeepsWrapping zero separator width values = separator ≡ []
+KeepsWrapping (suc n) separator width values =
+    (suc n < 256) × (suc n % group_symbols width ≡ 0)
+    × (0 < length separator) × (length separator < 256)
+    × IsTrue (list_all (λ byte. slice_index values byte == 129) separator)
 
 -- A symbol has one to six bits, and no bits can be left over where eight are whole symbols. The
 -- symbols are ASCII, and fill their table again and again. Each has its own value; any other byte
--- has the value of a symbol, or 128, as each from 128 on.
-pub record HasTables (e : Inside) : Type 0 where
+-- has the value of a symbol, or 128 to 130; each from 128 on has 128.
+pub record KeepsRules (e : Inside) : Type 0 where
   pub some_bits : 0 < e.width
   pub few_bits : e.width ≤ 6
   pub whole_checked : IsTrue (e.checks_trailing_bits || not (8 % e.width == 0))
@@ -29,6 +47,7 @@ pub record HasTables (e : Inside) : Type 0 where
   pub symbols_are_ascii : IsTrue (list_all (λ s. nat_lt s 128) (take (2 ^ e.width) e.symbols))
   pub own_values : map (λ s. slice_index e.values s) (take (2 ^ e.width) e.symbols)
       ≡ range_with_len 0 (2 ^ e.width)
-  pub entries : IsTrue (list_all (λ v. nat_lt v (2 ^ e.width) || (v == 128)) (take 128 e.values))
+  pub entries : IsTrue (list_all (is_entry_of (2 ^ e.width)) (take 128 e.values))
   pub invalid_from_128 : drop 128 e.values ≡ replicate 128 128
-  pub is_base : IsBase (base_of_tables e)
+  pub padding : KeepsPadding e.padding e.width e.values
+  pub wrapping : KeepsWrapping e.column e.separator.items e.width e.values

@@ -83,29 +83,33 @@ padding_judgements width (Some character) =
 abbrev pub ignored_judgements : List ℕ → List Judgement
 ignored_judgements bytes = map (λ byte. Define byte Ignored) bytes
 
-abbrev pub wraps : Fields → Bool
-wraps fields = not (fields.column == 0) && not (length fields.separator == 0)
+-- where the width is 0 or the separator is empty, there are no lines
+abbrev pub wraps : ℕ → List ℕ → Bool
+wraps column separator = not (column == 0) && not (length separator == 0)
 
-abbrev pub wrapping_judgements : ℕ → Fields → List Judgement
-wrapping_judgements width fields =
-    if wraps fields
-    then Require (nat_lt fields.column 256 && nat_lt (length fields.separator) 256) WrapLength
-    ∷ Require (fields.column % group_symbols width == 0) (WrapWidth (group_symbols width))
-    ∷ ignored_judgements fields.separator
+abbrev pub wrapping_judgements : ℕ → ℕ → List ℕ → List Judgement
+wrapping_judgements width column separator =
+    if wraps column separator
+    then Require (nat_lt column 256 && nat_lt (length separator) 256) WrapLength
+    ∷ Require (column % group_symbols width == 0) (WrapWidth (group_symbols width))
+    ∷ ignored_judgements separator
     else []
 
-abbrev pub translation_judgements : Fields → List Judgement
-translation_judgements fields =
-    Require (length fields.from == length fields.to) FromTo
-    ∷ map (λ (p : ℕ × ℕ). Translate p.0 p.1) (zip fields.from fields.to)
+abbrev pub pair_judgements : List ℕ → List ℕ → List Judgement
+pair_judgements from to = map (λ (p : ℕ × ℕ). Translate p.0 p.1) (zip from to)
+
+-- byte by byte
+abbrev pub translation_judgements : List ℕ → List ℕ → List Judgement
+translation_judgements from to =
+    Require (length from == length to) FromTo ∷ pair_judgements from to
 
 abbrev pub judgements : ℕ → Fields → List Judgement
 judgements width fields =
     symbol_judgements 0 fields.symbols
     ++ padding_judgements width fields.padding
     ++ ignored_judgements fields.ignored
-    ++ wrapping_judgements width fields
-    ++ translation_judgements fields
+    ++ wrapping_judgements width fields.column fields.separator
+    ++ translation_judgements fields.from fields.to
 
 abbrev pub base_with : ℕ → Fields → Result (List Character) Refusal → Result Base Refusal
 base_with width fields (Err refusal) = Err refusal
@@ -117,7 +121,7 @@ base_with width fields (Ok meanings) = Ok (record {
   padding = fields.padding;
   meanings = meanings;
   wrapping =
-      if wraps fields
+      if wraps fields.column fields.separator
       then Some (record { column = fields.column; separator = fields.separator }) else None;
 })
 

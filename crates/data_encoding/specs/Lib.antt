@@ -11,6 +11,10 @@ pub mod IsBase
 pub mod Entries
 pub mod Meanings
 pub mod Encoding
+pub mod Layout
+pub mod Specification
+pub mod Laws
+pub mod Plain
 pub mod Tables
 pub mod Printed
 pub mod Predefined

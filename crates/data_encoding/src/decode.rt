@@ -10,6 +10,7 @@ ghost use Rattle.data_encoding.specs.Grammar.{Means, Placed, placed_from};
 ghost use Rattle.data_encoding.specs.IsBase.{IsBase};
 ghost use Rattle.data_encoding.specs.Lengths.{decoded_len, is_valid_count};
 ghost use Rattle.data_encoding.specs.Partial.{StopsAt, partial_of};
+ghost use Rattle.data_encoding.specs.Plain.{IsPlain};
 ghost use Rattle.data_encoding.specs.Printed.{printed_error, printed_fault, printed_kind};
 ghost use Rattle.data_encoding.specs.Tables.{HoldsValues, IsGroup, Reads};
 
@@ -139,7 +140,8 @@ impl Encoding {
     /// Where no byte is ignored, a length that no text has is a `Length` fault, at the greatest
     /// length below it that a text may have.
     pub fn decode_len(&self, len: usize) -> Result<usize, DecodeError>
-        requires { len ≤ DECODE_LIMIT }
+        requires limit { len ≤ DECODE_LIMIT }
+        requires plain { IsPlain self.now }
         ensures value { result ≡ decoded_len self.now len }
         ensures position { IfErr result (λ error. error.position < len) }
         ensures most { (text bytes : List ℕ) → length text ≡ len → Means self.now text bytes
@@ -165,6 +167,7 @@ impl Encoding {
     /// that were written; what stands in the output after these is not said.
     pub fn decode_mut(&self, input: &[u8], output: &mut [u8]) -> Result<usize, DecodePartial>
         requires limit { length input.now ≤ DECODE_LIMIT }
+        requires plain { IsPlain self.now }
         requires exact { decoded_len self.now (length input.now) ≡ Ok (length output.old) }
         ensures decoded { IfOk result (λ n. (n ≤ length output.new)
             × Means self.now input.now (take n output.new)) }
@@ -190,7 +193,8 @@ impl Encoding {
     /// first; then the first faulty group decides. Want of memory is answered only for a text of a
     /// valid length that may mean one byte or more.
     pub fn decode(&self, alloc: Global, input: &[u8]) -> Result<Vec<u8>, DecodeFault>
-        requires { length input.now ≤ DECODE_LIMIT }
+        requires limit { length input.now ≤ DECODE_LIMIT }
+        requires plain { IsPlain self.now }
         ensures means { IfOk result (λ bytes. Means self.now input.now bytes.items) }
         ensures refusal { IfErr result (IsRefusal self.now input.now) }
         ensures accepted { (bytes : List ℕ) → Means self.now input.now bytes

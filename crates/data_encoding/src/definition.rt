@@ -1,25 +1,59 @@
 //! How a specification becomes an encoding: each byte is given its meaning in turn.
 
-ghost use Rattle.std.specs.Prelude.{◌≡◌, ◌/◌, ◌%◌, ◌^◌, ◌==◌, ◌||◌, ◌<◌, ◌≤◌, List, length, take, drop, map, replicate, IfOk, OnOk, IfErr, IsTrue, Ok, Err, Some, None};
+ghost use Rattle.std.specs.Prelude.{◌≡◌, ◌/◌, ◌%◌, ◌^◌, ◌==◌, ◌||◌, ◌<◌, ◌≤◌, List, [], length, take, map, replicate, zip, slice_index_or, if◌then◌else◌, IfOk, OnOk, IfErr, IfSome, IsTrue, Ok, Err, Some, None};
 ghost use Rattle.std.specs.List.{concat};
-ghost use Rattle.data_encoding.specs.declared.encoding.Character.{Character};
-ghost use Rattle.data_encoding.specs.Entries.{is_entry, meaning_of_entry, HoldsEntries};
-ghost use Rattle.data_encoding.specs.Fields.{Fields, base_of, base_by, defined, meanings_after, symbol_judgements, width_of, no_meanings};
+ghost use Rattle.data_encoding.specs.declared.encoding.Character.TheVariants.{Invalid};
+ghost use Rattle.data_encoding.specs.Base.{group_symbols};
+ghost use Rattle.data_encoding.specs.Encoding.{wrapping_by};
+ghost use Rattle.data_encoding.specs.Entries.{meaning_of_entry, is_entry_of, HoldsEntries};
+ghost use Rattle.data_encoding.specs.Fields.{Fields, base_of, base_by, defined, ignored_judgements, judgements, meanings_after, no_meanings, padding_judgements, symbol_judgements, translated, translation_judgements, width_of, wrapping_judgements, wraps};
 ghost use Rattle.data_encoding.specs.Predefined.{symbols_alone};
+ghost use Rattle.data_encoding.specs.Specification.{fields_of_parts};
 
-use crate::encoding::{BitOrder, Encoding};
-use crate::spec::{Refusal, SpecificationError};
+use crate::encoding::{BitOrder, Encoding, IGNORED, INVALID, PADDING};
+use crate::spec::Refusal;
+use arrayvec::ArrayVec;
 use std::marker::Model;
-
-// The entry of a byte that means nothing.
-const INVALID: u8 = 128;
 
 // The numbers of symbols, in order of their bits; one symbol has none.
 const SIZES: [usize; 7] = [1, 2, 4, 8, 16, 32, 64];
 
+// The fields of a specification, its texts as bytes.
+#[derive(Drop)]
+pub(crate) struct Parts<'a> {
+    pub(crate) symbols: &'a [u8],
+    pub(crate) order: BitOrder,
+    pub(crate) check: bool,
+    pub(crate) padding: Option<char>,
+    pub(crate) ignored: &'a [u8],
+    pub(crate) column: usize,
+    pub(crate) separator: &'a [u8],
+    pub(crate) from: &'a [u8],
+    pub(crate) to: &'a [u8],
+}
+
+impl<'a> Parts<'a> {
+    // Symbols alone: unpadded, with nothing ignored, translated or wrapped.
+    pub(crate) fn alone(symbols: &'a [u8], order: BitOrder, check: bool) -> Parts<'a>
+        ensures { fields_of_parts result ≡ symbols_alone symbols.now order check }
+    {
+        Parts {
+            symbols,
+            order,
+            check,
+            padding: None,
+            ignored: b"",
+            column: 0,
+            separator: b"",
+            from: b"",
+            to: b"",
+        }
+    }
+}
+
 // What the bytes mean so far, by a table of values.
 #[derive(Drop)]
-pub(crate) struct Meanings {
+struct Meanings {
     values: [u8; 256],
 }
 
@@ -46,9 +80,17 @@ impl Meanings {
         }
     }
 
+    // The entry of the byte.
+    fn entry(&self, byte: u8) -> u8
+        ensures meaning { slice_index_or self.now byte Invalid ≡ meaning_of_entry result }
+        ensures entry { IsTrue (is_entry_of 64 result) }
+    {
+        self.values[byte as usize]
+    }
+
     // Gives the byte a meaning, where it has no other.
     fn define(&mut self, byte: u8, entry: u8) -> Result<(), Refusal>
-        requires { IsTrue (is_entry entry) }
+        requires { IsTrue (is_entry_of 64 entry) }
         ensures defined { OnOk result
             (defined self.old byte (meaning_of_entry entry) ≡ Ok self.new) }
         ensures refused { IfErr result
@@ -79,6 +121,99 @@ impl Meanings {
     {
         for value in 0..symbols.len() {
             self.define(symbols[value], value as u8)?;
+        }
+        Ok(())
+    }
+
+    // Lets the character be padding, where there is one.
+    fn define_padding(&mut self, width: u8, padding: Option<char>) -> Result<(), Refusal>
+        requires { 0 < width }
+        ensures defined { OnOk result
+            (meanings_after (Ok self.old) (padding_judgements width padding) ≡ Ok self.new) }
+        ensures refused { IfErr result
+            (λ refusal. meanings_after (Ok self.old) (padding_judgements width padding)
+            ≡ Err refusal) }
+    {
+        let Some(character) = padding else {
+            return Ok(());
+        };
+        if 8 % width == 0 {
+            return Err(Refusal::ExtraPadding);
+        }
+        let code = character as u32;
+        if code >= 128 {
+            return Err(Refusal::NotAscii);
+        }
+        self.define(code as u8, PADDING)
+    }
+
+    // Lets the bytes be ignored.
+    fn define_ignored(&mut self, bytes: &[u8]) -> Result<(), Refusal>
+        ensures defined { OnOk result
+            (meanings_after (Ok self.old) (ignored_judgements bytes.now) ≡ Ok self.new) }
+        ensures refused { IfErr result
+            (λ refusal. meanings_after (Ok self.old) (ignored_judgements bytes.now)
+            ≡ Err refusal) }
+    {
+        for place in 0..bytes.len() {
+            self.define(bytes[place], IGNORED)?;
+        }
+        Ok(())
+    }
+
+    // Judges the lines, where there are some, and lets their separator be ignored.
+    fn define_wrapping(&mut self, width: u8, column: usize, separator: &[u8]) -> Result<(), Refusal>
+        requires some { 0 < width }
+        requires few { width ≤ 6 }
+        ensures defined { OnOk result
+            (meanings_after (Ok self.old) (wrapping_judgements width column separator.now)
+            ≡ Ok self.new) }
+        ensures refused { IfErr result
+            (λ refusal. meanings_after (Ok self.old)
+            (wrapping_judgements width column separator.now) ≡ Err refusal) }
+    {
+        if !wraps(column, separator) {
+            return Ok(());
+        }
+        if column >= 256 || separator.len() >= 256 {
+            return Err(Refusal::WrapLength);
+        }
+        let count = group_symbols(width);
+        if column % count as usize != 0 {
+            return Err(Refusal::WrapWidth(count));
+        }
+        self.define_ignored(separator)
+    }
+
+    // Lets a byte mean what another means.
+    fn translate_byte(&mut self, from: u8, to: u8) -> Result<(), Refusal>
+        ensures defined { OnOk result (translated self.old from to ≡ Ok self.new) }
+        ensures refused { IfErr result (λ refusal. translated self.old from to ≡ Err refusal) }
+    {
+        if to >= 128 {
+            return Err(Refusal::NotAscii);
+        }
+        let entry = self.entry(to);
+        if entry == INVALID {
+            return Err(Refusal::Undefined(to));
+        }
+        self.define(from, entry)
+    }
+
+    // Lets each byte of one text mean what that of the other means.
+    fn translate(&mut self, from: &[u8], to: &[u8]) -> Result<(), Refusal>
+        ensures defined { OnOk result
+            (meanings_after (Ok self.old) (translation_judgements from.now to.now)
+            ≡ Ok self.new) }
+        ensures refused { IfErr result
+            (λ refusal. meanings_after (Ok self.old) (translation_judgements from.now to.now)
+            ≡ Err refusal) }
+    {
+        if from.len() != to.len() {
+            return Err(Refusal::FromTo);
+        }
+        for place in 0..from.len() {
+            self.translate_byte(from[place], to[place])?;
         }
         Ok(())
     }
@@ -114,6 +249,30 @@ fn bits_of_symbol(count: usize) -> Result<u8, Refusal>
     }
 }
 
+// The number of symbols of a whole group.
+fn group_symbols(width: u8) -> u8
+    requires some { 0 < width }
+    requires few { width ≤ 6 }
+    ensures value { result ≡ group_symbols width }
+    ensures some { 0 < result }
+{
+    let bytes = if width == 5 {
+        5
+    } else if width % 3 == 0 {
+        3
+    } else {
+        1
+    };
+    bytes * 8 / width
+}
+
+// Whether there are lines.
+fn wraps(column: usize, separator: &[u8]) -> bool
+    ensures { result ≡ wraps column separator.now }
+{
+    column != 0 && !separator.is_empty()
+}
+
 // The symbols again and again, until 256 places are filled.
 fn repeated(symbols: &[u8], width: u8) -> [u8; 256]
     requires some { 0 < width }
@@ -137,38 +296,90 @@ fn checks_trailing_bits(check: bool, width: u8) -> bool
     check || 8 % width == 0
 }
 
-// The encoding of these symbols, with nothing else.
-fn define_plain(symbols: &[u8], order: BitOrder, check: bool) -> Result<Encoding, Refusal>
-    ensures yields { IfOk result
-        (λ base. base_of (symbols_alone symbols.now order check) ≡ Ok base) }
-    ensures refused { IfErr result
-        (λ refusal. base_of (symbols_alone symbols.now order check) ≡ Err refusal) }
+// The padding character as a byte.
+fn padding_byte(padding: Option<char>) -> Option<u8>
+    requires { IfSome padding (λ character. character < 128) }
+    ensures { result ≡ padding }
 {
-    let width = bits_of_symbol(symbols.len())?;
-    let mut meanings = Meanings::new();
-    meanings.define_symbols(symbols)?;
-    Ok(Encoding {
-        symbols: repeated(symbols, width),
-        values: meanings.into_values(),
-        width,
-        order,
-        checks_trailing_bits: checks_trailing_bits(check, width),
-    })
+    match padding {
+        Some(character) => Some(character as u32 as u8),
+        None => None,
+    }
 }
 
-/// The encoding of these symbols, unpadded, with nothing ignored, translated or wrapped.
-pub(crate) fn plain(
-    symbols: &[u8],
-    order: BitOrder,
-    check: bool,
-) -> Result<Encoding, SpecificationError>
-    ensures yields { IfOk result
-        (λ base. base_of (symbols_alone symbols.now order check) ≡ Ok base) }
-    ensures refused { IfErr result
-        (λ error. base_of (symbols_alone symbols.now order check) ≡ Err error.refusal) }
+// The length of a line, or 0 where there are no lines.
+fn column_byte(column: usize, separator: &[u8]) -> u8
+    requires { IsTrue (wraps column separator.now) → column < 256 }
+    ensures { result ≡ (if wraps column separator.now then column else 0) }
 {
-    match define_plain(symbols, order, check) {
-        Ok(encoding) => Ok(encoding),
-        Err(refusal) => Err(SpecificationError { refusal }),
+    if wraps(column, separator) {
+        return column as u8;
     }
+    0
+}
+
+// What follows each line; nothing where there are no lines.
+fn separator_bytes(column: usize, separator: &[u8]) -> ArrayVec<u8, 255>
+    requires { IsTrue (wraps column separator.now) → length separator.now < 256 }
+    ensures { result.items ≡ (if wraps column separator.now then separator.now else []) }
+{
+    let mut bytes = ArrayVec::new();
+    if wraps(column, separator) {
+        bytes.try_extend_from_slice(separator).unwrap();
+    }
+    bytes
+}
+
+// What the bytes mean after all judgements.
+fn judged(parts: &Parts<'_>, width: u8) -> Result<Meanings, Refusal>
+    requires some { 0 < width }
+    requires few { width ≤ 6 }
+    requires count { 2 ^ width ≡ length parts.now.symbols.now }
+    ensures meanings { IfOk result (λ meanings.
+        meanings_after (Ok no_meanings) (judgements width (fields_of_parts parts.now))
+        ≡ Ok meanings) }
+    ensures refused { IfErr result (λ refusal.
+        meanings_after (Ok no_meanings) (judgements width (fields_of_parts parts.now))
+        ≡ Err refusal) }
+{
+    let mut meanings = Meanings::new();
+    meanings.define_symbols(parts.symbols)?;
+    meanings.define_padding(width, parts.padding)?;
+    meanings.define_ignored(parts.ignored)?;
+    meanings.define_wrapping(width, parts.column, parts.separator)?;
+    meanings.translate(parts.from, parts.to)?;
+    Ok(meanings)
+}
+
+// The encoding of what was judged.
+fn assembled(parts: &Parts<'_>, width: u8, meanings: Meanings) -> Encoding
+    requires width { width_of (length parts.now.symbols.now) ≡ Some width }
+    requires some { 0 < width }
+    requires few { width ≤ 6 }
+    requires count { 2 ^ width ≡ length parts.now.symbols.now }
+    requires judged { meanings_after (Ok no_meanings)
+        (judgements width (fields_of_parts parts.now)) ≡ Ok meanings }
+    ensures { base_of (fields_of_parts parts.now) ≡ Ok result }
+{
+    Encoding {
+        symbols: repeated(parts.symbols, width),
+        values: meanings.into_values(),
+        width,
+        order: parts.order,
+        checks_trailing_bits: checks_trailing_bits(parts.check, width),
+        padding: padding_byte(parts.padding),
+        column: column_byte(parts.column, parts.separator),
+        separator: separator_bytes(parts.column, parts.separator),
+    }
+}
+
+// The encoding that the fields yield, or the first refusal.
+pub(crate) fn define(parts: &Parts<'_>) -> Result<Encoding, Refusal>
+    ensures yields { IfOk result (λ base. base_of (fields_of_parts parts.now) ≡ Ok base) }
+    ensures refused { IfErr result
+        (λ refusal. base_of (fields_of_parts parts.now) ≡ Err refusal) }
+{
+    let width = bits_of_symbol(parts.symbols.len())?;
+    let meanings = judged(parts, width)?;
+    Ok(assembled(parts, width, meanings))
 }

@@ -5,6 +5,7 @@ ghost use Rattle.std.specs.String.{string_bytes};
 ghost use Rattle.data_encoding.specs.Base.{Base};
 ghost use Rattle.data_encoding.specs.IsBase.{IsBase};
 ghost use Rattle.data_encoding.specs.Lengths.{alignment};
+ghost use Rattle.data_encoding.specs.Plain.{IsPlain};
 ghost use Rattle.data_encoding.specs.Tables.{IsGroup, Writes};
 ghost use Rattle.data_encoding.specs.Text.{text_of};
 
@@ -18,7 +19,8 @@ pub const ENCODE_LIMIT: usize = usize::MAX / 512;
 impl Encoding {
     /// The length of the text of `len` bytes of data.
     pub fn encode_len(&self, len: usize) -> usize
-        requires { len ≤ ENCODE_LIMIT }
+        requires limit { len ≤ ENCODE_LIMIT }
+        requires plain { IsPlain self.now }
         ensures length { (bytes : List ℕ) → length bytes ≡ len
             → length (text_of self.now bytes) ≡ result }
         ensures empty { len ≡ 0 → result ≡ 0 }
@@ -27,10 +29,15 @@ impl Encoding {
         (8 * len).div_ceil(self.width as usize)
     }
 
-    /// The bytes of data of a whole group of symbols: at its multiples texts may be joined.
+    /// The bytes of data of a whole group of symbols, or of a whole line.
+    ///
+    /// The texts of data may be joined where the length of all but the last is a multiple of it.
     pub fn encode_align(&self) -> usize
         ensures { result ≡ alignment self.now }
     {
+        if self.column != 0 {
+            return self.column as usize * self.width as usize / 8;
+        }
         match self.width {
             3 | 6 => 3,
             5 => 5,
@@ -41,6 +48,7 @@ impl Encoding {
     /// Writes the text of the data into `output`, which has exactly its length.
     pub fn encode_mut(&self, input: &[u8], output: &mut [u8])
         requires limit { length input.now ≤ ENCODE_LIMIT }
+        requires plain { IsPlain self.now }
         requires exact { length output.old ≡ length (text_of self.now input.now) }
         ensures text { output.new ≡ text_of self.now input.now }
         ensures ascii { All (λ byte. byte < 128) output.new }
@@ -60,6 +68,7 @@ impl Encoding {
     /// Writes the text of the data into `output`, which has exactly its length, and hands it out.
     pub fn encode_mut_str<'a>(&self, input: &[u8], output: &'a mut [u8]) -> &'a str
         requires limit { length input.now ≤ ENCODE_LIMIT }
+        requires plain { IsPlain self.now }
         requires exact { length output.old ≡ length (text_of self.now input.now) }
         ensures { result.now ≡ text_of self.now input.now }
     {
@@ -71,7 +80,8 @@ impl Encoding {
     ///
     /// The only error is want of memory, and nothing needs none.
     pub fn encode(&self, alloc: Global, input: &[u8]) -> Result<String, AllocError>
-        requires { length input.now ≤ ENCODE_LIMIT }
+        requires limit { length input.now ≤ ENCODE_LIMIT }
+        requires plain { IsPlain self.now }
         ensures text { IfOk result (λ text. string_bytes text ≡ text_of self.now input.now) }
         ensures empty { length input.now ≡ 0 → IsOk result }
     {

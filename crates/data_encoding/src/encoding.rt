@@ -1,9 +1,22 @@
 //! Encodings, and the words that describe them.
 
-ghost use Rattle.std.specs.Prelude.{◌≡◌};
+ghost use Rattle.std.specs.Prelude.{◌≡◌, ◌+◌, ◌≤◌, ◌++◌, length, if◌then◌else◌, unwrap_or, MatchResult};
+ghost use Rattle.arrayvec.specs.ArrayVec.{array_vec_len};
+ghost use Rattle.data_encoding.specs.Base.{ignores_some, is_ignored, is_invalid, meaning};
+ghost use Rattle.data_encoding.specs.Fault.{is_padding, value_of};
 ghost use Rattle.data_encoding.specs.IsBase.{IsBase};
+ghost use Rattle.data_encoding.specs.Layout.{layout, order_flag};
 
+use arrayvec::ArrayVec;
+use std::alloc::AllocError;
 use std::marker::Model;
+
+// The entries of a byte that means nothing, of one that is ignored, and of padding.
+pub(crate) const INVALID: u8 = 128;
+
+pub(crate) const IGNORED: u8 = 129;
+
+pub(crate) const PADDING: u8 = 130;
 
 /// Which bit of a byte comes first.
 #[derive(Clone, Copy, Debug, PartialEq, Eq)]
@@ -34,14 +47,57 @@ pub enum Character {
     Invalid,
 }
 
+impl Character {
+    /// The value, where it is a symbol.
+    pub fn is_symbol(self) -> Option<usize>
+        ensures { result ≡ value_of self }
+    {
+        match self {
+            Character::Symbol { value } => Some(value),
+            _ => None,
+        }
+    }
+
+    /// Whether it is padding.
+    pub fn is_padding(self) -> bool
+        ensures { result ≡ is_padding self }
+    {
+        matches!(self, Character::Padding)
+    }
+
+    /// Whether it is ignored.
+    pub fn is_ignored(self) -> bool
+        ensures { result ≡ is_ignored self }
+    {
+        matches!(self, Character::Ignored)
+    }
+
+    /// Whether it is nothing.
+    pub fn is_invalid(self) -> bool
+        ensures { result ≡ is_invalid self }
+    {
+        matches!(self, Character::Invalid)
+    }
+}
+
 /// An encoding: how data is written as text, and which texts are data.
 #[derive(Debug, Drop)]
 pub struct Encoding {
+    // The symbols in order of value, again and again.
     pub(crate) symbols: [u8; 256],
+
+    // The value of each symbol and of each byte that is translated to it; 128 for a byte that is
+    // nothing, 129 for one that is ignored, and 130 for padding.
     pub(crate) values: [u8; 256],
+
     pub(crate) width: u8,
     pub(crate) order: BitOrder,
     pub(crate) checks_trailing_bits: bool,
+    pub(crate) padding: Option<u8>,
+
+    // The length of a line, or 0, and what follows each line.
+    pub(crate) column: u8,
+    pub(crate) separator: ArrayVec<u8, 255>,
 }
 
 impl Model for Encoding {
@@ -49,19 +105,151 @@ impl Model for Encoding {
 
     ghost Value = { Base };
 
-    ghost use Rattle.data_encoding.specs.Encoding.{base_of_tables, HasTables};
+    ghost use Rattle.data_encoding.specs.Encoding.{base_of_tables, KeepsRules};
 
     ghost view = { base_of_tables };
 
-    ghost invariant = { HasTables };
+    ghost invariant = { KeepsRules };
 }
 
 impl Encoding {
-    /// The number of bits of a symbol: from 1 to 6.
+    /// The number of bits of a symbol, from 1 to 6.
     pub fn bit_width(&self) -> usize
-        ensures width { result ≡ self.now.width }
+        ensures value { result ≡ self.now.width }
         ensures base { IsBase self.now }
     {
         self.width as usize
     }
+
+    /// What a byte means in a text.
+    pub fn interpret_byte(&self, byte: u8) -> Character
+        ensures { result ≡ meaning self.now byte }
+    {
+        let entry = self.values[byte as usize];
+        if entry < 64 {
+            Character::Symbol {
+                value: entry as usize,
+            }
+        } else if entry == IGNORED {
+            Character::Ignored
+        } else if entry == PADDING {
+            Character::Padding
+        } else {
+            Character::Invalid
+        }
+    }
+
+    // The bytes that stand for the encoding: its tables, and what else it says.
+    pub(crate) fn layout(&self) -> ArrayVec<u8, 770>
+        ensures { result.items ≡ layout self.now }
+    {
+        let mut bytes = ArrayVec::new();
+        put(&mut bytes, &self.symbols);
+        put(&mut bytes, &self.values);
+        put(&mut bytes, &[padding_entry(self.padding), self.flags()]);
+        if self.column != 0 {
+            put(&mut bytes, &[self.column]);
+            put(&mut bytes, self.separator.as_slice());
+        } else if self.ignores_some() {
+            put(&mut bytes, &[0]);
+        }
+        bytes
+    }
+
+    // The width, and the order and the check in the bits of weight 8 and 16.
+    fn flags(&self) -> u8
+        ensures { result ≡ self.now.width + order_flag self.now.order
+            + (if self.now.checks_trailing_bits then 16 else 0) }
+    {
+        let order = match self.order {
+            BitOrder::MostSignificantFirst => 8,
+            BitOrder::LeastSignificantFirst => 0,
+        };
+        let check = if self.checks_trailing_bits { 16 } else { 0 };
+        self.width + order + check
+    }
+
+    // Whether a byte is ignored.
+    fn ignores_some(&self) -> bool
+        ensures { result ≡ ignores_some self.now }
+    {
+        self.values[..128].contains(&IGNORED)
+    }
+}
+
+// Appends bytes, for which there is room.
+fn put(layout: &mut ArrayVec<u8, 770>, bytes: &[u8])
+    requires { array_vec_len layout.old + length bytes.now ≤ 770 }
+    ensures { layout.new.items ≡ layout.old.items ++ bytes.now }
+{
+    layout.try_extend_from_slice(bytes).unwrap();
+}
+
+// The padding character, or 128.
+fn padding_entry(padding: Option<u8>) -> u8
+    ensures { result ≡ unwrap_or padding 128 }
+{
+    padding.unwrap_or(INVALID)
+}
+
+// A copy takes no memory, and is never refused.
+impl Clone for Encoding {
+    ghost use Rattle.std.specs.Prelude.{◌≡◌};
+
+    ghost is_clone = { λ one copy. copy ≡ one };
+
+    ghost is_infallible = { λ _. Unit {0} };
+
+    fn clone(&self) -> Result<Encoding, AllocError>
+        ensures cases { MatchResult result (λ copy. copy ≡ self.now) (λ _. ⊥) }
+    {
+        Ok(Encoding {
+            symbols: self.symbols,
+            values: self.values,
+            width: self.width,
+            order: self.order,
+            checks_trailing_bits: self.checks_trailing_bits,
+            padding: self.padding,
+            column: self.column,
+            separator: copied(self.separator.as_slice()),
+        })
+    }
+}
+
+// The bytes as an owned list.
+fn copied(bytes: &[u8]) -> ArrayVec<u8, 255>
+    requires { length bytes.now ≤ 255 }
+    ensures { result ≡ record { items = bytes.now } }
+{
+    let mut copy = ArrayVec::new();
+    copy.try_extend_from_slice(bytes).unwrap();
+    copy
+}
+
+impl PartialEq for Encoding {
+    ghost use Rattle.std.specs.Prelude.{◌≡◌, ◌↔◌, IsTrue};
+    ghost use Rattle.std.specs.Str.{bytes_eq};
+    ghost use Rattle.std.specs.Ordering.{on};
+    ghost use Rattle.std.specs.Cmp.{on_per, partial_equiv_from_equiv};
+    ghost use Rattle.std.specs.Cmp.Lexicographic.{nat_list_eq_equiv};
+    ghost use Rattle.data_encoding.specs.Layout.{layout};
+
+    ghost eq = { on layout bytes_eq };
+
+    ghost laws = { on_per layout (partial_equiv_from_equiv nat_list_eq_equiv) };
+
+    fn eq(&self, other: &Encoding) -> bool
+        ensures value { result ≡ on layout bytes_eq self.now other.now }
+        ensures same { IsTrue result ↔ (layout self.now ≡ layout other.now) }
+    {
+        self.layout().as_slice() == other.layout().as_slice()
+    }
+}
+
+impl Eq for Encoding {
+    ghost use Rattle.std.specs.Cmp.{on_equiv};
+    ghost use Rattle.std.specs.Cmp.Lexicographic.{nat_list_eq_equiv};
+    ghost use Rattle.data_encoding.specs.Layout.{layout};
+
+    ghost laws = { on_equiv layout nat_list_eq_equiv };
 }

@@ -10,6 +10,7 @@ mod decode;
 mod definition;
 mod encode;
 mod encoding;
+pub mod laws;
 mod predefined;
 mod spec;
 
@@ -17,7 +18,7 @@ pub use decode::{DECODE_LIMIT, DecodeError, DecodeFault, DecodeKind, DecodeParti
 pub use encode::ENCODE_LIMIT;
 pub use encoding::{BitOrder, Character, Encoding};
 pub use predefined::hexlower;
-pub use spec::SpecificationError;
+pub use spec::{Specification, SpecificationError, Translate, Wrap};
 
 #[cfg(test)]
 mod tests;

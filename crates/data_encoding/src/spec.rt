@@ -1,9 +1,64 @@
-//! Why a specification of an encoding is refused.
+//! Specifications of encodings, and why one is refused.
 
+ghost use Rattle.std.specs.Prelude.{◌≡◌, ◌^◌, ◌<◌, ◌≤◌, ◌++◌, ◌∷◌, [], map, nat_lt, is_some, IsTrue, IfOk, IfErr, IfSome, OnOk, Ok, Err};
+ghost use Rattle.std.specs.List.{list_all};
+ghost use Rattle.std.specs.String.{string_bytes};
+ghost use Rattle.data_encoding.specs.Base.{meaning};
+ghost use Rattle.data_encoding.specs.Fields.{base_of};
+ghost use Rattle.data_encoding.specs.Layout.{fields_of, ignored_bytes, is_translated, own_byte, own_character, translated_bytes};
 ghost use Rattle.data_encoding.specs.Printed.{printed_refusal};
+ghost use Rattle.data_encoding.specs.Specification.{specified, no_fields, refusal_of, SameTranslate, SameWrap};
 
+use crate::definition::{Parts, define};
+use crate::encoding::{BitOrder, Encoding, PADDING};
+use std::alloc::{AllocError, Global};
 use std::error::Error;
 use std::fmt;
+
+/// Bytes that mean what others mean: each of `from` what the one of `to` at its place means.
+#[derive(Debug, Drop)]
+pub struct Translate {
+    /// The bytes that are translated.
+    pub from: String,
+
+    /// What each of them stands for.
+    pub to: String,
+}
+
+/// Lines of text.
+#[derive(Debug, Drop)]
+pub struct Wrap {
+    /// The number of characters of a line, or 0 where the text is not cut into lines.
+    pub width: usize,
+
+    /// What follows each line, or nothing where the text is not cut into lines.
+    pub separator: String,
+}
+
+/// How an encoding is asked for.
+#[derive(Debug, Drop)]
+pub struct Specification {
+    /// The symbols, in order of value: 2, 4, 8, 16, 32 or 64 ASCII characters.
+    pub symbols: String,
+
+    /// Which bit of a byte comes first.
+    pub bit_order: BitOrder,
+
+    /// Whether bits that are left after the last byte have to be zeros.
+    pub check_trailing_bits: bool,
+
+    /// What fills the last group of a text.
+    pub padding: Option<char>,
+
+    /// Bytes that a text may have anywhere, and that mean nothing.
+    pub ignore: String,
+
+    /// The lines of a text.
+    pub wrap: Wrap,
+
+    /// Bytes that mean what others mean.
+    pub translate: Translate,
+}
 
 // Why a specification is refused, with the byte or the number that shows it.
 #[derive(Clone, Copy, Debug, PartialEq, Eq)]
@@ -37,6 +92,214 @@ pub(crate) enum Refusal {
 #[derive(Clone, Copy, Debug)]
 pub struct SpecificationError {
     pub(crate) refusal: Refusal,
+}
+
+impl Specification {
+    /// A specification with no symbols, the most significant bit first, and trailing bits checked.
+    pub fn new(alloc: Global) -> Specification
+        ensures { specified result ≡ no_fields }
+    {
+        Specification {
+            symbols: String::new(alloc),
+            bit_order: BitOrder::MostSignificantFirst,
+            check_trailing_bits: true,
+            padding: None,
+            ignore: String::new(alloc),
+            wrap: Wrap {
+                width: 0,
+                separator: String::new(alloc),
+            },
+            translate: Translate {
+                from: String::new(alloc),
+                to: String::new(alloc),
+            },
+        }
+    }
+
+    /// The encoding that is asked for, or the first reason why there is none.
+    pub fn encoding(&self) -> Result<Encoding, SpecificationError>
+        ensures yields { IfOk result (λ base. base_of (specified self.now) ≡ Ok base) }
+        ensures refused { IfErr result
+            (λ error. base_of (specified self.now) ≡ Err (refusal_of error)) }
+    {
+        let parts = Parts {
+            symbols: self.symbols.as_bytes(),
+            order: self.bit_order,
+            check: self.check_trailing_bits,
+            padding: self.padding,
+            ignored: self.ignore.as_bytes(),
+            column: self.wrap.width,
+            separator: self.wrap.separator.as_bytes(),
+            from: self.translate.from.as_bytes(),
+            to: self.translate.to.as_bytes(),
+        };
+        match define(&parts) {
+            Ok(encoding) => Ok(encoding),
+            Err(refusal) => Err(SpecificationError { refusal }),
+        }
+    }
+
+    /// A copy, which says the same.
+    pub fn try_clone(&self) -> Result<Specification, AllocError>
+        ensures { IfOk result (λ copy. specified copy ≡ specified self.now) }
+    {
+        Ok(Specification {
+            symbols: self.symbols.clone()?,
+            bit_order: self.bit_order,
+            check_trailing_bits: self.check_trailing_bits,
+            padding: self.padding,
+            ignore: self.ignore.clone()?,
+            wrap: self.wrap.try_clone()?,
+            translate: self.translate.try_clone()?,
+        })
+    }
+}
+
+impl Encoding {
+    /// A specification that yields the encoding again.
+    ///
+    /// Its ignored bytes are in order; and so are its translations, one for each byte that means a
+    /// symbol or padding and is another byte.
+    pub fn specification(&self, alloc: Global) -> Result<Specification, AllocError>
+        ensures { IfOk result (λ specification. specified specification ≡ fields_of self.now) }
+    {
+        let count = symbol_count(self.width);
+        Ok(Specification {
+            symbols: ascii_text(alloc, &self.symbols[..count])?,
+            bit_order: self.order,
+            check_trailing_bits: self.checks_trailing_bits,
+            padding: character(self.padding),
+            ignore: self.ignored_text(alloc)?,
+            wrap: Wrap {
+                width: self.column as usize,
+                separator: ascii_text(alloc, self.separator.as_slice())?,
+            },
+            translate: self.translations(alloc)?,
+        })
+    }
+
+    // The bytes that are ignored, in order.
+    fn ignored_text(&self, alloc: Global) -> Result<String, AllocError>
+        ensures { IfOk result (λ text. string_bytes text ≡ ignored_bytes self.now) }
+    {
+        let mut text = String::new(alloc);
+        for byte in 0..128 {
+            if self.interpret_byte(byte).is_ignored() {
+                push_ascii(&mut text, byte)?;
+            }
+        }
+        Ok(text)
+    }
+
+    // Each byte that is translated, in order, and what it stands for.
+    fn translations(&self, alloc: Global) -> Result<Translate, AllocError>
+        ensures from { IfOk result
+            (λ translate. string_bytes translate.from ≡ translated_bytes self.now) }
+        ensures to { IfOk result
+            (λ translate. string_bytes translate.to
+            ≡ map (own_byte self.now) (translated_bytes self.now)) }
+    {
+        let mut from = String::new(alloc);
+        let mut to = String::new(alloc);
+        for byte in 0..128 {
+            if let Some(own) = self.translated(byte) {
+                push_ascii(&mut from, byte)?;
+                push_ascii(&mut to, own)?;
+            }
+        }
+        Ok(Translate { from, to })
+    }
+
+    // The symbol or the padding character that the byte stands for, where it is another byte.
+    fn translated(&self, byte: u8) -> Option<u8>
+        ensures some { IfSome result (λ own. own ≡ own_byte self.now byte) }
+        ensures ascii { IfSome result (λ own. own < 128) }
+        ensures variant { is_some result
+            ≡ is_translated self.now byte (own_character self.now (meaning self.now byte)) }
+    {
+        match self.own_character(byte) {
+            Some(own) if own != byte => Some(own),
+            _ => None,
+        }
+    }
+
+    // The symbol or the padding character of what the byte means.
+    fn own_character(&self, byte: u8) -> Option<u8>
+        ensures value { result ≡ own_character self.now (meaning self.now byte) }
+        ensures ascii { IfSome result (λ own. own < 128) }
+    {
+        let entry = self.values[byte as usize];
+        if entry < 64 {
+            return Some(self.symbols[entry as usize]);
+        }
+        if entry == PADDING {
+            return self.padding;
+        }
+        None
+    }
+}
+
+// The number of symbols.
+fn symbol_count(width: u8) -> usize
+    requires { width ≤ 6 }
+    ensures value { result ≡ 2 ^ width }
+    ensures few { result ≤ 64 }
+{
+    1 << width
+}
+
+// The byte as a character.
+fn character(byte: Option<u8>) -> Option<char>
+    ensures { result ≡ byte }
+{
+    match byte {
+        Some(byte) => Some(char::from(byte)),
+        None => None,
+    }
+}
+
+// Appends an ASCII character.
+fn push_ascii(text: &mut String, byte: u8) -> Result<(), AllocError>
+    requires { byte < 128 }
+    ensures { OnOk result (string_bytes text.new ≡ string_bytes text.old ++ byte ∷ []) }
+{
+    text.push(char::from(byte))
+}
+
+// ASCII characters as text.
+fn ascii_text(alloc: Global, bytes: &[u8]) -> Result<String, AllocError>
+    requires { IsTrue (list_all (λ byte. nat_lt byte 128) bytes.now) }
+    ensures { IfOk result (λ text. string_bytes text ≡ bytes.now) }
+{
+    let mut text = String::new(alloc);
+    for byte in bytes {
+        push_ascii(&mut text, *byte)?;
+    }
+    Ok(text)
+}
+
+impl Translate {
+    /// A copy with the same texts.
+    pub fn try_clone(&self) -> Result<Translate, AllocError>
+        ensures { IfOk result (λ copy. SameTranslate copy self.now) }
+    {
+        Ok(Translate {
+            from: self.from.clone()?,
+            to: self.to.clone()?,
+        })
+    }
+}
+
+impl Wrap {
+    /// A copy with the same width and text.
+    pub fn try_clone(&self) -> Result<Wrap, AllocError>
+        ensures { IfOk result (λ copy. SameWrap copy self.now) }
+    {
+        Ok(Wrap {
+            width: self.width,
+            separator: self.separator.clone()?,
+        })
+    }
 }
 
 impl fmt::Display for SpecificationError {

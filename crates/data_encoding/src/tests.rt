@@ -1,9 +1,13 @@
 //! Vectors from outside, each public call with ample memory.
 
-use crate::definition::plain;
+ghost use Rattle.std.specs.Prelude.{IsTrue};
+ghost use Rattle.data_encoding.specs.Plain.{IsPlain};
+
+use crate::definition::{Parts, define};
+use crate::spec::Refusal;
 use crate::{
     BitOrder, DECODE_LIMIT, DecodeError, DecodeFault, DecodeKind, DecodePartial, ENCODE_LIMIT,
-    hexlower,
+    Encoding, hexlower,
 };
 use std::test::Fail;
 
@@ -24,6 +28,24 @@ const BASE64: &[u8] = b"ABCDEFGHIJKLMNOPQRSTUVWXYZabcdefghijklmnopqrstuvwxyz0123
 const MOST: BitOrder = BitOrder::MostSignificantFirst;
 
 const LEAST: BitOrder = BitOrder::LeastSignificantFirst;
+
+// The encoding of symbols alone.
+fn plain(symbols: &[u8], order: BitOrder, check: bool) -> Result<Encoding, Refusal> {
+    define(&Parts::alone(symbols, order, check))
+}
+
+// Whether the calls that encode or decode serve the encoding: no byte means padding or is ignored.
+pub(crate) fn is_served(encoding: &Encoding) -> bool
+    ensures { IsTrue result → IsPlain encoding.now }
+{
+    for byte in 0..256usize {
+        let character = encoding.interpret_byte(byte as u8);
+        if character.is_padding() || character.is_ignored() {
+            return false;
+        }
+    }
+    true
+}
 
 fn fault(position: usize, kind: DecodeKind) -> Result<&'static [u8], DecodeError> {
     Err(DecodeError { position, kind })
@@ -106,6 +128,7 @@ fn encodes_in_each_width(rt: HostRuntime) -> Result<(), Fail> {
         let Ok(encoding) = plain(symbols, order, true) else {
             panic!(rt; "refused");
         };
+        assert!(rt; is_served(&encoding));
         assert!(rt; data.len() <= ENCODE_LIMIT);
         let text = encoding.encode(rt.alloc(), data)?;
         assert_eq!(rt; text.as_str(), want);
@@ -147,6 +170,7 @@ fn decodes_in_each_width(rt: HostRuntime) -> Result<(), Fail> {
         let Ok(encoding) = plain(symbols, order, true) else {
             panic!(rt; "refused");
         };
+        assert!(rt; is_served(&encoding));
         assert!(rt; text.len() <= DECODE_LIMIT);
         match encoding.decode(rt.alloc(), text) {
             Ok(bytes) => assert_eq!(rt; Ok(bytes.as_slice()), want),
@@ -163,6 +187,7 @@ fn leaves_trailing_bits(rt: HostRuntime) -> Result<(), Fail> {
     let Ok(encoding) = plain(OCTAL, MOST, false) else {
         panic!(rt; "refused");
     };
+    assert!(rt; is_served(&encoding));
     let bytes = encoding.decode(rt.alloc(), b"007")?;
     assert_eq!(rt; bytes.as_slice(), [3].as_slice());
     Ok(())
@@ -189,6 +214,7 @@ fn decodes_up_to_a_fault(rt: HostRuntime) -> Result<(), Fail> {
     let Ok(encoding) = plain(BASE64, MOST, true) else {
         panic!(rt; "refused");
     };
+    assert!(rt; is_served(&encoding));
     for (text, error) in rows {
         assert!(rt; text.len() <= DECODE_LIMIT);
         let mut output = [1; 4];
@@ -219,6 +245,7 @@ fn judges_lengths(rt: HostRuntime) -> Result<(), Fail> {
         let Ok(encoding) = plain(symbols, MOST, true) else {
             panic!(rt; "refused");
         };
+        assert!(rt; is_served(&encoding));
         assert!(rt; len <= DECODE_LIMIT);
         let want = DecodeError {
             position,

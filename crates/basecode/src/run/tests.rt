@@ -282,7 +282,7 @@ fn tells_each_failed_read_and_write(rt: HostRuntime) -> Result<(), Fail> {
 #[test]
 fn refuses_an_input_past_the_limit(rt: HostRuntime) -> Result<(), Fail> {
     for (verb, limit, status, line) in [
-        (Verb::Encode, 4, 0, b"".as_slice()),
+        (Verb::Encode, 4usize, 0, b"".as_slice()),
         (Verb::Encode, 3, 1, b"basecode: input too long\n".as_slice()),
         (Verb::Decode, 3, 1, b"basecode: input too long\n".as_slice()),
         (Verb::Decode, 0, 1, b"basecode: input too long\n".as_slice()),
@@ -295,10 +295,11 @@ fn refuses_an_input_past_the_limit(rt: HostRuntime) -> Result<(), Fail> {
         let mut reader = Watch::new(FakeReader {
             bytes: b"4G4G",
             most: 1,
-            good_calls: limit + 1,
+            good_calls: limit.saturating_add(1),
         });
         let mut writer = Watch::new(FakeWriter::new(rt.alloc(), Failure::Nothing)?);
         let mut faults = FakeWriter::new(rt.alloc(), Failure::Nothing)?;
+        assert!(rt; limit <= task.verb.limit());
         let result = convert(rt.alloc(), &task, limit, &mut reader, &mut writer);
         assert_eq!(rt; settle(result, &mut faults), status, "status at {limit}");
         assert_eq!(rt; faults.bytes.as_slice(), line, "line at {limit}");

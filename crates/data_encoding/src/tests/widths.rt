@@ -1,9 +1,9 @@
 //! All short data, and each byte in each place, for every width and both orders.
 
 ghost use Rattle.std.specs.Prelude.{◌≤◌, length};
+ghost use Rattle.data_encoding.specs.Plain.{IsPlain};
 
-use super::{BASE32, BASE64, BINARY, LEAST, MOST, OCTAL};
-use crate::definition::plain;
+use super::{BASE32, BASE64, BINARY, LEAST, MOST, OCTAL, is_served, plain};
 use crate::{BitOrder, DECODE_LIMIT, DecodeError, DecodeFault, DecodeKind, Encoding};
 use std::alloc::{AllocError, Global};
 use std::test::Fail;
@@ -22,7 +22,8 @@ const ORDERS: [BitOrder; 2] = [MOST, LEAST];
 
 // Whether data of at most two bytes comes back from its text.
 fn comes_back(encoding: &Encoding, data: &[u8]) -> bool
-    requires { length data.now ≤ 2 }
+    requires plain { IsPlain encoding.now }
+    requires short { length data.now ≤ 2 }
 {
     let mut text = [0; 16];
     let len = encoding.encode_len(data.len());
@@ -47,6 +48,7 @@ fn short_data_comes_back(rt: HostRuntime) -> Result<(), Fail> {
             let Ok(encoding) = plain(symbols, order, true) else {
                 panic!(rt; "refused");
             };
+            assert!(rt; is_served(&encoding));
             for first in 0..=255u8 {
                 assert!(rt; comes_back(&encoding, &[first]));
                 for second in 0..=255u8 {
@@ -141,7 +143,9 @@ fn is_judged_alike(
     width: u32,
     order: BitOrder,
     text: &[u8],
-) -> Result<bool, AllocError> {
+) -> Result<bool, AllocError>
+    requires { IsPlain encoding.now }
+{
     if text.len() > DECODE_LIMIT {
         return Ok(false);
     }
@@ -161,8 +165,12 @@ fn each_byte_in_each_place_is_judged(rt: HostRuntime) -> Result<(), Fail> {
             let Ok(encoding) = plain(symbols, order, true) else {
                 panic!(rt; "refused");
             };
+            assert!(rt; is_served(&encoding));
+            let Some(zero) = symbols.first() else {
+                panic!(rt; "no symbols");
+            };
             for len in 0..18 {
-                let mut text = [symbols[0]; 17];
+                let mut text = [*zero; 17];
                 for place in 0..len {
                     for byte in 0..=255u8 {
                         text[place] = byte;
@@ -177,7 +185,7 @@ fn each_byte_in_each_place_is_judged(rt: HostRuntime) -> Result<(), Fail> {
                             )?
                         );
                     }
-                    text[place] = symbols[0];
+                    text[place] = *zero;
                 }
             }
         }

@@ -11,15 +11,15 @@ use Rattle.data_encoding.proofs.encoding.Encoding.decode_mut.Goals as goal
 
 pub decode_by_width-requires-clause-valid : goal.decode_by_width-requires-clause-valid
 decode_by_width-requires-clause-valid c =
-    let counted = counted-tables c.self.inside c.self.invariant _ c.self.view_is
+    let counted = counted-tables c.self.inside c.self.invariant _ c.self.view_is c.requires.plain
     (length c.args.input.now) _ c.requires.exact in
     let valid = counted.valid in
     grind (arith, nat_tests)
 
 pub decode_by_width-requires-clause-exact : goal.decode_by_width-requires-clause-exact
 decode_by_width-requires-clause-exact c =
-    (counted-tables c.self.inside c.self.invariant _ c.self.view_is (length c.args.input.now) _
-    c.requires.exact).count_is
+    (counted-tables c.self.inside c.self.invariant _ c.self.view_is c.requires.plain
+    (length c.args.input.now) _ c.requires.exact).count_is
 
 pub returns-in-Ok-clause-decoded : goal.returns-in-Ok-clause-decoded
 returns-in-Ok-clause-decoded c =
@@ -28,14 +28,15 @@ returns-in-Ok-clause-decoded c =
       subst (Means c.args.self.now c.args.input.now)
           (sym (take_all (length output) output (omega arith)))
           (c.in-Ok.ensures.decoded c.args.self.now
-          (Reads-tables c.self.inside c.self.invariant _ c.self.view_is _ refl) refl),
+          (Reads-tables c.self.inside c.self.invariant _ c.self.view_is c.requires.plain _
+          refl) refl),
     )
 
 stopped : (c : goal.In-Err)
     → StopsAt c.args.self.now c.args.input.now c.decode_by_width.new.output c.in-Err.partial
 stopped c =
     c.in-Err.ensures.stopped c.args.self.now
-    (Reads-tables c.self.inside c.self.invariant _ c.self.view_is _ refl)
+    (Reads-tables c.self.inside c.self.invariant _ c.self.view_is c.requires.plain _ refl)
 
 pub returns-in-Err-clause-accepted : goal.returns-in-Err-clause-accepted
 returns-in-Err-clause-accepted c bytes means =
@@ -43,7 +44,8 @@ returns-in-Err-clause-accepted c bytes means =
     absurd (not_both _ _
     (fault-partial seen c.args.input.now c.in-Err.partial (stopped c).is_partial)
     (no_fault-Means seen (IsWidth-seen c.self.inside c.self.invariant _ c.self.view_is)
-    (IsBare-seen c.self.inside c.self.invariant _ c.self.view_is).unpadded c.args.input.now bytes
+    (IsBare-seen c.self.inside c.self.invariant _ c.self.view_is c.requires.plain).unpadded
+    c.args.input.now bytes
     means))
 
 pub returns-in-Err-clause-fault : goal.returns-in-Err-clause-fault

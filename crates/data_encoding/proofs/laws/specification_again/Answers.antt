@@ -1,0 +1,5 @@
+use Rattle.data_encoding.proofs.AgainLemmas.{specification-again}
+use Rattle.data_encoding.proofs.laws.specification_again.Goals as goal
+
+pub returns : goal.returns
+returns c = specification-again

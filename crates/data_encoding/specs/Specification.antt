@@ -1,0 +1,65 @@
+-- What a `Specification` says, with its texts as bytes.
+use Rattle.std.specs.Prelude.{◌≡◌, true, [], None}
+use Rattle.std.specs.String.{string_bytes}
+use Rattle.data_encoding.specs.declared.definition.Parts.{Parts}
+use Rattle.data_encoding.specs.declared.encoding.BitOrder.TheVariants.{MostSignificantFirst}
+use Rattle.data_encoding.specs.declared.spec.Refusal.{Refusal}
+use Rattle.data_encoding.specs.declared.spec.Specification.{Specification}
+use Rattle.data_encoding.specs.declared.spec.SpecificationError.{SpecificationError}
+use Rattle.data_encoding.specs.declared.spec.Translate.{Translate}
+use Rattle.data_encoding.specs.declared.spec.Wrap.{Wrap}
+use Rattle.data_encoding.specs.Fields.{Fields}
+
+abbrev pub specified : Specification → Fields
+specified s = record {
+  symbols = string_bytes s.symbols;
+  order = s.bit_order;
+  checks_trailing_bits = s.check_trailing_bits;
+  padding = s.padding;
+  ignored = string_bytes s.ignore;
+  column = s.wrap.width;
+  separator = string_bytes s.wrap.separator;
+  from = string_bytes s.translate.from;
+  to = string_bytes s.translate.to;
+}
+
+-- why a specification yields nothing
+abbrev pub refusal_of : SpecificationError → Refusal
+refusal_of error = error.refusal
+
+-- what the builder is handed
+abbrev pub fields_of_parts : Parts → Fields
+fields_of_parts p = record {
+  symbols = p.symbols.now;
+  order = p.order;
+  checks_trailing_bits = p.check;
+  padding = p.padding;
+  ignored = p.ignored.now;
+  column = p.column;
+  separator = p.separator.now;
+  from = p.from.now;
+  to = p.to.now;
+}
+
+-- nothing but the most significant bit first, and trailing bits checked
+abbrev pub no_fields : Fields
+no_fields = record {
+  symbols = [];
+  order = MostSignificantFirst;
+  checks_trailing_bits = true;
+  padding = None;
+  ignored = [];
+  column = 0;
+  separator = [];
+  from = [];
+  to = [];
+}
+
+-- copies have the same texts
+pub record SameTranslate (one other : Translate) : Type 0 where
+  pub from : string_bytes one.from ≡ string_bytes other.from
+  pub to : string_bytes one.to ≡ string_bytes other.to
+
+pub record SameWrap (one other : Wrap) : Type 0 where
+  pub width : one.width ≡ other.width
+  pub separator : string_bytes one.separator ≡ string_bytes other.separator
