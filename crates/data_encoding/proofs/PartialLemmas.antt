@@ -1,5 +1,5 @@
 -- A text read group by group, up to its first faulty one, where nothing is padded or ignored.
-use Rattle.std.proofs.Common.{◌≡◌, ℕ, zero, suc, ◌+◌, ◌-◌, ◌*◌, ◌%◌, ◌<◌, ◌≤◌, ◌==◌, Bool, true, false, not, cond, ◌&&◌, List, [], ◌∷◌, ◌++◌, length, take, drop, get_or, Option, Some, None, is_some, refl, sym, ap, ◌∙◌, subst, arith}
+use Rattle.std.proofs.Common.{◌≡◌, ℕ, zero, suc, ◌+◌, ◌-◌, ◌*◌, ◌%◌, ◌<◌, ◌≤◌, ◌==◌, Bool, true, false, not, cond, ◌&&◌, List, [], ◌∷◌, ◌++◌, length, take, drop, get_or, Option, Some, None, is_some, refl, sym, ap, ◌∙◌, subst, arith, IsOkAnd}
 use Rattle.std.proofs.Common.{take-append-drop, length-take-le}
 use Rattle.std.proofs.lemmas.List.{take_more, length-drop, reverse-append}
 use Rattle.std.proofs.Math.Seq.{take-add}
@@ -11,12 +11,12 @@ use Rattle.data_encoding.specs.declared.decode.DecodePartial.{DecodePartial}
 use Rattle.data_encoding.specs.Base.{Base, meaning, group_symbols}
 use Rattle.data_encoding.specs.Bits.{runs}
 use Rattle.data_encoding.specs.Grammar.{Placed, placed, placed_from, groups, PlainMeans, Means, MeansBy}
-use Rattle.data_encoding.specs.Lengths.{length_fault, is_valid_count}
+use Rattle.data_encoding.specs.Lengths.{length_fault, is_valid_count, decoded_len}
 use Rattle.data_encoding.specs.Fault.{is_symbol, plain_fault, group_fault, place_of, fault_at, fault_at_first, trailing_bits, bytes_of_group, first_fault, fault_of, or_else, sound_groups, sound_bytes}
-use Rattle.data_encoding.specs.Partial.{place_after, place_after_first, sound_len, is_length_fault, is_sound_run, read_len, partial_at, partial_by, partial_of}
+use Rattle.data_encoding.specs.Partial.{StopsAt, place_after, place_after_first, sound_len, is_length_fault, is_sound_run, read_len, partial_at, partial_by, partial_of}
 use Rattle.data_encoding.specs.Tables.{IsBare}
 use Rattle.data_encoding.proofs.PlacedLemmas.{placed_from-append, length-placed_from}
-use Rattle.data_encoding.proofs.FaultLemmas.{plain_fault-valid, kept-all, group_fault-plain, from_plain, Means-no_fault, no_fault-Means}
+use Rattle.data_encoding.proofs.FaultLemmas.{plain_fault-valid, kept-all, group_fault-plain, from_plain, Means-no_fault, no_fault-Means, decoded_len-Means}
 use Rattle.data_encoding.proofs.GrammarLemmas.{PlainMeans-append, PlainMeans-nil, groups-PlainMeans}
 use Rattle.data_encoding.proofs.GroupLemmas.{PlainMeans-sound, PlainMeans-bytes}
 use Rattle.data_encoding.proofs.RunsLemmas.{runs-join, runs-first, flat_map-runs}
@@ -259,3 +259,31 @@ fault-partial base text partial h = by (fault_of base text) h where
   by (Some error) h =
       let same : partial_at base text error ≡ partial = cc in
       ap (λ (p : DecodePartial). Some p.error) same
+
+written-partial : (base : Base) (text : List ℕ) (partial : DecodePartial)
+    → partial_of base text ≡ Some partial
+    → partial.written ≡ length (sound_bytes base (take partial.read text))
+written-partial base text partial h = by (fault_of base text) h where
+  by : (o : Option DecodeError) → partial_by base text o ≡ Some partial
+      → partial.written ≡ length (sound_bytes base (take partial.read text))
+  by None h = cc
+  by (Some error) h =
+      let same : partial_at base text error ≡ partial = cc in
+      subst (λ (p : DecodePartial). p.written ≡ length (sound_bytes base (take p.read text))) same
+      refl
+
+-- no more is written than what was read may mean
+pub most-partial : (base : Base) → IsBare base → IsWidth base.width → (text output : List ℕ)
+    (partial : DecodePartial) → StopsAt base text output partial
+    → IsOkAnd (decoded_len base partial.read) (λ most. partial.written ≤ most)
+most-partial base bare width text output partial stops =
+    let front = take partial.read text in
+    let bytes = take partial.written output in
+    let read_len : length front ≡ partial.read =
+    length-take-le partial.read text (omega (arith, stops.read_before, stops.within)) in
+    let written_len : length bytes ≡ partial.written =
+    ap length (sym (sound_bytes-Means base bare width front bytes stops.means))
+    ∙ sym (written-partial base text partial stops.is_partial) in
+    subst (λ n. IsOkAnd (decoded_len base n) (λ most. partial.written ≤ most)) read_len
+    (subst (λ n. IsOkAnd (decoded_len base (length front)) (λ most. n ≤ most)) written_len
+    (decoded_len-Means base width bare.unpadded front bytes stops.means))

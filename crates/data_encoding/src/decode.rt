@@ -1,4 +1,7 @@
 //! From text to data.
+//!
+//! The calls that decode ask that no byte means padding and none is ignored, as `interpret_byte`
+//! tells.
 
 ghost use Rattle.std.specs.Prelude.{◌≡◌, ℕ, ◌+◌, ◌-◌, ◌*◌, ◌/◌, ◌^◌, ◌<◌, ◌≤◌, ◌==◌, ◌⊎◌, not, true, List, length, map, take, drop, Some, Ok, Err, IsTrue, slice_index, IfOk, IfErr, IsOk, IsOkAnd};
 ghost use Rattle.std.specs.List.{list_any};
@@ -135,7 +138,9 @@ impl From<AllocError> for DecodeFault {
 }
 
 impl Encoding {
-    /// The greatest number of bytes that a text of `len` bytes may mean.
+    /// The greatest number of bytes that a text of `len` bytes, at most `DECODE_LIMIT`, may mean.
+    ///
+    /// No byte may mean padding, and none may be ignored.
     ///
     /// Where no byte is ignored, a length that no text has is a `Length` fault, at the greatest
     /// length below it that a text may have.
@@ -161,7 +166,8 @@ impl Encoding {
     }
 
     /// Writes the data that the text means to the front of `output`, which has exactly
-    /// `decode_len` of the text's length, and answers how many bytes they are.
+    /// `decode_len` of the text's length, and answers how many bytes they are. The text has at most
+    /// `DECODE_LIMIT` bytes. No byte may mean padding, and none may be ignored.
     ///
     /// A text that means nothing has one fault. Of it, the beginning that was read means the bytes
     /// that were written; what stands in the output after these is not said.
@@ -177,6 +183,8 @@ impl Encoding {
             (take partial.written output.new)) }
         ensures bounds { IfErr result (λ partial. (partial.read ≤ partial.error.position)
             × (partial.error.position < length input.now)) }
+        ensures most { IfErr result (λ partial. IsOkAnd (decoded_len self.now partial.read)
+            (λ most. partial.written ≤ most)) }
         ensures len { length output.new ≡ length output.old }
     {
         let order = self.order;
@@ -187,7 +195,9 @@ impl Encoding {
         }
     }
 
-    /// The data that the text means.
+    /// The data that the text, of at most `DECODE_LIMIT` bytes, means.
+    ///
+    /// No byte may mean padding, and none may be ignored.
     ///
     /// A text that means nothing has one fault: where no byte is ignored, its length is judged
     /// first; then the first faulty group decides. Want of memory is answered only for a text of a
@@ -245,6 +255,7 @@ fn decode_by_width(
 }
 
 // With the order as a constant, so that every shift of the loops below is one.
+#[inline(never)]
 fn decode_in_order<const WIDTH: usize, const ENC: usize, const DEC: usize>(
     values: &[u8; 256],
     order: BitOrder,
@@ -281,6 +292,7 @@ fn decode_in_order<const WIDTH: usize, const ENC: usize, const DEC: usize>(
 }
 
 // Group by group, the last perhaps shorter, up to the first faulty one.
+#[inline(always)]
 fn decode_groups<const WIDTH: usize, const ENC: usize, const DEC: usize>(
     values: &[u8; 256],
     order: BitOrder,
@@ -327,6 +339,7 @@ fn decode_groups<const WIDTH: usize, const ENC: usize, const DEC: usize>(
 }
 
 // The last group, perhaps of fewer symbols than a whole one: its bytes, or its fault.
+#[inline(never)]
 fn decode_last<const WIDTH: usize, const ENC: usize, const DEC: usize>(
     values: &[u8; 256],
     order: BitOrder,

@@ -10,7 +10,7 @@ ghost use Rattle.data_encoding.specs.Fields.{Fields, base_of, base_by, defined, 
 ghost use Rattle.data_encoding.specs.Predefined.{symbols_alone};
 ghost use Rattle.data_encoding.specs.Specification.{fields_of_parts};
 
-use crate::encoding::{BitOrder, Encoding, IGNORED, INVALID, PADDING};
+use crate::encoding::{BitOrder, Encoding, IGNORED, INVALID, PADDING, group_bytes};
 use crate::spec::Refusal;
 use arrayvec::ArrayVec;
 use std::marker::Model;
@@ -256,14 +256,7 @@ fn group_symbols(width: u8) -> u8
     ensures value { result ≡ group_symbols width }
     ensures some { 0 < result }
 {
-    let bytes = if width == 5 {
-        5
-    } else if width % 3 == 0 {
-        3
-    } else {
-        1
-    };
-    bytes * 8 / width
+    group_bytes(width) * 8 / width
 }
 
 // Whether there are lines.

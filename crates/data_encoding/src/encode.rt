@@ -1,4 +1,7 @@
 //! From data to text.
+//!
+//! The calls that encode ask that no byte means padding and none is ignored, as `interpret_byte`
+//! tells. Texts then have symbols alone.
 
 ghost use Rattle.std.specs.Prelude.{◌≡◌, All, ℕ, ◌<◌, ◌+◌, ◌-◌, ◌*◌, ◌/◌, ◌≤◌, List, length, replicate, IfOk, IsOk};
 ghost use Rattle.std.specs.String.{string_bytes};
@@ -7,17 +10,19 @@ ghost use Rattle.data_encoding.specs.IsBase.{IsBase};
 ghost use Rattle.data_encoding.specs.Lengths.{alignment};
 ghost use Rattle.data_encoding.specs.Plain.{IsPlain};
 ghost use Rattle.data_encoding.specs.Tables.{IsGroup, Writes};
-ghost use Rattle.data_encoding.specs.Text.{text_of};
+ghost use Rattle.data_encoding.specs.Text.{plain_text, text_of};
 
 use crate::bits::encode_group;
-use crate::encoding::{BitOrder, Encoding};
+use crate::encoding::{BitOrder, Encoding, group_bytes};
 use std::alloc::{AllocError, Global};
 
 /// The greatest length of data that is encoded in one call, in bytes.
 pub const ENCODE_LIMIT: usize = usize::MAX / 512;
 
 impl Encoding {
-    /// The length of the text of `len` bytes of data.
+    /// The length of the text of `len` bytes of data, at most `ENCODE_LIMIT`.
+    ///
+    /// No byte may mean padding, and none may be ignored.
     pub fn encode_len(&self, len: usize) -> usize
         requires limit { len ≤ ENCODE_LIMIT }
         requires plain { IsPlain self.now }
@@ -38,14 +43,13 @@ impl Encoding {
         if self.column != 0 {
             return self.column as usize * self.width as usize / 8;
         }
-        match self.width {
-            3 | 6 => 3,
-            5 => 5,
-            _ => 1,
-        }
+        group_bytes(self.width) as usize
     }
 
-    /// Writes the text of the data into `output`, which has exactly its length.
+    /// Writes the text of the data into `output`, which has exactly its length: `encode_len` of the
+    /// data's, which is at most `ENCODE_LIMIT`.
+    ///
+    /// No byte may mean padding, and none may be ignored.
     pub fn encode_mut(&self, input: &[u8], output: &mut [u8])
         requires limit { length input.now ≤ ENCODE_LIMIT }
         requires plain { IsPlain self.now }
@@ -65,7 +69,7 @@ impl Encoding {
         }
     }
 
-    /// Writes the text of the data into `output`, which has exactly its length, and hands it out.
+    /// Does what `encode_mut` does, on the same conditions, and hands out the output as text.
     pub fn encode_mut_str<'a>(&self, input: &[u8], output: &'a mut [u8]) -> &'a str
         requires limit { length input.now ≤ ENCODE_LIMIT }
         requires plain { IsPlain self.now }
@@ -76,9 +80,10 @@ impl Encoding {
         unsafe { str::from_utf8_unchecked(output) }
     }
 
-    /// The text of the data.
+    /// The text of the data, of at most `ENCODE_LIMIT` bytes.
     ///
-    /// The only error is want of memory, and nothing needs none.
+    /// The only error is want of memory, and nothing needs none. No byte may mean padding, and none
+    /// may be ignored.
     pub fn encode(&self, alloc: Global, input: &[u8]) -> Result<String, AllocError>
         requires limit { length input.now ≤ ENCODE_LIMIT }
         requires plain { IsPlain self.now }
@@ -116,10 +121,10 @@ fn encode_in_order<const WIDTH: usize, const ENC: usize, const DEC: usize>(
 {
     match order {
         BitOrder::MostSignificantFirst => {
-            encode_groups::<WIDTH, ENC, DEC>(symbols, BitOrder::MostSignificantFirst, input, output)
+            encode_blocks::<WIDTH, ENC, DEC>(symbols, BitOrder::MostSignificantFirst, input, output)
         }
         BitOrder::LeastSignificantFirst => {
-            encode_groups::<WIDTH, ENC, DEC>(
+            encode_blocks::<WIDTH, ENC, DEC>(
                 symbols,
                 BitOrder::LeastSignificantFirst,
                 input,
@@ -129,7 +134,68 @@ fn encode_in_order<const WIDTH: usize, const ENC: usize, const DEC: usize>(
     }
 }
 
+// Block by block of four groups, so that the loop's own steps cost less, and then what is left.
+fn encode_blocks<const WIDTH: usize, const ENC: usize, const DEC: usize>(
+    symbols: &[u8; 256],
+    order: BitOrder,
+    input: &[u8],
+    output: &mut [u8],
+)
+    requires group { IsGroup WIDTH ENC DEC }
+    requires limit { length input.now ≤ ENCODE_LIMIT }
+    requires exact { length output.old ≡ (8 * length input.now + (WIDTH - 1)) / WIDTH }
+    ensures { (base : Base) → Writes base symbols.now WIDTH order
+        → output.new ≡ text_of base input.now }
+{
+    let bytes = 4 * ENC;
+    let places = 4 * DEC;
+    let count = input.len() / bytes;
+    for index in 0..count {
+        let read = index * bytes;
+        let written = index * places;
+        encode_block::<WIDTH, ENC, DEC>(
+            symbols,
+            order,
+            &input[read..read + bytes],
+            &mut output[written..written + places],
+        );
+    }
+    encode_groups::<WIDTH, ENC, DEC>(
+        symbols,
+        order,
+        &input[count * bytes..],
+        &mut output[count * places..],
+    );
+}
+
+// Four whole groups.
+#[inline(always)]
+fn encode_block<const WIDTH: usize, const ENC: usize, const DEC: usize>(
+    symbols: &[u8; 256],
+    order: BitOrder,
+    input: &[u8],
+    output: &mut [u8],
+)
+    requires group { IsGroup WIDTH ENC DEC }
+    requires bytes { length input.now ≡ 4 * ENC }
+    requires exact { length output.old ≡ 4 * DEC }
+    ensures { (base : Base) → Writes base symbols.now WIDTH order
+        → output.new ≡ plain_text base input.now }
+{
+    for index in 0..4 {
+        let read = index * ENC;
+        let written = index * DEC;
+        encode_group::<WIDTH, ENC, DEC>(
+            symbols,
+            order,
+            &input[read..read + ENC],
+            &mut output[written..written + DEC],
+        );
+    }
+}
+
 // Group by group, the last perhaps shorter.
+#[inline(never)]
 fn encode_groups<const WIDTH: usize, const ENC: usize, const DEC: usize>(
     symbols: &[u8; 256],
     order: BitOrder,

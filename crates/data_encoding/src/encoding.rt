@@ -2,7 +2,7 @@
 
 ghost use Rattle.std.specs.Prelude.{◌≡◌, ◌+◌, ◌≤◌, ◌++◌, length, if◌then◌else◌, unwrap_or, MatchResult};
 ghost use Rattle.arrayvec.specs.ArrayVec.{array_vec_len};
-ghost use Rattle.data_encoding.specs.Base.{ignores_some, is_ignored, is_invalid, meaning};
+ghost use Rattle.data_encoding.specs.Base.{group_bytes, ignores_some, is_ignored, is_invalid, meaning};
 ghost use Rattle.data_encoding.specs.Fault.{is_padding, value_of};
 ghost use Rattle.data_encoding.specs.IsBase.{IsBase};
 ghost use Rattle.data_encoding.specs.Layout.{layout, order_flag};
@@ -174,6 +174,20 @@ impl Encoding {
         ensures { result ≡ ignores_some self.now }
     {
         self.values[..128].contains(&IGNORED)
+    }
+}
+
+// The number of bytes of a whole group.
+pub(crate) fn group_bytes(width: u8) -> u8
+    ensures value { result ≡ group_bytes width }
+    ensures few { result ≤ 5 }
+{
+    if width == 5 {
+        5
+    } else if width % 3 == 0 {
+        3
+    } else {
+        1
     }
 }
 

@@ -95,7 +95,8 @@ pub struct SpecificationError {
 }
 
 impl Specification {
-    /// A specification with no symbols, the most significant bit first, and trailing bits checked.
+    /// A specification with no symbols, the most significant bit first, and trailing bits checked:
+    /// no padding, nothing ignored, no lines and no translation. It takes no memory.
     pub fn new(alloc: Global) -> Specification
         ensures { specified result ≡ no_fields }
     {
@@ -117,6 +118,11 @@ impl Specification {
     }
 
     /// The encoding that is asked for, or the first reason why there is none.
+    ///
+    /// It takes no memory. Judged in turn are the number of symbols, the symbols, the padding, the
+    /// ignored bytes, the lines where there are some, and the translations, each of which may use
+    /// what an earlier one defined. Where eight bits are whole symbols, trailing bits are checked
+    /// whatever is asked.
     pub fn encoding(&self) -> Result<Encoding, SpecificationError>
         ensures yields { IfOk result (λ base. base_of (specified self.now) ≡ Ok base) }
         ensures refused { IfErr result
@@ -139,7 +145,7 @@ impl Specification {
         }
     }
 
-    /// A copy, which says the same.
+    /// A copy, which says the same. The only error is want of memory.
     pub fn try_clone(&self) -> Result<Specification, AllocError>
         ensures { IfOk result (λ copy. specified copy ≡ specified self.now) }
     {
@@ -156,7 +162,7 @@ impl Specification {
 }
 
 impl Encoding {
-    /// A specification that yields the encoding again.
+    /// A specification that yields the encoding again. The only error is want of memory.
     ///
     /// Its ignored bytes are in order; and so are its translations, one for each byte that means a
     /// symbol or padding and is another byte.
@@ -279,7 +285,7 @@ fn ascii_text(alloc: Global, bytes: &[u8]) -> Result<String, AllocError>
 }
 
 impl Translate {
-    /// A copy with the same texts.
+    /// A copy with the same texts. The only error is want of memory.
     pub fn try_clone(&self) -> Result<Translate, AllocError>
         ensures { IfOk result (λ copy. SameTranslate copy self.now) }
     {
@@ -291,7 +297,7 @@ impl Translate {
 }
 
 impl Wrap {
-    /// A copy with the same width and text.
+    /// A copy with the same width and text. The only error is want of memory.
     pub fn try_clone(&self) -> Result<Wrap, AllocError>
         ensures { IfOk result (λ copy. SameWrap copy self.now) }
     {

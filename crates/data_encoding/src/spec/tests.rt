@@ -4,6 +4,7 @@ mod table;
 
 use crate::decode::{DECODE_LIMIT, DecodeFault, DecodeKind};
 use crate::encoding::{BitOrder, Character, Encoding};
+use crate::laws::specification_again;
 use crate::spec::{Refusal, Specification, SpecificationError};
 use crate::tests::is_served;
 use std::alloc::{AllocError, Global};
@@ -271,6 +272,7 @@ fn describes_translations(rt: HostRuntime) -> Result<(), Fail> {
         assert_eq!(rt; translate.from.as_str(), "018l");
         assert_eq!(rt; translate.to.as_str(), "OIBI");
     }
+    specification_again();
     let wrap = described.wrap.try_clone()?;
     assert_eq!(rt; wrap.width, 0);
     assert_eq!(rt; wrap.separator.as_str(), "");

@@ -20,22 +20,22 @@ const ALPHABETS: [(&[u8], u32); 6] = [
 
 const ORDERS: [BitOrder; 2] = [MOST, LEAST];
 
-// Whether data of at most two bytes comes back from its text.
-fn comes_back(encoding: &Encoding, data: &[u8]) -> bool
+// Whether an input of at most two bytes comes back from its text.
+fn comes_back(encoding: &Encoding, input: &[u8]) -> bool
     requires plain { IsPlain encoding.now }
-    requires short { length data.now ≤ 2 }
+    requires short { length input.now ≤ 2 }
 {
     let mut text = [0; 16];
-    let len = encoding.encode_len(data.len());
+    let len = encoding.encode_len(input.len());
     if len > 16 {
         return false;
     }
-    encoding.encode_mut(data, &mut text[..len]);
+    encoding.encode_mut(input, &mut text[..len]);
     let mut bytes = [0; 2];
     match encoding.decode_len(len) {
-        Ok(count) if count == data.len() => {
+        Ok(count) if count == input.len() => {
             let decoded = encoding.decode_mut(&text[..len], &mut bytes[..count]);
-            decoded == Ok(count) && &bytes[..count] == data
+            decoded == Ok(count) && &bytes[..count] == input
         }
         _ => false,
     }

@@ -5,7 +5,7 @@ use Rattle.data_encoding.specs.Grammar.{Means}
 use Rattle.data_encoding.specs.Partial.{StopsAt}
 use Rattle.data_encoding.proofs.FaultLemmas.{no_fault-Means, not_both}
 use Rattle.data_encoding.proofs.LengthLemmas.{counted-tables}
-use Rattle.data_encoding.proofs.PartialLemmas.{fault-partial}
+use Rattle.data_encoding.proofs.PartialLemmas.{fault-partial, most-partial}
 use Rattle.data_encoding.proofs.TableLemmas.{IsBare-seen, IsWidth-seen, Reads-tables}
 use Rattle.data_encoding.proofs.encoding.Encoding.decode_mut.Goals as goal
 
@@ -56,3 +56,9 @@ returns-in-Err-clause-partial c = (stopped c).means
 
 pub returns-in-Err-clause-bounds : goal.returns-in-Err-clause-bounds
 returns-in-Err-clause-bounds c = ((stopped c).read_before, (stopped c).within)
+
+pub returns-in-Err-clause-most : goal.returns-in-Err-clause-most
+returns-in-Err-clause-most c =
+    most-partial c.args.self.now
+    (IsBare-seen c.self.inside c.self.invariant _ c.self.view_is c.requires.plain)
+    (IsWidth-seen c.self.inside c.self.invariant _ c.self.view_is) c.args.input.now _ _ (stopped c)
