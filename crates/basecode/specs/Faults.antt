@@ -1,8 +1,8 @@
 -- What faults print, and the exit statuses.
 use Rattle.std.specs.Prelude.{ℕ, List, ◌++◌, codes, Result, Ok, Err}
 use Rattle.data_encoding.specs.Printed.{printed_error}
-use Rattle.data_encoding.specs.declared.decode.DecodeFault.{DecodeFault}
-use Rattle.data_encoding.specs.declared.decode.DecodeFault.TheVariants.{Error, OutOfMemory as DecodingMemory}
+use Rattle.data_encoding.specs.declared.error.DecodeFault.{DecodeFault}
+use Rattle.data_encoding.specs.declared.error.DecodeFault.TheVariants.{Error, OutOfMemory as DecodingMemory}
 use Rattle.basecode.specs.declared.input.InputFault.{InputFault}
 use Rattle.basecode.specs.declared.input.InputFault.TheVariants.{Read as InputRead, TooLong as InputTooLong, OutOfMemory as InputMemory}
 use Rattle.basecode.specs.declared.fault.Fault.{Fault}

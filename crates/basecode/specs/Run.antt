@@ -5,7 +5,7 @@ use Rattle.data_encoding.specs.Base.{Base}
 use Rattle.data_encoding.specs.Fault.{fault_of}
 use Rattle.data_encoding.specs.Grammar.{Means}
 use Rattle.data_encoding.specs.Text.{text_of}
-use Rattle.data_encoding.specs.declared.decode.DecodeError.{DecodeError}
+use Rattle.data_encoding.specs.declared.error.DecodeError.{DecodeError}
 use Rattle.basecode.specs.declared.command.Verb.{Verb}
 use Rattle.basecode.specs.declared.command.Verb.TheVariants.{Encode, Decode as DecodeVerb}
 use Rattle.basecode.specs.declared.fault.Fault.{Fault}

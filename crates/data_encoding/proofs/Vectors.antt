@@ -1,14 +1,14 @@
 -- Worked rows, computed from the definitions.
 use Rattle.std.proofs.Common.{◌≡◌, ℕ, List, [], ◌∷◌, ◌++◌, codes, replicate, Option, Some, None, Result, Ok, Err, refl}
-use Rattle.data_encoding.specs.declared.decode.DecodeError.{DecodeError}
-use Rattle.data_encoding.specs.declared.decode.DecodeKind.{DecodeKind}
-use Rattle.data_encoding.specs.declared.decode.DecodeKind.TheVariants.{Length, Symbol, Trailing, Padding}
+use Rattle.data_encoding.specs.declared.error.DecodeError.{DecodeError}
+use Rattle.data_encoding.specs.declared.error.DecodeKind.{DecodeKind}
+use Rattle.data_encoding.specs.declared.error.DecodeKind.TheVariants.{Length, Symbol, Trailing, Padding}
 use Rattle.data_encoding.specs.Base.{Base}
 use Rattle.data_encoding.specs.Fault.{fault_of, sound_bytes}
-use Rattle.data_encoding.specs.declared.spec.Refusal.{Refusal}
-use Rattle.data_encoding.specs.declared.spec.Refusal.TheVariants.{Duplicate, ExtraPadding}
+use Rattle.data_encoding.specs.declared.builder.Refusal.{Refusal}
+use Rattle.data_encoding.specs.declared.builder.Refusal.TheVariants.{Duplicate, ExtraPadding}
 use Rattle.data_encoding.specs.Fields.{Fields, base_of}
-use Rattle.data_encoding.specs.Predefined.{plain_fields, padded_fields, hexlower_fields, base64_fields, base64_mime_fields, base32_dnscurve_fields}
+use Rattle.data_encoding.specs.Predefined.{unpadded_fields, padded_fields, hexlower_fields, base64_fields, base64_mime_fields, base32_dnscurve_fields}
 use Rattle.data_encoding.specs.Text.{text_of}
 
 -- the text that an encoding gives, where its fields are in order
@@ -28,7 +28,7 @@ abbrev at : DecodeKind → ℕ → Option DecodeError
 at kind place = Some (record { position = place; kind = kind })
 
 octal_fields : Fields
-octal_fields = plain_fields (codes "01234567")
+octal_fields = unpadded_fields (codes "01234567")
 
 hexlower_text : text_by (base_of hexlower_fields) (codes "Hello") ≡ codes "48656c6c6f"
 unfolding text_by
@@ -77,7 +77,7 @@ mime_text : text_by (base_of base64_mime_fields) (replicate 57 0) ≡ replicate 
 unfolding text_by
 mime_text = refl
 
-symbol_twice : base_of (plain_fields (codes "00")) ≡ Err (Duplicate 48)
+symbol_twice : base_of (unpadded_fields (codes "00")) ≡ Err (Duplicate 48)
 symbol_twice = refl
 
 padding_for_nothing : base_of (padded_fields hexlower_fields) ≡ Err ExtraPadding

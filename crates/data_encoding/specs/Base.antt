@@ -1,9 +1,9 @@
 -- What an encoding means: its base.
-use Rattle.std.specs.Prelude.{ℕ, ◌*◌, ◌/◌, ◌%◌, ◌==◌, Bool, true, false, List, Option, is_some, slice_index_or, if◌then◌else◌}
+use Rattle.std.specs.Prelude.{ℕ, ◌<◌, ◌≤◌, ◌*◌, ◌/◌, ◌%◌, ◌==◌, Bool, true, false, List, Option, Some, None, is_some, slice_index_or, if◌then◌else◌}
 use Rattle.std.specs.List.{list_any}
 use Rattle.data_encoding.specs.declared.encoding.BitOrder.{BitOrder}
 use Rattle.data_encoding.specs.declared.encoding.Character.{Character}
-use Rattle.data_encoding.specs.declared.encoding.Character.TheVariants.{Ignored, Invalid}
+use Rattle.data_encoding.specs.declared.encoding.Character.TheVariants.{Symbol, Padding, Ignored, Invalid}
 
 -- lines of column characters, each followed by the separator
 pub record Wrapping : Type 0 where
@@ -20,6 +20,11 @@ pub record Base : Type 0 where
   pub meanings : List Character
   pub wrapping : Option Wrapping
 
+-- A symbol has one to six bits.
+pub record IsWidth (width : ℕ) : Type 0 where
+  pub some : 0 < width
+  pub few : width ≤ 6
+
 -- what a byte means: one from 128 on is invalid
 abbrev pub meaning : Base → ℕ → Character
 meaning base byte = slice_index_or base.meanings byte Invalid
@@ -27,6 +32,18 @@ meaning base byte = slice_index_or base.meanings byte Invalid
 -- the symbol of a value
 abbrev pub symbol : Base → ℕ → ℕ
 symbol base value = slice_index_or base.symbols value 0
+
+abbrev pub is_symbol : Character → Bool
+is_symbol (Symbol value) = true
+is_symbol _ = false
+
+abbrev pub value_of : Character → Option ℕ
+value_of (Symbol value) = Some value
+value_of _ = None
+
+abbrev pub is_padding : Character → Bool
+is_padding Padding = true
+is_padding _ = false
 
 abbrev pub is_ignored : Character → Bool
 is_ignored Ignored = true

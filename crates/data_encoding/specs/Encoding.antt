@@ -2,7 +2,7 @@
 use Rattle.std.specs.Prelude.{◌≡◌, ℕ, zero, suc, ◌/◌, ◌%◌, ◌^◌, ◌<◌, ◌≤◌, ◌==◌, nat_lt, ◌||◌, not, IsTrue, List, [], length, map, replicate, take, drop, slice_index, Option, None, Some}
 use Rattle.std.specs.List.{concat, list_all, range_with_len}
 use Rattle.data_encoding.specs.declared.encoding.Encoding.TheInside.{Inside}
-use Rattle.data_encoding.specs.Base.{Base, Wrapping, group_symbols}
+use Rattle.data_encoding.specs.Base.{Base, IsWidth, Wrapping, group_symbols}
 use Rattle.data_encoding.specs.Entries.{meaning_of_entry, is_entry_of}
 
 -- lines of no characters are no lines
@@ -39,8 +39,7 @@ KeepsWrapping (suc n) separator width values =
 -- symbols are ASCII, and fill their table again and again. Each has its own value; any other byte
 -- has the value of a symbol, or 128 to 130; each from 128 on has 128.
 pub record KeepsRules (e : Inside) : Type 0 where
-  pub some_bits : 0 < e.width
-  pub few_bits : e.width ≤ 6
+  pub is_width : IsWidth e.width
   pub whole_checked : IsTrue (e.checks_trailing_bits || not (8 % e.width == 0))
   pub symbols_repeat : e.symbols
       ≡ concat (replicate (256 / 2 ^ e.width) (take (2 ^ e.width) e.symbols))

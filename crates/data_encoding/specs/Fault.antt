@@ -1,103 +1,89 @@
 -- The one fault of a text that means nothing, and the bytes of what stands before it.
 use Rattle.std.specs.Prelude.{◌≡◌, ◌<◌, ℕ, ◌-◌, ◌*◌, ◌/◌, ◌==◌, nat_lt, Bool, true, false, not, ◌&&◌, ◌||◌, if◌then◌else◌, List, map, reverse, length, flat_map, take, drop, take_while, Option, Some, None, is_some, slice_index_or, slice_get, position}
 use Rattle.std.specs.List.{list_any, filter_map}
-use Rattle.data_encoding.specs.declared.encoding.Character.{Character}
-use Rattle.data_encoding.specs.declared.encoding.Character.TheVariants.{Symbol, Padding}
-use Rattle.data_encoding.specs.declared.decode.DecodeKind.{DecodeKind}
-use Rattle.data_encoding.specs.declared.decode.DecodeKind.TheVariants.{Length as LengthFault, Symbol as SymbolFault, Trailing as TrailingFault, Padding as PaddingFault}
-use Rattle.data_encoding.specs.declared.decode.DecodeError.{DecodeError}
-use Rattle.data_encoding.specs.Base.{Base, meaning, is_padded, group_symbols}
+use Rattle.data_encoding.specs.declared.error.DecodeKind.{DecodeKind}
+use Rattle.data_encoding.specs.declared.error.DecodeKind.TheVariants.{Length as LengthFault, Symbol as SymbolFault, Trailing as TrailingFault, Padding as PaddingFault}
+use Rattle.data_encoding.specs.declared.error.DecodeError.{DecodeError}
+use Rattle.data_encoding.specs.Base.{Base, meaning, is_symbol, value_of, is_padding, is_padded, group_symbols}
 use Rattle.data_encoding.specs.Bits.{bits_of, number_of, runs}
-use Rattle.data_encoding.specs.Grammar.{Placed, groups}
-use Rattle.data_encoding.specs.declared.decode.DecodeFault.{DecodeFault}
-use Rattle.data_encoding.specs.declared.decode.DecodeFault.TheVariants.{Error, OutOfMemory}
+use Rattle.data_encoding.specs.Grammar.{Positioned, groups}
+use Rattle.data_encoding.specs.declared.error.DecodeFault.{DecodeFault}
+use Rattle.data_encoding.specs.declared.error.DecodeFault.TheVariants.{Error, OutOfMemory}
 use Rattle.data_encoding.specs.Lengths.{is_valid_count, greatest_valid_count, length_fault, most_bytes}
 
-abbrev pub is_symbol : Character → Bool
-is_symbol (Symbol value) = true
-is_symbol _ = false
-
-abbrev pub is_padding : Character → Bool
-is_padding Padding = true
-is_padding _ = false
-
-abbrev pub value_of : Character → Option ℕ
-value_of (Symbol value) = Some value
-value_of _ = None
-
 -- the bits of the symbols of a group, and those after the last whole byte
-abbrev pub symbol_bits : Base → List Placed → List ℕ
+abbrev pub symbol_bits : Base → List Positioned → List ℕ
 symbol_bits base group =
     flat_map (bits_of base.order base.width)
     (filter_map (λ k. value_of (meaning base k.byte)) group)
 
-abbrev pub trailing_bits : Base → List Placed → List ℕ
+abbrev pub trailing_bits : Base → List Positioned → List ℕ
 trailing_bits base group = drop (length (symbol_bits base group) / 8 * 8) (symbol_bits base group)
 
 -- the bytes of the symbols of a group
-abbrev pub bytes_of_group : Base → List Placed → List ℕ
+abbrev pub bytes_of_group : Base → List Positioned → List ℕ
 bytes_of_group base group =
     map (number_of base.order)
     (runs 8 (take (length (symbol_bits base group) / 8 * 8) (symbol_bits base group)))
 
 -- a member of a group, and the fault there
-abbrev pub place_of : List Placed → ℕ → ℕ
-place_of group index = (slice_index_or group index (record { place = 0; byte = 0 })).place
+abbrev pub position_of : List Positioned → ℕ → ℕ
+position_of group index = (slice_index_or group index (record { position = 0; byte = 0 })).position
 
-abbrev pub fault_at : DecodeKind → List Placed → ℕ → Option DecodeError
+abbrev pub fault_at : DecodeKind → List Positioned → ℕ → Option DecodeError
 fault_at kind group index =
-    Some (record { position = place_of group index; kind = kind })
+    Some (record { position = position_of group index; kind = kind })
 
 -- the last symbol, where bits are left that are not zeros
-abbrev pub trailing_fault : Base → List Placed → Option DecodeError
+abbrev pub trailing_fault : Base → List Positioned → Option DecodeError
 trailing_fault base symbols =
     if base.checks_trailing_bits && list_any (λ bit. not (bit == 0)) (trailing_bits base symbols)
     then fault_at TrailingFault symbols (length symbols - 1) else None
 
-abbrev pub fault_at_first : Option ℕ → List Placed → Option DecodeError → Option DecodeError
+abbrev pub fault_at_first : Option ℕ → List Positioned → Option DecodeError → Option DecodeError
 fault_at_first None symbols otherwise = otherwise
 fault_at_first (Some index) symbols otherwise = fault_at SymbolFault symbols index
 
 -- the first that is no symbol
-abbrev pub symbol_fault : Base → List Placed → Option DecodeError
-symbol_fault base symbols =
+abbrev pub invalid_symbol_fault : Base → List Positioned → Option DecodeError
+invalid_symbol_fault base symbols =
     fault_at_first (position (λ k. not (is_symbol (meaning base k.byte))) symbols) symbols None
 
 -- the first that is no symbol, or else that
-abbrev pub symbols_fault : Base → List Placed → Option DecodeError
+abbrev pub symbols_fault : Base → List Positioned → Option DecodeError
 symbols_fault base symbols =
     fault_at_first (position (λ k. not (is_symbol (meaning base k.byte))) symbols) symbols
     (trailing_fault base symbols)
 
-abbrev pub plain_fault : Base → List Placed → Option DecodeError
+abbrev pub plain_fault : Base → List Positioned → Option DecodeError
 plain_fault base group =
     if is_valid_count base.width (length group) then symbols_fault base group
     else fault_at LengthFault group (greatest_valid_count base.width (length group))
 
 -- how many members of a group come before the padding at its end
-abbrev pub count_before_padding : Base → List Placed → ℕ
+abbrev pub count_before_padding : Base → List Positioned → ℕ
 count_before_padding base group =
     length group - length (take_while (λ k. is_padding (meaning base k.byte)) (reverse group))
 
 -- padding is judged before the symbols
-abbrev pub padded_fault_at : Base → List Placed → ℕ → Option DecodeError
+abbrev pub padded_fault_at : Base → List Positioned → ℕ → Option DecodeError
 padded_fault_at base group count =
     if nat_lt (length group) (group_symbols base.width) then fault_at LengthFault group 0
     else if count == 0 || not (is_valid_count base.width count)
     then fault_at PaddingFault group count
     else symbols_fault base (take count group)
 
-abbrev pub group_fault : Base → List Placed → Option DecodeError
+abbrev pub group_fault : Base → List Positioned → Option DecodeError
 group_fault base group =
     if is_padded base then padded_fault_at base group (count_before_padding base group)
     else plain_fault base group
 
 -- the groups before the first faulty one
-abbrev pub sound_groups : Base → List (List Placed) → List (List Placed)
+abbrev pub sound_groups : Base → List (List Positioned) → List (List Positioned)
 sound_groups base groups = take_while (λ group. not (is_some (group_fault base group))) groups
 
 -- the fault of the first faulty group
-abbrev pub first_fault : Base → List (List Placed) → Option DecodeError
+abbrev pub first_fault : Base → List (List Positioned) → Option DecodeError
 first_fault base groups = slice_get (filter_map (group_fault base) groups) 0
 
 abbrev pub or_else : Option DecodeError → Option DecodeError → Option DecodeError

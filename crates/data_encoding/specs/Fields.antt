@@ -1,11 +1,11 @@
 -- Which base the fields of a specification yield, or why they are refused.
-use Rattle.std.specs.Prelude.{ℕ, zero, suc, ◌%◌, ◌==◌, nat_lt, nat_le, Bool, true, false, not, ◌&&◌, ◌||◌, if◌then◌else◌, List, [], ◌∷◌, ◌++◌, map, length, replicate, Option, Some, None, slice_index_or, slice_set, zip, position, Result, Ok, Err}
+use Rattle.std.specs.Prelude.{◌≡◌, ℕ, zero, suc, ◌%◌, ◌==◌, nat_lt, nat_le, Bool, true, false, not, ◌&&◌, ◌||◌, if◌then◌else◌, List, [], ◌∷◌, ◌++◌, map, length, replicate, Option, Some, None, slice_index_or, slice_set, zip, position, Result, Ok, Err}
 use Rattle.std.specs.List.{enumerate_from}
 use Rattle.data_encoding.specs.declared.encoding.BitOrder.{BitOrder}
 use Rattle.data_encoding.specs.declared.encoding.Character.{Character}
 use Rattle.data_encoding.specs.declared.encoding.Character.TheVariants.{Symbol, Padding, Ignored, Invalid}
-use Rattle.data_encoding.specs.declared.spec.Refusal.{Refusal}
-use Rattle.data_encoding.specs.declared.spec.Refusal.TheVariants.{BadSize, NotAscii, Duplicate, ExtraPadding, WrapLength, WrapWidth, FromTo, Undefined}
+use Rattle.data_encoding.specs.declared.builder.Refusal.{Refusal}
+use Rattle.data_encoding.specs.declared.builder.Refusal.TheVariants.{BadSize, NotAscii, Duplicate, ExtraPadding, WrapLength, WrapWidth, FromTo, Undefined}
 use Rattle.data_encoding.specs.Base.{Base, group_symbols}
 
 -- what a specification says, with its texts as bytes
@@ -135,3 +135,8 @@ base_by (Some (suc n)) fields =
 -- the base of a specification, or its refusal
 abbrev pub base_of : Fields → Result Base Refusal
 base_of fields = base_by (width_of (length fields.symbols)) fields
+
+-- Some specification yields the base.
+pub record IsSpecified (base : Base) : Type 0 where
+  pub fields : Fields
+  pub yields : base_of fields ≡ Ok base

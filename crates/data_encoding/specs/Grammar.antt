@@ -6,29 +6,29 @@ use Rattle.data_encoding.specs.Base.{Base, meaning, is_ignored, group_symbols}
 use Rattle.data_encoding.specs.Bits.{bits_of_bytes, bits_of, runs}
 
 -- a byte of a text, with its place there
-pub record Placed : Type 0 where
-  pub place : ℕ
+pub record Positioned : Type 0 where
+  pub position : ℕ
   pub byte : ℕ
 
 -- the bytes of a part that begins at a place
-abbrev pub placed_from : ℕ → List ℕ → List Placed
-placed_from place part =
-    map (λ (p : ℕ × ℕ). record { place = p.0; byte = p.1 }) (enumerate_from place part)
+abbrev pub positioned_from : ℕ → List ℕ → List Positioned
+positioned_from place part =
+    map (λ (p : ℕ × ℕ). record { position = p.0; byte = p.1 }) (enumerate_from place part)
 
-abbrev pub placed : List ℕ → List Placed
-placed text = placed_from 0 text
+abbrev pub positioned : List ℕ → List Positioned
+positioned text = positioned_from 0 text
 
 -- the bytes that are not ignored
-abbrev pub kept : Base → List ℕ → List Placed
-kept base text = filter (λ k. not (is_ignored (meaning base k.byte))) (placed text)
+abbrev pub kept : Base → List ℕ → List Positioned
+kept base text = filter (λ k. not (is_ignored (meaning base k.byte))) (positioned text)
 
 -- in groups, the last perhaps shorter
-abbrev pub groups : Base → List ℕ → List (List Placed)
+abbrev pub groups : Base → List ℕ → List (List Positioned)
 groups base text = runs (group_symbols base.width) (kept base text)
 
 -- Symbols alone mean the bytes: their bits are those of the bytes, and then fewer than a symbol's,
 -- which are zeros where that is checked.
-pub record PlainMeans (base : Base) (characters : List Placed) (bytes : List ℕ) : Type 0 where
+pub record PlainMeans (base : Base) (characters : List Positioned) (bytes : List ℕ) : Type 0 where
   pub values : List ℕ
   pub rest : List ℕ
   pub are_symbols : map (λ k. meaning base k.byte) characters ≡ map (λ value. Symbol value) values
@@ -39,9 +39,9 @@ pub record PlainMeans (base : Base) (characters : List Placed) (bytes : List ℕ
   pub are_bytes : All (λ byte. byte < 256) bytes
 
 -- A whole group of one or more symbols, and then padding alone, means what its symbols mean.
-pub record GroupMeans (base : Base) (group : List Placed) (bytes : List ℕ) : Type 0 where
-  pub symbols : List Placed
-  pub padding : List Placed
+pub record GroupMeans (base : Base) (group : List Positioned) (bytes : List ℕ) : Type 0 where
+  pub symbols : List Positioned
+  pub padding : List Positioned
   pub is_group : group ≡ symbols ++ padding
   pub is_whole : length group ≡ group_symbols base.width
   pub is_begun : 0 < length symbols
@@ -49,7 +49,7 @@ pub record GroupMeans (base : Base) (group : List Placed) (bytes : List ℕ) : T
   pub means : PlainMeans base symbols bytes
 
 -- Each group means a piece, and the bytes are the pieces joined: so padded texts may be joined.
-abbrev pub GroupsMean : Base → List (List Placed) → List ℕ → Type 0
+abbrev pub GroupsMean : Base → List (List Positioned) → List ℕ → Type 0
 GroupsMean base [] bytes = bytes ≡ []
 GroupsMean base (group ∷ others) bytes =
     (piece more : List ℕ) × (bytes ≡ piece ++ more)

@@ -1,10 +1,9 @@
 -- The laws of the definitions.
 use Rattle.std.specs.Prelude.{◌≡◌, Ok}
 use Rattle.data_encoding.specs.Base.{Base}
-use Rattle.data_encoding.specs.Fields.{base_of}
-use Rattle.data_encoding.specs.IsBase.{IsBase}
+use Rattle.data_encoding.specs.Fields.{base_of, IsSpecified}
 use Rattle.data_encoding.specs.Layout.{fields_of}
 
 -- The specification of a base yields that base.
 abbrev pub SpecificationAgain : Type 0
-SpecificationAgain = (base : Base) → IsBase base → base_of (fields_of base) ≡ Ok base
+SpecificationAgain = (base : Base) → IsSpecified base → base_of (fields_of base) ≡ Ok base

@@ -7,7 +7,6 @@ pub mod Lengths
 pub mod Fault
 pub mod Partial
 pub mod Fields
-pub mod IsBase
 pub mod Entries
 pub mod Meanings
 pub mod Encoding

@@ -1,7 +1,6 @@
 -- Bases whose texts are symbols alone.
 use Rattle.std.specs.Prelude.{◌≡◌, ℕ, ◌<◌, false}
-use Rattle.data_encoding.specs.Base.{Base, meaning, is_ignored}
-use Rattle.data_encoding.specs.Fault.{is_padding}
+use Rattle.data_encoding.specs.Base.{Base, meaning, is_ignored, is_padding}
 
 -- No byte means padding, and none is ignored.
 pub record IsPlain (base : Base) : Type 0 where

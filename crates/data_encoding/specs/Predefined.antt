@@ -19,8 +19,8 @@ symbols_alone symbols order check = record {
 }
 
 -- the most significant bit first, with trailing bits checked
-abbrev pub plain_fields : List ℕ → Fields
-plain_fields symbols = symbols_alone symbols MostSignificantFirst true
+abbrev pub unpadded_fields : List ℕ → Fields
+unpadded_fields symbols = symbols_alone symbols MostSignificantFirst true
 
 -- with the character '='
 abbrev pub padded_fields : Fields → Fields
@@ -34,19 +34,19 @@ abbrev pub mime_fields : Fields → Fields
 mime_fields fields = record fields { column = 76; separator = 13 ∷ 10 ∷ [] }
 
 abbrev pub hexlower_fields : Fields
-hexlower_fields = plain_fields (codes "0123456789abcdef")
+hexlower_fields = unpadded_fields (codes "0123456789abcdef")
 
 abbrev pub hexlower_permissive_fields : Fields
 hexlower_permissive_fields = translated_fields hexlower_fields (codes "ABCDEF") (codes "abcdef")
 
 abbrev pub hexupper_fields : Fields
-hexupper_fields = plain_fields (codes "0123456789ABCDEF")
+hexupper_fields = unpadded_fields (codes "0123456789ABCDEF")
 
 abbrev pub hexupper_permissive_fields : Fields
 hexupper_permissive_fields = translated_fields hexupper_fields (codes "abcdef") (codes "ABCDEF")
 
 abbrev pub base32_nopad_fields : Fields
-base32_nopad_fields = plain_fields (codes "ABCDEFGHIJKLMNOPQRSTUVWXYZ234567")
+base32_nopad_fields = unpadded_fields (codes "ABCDEFGHIJKLMNOPQRSTUVWXYZ234567")
 
 abbrev pub base32_fields : Fields
 base32_fields = padded_fields base32_nopad_fields
@@ -60,25 +60,25 @@ abbrev pub base32_nopad_visual_fields : Fields
 base32_nopad_visual_fields = translated_fields base32_nopad_fields (codes "01l8") (codes "OIIB")
 
 abbrev pub base32hex_nopad_fields : Fields
-base32hex_nopad_fields = plain_fields (codes "0123456789ABCDEFGHIJKLMNOPQRSTUV")
+base32hex_nopad_fields = unpadded_fields (codes "0123456789ABCDEFGHIJKLMNOPQRSTUV")
 
 abbrev pub base32hex_fields : Fields
 base32hex_fields = padded_fields base32hex_nopad_fields
 
 abbrev pub base32_dnssec_fields : Fields
 base32_dnssec_fields =
-    translated_fields (plain_fields (codes "0123456789abcdefghijklmnopqrstuv"))
+    translated_fields (unpadded_fields (codes "0123456789abcdefghijklmnopqrstuv"))
     (codes "ABCDEFGHIJKLMNOPQRSTUV") (codes "abcdefghijklmnopqrstuv")
 
 abbrev pub base32_dnscurve_fields : Fields
 base32_dnscurve_fields =
-    record (translated_fields (plain_fields (codes "0123456789bcdfghjklmnpqrstuvwxyz"))
+    record (translated_fields (unpadded_fields (codes "0123456789bcdfghjklmnpqrstuvwxyz"))
     (codes "BCDFGHJKLMNPQRSTUVWXYZ") (codes "bcdfghjklmnpqrstuvwxyz"))
     { order = LeastSignificantFirst }
 
 abbrev pub base64_nopad_fields : Fields
 base64_nopad_fields =
-    plain_fields (codes "ABCDEFGHIJKLMNOPQRSTUVWXYZabcdefghijklmnopqrstuvwxyz0123456789+/")
+    unpadded_fields (codes "ABCDEFGHIJKLMNOPQRSTUVWXYZabcdefghijklmnopqrstuvwxyz0123456789+/")
 
 abbrev pub base64_fields : Fields
 base64_fields = padded_fields base64_nopad_fields
@@ -91,7 +91,7 @@ base64_mime_permissive_fields = record base64_mime_fields { checks_trailing_bits
 
 abbrev pub base64url_nopad_fields : Fields
 base64url_nopad_fields =
-    plain_fields (codes "ABCDEFGHIJKLMNOPQRSTUVWXYZabcdefghijklmnopqrstuvwxyz0123456789-_")
+    unpadded_fields (codes "ABCDEFGHIJKLMNOPQRSTUVWXYZabcdefghijklmnopqrstuvwxyz0123456789-_")
 
 abbrev pub base64url_fields : Fields
 base64url_fields = padded_fields base64url_nopad_fields

@@ -1,13 +1,13 @@
 -- What faults print.
 use Rattle.std.specs.Prelude.{ℕ, List, ◌++◌, codes, Option, Some, None}
 use Rattle.std.specs.Fmt.{decimal}
-use Rattle.data_encoding.specs.declared.decode.DecodeKind.{DecodeKind}
-use Rattle.data_encoding.specs.declared.decode.DecodeKind.TheVariants.{Length, Symbol, Trailing, Padding}
-use Rattle.data_encoding.specs.declared.decode.DecodeError.{DecodeError}
-use Rattle.data_encoding.specs.declared.decode.DecodeFault.{DecodeFault}
-use Rattle.data_encoding.specs.declared.decode.DecodeFault.TheVariants.{Error, OutOfMemory}
-use Rattle.data_encoding.specs.declared.spec.Refusal.{Refusal}
-use Rattle.data_encoding.specs.declared.spec.Refusal.TheVariants.{BadSize, NotAscii, Duplicate, ExtraPadding, WrapLength, WrapWidth, FromTo, Undefined}
+use Rattle.data_encoding.specs.declared.error.DecodeKind.{DecodeKind}
+use Rattle.data_encoding.specs.declared.error.DecodeKind.TheVariants.{Length, Symbol, Trailing, Padding}
+use Rattle.data_encoding.specs.declared.error.DecodeError.{DecodeError}
+use Rattle.data_encoding.specs.declared.error.DecodeFault.{DecodeFault}
+use Rattle.data_encoding.specs.declared.error.DecodeFault.TheVariants.{Error, OutOfMemory}
+use Rattle.data_encoding.specs.declared.builder.Refusal.{Refusal}
+use Rattle.data_encoding.specs.declared.builder.Refusal.TheVariants.{BadSize, NotAscii, Duplicate, ExtraPadding, WrapLength, WrapWidth, FromTo, Undefined}
 
 abbrev pub printed_kind : DecodeKind → List ℕ
 printed_kind Length = codes "invalid length"

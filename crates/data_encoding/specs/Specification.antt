@@ -1,9 +1,9 @@
 -- What a `Specification` says, with its texts as bytes.
 use Rattle.std.specs.Prelude.{◌≡◌, true, [], None}
 use Rattle.std.specs.String.{string_bytes}
-use Rattle.data_encoding.specs.declared.definition.Parts.{Parts}
+use Rattle.data_encoding.specs.declared.builder.Parts.{Parts}
 use Rattle.data_encoding.specs.declared.encoding.BitOrder.TheVariants.{MostSignificantFirst}
-use Rattle.data_encoding.specs.declared.spec.Refusal.{Refusal}
+use Rattle.data_encoding.specs.declared.builder.Refusal.{Refusal}
 use Rattle.data_encoding.specs.declared.spec.Specification.{Specification}
 use Rattle.data_encoding.specs.declared.spec.SpecificationError.{SpecificationError}
 use Rattle.data_encoding.specs.declared.spec.Translate.{Translate}

@@ -2,20 +2,17 @@
 use Rattle.std.specs.Prelude.{◌≡◌, ℕ, ◌^◌, ◌<◌, ◌≤◌, Bool, false, List, None, slice_index}
 use Rattle.data_encoding.specs.declared.encoding.Character.TheVariants.{Symbol}
 use Rattle.data_encoding.specs.declared.encoding.BitOrder.{BitOrder}
-use Rattle.data_encoding.specs.Base.{Base, meaning, symbol, ignores_some, group_bytes, group_symbols}
-use Rattle.data_encoding.specs.Fault.{is_symbol}
+use Rattle.data_encoding.specs.Base.{Base, IsWidth, meaning, symbol, ignores_some, group_bytes, group_symbols, is_symbol}
 
 -- The symbol of each value stands at its place.
 pub record HoldsSymbols (base : Base) (symbols : List ℕ) : Type 0 where
-  pub some_bits : 0 < base.width
-  pub few_bits : base.width ≤ 6
+  pub is_width : IsWidth base.width
   pub at_value : (value : ℕ) → value < 2 ^ base.width
       → symbol base value ≡ slice_index symbols value
 
 -- At the place of each byte stands the value that it has, or 128 or more where it is no symbol.
 pub record HoldsValues (base : Base) (values : List ℕ) : Type 0 where
-  pub some_bits : 0 < base.width
-  pub few_bits : base.width ≤ 6
+  pub is_width : IsWidth base.width
   pub symbols : (byte : ℕ) → byte < 256 → slice_index values byte < 128
       → meaning base byte ≡ Symbol (slice_index values byte)
   pub below : (byte : ℕ) → byte < 256 → slice_index values byte < 128
@@ -25,8 +22,7 @@ pub record HoldsValues (base : Base) (values : List ℕ) : Type 0 where
 
 -- So many bytes and so many symbols of so many bits are a whole group.
 pub record IsGroup (width bytes symbols : ℕ) : Type 0 where
-  pub some_bits : 0 < width
-  pub few_bits : width ≤ 6
+  pub is_width : IsWidth width
   pub has_bytes : bytes ≡ group_bytes width
   pub has_symbols : symbols ≡ group_symbols width
 

@@ -4,7 +4,7 @@ ghost use Rattle.std.specs.Prelude.{◌≡◌, ℕ, ◌+◌, ◌-◌, ◌*◌, �
 ghost use Rattle.std.specs.List.{range_with_len};
 ghost use Rattle.data_encoding.specs.Base.{Base};
 ghost use Rattle.data_encoding.specs.Fault.{bytes_of_group};
-ghost use Rattle.data_encoding.specs.Grammar.{Placed};
+ghost use Rattle.data_encoding.specs.Grammar.{Positioned};
 ghost use Rattle.data_encoding.specs.Tables.{IsGroup, HoldsSymbols, HoldsValues};
 ghost use Rattle.data_encoding.specs.Text.{plain_text};
 ghost use Rattle.data_encoding.specs.Words.{weight, digit, word_of};
@@ -34,53 +34,53 @@ fn digit_at<const SIZE: usize>(word: u64, weight: usize) -> usize
 }
 
 // The bytes as a word, with zeros for those that are missing.
-fn word_of_bytes<const ENC: usize>(order: BitOrder, input: &[u8]) -> u64
-    requires fits { ENC ≤ 5 }
-    requires few { length input.now ≤ ENC }
-    ensures { result ≡ word_of order 8 ENC input.now }
+fn word_of_bytes<const BYTES: usize>(order: BitOrder, input: &[u8]) -> u64
+    requires fits { BYTES ≤ 5 }
+    requires few { length input.now ≤ BYTES }
+    ensures { result ≡ word_of order 8 BYTES input.now }
 {
     let mut word = 0;
     for index in 0..input.len() {
-        word += (input[index] as u64) << weight_at(order, 8, ENC, index);
+        word += (input[index] as u64) << weight_at(order, 8, BYTES, index);
     }
     word
 }
 
 // Writes the symbols of the first digits of a word.
-fn symbols_of_word<const WIDTH: usize, const DEC: usize>(
+fn symbols_of_word<const WIDTH: usize, const SYMBOLS: usize>(
     symbols: &[u8; 256],
     order: BitOrder,
     word: u64,
     output: &mut [u8],
 )
     requires narrow { WIDTH ≤ 6 }
-    requires fits { WIDTH * DEC ≤ 40 }
-    requires few { length output.old ≤ DEC }
-    ensures { output.new ≡ map (λ k. slice_index symbols.now (digit order WIDTH DEC word k))
+    requires fits { WIDTH * SYMBOLS ≤ 40 }
+    requires few { length output.old ≤ SYMBOLS }
+    ensures { output.new ≡ map (λ k. slice_index symbols.now (digit order WIDTH SYMBOLS word k))
         (range_with_len 0 (length output.old)) }
 {
     for index in 0..output.len() {
-        let weight = weight_at(order, WIDTH, DEC, index);
+        let weight = weight_at(order, WIDTH, SYMBOLS, index);
         output[index] = symbols[digit_at::<WIDTH>(word, weight)];
     }
 }
 
 /// Writes the text of a group of bytes, or of the fewer that are left.
 #[inline]
-pub(crate) fn encode_group<const WIDTH: usize, const ENC: usize, const DEC: usize>(
+pub(crate) fn encode_group<const WIDTH: usize, const BYTES: usize, const SYMBOLS: usize>(
     symbols: &[u8; 256],
     order: BitOrder,
     input: &[u8],
     output: &mut [u8],
 )
-    requires group { IsGroup WIDTH ENC DEC }
-    requires few { length input.now ≤ ENC }
+    requires group { IsGroup WIDTH BYTES SYMBOLS }
+    requires few { length input.now ≤ BYTES }
     requires exact { length output.old ≡ (8 * length input.now + (WIDTH - 1)) / WIDTH }
     ensures text { (base : Base) → base.width ≡ WIDTH → base.order ≡ order
         → HoldsSymbols base symbols.now → output.new ≡ plain_text base input.now }
 {
-    let word = word_of_bytes::<ENC>(order, input);
-    symbols_of_word::<WIDTH, DEC>(symbols, order, word, output);
+    let word = word_of_bytes::<BYTES>(order, input);
+    symbols_of_word::<WIDTH, SYMBOLS>(symbols, order, word, output);
 }
 
 // What a table says of a byte.
@@ -92,17 +92,17 @@ fn entry_of(values: &[u8; 256], byte: u8) -> u8
 
 // The values of the symbols as a word, with zeros for those that are missing, and the bits that any
 // entry has: an entry that is no value has its highest bit, and spoils the word.
-fn word_of_symbols<const WIDTH: usize, const DEC: usize>(
+fn word_of_symbols<const WIDTH: usize, const SYMBOLS: usize>(
     values: &[u8; 256],
     order: BitOrder,
     input: &[u8],
 ) -> (u64, u8)
-    requires fits { WIDTH * DEC ≤ 40 }
+    requires fits { WIDTH * SYMBOLS ≤ 40 }
     requires some { 0 < WIDTH }
-    requires few { length input.now ≤ DEC }
+    requires few { length input.now ≤ SYMBOLS }
     ensures word { ((k : ℕ) → k < length input.now
         → slice_index values.now (slice_index input.now k) < 2 ^ WIDTH)
-        → result.0 ≡ word_of order WIDTH DEC (map (slice_index values.now) input.now) }
+        → result.0 ≡ word_of order WIDTH SYMBOLS (map (slice_index values.now) input.now) }
     ensures entries { (result.1 < 128) ↔ ((k : ℕ) → k < length input.now
         → slice_index values.now (slice_index input.now k) < 128) }
 {
@@ -111,42 +111,42 @@ fn word_of_symbols<const WIDTH: usize, const DEC: usize>(
     for index in 0..input.len() {
         let entry = entry_of(values, input[index]);
         entries |= entry;
-        word += (entry as u64) << weight_at(order, WIDTH, DEC, index);
+        word += (entry as u64) << weight_at(order, WIDTH, SYMBOLS, index);
     }
     (word, entries)
 }
 
 // Writes the first bytes of a word.
-fn bytes_of_word<const ENC: usize>(order: BitOrder, word: u64, output: &mut [u8])
-    requires fits { ENC ≤ 5 }
-    requires few { length output.old ≤ ENC }
-    ensures { output.new ≡ map (digit order 8 ENC word) (range_with_len 0 (length output.old)) }
+fn bytes_of_word<const BYTES: usize>(order: BitOrder, word: u64, output: &mut [u8])
+    requires fits { BYTES ≤ 5 }
+    requires few { length output.old ≤ BYTES }
+    ensures { output.new ≡ map (digit order 8 BYTES word) (range_with_len 0 (length output.old)) }
 {
     for index in 0..output.len() {
-        output[index] = digit_at::<8>(word, weight_at(order, 8, ENC, index)) as u8;
+        output[index] = digit_at::<8>(word, weight_at(order, 8, BYTES, index)) as u8;
     }
 }
 
 /// Writes the bytes of a group of symbols, or of the fewer that are left, without the bits after
 /// the last whole byte; `false`, and any bytes, where some byte of the input is no symbol.
 #[inline]
-pub(crate) fn decode_group<const WIDTH: usize, const ENC: usize, const DEC: usize>(
+pub(crate) fn decode_group<const WIDTH: usize, const BYTES: usize, const SYMBOLS: usize>(
     values: &[u8; 256],
     order: BitOrder,
     input: &[u8],
     output: &mut [u8],
 ) -> bool
-    requires group { IsGroup WIDTH ENC DEC }
-    requires few { length input.now ≤ DEC }
+    requires group { IsGroup WIDTH BYTES SYMBOLS }
+    requires few { length input.now ≤ SYMBOLS }
     requires exact { length output.old ≡ WIDTH * length input.now / 8 }
     ensures symbols { IsTrue result ↔ ((k : ℕ) → k < length input.now
         → slice_index values.now (slice_index input.now k) < 128) }
-    ensures bytes { (base : Base) (ks : List Placed) → base.width ≡ WIDTH → base.order ≡ order
+    ensures bytes { (base : Base) (ks : List Positioned) → base.width ≡ WIDTH → base.order ≡ order
         → HoldsValues base values.now → map (λ k. k.byte) ks ≡ input.now → IsTrue result
         → output.new ≡ bytes_of_group base ks }
 {
-    let (word, entries) = word_of_symbols::<WIDTH, DEC>(values, order, input);
-    bytes_of_word::<ENC>(order, word, output);
+    let (word, entries) = word_of_symbols::<WIDTH, SYMBOLS>(values, order, input);
+    bytes_of_word::<BYTES>(order, word, output);
     entries < 128
 }
 

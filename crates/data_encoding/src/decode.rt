@@ -6,136 +6,24 @@
 ghost use Rattle.std.specs.Prelude.{◌≡◌, ℕ, ◌+◌, ◌-◌, ◌*◌, ◌/◌, ◌^◌, ◌<◌, ◌≤◌, ◌==◌, ◌⊎◌, not, true, List, length, map, take, drop, Some, Ok, Err, IsTrue, slice_index, IfOk, IfErr, IsOk, IsOkAnd};
 ghost use Rattle.std.specs.List.{list_any};
 ghost use Rattle.std.specs.Result.{result_err};
-ghost use Rattle.data_encoding.specs.Base.{Base};
+ghost use Rattle.data_encoding.specs.Base.{Base, IsWidth};
 ghost use Rattle.data_encoding.specs.Bits.{bits_of};
-ghost use Rattle.data_encoding.specs.Fault.{IsRefusal, bytes_of_group, plain_fault, symbol_fault, trailing_bits};
-ghost use Rattle.data_encoding.specs.Grammar.{Means, Placed, placed_from};
-ghost use Rattle.data_encoding.specs.IsBase.{IsBase};
+ghost use Rattle.data_encoding.specs.Fault.{IsRefusal, bytes_of_group, plain_fault, invalid_symbol_fault, trailing_bits};
+ghost use Rattle.data_encoding.specs.Grammar.{Means, Positioned, positioned_from};
+ghost use Rattle.data_encoding.specs.Fields.{IsSpecified};
 ghost use Rattle.data_encoding.specs.Lengths.{decoded_len, is_valid_count};
 ghost use Rattle.data_encoding.specs.Partial.{StopsAt, partial_of};
 ghost use Rattle.data_encoding.specs.Plain.{IsPlain};
-ghost use Rattle.data_encoding.specs.Printed.{printed_error, printed_fault, printed_kind};
 ghost use Rattle.data_encoding.specs.Tables.{HoldsValues, IsGroup, Reads};
 
 use crate::bits::{decode_group, symbol_position};
-use crate::encode::zeros;
 use crate::encoding::{BitOrder, Encoding};
-use std::alloc::{AllocError, Global};
-use std::error::Error;
-use std::fmt;
+use crate::error::{DecodeError, DecodeFault, DecodeKind, DecodePartial};
+use crate::memory::zeros;
+use std::alloc::Global;
 
 /// The greatest length of a text that is decoded in one call, in bytes.
 pub const DECODE_LIMIT: usize = usize::MAX / 8;
-
-/// What is wrong with a text.
-#[derive(Clone, Copy, Debug, PartialEq, Eq)]
-pub enum DecodeKind {
-    /// The length is that of no text.
-    Length,
-
-    /// A byte is no symbol.
-    Symbol,
-
-    /// Bits that are left after the last byte of data are not zero.
-    Trailing,
-
-    /// The number of padding characters is wrong.
-    Padding,
-}
-
-/// What is wrong with a text, and where.
-#[derive(Clone, Copy, Debug, PartialEq, Eq)]
-pub struct DecodeError {
-    /// The place of the faulty byte in the text, from 0; for a length where no byte is ignored, the
-    /// greatest length below it that a text may have.
-    pub position: usize,
-
-    /// What is wrong there.
-    pub kind: DecodeKind,
-}
-
-/// How far a text was decoded that has a fault.
-#[derive(Clone, Copy, Debug, PartialEq, Eq)]
-pub struct DecodePartial {
-    /// How many bytes of the text were read: they mean the bytes that were written.
-    pub read: usize,
-
-    /// How many bytes of the output were written.
-    pub written: usize,
-
-    /// The fault of the text.
-    pub error: DecodeError,
-}
-
-/// Why a decoding gave no data.
-#[derive(Debug, Drop)]
-pub enum DecodeFault {
-    /// The text has a fault.
-    Error(DecodeError),
-
-    /// No memory was found for the data.
-    OutOfMemory,
-}
-
-impl fmt::Display for DecodeKind {
-    ghost output = { λ kind. Some (printed_kind kind) };
-
-    fn fmt<W: fmt::Write>(&self, f: &mut fmt::Formatter<W>) -> fmt::Result {
-        match self {
-            DecodeKind::Length => f.write_str("invalid length"),
-            DecodeKind::Symbol => f.write_str("invalid symbol"),
-            DecodeKind::Trailing => f.write_str("non-zero trailing bits"),
-            DecodeKind::Padding => f.write_str("invalid padding length"),
-        }
-    }
-}
-
-impl fmt::Display for DecodeError {
-    ghost output = { λ error. Some (printed_error error) };
-
-    fn fmt<W: fmt::Write>(&self, f: &mut fmt::Formatter<W>) -> fmt::Result {
-        let kind = self.kind;
-        let position = self.position;
-        write!(f, "{kind} at {position}")
-    }
-}
-
-impl fmt::Display for DecodeFault {
-    ghost output = { λ fault. Some (printed_fault fault) };
-
-    fn fmt<W: fmt::Write>(&self, f: &mut fmt::Formatter<W>) -> fmt::Result {
-        match self {
-            DecodeFault::Error(error) => write!(f, "{error}"),
-            DecodeFault::OutOfMemory => f.write_str("out of memory"),
-        }
-    }
-}
-
-impl Error for DecodeError {}
-
-impl Error for DecodeFault {}
-
-impl From<DecodeError> for DecodeFault {
-    ghost use Rattle.std.specs.Prelude.{◌≡◌};
-    ghost use Rattle.data_encoding.specs.declared.decode.DecodeFault.TheVariants.{Error};
-
-    ghost from_gives = { λ error fault. fault ≡ Error error };
-
-    fn from(error: DecodeError) -> DecodeFault {
-        DecodeFault::Error(error)
-    }
-}
-
-impl From<AllocError> for DecodeFault {
-    ghost use Rattle.std.specs.Prelude.{◌≡◌};
-    ghost use Rattle.data_encoding.specs.declared.decode.DecodeFault.TheVariants.{OutOfMemory};
-
-    ghost from_gives = { λ _ fault. fault ≡ OutOfMemory };
-
-    fn from(_error: AllocError) -> DecodeFault {
-        DecodeFault::OutOfMemory
-    }
-}
 
 impl Encoding {
     /// The greatest number of bytes that a text of `len` bytes, at most `DECODE_LIMIT`, may mean.
@@ -151,7 +39,7 @@ impl Encoding {
         ensures position { IfErr result (λ error. error.position < len) }
         ensures most { (text bytes : List ℕ) → length text ≡ len → Means self.now text bytes
             → IsOkAnd result (λ most. length bytes ≤ most) }
-        ensures base { IsBase self.now }
+        ensures base { IsSpecified self.now }
     {
         let width = self.width as usize;
         let bits = width * len;
@@ -233,8 +121,7 @@ fn decode_by_width(
     input: &[u8],
     output: &mut [u8],
 ) -> Result<(), DecodePartial>
-    requires some { 0 < width }
-    requires few { width ≤ 6 }
+    requires width { IsWidth width }
     requires limit { length input.now ≤ DECODE_LIMIT }
     requires valid { is_valid_count width (length input.now) ≡ true }
     requires exact { length output.old ≡ width * length input.now / 8 }
@@ -256,14 +143,14 @@ fn decode_by_width(
 
 // With the order as a constant, so that every shift of the loops below is one.
 #[inline(never)]
-fn decode_in_order<const WIDTH: usize, const ENC: usize, const DEC: usize>(
+fn decode_in_order<const WIDTH: usize, const BYTES: usize, const SYMBOLS: usize>(
     values: &[u8; 256],
     order: BitOrder,
     check: bool,
     input: &[u8],
     output: &mut [u8],
 ) -> Result<(), DecodePartial>
-    requires group { IsGroup WIDTH ENC DEC }
+    requires group { IsGroup WIDTH BYTES SYMBOLS }
     requires limit { length input.now ≤ DECODE_LIMIT }
     requires valid { is_valid_count WIDTH (length input.now) ≡ true }
     requires exact { length output.old ≡ WIDTH * length input.now / 8 }
@@ -274,14 +161,14 @@ fn decode_in_order<const WIDTH: usize, const ENC: usize, const DEC: usize>(
     ensures len { length output.new ≡ length output.old }
 {
     match order {
-        BitOrder::MostSignificantFirst => decode_groups::<WIDTH, ENC, DEC>(
+        BitOrder::MostSignificantFirst => decode_groups::<WIDTH, BYTES, SYMBOLS>(
             values,
             BitOrder::MostSignificantFirst,
             check,
             input,
             output,
         ),
-        BitOrder::LeastSignificantFirst => decode_groups::<WIDTH, ENC, DEC>(
+        BitOrder::LeastSignificantFirst => decode_groups::<WIDTH, BYTES, SYMBOLS>(
             values,
             BitOrder::LeastSignificantFirst,
             check,
@@ -293,14 +180,14 @@ fn decode_in_order<const WIDTH: usize, const ENC: usize, const DEC: usize>(
 
 // Group by group, the last perhaps shorter, up to the first faulty one.
 #[inline(always)]
-fn decode_groups<const WIDTH: usize, const ENC: usize, const DEC: usize>(
+fn decode_groups<const WIDTH: usize, const BYTES: usize, const SYMBOLS: usize>(
     values: &[u8; 256],
     order: BitOrder,
     check: bool,
     input: &[u8],
     output: &mut [u8],
 ) -> Result<(), DecodePartial>
-    requires group { IsGroup WIDTH ENC DEC }
+    requires group { IsGroup WIDTH BYTES SYMBOLS }
     requires limit { length input.now ≤ DECODE_LIMIT }
     requires valid { is_valid_count WIDTH (length input.now) ≡ true }
     requires exact { length output.old ≡ WIDTH * length input.now / 8 }
@@ -310,13 +197,15 @@ fn decode_groups<const WIDTH: usize, const ENC: usize, const DEC: usize>(
         → IfErr result (StopsAt base input.now output.new) }
     ensures len { length output.new ≡ length output.old }
 {
-    let count = input.len() / DEC;
+    let count = input.len() / SYMBOLS;
     for index in 0..count {
-        let read = index * DEC;
-        let written = index * ENC;
-        let group = &input[read..read + DEC];
-        let room = &mut output[written..written + ENC];
-        if let Err(error) = decode_symbols::<WIDTH, ENC, DEC>(values, order, group, read, room) {
+        let read = index * SYMBOLS;
+        let written = index * BYTES;
+        let group = &input[read..read + SYMBOLS];
+        let room = &mut output[written..written + BYTES];
+        if let Err(error) = decode_symbols::<WIDTH, BYTES, SYMBOLS>(
+            values, order, group, read, room,
+        ) {
             return Err(DecodePartial {
                 read,
                 written,
@@ -324,11 +213,11 @@ fn decode_groups<const WIDTH: usize, const ENC: usize, const DEC: usize>(
             });
         }
     }
-    let read = count * DEC;
-    let written = count * ENC;
+    let read = count * SYMBOLS;
+    let written = count * BYTES;
     let group = &input[read..];
     let room = &mut output[written..];
-    match decode_last::<WIDTH, ENC, DEC>(values, order, check, group, read, room) {
+    match decode_last::<WIDTH, BYTES, SYMBOLS>(values, order, check, group, read, room) {
         Ok(()) => Ok(()),
         Err(error) => Err(DecodePartial {
             read,
@@ -340,31 +229,31 @@ fn decode_groups<const WIDTH: usize, const ENC: usize, const DEC: usize>(
 
 // The last group, perhaps of fewer symbols than a whole one: its bytes, or its fault.
 #[inline(never)]
-fn decode_last<const WIDTH: usize, const ENC: usize, const DEC: usize>(
+fn decode_last<const WIDTH: usize, const BYTES: usize, const SYMBOLS: usize>(
     values: &[u8; 256],
     order: BitOrder,
     check: bool,
     group: &[u8],
-    place: usize,
+    position: usize,
     output: &mut [u8],
 ) -> Result<(), DecodeError>
-    requires group { IsGroup WIDTH ENC DEC }
-    requires few { length group.now ≤ DEC }
+    requires group { IsGroup WIDTH BYTES SYMBOLS }
+    requires few { length group.now ≤ SYMBOLS }
     requires valid { is_valid_count WIDTH (length group.now) ≡ true }
-    requires limit { place + length group.now ≤ DECODE_LIMIT }
+    requires limit { position + length group.now ≤ DECODE_LIMIT }
     requires exact { length output.old ≡ WIDTH * length group.now / 8 }
     ensures fault { (base : Base) → Reads base values.now WIDTH order check
-        → plain_fault base (placed_from place group.now) ≡ result_err result }
+        → plain_fault base (positioned_from position group.now) ≡ result_err result }
     ensures bytes { (base : Base) → Reads base values.now WIDTH order check
-        → IsOk result → output.new ≡ bytes_of_group base (placed_from place group.now) }
+        → IsOk result → output.new ≡ bytes_of_group base (positioned_from position group.now) }
     ensures len { length output.new ≡ length output.old }
-    ensures bounds { IfErr result (λ error. (place ≤ error.position)
-        × (error.position < place + length group.now)) }
+    ensures bounds { IfErr result (λ error. (position ≤ error.position)
+        × (error.position < position + length group.now)) }
 {
-    decode_symbols::<WIDTH, ENC, DEC>(values, order, group, place, output)?;
+    decode_symbols::<WIDTH, BYTES, SYMBOLS>(values, order, group, position, output)?;
     if check && has_trailing::<WIDTH>(values, order, group) {
         return Err(DecodeError {
-            position: place + group.len() - 1,
+            position: position + group.len() - 1,
             kind: DecodeKind::Trailing,
         });
     }
@@ -378,7 +267,7 @@ fn has_trailing<const WIDTH: usize>(values: &[u8; 256], order: BitOrder, symbols
     requires symbols { (k : ℕ) → k < length symbols.now
         → slice_index values.now (slice_index symbols.now k) < 128 }
     requires valid { is_valid_count WIDTH (length symbols.now) ≡ true }
-    ensures any { (base : Base) (ks : List Placed) → base.width ≡ WIDTH → base.order ≡ order
+    ensures any { (base : Base) (ks : List Positioned) → base.width ≡ WIDTH → base.order ≡ order
         → HoldsValues base values.now → map (λ k. k.byte) ks ≡ symbols.now
         → result ≡ list_any (λ bit. not (bit == 0)) (trailing_bits base ks) }
     ensures some { IsTrue result → 0 < length symbols.now }
@@ -395,33 +284,33 @@ fn has_trailing<const WIDTH: usize>(values: &[u8; 256], order: BitOrder, symbols
 }
 
 // The bytes of a group of symbols, or the fault of the first byte that is none.
-fn decode_symbols<const WIDTH: usize, const ENC: usize, const DEC: usize>(
+fn decode_symbols<const WIDTH: usize, const BYTES: usize, const SYMBOLS: usize>(
     values: &[u8; 256],
     order: BitOrder,
     group: &[u8],
-    place: usize,
+    position: usize,
     output: &mut [u8],
 ) -> Result<(), DecodeError>
-    requires group { IsGroup WIDTH ENC DEC }
-    requires few { length group.now ≤ DEC }
-    requires limit { place + length group.now ≤ DECODE_LIMIT }
+    requires group { IsGroup WIDTH BYTES SYMBOLS }
+    requires few { length group.now ≤ SYMBOLS }
+    requires limit { position + length group.now ≤ DECODE_LIMIT }
     requires exact { length output.old ≡ WIDTH * length group.now / 8 }
     ensures symbols { IsOk result → (k : ℕ) → k < length group.now
         → slice_index values.now (slice_index group.now k) < 128 }
     ensures fault { (base : Base) → HoldsValues base values.now
-        → symbol_fault base (placed_from place group.now) ≡ result_err result }
+        → invalid_symbol_fault base (positioned_from position group.now) ≡ result_err result }
     ensures bytes { (base : Base) → base.width ≡ WIDTH → base.order ≡ order
         → HoldsValues base values.now → IsOk result
-        → output.new ≡ bytes_of_group base (placed_from place group.now) }
+        → output.new ≡ bytes_of_group base (positioned_from position group.now) }
     ensures len { length output.new ≡ length output.old }
-    ensures bounds { IfErr result (λ error. (place ≤ error.position)
-        × (error.position < place + length group.now)) }
+    ensures bounds { IfErr result (λ error. (position ≤ error.position)
+        × (error.position < position + length group.now)) }
 {
-    if decode_group::<WIDTH, ENC, DEC>(values, order, group, output) {
+    if decode_group::<WIDTH, BYTES, SYMBOLS>(values, order, group, output) {
         return Ok(());
     }
     Err(DecodeError {
-        position: place + symbol_position(values, group),
+        position: position + symbol_position(values, group),
         kind: DecodeKind::Symbol,
     })
 }

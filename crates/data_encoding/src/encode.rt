@@ -5,8 +5,8 @@
 
 ghost use Rattle.std.specs.Prelude.{◌≡◌, All, ℕ, ◌<◌, ◌+◌, ◌-◌, ◌*◌, ◌/◌, ◌≤◌, List, length, replicate, IfOk, IsOk};
 ghost use Rattle.std.specs.String.{string_bytes};
-ghost use Rattle.data_encoding.specs.Base.{Base};
-ghost use Rattle.data_encoding.specs.IsBase.{IsBase};
+ghost use Rattle.data_encoding.specs.Base.{Base, IsWidth};
+ghost use Rattle.data_encoding.specs.Fields.{IsSpecified};
 ghost use Rattle.data_encoding.specs.Lengths.{alignment};
 ghost use Rattle.data_encoding.specs.Plain.{IsPlain};
 ghost use Rattle.data_encoding.specs.Tables.{IsGroup, Writes};
@@ -14,6 +14,7 @@ ghost use Rattle.data_encoding.specs.Text.{plain_text, text_of};
 
 use crate::bits::encode_group;
 use crate::encoding::{BitOrder, Encoding, group_bytes};
+use crate::memory::zeros;
 use std::alloc::{AllocError, Global};
 
 /// The greatest length of data that is encoded in one call, in bytes.
@@ -29,7 +30,7 @@ impl Encoding {
         ensures length { (bytes : List ℕ) → length bytes ≡ len
             → length (text_of self.now bytes) ≡ result }
         ensures empty { len ≡ 0 → result ≡ 0 }
-        ensures base { IsBase self.now }
+        ensures base { IsSpecified self.now }
     {
         (8 * len).div_ceil(self.width as usize)
     }
@@ -57,16 +58,7 @@ impl Encoding {
         ensures text { output.new ≡ text_of self.now input.now }
         ensures ascii { All (λ byte. byte < 128) output.new }
     {
-        let symbols = &self.symbols;
-        let order = self.order;
-        match self.width {
-            1 => encode_in_order::<1, 1, 8>(symbols, order, input, output),
-            2 => encode_in_order::<2, 1, 4>(symbols, order, input, output),
-            3 => encode_in_order::<3, 3, 8>(symbols, order, input, output),
-            4 => encode_in_order::<4, 1, 2>(symbols, order, input, output),
-            5 => encode_in_order::<5, 5, 8>(symbols, order, input, output),
-            _ => encode_in_order::<6, 3, 4>(symbols, order, input, output),
-        }
+        encode_by_width(&self.symbols, self.width, self.order, input, output);
     }
 
     /// Does what `encode_mut` does, on the same conditions, and hands out the output as text.
@@ -96,24 +88,32 @@ impl Encoding {
     }
 }
 
-// So many zeros.
-pub(crate) fn zeros(alloc: Global, len: usize) -> Result<Vec<u8>, AllocError>
-    ensures items { IfOk result (λ bytes. bytes.items ≡ replicate len 0) }
-    ensures none { len ≡ 0 → IsOk result }
+// With the width as a constant, and the sizes of a group.
+fn encode_by_width(symbols: &[u8; 256], width: u8, order: BitOrder, input: &[u8], output: &mut [u8])
+    requires width { IsWidth width }
+    requires limit { length input.now ≤ ENCODE_LIMIT }
+    requires exact { length output.old ≡ (8 * length input.now + (width - 1)) / width }
+    ensures { (base : Base) → Writes base symbols.now width order
+        → output.new ≡ text_of base input.now }
 {
-    let mut bytes = Vec::with_capacity(alloc, len)?;
-    bytes.resize(len, 0)?;
-    Ok(bytes)
+    match width {
+        1 => encode_in_order::<1, 1, 8>(symbols, order, input, output),
+        2 => encode_in_order::<2, 1, 4>(symbols, order, input, output),
+        3 => encode_in_order::<3, 3, 8>(symbols, order, input, output),
+        4 => encode_in_order::<4, 1, 2>(symbols, order, input, output),
+        5 => encode_in_order::<5, 5, 8>(symbols, order, input, output),
+        _ => encode_in_order::<6, 3, 4>(symbols, order, input, output),
+    }
 }
 
 // With the order as a constant, so that every shift of the loops below is one.
-fn encode_in_order<const WIDTH: usize, const ENC: usize, const DEC: usize>(
+fn encode_in_order<const WIDTH: usize, const BYTES: usize, const SYMBOLS: usize>(
     symbols: &[u8; 256],
     order: BitOrder,
     input: &[u8],
     output: &mut [u8],
 )
-    requires group { IsGroup WIDTH ENC DEC }
+    requires group { IsGroup WIDTH BYTES SYMBOLS }
     requires limit { length input.now ≤ ENCODE_LIMIT }
     requires exact { length output.old ≡ (8 * length input.now + (WIDTH - 1)) / WIDTH }
     ensures { (base : Base) → Writes base symbols.now WIDTH order
@@ -121,10 +121,15 @@ fn encode_in_order<const WIDTH: usize, const ENC: usize, const DEC: usize>(
 {
     match order {
         BitOrder::MostSignificantFirst => {
-            encode_blocks::<WIDTH, ENC, DEC>(symbols, BitOrder::MostSignificantFirst, input, output)
+            encode_by_fours::<WIDTH, BYTES, SYMBOLS>(
+                symbols,
+                BitOrder::MostSignificantFirst,
+                input,
+                output,
+            )
         }
         BitOrder::LeastSignificantFirst => {
-            encode_blocks::<WIDTH, ENC, DEC>(
+            encode_by_fours::<WIDTH, BYTES, SYMBOLS>(
                 symbols,
                 BitOrder::LeastSignificantFirst,
                 input,
@@ -135,32 +140,32 @@ fn encode_in_order<const WIDTH: usize, const ENC: usize, const DEC: usize>(
 }
 
 // Block by block of four groups, so that the loop's own steps cost less, and then what is left.
-fn encode_blocks<const WIDTH: usize, const ENC: usize, const DEC: usize>(
+fn encode_by_fours<const WIDTH: usize, const BYTES: usize, const SYMBOLS: usize>(
     symbols: &[u8; 256],
     order: BitOrder,
     input: &[u8],
     output: &mut [u8],
 )
-    requires group { IsGroup WIDTH ENC DEC }
+    requires group { IsGroup WIDTH BYTES SYMBOLS }
     requires limit { length input.now ≤ ENCODE_LIMIT }
     requires exact { length output.old ≡ (8 * length input.now + (WIDTH - 1)) / WIDTH }
     ensures { (base : Base) → Writes base symbols.now WIDTH order
         → output.new ≡ text_of base input.now }
 {
-    let bytes = 4 * ENC;
-    let places = 4 * DEC;
+    let bytes = 4 * BYTES;
+    let places = 4 * SYMBOLS;
     let count = input.len() / bytes;
     for index in 0..count {
         let read = index * bytes;
         let written = index * places;
-        encode_block::<WIDTH, ENC, DEC>(
+        encode_four_groups::<WIDTH, BYTES, SYMBOLS>(
             symbols,
             order,
             &input[read..read + bytes],
             &mut output[written..written + places],
         );
     }
-    encode_groups::<WIDTH, ENC, DEC>(
+    encode_groups::<WIDTH, BYTES, SYMBOLS>(
         symbols,
         order,
         &input[count * bytes..],
@@ -170,59 +175,59 @@ fn encode_blocks<const WIDTH: usize, const ENC: usize, const DEC: usize>(
 
 // Four whole groups.
 #[inline(always)]
-fn encode_block<const WIDTH: usize, const ENC: usize, const DEC: usize>(
+fn encode_four_groups<const WIDTH: usize, const BYTES: usize, const SYMBOLS: usize>(
     symbols: &[u8; 256],
     order: BitOrder,
     input: &[u8],
     output: &mut [u8],
 )
-    requires group { IsGroup WIDTH ENC DEC }
-    requires bytes { length input.now ≡ 4 * ENC }
-    requires exact { length output.old ≡ 4 * DEC }
+    requires group { IsGroup WIDTH BYTES SYMBOLS }
+    requires bytes { length input.now ≡ 4 * BYTES }
+    requires exact { length output.old ≡ 4 * SYMBOLS }
     ensures { (base : Base) → Writes base symbols.now WIDTH order
         → output.new ≡ plain_text base input.now }
 {
     for index in 0..4 {
-        let read = index * ENC;
-        let written = index * DEC;
-        encode_group::<WIDTH, ENC, DEC>(
+        let read = index * BYTES;
+        let written = index * SYMBOLS;
+        encode_group::<WIDTH, BYTES, SYMBOLS>(
             symbols,
             order,
-            &input[read..read + ENC],
-            &mut output[written..written + DEC],
+            &input[read..read + BYTES],
+            &mut output[written..written + SYMBOLS],
         );
     }
 }
 
 // Group by group, the last perhaps shorter.
 #[inline(never)]
-fn encode_groups<const WIDTH: usize, const ENC: usize, const DEC: usize>(
+fn encode_groups<const WIDTH: usize, const BYTES: usize, const SYMBOLS: usize>(
     symbols: &[u8; 256],
     order: BitOrder,
     input: &[u8],
     output: &mut [u8],
 )
-    requires group { IsGroup WIDTH ENC DEC }
+    requires group { IsGroup WIDTH BYTES SYMBOLS }
     requires limit { length input.now ≤ ENCODE_LIMIT }
     requires exact { length output.old ≡ (8 * length input.now + (WIDTH - 1)) / WIDTH }
     ensures { (base : Base) → Writes base symbols.now WIDTH order
         → output.new ≡ text_of base input.now }
 {
-    let count = input.len() / ENC;
+    let count = input.len() / BYTES;
     for index in 0..count {
-        let read = index * ENC;
-        let written = index * DEC;
-        encode_group::<WIDTH, ENC, DEC>(
+        let read = index * BYTES;
+        let written = index * SYMBOLS;
+        encode_group::<WIDTH, BYTES, SYMBOLS>(
             symbols,
             order,
-            &input[read..read + ENC],
-            &mut output[written..written + DEC],
+            &input[read..read + BYTES],
+            &mut output[written..written + SYMBOLS],
         );
     }
-    encode_group::<WIDTH, ENC, DEC>(
+    encode_group::<WIDTH, BYTES, SYMBOLS>(
         symbols,
         order,
-        &input[count * ENC..],
-        &mut output[count * DEC..],
+        &input[count * BYTES..],
+        &mut output[count * SYMBOLS..],
     );
 }

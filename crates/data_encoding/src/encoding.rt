@@ -1,11 +1,8 @@
 //! Encodings, and the words that describe them.
 
-ghost use Rattle.std.specs.Prelude.{◌≡◌, ◌+◌, ◌≤◌, ◌++◌, length, if◌then◌else◌, unwrap_or, MatchResult};
-ghost use Rattle.arrayvec.specs.ArrayVec.{array_vec_len};
-ghost use Rattle.data_encoding.specs.Base.{group_bytes, ignores_some, is_ignored, is_invalid, meaning};
-ghost use Rattle.data_encoding.specs.Fault.{is_padding, value_of};
-ghost use Rattle.data_encoding.specs.IsBase.{IsBase};
-ghost use Rattle.data_encoding.specs.Layout.{layout, order_flag};
+ghost use Rattle.std.specs.Prelude.{◌≡◌, ◌<◌, ◌≤◌, length, MatchResult};
+ghost use Rattle.data_encoding.specs.Base.{IsWidth, group_bytes, group_symbols, is_ignored, is_invalid, is_padding, meaning, value_of};
+ghost use Rattle.data_encoding.specs.Fields.{IsSpecified};
 
 use arrayvec::ArrayVec;
 use std::alloc::AllocError;
@@ -116,7 +113,7 @@ impl Encoding {
     /// The number of bits of a symbol, from 1 to 6.
     pub fn bit_width(&self) -> usize
         ensures value { result ≡ self.now.width }
-        ensures base { IsBase self.now }
+        ensures base { IsSpecified self.now }
     {
         self.width as usize
     }
@@ -138,43 +135,6 @@ impl Encoding {
             Character::Invalid
         }
     }
-
-    // The bytes that stand for the encoding: its tables, and what else it says.
-    pub(crate) fn layout(&self) -> ArrayVec<u8, 770>
-        ensures { result.items ≡ layout self.now }
-    {
-        let mut bytes = ArrayVec::new();
-        put(&mut bytes, &self.symbols);
-        put(&mut bytes, &self.values);
-        put(&mut bytes, &[padding_entry(self.padding), self.flags()]);
-        if self.column != 0 {
-            put(&mut bytes, &[self.column]);
-            put(&mut bytes, self.separator.as_slice());
-        } else if self.ignores_some() {
-            put(&mut bytes, &[0]);
-        }
-        bytes
-    }
-
-    // The width, and the order and the check in the bits of weight 8 and 16.
-    fn flags(&self) -> u8
-        ensures { result ≡ self.now.width + order_flag self.now.order
-            + (if self.now.checks_trailing_bits then 16 else 0) }
-    {
-        let order = match self.order {
-            BitOrder::MostSignificantFirst => 8,
-            BitOrder::LeastSignificantFirst => 0,
-        };
-        let check = if self.checks_trailing_bits { 16 } else { 0 };
-        self.width + order + check
-    }
-
-    // Whether a byte is ignored.
-    fn ignores_some(&self) -> bool
-        ensures { result ≡ ignores_some self.now }
-    {
-        self.values[..128].contains(&IGNORED)
-    }
 }
 
 // The number of bytes of a whole group.
@@ -191,19 +151,13 @@ pub(crate) fn group_bytes(width: u8) -> u8
     }
 }
 
-// Appends bytes, for which there is room.
-fn put(layout: &mut ArrayVec<u8, 770>, bytes: &[u8])
-    requires { array_vec_len layout.old + length bytes.now ≤ 770 }
-    ensures { layout.new.items ≡ layout.old.items ++ bytes.now }
+// The number of symbols of a whole group.
+pub(crate) fn group_symbols(width: u8) -> u8
+    requires width { IsWidth width }
+    ensures value { result ≡ group_symbols width }
+    ensures some { 0 < result }
 {
-    layout.try_extend_from_slice(bytes).unwrap();
-}
-
-// The padding character, or 128.
-fn padding_entry(padding: Option<u8>) -> u8
-    ensures { result ≡ unwrap_or padding 128 }
-{
-    padding.unwrap_or(INVALID)
+    group_bytes(width) * 8 / width
 }
 
 // A copy takes no memory, and is never refused.

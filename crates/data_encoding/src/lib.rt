@@ -6,17 +6,21 @@
 #![tactic(auto)]
 
 mod bits;
+mod builder;
 mod decode;
-mod definition;
 mod encode;
 mod encoding;
+mod error;
 pub mod laws;
+mod layout;
+mod memory;
 mod predefined;
 mod spec;
 
-pub use decode::{DECODE_LIMIT, DecodeError, DecodeFault, DecodeKind, DecodePartial};
+pub use decode::DECODE_LIMIT;
 pub use encode::ENCODE_LIMIT;
 pub use encoding::{BitOrder, Character, Encoding};
+pub use error::{DecodeError, DecodeFault, DecodeKind, DecodePartial};
 pub use predefined::hexlower;
 pub use spec::{Specification, SpecificationError, Translate, Wrap};
 

@@ -5,7 +5,7 @@ ghost use Rattle.data_encoding.specs.Fields.{base_of};
 ghost use Rattle.data_encoding.specs.Plain.{IsPlain};
 ghost use Rattle.data_encoding.specs.Predefined.{hexlower_fields};
 
-use crate::definition::{Parts, define};
+use crate::builder::{Parts, define};
 use crate::encoding::{BitOrder, Encoding};
 
 /// Hexadecimal with the letters `a` to `f`: RFC 4648, section 8, in lower case.

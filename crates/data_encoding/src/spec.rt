@@ -9,7 +9,7 @@ ghost use Rattle.data_encoding.specs.Layout.{fields_of, ignored_bytes, is_transl
 ghost use Rattle.data_encoding.specs.Printed.{printed_refusal};
 ghost use Rattle.data_encoding.specs.Specification.{specified, no_fields, refusal_of, SameTranslate, SameWrap};
 
-use crate::definition::{Parts, define};
+use crate::builder::{Parts, Refusal, define};
 use crate::encoding::{BitOrder, Encoding, PADDING};
 use std::alloc::{AllocError, Global};
 use std::error::Error;
@@ -58,34 +58,6 @@ pub struct Specification {
 
     /// Bytes that mean what others mean.
     pub translate: Translate,
-}
-
-// Why a specification is refused, with the byte or the number that shows it.
-#[derive(Clone, Copy, Debug, PartialEq, Eq)]
-pub(crate) enum Refusal {
-    // There are not 2, 4, 8, 16, 32 or 64 symbols.
-    BadSize,
-
-    // A character is not ASCII.
-    NotAscii,
-
-    // The byte is given two meanings.
-    Duplicate(u8),
-
-    // There is padding, and no text needs any.
-    ExtraPadding,
-
-    // The width of lines or the length of the separator is over 255.
-    WrapLength,
-
-    // The width of lines is no multiple of this.
-    WrapWidth(u8),
-
-    // The texts of a translation differ in length.
-    FromTo,
-
-    // A byte is translated to this one, which has no meaning.
-    Undefined(u8),
 }
 
 /// Why a specification yields no encoding.
@@ -208,7 +180,7 @@ impl Encoding {
         let mut from = String::new(alloc);
         let mut to = String::new(alloc);
         for byte in 0..128 {
-            if let Some(own) = self.translated(byte) {
+            if let Some(own) = self.translation_of(byte) {
                 push_ascii(&mut from, byte)?;
                 push_ascii(&mut to, own)?;
             }
@@ -217,7 +189,7 @@ impl Encoding {
     }
 
     // The symbol or the padding character that the byte stands for, where it is another byte.
-    fn translated(&self, byte: u8) -> Option<u8>
+    fn translation_of(&self, byte: u8) -> Option<u8>
         ensures some { IfSome result (λ own. own ≡ own_byte self.now byte) }
         ensures ascii { IfSome result (λ own. own < 128) }
         ensures variant { is_some result

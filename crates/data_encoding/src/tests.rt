@@ -3,8 +3,7 @@
 ghost use Rattle.std.specs.Prelude.{IsTrue};
 ghost use Rattle.data_encoding.specs.Plain.{IsPlain};
 
-use crate::definition::{Parts, define};
-use crate::spec::Refusal;
+use crate::builder::{Parts, Refusal, define};
 use crate::{
     BitOrder, DECODE_LIMIT, DecodeError, DecodeFault, DecodeKind, DecodePartial, ENCODE_LIMIT,
     Encoding, hexlower,

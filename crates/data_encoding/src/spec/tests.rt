@@ -2,10 +2,12 @@
 
 mod table;
 
-use crate::decode::{DECODE_LIMIT, DecodeFault, DecodeKind};
+use crate::builder::Refusal;
+use crate::decode::DECODE_LIMIT;
 use crate::encoding::{BitOrder, Character, Encoding};
+use crate::error::{DecodeFault, DecodeKind};
 use crate::laws::specification_again;
-use crate::spec::{Refusal, Specification, SpecificationError};
+use crate::spec::{Specification, SpecificationError};
 use crate::tests::is_served;
 use std::alloc::{AllocError, Global};
 use std::test::Fail;

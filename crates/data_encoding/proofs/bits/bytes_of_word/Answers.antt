@@ -12,7 +12,7 @@ loop-index-preserved g c =
     record {
       so_far = take_more_set c.loop-index.output index _ (omega arith)
           ∙ (λ i. c.loop-index.invariant.so_far i ++ here i ∷ [])
-          ∙ sym (map-range_with_len_more (digit c.args.order 8 g.row.ENC c.args.word) 0 index index
+          ∙ sym (map-range_with_len_more (digit c.args.order 8 g.row.BYTES c.args.word) 0 index index
           (omega arith));
       len = length-set c.loop-index.output index _ ∙ c.loop-index.invariant.len;
     }

@@ -2,7 +2,7 @@ use Rattle.std.proofs.Common.{ℕ, ◌<◌, length, map, slice_index, ◌∙◌}
 use Rattle.std.proofs.lemmas.Bool.{ltb-true, lt-ltb}
 use Rattle.std.specs.List.{range_with_len}
 use Rattle.data_encoding.specs.Words.{digit}
-use Rattle.data_encoding.proofs.KernelLemmas.{bytes_of_group-word, entries_below}
+use Rattle.data_encoding.proofs.digits.KernelLemmas.{bytes_of_group-word, entries_below}
 use Rattle.data_encoding.proofs.bits.decode_group.Goals as goal
 
 pub returns : goal.returns
@@ -19,9 +19,9 @@ returns g c =
           let word = c.word_of_symbols-word.ensures.word
           (entries_below base g.row.WIDTH values input fits low w holds) in
           c.bytes_of_word.ensures
-          ∙ (λ i. map (digit c.args.order 8 g.row.ENC (word i))
+          ∙ (λ i. map (digit c.args.order 8 g.row.BYTES (word i))
           (range_with_len 0 (length c.args.output.now)))
-          ∙ bytes_of_group-word base c.args.order g.row.WIDTH g.row.ENC g.row.DEC
+          ∙ bytes_of_group-word base c.args.order g.row.WIDTH g.row.BYTES g.row.SYMBOLS
           (length c.args.output.now) values input ks c.requires.group c.requires.few
           c.requires.exact fits low w o holds e;
     }

@@ -14,7 +14,7 @@ loop-index-preserved g c =
       so_far = take_more_set c.loop-index.output index _ (omega arith)
           ∙ (λ i. c.loop-index.invariant.so_far i ++ slice_index symbols (here i) ∷ [])
           ∙ sym (map-range_with_len_more
-          (λ k. slice_index symbols (digit c.args.order g.row.WIDTH g.row.DEC c.args.word k))
+          (λ k. slice_index symbols (digit c.args.order g.row.WIDTH g.row.SYMBOLS c.args.word k))
           0 index index (omega arith));
       len = length-set c.loop-index.output index _ ∙ c.loop-index.invariant.len;
     }

@@ -1,12 +1,12 @@
 use Rattle.std.proofs.Common.{◌+◌, ◌*◌, ◌^◌, ◌<◌, take, slice_index, sym, ap, ◌∙◌, arith}
 use Rattle.std.proofs.lemmas.List.{take_more, length-take-le}
 use Rattle.data_encoding.specs.Words.{word_of}
-use Rattle.data_encoding.proofs.WordLemmas.{word_of-nil, word_of-more, term}
+use Rattle.data_encoding.proofs.digits.WordLemmas.{word_of-nil, word_of-more, term}
 use Rattle.data_encoding.proofs.bits.word_of_bytes.Goals as goal
 
 pub loop-index-init : goal.loop-index-init
 loop-index-init g c = record {
-  so_far = sym (word_of-nil c.args.order 8 g.row.ENC);
+  so_far = sym (word_of-nil c.args.order 8 g.row.BYTES);
   small = omega arith;
 }
 
@@ -19,10 +19,10 @@ loop-index-preserved g c =
     let added = term byte c.weight_at.result below (omega arith) in
     record {
       so_far = (λ i. c.loop-index.invariant.so_far i + added.whole i)
-          ∙ ap (λ w. word_of c.args.order 8 g.row.ENC (take index input) + byte * 2 ^ w)
+          ∙ ap (λ w. word_of c.args.order 8 g.row.BYTES (take index input) + byte * 2 ^ w)
           c.weight_at.ensures.weight
-          ∙ sym (word_of-more c.args.order 8 g.row.ENC index (take index input) byte
+          ∙ sym (word_of-more c.args.order 8 g.row.BYTES index (take index input) byte
           (length-take-le index input (omega arith)) (omega arith) below)
-          ∙ ap (word_of c.args.order 8 g.row.ENC) (sym (take_more input index 0 (omega arith)));
+          ∙ ap (word_of c.args.order 8 g.row.BYTES) (sym (take_more input index 0 (omega arith)));
       small = omega (arith, added.small);
     }

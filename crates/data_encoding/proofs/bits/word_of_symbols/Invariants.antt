@@ -6,7 +6,7 @@ abbrev pub invariant-loop-index : goal.invariant-loop-index
 invariant-loop-index g l = record {
   so_far : ((k : ℕ) → k < l.index
       → slice_index l.fn.values (slice_index l.fn.input k) < 2 ^ g.row.WIDTH)
-      → l.word ≡ word_of l.fn.order g.row.WIDTH g.row.DEC
+      → l.word ≡ word_of l.fn.order g.row.WIDTH g.row.SYMBOLS
       (map (slice_index l.fn.values) (take l.index l.fn.input));
   only : l.entries < 128
       → (k : ℕ) → k < l.index → slice_index l.fn.values (slice_index l.fn.input k) < 128;

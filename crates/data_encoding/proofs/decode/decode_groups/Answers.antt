@@ -1,21 +1,20 @@
-use Rattle.std.proofs.Common.{◌≡◌, ℕ, ◌+◌, ◌-◌, ◌*◌, ◌/◌, ◌%◌, ◌<◌, ◌≤◌, true, nat_lt, [], length, take, drop, Some, None, refl, sym, ap, ◌∙◌, subst, arith}
-use Rattle.std.proofs.Common.{length-take-le}
+use Rattle.std.proofs.Common.{◌≡◌, ℕ, ◌+◌, ◌-◌, ◌*◌, ◌/◌, ◌%◌, ◌<◌, ◌≤◌, true, nat_lt, [], length, take, drop, Some, None, refl, sym, ap, ◌∙◌, subst, arith, length-take-le}
 use Rattle.std.proofs.Math.Nat.{zero-mul}
 use Rattle.std.proofs.lemmas.List.{take_all, length-drop}
 use Rattle.std.proofs.lemmas.Bool.Decides.{nat_tests}
 use borrow.Rule.Slice.PartMut.{put_mid}
-use Rattle.data_encoding.specs.Grammar.{Means, placed_from}
-use Rattle.data_encoding.specs.Fault.{bytes_of_group, symbol_fault}
+use Rattle.data_encoding.specs.Grammar.{Means, positioned_from}
+use Rattle.data_encoding.specs.Fault.{bytes_of_group, invalid_symbol_fault}
 use Rattle.data_encoding.specs.Lengths.{is_valid_count}
 use Rattle.data_encoding.specs.Tables.{IsGroup}
-use Rattle.data_encoding.proofs.PartialLemmas.{Means-none}
-use Rattle.data_encoding.proofs.FaultLemmas.{plain_fault-symbol}
-use Rattle.data_encoding.proofs.PlaceLemmas.{IsWhole-group, room-next, room-rest, size-rest, rest-of-bits, group-before, groups-within, short-rest, one-more, whole-group, length-part, length-rest, part-is}
-use Rattle.data_encoding.proofs.WidthLemmas.{IsWidth}
-use Rattle.data_encoding.proofs.StepLemmas.{plain_fault-whole, decoded-next, decoded-stop}
-use Rattle.data_encoding.proofs.EncodeLemmas.{length-put_mid}
-use Rattle.data_encoding.proofs.PlacedLemmas.{length-placed_from}
+use Rattle.data_encoding.proofs.decoding.UnpaddedPartialLemmas.{Means-none}
+use Rattle.data_encoding.proofs.decoding.UnpaddedFaultLemmas.{plain_fault-symbol}
+use Rattle.data_encoding.proofs.lists.PartLemmas.{IsWhole-group, room-next, room-rest, size-rest, rest-of-bits, group-before, groups-within, short-rest, one-more, whole-group, length-part, length-rest, part-is}
+use Rattle.data_encoding.proofs.decoding.UnpaddedStepLemmas.{plain_fault-whole, decoded-next, decoded-stop}
+use Rattle.data_encoding.proofs.text.UnpaddedEncodeLemmas.{length-put_mid}
+use Rattle.data_encoding.proofs.grammar.PositionLemmas.{length-positioned_from}
 use Rattle.data_encoding.proofs.decode.decode_groups.Goals as goal
+use Rattle.data_encoding.specs.Base.{IsWidth}
 
 -- the places of groups that are read, w bits a symbol
 record Fits (n size w enc dec : ℕ) : Type 0 where
@@ -57,28 +56,28 @@ pub loop-index-init : goal.loop-index-init
 loop-index-init g c =
     record {
       means = λ base reads.
-          let whole = IsWhole-group g.row.WIDTH g.row.ENC g.row.DEC c.requires.group in
+          let whole = IsWhole-group g.row.WIDTH g.row.BYTES g.row.SYMBOLS c.requires.group in
           subst (λ n. Means base (take n c.args.input.now)
-          (take (0 * g.row.ENC) c.args.output.now)) (sym (zero-mul g.row.DEC))
-          (subst (λ n. Means base [] (take n c.args.output.now)) (sym (zero-mul g.row.ENC))
+          (take (0 * g.row.BYTES) c.args.output.now)) (sym (zero-mul g.row.SYMBOLS))
+          (subst (λ n. Means base [] (take n c.args.output.now)) (sym (zero-mul g.row.BYTES))
           (Means-none base reads.bare (subst IsWidth (sym reads.width_is) whole.is_width)));
     }
 
 pub slice_bounds-room-end : goal.slice_bounds-room-end
 slice_bounds-room-end g c =
-    let f = fits (length c.args.input.now) (length c.loop-index.output) g.row.WIDTH g.row.ENC
-    g.row.DEC c.requires.group c.requires.valid (c.loop-index.auto.output ∙ c.requires.exact) in
+    let f = fits (length c.args.input.now) (length c.loop-index.output) g.row.WIDTH g.row.BYTES
+    g.row.SYMBOLS c.requires.group c.requires.valid (c.loop-index.auto.output ∙ c.requires.exact) in
     f.next c.loop-index.index c.loop-index-test.true
 
 pub decode_symbols-requires-clause-exact : goal.decode_symbols-requires-clause-exact
 decode_symbols-requires-clause-exact g c =
     let i = c.loop-index.index in
-    let f = fits (length c.args.input.now) (length c.loop-index.output) g.row.WIDTH g.row.ENC
-    g.row.DEC c.requires.group c.requires.valid (c.loop-index.auto.output ∙ c.requires.exact) in
-    length-part (i * g.row.ENC) g.row.ENC c.loop-index.output (f.next i c.loop-index-test.true)
+    let f = fits (length c.args.input.now) (length c.loop-index.output) g.row.WIDTH g.row.BYTES
+    g.row.SYMBOLS c.requires.group c.requires.valid (c.loop-index.auto.output ∙ c.requires.exact) in
+    length-part (i * g.row.BYTES) g.row.BYTES c.loop-index.output (f.next i c.loop-index-test.true)
     ∙ sym (ap (λ n. g.row.WIDTH * n / 8)
-    (length-part (i * g.row.DEC) g.row.DEC c.args.input.now
-    (group-before (length c.args.input.now) g.row.DEC i c.loop-index-test.true))
+    (length-part (i * g.row.SYMBOLS) g.row.SYMBOLS c.args.input.now
+    (group-before (length c.args.input.now) g.row.SYMBOLS i c.loop-index-test.true))
     ∙ f.one)
 
 pub returns-in-Err-clause-stopped : goal.returns-in-Err-clause-stopped
@@ -87,8 +86,8 @@ returns-in-Err-clause-stopped g c base reads =
     let input = c.args.input.now in
     let output = c.loop-index.output in
     let w = g.row.WIDTH in
-    let enc = g.row.ENC in
-    let dec = g.row.DEC in
+    let enc = g.row.BYTES in
+    let dec = g.row.SYMBOLS in
     let f = fits (length input) (length output) w enc dec c.requires.group c.requires.valid
     (c.loop-index.auto.output ∙ c.requires.exact) in
     let within = group-before (length input) dec i c.loop-index-test.true in
@@ -98,16 +97,16 @@ returns-in-Err-clause-stopped g c base reads =
     let len : length group ≡ dec =
     length-take-le dec (drop (i * dec) input)
     (omega (arith, length-drop (i * dec) input, within)) in
-    let faulty : symbol_fault base (placed_from (i * dec) group) ≡ Some c.in-Err.error =
-    subst (λ l. symbol_fault base (placed_from (i * dec) l) ≡ Some c.in-Err.error) same
+    let faulty : invalid_symbol_fault base (positioned_from (i * dec) group) ≡ Some c.in-Err.error =
+    subst (λ l. invalid_symbol_fault base (positioned_from (i * dec) l) ≡ Some c.in-Err.error) same
     (c.in-Err.ensures.fault base reads.holds) in
-    let valid : is_valid_count base.width (length (placed_from (i * dec) group)) ≡ true =
+    let valid : is_valid_count base.width (length (positioned_from (i * dec) group)) ≡ true =
     (λ k. is_valid_count (reads.width_is k)
-    ((length-placed_from (i * dec) group ∙ len) k)) ∙ f.valid_one in
+    ((length-positioned_from (i * dec) group ∙ len) k)) ∙ f.valid_one in
     decoded-stop base c.args.values.now w enc dec c.args.order c.args.check reads c.requires.group
     input output c.decode_symbols.new.output i dec (i * enc + enc - i * enc) within
     (omega (arith, room)) (c.loop-index.invariant.means base reads) c.in-Err.error
-    (plain_fault-symbol base (placed_from (i * dec) group) c.in-Err.error valid faulty) refl
+    (plain_fault-symbol base (positioned_from (i * dec) group) c.in-Err.error valid faulty) refl
     (omega arith) c.requires.valid f.valid_one c.in-Err.ensures.bounds.0
     (subst (λ n. c.in-Err.error.position < i * dec + n) (length-part (i * dec) dec input within)
     c.in-Err.ensures.bounds.1)
@@ -118,8 +117,8 @@ loop-index-preserved g c =
     let input = c.args.input.now in
     let output = c.loop-index.output in
     let w = g.row.WIDTH in
-    let enc = g.row.ENC in
-    let dec = g.row.DEC in
+    let enc = g.row.BYTES in
+    let dec = g.row.SYMBOLS in
     let shown = c.decode_symbols.new.output in
     let f = fits (length input) (length output) w enc dec c.requires.group c.requires.valid
     (c.loop-index.auto.output ∙ c.requires.exact) in
@@ -136,15 +135,15 @@ loop-index-preserved g c =
     ap (λ n. i * enc + n) shown_len ∙ sym (one-more i enc) in
     record {
       means = λ base reads.
-          let none : symbol_fault base (placed_from (i * dec) group) ≡ None =
-          subst (λ l. symbol_fault base (placed_from (i * dec) l) ≡ None) same
+          let none : invalid_symbol_fault base (positioned_from (i * dec) group) ≡ None =
+          subst (λ l. invalid_symbol_fault base (positioned_from (i * dec) l) ≡ None) same
           (c.in_default.ensures.fault base reads.holds) in
-          let is : shown ≡ bytes_of_group base (placed_from (i * dec) group) =
+          let is : shown ≡ bytes_of_group base (positioned_from (i * dec) group) =
           c.in_default.ensures.bytes base reads.width_is reads.order_is reads.holds refl
-          ∙ ap (λ l. bytes_of_group base (placed_from (i * dec) l)) same in
+          ∙ ap (λ l. bytes_of_group base (positioned_from (i * dec) l)) same in
           let sound = plain_fault-whole base c.args.values.now w enc dec c.args.order c.args.check
-          reads c.requires.group (placed_from (i * dec) group)
-          (length-placed_from (i * dec) group ∙ len) none f.valid_one in
+          reads c.requires.group (positioned_from (i * dec) group)
+          (length-positioned_from (i * dec) group ∙ len) none f.valid_one in
           subst (λ n. Means base (take n input)
           (take ((i + 1) * enc) (put_mid (i * enc) (i * enc + enc - i * enc) output shown)))
           (sym (one-more i dec))
@@ -157,37 +156,37 @@ loop-index-preserved g c =
 
 pub slice_bounds-room-count-2 : goal.slice_bounds-room-count-2
 slice_bounds-room-count-2 g c =
-    (fits (length c.args.input.now) (length c.loop-index.output) g.row.WIDTH g.row.ENC
-    g.row.DEC c.requires.group c.requires.valid (c.loop-index.auto.output ∙ c.requires.exact)).past
+    (fits (length c.args.input.now) (length c.loop-index.output) g.row.WIDTH g.row.BYTES
+    g.row.SYMBOLS c.requires.group c.requires.valid (c.loop-index.auto.output ∙ c.requires.exact)).past
 
 pub slice_bounds-room-start-2 : goal.slice_bounds-room-start-2
 slice_bounds-room-start-2 g c =
-    (fits (length c.args.input.now) (length c.loop-index.output) g.row.WIDTH g.row.ENC
-    g.row.DEC c.requires.group c.requires.valid (c.loop-index.auto.output ∙ c.requires.exact)).past
+    (fits (length c.args.input.now) (length c.loop-index.output) g.row.WIDTH g.row.BYTES
+    g.row.SYMBOLS c.requires.group c.requires.valid (c.loop-index.auto.output ∙ c.requires.exact)).past
 
 pub decode_last-requires-clause-valid : goal.decode_last-requires-clause-valid
 decode_last-requires-clause-valid g c =
     ap (is_valid_count g.row.WIDTH)
-    (length-rest (length c.args.input.now / g.row.DEC * g.row.DEC) c.args.input.now)
-    ∙ (fits (length c.args.input.now) (length c.loop-index.output) g.row.WIDTH g.row.ENC
-    g.row.DEC c.requires.group c.requires.valid
+    (length-rest (length c.args.input.now / g.row.SYMBOLS * g.row.SYMBOLS) c.args.input.now)
+    ∙ (fits (length c.args.input.now) (length c.loop-index.output) g.row.WIDTH g.row.BYTES
+    g.row.SYMBOLS c.requires.group c.requires.valid
     (c.loop-index.auto.output ∙ c.requires.exact)).valid_rest
 
 pub decode_last-requires-clause-exact : goal.decode_last-requires-clause-exact
 decode_last-requires-clause-exact g c =
-    let count = length c.args.input.now / g.row.DEC in
-    length-rest (count * g.row.ENC) c.loop-index.output
-    ∙ (fits (length c.args.input.now) (length c.loop-index.output) g.row.WIDTH g.row.ENC
-    g.row.DEC c.requires.group c.requires.valid (c.loop-index.auto.output ∙ c.requires.exact)).rest
-    ∙ ap (λ n. g.row.WIDTH * n / 8) (sym (length-rest (count * g.row.DEC) c.args.input.now))
+    let count = length c.args.input.now / g.row.SYMBOLS in
+    length-rest (count * g.row.BYTES) c.loop-index.output
+    ∙ (fits (length c.args.input.now) (length c.loop-index.output) g.row.WIDTH g.row.BYTES
+    g.row.SYMBOLS c.requires.group c.requires.valid (c.loop-index.auto.output ∙ c.requires.exact)).rest
+    ∙ ap (λ n. g.row.WIDTH * n / 8) (sym (length-rest (count * g.row.SYMBOLS) c.args.input.now))
 
 pub returns-in-Ok-clause-decoded : goal.returns-in-Ok-clause-decoded
 returns-in-Ok-clause-decoded g c base reads _ =
     let input = c.args.input.now in
     let output = c.loop-index.output in
     let w = g.row.WIDTH in
-    let enc = g.row.ENC in
-    let dec = g.row.DEC in
+    let enc = g.row.BYTES in
+    let dec = g.row.SYMBOLS in
     let i = length input / dec in
     let rest = length input - i * dec in
     let room = length output - i * enc in
@@ -220,8 +219,8 @@ returns-in-Err-decode_last-clause-stopped g c base reads =
     let input = c.args.input.now in
     let output = c.loop-index.output in
     let w = g.row.WIDTH in
-    let enc = g.row.ENC in
-    let dec = g.row.DEC in
+    let enc = g.row.BYTES in
+    let dec = g.row.SYMBOLS in
     let i = length input / dec in
     let rest = length input - i * dec in
     let room = length output - i * enc in

@@ -7,5 +7,5 @@ use Rattle.data_encoding.proofs.decode.decode_groups.Given as goal
 abbrev pub invariant-loop-index : goal.invariant-loop-index
 invariant-loop-index g l = record {
   means : (base : Base) → Reads base l.values g.row.WIDTH l.order l.check
-      → Means base (take (l.index * g.row.DEC) l.input) (take (l.index * g.row.ENC) l.output);
+      → Means base (take (l.index * g.row.SYMBOLS) l.input) (take (l.index * g.row.BYTES) l.output);
 }

@@ -1,12 +1,12 @@
 use Rattle.std.proofs.Common.{◌<◌, ◌≤◌, length, refl, arith, ⊎_elim}
 use Rattle.std.proofs.lemmas.Bool.{cases_lt, false≢true}
-use Rattle.data_encoding.specs.Grammar.{placed_from}
-use Rattle.data_encoding.proofs.LastLemmas.{bytes-placed_from, symbol_fault-none, symbol_fault-some}
+use Rattle.data_encoding.specs.Grammar.{positioned_from}
+use Rattle.data_encoding.proofs.decoding.TrailingBitLemmas.{bytes-positioned_from, invalid_symbol_fault-none, invalid_symbol_fault-some}
 use Rattle.data_encoding.proofs.decode.decode_symbols.Goals as goal
 
 pub returns-then-decode_group-clause-fault : goal.returns-then-decode_group-clause-fault
 returns-then-decode_group-clause-fault g c base holds =
-    symbol_fault-none base c.args.values.now holds c.args.place c.args.group.now (record {
+    invalid_symbol_fault-none base c.args.values.now holds c.args.position c.args.group.now (record {
       are_bytes = λ k. (c.type_inv.group k).fits;
       before = c.if-decode_group.ensures.symbols.0 refl;
       inside = omega arith;
@@ -15,8 +15,8 @@ returns-then-decode_group-clause-fault g c base holds =
 
 pub returns-then-decode_group-clause-bytes : goal.returns-then-decode_group-clause-bytes
 returns-then-decode_group-clause-bytes g c base w o holds _ =
-    c.if-decode_group.ensures.bytes base (placed_from c.args.place c.args.group.now) w o holds
-    (bytes-placed_from c.args.place c.args.group.now) refl
+    c.if-decode_group.ensures.bytes base (positioned_from c.args.position c.args.group.now) w o holds
+    (bytes-positioned_from c.args.position c.args.group.now) refl
 
 pub returns-clause-fault : goal.returns-clause-fault
 returns-clause-fault g c base holds =
@@ -28,7 +28,7 @@ returns-clause-fault g c base holds =
     absurd (false≢true (c.if-decode_group.ensures.symbols.1
     (λ k below. c.symbol_position.ensures.before k (omega (arith, past, below))))))
     (cases_lt found (length c.args.group.now)) in
-    symbol_fault-some base c.args.values.now holds c.args.place c.args.group.now found (record {
+    invalid_symbol_fault-some base c.args.values.now holds c.args.position c.args.group.now found (record {
       are_bytes = λ k. (c.type_inv.group k).fits;
       before = c.symbol_position.ensures.before;
       inside = c.symbol_position.ensures.inside;

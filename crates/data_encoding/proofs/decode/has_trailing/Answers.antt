@@ -1,6 +1,6 @@
 use Rattle.std.proofs.Common.{◌*◌, ◌%◌, ◌==◌, not, length, slice_index, ap, ◌∙◌, arith}
 use Rattle.std.proofs.lemmas.Nat.{one_shl, mul-le}
-use Rattle.data_encoding.proofs.LastLemmas.{some_trailing-most, some_trailing-least}
+use Rattle.data_encoding.proofs.decoding.TrailingBitLemmas.{some_trailing-most, some_trailing-least}
 use Rattle.data_encoding.proofs.decode.has_trailing.Goals as goal
 
 pub overflow_mul-trailing : goal.overflow_mul-trailing

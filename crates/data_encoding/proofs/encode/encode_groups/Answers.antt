@@ -2,9 +2,9 @@ use Rattle.std.proofs.Common.{◌≡◌, ℕ, ◌+◌, ◌-◌, ◌*◌, ◌/◌
 use borrow.Rule.Slice.PartMut.{put_mid}
 use Rattle.data_encoding.specs.Text.{plain_text}
 use Rattle.data_encoding.specs.Tables.{IsGroup}
-use Rattle.data_encoding.proofs.EncodeLemmas.{encoded-none, encoded-next, encoded-last}
-use Rattle.data_encoding.proofs.PlaceLemmas.{IsWhole-group, room-next, room-rest, size-rest, group-before, groups-within, one-more, whole-group, length-part, length-rest, part-is}
-use Rattle.data_encoding.proofs.TextLemmas.{text_of-bare}
+use Rattle.data_encoding.proofs.text.UnpaddedEncodeLemmas.{encoded-none, encoded-next, encoded-last}
+use Rattle.data_encoding.proofs.lists.PartLemmas.{IsWhole-group, room-next, room-rest, size-rest, group-before, groups-within, one-more, whole-group, length-part, length-rest, part-is}
+use Rattle.data_encoding.proofs.text.UnpaddedTextLemmas.{text_of-bare}
 use Rattle.data_encoding.proofs.encode.encode_groups.Goals as goal
 
 -- the places of groups that are written, W bits a symbol
@@ -33,28 +33,28 @@ fits n size w enc dec g e =
 
 pub loop-index-init : goal.loop-index-init
 loop-index-init g c =
-    let whole = IsWhole-group g.row.WIDTH g.row.ENC g.row.DEC c.requires.group in
+    let whole = IsWhole-group g.row.WIDTH g.row.BYTES g.row.SYMBOLS c.requires.group in
     record {
       written = λ base writes.
-          encoded-none base g.row.WIDTH g.row.ENC g.row.DEC whole writes.width_is c.args.input.now
+          encoded-none base g.row.WIDTH g.row.BYTES g.row.SYMBOLS whole writes.width_is c.args.input.now
           c.args.output.now;
     }
 
 pub slice_bounds-encode_group-end-in-loop-index : goal.slice_bounds-encode_group-end-in-loop-index
 slice_bounds-encode_group-end-in-loop-index g c =
-    let f = fits (length c.args.input.now) (length c.loop-index.output) g.row.WIDTH g.row.ENC
-    g.row.DEC c.requires.group (c.loop-index.auto.output ∙ c.requires.exact) in
+    let f = fits (length c.args.input.now) (length c.loop-index.output) g.row.WIDTH g.row.BYTES
+    g.row.SYMBOLS c.requires.group (c.loop-index.auto.output ∙ c.requires.exact) in
     f.next c.loop-index.index c.loop-index-test.true
 
 pub encode_group-requires-clause-exact : goal.encode_group-requires-clause-exact
 encode_group-requires-clause-exact g c =
     let i = c.loop-index.index in
-    let f = fits (length c.args.input.now) (length c.loop-index.output) g.row.WIDTH g.row.ENC
-    g.row.DEC c.requires.group (c.loop-index.auto.output ∙ c.requires.exact) in
-    length-part (i * g.row.DEC) g.row.DEC c.loop-index.output (f.next i c.loop-index-test.true)
+    let f = fits (length c.args.input.now) (length c.loop-index.output) g.row.WIDTH g.row.BYTES
+    g.row.SYMBOLS c.requires.group (c.loop-index.auto.output ∙ c.requires.exact) in
+    length-part (i * g.row.SYMBOLS) g.row.SYMBOLS c.loop-index.output (f.next i c.loop-index-test.true)
     ∙ sym (ap (λ n. (8 * n + (g.row.WIDTH - 1)) / g.row.WIDTH)
-    (length-part (i * g.row.ENC) g.row.ENC c.args.input.now
-    (group-before (length c.args.input.now) g.row.ENC i c.loop-index-test.true))
+    (length-part (i * g.row.BYTES) g.row.BYTES c.args.input.now
+    (group-before (length c.args.input.now) g.row.BYTES i c.loop-index-test.true))
     ∙ f.one)
 
 pub loop-index-preserved : goal.loop-index-preserved
@@ -62,8 +62,8 @@ loop-index-preserved g c =
     let i = c.loop-index.index in
     let input = c.args.input.now in
     let output = c.loop-index.output in
-    let enc = g.row.ENC in
-    let dec = g.row.DEC in
+    let enc = g.row.BYTES in
+    let dec = g.row.SYMBOLS in
     let shown = c.encode_group.new.output in
     let whole = IsWhole-group g.row.WIDTH enc dec c.requires.group in
     let f = fits (length input) (length output) g.row.WIDTH enc dec c.requires.group
@@ -86,29 +86,29 @@ loop-index-preserved g c =
 
 pub slice_bounds-encode_group-count-3 : goal.slice_bounds-encode_group-count-3
 slice_bounds-encode_group-count-3 g c =
-    (fits (length c.args.input.now) (length c.loop-index.output) g.row.WIDTH g.row.ENC
-    g.row.DEC c.requires.group (c.loop-index.auto.output ∙ c.requires.exact)).past
+    (fits (length c.args.input.now) (length c.loop-index.output) g.row.WIDTH g.row.BYTES
+    g.row.SYMBOLS c.requires.group (c.loop-index.auto.output ∙ c.requires.exact)).past
 
 pub slice_bounds-encode_group-start-3 : goal.slice_bounds-encode_group-start-3
 slice_bounds-encode_group-start-3 g c =
-    (fits (length c.args.input.now) (length c.loop-index.output) g.row.WIDTH g.row.ENC
-    g.row.DEC c.requires.group (c.loop-index.auto.output ∙ c.requires.exact)).past
+    (fits (length c.args.input.now) (length c.loop-index.output) g.row.WIDTH g.row.BYTES
+    g.row.SYMBOLS c.requires.group (c.loop-index.auto.output ∙ c.requires.exact)).past
 
 pub encode_group-requires-2-clause-exact : goal.encode_group-requires-2-clause-exact
 encode_group-requires-2-clause-exact g c =
-    let count = length c.args.input.now / g.row.ENC in
-    length-rest (count * g.row.DEC) c.loop-index.output
-    ∙ (fits (length c.args.input.now) (length c.loop-index.output) g.row.WIDTH g.row.ENC
-    g.row.DEC c.requires.group (c.loop-index.auto.output ∙ c.requires.exact)).rest
+    let count = length c.args.input.now / g.row.BYTES in
+    length-rest (count * g.row.SYMBOLS) c.loop-index.output
+    ∙ (fits (length c.args.input.now) (length c.loop-index.output) g.row.WIDTH g.row.BYTES
+    g.row.SYMBOLS c.requires.group (c.loop-index.auto.output ∙ c.requires.exact)).rest
     ∙ ap (λ n. (8 * n + (g.row.WIDTH - 1)) / g.row.WIDTH)
-    (sym (length-rest (count * g.row.ENC) c.args.input.now))
+    (sym (length-rest (count * g.row.BYTES) c.args.input.now))
 
 pub returns : goal.returns
 returns g c base writes =
     let input = c.args.input.now in
     let output = c.loop-index.output in
-    let enc = g.row.ENC in
-    let dec = g.row.DEC in
+    let enc = g.row.BYTES in
+    let dec = g.row.SYMBOLS in
     let i = length input / enc in
     let shown = c.encode_group-2.new.output in
     let whole = IsWhole-group g.row.WIDTH enc dec c.requires.group in

@@ -1,7 +1,7 @@
 use Rattle.std.proofs.Common.{refl, sym, ap, ◌∙◌}
 use Rattle.data_encoding.specs.Fields.{base_of}
 use Rattle.data_encoding.specs.Predefined.{hexlower_fields}
-use Rattle.data_encoding.proofs.PlainLemmas.{IsPlain-yield}
+use Rattle.data_encoding.proofs.grammar.PlainLemmas.{IsPlain-yield}
 use Rattle.data_encoding.proofs.predefined.hexlower.Goals as goal
 
 pub returns : goal.returns

@@ -1,6 +1,5 @@
 use Rattle.std.proofs.Common.{◌≡◌, ℕ, ◌<◌, false}
-use Rattle.data_encoding.specs.Base.{meaning, is_ignored}
-use Rattle.data_encoding.specs.Fault.{is_padding}
+use Rattle.data_encoding.specs.Base.{meaning, is_ignored, is_padding}
 use Rattle.data_encoding.proofs.tests.is_served.Given as goal
 
 abbrev pub invariant-loop-byte : goal.invariant-loop-byte

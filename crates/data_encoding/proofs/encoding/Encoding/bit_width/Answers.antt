@@ -1,4 +1,4 @@
-use Rattle.data_encoding.proofs.KeepLemmas.{is_base_of}
+use Rattle.data_encoding.proofs.tables.TableRuleLemmas.{is_base_of}
 use Rattle.data_encoding.proofs.encoding.Encoding.bit_width.Goals as goal
 
 pub returns-clause-base : goal.returns-clause-base

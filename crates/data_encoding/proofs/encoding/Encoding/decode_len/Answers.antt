@@ -3,10 +3,10 @@ use Rattle.data_encoding.specs.Encoding.{base_of_tables}
 use Rattle.data_encoding.specs.Grammar.{Means}
 use Rattle.data_encoding.specs.Lengths.{decoded_len}
 use Rattle.data_encoding.specs.Plain.{IsPlain}
-use Rattle.data_encoding.proofs.FaultLemmas.{decoded_len-Means}
-use Rattle.data_encoding.proofs.KeepLemmas.{IsWidth-tables, is_base_of}
-use Rattle.data_encoding.proofs.LengthLemmas.{decoded_len-valid, decoded_len-invalid, symbols_fault}
-use Rattle.data_encoding.proofs.TableLemmas.{IsBare-tables}
+use Rattle.data_encoding.proofs.decoding.UnpaddedFaultLemmas.{decoded_len-Means}
+use Rattle.data_encoding.proofs.tables.TableRuleLemmas.{IsWidth-tables, is_base_of}
+use Rattle.data_encoding.proofs.grammar.UnpaddedLengthLemmas.{decoded_len-valid, decoded_len-invalid, count_fault}
+use Rattle.data_encoding.proofs.tables.TableLemmas.{IsBare-tables}
 use Rattle.data_encoding.proofs.encoding.Encoding.decode_len.Goals as goal
 
 pub returns-then-trailing-width-clause-value : goal.returns-then-trailing-width-clause-value
@@ -14,7 +14,7 @@ returns-then-trailing-width-clause-value c =
     let e = c.self.inside in
     let bare = IsBare-tables e c.self.invariant
     (subst IsPlain (sym c.self.view_is) c.requires.plain) in
-    subst (λ base. Err (symbols_fault e.width c.args.len) ≡ decoded_len base c.args.len)
+    subst (λ base. Err (count_fault e.width c.args.len) ≡ decoded_len base c.args.len)
     c.self.view_is
     (sym (decoded_len-invalid (base_of_tables e) c.args.len bare.unpadded bare.ignores_none
     (omega arith)))

@@ -3,10 +3,10 @@ use Rattle.std.proofs.lemmas.Bool.Decides.{nat_tests}
 use Rattle.std.proofs.lemmas.List.{take_all}
 use Rattle.data_encoding.specs.Grammar.{Means}
 use Rattle.data_encoding.specs.Partial.{StopsAt}
-use Rattle.data_encoding.proofs.FaultLemmas.{no_fault-Means, not_both}
-use Rattle.data_encoding.proofs.LengthLemmas.{counted-tables}
-use Rattle.data_encoding.proofs.PartialLemmas.{fault-partial, most-partial}
-use Rattle.data_encoding.proofs.TableLemmas.{IsBare-seen, IsWidth-seen, Reads-tables}
+use Rattle.data_encoding.proofs.decoding.UnpaddedFaultLemmas.{no_fault-Means, not_both}
+use Rattle.data_encoding.proofs.grammar.UnpaddedLengthLemmas.{counted-tables}
+use Rattle.data_encoding.proofs.decoding.UnpaddedPartialLemmas.{fault-partial, most-partial}
+use Rattle.data_encoding.proofs.tables.TableLemmas.{IsBare-seen, IsWidth-seen, Reads-tables}
 use Rattle.data_encoding.proofs.encoding.Encoding.decode_mut.Goals as goal
 
 pub decode_by_width-requires-clause-valid : goal.decode_by_width-requires-clause-valid

@@ -1,9 +1,9 @@
 use Rattle.std.proofs.Common.{◌*◌, sym, ap, ◌∙◌}
 use Rattle.std.specs.Int.{div_ceil}
-use Rattle.data_encoding.proofs.KeepLemmas.{is_base_of}
-use Rattle.data_encoding.proofs.RunsLemmas.{run_count}
-use Rattle.data_encoding.proofs.TableLemmas.{IsBare-seen, IsWidth-seen}
-use Rattle.data_encoding.proofs.TextLemmas.{length-text_of, run_count-ceil}
+use Rattle.data_encoding.proofs.tables.TableRuleLemmas.{is_base_of}
+use Rattle.data_encoding.proofs.lists.RunLemmas.{run_count}
+use Rattle.data_encoding.proofs.tables.TableLemmas.{IsBare-seen, IsWidth-seen}
+use Rattle.data_encoding.proofs.text.UnpaddedTextLemmas.{length-text_of, run_count-ceil}
 use Rattle.data_encoding.proofs.encoding.Encoding.encode_len.Goals as goal
 
 pub returns-clause-length : goal.returns-clause-length

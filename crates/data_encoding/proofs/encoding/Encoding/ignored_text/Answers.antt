@@ -2,7 +2,7 @@ use Rattle.std.proofs.Common.{◌≡◌, ◌++◌, ◌∷◌, [], ℕ, sym, ap, 
 use Rattle.std.specs.List.{filter, range_with_len}
 use Rattle.std.specs.String.{string_bytes}
 use Rattle.data_encoding.specs.Base.{is_ignored, meaning}
-use Rattle.data_encoding.proofs.TranslationLemmas.{filter-fails, filter-passes}
+use Rattle.data_encoding.proofs.specification.TranslationLemmas.{filter-fails, filter-passes}
 use Rattle.data_encoding.proofs.encoding.Encoding.ignored_text.Goals as goal
 use Rattle.data_encoding.proofs.encoding.Encoding.ignored_text.Goals.{then-is_ignored+in_ok-push_ascii, else-is_ignored}
 

@@ -1,5 +1,5 @@
 use Rattle.std.proofs.Common.{take, ◌∙◌}
-use Rattle.data_encoding.proofs.TableLayout.{any-ignored}
+use Rattle.data_encoding.proofs.tables.LayoutLemmas.{any-ignored}
 use Rattle.data_encoding.proofs.encoding.Encoding.ignores_some.Goals as goal
 
 pub returns : goal.returns

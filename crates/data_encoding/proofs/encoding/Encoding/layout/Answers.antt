@@ -1,5 +1,5 @@
 use Rattle.std.proofs.Common.{◌++◌, ◌∷◌, [], false, true, append_assoc, append-nil, sym, ◌∙◌}
-use Rattle.data_encoding.proofs.TableLayout.{layout-joined, lines-tail, no_lines-tail}
+use Rattle.data_encoding.proofs.tables.LayoutLemmas.{layout-joined, lines-tail, no_lines-tail}
 use Rattle.data_encoding.proofs.encoding.Encoding.layout.Goals as goal
 
 pub returns-then-self-ne0 : goal.returns-then-self-ne0

@@ -1,5 +1,5 @@
 use Rattle.std.proofs.Common.{arith}
-use Rattle.data_encoding.proofs.TranslationLemmas.{own-ascii, own-none, own-padding, own-symbol}
+use Rattle.data_encoding.proofs.specification.TranslationLemmas.{own-ascii, own-none, own-padding, own-symbol}
 use Rattle.data_encoding.proofs.encoding.Encoding.own_character.Goals as goal
 
 pub returns-then-entry-lt64-clause-value : goal.returns-then-entry-lt64-clause-value

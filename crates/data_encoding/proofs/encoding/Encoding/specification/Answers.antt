@@ -2,8 +2,8 @@ use Rattle.std.proofs.Common.{map, take, ap, sym, ◌∙◌, refl}
 use Rattle.data_encoding.specs.declared.spec.Specification.{Specification}
 use Rattle.data_encoding.specs.Base.{Base}
 use Rattle.data_encoding.specs.Layout.{ignored_bytes, own_byte, translated_bytes}
-use Rattle.data_encoding.proofs.DescriptionLemmas.{specified-is}
-use Rattle.data_encoding.proofs.KeepLemmas.{separator-ascii}
+use Rattle.data_encoding.proofs.specification.FieldLemmas.{specified-is}
+use Rattle.data_encoding.proofs.tables.TableRuleLemmas.{separator-ascii}
 use Rattle.data_encoding.proofs.encoding.Encoding.specification.Goals as goal
 
 pub ascii_text-requires-2 : goal.ascii_text-requires-2

@@ -1,7 +1,7 @@
 use Rattle.std.proofs.Common.{◌≡◌, ◌++◌, ◌∷◌, [], map, sym, ap, ◌∙◌, arith}
 use Rattle.std.specs.String.{string_bytes}
 use Rattle.data_encoding.specs.Layout.{own_byte}
-use Rattle.data_encoding.proofs.TranslationLemmas.{filter-fails, filter-passes, is_translated_byte, own-more, translated_below}
+use Rattle.data_encoding.proofs.specification.TranslationLemmas.{filter-fails, filter-passes, is_translated_byte, own-more, translated_below}
 use Rattle.data_encoding.proofs.encoding.Encoding.translations.Goals as goal
 use Rattle.data_encoding.proofs.encoding.Encoding.translations.Goals.{in-Some+in_ok-push_ascii+in_ok-push_ascii-2, in_default}
 
@@ -9,7 +9,7 @@ pub loop-byte-preserved : goal.loop-byte-preserved
 loop-byte-preserved c =
     let base = c.args.self.now in
     let n = c.loop-byte.byte in
-    elim c.match-translated.branch [
+    elim c.match-translation_of.branch [
       | in-Some+in_ok-push_ascii+in_ok-push_ascii-2 w ↦
           let is = sym w.in-Some.ensures.variant in (
             ap string_bytes w.from-is ∙ w.in_ok-push_ascii.ensures

@@ -1,0 +1,5 @@
+-- Faults, and how far a text is decoded.
+pub mod UnpaddedFaultLemmas
+pub mod UnpaddedPartialLemmas
+pub mod UnpaddedStepLemmas
+pub mod TrailingBitLemmas

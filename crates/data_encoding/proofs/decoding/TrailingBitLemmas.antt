@@ -1,0 +1,304 @@
+-- Groups of bytes as positioned characters: the first that is no symbol, and the bits that are left.
+use Rattle.std.proofs.Common.{◌≡◌, ℕ, zero, suc, ◌+◌, ◌-◌, ◌*◌, ◌/◌, ◌%◌, ◌^◌, ◌<◌, ◌≤◌, ◌==◌, Bool, true, false, not, cond, ◌&&◌, ◌||◌, nat_lt, List, [], ◌∷◌, ◌++◌, length, map, take, drop, reverse, slice_index, Some, None, refl, sym, ap, ◌∙◌, subst, arith, length-append}
+use Rattle.std.proofs.lemmas.Bool.Decides.{nat_tests}
+use Rattle.std.proofs.lemmas.List.{length-map, length-reverse, reverse-append, map-append, append-nil, drop_at, take_more, take_all}
+use Rattle.std.proofs.lemmas.List.Concat.{flat_map-append}
+use Rattle.std.proofs.lemmas.List.Folds.{list_any-append}
+use Rattle.std.proofs.lemmas.Nat.{div-add-mod', pow-add, pow_pos}
+use Rattle.std.proofs.lemmas.Option.{get_or_from_slice_get}
+use Rattle.std.proofs.Math.Nat.{div-lt_iff_lt-mul, mod-lt, mul-add, mul_comm}
+use Rattle.std.proofs.Math.Seq.{drop-append-add}
+use Rattle.std.specs.Prelude.{flat_map, slice_get}
+use Rattle.std.specs.List.{list_any, position, prefix_len}
+use Rattle.data_encoding.specs.declared.error.DecodeError.{DecodeError}
+use Rattle.data_encoding.specs.declared.error.DecodeKind.TheVariants.{Symbol as SymbolFault, Trailing as TrailingFault}
+use Rattle.data_encoding.specs.declared.encoding.BitOrder.{BitOrder}
+use Rattle.data_encoding.specs.declared.encoding.BitOrder.TheVariants.{MostSignificantFirst, LeastSignificantFirst}
+use Rattle.data_encoding.specs.Base.{Base, meaning, is_symbol}
+use Rattle.data_encoding.specs.Bits.{bits_of, low_bits, number_of_low_bits}
+use Rattle.data_encoding.specs.Grammar.{Positioned, positioned_from}
+use Rattle.data_encoding.specs.Lengths.{is_valid_count}
+use Rattle.data_encoding.specs.Tables.{HoldsValues}
+use Rattle.data_encoding.specs.Fault.{position_of, fault_at, fault_at_first, invalid_symbol_fault, plain_fault, trailing_bits}
+use Rattle.data_encoding.proofs.digits.BitLemmas.{length-low_bits, low_bits-add, low_bits-mod, number-low_bits}
+use Rattle.data_encoding.proofs.decoding.UnpaddedFaultLemmas.{plain_fault-symbol, plain_fault-symbols}
+use Rattle.data_encoding.proofs.grammar.UnpaddedGroupLemmas.{length-bits_of_values}
+use Rattle.data_encoding.proofs.digits.KernelLemmas.{values_in-table, entries_below}
+
+-- the characters of a group are its bytes, each at its place
+pub bytes-positioned_from : (place : ℕ) (group : List ℕ)
+    → map (λ (k : Positioned). k.byte) (positioned_from place group) ≡ group
+bytes-positioned_from place [] = refl
+bytes-positioned_from place (byte ∷ group) = ap (λ l. byte ∷ l) (bytes-positioned_from (place + 1) group)
+
+pub length-by_bytes : (ks : List Positioned) (group : List ℕ) → map (λ (k : Positioned). k.byte) ks ≡ group
+    → length ks ≡ length group
+length-by_bytes ks group h = sym (length-map ks (λ (k : Positioned). k.byte)) ∙ ap length h
+
+pub position_of-positioned_from : (place : ℕ) (group : List ℕ) (index : ℕ) → index < length group
+    → position_of (positioned_from place group) index ≡ place + index
+position_of-positioned_from place [] index h = absurd (omega (arith, h))
+position_of-positioned_from place (byte ∷ group) zero h = omega arith
+position_of-positioned_from place (byte ∷ group) (suc index) h =
+    position_of-positioned_from (place + 1) group index (omega (arith, h)) ∙ omega arith
+
+-- a fault that is found stands, whatever would be judged next
+module _ (base : Base) (values : List ℕ) (holds : HoldsValues base values) where
+  -- So many bytes are symbols, and the next, if there is one, is none.
+  pub record StopsAfter (group : List ℕ) (index : ℕ) : Type 0 where
+    pub are_bytes : (k : ℕ) → slice_index group k < 256
+    pub before : (k : ℕ) → k < index → slice_index values (slice_index group k) < 128
+    pub inside : index ≤ length group
+    pub there : index < length group → 128 ≤ slice_index values (slice_index group index)
+
+  symbols_len : (place : ℕ) (group : List ℕ) (index : ℕ) → StopsAfter group index
+      → prefix_len (λ (k : Positioned). not (not (is_symbol (meaning base k.byte))))
+      (positioned_from place group)
+      ≡ index
+  symbols_len place [] index s = omega (arith, s.inside)
+  symbols_len place (byte ∷ group) zero s =
+      let rest = prefix_len (λ (k : Positioned). not (not (is_symbol (meaning base k.byte))))
+      (positioned_from (place + 1) group) in
+      ap (λ b. cond (not (not b)) (1 + rest) 0)
+      (holds.others byte (s.are_bytes 0) (s.there (omega arith)))
+  symbols_len place (byte ∷ group) (suc index) s =
+      let rest = prefix_len (λ (k : Positioned). not (not (is_symbol (meaning base k.byte))))
+      (positioned_from (place + 1) group) in
+      let others : rest ≡ index = symbols_len (place + 1) group index (record {
+        are_bytes = λ k. s.are_bytes (suc k);
+        before = λ k h. s.before (suc k) (omega (arith, h));
+        inside = omega (arith, s.inside);
+        there = λ h. s.there (omega (arith, h));
+      }) in
+      ap (λ m. cond (not (not (is_symbol m))) (1 + rest) 0)
+      (holds.symbols byte (s.are_bytes 0) (s.before 0 (omega arith)))
+      ∙ ap (λ n. 1 + n) others ∙ omega arith
+
+  module _ (place : ℕ) (group : List ℕ) where
+    position_is : (index : ℕ) → StopsAfter group index
+        → position (λ k. not (is_symbol (meaning base k.byte))) (positioned_from place group)
+        ≡ cond (nat_lt index (length group)) (Some index) None
+    position_is index s = λ i.
+        cond
+        (nat_lt (symbols_len place group index s i)
+        (length-by_bytes (positioned_from place group) group (bytes-positioned_from place group) i))
+        (Some (symbols_len place group index s i)) None
+
+    -- where each byte is a symbol there is no fault
+    pub invalid_symbol_fault-none : StopsAfter group (length group)
+        → invalid_symbol_fault base (positioned_from place group) ≡ None
+    invalid_symbol_fault-none s =
+        let past : nat_lt (length group) (length group) ≡ false = grind (arith, nat_tests) in
+        ap (λ o. fault_at_first o (positioned_from place group) None)
+        (position_is (length group) s ∙ ap (λ b. cond b (Some (length group)) None) past)
+
+    -- or else it is at the first that is none
+    pub invalid_symbol_fault-some : (index : ℕ) → StopsAfter group index → index < length group
+        → invalid_symbol_fault base (positioned_from place group)
+        ≡ Some (record { position = place + index; kind = SymbolFault })
+    invalid_symbol_fault-some index s h =
+        let here : nat_lt index (length group) ≡ true = grind (arith, nat_tests) in
+        ap (λ o. fault_at_first o (positioned_from place group) None)
+        (position_is index s ∙ ap (λ b. cond b (Some index) None) here)
+        ∙ ap (λ n. Some (record { position = n; kind = SymbolFault }))
+        (position_of-positioned_from place group index h)
+
+-- whether some bit is not zero
+abbrev some_bit : List ℕ → Bool
+some_bit bits = list_any (λ bit. not (bit == 0)) bits
+
+some_bit-number : (bits : List ℕ) → some_bit bits ≡ not (number_of_low_bits bits == 0)
+some_bit-number [] = refl
+some_bit-number (bit ∷ bits) =
+    ap (λ b. not (bit == 0) || b) (some_bit-number bits)
+    ∙ either bit (number_of_low_bits bits) where
+      either : (bit rest : ℕ) → (not (bit == 0) || not (rest == 0)) ≡ not (bit + 2 * rest == 0)
+      either bit rest = grind (arith, nat_tests)
+
+some_bit-reverse : (bits : List ℕ) → some_bit (reverse bits) ≡ some_bit bits
+some_bit-reverse [] = refl
+some_bit-reverse (bit ∷ bits) =
+    ap some_bit (reverse-append (bit ∷ []) bits)
+    ∙ list_any-append (λ bit. not (bit == 0)) (reverse bits) (bit ∷ [])
+    ∙ ap (λ b. b || (not (bit == 0) || false)) (some_bit-reverse bits)
+    ∙ turned (some_bit bits) (not (bit == 0)) where
+      turned : (a b : Bool) → (a || (b || false)) ≡ (b || a)
+      turned true true = refl
+      turned true false = refl
+      turned false true = refl
+      turned false false = refl
+
+some_bit-low_bits : (count number : ℕ)
+    → some_bit (low_bits count number) ≡ not (number % 2 ^ count == 0)
+some_bit-low_bits count number =
+    some_bit-number (low_bits count number)
+    ∙ ap (λ bits. not (number_of_low_bits bits == 0)) (sym (low_bits-mod count number))
+    ∙ ap (λ n. not (n == 0))
+    (number-low_bits count (number % 2 ^ count) (mod-lt number (pow_pos count)))
+
+-- the last bits of a value: the low ones where the most significant come first, or the high ones
+last_most : (width few value : ℕ) → few ≤ width
+    → some_bit (drop (width - few) (bits_of MostSignificantFirst width value))
+    ≡ not (value % 2 ^ few == 0)
+last_most width few value h =
+    let whole : few + (width - few) ≡ width = omega arith in
+    let low = low_bits few value in
+    let high = low_bits (width - few) (value / 2 ^ few) in
+    let parts : reverse (low_bits width value) ≡ reverse high ++ reverse low =
+    ap (λ n. reverse (low_bits n value)) (sym whole)
+    ∙ ap reverse (low_bits-add few (width - few) value) ∙ reverse-append low high in
+    let len : length (reverse high) ≡ width - few =
+    length-reverse high ∙ length-low_bits (width - few) (value / 2 ^ few) in
+    ap (λ bits. some_bit (drop (width - few) bits)) parts
+    ∙ ap some_bit (drop_at (reverse high) (reverse low) (width - few) len)
+    ∙ some_bit-reverse low ∙ some_bit-low_bits few value
+
+last_least : (width few value : ℕ) → few ≤ width → value < 2 ^ width
+    → some_bit (drop (width - few) (bits_of LeastSignificantFirst width value))
+    ≡ not (value / 2 ^ (width - few) == 0)
+last_least width few value h below =
+    let whole : width - few + few ≡ width = omega arith in
+    let low = low_bits (width - few) value in
+    let above = value / 2 ^ (width - few) in
+    let parts : low_bits width value ≡ low ++ low_bits few above =
+    ap (λ n. low_bits n value) (sym whole) ∙ low_bits-add (width - few) few value in
+    let power : 2 ^ width ≡ 2 ^ few * 2 ^ (width - few) =
+    ap (λ n. 2 ^ n) (sym whole) ∙ pow-add 2 (width - few) few
+    ∙ mul_comm (2 ^ (width - few)) (2 ^ few) in
+    let small : above < 2 ^ few =
+    (div-lt_iff_lt-mul {k = 2 ^ (width - few)} {x = value} {y = 2 ^ few}
+    (pow_pos (width - few))).1 (subst (λ n. value < n) power below) in
+    ap (λ bits. some_bit (drop (width - few) bits)) parts
+    ∙ ap some_bit
+    (drop_at low (low_bits few above) (width - few) (length-low_bits (width - few) value))
+    ∙ some_bit-number (low_bits few above)
+    ∙ ap (λ n. not (n == 0)) (number-low_bits few above small)
+
+-- the bits of values after the last whole byte are the last of the last value
+abbrev left_over : BitOrder → ℕ → List ℕ → List ℕ
+left_over order width values =
+    drop (length (flat_map (bits_of order width) values) / 8 * 8)
+    (flat_map (bits_of order width) values)
+
+left_over-last : (order : BitOrder) (width few : ℕ) (front : List ℕ) (value : ℕ)
+    → few ≡ width * (length front + 1) % 8 → few ≤ width
+    → left_over order width (front ++ value ∷ [])
+    ≡ drop (width - few) (bits_of order width value)
+left_over-last order width few front value is h =
+    let f = bits_of order width in
+    let bits : flat_map f (front ++ value ∷ []) ≡ flat_map f front ++ f value =
+    flat_map-append f front (value ∷ []) ∙ ap (λ l. flat_map f front ++ l) (append-nil (f value)) in
+    let before : length (flat_map f front) ≡ width * length front =
+    length-bits_of_values order width front in
+    let all : length (flat_map f (front ++ value ∷ [])) ≡ width * (length front + 1) =
+    length-bits_of_values order width (front ++ value ∷ [])
+    ∙ ap (λ n. width * n) (length-append front (value ∷ [])) in
+    let whole : length (flat_map f (front ++ value ∷ [])) / 8 * 8
+    ≡ length (flat_map f front) + (width - few) =
+    ap (λ n. n / 8 * 8) all
+    ∙ omega (arith, mul-add width (length front) 1, div-add-mod' (width * (length front + 1)) 8) in
+    (λ i. drop (whole i) (bits i)) ∙ drop-append-add (flat_map f front) (f value) (width - few)
+
+-- the last of a list
+last_inside : (xs : List ℕ) (n x : ℕ) → Some x ≡ slice_get xs n → n < length xs
+last_inside [] n x h = cc
+last_inside (y ∷ xs) zero x h = omega arith
+last_inside (y ∷ xs) (suc n) x h = omega (arith, last_inside xs n x h)
+
+split_last : (xs : List ℕ) (x : ℕ) → Some x ≡ slice_get xs (length xs - 1)
+    → xs ≡ take (length xs - 1) xs ++ x ∷ []
+split_last xs x h =
+    let last = length xs - 1 in
+    let inside = last_inside xs last x h in
+    sym (take_all (last + 1) xs (omega arith)) ∙ take_more xs last 0 inside
+    ∙ ap (λ y. take last xs ++ y ∷ []) (get_or_from_slice_get xs last x 0 (sym h))
+
+-- Bytes that are all symbols, of a valid number: the last of them has the bits that are left.
+module _ (base : Base) (width : ℕ) (values group : List ℕ) (ks : List Positioned)
+    (width_is : base.width ≡ width) (holds : HoldsValues base values)
+    (same : map (λ (k : Positioned). k.byte) ks ≡ group)
+    (are_bytes : (k : ℕ) → slice_index group k < 256)
+    (low : (k : ℕ) → k < length group → slice_index values (slice_index group k) < 128)
+    (valid : is_valid_count width (length group) ≡ true)
+    (last : ℕ) (is_last : Some last ≡ slice_get group (length group - 1)) where
+  few_bits : width * length group % 8 < width
+  few_bits = grind (arith, nat_tests)
+
+  trailing_bits-last : (order : BitOrder) → base.order ≡ order
+      → trailing_bits base ks
+      ≡ drop (width - width * length group % 8) (bits_of order width (slice_index values last))
+  trailing_bits-last order order_is =
+      let front = take (length group - 1) group in
+      let split = split_last group last is_last in
+      let found = values_in-table base values ks holds
+      (subst (λ l. (k : ℕ) → slice_index l k < 256) (sym same) are_bytes)
+      (subst (λ l. (k : ℕ) → k < length l → slice_index values (slice_index l k) < 128)
+      (sym same) low)
+      ∙ ap (map (slice_index values)) (same ∙ split)
+      ∙ map-append (slice_index values) front (last ∷ []) in
+      let count : length group ≡ length (map (slice_index values) front) + 1 =
+      ap length split ∙ length-append front (last ∷ [])
+      ∙ ap (λ n. n + 1) (sym (length-map front (slice_index values))) in
+      (λ i. left_over (order_is i) (width_is i) (found i))
+      ∙ left_over-last order width (width * length group % 8) (map (slice_index values) front)
+      (slice_index values last) (ap (λ n. width * n % 8) count) (omega (arith, few_bits))
+
+  pub some_trailing-most : base.order ≡ MostSignificantFirst
+      → not (slice_index values last % 2 ^ (width * length group % 8) == 0)
+      ≡ list_any (λ bit. not (bit == 0)) (trailing_bits base ks)
+  some_trailing-most order_is =
+      sym (ap some_bit (trailing_bits-last MostSignificantFirst order_is)
+      ∙ last_most width (width * length group % 8) (slice_index values last)
+      (omega (arith, few_bits)))
+
+  pub some_trailing-least : base.order ≡ LeastSignificantFirst
+      → not (slice_index values last / 2 ^ (width - width * length group % 8) == 0)
+      ≡ list_any (λ bit. not (bit == 0)) (trailing_bits base ks)
+  some_trailing-least order_is =
+      let place = length group - 1 in
+      let below : slice_index values last < 2 ^ width =
+      subst (λ byte. slice_index values byte < 2 ^ width)
+      (get_or_from_slice_get group place last 0 (sym is_last))
+      (entries_below base width values group are_bytes low width_is holds place
+      (last_inside group place last is_last)) in
+      sym (ap some_bit (trailing_bits-last LeastSignificantFirst order_is)
+      ∙ last_least width (width * length group % 8) (slice_index values last)
+      (omega (arith, few_bits)) below)
+
+-- The fault of a group of valid length: that of its symbols, or else that of the bits left over.
+module _ (base : Base) (width place : ℕ) (group : List ℕ) (width_is : base.width ≡ width)
+    (valid : is_valid_count width (length group) ≡ true) where
+  length_is : length (positioned_from place group) ≡ length group
+  length_is = length-by_bytes (positioned_from place group) group (bytes-positioned_from place group)
+
+  valid_here : is_valid_count base.width (length (positioned_from place group)) ≡ true
+  valid_here = (λ i. is_valid_count (width_is i) (length_is i)) ∙ valid
+
+  pub positioned-symbol : (error : DecodeError)
+      → invalid_symbol_fault base (positioned_from place group) ≡ Some error
+      → plain_fault base (positioned_from place group) ≡ Some error
+  positioned-symbol error h = plain_fault-symbol base (positioned_from place group) error valid_here h
+
+  pub positioned-trailing : invalid_symbol_fault base (positioned_from place group) ≡ None
+      → base.checks_trailing_bits ≡ true
+      → list_any (λ bit. not (bit == 0)) (trailing_bits base (positioned_from place group)) ≡ true
+      → 0 < length group
+      → plain_fault base (positioned_from place group)
+      ≡ Some (record { position = place + length group - 1; kind = TrailingFault })
+  positioned-trailing h checks some inside =
+      let ks = positioned_from place group in
+      plain_fault-symbols base ks valid_here h
+      ∙ (λ i. cond (checks i && some i) (fault_at TrailingFault ks (length ks - 1)) None)
+      ∙ ap (λ n. fault_at TrailingFault ks (n - 1)) length_is
+      ∙ ap (λ n. Some (record { position = n; kind = TrailingFault }))
+      (position_of-positioned_from place group (length group - 1) (omega arith) ∙ omega arith)
+
+  pub positioned-none : invalid_symbol_fault base (positioned_from place group) ≡ None
+      → (base.checks_trailing_bits
+      && list_any (λ bit. not (bit == 0)) (trailing_bits base (positioned_from place group)))
+      ≡ false
+      → plain_fault base (positioned_from place group) ≡ None
+  positioned-none h quiet =
+      let ks = positioned_from place group in
+      plain_fault-symbols base ks valid_here h
+      ∙ ap (λ b. cond b (fault_at TrailingFault ks (length ks - 1)) None) quiet

@@ -1,0 +1,5 @@
+-- Bits, digits and words, and the kernel of one group.
+pub mod BitLemmas
+pub mod WidthLemmas
+pub mod WordLemmas
+pub mod KernelLemmas

@@ -1,0 +1,221 @@
+-- The text and the bytes of a group, from its word.
+use Rattle.std.proofs.Common.{◌≡◌, ℕ, suc, ◌+◌, ◌-◌, ◌*◌, ◌/◌, ◌%◌, ◌^◌, ◌<◌, ◌≤◌, List, [], ◌∷◌, ◌++◌, length, map, take, drop, replicate, slice_index, refl, sym, ap, ◌∙◌, subst, arith, ⊎_elim, length-append, append_assoc, take-append-drop, length-take-le}
+use Rattle.std.proofs.lemmas.Bool.{cases_lt}
+use Rattle.std.proofs.lemmas.List.{length-replicate, length-map, replicate-append-replicate}
+use Rattle.std.proofs.lemmas.Nat.{div-add-mod', mod_below, mul-le, pow_pos}
+use Rattle.std.proofs.Math.Nat.{mul_comm, mod-eq_of_lt, mod-lt, div-eq_of_lt-le, div-lt_iff_lt-mul}
+use Rattle.std.specs.Prelude.{flat_map}
+use Rattle.std.specs.List.{range_with_len, filter_map, cons_option}
+use Rattle.std.specs.Simd.{first_chunks}
+use Rattle.data_encoding.specs.declared.encoding.BitOrder.{BitOrder}
+use Rattle.data_encoding.specs.Base.{Base, meaning, symbol, value_of}
+use Rattle.data_encoding.specs.Bits.{bits_of, number_of, bits_of_bytes, missing, runs}
+use Rattle.data_encoding.specs.Fault.{bytes_of_group}
+use Rattle.data_encoding.specs.Grammar.{Positioned}
+use Rattle.data_encoding.specs.Tables.{HoldsSymbols, HoldsValues, IsGroup}
+use Rattle.data_encoding.specs.Text.{plain_text}
+use Rattle.data_encoding.specs.Words.{digit, zeros_to, word_of}
+use Rattle.data_encoding.proofs.digits.BitLemmas.{AreBits, AreBits-flat_map, AreBits-bits_of}
+use Rattle.data_encoding.proofs.grammar.UnpaddedGroupLemmas.{length-bits_of_bytes, length-bits_of_values}
+use Rattle.data_encoding.proofs.lists.RunLemmas.{run_count}
+use Rattle.data_encoding.proofs.text.UnpaddedTextLemmas.{text_by, missing-none, run_count-missing}
+use Rattle.data_encoding.proofs.digits.WidthLemmas.{group_bits}
+use Rattle.data_encoding.proofs.digits.WordLemmas.{digits-runs, first_chunks-append, map-twice, map-range-same}
+
+-- with what is missing, a list is as long as its runs
+filled_some : (size n q r : ℕ) → n ≡ q * size + r → 0 < r → r < size
+    → n + (size - r) ≡ size * run_count size n
+filled_some size n q r e some few =
+    let count = div-eq_of_lt-le {k = q + 1} size {m = n + (size - 1)} (omega arith) (omega arith) in
+    let next : n + (size - r) ≡ (q + 1) * size = omega arith in
+    next ∙ mul_comm (q + 1) size ∙ ap (λ k. size * k) (sym count)
+
+filled_none : (size n q : ℕ) → n ≡ q * size → 0 < size → n + 0 ≡ size * run_count size n
+filled_none size n q e some =
+    let count = div-eq_of_lt-le {k = q} size {m = n + (size - 1)} (omega arith) (omega arith) in
+    let next : n + 0 ≡ q * size = omega arith in
+    next ∙ mul_comm q size ∙ ap (λ k. size * k) (sym count)
+
+pub filled_count : (size n : ℕ) → 0 < size → n + missing size n ≡ size * run_count size n
+filled_count size n h =
+    let whole = sym (div-add-mod' n size) in
+    let below = mod_below n size h in
+    ⊎_elim
+    (λ (some : 0 < n % size).
+    let extra : missing size n ≡ size - n % size = mod-eq_of_lt (omega arith) in
+    ap (λ k. n + k) extra ∙ filled_some size n (n / size) (n % size) whole some below)
+    (λ (none : n % size ≤ 0).
+    ap (λ k. n + k) (missing-none size n (omega arith))
+    ∙ filled_none size n (n / size) (omega arith) h)
+    (cases_lt 0 (n % size))
+
+-- whole runs of bits and zeros, however many zeros there are
+first_chunks-zeros : (size n a b : ℕ) (bits : List ℕ) → size * n ≤ length bits + a → a ≤ b
+    → first_chunks size n (bits ++ replicate b 0) ≡ first_chunks size n (bits ++ replicate a 0)
+first_chunks-zeros size n a b bits h k =
+    let rest : a + (b - a) ≡ b = omega arith in
+    let more : bits ++ replicate b 0 ≡ (bits ++ replicate a 0) ++ replicate (b - a) 0 =
+    ap (λ m. bits ++ replicate m 0) (sym rest)
+    ∙ ap (λ l. bits ++ l) (sym (replicate-append-replicate a (b - a) 0))
+    ∙ sym (append_assoc bits (replicate a 0) (replicate (b - a) 0)) in
+    let len : length (bits ++ replicate a 0) ≡ length bits + a =
+    length-append bits (replicate a 0)
+    ∙ ap (λ m. length bits + m) (length-replicate {A = ℕ} a 0) in
+    ap (first_chunks size n) more
+    ∙ first_chunks-append size n (bits ++ replicate a 0) (replicate (b - a) 0) (omega arith)
+
+-- at most as many runs as there are digits
+run_count-most : (size n count : ℕ) → 0 < size → n ≤ size * count → run_count size n ≤ count
+run_count-most size n count h k =
+    let below : (n + (size - 1)) / size < count + 1 =
+    (div-lt_iff_lt-mul {k = size} {x = n + (size - 1)} {y = count + 1} h).1
+    (omega (arith, mul_comm size count)) in
+    omega arith
+
+-- the symbols of the first digits of a word of bytes are the text of these
+pub text_by-word : (base : Base) (order : BitOrder) (width bytes count : ℕ)
+    (symbols input : List ℕ) → 0 < width → width * count ≡ 8 * bytes → length input ≤ bytes
+    → ((value : ℕ) → value < 2 ^ width → symbol base value ≡ slice_index symbols value)
+    → map (λ k. slice_index symbols (digit order width count (word_of order 8 bytes input) k))
+    (range_with_len 0 (run_count width (8 * length input)))
+    ≡ text_by base width order (bits_of_bytes order input)
+text_by-word base order width bytes count symbols input some same few at =
+    let bits = bits_of_bytes order input in
+    let len : length bits ≡ 8 * length input = length-bits_of_bytes order input in
+    let n = run_count width (8 * length input) in
+    let many : n ≡ run_count width (length bits) = ap (run_count width) (sym len) in
+    let extra = missing width (length bits) in
+    let filled : length bits + extra ≡ width * n =
+    filled_count width (length bits) some ∙ ap (λ k. width * k) (sym many) in
+    let most : n ≤ count = run_count-most width (8 * length input) count some (omega arith) in
+    let bound : width * n ≤ width * count = mul-le width n width count (omega arith) most in
+    let are : AreBits bits = AreBits-flat_map (bits_of order 8) input (AreBits-bits_of order 8) in
+    let word = number_of order (zeros_to (width * count) bits) in
+    let show = map (λ run. symbol base (number_of order run)) in
+    let runs_len : length (bits ++ replicate extra 0) ≡ length bits + extra =
+    length-append bits (replicate extra 0)
+    ∙ ap (λ m. length bits + m) (length-replicate {A = ℕ} extra 0) in
+    let count_of : run_count width (length (bits ++ replicate extra 0)) ≡ n =
+    ap (run_count width) runs_len ∙ run_count-missing width (length bits) some ∙ sym many in
+    ap (λ m. map (λ k. slice_index symbols (digit order width count
+    (number_of order (zeros_to m bits)) k)) (range_with_len 0 n)) (sym same)
+    ∙ map-range-same (λ k. slice_index symbols (digit order width count word k))
+    (λ k. symbol base (digit order width count word k)) n
+    (λ k below. sym (at (digit order width count word k) (mod-lt _ (pow_pos width))))
+    ∙ sym (map-twice (symbol base) (digit order width count word) (range_with_len 0 n))
+    ∙ ap (map (symbol base)) (digits-runs order width count n bits are (omega arith) most)
+    ∙ map-twice (symbol base) (number_of order)
+    (first_chunks width n (zeros_to (width * count) bits))
+    ∙ ap show (first_chunks-zeros width n extra (width * count - length bits) bits (omega arith)
+    (omega arith))
+    ∙ ap (λ m. show (first_chunks width m (bits ++ replicate extra 0))) (sym count_of)
+
+-- the bytes of a whole group and its symbols have as many bits
+pub group_same_bits : (width bytes count : ℕ) → IsGroup width bytes count
+    → width * count ≡ 8 * bytes
+group_same_bits width bytes count group =
+    ap (λ n. width * n) group.has_symbols
+    ∙ group_bits width (group.is_width)
+    ∙ ap (λ n. 8 * n) (sym group.has_bytes)
+
+-- the same of a base
+pub plain_text-word : (base : Base) (order : BitOrder) (width bytes count : ℕ)
+    (symbols input : List ℕ) → IsGroup width bytes count → length input ≤ bytes
+    → base.width ≡ width → base.order ≡ order → HoldsSymbols base symbols
+    → map (λ k. slice_index symbols (digit order width count (word_of order 8 bytes input) k))
+    (range_with_len 0 ((8 * length input + (width - 1)) / width))
+    ≡ plain_text base input
+plain_text-word base order width bytes count symbols input group few w o holds =
+    let same = group_same_bits width bytes count group in
+    text_by-word base order width bytes count symbols input group.is_width.some same few
+    (subst (λ m. (value : ℕ) → value < 2 ^ m → symbol base value ≡ slice_index symbols value) w
+    holds.at_value)
+    ∙ sym (λ i. text_by base (w i) (o i) (bits_of_bytes (o i) input))
+
+-- the bytes of the bits of values
+abbrev bytes_by : BitOrder → ℕ → List ℕ → List ℕ
+bytes_by order width values =
+    map (number_of order)
+    (runs 8 (take (length (flat_map (bits_of order width) values) / 8 * 8)
+    (flat_map (bits_of order width) values)))
+
+-- the first bytes of a word of values are those of their bits
+pub bytes_by-word : (order : BitOrder) (width bytes count n : ℕ) (values : List ℕ)
+    → width * count ≡ 8 * bytes → length values ≤ count → n ≡ width * length values / 8
+    → map (digit order 8 bytes (word_of order width count values)) (range_with_len 0 n)
+    ≡ bytes_by order width values
+bytes_by-word order width bytes count n values same few is =
+    let bits = flat_map (bits_of order width) values in
+    let len : length bits ≡ width * length values = length-bits_of_values order width values in
+    let whole = length bits / 8 * 8 in
+    let bound : width * length values ≤ width * count =
+    mul-le width (length values) width count (omega arith) few in
+    let are : AreBits bits =
+    AreBits-flat_map (bits_of order width) values (AreBits-bits_of order width) in
+    let front = take whole bits in
+    let front_len : length front ≡ whole = length-take-le whole bits (omega arith) in
+    let zeros : List ℕ = replicate (8 * bytes - length bits) 0 in
+    let parts : zeros_to (8 * bytes) bits ≡ front ++ (drop whole bits ++ zeros) =
+    ap (λ l. l ++ zeros) (sym (take-append-drop whole bits))
+    ∙ append_assoc front (drop whole bits) zeros in
+    let eighth : n ≡ length bits / 8 = is ∙ ap (λ k. k / 8) (sym len) in
+    let count_of : run_count 8 (length front) ≡ n = omega arith in
+    ap (λ m. map (digit order 8 bytes (number_of order (zeros_to m bits))) (range_with_len 0 n))
+    same
+    ∙ digits-runs order 8 bytes n bits are (omega arith) (omega arith)
+    ∙ ap (λ l. map (number_of order) (first_chunks 8 n l)) parts
+    ∙ ap (map (number_of order))
+    (first_chunks-append 8 n front (drop whole bits ++ zeros) (omega arith))
+    ∙ ap (λ m. map (number_of order) (first_chunks 8 m front)) (sym count_of)
+
+-- the values of symbols are what the table says of them
+pub values_in-table : (base : Base) (values : List ℕ) (ks : List Positioned) → HoldsValues base values
+    → ((k : ℕ) → slice_index (map (λ (p : Positioned). p.byte) ks) k < 256)
+    → ((k : ℕ) → k < length (map (λ (p : Positioned). p.byte) ks)
+    → slice_index values (slice_index (map (λ (p : Positioned). p.byte) ks) k) < 128)
+    → filter_map (λ k. value_of (meaning base k.byte)) ks
+    ≡ map (slice_index values) (map (λ (p : Positioned). p.byte) ks)
+values_in-table base values [] holds fits low = refl
+values_in-table base values (k ∷ ks) holds fits low =
+    ap (λ m. cons_option (value_of m) (filter_map (λ j. value_of (meaning base j.byte)) ks))
+    (holds.symbols k.byte (fits 0) (low 0 (omega arith)))
+    ∙ ap (λ l. slice_index values k.byte ∷ l)
+    (values_in-table base values ks holds (λ j. fits (suc j))
+    (λ j below. low (suc j) (omega arith)))
+
+-- the first bytes of the word of the symbols of a group are the bytes of the group
+pub bytes_of_group-word : (base : Base) (order : BitOrder) (width bytes count n : ℕ)
+    (values input : List ℕ) (ks : List Positioned) → IsGroup width bytes count
+    → length input ≤ count → n ≡ width * length input / 8
+    → ((k : ℕ) → slice_index input k < 256)
+    → ((k : ℕ) → k < length input → slice_index values (slice_index input k) < 128)
+    → base.width ≡ width → base.order ≡ order → HoldsValues base values
+    → map (λ (p : Positioned). p.byte) ks ≡ input
+    → map (digit order 8 bytes (word_of order width count (map (slice_index values) input)))
+    (range_with_len 0 n)
+    ≡ bytes_of_group base ks
+bytes_of_group-word base order width bytes count n values input ks group few is fits low w o holds
+    e =
+    let same = group_same_bits width bytes count group in
+    let len : length (map (slice_index values) input) ≡ length input =
+    length-map input (slice_index values) in
+    let found : filter_map (λ (k : Positioned). value_of (meaning base k.byte)) ks
+    ≡ map (slice_index values) input =
+    values_in-table base values ks holds
+    (subst (λ l. (k : ℕ) → slice_index l k < 256) (sym e) fits)
+    (subst (λ l. (k : ℕ) → k < length l → slice_index values (slice_index l k) < 128) (sym e)
+    low)
+    ∙ ap (map (slice_index values)) e in
+    bytes_by-word order width bytes count n (map (slice_index values) input) same (omega arith)
+    (is ∙ ap (λ m. width * m / 8) (sym len))
+    ∙ sym (λ i. bytes_by (o i) (w i) (found i))
+
+-- entries below 128 are values
+pub entries_below : (base : Base) (width : ℕ) (values input : List ℕ)
+    → ((k : ℕ) → slice_index input k < 256)
+    → ((k : ℕ) → k < length input → slice_index values (slice_index input k) < 128)
+    → base.width ≡ width → HoldsValues base values
+    → (k : ℕ) → k < length input → slice_index values (slice_index input k) < 2 ^ width
+entries_below base width values input fits low w holds k below =
+    subst (λ m. slice_index values (slice_index input k) < 2 ^ m) w
+    (holds.below (slice_index input k) (fits k) (low k below))

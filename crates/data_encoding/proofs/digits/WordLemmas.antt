@@ -1,0 +1,303 @@
+-- Words of digits: a digit more, and a digit of a word, in either order.
+use Rattle.std.proofs.Common.{◌≡◌, ℕ, zero, suc, ◌+◌, ◌-◌, ◌*◌, ◌/◌, ◌%◌, ◌^◌, ◌<◌, ◌≤◌, List, [], ◌∷◌, ◌++◌, length, map, take, drop, replicate, reverse, refl, sym, ap, ◌∙◌, subst, arith, length-append, append_assoc, take-append-drop, length-take-le}
+use Rattle.std.proofs.lemmas.List.{length-reverse, reverse-reverse, reverse-append, append-nil, length-replicate, length-drop, drop-drop, take-append-le, drop-append-le, replicate-append-replicate}
+use Rattle.std.proofs.lemmas.List.Concat.{flat_map-append}
+use Rattle.std.proofs.lemmas.Nat.{div-mul-add, mod-mul-add, pow-add, shl_whole, mul-le}
+use Rattle.std.proofs.Math.Pow.{pow_mono}
+use Rattle.std.proofs.Math.Nat.{pow-succ', mul_comm, mul_assoc, add_comm, mul-add, mul-suc, mul-zero, zero-add}
+use Rattle.std.specs.Prelude.{flat_map}
+use Rattle.std.specs.List.{range_with_len}
+use Rattle.std.specs.Simd.{first_chunks}
+use Rattle.data_encoding.specs.declared.encoding.BitOrder.{BitOrder}
+use Rattle.data_encoding.specs.declared.encoding.BitOrder.TheVariants.{MostSignificantFirst, LeastSignificantFirst}
+use Rattle.data_encoding.specs.Bits.{low_bits, number_of_low_bits, bits_of, number_of}
+use Rattle.data_encoding.specs.Words.{weight, digit, zeros_to, word_of}
+use Rattle.data_encoding.proofs.digits.BitLemmas.{AreBits, AreBits-append, AreBits-left, AreBits-right, AreBits-reverse, length-bits_of, length-pieces, number-low_bits, number-below, length-low_bits}
+
+regroup : (b x m y : ℕ) → b + 2 * (x + m * y) ≡ b + 2 * x + 2 * m * y
+regroup b x m y = omega (arith, mul_assoc 2 m y)
+
+-- lower bits, and then higher ones
+pub number-append : (low high : List ℕ)
+    → number_of_low_bits (low ++ high)
+    ≡ number_of_low_bits low + 2 ^ length low * number_of_low_bits high
+number-append [] high = omega arith
+number-append (bit ∷ low) high =
+    ap (λ n. bit + 2 * n) (number-append low high)
+    ∙ regroup bit (number_of_low_bits low) (2 ^ length low) (number_of_low_bits high)
+    ∙ ap (λ m. bit + 2 * number_of_low_bits low + m * number_of_low_bits high)
+    (sym (pow-succ' 2 (length low)))
+
+pub number-zeros : (n : ℕ) → number_of_low_bits (replicate n 0) ≡ 0
+number-zeros zero = refl
+number-zeros (suc n) = ap (λ k. 0 + 2 * k) (number-zeros n)
+
+pub reverse-zeros : (n : ℕ) → reverse {A = ℕ} (replicate n 0) ≡ replicate n 0
+reverse-zeros zero = refl
+reverse-zeros (suc n) =
+    reverse-append (0 ∷ []) (replicate n 0) ∙ ap (λ l. l ++ 0 ∷ []) (reverse-zeros n)
+    ∙ replicate-append-replicate n 1 0
+    ∙ (let more : n + 1 ≡ suc n = omega arith in ap (λ m. replicate m 0) more)
+
+-- the bits between lower and higher ones
+number-middle : (low middle high : List ℕ) → AreBits low → AreBits middle
+    → number_of_low_bits (low ++ (middle ++ high)) / 2 ^ length low % 2 ^ length middle
+    ≡ number_of_low_bits middle
+number-middle low middle high h k =
+    let L = 2 ^ length low in
+    let M = 2 ^ length middle in
+    let l = number_of_low_bits low in
+    let m = number_of_low_bits middle in
+    let n = number_of_low_bits high in
+    let all : number_of_low_bits (low ++ (middle ++ high)) ≡ (n * M + m) * L + l =
+    number-append low (middle ++ high)
+    ∙ ap (λ x. l + L * x) (number-append middle high)
+    ∙ ap (λ x. l + x) (mul_comm L (m + M * n)) ∙ ap (λ x. l + (m + x) * L) (mul_comm M n)
+    ∙ ap (λ x. l + x * L) (add_comm m (n * M)) ∙ add_comm l ((n * M + m) * L) in
+    ap (λ x. x / L % M) all
+    ∙ ap (λ x. x % M) (div-mul-add (n * M + m) L l (number-below low h))
+    ∙ mod-mul-add n M m (number-below middle k)
+
+-- the words of no digits, and of a digit more
+word-least : (size count : ℕ) (digits : List ℕ)
+    → word_of LeastSignificantFirst size count digits
+    ≡ number_of_low_bits (flat_map (low_bits size) digits)
+word-least size count digits =
+    let bits = flat_map (low_bits size) digits in
+    let extra = size * count - length bits in
+    number-append bits (replicate extra 0)
+    ∙ ap (λ n. number_of_low_bits bits + 2 ^ length bits * n) (number-zeros extra)
+    ∙ omega arith
+
+word-most : (size count : ℕ) (digits : List ℕ)
+    → word_of MostSignificantFirst size count digits
+    ≡ 2 ^ (size * count - size * length digits)
+    * number_of_low_bits (reverse (flat_map (bits_of MostSignificantFirst size) digits))
+word-most size count digits =
+    let bits = flat_map (bits_of MostSignificantFirst size) digits in
+    let extra = size * count - length bits in
+    let len : length bits ≡ size * length digits =
+    length-pieces size (bits_of MostSignificantFirst size) digits
+    (length-bits_of MostSignificantFirst size) in
+    ap number_of_low_bits (reverse-append bits (replicate extra 0))
+    ∙ ap (λ l. number_of_low_bits (l ++ reverse bits)) (reverse-zeros extra)
+    ∙ number-append (replicate extra 0) (reverse bits)
+    ∙ (λ i. number-zeros extra i
+    + 2 ^ length-replicate {A = ℕ} extra 0 i * number_of_low_bits (reverse bits))
+    ∙ zero-add (2 ^ extra * number_of_low_bits (reverse bits))
+    ∙ ap (λ n. 2 ^ (size * count - n) * number_of_low_bits (reverse bits)) len
+
+flat-more : (f : ℕ → List ℕ) (digits : List ℕ) (d : ℕ)
+    → flat_map f (digits ++ d ∷ []) ≡ flat_map f digits ++ f d
+flat-more f digits d =
+    flat_map-append f digits (d ∷ []) ∙ ap (λ l. flat_map f digits ++ l) (append-nil (f d))
+
+pub word_of-nil : (order : BitOrder) (size count : ℕ) → word_of order size count [] ≡ 0
+word_of-nil LeastSignificantFirst size count = word-least size count []
+word_of-nil MostSignificantFirst size count =
+    word-most size count [] ∙ mul-zero (2 ^ (size * count - size * 0))
+
+more_least : (size count : ℕ) (digits : List ℕ) (d : ℕ) → d < 2 ^ size
+    → word_of LeastSignificantFirst size count (digits ++ d ∷ [])
+    ≡ word_of LeastSignificantFirst size count digits + d * 2 ^ (size * length digits)
+more_least size count digits d h =
+    let bits = flat_map (low_bits size) digits in
+    let len : length bits ≡ size * length digits =
+    length-pieces size (low_bits size) digits (length-low_bits size) in
+    word-least size count (digits ++ d ∷ [])
+    ∙ ap number_of_low_bits (flat-more (low_bits size) digits d)
+    ∙ number-append bits (low_bits size d)
+    ∙ (λ i. number_of_low_bits bits + 2 ^ len i * number-low_bits size d h i)
+    ∙ ap (λ n. number_of_low_bits bits + n) (mul_comm (2 ^ (size * length digits)) d)
+    ∙ ap (λ n. n + d * 2 ^ (size * length digits)) (sym (word-least size count digits))
+
+above : (size i r : ℕ) → size * (i + 1 + r) - size * (i + 1) ≡ size * r
+above size i r = omega (arith, mul-add size (i + 1) r)
+
+above_all : (size i r : ℕ) → size * (i + 1 + r) - size * i ≡ size * r + size
+above_all size i r = omega (arith, mul-add size (i + 1) r, mul-add size i 1)
+
+regroup_most : (w s d n : ℕ) → w * (d + s * n) ≡ w * s * n + d * w
+regroup_most w s d n = mul-add w d (s * n) ∙ omega (arith, mul_comm w d, mul_assoc w s n)
+
+more_most : (size i r : ℕ) (digits : List ℕ) (d : ℕ) → length digits ≡ i → d < 2 ^ size
+    → word_of MostSignificantFirst size (i + 1 + r) (digits ++ d ∷ [])
+    ≡ word_of MostSignificantFirst size (i + 1 + r) digits + d * 2 ^ (size * r)
+more_most size i r digits d is h =
+    let bits = flat_map (bits_of MostSignificantFirst size) digits in
+    let n = number_of_low_bits (reverse bits) in
+    let count = i + 1 + r in
+    let turned : number_of_low_bits (reverse (bits ++ reverse (low_bits size d)))
+    ≡ d + 2 ^ size * n =
+    ap number_of_low_bits (reverse-append bits (reverse (low_bits size d))
+    ∙ ap (λ l. l ++ reverse bits) (reverse-reverse (low_bits size d)))
+    ∙ number-append (low_bits size d) (reverse bits)
+    ∙ (λ j. number-low_bits size d h j + 2 ^ length-low_bits size d j * n) in
+    let len : length (digits ++ d ∷ []) ≡ i + 1 =
+    length-append digits (d ∷ []) ∙ ap (λ k. k + 1) is in
+    word-most size count (digits ++ d ∷ [])
+    ∙ ap (λ l. 2 ^ (size * count - size * length (digits ++ d ∷ [])) * number_of_low_bits
+    (reverse l)) (flat-more (bits_of MostSignificantFirst size) digits d)
+    ∙ (λ j. 2 ^ (size * count - size * len j) * turned j)
+    ∙ ap (λ e. 2 ^ e * (d + 2 ^ size * n)) (above size i r)
+    ∙ regroup_most (2 ^ (size * r)) (2 ^ size) d n
+    ∙ ap (λ m. m * n + d * 2 ^ (size * r)) (sym (pow-add 2 (size * r) size)
+    ∙ ap (λ e. 2 ^ e) (sym (above_all size i r)
+    ∙ ap (λ k. size * count - size * k) (sym is)))
+    ∙ ap (λ m. m + d * 2 ^ (size * r)) (sym (word-most size count digits))
+
+-- a digit more adds that digit times its weight
+pub word_of-more : (order : BitOrder) (size count index : ℕ) (digits : List ℕ) (d : ℕ)
+    → length digits ≡ index → index < count → d < 2 ^ size
+    → word_of order size count (digits ++ d ∷ [])
+    ≡ word_of order size count digits + d * 2 ^ weight order size count index
+word_of-more LeastSignificantFirst size count index digits d is h k =
+    more_least size count digits d k
+    ∙ ap (λ n. word_of LeastSignificantFirst size count digits + d * 2 ^ (size * n)) is
+word_of-more MostSignificantFirst size count index digits d is h k =
+    let r = count - 1 - index in
+    let whole : index + 1 + r ≡ count = omega arith in
+    subst (λ m. word_of MostSignificantFirst size m (digits ++ d ∷ [])
+    ≡ word_of MostSignificantFirst size m digits + d * 2 ^ (size * r)) whole
+    (more_most size index r digits d is k)
+
+-- a digit is the number of its bits
+digit-parts : (order : BitOrder) (size count index : ℕ) (front run rest : List ℕ)
+    → AreBits (front ++ (run ++ rest)) → length front ≡ size * index → length run ≡ size
+    → length rest ≡ size * (count - 1 - index)
+    → digit order size count (number_of order (front ++ (run ++ rest))) index
+    ≡ number_of order run
+digit-parts LeastSignificantFirst size count index front run rest h f m r =
+    let bits = AreBits-right front (run ++ rest) h in
+    (λ i. number_of_low_bits (front ++ (run ++ rest)) / 2 ^ sym f i % 2 ^ sym m i)
+    ∙ number-middle front run rest (AreBits-left front (run ++ rest) h)
+    (AreBits-left run rest bits)
+digit-parts MostSignificantFirst size count index front run rest h f m r =
+    let bits = AreBits-right front (run ++ rest) h in
+    let turned : reverse (front ++ (run ++ rest))
+    ≡ reverse rest ++ (reverse run ++ reverse front) =
+    reverse-append front (run ++ rest)
+    ∙ ap (λ l. l ++ reverse front) (reverse-append run rest)
+    ∙ append_assoc (reverse rest) (reverse run) (reverse front) in
+    let low : size * (count - 1 - index) ≡ length (reverse rest) =
+    sym (length-reverse rest ∙ r) in
+    let middle : size ≡ length (reverse run) = sym (length-reverse run ∙ m) in
+    (λ i. number_of_low_bits (turned i) / 2 ^ low i % 2 ^ middle i)
+    ∙ number-middle (reverse rest) (reverse run) (reverse front)
+    (AreBits-reverse rest (AreBits-right run rest bits))
+    (AreBits-reverse run (AreBits-left run rest bits))
+
+-- the bits of a digit, counted from the first
+pub digit-number_of : (order : BitOrder) (size count index : ℕ) (bits : List ℕ) → AreBits bits
+    → length bits ≡ size * count → index < count
+    → digit order size count (number_of order bits) index
+    ≡ number_of order (take size (drop (size * index) bits))
+digit-number_of order size count index bits h e k =
+    let r = count - 1 - index in
+    let whole : index + 1 + r ≡ count = omega arith in
+    let parts : size * count ≡ size * index + size + size * r =
+    ap (λ n. size * n) (sym whole)
+    ∙ omega (arith, mul-add size (index + 1) r, mul-add size index 1) in
+    let front = take (size * index) bits in
+    let others = drop (size * index) bits in
+    let run = take size others in
+    let rest = drop size others in
+    let front_len : length front ≡ size * index =
+    length-take-le (size * index) bits (omega arith) in
+    let others_len : length others ≡ size + size * r =
+    length-drop (size * index) bits ∙ omega arith in
+    let run_len : length run ≡ size = length-take-le size others (omega arith) in
+    let rest_len : length rest ≡ size * r = length-drop size others ∙ omega arith in
+    let joined : front ++ (run ++ rest) ≡ bits =
+    ap (λ l. front ++ l) (take-append-drop size others)
+    ∙ take-append-drop (size * index) bits in
+    ap (λ l. digit order size count (number_of order l) index) (sym joined)
+    ∙ digit-parts order size count index front run rest (subst AreBits (sym joined) h)
+    front_len run_len rest_len
+
+-- runs by their places
+runs_from : (size n a : ℕ) (xs : List ℕ)
+    → map (λ k. take size (drop (size * k) xs)) (range_with_len a n)
+    ≡ first_chunks size n (drop (size * a) xs)
+runs_from size zero a xs = refl
+runs_from size (suc n) a xs =
+    ap (λ l. take size (drop (size * a) xs) ∷ l)
+    (runs_from size n (a + 1) xs
+    ∙ ap (first_chunks size n)
+    (ap (λ m. drop m xs) (mul-add size a 1 ∙ omega arith)
+    ∙ sym (drop-drop size (size * a) xs)))
+
+pub first_chunks-places : (size n : ℕ) (xs : List ℕ)
+    → map (λ k. take size (drop (size * k) xs)) (range_with_len 0 n) ≡ first_chunks size n xs
+first_chunks-places size n xs =
+    runs_from size n 0 xs ∙ ap (λ m. first_chunks size n (drop m xs)) (mul-zero size)
+
+-- whole runs do not depend on what follows them
+pub first_chunks-append : (size n : ℕ) (xs ys : List ℕ) → size * n ≤ length xs
+    → first_chunks size n (xs ++ ys) ≡ first_chunks size n xs
+first_chunks-append size zero xs ys h = refl
+first_chunks-append size (suc n) xs ys h =
+    let more : size * suc n ≡ size + size * n = mul-suc size n ∙ omega arith in
+    let first = take-append-le size xs ys (omega arith) in
+    let others = drop-append-le size xs ys (omega arith) in
+    let len = length-drop size xs in
+    (λ i. first i ∷ first_chunks size n (others i))
+    ∙ ap (λ l. take size xs ∷ l) (first_chunks-append size n (drop size xs) ys (omega arith))
+
+same_from : {X : Type 0} (f g : ℕ → X) (n a : ℕ) → ((k : ℕ) → k < a + n → f k ≡ g k)
+    → map f (range_with_len a n) ≡ map g (range_with_len a n)
+same_from f g zero a h = refl
+same_from f g (suc n) a h =
+    (λ i. h a (omega arith) i
+    ∷ same_from f g n (a + 1) (λ k below. h k (omega arith)) i)
+
+-- functions that agree below n
+pub map-range-same : {X : Type 0} (f g : ℕ → X) (n : ℕ) → ((k : ℕ) → k < n → f k ≡ g k)
+    → map f (range_with_len 0 n) ≡ map g (range_with_len 0 n)
+map-range-same f g n h = same_from f g n 0 (λ k below. h k (omega arith))
+
+pub map-twice : {X Y Z : Type 0} (f : Y → Z) (g : X → Y) (xs : List X)
+    → map f (map g xs) ≡ map (λ x. f (g x)) xs
+map-twice f g [] = refl
+map-twice f g (x ∷ xs) = ap (λ l. f (g x) ∷ l) (map-twice f g xs)
+
+AreBits-zeros : (n : ℕ) → AreBits (replicate n 0)
+AreBits-zeros zero = tt
+AreBits-zeros (suc n) = (omega arith, AreBits-zeros n)
+
+-- the first digits of a word of bits are the numbers of its first runs
+pub digits-runs : (order : BitOrder) (size count n : ℕ) (bits : List ℕ) → AreBits bits
+    → length bits ≤ size * count → n ≤ count
+    → map (digit order size count (number_of order (zeros_to (size * count) bits)))
+    (range_with_len 0 n)
+    ≡ map (number_of order) (first_chunks size n (zeros_to (size * count) bits))
+digits-runs order size count n bits h e k =
+    let extra = size * count - length bits in
+    let all = zeros_to (size * count) bits in
+    let are : AreBits all = AreBits-append bits (replicate extra 0) h (AreBits-zeros extra) in
+    let len : length all ≡ size * count =
+    length-append bits (replicate extra 0)
+    ∙ ap (λ m. length bits + m) (length-replicate {A = ℕ} extra 0) ∙ omega arith in
+    map-range-same (digit order size count (number_of order all))
+    (λ j. number_of order (take size (drop (size * j) all))) n
+    (λ j below. digit-number_of order size count j all are len (omega arith))
+    ∙ sym (map-twice (number_of order) (λ j. take size (drop (size * j) all)) (range_with_len 0 n))
+    ∙ ap (map (number_of order)) (first_chunks-places size n all)
+
+-- a shifted byte
+pub record IsTerm (byte shift : ℕ) : Type 0 where
+  pub whole : byte * 2 ^ shift % 18446744073709551616 ≡ byte * 2 ^ shift
+  pub small : byte * 2 ^ shift % 18446744073709551616 ≤ 281474976710656
+
+pub term : (byte shift : ℕ) → byte < 256 → shift ≤ 40 → IsTerm byte shift
+term byte shift h k =
+    let whole : byte * 2 ^ shift % 18446744073709551616 ≡ byte * 2 ^ shift =
+    shl_whole byte 8 shift 64 h (omega arith) in
+    let most : byte * 2 ^ shift ≤ 255 * 1099511627776 =
+    mul-le byte (2 ^ shift) 255 1099511627776 (omega arith) (pow_mono k) in
+    record { whole = whole; small = omega (arith, whole, most) }
+
+-- no more digits than bits
+pub few_digits : (size count bits : ℕ) → 0 < size → size * count ≤ bits → count ≤ bits
+few_digits size count bits h k =
+    omega (arith, mul-le 1 count size count (omega arith) (omega arith))

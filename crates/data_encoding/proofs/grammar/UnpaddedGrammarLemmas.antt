@@ -1,0 +1,213 @@
+-- Symbols alone, group by group.
+use Rattle.std.proofs.Common.{◌≡◌, ℕ, zero, suc, ◌+◌, ◌*◌, ◌<◌, ◌≤◌, List, [], ◌∷◌, ◌++◌, length, map, take, drop, None, refl, sym, ap, ◌∙◌, subst, arith, ⊎_elim, length-append, append_assoc, take-append-drop, length-take-le}
+use Rattle.std.proofs.lemmas.Bool.{cases_lt}
+use Rattle.std.proofs.lemmas.List.{length-map, length-drop, map-append, append-nil, nil_from_length}
+use Rattle.std.proofs.lemmas.List.Concat.{flat_map-append}
+use Rattle.std.proofs.lemmas.List.Elements.{All-append, All-take, All-drop, All-from_recursion}
+use Rattle.std.specs.Prelude.{flat_map}
+use Rattle.std.specs.List.{AllByRecursion}
+use Rattle.data_encoding.specs.declared.encoding.Character.{Character}
+use Rattle.data_encoding.specs.declared.encoding.Character.TheVariants.{Symbol}
+use Rattle.data_encoding.specs.Base.{Base, meaning, group_bytes, group_symbols, IsWidth}
+use Rattle.data_encoding.specs.Bits.{bits_of, bits_of_bytes, runs}
+use Rattle.data_encoding.specs.Grammar.{Positioned, PlainMeans}
+use Rattle.data_encoding.specs.Fault.{bytes_of_group, plain_fault}
+use Rattle.data_encoding.proofs.grammar.UnpaddedGroupLemmas.{PlainMeans-count, PlainMeans-sound, PlainMeans-no_fault, length-bits_of_bytes, length-bits_of_values}
+use Rattle.data_encoding.proofs.lists.ListLemmas.{parts_same}
+use Rattle.data_encoding.proofs.lists.RunLemmas.{runs-first, runs-nil, runs-short}
+use Rattle.data_encoding.proofs.digits.WidthLemmas.{group_bits, group_symbols-pos}
+
+module _ (base : Base) (width : IsWidth base.width) where
+  abbrev m : Positioned → Character
+  m k = meaning base k.byte
+
+  abbrev bits : List ℕ → List ℕ
+  bits values = flat_map (bits_of base.order base.width) values
+
+  pub PlainMeans-nil : PlainMeans base [] []
+  PlainMeans-nil = record {
+    values = [];
+    rest = [];
+    are_symbols = refl;
+    same_bits = refl;
+    rest_is_short = width.some;
+    rest_is_zero = λ e. refl;
+    are_bytes = All-from_recursion (λ byte. byte < 256) [] tt;
+  }
+
+  -- symbols of so many whole bytes and others mean their bytes joined
+  pub PlainMeans-append : (group others : List Positioned) (bytes more : List ℕ) (whole : ℕ)
+      → base.width * length group ≡ 8 * whole → PlainMeans base group bytes
+      → PlainMeans base others more → PlainMeans base (group ++ others) (bytes ++ more)
+  PlainMeans-append group others bytes more whole all first second =
+      let count = PlainMeans-count base width group bytes first in
+      let none : first.rest ≡ [] =
+      nil_from_length first.rest (omega (arith, count, all, first.rest_is_short, width.few)) in
+      let exact : bits first.values ≡ bits_of_bytes base.order bytes =
+      first.same_bits ∙ ap (λ l. bits_of_bytes base.order bytes ++ l) none ∙ append-nil _ in
+      record {
+        values = first.values ++ second.values;
+        rest = second.rest;
+        are_symbols =
+            map-append m group others
+            ∙ (λ i. first.are_symbols i ++ second.are_symbols i)
+            ∙ sym (map-append (λ value. Symbol value) first.values second.values);
+        same_bits =
+            flat_map-append (bits_of base.order base.width) first.values second.values
+            ∙ (λ i. exact i ++ second.same_bits i)
+            ∙ sym (append_assoc (bits_of_bytes base.order bytes) (bits_of_bytes base.order more)
+            second.rest)
+            ∙ ap (λ l. l ++ second.rest) (sym (flat_map-append (bits_of base.order 8) bytes more));
+        rest_is_short = second.rest_is_short;
+        rest_is_zero = second.rest_is_zero;
+        are_bytes = All-append (λ byte. byte < 256) bytes more first.are_bytes second.are_bytes;
+      }
+
+  PlainMeans-join : (group others : List Positioned) (bytes more : List ℕ)
+      → length group ≡ group_symbols base.width → PlainMeans base group bytes
+      → PlainMeans base others more → PlainMeans base (group ++ others) (bytes ++ more)
+  PlainMeans-join group others bytes more whole first second =
+      PlainMeans-append group others bytes more (group_bytes base.width)
+      (ap (λ n. base.width * n) whole ∙ group_bits base.width width) first second
+
+  -- what a whole group and others mean is joined of what each means
+  pub record AreJoined (group others : List Positioned) (bytes : List ℕ) : Type 0 where
+    pub first : PlainMeans base group (take (group_bytes base.width) bytes)
+    pub second : PlainMeans base others (drop (group_bytes base.width) bytes)
+
+  pub PlainMeans-split : (group others : List Positioned) (bytes : List ℕ)
+      → length group ≡ group_symbols base.width → PlainMeans base (group ++ others) bytes
+      → AreJoined group others bytes
+  PlainMeans-split group others bytes whole means =
+      let dec = group_symbols base.width in
+      let enc = group_bytes base.width in
+      let count = PlainMeans-count base width (group ++ others) bytes means in
+      let full : base.width * dec ≡ 8 * enc = group_bits base.width width in
+      let many : length (group ++ others) ≡ dec + length others =
+      length-append group others ∙ ap (λ n. n + length others) whole in
+      let total : base.width * dec + base.width * length others
+      ≡ 8 * length bytes + length means.rest =
+      omega (arith, count, ap (λ n. base.width * n) many) in
+      let enough : enc ≤ length bytes =
+      omega (arith, total, full, means.rest_is_short, width.few) in
+      let values_len : length means.values ≡ length (group ++ others) =
+      sym (length-map means.values (λ value. Symbol value)) ∙ ap length (sym means.are_symbols)
+      ∙ length-map (group ++ others) m in
+      let v = take dec means.values in
+      let vs = drop dec means.values in
+      let v_len : length v ≡ dec = length-take-le dec means.values
+      (omega (arith, values_len, many)) in
+      let symbols = parts_same (map m group) (map m others) (map (λ value. Symbol value) v)
+      (map (λ value. Symbol value) vs)
+      (sym (map-append m group others) ∙ means.are_symbols
+      ∙ ap (map (λ value. Symbol value)) (sym (take-append-drop dec means.values))
+      ∙ map-append (λ value. Symbol value) v vs)
+      (length-map group m ∙ whole ∙ sym v_len ∙ sym (length-map v (λ value. Symbol value))) in
+      let front = take enc bytes in
+      let back = drop enc bytes in
+      let same = parts_same (bits v) (bits vs) (bits_of_bytes base.order front)
+      (bits_of_bytes base.order back ++ means.rest)
+      (sym (flat_map-append (bits_of base.order base.width) v vs)
+      ∙ ap bits (take-append-drop dec means.values) ∙ means.same_bits
+      ∙ ap (λ l. bits_of_bytes base.order l ++ means.rest) (sym (take-append-drop enc bytes))
+      ∙ ap (λ l. l ++ means.rest) (flat_map-append (bits_of base.order 8) front back)
+      ∙ append_assoc (bits_of_bytes base.order front) (bits_of_bytes base.order back) means.rest)
+      (length-bits_of_values base.order base.width v ∙ ap (λ n. base.width * n) v_len ∙ full
+      ∙ ap (λ n. 8 * n) (sym (length-take-le enc bytes enough))
+      ∙ sym (length-bits_of_bytes base.order front)) in
+      record {
+        first = record {
+          values = v;
+          rest = [];
+          are_symbols = symbols.0;
+          same_bits = same.0 ∙ sym (append-nil _);
+          rest_is_short = width.some;
+          rest_is_zero = λ e. refl;
+          are_bytes = All-take (λ byte. byte < 256) enc bytes means.are_bytes;
+        };
+        second = record {
+          values = vs;
+          rest = means.rest;
+          are_symbols = symbols.1;
+          same_bits = same.1;
+          rest_is_short = means.rest_is_short;
+          rest_is_zero = means.rest_is_zero;
+          are_bytes = All-drop (λ byte. byte < 256) enc bytes means.are_bytes;
+        };
+      }
+
+  abbrev pub ArePlain : List (List Positioned) → Type 0
+  ArePlain groups = AllByRecursion (λ group. plain_fault base group ≡ None) groups
+
+  abbrev pub groups_of : List Positioned → List (List Positioned)
+  groups_of ks = runs (group_symbols base.width) ks
+
+  abbrev bytes_of : List (List Positioned) → List ℕ
+  bytes_of groups = flat_map (bytes_of_group base) groups
+
+  dec-pos : 0 < group_symbols base.width
+  dec-pos = group_symbols-pos base.width width
+
+  joined_groups : (n : ℕ) (ks : List Positioned) → length ks ≤ n → ArePlain (groups_of ks)
+      → PlainMeans base ks (bytes_of (groups_of ks))
+  joined_groups n [] e sound =
+      subst (λ groups. PlainMeans base [] (bytes_of groups))
+      (sym (runs-nil {X = Positioned} (group_symbols base.width) dec-pos)) PlainMeans-nil
+  joined_groups zero (k ∷ ks) e sound = absurd (omega (arith, e))
+  joined_groups (suc n) (k ∷ ks) e sound =
+      let dec = group_symbols base.width in
+      let all = k ∷ ks in
+      let some : 0 < length all = omega arith in
+      let pos = dec-pos in
+      ⊎_elim
+      (λ (short : length all < dec).
+      let one = runs-short dec all some (omega arith) in
+      let fine = subst ArePlain one sound in
+      subst (λ groups. PlainMeans base all (bytes_of groups)) (sym one)
+      (subst (PlainMeans base all) (sym (append-nil (bytes_of_group base all)))
+      (PlainMeans-sound base width all fine.0)))
+      (λ (long : dec ≤ length all).
+      let first = runs-first dec all pos some in
+      let fine = subst ArePlain first sound in
+      let rest_len : length (drop dec all) ≤ n = omega (arith, length-drop dec all, e) in
+      subst (λ groups. PlainMeans base all (bytes_of groups)) (sym first)
+      (subst (λ l. PlainMeans base l (bytes_of_group base (take dec all)
+      ++ bytes_of (groups_of (drop dec all)))) (take-append-drop dec all)
+      (PlainMeans-join (take dec all) (drop dec all) _ _ (length-take-le dec all long)
+      (PlainMeans-sound base width (take dec all) fine.0)
+      (joined_groups n (drop dec all) rest_len fine.1))))
+      (cases_lt (length all) dec)
+
+  -- groups with no fault mean their bytes joined
+  pub PlainMeans-from_groups : (ks : List Positioned) → ArePlain (groups_of ks)
+      → PlainMeans base ks (bytes_of (groups_of ks))
+  PlainMeans-from_groups ks sound = joined_groups (length ks) ks (omega arith) sound
+
+  split_groups : (n : ℕ) (ks : List Positioned) (bytes : List ℕ) → length ks ≤ n
+      → PlainMeans base ks bytes → ArePlain (groups_of ks)
+  split_groups n [] bytes e means =
+      subst ArePlain (sym (runs-nil {X = Positioned} (group_symbols base.width) dec-pos)) tt
+  split_groups zero (k ∷ ks) bytes e means = absurd (omega (arith, e))
+  split_groups (suc n) (k ∷ ks) bytes e means =
+      let dec = group_symbols base.width in
+      let all = k ∷ ks in
+      let some : 0 < length all = omega arith in
+      let pos = dec-pos in
+      ⊎_elim
+      (λ (short : length all < dec).
+      subst ArePlain (sym (runs-short dec all some (omega arith)))
+      (PlainMeans-no_fault base width all bytes means, tt))
+      (λ (long : dec ≤ length all).
+      let rest_len : length (drop dec all) ≤ n = omega (arith, length-drop dec all, e) in
+      let parts = PlainMeans-split (take dec all) (drop dec all) bytes (length-take-le dec all long)
+      (subst (λ l. PlainMeans base l bytes) (sym (take-append-drop dec all)) means) in
+      subst ArePlain (sym (runs-first dec all pos some)) (
+        PlainMeans-no_fault base width (take dec all) _ parts.first,
+        split_groups n (drop dec all) _ rest_len parts.second,
+      ))
+      (cases_lt (length all) dec)
+
+  -- the groups of what means something have no fault
+  pub groups-PlainMeans : (ks : List Positioned) (bytes : List ℕ) → PlainMeans base ks bytes
+      → ArePlain (groups_of ks)
+  groups-PlainMeans ks bytes means = split_groups (length ks) ks bytes (omega arith) means

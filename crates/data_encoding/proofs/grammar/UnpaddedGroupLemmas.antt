@@ -1,0 +1,308 @@
+-- Symbols of one group: the bytes that they mean, and their fault.
+use Rattle.std.proofs.Common.{◌≡◌, ℕ, zero, suc, ◌+◌, ◌-◌, ◌*◌, ◌/◌, ◌%◌, ◌^◌, ◌<◌, ◌≤◌, ◌==◌, Bool, true, false, not, cond, ◌&&◌, nat_lt, List, [], ◌∷◌, ◌++◌, length, map, take, drop, replicate, Option, Some, None, refl, sym, ap, ◌∙◌, subst, arith, length-append, take-append-drop, length-take-le}
+use Rattle.std.proofs.lemmas.Bool.{false≢true}
+use Rattle.std.proofs.lemmas.Bool.Decides.{nat_tests}
+use Rattle.std.proofs.lemmas.List.{length-map, length-drop, take_at, drop_at}
+use Rattle.std.proofs.lemmas.Nat.{div-add-mod'}
+use Rattle.std.specs.Prelude.{flat_map}
+use Rattle.std.specs.List.{AllByRecursion, list_any, filter_map, position}
+use Rattle.std.proofs.lemmas.List.Elements.{All-from_recursion, recursion_from_All}
+use Rattle.data_encoding.specs.declared.error.DecodeError.{DecodeError}
+use Rattle.data_encoding.specs.declared.encoding.BitOrder.{BitOrder}
+use Rattle.data_encoding.specs.declared.encoding.Character.{Character}
+use Rattle.data_encoding.specs.declared.encoding.Character.TheVariants.{Symbol, Padding, Ignored, Invalid}
+use Rattle.data_encoding.specs.Base.{Base, meaning, is_symbol, value_of, IsWidth}
+use Rattle.data_encoding.specs.Bits.{bits_of, number_of, bits_of_bytes, runs}
+use Rattle.data_encoding.specs.Grammar.{Positioned, PlainMeans}
+use Rattle.data_encoding.specs.Lengths.{is_valid_count, greatest_valid_count}
+use Rattle.data_encoding.specs.Fault.{symbol_bits, trailing_bits, bytes_of_group, plain_fault, symbols_fault, trailing_fault, fault_at_first, fault_at}
+use Rattle.data_encoding.specs.declared.error.DecodeKind.TheVariants.{Length as LengthFault}
+use Rattle.data_encoding.proofs.digits.BitLemmas.{AreBits, AreBits-take, AreBits-drop, AreBits-flat_map, AreBits-bits_of, length-bits_of, length-pieces, bits_of-number_of, number_of-bits_of, number_of-below}
+use Rattle.data_encoding.proofs.lists.ListLemmas.{AllFail, position-none, AllFail-position, list_any-none, AllFail-list_any, filter_map-map, zeros}
+use Rattle.data_encoding.proofs.lists.RunLemmas.{runs-first, runs-flat_map}
+
+-- whole bytes of bits are the bits of those bytes
+pub record AreBytesOf (order : BitOrder) (bits bytes : List ℕ) : Type 0 where
+  pub same_bits : bits_of_bytes order bytes ≡ bits
+  pub below : AllByRecursion (λ byte. byte < 256) bytes
+
+bytes_within : (n : ℕ) (order : BitOrder) (bits : List ℕ) → AreBits bits → length bits % 8 ≡ 0
+    → length bits ≤ n → AreBytesOf order bits (map (number_of order) (runs 8 bits))
+bytes_within n order [] h e k = record { same_bits = refl; below = tt }
+bytes_within zero order (bit ∷ bits) h e k = absurd (omega (arith, k))
+bytes_within (suc n) order (bit ∷ bits) h e k =
+    let all = bit ∷ bits in
+    let long : 8 ≤ length all = omega (arith, e) in
+    let front = take 8 all in
+    let rest = drop 8 all in
+    let front_len : length front ≡ 8 = length-take-le 8 all long in
+    let rest_len : length rest ≡ length all - 8 = length-drop 8 all in
+    let front_bits : AreBits front = AreBits-take 8 all h in
+    let others = bytes_within n order rest (AreBits-drop 8 all h) (omega (arith, rest_len, e))
+    (omega (arith, rest_len, k)) in
+    let first : bits_of order 8 (number_of order front) ≡ front =
+    subst (λ m. bits_of order m (number_of order front) ≡ front) front_len
+    (bits_of-number_of order front front_bits) in
+    let first_below : number_of order front < 2 ^ 8 =
+    subst (λ m. number_of order front < 2 ^ m) front_len (number_of-below order front front_bits) in
+    let is : number_of order front ∷ map (number_of order) (runs 8 rest)
+    ≡ map (number_of order) (runs 8 all) =
+    ap (map (number_of order)) (sym (runs-first 8 all (omega arith) (omega arith))) in
+    subst (AreBytesOf order all) is (record {
+      same_bits =
+          ap (λ l. l ++ bits_of_bytes order (map (number_of order) (runs 8 rest))) first
+          ∙ ap (λ l. front ++ l) others.same_bits ∙ take-append-drop 8 all;
+      below = (omega (arith, first_below), others.below);
+    })
+
+pub AreBytesOf-runs : (order : BitOrder) (bits : List ℕ) → AreBits bits → length bits % 8 ≡ 0
+    → AreBytesOf order bits (map (number_of order) (runs 8 bits))
+AreBytesOf-runs order bits h e = bytes_within (length bits) order bits h e (omega arith)
+
+numbers_back : (order : BitOrder) (bytes : List ℕ) → AllByRecursion (λ byte. byte < 256) bytes
+    → map (number_of order) (map (bits_of order 8) bytes) ≡ bytes
+numbers_back order [] h = refl
+numbers_back order (byte ∷ bytes) h =
+    (λ i. number_of-bits_of order 8 byte (omega (arith, h.0)) i ∷ numbers_back order bytes h.1 i)
+
+-- the bits of bytes, as bytes again
+pub bytes-bits : (order : BitOrder) (bytes : List ℕ) → AllByRecursion (λ byte. byte < 256) bytes
+    → map (number_of order) (runs 8 (bits_of_bytes order bytes)) ≡ bytes
+bytes-bits order bytes h =
+    ap (map (number_of order))
+    (runs-flat_map 8 (bits_of order 8) bytes (omega arith) (length-bits_of order 8))
+    ∙ numbers_back order bytes h
+
+pub length-bits_of_bytes : (order : BitOrder) (bytes : List ℕ)
+    → length (bits_of_bytes order bytes) ≡ 8 * length bytes
+length-bits_of_bytes order bytes = length-pieces 8 (bits_of order 8) bytes (length-bits_of order 8)
+
+pub length-bits_of_values : (order : BitOrder) (width : ℕ) (values : List ℕ)
+    → length (flat_map (bits_of order width) values) ≡ width * length values
+length-bits_of_values order width values =
+    length-pieces width (bits_of order width) values (length-bits_of order width)
+
+-- symbols have the values that were found
+pub values-symbols : (meanings : List Character) → AllByRecursion (λ m. is_symbol m ≡ true) meanings
+    → meanings ≡ map (λ value. Symbol value) (filter_map value_of meanings)
+values-symbols [] h = refl
+values-symbols (Symbol value ∷ meanings) h =
+    ap (λ l. Symbol value ∷ l) (values-symbols meanings h.1)
+values-symbols (Padding ∷ meanings) h = absurd (false≢true h.0)
+values-symbols (Ignored ∷ meanings) h = absurd (false≢true h.0)
+values-symbols (Invalid ∷ meanings) h = absurd (false≢true h.0)
+
+pub symbols-values : (values : List ℕ)
+    → filter_map value_of (map (λ value. Symbol value) values) ≡ values
+symbols-values [] = refl
+symbols-values (value ∷ values) = ap (λ l. value ∷ l) (symbols-values values)
+
+symbols_pass : (values : List ℕ)
+    → AllFail (λ m. not (is_symbol m)) (map (λ value. Symbol value) values)
+symbols_pass [] = tt
+symbols_pass (value ∷ values) = (refl, symbols_pass values)
+
+fail-map : {X Y : Type 0} (test : Y → Bool) (f : X → Y) (xs : List X) → AllFail test (map f xs)
+    → AllFail (λ x. test (f x)) xs
+fail-map test f [] h = tt
+fail-map test f (x ∷ xs) h = (h.0, fail-map test f xs h.1)
+
+pass-map : {X Y : Type 0} (test : Y → Bool) (f : X → Y) (xs : List X)
+    → AllFail (λ x. not (test (f x))) xs → AllByRecursion (λ y. test y ≡ true) (map f xs)
+pass-map test f [] h = tt
+pass-map test f (x ∷ xs) h = (twice (test (f x)) h.0, pass-map test f xs h.1) where
+  twice : (b : Bool) → not b ≡ false → b ≡ true
+  twice true e = refl
+  twice false e = cc
+
+module _ (base : Base) where
+  -- the values of the symbols of a group
+  abbrev pub values_in : List Positioned → List ℕ
+  values_in group = filter_map (λ k. value_of (meaning base k.byte)) group
+
+  -- the meanings of a group
+  abbrev pub meanings_in : List Positioned → List Character
+  meanings_in group = map (λ k. meaning base k.byte) group
+
+  values_in-symbols : (group : List Positioned) (values : List ℕ)
+      → meanings_in group ≡ map (λ value. Symbol value) values → values_in group ≡ values
+  values_in-symbols group values h =
+      sym (filter_map-map value_of (λ (k : Positioned). meaning base k.byte) group)
+      ∙ ap (filter_map value_of) h ∙ symbols-values values
+
+  -- nothing is found that is no symbol
+  symbols_found : (group : List Positioned) (values : List ℕ)
+      → meanings_in group ≡ map (λ value. Symbol value) values
+      → position (λ k. not (is_symbol (meaning base k.byte))) group ≡ None
+  symbols_found group values h =
+      position-none (λ (k : Positioned). not (is_symbol (meaning base k.byte))) group
+      (fail-map (λ m. not (is_symbol m)) (λ (k : Positioned). meaning base k.byte) group
+      (subst (AllFail (λ m. not (is_symbol m))) (sym h) (symbols_pass values)))
+
+  pub are_symbols : (group : List Positioned)
+      → position (λ k. not (is_symbol (meaning base k.byte))) group ≡ None
+      → meanings_in group ≡ map (λ value. Symbol value) (values_in group)
+  are_symbols group h =
+      values-symbols (meanings_in group)
+      (pass-map is_symbol (λ (k : Positioned). meaning base k.byte) group
+      (AllFail-position (λ (k : Positioned). not (is_symbol (meaning base k.byte))) group h))
+      ∙ ap (map (λ value. Symbol value))
+      (filter_map-map value_of (λ (k : Positioned). meaning base k.byte) group)
+
+valid_and_sound : {A : Type 0} (valid : Bool) (sound : Option A) (fault : A)
+    → cond valid sound (Some fault) ≡ None → (valid ≡ true) × (sound ≡ None)
+valid_and_sound true sound fault h = (refl, h)
+valid_and_sound false sound fault h = cc
+
+none_found : (o : Option ℕ) (group : List Positioned) (otherwise : Option DecodeError)
+    → fault_at_first o group otherwise ≡ None → (o ≡ None) × (otherwise ≡ None)
+none_found None group otherwise h = (refl, h)
+none_found (Some index) group otherwise h = cc
+
+unless : {A : Type 0} (b : Bool) (fault : A) → cond b (Some fault) None ≡ None → b ≡ false
+unless true fault h = cc
+unless false fault h = refl
+
+both_false : (a b : Bool) → a && b ≡ false → a ≡ true → b ≡ false
+both_false true b h e = h
+both_false false b h e = cc
+
+zero_bit : (bit : ℕ) → not (bit == 0) ≡ false → bit ≡ 0
+zero_bit bit h = grind (arith, nat_tests)
+
+zero_bits : (bits : List ℕ) → AllFail (λ bit. not (bit == 0)) bits
+    → AllByRecursion (λ bit. bit ≡ 0) bits
+zero_bits [] h = tt
+zero_bits (bit ∷ bits) h = (zero_bit bit h.0, zero_bits bits h.1)
+
+zeros_pass : (n : ℕ) → AllFail (λ bit. not (bit == 0)) (replicate n 0)
+zeros_pass zero = tt
+zeros_pass (suc n) = (refl, zeros_pass n)
+
+short_rest : (bits : List ℕ) (width count : ℕ) → length bits ≡ width * count
+    → is_valid_count width count ≡ true → length (drop (length bits / 8 * 8) bits) < width
+short_rest bits width count h valid =
+    let short : width * count % 8 < width = grind (arith, nat_tests) in
+    let same : length bits % 8 ≡ width * count % 8 = ap (λ n. n % 8) h in
+    omega (arith, length-drop (length bits / 8 * 8) bits, div-add-mod' (length bits) 8)
+
+valid_by : (n width bytes rest : ℕ) → n ≡ 8 * bytes + rest → rest < width → width ≤ 6
+    → nat_lt (n % 8) width ≡ true
+valid_by n width bytes rest h short few =
+    let same : n % 8 ≡ rest = omega arith in
+    grind (arith, nat_tests)
+
+quiet : {A : Type 0} (checks any : Bool) (fault : A) → (checks ≡ true → any ≡ false)
+    → cond (checks && any) (Some fault) None ≡ None
+quiet true any fault h = ap (λ b. cond b (Some fault) None) (h refl)
+quiet false any fault h = refl
+
+-- bits that are bytes and a short rest
+pub record AreSplit (bits front rest : List ℕ) : Type 0 where
+  pub is_front : take (length bits / 8 * 8) bits ≡ front
+  pub is_rest : drop (length bits / 8 * 8) bits ≡ rest
+
+split_bits : (bits front rest : List ℕ) (count : ℕ) → bits ≡ front ++ rest
+    → length front ≡ 8 * count → length rest < 8 → AreSplit bits front rest
+split_bits bits front rest count h e short =
+    let len : length bits ≡ 8 * count + length rest =
+    ap length h ∙ length-append front rest ∙ ap (λ n. n + length rest) e in
+    let whole : length bits / 8 * 8 ≡ length front = omega arith in
+    record {
+      is_front = (λ i. take (whole i) (h i)) ∙ take_at front rest (length front) refl;
+      is_rest = (λ i. drop (whole i) (h i)) ∙ drop_at front rest (length front) refl;
+    }
+
+module _ (base : Base) (width : IsWidth base.width) where
+  -- a group with no fault means its bytes
+  pub PlainMeans-sound : (group : List Positioned) → plain_fault base group ≡ None
+      → PlainMeans base group (bytes_of_group base group)
+  PlainMeans-sound group h =
+      let valid = valid_and_sound (is_valid_count base.width (length group))
+      (symbols_fault base group) _ h in
+      let none = none_found (position (λ k. not (is_symbol (meaning base k.byte))) group) group
+      (trailing_fault base group) valid.1 in
+      let bits = symbol_bits base group in
+      let whole = length bits / 8 * 8 in
+      let rest = trailing_bits base group in
+      let zero_rest = unless (base.checks_trailing_bits && list_any (λ bit. not (bit == 0)) rest)
+      _ none.1 in
+      let are_bits : AreBits bits = AreBits-flat_map (bits_of base.order base.width)
+      (values_in base group) (AreBits-bits_of base.order base.width) in
+      let front_len : length (take whole bits) ≡ whole = length-take-le whole bits (omega arith) in
+      let bytes = AreBytesOf-runs base.order (take whole bits) (AreBits-take whole bits are_bits)
+      (omega (arith, front_len)) in
+      let symbols = are_symbols base group none.0 in
+      let many : length (values_in base group) ≡ length group =
+      sym (length-map (values_in base group) (λ value. Symbol value)) ∙ ap length (sym symbols)
+      ∙ length-map group (λ (k : Positioned). meaning base k.byte) in
+      let bits_len : length bits ≡ base.width * length group =
+      length-bits_of_values base.order base.width (values_in base group)
+      ∙ ap (λ n. base.width * n) many in
+      record {
+        values = values_in base group;
+        rest = rest;
+        are_symbols = symbols;
+        same_bits = sym (take-append-drop whole bits) ∙ ap (λ l. l ++ rest) (sym bytes.same_bits);
+        rest_is_short = short_rest bits base.width (length group) bits_len valid.0;
+        rest_is_zero =
+            λ e. zeros rest
+            (zero_bits rest (AllFail-list_any (λ bit. not (bit == 0)) rest
+            (both_false base.checks_trailing_bits _ zero_rest e)));
+        are_bytes = All-from_recursion (λ byte. byte < 256) (bytes_of_group base group) bytes.below;
+      }
+
+  module _ (group : List Positioned) (bytes : List ℕ) (means : PlainMeans base group bytes) where
+    values_are : values_in base group ≡ means.values
+    values_are = values_in-symbols base group means.values means.are_symbols
+
+    bits_are : symbol_bits base group ≡ bits_of_bytes base.order bytes ++ means.rest
+    bits_are = ap (flat_map (bits_of base.order base.width)) values_are ∙ means.same_bits
+
+    split : AreSplit (symbol_bits base group) (bits_of_bytes base.order bytes) means.rest
+    split =
+        split_bits (symbol_bits base group) (bits_of_bytes base.order bytes) means.rest
+        (length bytes)
+        bits_are (length-bits_of_bytes base.order bytes)
+        (omega (arith, means.rest_is_short, width.few))
+
+    -- so many bits stand in both
+    pub PlainMeans-count : base.width * length group ≡ 8 * length bytes + length means.rest
+    PlainMeans-count =
+        let many : length means.values ≡ length group =
+        sym (length-map means.values (λ value. Symbol value)) ∙ ap length (sym means.are_symbols)
+        ∙ length-map group (λ (k : Positioned). meaning base k.byte) in
+        ap (λ n. base.width * n) (sym many)
+        ∙ sym (length-bits_of_values base.order base.width means.values)
+        ∙ ap length means.same_bits
+        ∙ length-append (bits_of_bytes base.order bytes) means.rest
+        ∙ ap (λ n. n + length means.rest) (length-bits_of_bytes base.order bytes)
+
+    pub PlainMeans-valid : is_valid_count base.width (length group) ≡ true
+    PlainMeans-valid =
+        valid_by (base.width * length group) base.width (length bytes) (length means.rest)
+        PlainMeans-count means.rest_is_short width.few
+
+    pub PlainMeans-bytes : bytes_of_group base group ≡ bytes
+    PlainMeans-bytes =
+        ap (λ l. map (number_of base.order) (runs 8 l)) split.is_front
+        ∙ bytes-bits base.order bytes
+        (recursion_from_All (λ byte. byte < 256) bytes means.are_bytes)
+
+    no_trailing : trailing_fault base group ≡ None
+    no_trailing =
+        quiet base.checks_trailing_bits
+        (list_any (λ bit. not (bit == 0)) (trailing_bits base group)) _
+        (λ e. let zero_rest = split.is_rest ∙ means.rest_is_zero e in
+        ap (list_any (λ bit. not (bit == 0))) zero_rest
+        ∙ list_any-none (λ bit. not (bit == 0)) _ (zeros_pass (length means.rest)))
+
+    -- what means something has no fault
+    pub PlainMeans-no_fault : plain_fault base group ≡ None
+    PlainMeans-no_fault =
+        ap (λ b. cond b (symbols_fault base group)
+        (fault_at LengthFault group (greatest_valid_count base.width (length group))))
+        PlainMeans-valid
+        ∙ ap (λ o. fault_at_first o group (trailing_fault base group))
+        (symbols_found base group means.values means.are_symbols)
+        ∙ no_trailing

@@ -1,0 +1,6 @@
+-- Lists: what every element has, positions, and lists cut into parts.
+pub mod RunLemmas
+pub mod ListLemmas
+pub mod PartLemmas
+pub mod EachLemmas
+pub mod RepeatLemmas

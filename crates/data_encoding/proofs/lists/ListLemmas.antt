@@ -1,0 +1,154 @@
+-- Lists: what is found first, what is left out, and parts that are joined.
+use Rattle.std.proofs.Common.{◌≡◌, ℕ, suc, ◌+◌, ◌≤◌, Bool, true, false, not, cond, ◌||◌, nat_lt, List, [], ◌∷◌, ◌++◌, length, map, take, drop, replicate, Option, Some, None, refl, sym, ap, ◌∙◌, arith, length-append}
+use Rattle.std.proofs.lemmas.Bool.Decides.{nat_tests}
+use Rattle.std.specs.List.{AllByRecursion, list_any, filter, filter_map, take_while, position, prefix_len, slice_get, cons_option}
+use Rattle.std.proofs.lemmas.List.{take_at, drop_at, take_all}
+
+-- none passes the test
+abbrev pub AllFail : {X : Type 0} → (X → Bool) → List X → Type 0
+AllFail test xs = AllByRecursion (λ x. test x ≡ false) xs
+
+prefix_len-all : {X : Type 0} (test : X → Bool) (xs : List X) → AllFail test xs
+    → prefix_len (λ x. not (test x)) xs ≡ length xs
+prefix_len-all test [] h = refl
+prefix_len-all test (x ∷ xs) h =
+    ap (λ b. cond (not b) (1 + prefix_len (λ y. not (test y)) xs) 0) h.0
+    ∙ ap (λ n. 1 + n) (prefix_len-all test xs h.1) ∙ omega arith
+
+fails : (b : Bool) (m n : ℕ) → suc m ≤ cond (not b) (1 + n) 0 → (b ≡ false) × (m ≤ n)
+fails true m n h = absurd (omega (arith, h))
+fails false m n h = (refl, omega (arith, h))
+
+AllFail-prefix_len : {X : Type 0} (test : X → Bool) (xs : List X)
+    → length xs ≤ prefix_len (λ x. not (test x)) xs → AllFail test xs
+AllFail-prefix_len test [] h = tt
+AllFail-prefix_len test (x ∷ xs) h =
+    let here = fails (test x) (length xs) (prefix_len (λ y. not (test y)) xs) h in
+    (here.0, AllFail-prefix_len test xs here.1)
+
+-- nothing is found exactly where none passes
+pub position-none : {X : Type 0} (test : X → Bool) (xs : List X) → AllFail test xs
+    → position test xs ≡ None
+position-none test xs h =
+    let place = prefix_len (λ x. not (test x)) xs in
+    let past : nat_lt place (length xs)
+    ≡ false = grind (arith, nat_tests, prefix_len-all test xs h) in
+    ap (λ b. cond b (Some place) None) past
+
+found : (b : Bool) (n : ℕ) → cond b (Some n) None ≡ None → b ≡ false
+found true n h = cc
+found false n h = refl
+
+pub AllFail-position : {X : Type 0} (test : X → Bool) (xs : List X) → position test xs ≡ None
+    → AllFail test xs
+AllFail-position test xs h =
+    let place = prefix_len (λ x. not (test x)) xs in
+    let past = found (nat_lt place (length xs)) place h in
+    AllFail-prefix_len test xs (grind (arith, nat_tests))
+
+-- the same of a test of each
+pub list_any-none : {X : Type 0} (test : X → Bool) (xs : List X) → AllFail test xs
+    → list_any test xs ≡ false
+list_any-none test [] h = refl
+list_any-none test (x ∷ xs) h = ap (λ b. b || list_any test xs) h.0 ∙ list_any-none test xs h.1
+
+neither : (a b : Bool) → (a || b) ≡ false → (a ≡ false) × (b ≡ false)
+neither true b h = cc
+neither false b h = (refl, h)
+
+pub AllFail-list_any : {X : Type 0} (test : X → Bool) (xs : List X) → list_any test xs ≡ false
+    → AllFail test xs
+AllFail-list_any test [] h = tt
+AllFail-list_any test (x ∷ xs) h =
+    let both = neither (test x) (list_any test xs) h in
+    (both.0, AllFail-list_any test xs both.1)
+
+-- nothing is left out
+pub filter-all : {X : Type 0} (test : X → Bool) (xs : List X)
+    → AllByRecursion (λ x. test x ≡ true) xs → filter test xs ≡ xs
+filter-all test [] h = refl
+filter-all test (x ∷ xs) h =
+    ap (λ b. cond b (x ∷ filter test xs) (filter test xs)) h.0
+    ∙ ap (λ l. x ∷ l) (filter-all test xs h.1)
+
+shorter : {X : Type 0} (b : Bool) (x : X) (xs ys : List X) → length ys ≤ length xs
+    → length (cond b (x ∷ ys) ys) ≤ suc (length xs)
+shorter true x xs ys h = omega (arith, h)
+shorter false x xs ys h = omega (arith, h)
+
+pub length-filter : {X : Type 0} (test : X → Bool) (xs : List X)
+    → length (filter test xs) ≤ length xs
+length-filter test [] = omega arith
+length-filter test (x ∷ xs) =
+    shorter (test x) x xs (filter test xs) (length-filter test xs)
+
+passed : {X : Type 0} (test : X → Bool) (xs : List X)
+    → AllByRecursion (λ x. test x ≡ true) xs → prefix_len test xs ≡ length xs
+passed test [] h = refl
+passed test (x ∷ xs) h =
+    ap (λ b. cond b (1 + prefix_len test xs) 0) h.0
+    ∙ ap (λ n. 1 + n) (passed test xs h.1) ∙ omega arith
+
+pub take_while-all : {X : Type 0} (test : X → Bool) (xs : List X)
+    → AllByRecursion (λ x. test x ≡ true) xs → take_while test xs ≡ xs
+take_while-all test xs h = take_all (prefix_len test xs) xs (omega (arith, passed test xs h))
+
+pub filter_map-map : {X Y Z : Type 0} (f : Y → Option Z) (g : X → Y) (xs : List X)
+    → filter_map f (map g xs) ≡ filter_map (λ x. f (g x)) xs
+filter_map-map f g [] = refl
+filter_map-map f g (x ∷ xs) = ap (cons_option (f (g x))) (filter_map-map f g xs)
+
+-- two lists that are joined alike at the same place have the same parts
+pub parts_same : {X : Type 0} (xs ys zs ws : List X) → xs ++ ys ≡ zs ++ ws
+    → length xs ≡ length zs → (xs ≡ zs) × (ys ≡ ws)
+parts_same xs ys zs ws h e = (
+  sym (take_at xs ys (length xs) refl) ∙ ap (take (length xs)) h ∙ take_at zs ws (length xs)
+      (sym e),
+  sym (drop_at xs ys (length xs) refl) ∙ ap (drop (length xs)) h
+      ∙ drop_at zs ws (length xs) (sym e),
+)
+
+-- the first of what is given, and none
+pub first-none : {X : Type 0} (xs : List X) → slice_get xs 0 ≡ None → xs ≡ []
+first-none [] h = refl
+first-none (x ∷ xs) h = cc
+
+pub filter_map-none : {X Y : Type 0} (f : X → Option Y) (xs : List X)
+    → AllByRecursion (λ x. f x ≡ None) xs → filter_map f xs ≡ []
+filter_map-none f [] h = refl
+filter_map-none f (x ∷ xs) h =
+    ap (λ o. cons_option o (filter_map f xs)) h.0 ∙ filter_map-none f xs h.1
+
+gave : {Y : Type 0} (o : Option Y) (ys : List Y) → cons_option o ys ≡ [] → (o ≡ None) × (ys ≡ [])
+gave None ys h = (refl, h)
+gave (Some y) ys h = cc
+
+pub none-filter_map : {X Y : Type 0} (f : X → Option Y) (xs : List X) → filter_map f xs ≡ []
+    → AllByRecursion (λ x. f x ≡ None) xs
+none-filter_map f [] h = tt
+none-filter_map f (x ∷ xs) h =
+    let here = gave (f x) (filter_map f xs) h in (here.0, none-filter_map f xs here.1)
+
+-- zeros
+pub zeros : (xs : List ℕ) → AllByRecursion (λ x. x ≡ 0) xs → xs ≡ replicate (length xs) 0
+zeros [] h = refl
+zeros (x ∷ xs) h = (λ i. h.0 i ∷ zeros xs h.1 i)
+
+-- the first that passes is found
+pub position-first : {X : Type 0} (test : X → Bool) (xs : List X) (x : X) (ys : List X)
+    → AllFail test xs → test x ≡ true → position test (xs ++ x ∷ ys) ≡ Some (length xs)
+position-first test xs x ys h e =
+    let place = prefix_len-first test xs x ys h e in
+    let inside : nat_lt (prefix_len (λ y. not (test y)) (xs ++ x ∷ ys)) (length (xs ++ x ∷ ys))
+    ≡ true =
+    grind (arith, nat_tests, place, length-append xs (x ∷ ys)) in
+    ap (λ b. cond b (Some (prefix_len (λ y. not (test y)) (xs ++ x ∷ ys))) None) inside
+    ∙ ap (λ n. Some n) place where
+      prefix_len-first : {X : Type 0} (test : X → Bool) (xs : List X) (x : X) (ys : List X)
+          → AllFail test xs → test x ≡ true
+          → prefix_len (λ y. not (test y)) (xs ++ x ∷ ys) ≡ length xs
+      prefix_len-first test [] x ys h e =
+          ap (λ b. cond (not b) (1 + prefix_len (λ y. not (test y)) ys) 0) e
+      prefix_len-first test (z ∷ xs) x ys h e =
+          ap (λ b. cond (not b) (1 + prefix_len (λ y. not (test y)) (xs ++ x ∷ ys)) 0) h.0
+          ∙ ap (λ n. 1 + n) (prefix_len-first test xs x ys h.1 e) ∙ omega arith

@@ -1,0 +1,110 @@
+-- Where groups stand in what is read and in what is written.
+use Rattle.std.proofs.Common.{◌≡◌, ℕ, ◌+◌, ◌-◌, ◌*◌, ◌/◌, ◌%◌, ◌<◌, ◌≤◌, List, length, take, drop, sym, ap, ◌∙◌, subst, arith, length-take-le}
+use Rattle.std.proofs.lemmas.List.{length-drop}
+use Rattle.std.proofs.Math.Nat.{mul-add, add-mul, mul_left_comm, mul-add-div, mul-add-mod_self_left, mul-le-mul_right, mod-lt, div-eq_of_lt}
+use Rattle.std.proofs.lemmas.Nat.{div-add-mod'}
+use Rattle.data_encoding.specs.Tables.{IsGroup}
+use Rattle.data_encoding.proofs.digits.WidthLemmas.{group_bits, group_bytes-pos, group_symbols-pos}
+use Rattle.data_encoding.specs.Base.{IsWidth}
+
+-- a whole group has as many bits on both sides
+pub record IsWhole (width bytes symbols : ℕ) : Type 0 where
+  pub is_width : IsWidth width
+  pub same_bits : width * symbols ≡ 8 * bytes
+  pub some_bytes : 0 < bytes
+  pub some_symbols : 0 < symbols
+
+pub IsWhole-group : (width bytes symbols : ℕ) → IsGroup width bytes symbols
+    → IsWhole width bytes symbols
+IsWhole-group width bytes symbols g =
+    let is : IsWidth width = g.is_width in
+    record {
+      is_width = is;
+      same_bits =
+          ap (λ n. width * n) g.has_symbols ∙ group_bits width is
+          ∙ ap (λ n. 8 * n) (sym g.has_bytes);
+      some_bytes = subst (λ n. 0 < n) (sym g.has_bytes) (group_bytes-pos width is);
+      some_symbols = subst (λ n. 0 < n) (sym g.has_symbols) (group_symbols-pos width is);
+    }
+
+-- Groups of so many are read, and of each as many written: m bits for each that is read, d for each
+-- that is written.
+module _ (m d from to extra : ℕ) (same : m * from ≡ d * to) (pos : 0 < d) where
+  pub regroup : (q : ℕ) → m * (q * from) ≡ d * (q * to)
+  regroup q = mul_left_comm m q from ∙ ap (λ n. q * n) same ∙ mul_left_comm q d to
+
+  split : (n q r : ℕ) → n ≡ q * from + r → m * n + extra ≡ d * (q * to) + (m * r + extra)
+  split n q r e =
+      let parts : m * n ≡ m * (q * from) + m * r = ap (λ k. m * k) e ∙ mul-add m (q * from) r in
+      omega (arith, parts, regroup q)
+
+  quotient : (n q r : ℕ) → n ≡ q * from + r
+      → (m * n + extra) / d ≡ q * to + (m * r + extra) / d
+  quotient n q r e =
+      ap (λ k. k / d) (split n q r e) ∙ mul-add-div pos (q * to) (m * r + extra)
+
+  -- there is room for the groups that are left
+  pub room-next : (n i : ℕ) → i * from + from ≤ n → i * to + to ≤ (m * n + extra) / d
+  room-next n i h =
+      let next : (i + 1) * from ≡ i * from + from = add-mul i 1 from ∙ omega arith in
+      let next_to : (i + 1) * to ≡ i * to + to = add-mul i 1 to ∙ omega arith in
+      omega (
+        arith,
+        quotient n (i + 1) (n - (i * from + from)) (omega (arith, next, h)),
+        next_to,
+      )
+
+  pub room-rest : (n i : ℕ) → i * from ≤ n → i * to ≤ (m * n + extra) / d
+  room-rest n i h = omega (arith, quotient n i (n - i * from) (omega (arith, h)))
+
+  -- and what is left over is the room of what is left
+  pub size-rest : (n i : ℕ) → i * from ≤ n
+      → (m * n + extra) / d - i * to ≡ (m * (n - i * from) + extra) / d
+  size-rest n i h =
+      let whole = quotient n i (n - i * from) (omega (arith, h)) in omega (arith, whole)
+
+  pub rest-of-bits : (n i : ℕ) → i * from ≤ n
+      → (m * n + extra) % d ≡ (m * (n - i * from) + extra) % d
+  rest-of-bits n i h =
+      ap (λ k. k % d) (split n i (n - i * from) (omega (arith, h)))
+      ∙ mul-add-mod_self_left d (i * to) (m * (n - i * from) + extra)
+
+-- a group before the last whole one ends before it
+pub group-before : (n size i : ℕ) → i < n / size → i * size + size ≤ n
+group-before n size i h =
+    let next : (i + 1) * size ≡ i * size + size = add-mul i 1 size ∙ omega arith in
+    let up : (i + 1) * size ≤ n / size * size = mul-le-mul_right size (omega (arith, h)) in
+    omega (arith, up, next, div-add-mod' n size)
+
+pub groups-within : (n size : ℕ) → n / size * size ≤ n
+groups-within n size = omega (arith, div-add-mod' n size)
+
+pub short-rest : (n size : ℕ) → 0 < size → n - n / size * size < size
+short-rest n size h = omega (arith, div-add-mod' n size, mod-lt n h)
+
+pub one-more : (i size : ℕ) → (i + 1) * size ≡ i * size + size
+one-more i size = add-mul i 1 size ∙ omega arith
+
+-- a whole group gives a whole group
+pub whole-group : (m d from to extra : ℕ) → m * from ≡ d * to → extra < d
+    → (m * from + extra) / d ≡ to
+whole-group m d from to extra same few =
+    ap (λ n. (n + extra) / d) same ∙ mul-add-div (omega (arith, few)) to extra
+    ∙ ap (λ n. to + n) (div-eq_of_lt few) ∙ omega arith
+
+-- a part of a list, by its two ends
+pub length-part : {X : Type 0} (start size : ℕ) (xs : List X) → start + size ≤ length xs
+    → length (take (start + size - start) (drop start xs)) ≡ size
+length-part start size xs h =
+    let few : start + size - start ≤ length (drop start xs) =
+    omega (arith, length-drop start xs, h) in
+    length-take-le (start + size - start) (drop start xs) few ∙ omega arith
+
+pub part-is : {X : Type 0} (start size : ℕ) (xs : List X)
+    → take (start + size - start) (drop start xs) ≡ take size (drop start xs)
+part-is start size xs = ap (λ n. take n (drop start xs)) (omega arith)
+
+pub length-rest : {X : Type 0} (start : ℕ) (xs : List X)
+    → length (take (length xs - start) (drop start xs)) ≡ length xs - start
+length-rest start xs =
+    length-take-le (length xs - start) (drop start xs) (omega (arith, length-drop start xs))

@@ -1,0 +1,135 @@
+-- Lists cut into runs.
+use Rattle.std.proofs.Common.{◌≡◌, ℕ, zero, suc, ◌+◌, ◌-◌, ◌*◌, ◌/◌, ◌%◌, ◌<◌, ◌≤◌, List, [], ◌∷◌, ◌++◌, length, map, take, drop, refl, sym, ap, ◌∙◌, arith, length-append, append_assoc, take-append-drop, length-take-le, ⊎_elim}
+use Rattle.std.proofs.Math.Nat.{add-div_left, div-eq_of_lt, div-eq_of_lt-le, zero-mul, suc-mul}
+use Rattle.std.proofs.lemmas.List.{take_at, drop_at, take_all, drop_all, length-map, take-map, drop-map, nil_from_length, length-drop}
+use Rattle.std.proofs.lemmas.Nat.{div-add-mod'}
+use Rattle.std.proofs.lemmas.Bool.{cases_lt}
+use Rattle.std.specs.Prelude.{flat_map}
+use Rattle.std.specs.Simd.{first_chunks}
+use Rattle.data_encoding.specs.Bits.{runs}
+
+-- how many runs there are
+abbrev pub run_count : ℕ → ℕ → ℕ
+run_count size count = (count + (size - 1)) / size
+
+pub run_count-add : (size n : ℕ) → 0 < size → run_count size (size + n) ≡ suc (run_count size n)
+run_count-add size n h =
+    let regroup : size + n + (size - 1) ≡ size + (n + (size - 1)) = omega arith in
+    ap (λ k. k / size) regroup ∙ add-div_left (n + (size - 1)) h ∙ omega arith
+
+pub run_count-short : (size n : ℕ) → 0 < n → n ≤ size → run_count size n ≡ 1
+run_count-short size n h k =
+    div-eq_of_lt-le size (omega arith) (omega arith)
+
+pub runs-nil : {X : Type 0} (size : ℕ) → 0 < size → runs {X = X} size [] ≡ []
+runs-nil size h = ap (λ k. first_chunks size k []) (div-eq_of_lt (omega arith))
+
+-- a whole run, and the runs of the others
+pub runs-append : {X : Type 0} (size : ℕ) (xs ys : List X) → 0 < size → length xs ≡ size
+    → runs size (xs ++ ys) ≡ xs ∷ runs size ys
+runs-append size xs ys h e =
+    let count : run_count size (length (xs ++ ys)) ≡ suc (run_count size (length ys)) =
+    ap (run_count size) (length-append xs ys ∙ ap (λ k. k + length ys) e)
+    ∙ run_count-add size (length ys) h in
+    let front = take_at xs ys size e in
+    let back = drop_at xs ys size e in
+    ap (λ k. first_chunks size k (xs ++ ys)) count
+    ∙ (λ i. front i ∷ first_chunks size (run_count size (length ys)) (back i))
+
+-- a last run
+pub runs-short : {X : Type 0} (size : ℕ) (xs : List X) → 0 < length xs → length xs ≤ size
+    → runs size xs ≡ xs ∷ []
+runs-short size xs h k =
+    ap (λ n. first_chunks size n xs) (run_count-short size (length xs) h k)
+    ∙ ap (λ l. l ∷ []) (take_all size xs k)
+
+-- the first run of a list that is not empty
+pub runs-first : {X : Type 0} (size : ℕ) (xs : List X) → 0 < size → 0 < length xs
+    → runs size xs ≡ take size xs ∷ runs size (drop size xs)
+runs-first {X} size xs h k =
+    ⊎_elim
+    (λ (short : length xs < size).
+    let all = take_all size xs (omega arith) in
+    let none = drop_all size xs (omega arith) in
+    runs-short size xs k (omega arith)
+    ∙ (λ i. sym all i ∷ (sym (runs-nil {X = X} size h) ∙ ap (runs size) (sym none)) i))
+    (λ (long : size ≤ length xs).
+    ap (runs size) (sym (take-append-drop size xs))
+    ∙ runs-append size (take size xs) (drop size xs) h (length-take-le size xs long))
+    (cases_lt (length xs) size)
+
+runs-join_within : {X : Type 0} (size k : ℕ) (xs ys : List X) → 0 < size → length xs ≡ k * size
+    → runs size (xs ++ ys) ≡ runs size xs ++ runs size ys
+runs-join_within {X} size zero xs ys h e =
+    let none = nil_from_length xs (e ∙ zero-mul size) in
+    ap (λ l. runs size (l ++ ys)) none
+    ∙ ap (λ l. l ++ runs size ys) (sym (runs-nil {X = X} size h) ∙ ap (runs size) (sym none))
+runs-join_within size (suc k) xs ys h e =
+    let more : length xs ≡ size + k * size = e ∙ suc-mul k size ∙ omega arith in
+    let front = take size xs in
+    let back = drop size xs in
+    let front_len : length front ≡ size = length-take-le size xs (omega arith) in
+    let back_len : length back ≡ k * size = length-drop size xs ∙ omega arith in
+    let parts : front ++ back ≡ xs = take-append-drop size xs in
+    ap (λ l. runs size (l ++ ys)) (sym parts)
+    ∙ ap (runs size) (append_assoc front back ys)
+    ∙ runs-append size front (back ++ ys) h front_len
+    ∙ ap (λ l. front ∷ l) (runs-join_within size k back ys h back_len)
+    ∙ ap (λ l. l ++ runs size ys) (sym (runs-append size front back h front_len)
+    ∙ ap (runs size) parts)
+
+-- whole runs, and then the runs of the others
+pub runs-join : {X : Type 0} (size : ℕ) (xs ys : List X) → 0 < size → length xs % size ≡ 0
+    → runs size (xs ++ ys) ≡ runs size xs ++ runs size ys
+runs-join size xs ys h e =
+    runs-join_within size (length xs / size) xs ys h
+    (sym (div-add-mod' (length xs) size) ∙ ap (λ r. length xs / size * size + r) e ∙ omega arith)
+
+-- an induction over runs: n is at least the length
+runs-map_within : {X Y : Type 0} (n size : ℕ) (f : X → Y) (xs : List X) → 0 < size → length xs ≤ n
+    → runs size (map f xs) ≡ map (map f) (runs size xs)
+runs-map_within {X} {Y} n size f [] h e =
+    runs-nil {X = Y} size h ∙ ap (map (map f)) (sym (runs-nil {X = X} size h))
+runs-map_within zero size f (x ∷ xs) h e = absurd (omega (arith, e))
+runs-map_within (suc n) size f (x ∷ xs) h e =
+    let rest = drop size (x ∷ xs) in
+    let rest_len : length rest ≤ n = simp length-drop (omega (arith, e)) in
+    runs-first size (map f (x ∷ xs)) h (omega (arith, length-map (x ∷ xs) f))
+    ∙ (λ i. take-map f size (x ∷ xs) i ∷ runs size (drop-map f size (x ∷ xs) i))
+    ∙ ap (λ l. map f (take size (x ∷ xs)) ∷ l) (runs-map_within n size f rest h rest_len)
+    ∙ ap (map (map f)) (sym (runs-first size (x ∷ xs) h (omega arith)))
+
+pub runs-map : {X Y : Type 0} (size : ℕ) (f : X → Y) (xs : List X) → 0 < size
+    → runs size (map f xs) ≡ map (map f) (runs size xs)
+runs-map size f xs h = runs-map_within (length xs) size f xs h (omega arith)
+
+-- pieces of the size of a run are its runs
+pub runs-flat_map : {X Y : Type 0} (size : ℕ) (f : X → List Y) (xs : List X) → 0 < size
+    → ((x : X) → length (f x) ≡ size) → runs size (flat_map f xs) ≡ map f xs
+runs-flat_map {X} {Y} size f [] h e = runs-nil {X = Y} size h
+runs-flat_map size f (x ∷ xs) h e =
+    runs-append size (f x) (flat_map f xs) h (e x) ∙ ap (λ l. f x ∷ l) (runs-flat_map size f xs h e)
+
+joined_within : {X : Type 0} (n size : ℕ) (xs : List X) → 0 < size → length xs ≤ n
+    → flat_map (λ run. run) (runs size xs) ≡ xs
+joined_within {X} n size [] h e = ap (flat_map (λ run. run)) (runs-nil {X = X} size h)
+joined_within zero size (x ∷ xs) h e = absurd (omega (arith, e))
+joined_within (suc n) size (x ∷ xs) h e =
+    let rest = drop size (x ∷ xs) in
+    let rest_len : length rest ≤ n = simp length-drop (omega (arith, e)) in
+    ap (flat_map (λ run. run)) (runs-first size (x ∷ xs) h (omega arith))
+    ∙ ap (λ l. take size (x ∷ xs) ++ l) (joined_within n size rest h rest_len)
+    ∙ take-append-drop size (x ∷ xs)
+
+-- the runs joined are the list
+pub flat_map-runs : {X : Type 0} (size : ℕ) (xs : List X) → 0 < size
+    → flat_map (λ run. run) (runs size xs) ≡ xs
+flat_map-runs size xs h = joined_within (length xs) size xs h (omega arith)
+
+length-first_chunks : {X : Type 0} (size k : ℕ) (xs : List X) → length (first_chunks size k xs) ≡ k
+length-first_chunks size zero xs = refl
+length-first_chunks size (suc k) xs = ap (λ n. suc n) (length-first_chunks size k (drop size xs))
+
+pub length-runs : {X : Type 0} (size : ℕ) (xs : List X)
+    → length (runs size xs) ≡ run_count size (length xs)
+length-runs size xs = length-first_chunks size (run_count size (length xs)) xs

@@ -1,0 +1,5 @@
+-- The tables of an encoding and the base that they stand for.
+pub mod TableLemmas
+pub mod EntryLemmas
+pub mod TableRuleLemmas
+pub mod LayoutLemmas

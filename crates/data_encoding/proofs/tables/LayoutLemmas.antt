@@ -1,0 +1,82 @@
+-- The layout of an encoding, from its tables.
+use Rattle.std.proofs.Common.{◌≡◌, ◌≢◌, ℕ, zero, suc, ◌+◌, ◌/◌, ◌^◌, ◌≤◌, ◌==◌, Bool, true, ◌||◌, if◌then◌else◌, List, [], ◌∷◌, ◌++◌, map, take, drop, replicate, unwrap_or, refl, sym, ap, ◌∙◌, arith, append_assoc, take-append-drop}
+use Rattle.std.proofs.lemmas.Bool.Decides.{nat_tests}
+use Rattle.std.specs.Cmp.{first_so, second_so}
+use Rattle.std.specs.List.{concat, list_all, list_any}
+use Rattle.data_encoding.specs.declared.encoding.Character.TheVariants.{Padding, Ignored, Invalid}
+use Rattle.data_encoding.specs.declared.encoding.Encoding.TheInside.{Inside}
+use Rattle.data_encoding.specs.Base.{ignores_some, is_ignored}
+use Rattle.data_encoding.specs.Encoding.{KeepsRules, base_of_tables, wrapping_by}
+use Rattle.data_encoding.specs.Entries.{is_entry_of, meaning_of_entry}
+use Rattle.data_encoding.specs.Layout.{code_of, layout, order_flag, wrapping_bytes}
+use Rattle.data_encoding.proofs.tables.EntryLemmas.{entry_back}
+use Rattle.data_encoding.proofs.tables.TableRuleLemmas.{HoldsEntries-tables}
+
+pub meaning-ignored : (v : ℕ) → v ≡ 129 → Ignored ≡ meaning_of_entry v
+meaning-ignored v h = ap meaning_of_entry (sym h)
+
+pub meaning-padding : (v : ℕ) → v ≡ 130 → Padding ≡ meaning_of_entry v
+meaning-padding v h = ap meaning_of_entry (sym h)
+
+pub meaning-invalid : (v : ℕ) → 64 ≤ v → v ≢ 129 → v ≢ 130 → Invalid ≡ meaning_of_entry v
+meaning-invalid v h k l = grind (arith, nat_tests)
+
+entry-ignored : (v : ℕ) → (v == 129) ≡ is_ignored (meaning_of_entry v)
+entry-ignored v = grind (arith, nat_tests)
+
+-- whether some byte is ignored, by its entry
+pub any-ignored : (values : List ℕ)
+    → list_any (λ v. v == 129) values ≡ list_any is_ignored (map meaning_of_entry values)
+any-ignored [] = refl
+any-ignored (v ∷ values) = λ i. entry-ignored v i || any-ignored values i
+
+codes-back : (values : List ℕ) → list_all (is_entry_of 64) values ≡ true
+    → map code_of (map meaning_of_entry values) ≡ values
+codes-back [] h = refl
+codes-back (v ∷ values) h =
+    let here = entry_back v (first_so (is_entry_of 64 v) (list_all (is_entry_of 64) values) h) in
+    let rest = codes-back values
+    (second_so (is_entry_of 64 v) (list_all (is_entry_of 64) values) h) in
+    λ i. here i ∷ rest i
+
+module _ (e : Inside) (rules : KeepsRules e) where
+  tables : concat (replicate (256 / 2 ^ e.width) (take (2 ^ e.width) e.symbols))
+      ++ map code_of (map meaning_of_entry (take 128 e.values)) ++ replicate 128 128
+      ≡ e.symbols ++ e.values
+  tables =
+      let back = codes-back (take 128 e.values) (HoldsEntries-tables e rules).entries in
+      (λ i. sym rules.symbols_repeat i ++ back i ++ sym rules.invalid_from_128 i)
+      ∙ append_assoc e.symbols (take 128 e.values) (drop 128 e.values)
+      ∙ ap (λ l. e.symbols ++ l) (take-append-drop 128 e.values)
+
+  -- the layout as it is put together
+  pub layout-joined : (first second third fourth whole tail : List ℕ) → first ≡ []
+      → second ≡ first ++ e.symbols → third ≡ second ++ e.values
+      → fourth ≡ third ++ unwrap_or e.padding 128
+      ∷ (e.width + order_flag e.order + (if e.checks_trailing_bits then 16 else 0)) ∷ []
+      → whole ≡ fourth ++ tail
+      → wrapping_bytes (ignores_some (base_of_tables e)) (wrapping_by e.column e.separator.items)
+      ≡ tail → whole ≡ layout (base_of_tables e)
+  layout-joined first second third fourth whole tail e0 e1 e2 e3 e4 is =
+      let entry = unwrap_or e.padding 128 in
+      let flags = e.width + order_flag e.order + (if e.checks_trailing_bits then 16 else 0) in
+      let both : third ≡ e.symbols ++ e.values =
+      e2 ∙ ap (λ l. l ++ e.values) (e1 ∙ ap (λ l. l ++ e.symbols) e0) in
+      e4 ∙ ap (λ l. l ++ tail) e3 ∙ append_assoc third (entry ∷ flags ∷ []) tail
+      ∙ (λ i. (both ∙ sym (tables)) i ++ entry ∷ flags ∷ sym is i)
+
+  pub lines-tail : e.column ≢ 0
+      → wrapping_bytes (ignores_some (base_of_tables e)) (wrapping_by e.column e.separator.items)
+      ≡ e.column ∷ e.separator.items
+  lines-tail = by_number e.column where
+    by_number : (n : ℕ) → n ≢ 0
+        → wrapping_bytes (ignores_some (base_of_tables e)) (wrapping_by n e.separator.items)
+        ≡ n ∷ e.separator.items
+    by_number zero h = absurd (h refl)
+    by_number (suc n) h = refl
+
+  pub no_lines-tail : (b : Bool) → e.column ≡ 0 → ignores_some (base_of_tables e) ≡ b
+      → wrapping_bytes (ignores_some (base_of_tables e)) (wrapping_by e.column e.separator.items)
+      ≡ (if b then 0 ∷ [] else [])
+  no_lines-tail b none is =
+      λ i. wrapping_bytes (is i) (wrapping_by (none i) e.separator.items)

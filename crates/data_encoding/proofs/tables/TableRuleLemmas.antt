@@ -1,0 +1,281 @@
+-- The rules on the tables of an encoding are those on its base.
+use Rattle.std.proofs.Common.{◌≡◌, ℕ, zero, suc, ◌%◌, ◌/◌, ◌^◌, ◌<◌, ◌≤◌, ◌==◌, Bool, true, false, not, ◌||◌, nat_lt, cond, List, [], ◌∷◌, length, map, take, get_or, replicate, Option, Some, None, refl, sym, ap, ◌∙◌, arith, ⊎_elim}
+use Rattle.std.proofs.lemmas.Bool.{eqb-true, eq-eqb, lt-ltb, ltb-true, cases_lt}
+use Rattle.std.proofs.lemmas.Bool.Decides.{nat_tests}
+use Rattle.std.proofs.lemmas.List.{ext_get_or, get_or-map, get_or_past, length-map}
+use Rattle.std.proofs.lemmas.List.FromFn.{get_or-range_with_len, length-range_with_len}
+use Rattle.std.specs.Cmp.{first_so, second_so}
+use Rattle.std.specs.List.{AllByRecursion, concat, list_all, range_with_len}
+use Rattle.data_encoding.specs.declared.encoding.Character.TheVariants.{Symbol, Padding, Ignored, Invalid}
+use Rattle.data_encoding.specs.declared.encoding.Encoding.TheInside.{Inside}
+use Rattle.data_encoding.specs.Base.{meaning, IsWidth}
+use Rattle.data_encoding.specs.Encoding.{KeepsPadding, KeepsRules, KeepsWrapping, base_of_tables, wrapping_by}
+use Rattle.data_encoding.specs.Entries.{HoldsEntries, is_entry_of, meaning_of_entry}
+use Rattle.data_encoding.specs.Fields.{IsSpecified}
+use Rattle.data_encoding.specs.Layout.{code_of}
+use Rattle.data_encoding.proofs.specification.RoundTripLemmas.{IsSpecified-ruled}
+use Rattle.data_encoding.proofs.tables.EntryLemmas.{entry_back, high_entry, is_entry-low, length-entries, length-low, meaning-low}
+use Rattle.data_encoding.proofs.lists.EachLemmas.{list_all-both, list_all-cons, list_all-map, list_all-places, passes_at}
+use Rattle.data_encoding.proofs.specification.RuleLemmas.{IsRuled, IsRuledPadding, IsRuledWrapping, is_no_padding, is_within}
+use Rattle.data_encoding.proofs.digits.WidthLemmas.{symbols-few}
+
+-- one entry, and its meaning
+entry-weaker : (count v : ℕ) → count ≤ 64 → is_entry_of count v ≡ true → is_entry_of 64 v ≡ true
+entry-weaker count v few h = grind (arith, nat_tests)
+
+entry-within : (count v : ℕ) → is_entry_of count v ≡ true
+    → is_within count (meaning_of_entry v) ≡ true
+entry-within count v h = grind (arith, nat_tests)
+
+within-entry : (count v : ℕ) → is_entry_of 64 v ≡ true → is_within count (meaning_of_entry v) ≡ true
+    → is_entry_of count v ≡ true
+within-entry count v h k = grind (arith, nat_tests)
+
+entry-no_padding : (v : ℕ) → not (v == 130) ≡ true → is_no_padding (meaning_of_entry v) ≡ true
+entry-no_padding v h = grind (arith, nat_tests)
+
+no_padding-entry : (v : ℕ) → is_no_padding (meaning_of_entry v) ≡ true → not (v == 130) ≡ true
+no_padding-entry v h = grind (arith, nat_tests)
+
+pub value-symbol : (v : ℕ) → v < 64 → meaning_of_entry v ≡ Symbol v
+value-symbol v h =
+    ap (λ b. cond b (Symbol v) (cond (v == 129) Ignored (cond (v == 130) Padding Invalid)))
+    (lt-ltb v 64 h)
+
+all-weaker : {X : Type 0} (a b : X → Bool) → ((x : X) → a x ≡ true → b x ≡ true) → (xs : List X)
+    → list_all a xs ≡ true → list_all b xs ≡ true
+all-weaker a b step xs h = list_all-both a a b (λ x e f. step x e) xs h h
+
+symbol_entry : (v n : ℕ) → is_entry_of 64 v ≡ true → meaning_of_entry v ≡ Symbol n → v ≡ n
+symbol_entry v n h e = sym (entry_back v h) ∙ ap code_of e
+
+padding_entry : (v : ℕ) → is_entry_of 64 v ≡ true → meaning_of_entry v ≡ Padding → v ≡ 130
+padding_entry v h e = sym (entry_back v h) ∙ ap code_of e
+
+ignored_entry : (v : ℕ) → is_entry_of 64 v ≡ true → meaning_of_entry v ≡ Ignored → v ≡ 129
+ignored_entry v h e = sym (entry_back v h) ∙ ap code_of e
+
+checked-rule : (check whole : Bool) → (check || not whole) ≡ true → (check || whole) ≡ check
+checked-rule true whole h = refl
+checked-rule false true h = cc
+checked-rule false false h = refl
+
+rule-checked : (check whole : Bool) → (check || whole) ≡ check → (check || not whole) ≡ true
+rule-checked true whole h = refl
+rule-checked false true h = cc
+rule-checked false false h = refl
+
+-- from the tables to the base
+module _ (e : Inside) (rules : KeepsRules e) where
+  pub IsWidth-tables : IsWidth e.width
+  IsWidth-tables = rules.is_width
+
+  pub HoldsEntries-tables : HoldsEntries e.values
+  HoldsEntries-tables = record {
+    entries =
+        all-weaker (is_entry_of (2 ^ e.width)) (is_entry_of 64)
+        (λ v. entry-weaker (2 ^ e.width) v (symbols-few e.width (IsWidth-tables)))
+        (take 128 e.values)
+        rules.entries;
+    invalid_from_128 = rules.invalid_from_128;
+  }
+
+  abbrev symbols : List ℕ
+  symbols = take (2 ^ e.width) e.symbols
+
+  pub length-symbols : length (take (2 ^ e.width) e.symbols) ≡ 2 ^ e.width
+  length-symbols =
+      sym (length-map symbols (λ s. get_or e.values s 0)) ∙ ap length rules.own_values
+      ∙ length-range_with_len 0 (2 ^ e.width)
+
+  pub symbol-own_value : (i : ℕ) → i < 2 ^ e.width → get_or e.values (get_or symbols i 0) 0 ≡ i
+  symbol-own_value i h =
+      sym (get_or-map (λ s. get_or e.values s 0) symbols i 0 0 (omega (arith, h, length-symbols)))
+      ∙ ap (λ l. get_or l i 0) rules.own_values
+      ∙ get_or-range_with_len 0 (2 ^ e.width) i 0 h ∙ omega arith
+
+  pub symbol-ascii : (i : ℕ) → i < 2 ^ e.width → get_or symbols i 0 < 128
+  symbol-ascii i h =
+      ltb-true (get_or symbols i 0) 128
+      (passes_at (λ s. nat_lt s 128) symbols i 0 rules.symbols_are_ascii
+      (omega (arith, h, length-symbols)))
+
+  meaning-at : (byte : ℕ) → byte < 128
+      → meaning (base_of_tables e) byte ≡ meaning_of_entry (get_or e.values byte 0)
+  meaning-at byte low = meaning-low e.values (HoldsEntries-tables) byte low
+
+  ruled-padding : (o : Option ℕ) → KeepsPadding o e.width e.values
+      → IsRuledPadding (base_of_tables e) o
+  ruled-padding None keeps =
+      list_all-map is_no_padding meaning_of_entry (take 128 e.values)
+      ∙ all-weaker (λ v. not (v == 130)) (λ v. is_no_padding (meaning_of_entry v)) entry-no_padding
+      (take 128 e.values) keeps
+  ruled-padding (Some character) keeps =
+      (keeps.0, meaning-at character keeps.0 ∙ ap meaning_of_entry keeps.1, keeps.2)
+
+  -- a byte whose entry is 129 is ASCII
+  ignored-low : (byte : ℕ) → get_or e.values byte 0 ≡ 129 → byte < 128
+  ignored-low byte h =
+      ⊎_elim (λ (low : byte < 128). low)
+      (λ (high : 128 ≤ byte).
+      ⊎_elim
+      (λ (within : byte < 256).
+      absurd (omega (arith, h, high_entry e.values (HoldsEntries-tables) byte high within)))
+      (λ (past : 256 ≤ byte).
+      let long : length e.values ≤ byte =
+      omega (arith, past, length-entries e.values (HoldsEntries-tables)) in
+      absurd (omega (arith, h, get_or_past e.values byte 0 long)))
+      (cases_lt byte 256))
+      (cases_lt byte 128)
+
+  ruled-separator : (bytes : List ℕ) → list_all (λ byte. get_or e.values byte 0 == 129) bytes ≡ true
+      → AllByRecursion (λ byte. (byte < 128) × (meaning (base_of_tables e) byte ≡ Ignored)) bytes
+  ruled-separator [] h = tt
+  ruled-separator (byte ∷ bytes) h =
+      let is = eqb-true (get_or e.values byte 0) 129
+      (first_so (get_or e.values byte 0 == 129)
+      (list_all (λ b. get_or e.values b 0 == 129) bytes) h) in
+      let low = ignored-low byte is in (
+        (low, meaning-at byte low ∙ ap meaning_of_entry is),
+        ruled-separator bytes (second_so (get_or e.values byte 0 == 129)
+            (list_all (λ b. get_or e.values b 0 == 129) bytes) h),
+      )
+
+  ascii-bytes : (bytes : List ℕ) → list_all (λ byte. get_or e.values byte 0 == 129) bytes ≡ true
+      → list_all (λ byte. nat_lt byte 128) bytes ≡ true
+  ascii-bytes bytes h =
+      all-weaker (λ byte. get_or e.values byte 0 == 129) (λ byte. nat_lt byte 128)
+      (λ byte is. lt-ltb byte 128 (ignored-low byte (eqb-true (get_or e.values byte 0) 129 is)))
+      bytes h
+
+  separator-by : (column : ℕ) (separator : List ℕ)
+      → KeepsWrapping column separator e.width e.values
+      → list_all (λ byte. nat_lt byte 128) separator ≡ true
+  separator-by zero separator keeps = ap (list_all (λ byte. nat_lt byte 128)) keeps
+  separator-by (suc n) separator keeps = ascii-bytes separator keeps.4
+
+  pub separator-ascii : list_all (λ byte. nat_lt byte 128) e.separator.items ≡ true
+  separator-ascii = separator-by e.column e.separator.items rules.wrapping
+
+  ruled-wrapping : (column : ℕ) (separator : List ℕ)
+      → KeepsWrapping column separator e.width e.values
+      → IsRuledWrapping (base_of_tables e) (wrapping_by column separator)
+  ruled-wrapping zero separator keeps = tt
+  ruled-wrapping (suc n) separator keeps = record {
+    some = omega arith;
+    short = keeps.0;
+    whole = keeps.1;
+    ended = keeps.2;
+    ends_short = keeps.3;
+    ignored = ruled-separator separator keeps.4;
+  }
+
+  -- the base of tables that keep the rules keeps them
+  pub IsRuled-tables : IsRuled (base_of_tables e)
+  IsRuled-tables = record {
+    is_width = IsWidth-tables;
+    count = length-symbols;
+    checked = checked-rule e.checks_trailing_bits (8 % e.width == 0) rules.whole_checked;
+    long =
+        length-map (take 128 e.values) meaning_of_entry
+        ∙ length-low e.values (HoldsEntries-tables);
+    own = λ i h.
+        let below : i < 2 ^ e.width = omega (arith, h, length-symbols) in
+        let few : i < 64 = omega (arith, below, symbols-few e.width (IsWidth-tables)) in (
+          symbol-ascii i below,
+          meaning-at (get_or symbols i 0) (symbol-ascii i below)
+              ∙ ap meaning_of_entry (symbol-own_value i below) ∙ value-symbol i few,
+        );
+    within =
+        ap (λ n. list_all (is_within n) (map meaning_of_entry (take 128 e.values)))
+        (length-symbols)
+        ∙ list_all-map (is_within (2 ^ e.width)) meaning_of_entry (take 128 e.values)
+        ∙ all-weaker (is_entry_of (2 ^ e.width))
+        (λ v. is_within (2 ^ e.width) (meaning_of_entry v)) (entry-within (2 ^ e.width))
+        (take 128 e.values) rules.entries;
+    padding = ruled-padding e.padding rules.padding;
+    wrapping = ruled-wrapping e.column e.separator.items rules.wrapping;
+  }
+
+  -- and so is the yield of a specification
+  pub is_base_of : IsSpecified (base_of_tables e)
+  is_base_of = IsSpecified-ruled (base_of_tables e) (IsRuled-tables)
+
+-- from the base to the tables
+module _ (e : Inside) (ruled : IsRuled (base_of_tables e)) (holds : HoldsEntries e.values) where
+  own-entry : (i : ℕ) → i < length (take (2 ^ e.width) e.symbols)
+      → get_or e.values (get_or (take (2 ^ e.width) e.symbols) i 0) 0 ≡ i
+  own-entry i h =
+      let own = ruled.own i h in
+      let s = get_or (take (2 ^ e.width) e.symbols) i 0 in
+      symbol_entry (get_or e.values s 0) i (is_entry-low e.values holds s own.0)
+      (sym (meaning-low e.values holds s own.0) ∙ own.1)
+
+  own-values : map (λ s. get_or e.values s 0) (take (2 ^ e.width) e.symbols)
+      ≡ range_with_len 0 (2 ^ e.width)
+  own-values =
+      let symbols = take (2 ^ e.width) e.symbols in
+      let long : length (map (λ s. get_or e.values s 0) symbols) ≡ length symbols =
+      length-map symbols (λ s. get_or e.values s 0) in
+      ext_get_or 0 (map (λ s. get_or e.values s 0) symbols) (range_with_len 0 (2 ^ e.width))
+      (long ∙ ruled.count ∙ sym (length-range_with_len 0 (2 ^ e.width)))
+      (λ i less.
+      let within : i < length symbols = omega (arith, less, long) in
+      let below : i < 2 ^ e.width = omega (arith, within, ruled.count) in
+      get_or-map (λ s. get_or e.values s 0) symbols i 0 0 within ∙ own-entry i within
+      ∙ sym (get_or-range_with_len 0 (2 ^ e.width) i 0 below ∙ omega arith))
+
+  keeps-padding : (o : Option ℕ) → IsRuledPadding (base_of_tables e) o
+      → KeepsPadding o e.width e.values
+  keeps-padding None rule =
+      all-weaker (λ v. is_no_padding (meaning_of_entry v)) (λ v. not (v == 130)) no_padding-entry
+      (take 128 e.values)
+      (sym (list_all-map is_no_padding meaning_of_entry (take 128 e.values)) ∙ rule)
+  keeps-padding (Some character) rule = (
+    rule.0,
+    padding_entry (get_or e.values character 0) (is_entry-low e.values holds character rule.0)
+        (sym (meaning-low e.values holds character rule.0) ∙ rule.1),
+    rule.2,
+  )
+
+  keeps-separator : (bytes : List ℕ)
+      → AllByRecursion (λ byte. (byte < 128) × (meaning (base_of_tables e) byte ≡ Ignored)) bytes
+      → list_all (λ byte. get_or e.values byte 0 == 129) bytes ≡ true
+  keeps-separator [] all = refl
+  keeps-separator (byte ∷ bytes) all =
+      list_all-cons (λ b. get_or e.values b 0 == 129) byte bytes
+      (eq-eqb (get_or e.values byte 0) 129
+      (ignored_entry (get_or e.values byte 0) (is_entry-low e.values holds byte all.0.0)
+      (sym (meaning-low e.values holds byte all.0.0) ∙ all.0.1)))
+      (keeps-separator bytes all.1)
+
+  keeps-wrapping : (column : ℕ) (separator : List ℕ) → (column ≡ 0 → separator ≡ [])
+      → IsRuledWrapping (base_of_tables e) (wrapping_by column separator)
+      → KeepsWrapping column separator e.width e.values
+  keeps-wrapping zero separator none rule = none refl
+  keeps-wrapping (suc n) separator none rule =
+      (rule.short, rule.whole, rule.ended, rule.ends_short, keeps-separator separator rule.ignored)
+
+  pub KeepsRules-ruled : e.symbols
+      ≡ concat (replicate (256 / 2 ^ e.width) (take (2 ^ e.width) e.symbols))
+      → (e.column ≡ 0 → e.separator.items ≡ []) → KeepsRules e
+  KeepsRules-ruled repeat none = record {
+    is_width = ruled.is_width;
+    whole_checked = rule-checked e.checks_trailing_bits (8 % e.width == 0) ruled.checked;
+    symbols_repeat = repeat;
+    symbols_are_ascii =
+        list_all-places (λ s. nat_lt s 128) (take (2 ^ e.width) e.symbols) 0
+        (λ i h. lt-ltb (get_or (take (2 ^ e.width) e.symbols) i 0) 128 (ruled.own i h).0);
+    own_values = own-values;
+    entries =
+        list_all-both (is_entry_of 64) (λ v. is_within (2 ^ e.width) (meaning_of_entry v))
+        (is_entry_of (2 ^ e.width)) (within-entry (2 ^ e.width)) (take 128 e.values)
+        holds.entries
+        (sym (list_all-map (is_within (2 ^ e.width)) meaning_of_entry (take 128 e.values))
+        ∙ sym (ap (λ n. list_all (is_within n) (map meaning_of_entry (take 128 e.values)))
+        ruled.count)
+        ∙ ruled.within);
+    invalid_from_128 = holds.invalid_from_128;
+    padding = keeps-padding e.padding ruled.padding;
+    wrapping = keeps-wrapping e.column e.separator.items none ruled.wrapping;
+  }

@@ -1,0 +1,3 @@
+-- The text of data.
+pub mod UnpaddedTextLemmas
+pub mod UnpaddedEncodeLemmas
