@@ -1,5 +1,8 @@
 -- Faults, and how far a text is decoded.
-pub mod UnpaddedFaultLemmas
-pub mod UnpaddedPartialLemmas
-pub mod UnpaddedStepLemmas
 pub mod TrailingBitLemmas
+pub mod GroupJudgementLemmas
+pub mod RoomLemmas
+pub mod ProgressLemmas
+pub mod SymbolRunLemmas
+pub mod StopLemmas
+pub mod LoopLemmas

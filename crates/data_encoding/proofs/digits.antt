@@ -3,3 +3,4 @@ pub mod BitLemmas
 pub mod WidthLemmas
 pub mod WordLemmas
 pub mod KernelLemmas
+pub mod LoadLemmas

@@ -1,6 +1,13 @@
 -- Texts in groups, and what they mean.
-pub mod UnpaddedGroupLemmas
 pub mod PositionLemmas
+pub mod KeptLemmas
+pub mod LengthLemmas
+pub mod UnpaddedGroupLemmas
+pub mod GroupLemmas
+pub mod SoundLemmas
+pub mod WholeGroupLemmas
 pub mod UnpaddedGrammarLemmas
+pub mod UnpaddedMeaningLemmas
+pub mod PaddedMeaningLemmas
+pub mod MeaningLemmas
 pub mod PlainLemmas
-pub mod UnpaddedLengthLemmas

@@ -3,4 +3,5 @@ pub mod RunLemmas
 pub mod ListLemmas
 pub mod PartLemmas
 pub mod EachLemmas
+pub mod EndLemmas
 pub mod RepeatLemmas

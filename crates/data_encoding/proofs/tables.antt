@@ -3,3 +3,5 @@ pub mod TableLemmas
 pub mod EntryLemmas
 pub mod TableRuleLemmas
 pub mod LayoutLemmas
+pub mod OneLayoutLemmas
+pub mod EqualityLemmas

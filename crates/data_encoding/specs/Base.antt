@@ -10,12 +10,14 @@ pub record Wrapping : Type 0 where
   pub column : ℕ
   pub separator : List ℕ
 
--- symbols of width bits in order of value, and the meaning of each byte below 128
+-- symbols of width bits in order of value, and the meaning of each byte below 128; where it does
+-- not concatenate, a text ends with its first padded group
 pub record Base : Type 0 where
   pub width : ℕ
   pub order : BitOrder
   pub symbols : List ℕ
   pub checks_trailing_bits : Bool
+  pub concatenates : Bool
   pub padding : Option ℕ
   pub meanings : List Character
   pub wrapping : Option Wrapping

@@ -1,5 +1,5 @@
 -- What a contract sees of an `Encoding`: the base of its tables.
-use Rattle.std.specs.Prelude.{◌≡◌, ℕ, zero, suc, ◌/◌, ◌%◌, ◌^◌, ◌<◌, ◌≤◌, ◌==◌, nat_lt, ◌||◌, not, IsTrue, List, [], length, map, replicate, take, drop, slice_index, Option, None, Some}
+use Rattle.std.specs.Prelude.{◌≡◌, ℕ, zero, suc, ◌/◌, ◌%◌, ◌^◌, ◌<◌, ◌==◌, nat_lt, ◌||◌, not, IsTrue, List, [], length, map, replicate, take, drop, slice_index, Option, None, Some, is_some}
 use Rattle.std.specs.List.{concat, list_all, range_with_len}
 use Rattle.data_encoding.specs.declared.encoding.Encoding.TheInside.{Inside}
 use Rattle.data_encoding.specs.Base.{Base, IsWidth, Wrapping, group_symbols}
@@ -16,6 +16,7 @@ base_of_tables e = record {
   order = e.order;
   symbols = take (2 ^ e.width) e.symbols;
   checks_trailing_bits = e.checks_trailing_bits;
+  concatenates = e.concatenates;
   padding = e.padding;
   meanings = map meaning_of_entry (take 128 e.values);
   wrapping = wrapping_by e.column e.separator.items;
@@ -40,6 +41,7 @@ KeepsWrapping (suc n) separator width values =
 -- has the value of a symbol, or 128 to 130; each from 128 on has 128.
 pub record KeepsRules (e : Inside) : Type 0 where
   pub is_width : IsWidth e.width
+  pub unpadded_concatenates : IsTrue (e.concatenates || is_some e.padding)
   pub whole_checked : IsTrue (e.checks_trailing_bits || not (8 % e.width == 0))
   pub symbols_repeat : e.symbols
       ≡ concat (replicate (256 / 2 ^ e.width) (take (2 ^ e.width) e.symbols))

@@ -1,12 +1,12 @@
 -- The one fault of a text that means nothing, and the bytes of what stands before it.
-use Rattle.std.specs.Prelude.{◌≡◌, ◌<◌, ℕ, ◌-◌, ◌*◌, ◌/◌, ◌==◌, nat_lt, Bool, true, false, not, ◌&&◌, ◌||◌, if◌then◌else◌, List, map, reverse, length, flat_map, take, drop, take_while, Option, Some, None, is_some, slice_index_or, slice_get, position}
+use Rattle.std.specs.Prelude.{◌≡◌, ◌<◌, ℕ, ◌-◌, ◌*◌, ◌/◌, ◌==◌, nat_lt, Bool, false, not, ◌&&◌, ◌||◌, if◌then◌else◌, List, [], ◌∷◌, map, reverse, length, flat_map, take, drop, take_while, Option, Some, None, is_some, slice_index_or, position}
 use Rattle.std.specs.List.{list_any, filter_map}
 use Rattle.data_encoding.specs.declared.error.DecodeKind.{DecodeKind}
 use Rattle.data_encoding.specs.declared.error.DecodeKind.TheVariants.{Length as LengthFault, Symbol as SymbolFault, Trailing as TrailingFault, Padding as PaddingFault}
 use Rattle.data_encoding.specs.declared.error.DecodeError.{DecodeError}
 use Rattle.data_encoding.specs.Base.{Base, meaning, is_symbol, value_of, is_padding, is_padded, group_symbols}
 use Rattle.data_encoding.specs.Bits.{bits_of, number_of, runs}
-use Rattle.data_encoding.specs.Grammar.{Positioned, groups}
+use Rattle.data_encoding.specs.Grammar.{Positioned, groups, is_final}
 use Rattle.data_encoding.specs.declared.error.DecodeFault.{DecodeFault}
 use Rattle.data_encoding.specs.declared.error.DecodeFault.TheVariants.{Error, OutOfMemory}
 use Rattle.data_encoding.specs.Lengths.{is_valid_count, greatest_valid_count, length_fault, most_bytes}
@@ -78,17 +78,33 @@ group_fault base group =
     if is_padded base then padded_fault_at base group (count_before_padding base group)
     else plain_fault base group
 
--- the groups before the first faulty one
-abbrev pub sound_groups : Base → List (List Positioned) → List (List Positioned)
-sound_groups base groups = take_while (λ group. not (is_some (group_fault base group))) groups
-
--- the fault of the first faulty group
-abbrev pub first_fault : Base → List (List Positioned) → Option DecodeError
-first_fault base groups = slice_get (filter_map (group_fault base) groups) 0
-
 abbrev pub or_else : Option DecodeError → Option DecodeError → Option DecodeError
 or_else None other = other
 or_else (Some fault) other = Some fault
+
+-- the fault of a group: after a final one any group is a fault, at its first byte
+abbrev pub fault_after : Bool → Base → List Positioned → Option DecodeError
+fault_after ended base group =
+    if ended then fault_at PaddingFault group 0 else group_fault base group
+
+-- the groups before the first faulty one
+abbrev pub sound_after : Bool → Base → List (List Positioned) → List (List Positioned)
+sound_after ended base [] = []
+sound_after ended base (group ∷ others) =
+    if is_some (fault_after ended base group) then []
+    else group ∷ sound_after (is_final base group) base others
+
+abbrev pub sound_groups : Base → List (List Positioned) → List (List Positioned)
+sound_groups base groups = sound_after false base groups
+
+-- the fault of the first faulty group
+abbrev pub first_after : Bool → Base → List (List Positioned) → Option DecodeError
+first_after ended base [] = None
+first_after ended base (group ∷ others) =
+    or_else (fault_after ended base group) (first_after (is_final base group) base others)
+
+abbrev pub first_fault : Base → List (List Positioned) → Option DecodeError
+first_fault base groups = first_after false base groups
 
 -- the fault of a text: where nothing is ignored, its length is judged first
 abbrev pub fault_of : Base → List ℕ → Option DecodeError
@@ -99,7 +115,7 @@ fault_of base text =
 abbrev pub sound_bytes : Base → List ℕ → List ℕ
 sound_bytes base text = flat_map (bytes_of_group base) (sound_groups base (groups base text))
 
--- a decoding may refuse a text for its fault, or for want of memory where bytes are due
+-- a decoding may refuse a text for its fault, or where memory runs out for bytes that are due
 abbrev pub IsRefusal : Base → List ℕ → DecodeFault → Type 0
 IsRefusal base text (Error error) = fault_of base text ≡ Some error
 IsRefusal base text OutOfMemory =

@@ -1,11 +1,11 @@
--- Which base the fields of a specification yield, or why they are refused.
-use Rattle.std.specs.Prelude.{◌≡◌, ℕ, zero, suc, ◌%◌, ◌==◌, nat_lt, nat_le, Bool, true, false, not, ◌&&◌, ◌||◌, if◌then◌else◌, List, [], ◌∷◌, ◌++◌, map, length, replicate, Option, Some, None, slice_index_or, slice_set, zip, position, Result, Ok, Err}
+-- Which base is built from the fields of a specification, or why they are refused.
+use Rattle.std.specs.Prelude.{◌≡◌, ℕ, zero, suc, ◌%◌, ◌==◌, nat_lt, nat_le, Bool, true, false, not, ◌&&◌, ◌||◌, if◌then◌else◌, List, [], ◌∷◌, ◌++◌, map, length, replicate, Option, Some, None, is_none, slice_index_or, slice_set, zip, position, Result, Ok, Err}
 use Rattle.std.specs.List.{enumerate_from}
 use Rattle.data_encoding.specs.declared.encoding.BitOrder.{BitOrder}
 use Rattle.data_encoding.specs.declared.encoding.Character.{Character}
 use Rattle.data_encoding.specs.declared.encoding.Character.TheVariants.{Symbol, Padding, Ignored, Invalid}
-use Rattle.data_encoding.specs.declared.builder.Refusal.{Refusal}
-use Rattle.data_encoding.specs.declared.builder.Refusal.TheVariants.{BadSize, NotAscii, Duplicate, ExtraPadding, WrapLength, WrapWidth, FromTo, Undefined}
+use Rattle.data_encoding.specs.declared.meanings.Refusal.{Refusal}
+use Rattle.data_encoding.specs.declared.meanings.Refusal.TheVariants.{BadSize, NotAscii, Duplicate, ExtraPadding, WrapLength, WrapWidth, FromTo, Undefined}
 use Rattle.data_encoding.specs.Base.{Base, group_symbols}
 
 -- what a specification says, with its texts as bytes
@@ -13,6 +13,7 @@ pub record Fields : Type 0 where
   pub symbols : List ℕ
   pub order : BitOrder
   pub checks_trailing_bits : Bool
+  pub concatenates : Bool
   pub padding : Option ℕ
   pub ignored : List ℕ
   pub column : ℕ
@@ -118,6 +119,7 @@ base_with width fields (Ok meanings) = Ok (record {
   order = fields.order;
   symbols = fields.symbols;
   checks_trailing_bits = fields.checks_trailing_bits || (8 % width == 0);
+  concatenates = fields.concatenates || is_none fields.padding;
   padding = fields.padding;
   meanings = meanings;
   wrapping =
@@ -136,7 +138,7 @@ base_by (Some (suc n)) fields =
 abbrev pub base_of : Fields → Result Base Refusal
 base_of fields = base_by (width_of (length fields.symbols)) fields
 
--- Some specification yields the base.
+-- The base is built from some specification.
 pub record IsSpecified (base : Base) : Type 0 where
   pub fields : Fields
   pub yields : base_of fields ≡ Ok base

@@ -1,19 +1,19 @@
 -- Which texts mean which data (RFC 4648, sections 3.2 to 3.5).
-use Rattle.std.specs.Prelude.{◌≡◌, ℕ, ◌<◌, true, List, [], ◌∷◌, ◌++◌, map, length, flat_map, filter, replicate, All, Option, Some, None, not}
-use Rattle.std.specs.List.{enumerate_from}
+use Rattle.std.specs.Prelude.{◌≡◌, ℕ, ◌<◌, Bool, true, ◌&&◌, List, [], ◌∷◌, ◌++◌, map, length, flat_map, filter, replicate, All, Option, Some, None, not}
+use Rattle.std.specs.List.{enumerate_from, list_any}
 use Rattle.data_encoding.specs.declared.encoding.Character.TheVariants.{Symbol, Padding}
-use Rattle.data_encoding.specs.Base.{Base, meaning, is_ignored, group_symbols}
+use Rattle.data_encoding.specs.Base.{Base, meaning, is_padding, is_ignored, group_symbols}
 use Rattle.data_encoding.specs.Bits.{bits_of_bytes, bits_of, runs}
 
--- a byte of a text, with its place there
+-- a byte of a text, with its position there
 pub record Positioned : Type 0 where
   pub position : ℕ
   pub byte : ℕ
 
--- the bytes of a part that begins at a place
+-- the bytes of a part that begins at this position
 abbrev pub positioned_from : ℕ → List ℕ → List Positioned
-positioned_from place part =
-    map (λ (p : ℕ × ℕ). record { position = p.0; byte = p.1 }) (enumerate_from place part)
+positioned_from position part =
+    map (λ (p : ℕ × ℕ). record { position = p.0; byte = p.1 }) (enumerate_from position part)
 
 abbrev pub positioned : List ℕ → List Positioned
 positioned text = positioned_from 0 text
@@ -48,12 +48,18 @@ pub record GroupMeans (base : Base) (group : List Positioned) (bytes : List ℕ)
   pub is_padding : map (λ k. meaning base k.byte) padding ≡ replicate (length padding) Padding
   pub means : PlainMeans base symbols bytes
 
--- Each group means a piece, and the bytes are the pieces joined: so padded texts may be joined.
+-- a group that no other may follow: it has padding, and texts may not be concatenated
+abbrev pub is_final : Base → List Positioned → Bool
+is_final base group =
+    not base.concatenates && list_any (λ k. is_padding (meaning base k.byte)) group
+
+-- Each group means a piece, a final one is the last, and the bytes are the pieces joined.
 abbrev pub GroupsMean : Base → List (List Positioned) → List ℕ → Type 0
 GroupsMean base [] bytes = bytes ≡ []
 GroupsMean base (group ∷ others) bytes =
     (piece more : List ℕ) × (bytes ≡ piece ++ more)
-    × GroupMeans base group piece × GroupsMean base others more
+    × GroupMeans base group piece × (is_final base group ≡ true → others ≡ [])
+    × GroupsMean base others more
 
 abbrev pub MeansBy : Option ℕ → Base → List ℕ → List ℕ → Type 0
 MeansBy None base text bytes = PlainMeans base (kept base text) bytes

@@ -4,6 +4,6 @@ use Rattle.data_encoding.specs.Base.{Base}
 use Rattle.data_encoding.specs.Fields.{base_of, IsSpecified}
 use Rattle.data_encoding.specs.Layout.{fields_of}
 
--- The specification of a base yields that base.
+-- The base is built from its specification.
 abbrev pub SpecificationAgain : Type 0
 SpecificationAgain = (base : Base) → IsSpecified base → base_of (fields_of base) ≡ Ok base

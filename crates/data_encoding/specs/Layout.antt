@@ -27,7 +27,8 @@ layout base =
     concat (replicate (256 / 2 ^ base.width) base.symbols)
     ++ map code_of base.meanings ++ replicate 128 128
     ++ unwrap_or base.padding 128
-    ∷ (base.width + order_flag base.order + (if base.checks_trailing_bits then 16 else 0))
+    ∷ (base.width + order_flag base.order + (if base.checks_trailing_bits then 16 else 0)
+    + (if base.concatenates then 0 else 32))
     ∷ wrapping_bytes (ignores_some base) base.wrapping
 
 -- the symbol or the padding character of a meaning
@@ -67,6 +68,7 @@ fields_of base = record {
   symbols = base.symbols;
   order = base.order;
   checks_trailing_bits = base.checks_trailing_bits;
+  concatenates = base.concatenates;
   padding = base.padding;
   ignored = ignored_bytes base;
   column = column_of base.wrapping;

@@ -15,5 +15,6 @@ pub mod Specification
 pub mod Laws
 pub mod Plain
 pub mod Tables
+pub mod Decoding
 pub mod Printed
 pub mod Predefined

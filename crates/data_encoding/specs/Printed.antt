@@ -6,8 +6,8 @@ use Rattle.data_encoding.specs.declared.error.DecodeKind.TheVariants.{Length, Sy
 use Rattle.data_encoding.specs.declared.error.DecodeError.{DecodeError}
 use Rattle.data_encoding.specs.declared.error.DecodeFault.{DecodeFault}
 use Rattle.data_encoding.specs.declared.error.DecodeFault.TheVariants.{Error, OutOfMemory}
-use Rattle.data_encoding.specs.declared.builder.Refusal.{Refusal}
-use Rattle.data_encoding.specs.declared.builder.Refusal.TheVariants.{BadSize, NotAscii, Duplicate, ExtraPadding, WrapLength, WrapWidth, FromTo, Undefined}
+use Rattle.data_encoding.specs.declared.meanings.Refusal.{Refusal}
+use Rattle.data_encoding.specs.declared.meanings.Refusal.TheVariants.{BadSize, NotAscii, Duplicate, ExtraPadding, WrapLength, WrapWidth, FromTo, Undefined}
 
 abbrev pub printed_kind : DecodeKind → List ℕ
 printed_kind Length = codes "invalid length"
@@ -15,7 +15,7 @@ printed_kind Symbol = codes "invalid symbol"
 printed_kind Trailing = codes "non-zero trailing bits"
 printed_kind Padding = codes "invalid padding length"
 
--- the kind, and the place
+-- the kind, and the position
 abbrev pub printed_error : DecodeError → List ℕ
 printed_error error = printed_kind error.kind ++ codes " at " ++ decimal error.position
 

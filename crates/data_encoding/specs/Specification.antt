@@ -3,7 +3,7 @@ use Rattle.std.specs.Prelude.{◌≡◌, true, [], None}
 use Rattle.std.specs.String.{string_bytes}
 use Rattle.data_encoding.specs.declared.builder.Parts.{Parts}
 use Rattle.data_encoding.specs.declared.encoding.BitOrder.TheVariants.{MostSignificantFirst}
-use Rattle.data_encoding.specs.declared.builder.Refusal.{Refusal}
+use Rattle.data_encoding.specs.declared.meanings.Refusal.{Refusal}
 use Rattle.data_encoding.specs.declared.spec.Specification.{Specification}
 use Rattle.data_encoding.specs.declared.spec.SpecificationError.{SpecificationError}
 use Rattle.data_encoding.specs.declared.spec.Translate.{Translate}
@@ -15,6 +15,7 @@ specified s = record {
   symbols = string_bytes s.symbols;
   order = s.bit_order;
   checks_trailing_bits = s.check_trailing_bits;
+  concatenates = s.concatenate;
   padding = s.padding;
   ignored = string_bytes s.ignore;
   column = s.wrap.width;
@@ -23,7 +24,7 @@ specified s = record {
   to = string_bytes s.translate.to;
 }
 
--- why a specification yields nothing
+-- why no base is built from a specification
 abbrev pub refusal_of : SpecificationError → Refusal
 refusal_of error = error.refusal
 
@@ -33,6 +34,7 @@ fields_of_parts p = record {
   symbols = p.symbols.now;
   order = p.order;
   checks_trailing_bits = p.check;
+  concatenates = p.concatenate;
   padding = p.padding;
   ignored = p.ignored.now;
   column = p.column;
@@ -47,6 +49,7 @@ no_fields = record {
   symbols = [];
   order = MostSignificantFirst;
   checks_trailing_bits = true;
+  concatenates = true;
   padding = None;
   ignored = [];
   column = 0;

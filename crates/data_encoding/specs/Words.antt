@@ -13,6 +13,10 @@ weight LeastSignificantFirst size count index = size * index
 abbrev pub digit : BitOrder → ℕ → ℕ → ℕ → ℕ → ℕ
 digit order size count word index = word / 2 ^ weight order size count index % 2 ^ size
 
+-- a digit, with what stands above it in the byte that begins there
+abbrev pub low_byte : BitOrder → ℕ → ℕ → ℕ → ℕ → ℕ
+low_byte order size count word index = word / 2 ^ weight order size count index % 2 ^ 8
+
 -- the list with zeros up to this length
 abbrev pub zeros_to : ℕ → List ℕ → List ℕ
 zeros_to len bits = bits ++ replicate (len - length bits) 0

@@ -1,22 +1,22 @@
 //! A group of bytes or of symbols as bits, in one word.
 
-ghost use Rattle.std.specs.Prelude.{◌≡◌, ℕ, ◌+◌, ◌-◌, ◌*◌, ◌/◌, ◌%◌, ◌^◌, ◌<◌, ◌≤◌, ◌↔◌, List, length, map, slice_index, IsTrue};
+ghost use Rattle.std.specs.Prelude.{◌≡◌, ℕ, ◌+◌, ◌-◌, ◌*◌, ◌/◌, ◌%◌, ◌^◌, ◌<◌, ◌≤◌, ◌↔◌, List, length, map, take, drop, slice_index, IsTrue};
 ghost use Rattle.std.specs.List.{range_with_len};
 ghost use Rattle.data_encoding.specs.Base.{Base};
 ghost use Rattle.data_encoding.specs.Fault.{bytes_of_group};
 ghost use Rattle.data_encoding.specs.Grammar.{Positioned};
 ghost use Rattle.data_encoding.specs.Tables.{IsGroup, HoldsSymbols, HoldsValues};
 ghost use Rattle.data_encoding.specs.Text.{plain_text};
-ghost use Rattle.data_encoding.specs.Words.{weight, digit, word_of};
+ghost use Rattle.data_encoding.specs.Words.{weight, digit, low_byte, word_of};
 
 use crate::encoding::BitOrder;
 
 // How many bits of a word of `count` digits, each of `size` bits, are below this one.
 fn weight_at(order: BitOrder, size: usize, count: usize, index: usize) -> usize
     requires inside { index < count }
-    requires fits { size * count ≤ 40 }
+    requires fits { size * count ≤ 64 }
     ensures weight { result ≡ weight order size count index }
-    ensures inside { result + size ≤ 40 }
+    ensures inside { result + size ≤ size * count }
 {
     match order {
         BitOrder::MostSignificantFirst => size * (count - 1 - index),
@@ -24,13 +24,12 @@ fn weight_at(order: BitOrder, size: usize, count: usize, index: usize) -> usize
     }
 }
 
-// The `SIZE` bits of the word from this one on.
-fn digit_at<const SIZE: usize>(word: u64, weight: usize) -> usize
-    requires few { SIZE ≤ 8 }
-    requires inside { weight < 64 }
-    ensures { result ≡ word / 2 ^ weight % 2 ^ SIZE }
+// The eight bits of the word from this one on.
+fn byte_at(word: u64, weight: usize) -> u8
+    requires { weight < 64 }
+    ensures { result ≡ word / 2 ^ weight % 2 ^ 8 }
 {
-    ((word >> weight) & ((1 << SIZE) - 1)) as usize
+    ((word >> weight) & 0xff) as u8
 }
 
 // The bytes as a word, with zeros for those that are missing.
@@ -46,7 +45,45 @@ fn word_of_bytes<const BYTES: usize>(order: BitOrder, input: &[u8]) -> u64
     word
 }
 
-// Writes the symbols of the first digits of a word.
+// Eight bytes as a word, by one load.
+fn word_of_eight(order: BitOrder, bytes: &[u8; 8]) -> u64
+    ensures { result ≡ word_of order 8 8 bytes.now }
+{
+    match order {
+        BitOrder::MostSignificantFirst => u64::from_be_bytes(*bytes),
+        BitOrder::LeastSignificantFirst => u64::from_le_bytes(*bytes),
+    }
+}
+
+// So many of the eight bytes as a word, after the first ones, which are skipped.
+fn word_of_part<const BYTES: usize>(order: BitOrder, bytes: &[u8; 8], skipped: usize) -> u64
+    requires some { 0 < BYTES }
+    requires few { BYTES ≤ 5 }
+    requires inside { skipped + BYTES ≤ 8 }
+    ensures { result ≡ word_of order 8 BYTES (take BYTES (drop skipped bytes.now)) }
+{
+    let word = word_of_eight(order, bytes);
+    // The weight of the last of these bytes, or of the first.
+    let weight = weight_at(order, 8, 9 - BYTES, skipped);
+    (word >> weight) & ((1 << (8 * BYTES)) - 1)
+}
+
+// The bytes from this one on as a word: by one load, where the input has eight bytes.
+fn word_at<const BYTES: usize>(order: BitOrder, input: &[u8], start: usize) -> u64
+    requires some { 0 < BYTES }
+    requires few { BYTES ≤ 5 }
+    requires inside { start + BYTES ≤ length input.now }
+    ensures { result ≡ word_of order 8 BYTES (take BYTES (drop start input.now)) }
+{
+    let from = start.min(input.len().saturating_sub(8));
+    match input[from..].first_chunk::<8>() {
+        Some(bytes) => word_of_part::<BYTES>(order, bytes, start - from),
+        None => word_of_bytes::<BYTES>(order, &input[start..start + BYTES]),
+    }
+}
+
+// Writes the symbols of the first digits of a word. The table has a symbol for each byte, so that a
+// byte is its index, and no mask of the width is needed.
 fn symbols_of_word<const WIDTH: usize, const SYMBOLS: usize>(
     symbols: &[u8; 256],
     order: BitOrder,
@@ -56,12 +93,12 @@ fn symbols_of_word<const WIDTH: usize, const SYMBOLS: usize>(
     requires narrow { WIDTH ≤ 6 }
     requires fits { WIDTH * SYMBOLS ≤ 40 }
     requires few { length output.old ≤ SYMBOLS }
-    ensures { output.new ≡ map (λ k. slice_index symbols.now (digit order WIDTH SYMBOLS word k))
+    ensures { output.new ≡ map (λ k. slice_index symbols.now (low_byte order WIDTH SYMBOLS word k))
         (range_with_len 0 (length output.old)) }
 {
     for index in 0..output.len() {
         let weight = weight_at(order, WIDTH, SYMBOLS, index);
-        output[index] = symbols[digit_at::<WIDTH>(word, weight)];
+        output[index] = symbols[byte_at(word, weight) as usize];
     }
 }
 
@@ -80,6 +117,26 @@ pub(crate) fn encode_group<const WIDTH: usize, const BYTES: usize, const SYMBOLS
         → HoldsSymbols base symbols.now → output.new ≡ plain_text base input.now }
 {
     let word = word_of_bytes::<BYTES>(order, input);
+    symbols_of_word::<WIDTH, SYMBOLS>(symbols, order, word, output);
+}
+
+/// Writes the text of the whole group of bytes that begins there.
+#[inline]
+pub(crate) fn encode_group_at<const WIDTH: usize, const BYTES: usize, const SYMBOLS: usize>(
+    symbols: &[u8; 256],
+    order: BitOrder,
+    input: &[u8],
+    start: usize,
+    output: &mut [u8],
+)
+    requires group { IsGroup WIDTH BYTES SYMBOLS }
+    requires inside { start + BYTES ≤ length input.now }
+    requires exact { length output.old ≡ SYMBOLS }
+    ensures text { (base : Base) → base.width ≡ WIDTH → base.order ≡ order
+        → HoldsSymbols base symbols.now
+        → output.new ≡ plain_text base (take BYTES (drop start input.now)) }
+{
+    let word = word_at::<BYTES>(order, input, start);
     symbols_of_word::<WIDTH, SYMBOLS>(symbols, order, word, output);
 }
 
@@ -123,14 +180,39 @@ fn bytes_of_word<const BYTES: usize>(order: BitOrder, word: u64, output: &mut [u
     ensures { output.new ≡ map (digit order 8 BYTES word) (range_with_len 0 (length output.old)) }
 {
     for index in 0..output.len() {
-        output[index] = digit_at::<8>(word, weight_at(order, 8, BYTES, index)) as u8;
+        output[index] = byte_at(word, weight_at(order, 8, BYTES, index));
     }
 }
 
 /// Writes the bytes of a group of symbols, or of the fewer that are left, without the bits after
+/// the last whole byte, and answers the bits that any entry has: the highest, and any bytes are
+/// written, where some byte of the input is no symbol.
+#[inline(always)]
+pub(crate) fn decode_entries<const WIDTH: usize, const BYTES: usize, const SYMBOLS: usize>(
+    values: &[u8; 256],
+    order: BitOrder,
+    input: &[u8],
+    output: &mut [u8],
+) -> u8
+    requires group { IsGroup WIDTH BYTES SYMBOLS }
+    requires few { length input.now ≤ SYMBOLS }
+    requires exact { length output.old ≡ WIDTH * length input.now / 8 }
+    ensures symbols { (result < 128) ↔ ((k : ℕ) → k < length input.now
+        → slice_index values.now (slice_index input.now k) < 128) }
+    ensures bytes { (base : Base) (ks : List Positioned) → base.width ≡ WIDTH → base.order ≡ order
+        → HoldsValues base values.now → map (λ k. k.byte) ks ≡ input.now → result < 128
+        → output.new ≡ bytes_of_group base ks }
+{
+    let (word, entries) = word_of_symbols::<WIDTH, SYMBOLS>(values, order, input);
+    bytes_of_word::<BYTES>(order, word, output);
+    entries
+}
+
+/// Writes the bytes of a group of symbols, or of the fewer that are left, without the bits after
 /// the last whole byte; `false`, and any bytes, where some byte of the input is no symbol.
-#[inline]
-pub(crate) fn decode_group<const WIDTH: usize, const BYTES: usize, const SYMBOLS: usize>(
+// Part of its callers, with the order as a constant, so that every shift is one.
+#[inline(always)]
+pub(crate) fn decode_symbols<const WIDTH: usize, const BYTES: usize, const SYMBOLS: usize>(
     values: &[u8; 256],
     order: BitOrder,
     input: &[u8],
@@ -145,12 +227,24 @@ pub(crate) fn decode_group<const WIDTH: usize, const BYTES: usize, const SYMBOLS
         → HoldsValues base values.now → map (λ k. k.byte) ks ≡ input.now → IsTrue result
         → output.new ≡ bytes_of_group base ks }
 {
-    let (word, entries) = word_of_symbols::<WIDTH, SYMBOLS>(values, order, input);
-    bytes_of_word::<BYTES>(order, word, output);
+    let entries = match order {
+        BitOrder::MostSignificantFirst => decode_entries::<WIDTH, BYTES, SYMBOLS>(
+            values,
+            BitOrder::MostSignificantFirst,
+            input,
+            output,
+        ),
+        BitOrder::LeastSignificantFirst => decode_entries::<WIDTH, BYTES, SYMBOLS>(
+            values,
+            BitOrder::LeastSignificantFirst,
+            input,
+            output,
+        ),
+    };
     entries < 128
 }
 
-/// The place of the first byte that is no symbol, or the length.
+/// The position of the first byte that is no symbol, or the length.
 #[cold]
 pub(crate) fn symbol_position(values: &[u8; 256], input: &[u8]) -> usize
     ensures before { (k : ℕ) → k < result

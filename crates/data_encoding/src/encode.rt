@@ -1,18 +1,18 @@
 //! From data to text.
 //!
-//! The calls that encode ask that no byte means padding and none is ignored, as `interpret_byte`
-//! tells. Texts then have symbols alone.
+//! The calls that encode ask that no byte is ignored, as `interpret_byte` tells. Texts then have no
+//! lines: they are symbols, with the last group filled with padding where there is some.
 
-ghost use Rattle.std.specs.Prelude.{◌≡◌, All, ℕ, ◌<◌, ◌+◌, ◌-◌, ◌*◌, ◌/◌, ◌≤◌, List, length, replicate, IfOk, IsOk};
+ghost use Rattle.std.specs.Prelude.{◌≡◌, All, ℕ, ◌<◌, ◌+◌, ◌-◌, ◌*◌, ◌/◌, ◌≤◌, List, ◌++◌, length, drop, replicate, IfOk, IsOk};
 ghost use Rattle.std.specs.String.{string_bytes};
-ghost use Rattle.data_encoding.specs.Base.{Base, IsWidth};
+ghost use Rattle.data_encoding.specs.Base.{Base, IsWidth, group_bytes, group_symbols};
 ghost use Rattle.data_encoding.specs.Fields.{IsSpecified};
 ghost use Rattle.data_encoding.specs.Lengths.{alignment};
 ghost use Rattle.data_encoding.specs.Plain.{IsPlain};
 ghost use Rattle.data_encoding.specs.Tables.{IsGroup, Writes};
-ghost use Rattle.data_encoding.specs.Text.{plain_text, text_of};
+ghost use Rattle.data_encoding.specs.Text.{padded_text, plain_text, text_of};
 
-use crate::bits::encode_group;
+use crate::bits::{encode_group, encode_group_at};
 use crate::encoding::{BitOrder, Encoding, group_bytes};
 use crate::memory::zeros;
 use std::alloc::{AllocError, Global};
@@ -20,10 +20,12 @@ use std::alloc::{AllocError, Global};
 /// The greatest length of data that is encoded in one call, in bytes.
 pub const ENCODE_LIMIT: usize = usize::MAX / 512;
 
+const _: () = prove!(ENCODE_LIMIT == 36028797018963967);
+
 impl Encoding {
     /// The length of the text of `len` bytes of data, at most `ENCODE_LIMIT`.
     ///
-    /// No byte may mean padding, and none may be ignored.
+    /// No byte may be ignored.
     pub fn encode_len(&self, len: usize) -> usize
         requires limit { len ≤ ENCODE_LIMIT }
         requires plain { IsPlain self.now }
@@ -32,7 +34,10 @@ impl Encoding {
         ensures empty { len ≡ 0 → result ≡ 0 }
         ensures base { IsSpecified self.now }
     {
-        (8 * len).div_ceil(self.width as usize)
+        if self.padding.is_none() {
+            return symbol_count(self.width, len);
+        }
+        filled_count(self.width, len)
     }
 
     /// The bytes of data of a whole group of symbols, or of a whole line.
@@ -50,7 +55,7 @@ impl Encoding {
     /// Writes the text of the data into `output`, which has exactly its length: `encode_len` of the
     /// data's, which is at most `ENCODE_LIMIT`.
     ///
-    /// No byte may mean padding, and none may be ignored.
+    /// No byte may be ignored.
     pub fn encode_mut(&self, input: &[u8], output: &mut [u8])
         requires limit { length input.now ≤ ENCODE_LIMIT }
         requires plain { IsPlain self.now }
@@ -58,10 +63,12 @@ impl Encoding {
         ensures text { output.new ≡ text_of self.now input.now }
         ensures ascii { All (λ byte. byte < 128) output.new }
     {
-        encode_by_width(&self.symbols, self.width, self.order, input, output);
+        let (width, order) = (self.width, self.order);
+        let count = self.pad(input, output);
+        encode_by_width(&self.symbols, width, order, input, &mut output[..count]);
     }
 
-    /// Does what `encode_mut` does, on the same conditions, and hands out the output as text.
+    /// Does what `encode_mut` does, on the same conditions, and answers the output as text.
     pub fn encode_mut_str<'a>(&self, input: &[u8], output: &'a mut [u8]) -> &'a str
         requires limit { length input.now ≤ ENCODE_LIMIT }
         requires plain { IsPlain self.now }
@@ -72,10 +79,11 @@ impl Encoding {
         unsafe { str::from_utf8_unchecked(output) }
     }
 
-    /// The text of the data, of at most `ENCODE_LIMIT` bytes.
+    /// The text of the data, of at most `ENCODE_LIMIT` bytes: its symbols, and padding that fills
+    /// the last group.
     ///
-    /// The only error is want of memory, and nothing needs none. No byte may mean padding, and none
-    /// may be ignored.
+    /// The only error is that memory ran out, which is never answered for no data. No byte may be
+    /// ignored.
     pub fn encode(&self, alloc: Global, input: &[u8]) -> Result<String, AllocError>
         requires limit { length input.now ≤ ENCODE_LIMIT }
         requires plain { IsPlain self.now }
@@ -86,15 +94,66 @@ impl Encoding {
         self.encode_mut(input, &mut output);
         Ok(unsafe { String::from_utf8_unchecked(output) })
     }
+
+    // Writes the padding of the text to the end of `output`, and answers how many symbols come
+    // before it.
+    fn pad(&self, input: &[u8], output: &mut [u8]) -> usize
+        requires limit { length input.now ≤ ENCODE_LIMIT }
+        requires exact { length output.old ≡ length (padded_text self.now input.now) }
+        ensures count { result ≡ (8 * length input.now + (self.now.width - 1)) / self.now.width }
+        ensures inside { result ≤ length output.new }
+        ensures padding { padded_text self.now input.now
+            ≡ plain_text self.now input.now ++ drop result output.new }
+    {
+        let Some(character) = self.padding else {
+            return output.len();
+        };
+        let count = symbol_count(self.width, input.len());
+        output[count..].fill(character);
+        count
+    }
 }
 
-// With the width as a constant, and the sizes of a group.
+// The number of symbols of `len` bytes. What is divided by is a constant, since a division by a
+// variable takes as long as a group.
+fn symbol_count(width: u8, len: usize) -> usize
+    requires width { IsWidth width }
+    requires limit { len ≤ ENCODE_LIMIT }
+    ensures { result ≡ (8 * len + (width - 1)) / width }
+{
+    match width {
+        1 => 8 * len,
+        2 => 4 * len,
+        3 => (8 * len).div_ceil(3),
+        4 => 2 * len,
+        5 => (8 * len).div_ceil(5),
+        _ => (8 * len).div_ceil(6),
+    }
+}
+
+// The same with the padding that fills the last group. Groups of one byte are always whole.
+fn filled_count(width: u8, len: usize) -> usize
+    requires width { IsWidth width }
+    requires limit { len ≤ ENCODE_LIMIT }
+    ensures value { result
+        ≡ (len + (group_bytes width - 1)) / group_bytes width * group_symbols width }
+    ensures empty { len ≡ 0 → result ≡ 0 }
+{
+    match width {
+        3 => len.div_ceil(3) * 8,
+        5 => len.div_ceil(5) * 8,
+        6 => len.div_ceil(3) * 4,
+        _ => symbol_count(width, len),
+    }
+}
+
+// Makes the width a constant, and with it the sizes of a group: loops over a group are unrolled.
 fn encode_by_width(symbols: &[u8; 256], width: u8, order: BitOrder, input: &[u8], output: &mut [u8])
     requires width { IsWidth width }
     requires limit { length input.now ≤ ENCODE_LIMIT }
     requires exact { length output.old ≡ (8 * length input.now + (width - 1)) / width }
     ensures { (base : Base) → Writes base symbols.now width order
-        → output.new ≡ text_of base input.now }
+        → output.new ≡ plain_text base input.now }
 {
     match width {
         1 => encode_in_order::<1, 1, 8>(symbols, order, input, output),
@@ -106,7 +165,7 @@ fn encode_by_width(symbols: &[u8; 256], width: u8, order: BitOrder, input: &[u8]
     }
 }
 
-// With the order as a constant, so that every shift of the loops below is one.
+// Makes the order a constant too: each digit then stands at a known bit of its word.
 fn encode_in_order<const WIDTH: usize, const BYTES: usize, const SYMBOLS: usize>(
     symbols: &[u8; 256],
     order: BitOrder,
@@ -117,7 +176,7 @@ fn encode_in_order<const WIDTH: usize, const BYTES: usize, const SYMBOLS: usize>
     requires limit { length input.now ≤ ENCODE_LIMIT }
     requires exact { length output.old ≡ (8 * length input.now + (WIDTH - 1)) / WIDTH }
     ensures { (base : Base) → Writes base symbols.now WIDTH order
-        → output.new ≡ text_of base input.now }
+        → output.new ≡ plain_text base input.now }
 {
     match order {
         BitOrder::MostSignificantFirst => {
@@ -139,7 +198,7 @@ fn encode_in_order<const WIDTH: usize, const BYTES: usize, const SYMBOLS: usize>
     }
 }
 
-// Block by block of four groups, so that the loop's own steps cost less, and then what is left.
+// Four groups at a time, so that the loop's own steps cost less, and then what is left.
 fn encode_by_fours<const WIDTH: usize, const BYTES: usize, const SYMBOLS: usize>(
     symbols: &[u8; 256],
     order: BitOrder,
@@ -150,30 +209,31 @@ fn encode_by_fours<const WIDTH: usize, const BYTES: usize, const SYMBOLS: usize>
     requires limit { length input.now ≤ ENCODE_LIMIT }
     requires exact { length output.old ≡ (8 * length input.now + (WIDTH - 1)) / WIDTH }
     ensures { (base : Base) → Writes base symbols.now WIDTH order
-        → output.new ≡ text_of base input.now }
+        → output.new ≡ plain_text base input.now }
 {
-    let bytes = 4 * BYTES;
-    let places = 4 * SYMBOLS;
-    let count = input.len() / bytes;
+    let read_len = 4 * BYTES;
+    let written_len = 4 * SYMBOLS;
+    let count = input.len() / read_len;
     for index in 0..count {
-        let read = index * bytes;
-        let written = index * places;
+        let read = index * read_len;
+        let written = index * written_len;
         encode_four_groups::<WIDTH, BYTES, SYMBOLS>(
             symbols,
             order,
-            &input[read..read + bytes],
-            &mut output[written..written + places],
+            &input[read..read + read_len],
+            &mut output[written..written + written_len],
         );
     }
     encode_groups::<WIDTH, BYTES, SYMBOLS>(
         symbols,
         order,
-        &input[count * bytes..],
-        &mut output[count * places..],
+        &input[count * read_len..],
+        &mut output[count * written_len..],
     );
 }
 
-// Four whole groups.
+// Four whole groups. Inlined, so that the lengths are constants, and with them which bytes are
+// loaded together.
 #[inline(always)]
 fn encode_four_groups<const WIDTH: usize, const BYTES: usize, const SYMBOLS: usize>(
     symbols: &[u8; 256],
@@ -188,18 +248,19 @@ fn encode_four_groups<const WIDTH: usize, const BYTES: usize, const SYMBOLS: usi
         → output.new ≡ plain_text base input.now }
 {
     for index in 0..4 {
-        let read = index * BYTES;
         let written = index * SYMBOLS;
-        encode_group::<WIDTH, BYTES, SYMBOLS>(
+        encode_group_at::<WIDTH, BYTES, SYMBOLS>(
             symbols,
             order,
-            &input[read..read + BYTES],
+            input,
+            index * BYTES,
             &mut output[written..written + SYMBOLS],
         );
     }
 }
 
-// Group by group, the last perhaps shorter.
+// Group by group: at most three whole ones, and the last, perhaps shorter. Not inlined, so that the
+// loop over four groups, where the time goes, is small code.
 #[inline(never)]
 fn encode_groups<const WIDTH: usize, const BYTES: usize, const SYMBOLS: usize>(
     symbols: &[u8; 256],
@@ -211,7 +272,7 @@ fn encode_groups<const WIDTH: usize, const BYTES: usize, const SYMBOLS: usize>(
     requires limit { length input.now ≤ ENCODE_LIMIT }
     requires exact { length output.old ≡ (8 * length input.now + (WIDTH - 1)) / WIDTH }
     ensures { (base : Base) → Writes base symbols.now WIDTH order
-        → output.new ≡ text_of base input.now }
+        → output.new ≡ plain_text base input.now }
 {
     let count = input.len() / BYTES;
     for index in 0..count {

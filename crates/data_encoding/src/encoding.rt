@@ -90,6 +90,10 @@ pub struct Encoding {
     pub(crate) width: u8,
     pub(crate) order: BitOrder,
     pub(crate) checks_trailing_bits: bool,
+
+    // Whether a text may go on after a padded group.
+    pub(crate) concatenates: bool,
+
     pub(crate) padding: Option<u8>,
 
     // The length of a line, or 0, and what follows each line.
@@ -177,6 +181,7 @@ impl Clone for Encoding {
             width: self.width,
             order: self.order,
             checks_trailing_bits: self.checks_trailing_bits,
+            concatenates: self.concatenates,
             padding: self.padding,
             column: self.column,
             separator: copied(self.separator.as_slice()),
@@ -185,7 +190,7 @@ impl Clone for Encoding {
 }
 
 // The bytes as an owned list.
-fn copied(bytes: &[u8]) -> ArrayVec<u8, 255>
+pub(crate) fn copied(bytes: &[u8]) -> ArrayVec<u8, 255>
     requires { length bytes.now ≤ 255 }
     ensures { result ≡ record { items = bytes.now } }
 {
@@ -209,8 +214,30 @@ impl PartialEq for Encoding {
     fn eq(&self, other: &Encoding) -> bool
         ensures value { result ≡ on layout bytes_eq self.now other.now }
         ensures same { IsTrue result ↔ (layout self.now ≡ layout other.now) }
+        ensures base { IsTrue result ↔ (self.now ≡ other.now) }
     {
-        self.layout().as_slice() == other.layout().as_slice()
+        // The small fields first: encodings mostly differ there.
+        let one = (
+            self.width,
+            self.order,
+            self.checks_trailing_bits,
+            self.concatenates,
+            self.padding,
+            self.column,
+        );
+        let another = (
+            other.width,
+            other.order,
+            other.checks_trailing_bits,
+            other.concatenates,
+            other.padding,
+            other.column,
+        );
+        // At most 64 symbols repeat, and no byte from 128 on has a value.
+        one == another
+            && self.symbols[..64] == other.symbols[..64]
+            && self.values[..128] == other.values[..128]
+            && self.separator.as_slice() == other.separator.as_slice()
     }
 }
 

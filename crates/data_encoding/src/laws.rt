@@ -2,7 +2,7 @@
 
 ghost use Rattle.data_encoding.specs.Laws.{SpecificationAgain};
 
-/// The specification of an encoding yields that encoding.
+/// Each encoding is built from its own specification.
 pub fn specification_again()
     ensures { SpecificationAgain }
 {}

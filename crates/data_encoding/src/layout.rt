@@ -26,17 +26,20 @@ impl Encoding {
         bytes
     }
 
-    // The width, and the order and the check in the bits of weight 8 and 16.
+    // The width; the order and the check in the bits of weight 8 and 16, and in that of weight 32
+    // that texts may not be concatenated.
     fn flags(&self) -> u8
         ensures { result ≡ self.now.width + order_flag self.now.order
-            + (if self.now.checks_trailing_bits then 16 else 0) }
+            + (if self.now.checks_trailing_bits then 16 else 0)
+            + (if self.now.concatenates then 0 else 32) }
     {
         let order = match self.order {
             BitOrder::MostSignificantFirst => 8,
             BitOrder::LeastSignificantFirst => 0,
         };
         let check = if self.checks_trailing_bits { 16 } else { 0 };
-        self.width + order + check
+        let single = if self.concatenates { 0 } else { 32 };
+        self.width + order + check + single
     }
 
     // Whether a byte is ignored.

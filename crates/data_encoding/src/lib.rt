@@ -11,10 +11,13 @@ mod decode;
 mod encode;
 mod encoding;
 mod error;
+mod group;
 pub mod laws;
 mod layout;
+mod meanings;
 mod memory;
 mod predefined;
+mod run;
 mod spec;
 
 pub use decode::DECODE_LIMIT;
@@ -23,6 +26,3 @@ pub use encoding::{BitOrder, Character, Encoding};
 pub use error::{DecodeError, DecodeFault, DecodeKind, DecodePartial};
 pub use predefined::hexlower;
 pub use spec::{Specification, SpecificationError, Translate, Wrap};
-
-#[cfg(test)]
-mod tests;

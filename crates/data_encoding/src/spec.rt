@@ -9,13 +9,14 @@ ghost use Rattle.data_encoding.specs.Layout.{fields_of, ignored_bytes, is_transl
 ghost use Rattle.data_encoding.specs.Printed.{printed_refusal};
 ghost use Rattle.data_encoding.specs.Specification.{specified, no_fields, refusal_of, SameTranslate, SameWrap};
 
-use crate::builder::{Parts, Refusal, define};
+use crate::builder::{Parts, define};
 use crate::encoding::{BitOrder, Encoding, PADDING};
+use crate::meanings::Refusal;
 use std::alloc::{AllocError, Global};
 use std::error::Error;
 use std::fmt;
 
-/// Bytes that mean what others mean: each of `from` what the one of `to` at its place means.
+/// Bytes that mean what others mean: each of `from` what the one of `to` at its position means.
 #[derive(Debug, Drop)]
 pub struct Translate {
     /// The bytes that are translated.
@@ -47,6 +48,10 @@ pub struct Specification {
     /// Whether bits that are left after the last byte have to be zeros.
     pub check_trailing_bits: bool,
 
+    /// Whether padded texts that stand one after the other are decoded as one. Where it is false,
+    /// a text ends with its first padded group. Without padding it has no effect.
+    pub concatenate: bool,
+
     /// What fills the last group of a text.
     pub padding: Option<char>,
 
@@ -60,15 +65,16 @@ pub struct Specification {
     pub translate: Translate,
 }
 
-/// Why a specification yields no encoding.
+/// Why no encoding is built from a specification.
 #[derive(Clone, Copy, Debug)]
 pub struct SpecificationError {
     pub(crate) refusal: Refusal,
 }
 
 impl Specification {
-    /// A specification with no symbols, the most significant bit first, and trailing bits checked:
-    /// no padding, nothing ignored, no lines and no translation. It takes no memory.
+    /// A specification with no symbols, the most significant bit first, trailing bits checked, and
+    /// texts concatenated: no padding, nothing ignored, no lines and no translation. It takes no
+    /// memory.
     pub fn new(alloc: Global) -> Specification
         ensures { specified result ≡ no_fields }
     {
@@ -76,6 +82,7 @@ impl Specification {
             symbols: String::new(alloc),
             bit_order: BitOrder::MostSignificantFirst,
             check_trailing_bits: true,
+            concatenate: true,
             padding: None,
             ignore: String::new(alloc),
             wrap: Wrap {
@@ -104,6 +111,7 @@ impl Specification {
             symbols: self.symbols.as_bytes(),
             order: self.bit_order,
             check: self.check_trailing_bits,
+            concatenate: self.concatenate,
             padding: self.padding,
             ignored: self.ignore.as_bytes(),
             column: self.wrap.width,
@@ -117,7 +125,7 @@ impl Specification {
         }
     }
 
-    /// A copy, which says the same. The only error is want of memory.
+    /// A copy, which says the same. The only error is that memory ran out.
     pub fn try_clone(&self) -> Result<Specification, AllocError>
         ensures { IfOk result (λ copy. specified copy ≡ specified self.now) }
     {
@@ -125,6 +133,7 @@ impl Specification {
             symbols: self.symbols.clone()?,
             bit_order: self.bit_order,
             check_trailing_bits: self.check_trailing_bits,
+            concatenate: self.concatenate,
             padding: self.padding,
             ignore: self.ignore.clone()?,
             wrap: self.wrap.try_clone()?,
@@ -134,7 +143,7 @@ impl Specification {
 }
 
 impl Encoding {
-    /// A specification that yields the encoding again. The only error is want of memory.
+    /// A specification that builds the encoding again. The only error is that memory ran out.
     ///
     /// Its ignored bytes are in order; and so are its translations, one for each byte that means a
     /// symbol or padding and is another byte.
@@ -146,6 +155,7 @@ impl Encoding {
             symbols: ascii_text(alloc, &self.symbols[..count])?,
             bit_order: self.order,
             check_trailing_bits: self.checks_trailing_bits,
+            concatenate: self.concatenates,
             padding: character(self.padding),
             ignore: self.ignored_text(alloc)?,
             wrap: Wrap {
@@ -257,7 +267,7 @@ fn ascii_text(alloc: Global, bytes: &[u8]) -> Result<String, AllocError>
 }
 
 impl Translate {
-    /// A copy with the same texts. The only error is want of memory.
+    /// A copy with the same texts. The only error is that memory ran out.
     pub fn try_clone(&self) -> Result<Translate, AllocError>
         ensures { IfOk result (λ copy. SameTranslate copy self.now) }
     {
@@ -269,7 +279,7 @@ impl Translate {
 }
 
 impl Wrap {
-    /// A copy with the same width and text. The only error is want of memory.
+    /// A copy with the same width and text. The only error is that memory ran out.
     pub fn try_clone(&self) -> Result<Wrap, AllocError>
         ensures { IfOk result (λ copy. SameWrap copy self.now) }
     {
@@ -304,6 +314,3 @@ impl fmt::Display for SpecificationError {
 }
 
 impl Error for SpecificationError {}
-
-#[cfg(test)]
-mod tests;

@@ -1,4 +1,4 @@
--- Groups of bytes as positioned characters: the first that is no symbol, and the bits that are left.
+-- Groups of bytes as positioned characters: the first that is no symbol, and the bits left over.
 use Rattle.std.proofs.Common.{◌≡◌, ℕ, zero, suc, ◌+◌, ◌-◌, ◌*◌, ◌/◌, ◌%◌, ◌^◌, ◌<◌, ◌≤◌, ◌==◌, Bool, true, false, not, cond, ◌&&◌, ◌||◌, nat_lt, List, [], ◌∷◌, ◌++◌, length, map, take, drop, reverse, slice_index, Some, None, refl, sym, ap, ◌∙◌, subst, arith, length-append}
 use Rattle.std.proofs.lemmas.Bool.Decides.{nat_tests}
 use Rattle.std.proofs.lemmas.List.{length-map, length-reverse, reverse-append, map-append, append-nil, drop_at, take_more, take_all}
@@ -19,28 +19,12 @@ use Rattle.data_encoding.specs.Bits.{bits_of, low_bits, number_of_low_bits}
 use Rattle.data_encoding.specs.Grammar.{Positioned, positioned_from}
 use Rattle.data_encoding.specs.Lengths.{is_valid_count}
 use Rattle.data_encoding.specs.Tables.{HoldsValues}
-use Rattle.data_encoding.specs.Fault.{position_of, fault_at, fault_at_first, invalid_symbol_fault, plain_fault, trailing_bits}
+use Rattle.data_encoding.specs.Fault.{fault_at, fault_at_first, invalid_symbol_fault, plain_fault, trailing_bits}
 use Rattle.data_encoding.proofs.digits.BitLemmas.{length-low_bits, low_bits-add, low_bits-mod, number-low_bits}
-use Rattle.data_encoding.proofs.decoding.UnpaddedFaultLemmas.{plain_fault-symbol, plain_fault-symbols}
+use Rattle.data_encoding.proofs.grammar.PositionLemmas.{bytes-positioned_from, length-by_bytes, position_of-positioned_from}
+use Rattle.data_encoding.proofs.grammar.GroupLemmas.{plain_fault-valid, symbols_fault-symbol, symbols_fault-symbols}
 use Rattle.data_encoding.proofs.grammar.UnpaddedGroupLemmas.{length-bits_of_values}
 use Rattle.data_encoding.proofs.digits.KernelLemmas.{values_in-table, entries_below}
-
--- the characters of a group are its bytes, each at its place
-pub bytes-positioned_from : (place : ℕ) (group : List ℕ)
-    → map (λ (k : Positioned). k.byte) (positioned_from place group) ≡ group
-bytes-positioned_from place [] = refl
-bytes-positioned_from place (byte ∷ group) = ap (λ l. byte ∷ l) (bytes-positioned_from (place + 1) group)
-
-pub length-by_bytes : (ks : List Positioned) (group : List ℕ) → map (λ (k : Positioned). k.byte) ks ≡ group
-    → length ks ≡ length group
-length-by_bytes ks group h = sym (length-map ks (λ (k : Positioned). k.byte)) ∙ ap length h
-
-pub position_of-positioned_from : (place : ℕ) (group : List ℕ) (index : ℕ) → index < length group
-    → position_of (positioned_from place group) index ≡ place + index
-position_of-positioned_from place [] index h = absurd (omega (arith, h))
-position_of-positioned_from place (byte ∷ group) zero h = omega arith
-position_of-positioned_from place (byte ∷ group) (suc index) h =
-    position_of-positioned_from (place + 1) group index (omega (arith, h)) ∙ omega arith
 
 -- a fault that is found stands, whatever would be judged next
 module _ (base : Base) (values : List ℕ) (holds : HoldsValues base values) where
@@ -269,7 +253,8 @@ module _ (base : Base) (width : ℕ) (values group : List ℕ) (ks : List Positi
 module _ (base : Base) (width place : ℕ) (group : List ℕ) (width_is : base.width ≡ width)
     (valid : is_valid_count width (length group) ≡ true) where
   length_is : length (positioned_from place group) ≡ length group
-  length_is = length-by_bytes (positioned_from place group) group (bytes-positioned_from place group)
+  length_is =
+      length-by_bytes (positioned_from place group) group (bytes-positioned_from place group)
 
   valid_here : is_valid_count base.width (length (positioned_from place group)) ≡ true
   valid_here = (λ i. is_valid_count (width_is i) (length_is i)) ∙ valid
@@ -277,7 +262,9 @@ module _ (base : Base) (width place : ℕ) (group : List ℕ) (width_is : base.w
   pub positioned-symbol : (error : DecodeError)
       → invalid_symbol_fault base (positioned_from place group) ≡ Some error
       → plain_fault base (positioned_from place group) ≡ Some error
-  positioned-symbol error h = plain_fault-symbol base (positioned_from place group) error valid_here h
+  positioned-symbol error h =
+      plain_fault-valid base (positioned_from place group) valid_here
+      ∙ symbols_fault-symbol base (positioned_from place group) error h
 
   pub positioned-trailing : invalid_symbol_fault base (positioned_from place group) ≡ None
       → base.checks_trailing_bits ≡ true
@@ -287,7 +274,7 @@ module _ (base : Base) (width place : ℕ) (group : List ℕ) (width_is : base.w
       ≡ Some (record { position = place + length group - 1; kind = TrailingFault })
   positioned-trailing h checks some inside =
       let ks = positioned_from place group in
-      plain_fault-symbols base ks valid_here h
+      plain_fault-valid base ks valid_here ∙ symbols_fault-symbols base ks h
       ∙ (λ i. cond (checks i && some i) (fault_at TrailingFault ks (length ks - 1)) None)
       ∙ ap (λ n. fault_at TrailingFault ks (n - 1)) length_is
       ∙ ap (λ n. Some (record { position = n; kind = TrailingFault }))
@@ -300,5 +287,5 @@ module _ (base : Base) (width place : ℕ) (group : List ℕ) (width_is : base.w
       → plain_fault base (positioned_from place group) ≡ None
   positioned-none h quiet =
       let ks = positioned_from place group in
-      plain_fault-symbols base ks valid_here h
+      plain_fault-valid base ks valid_here ∙ symbols_fault-symbols base ks h
       ∙ ap (λ b. cond b (fault_at TrailingFault ks (length ks - 1)) None) quiet

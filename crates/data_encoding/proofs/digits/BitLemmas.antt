@@ -17,7 +17,7 @@ pub length-low_bits : (count number : ℕ) → length (low_bits count number) �
 length-low_bits zero number = refl
 length-low_bits (suc count) number = ap (λ n. suc n) (length-low_bits count (number / 2))
 
-pub AreBits-low_bits : (count number : ℕ) → AreBits (low_bits count number)
+AreBits-low_bits : (count number : ℕ) → AreBits (low_bits count number)
 AreBits-low_bits zero number = tt
 AreBits-low_bits (suc count) number = (omega arith, AreBits-low_bits count (number / 2))
 
@@ -32,7 +32,7 @@ number-low_bits (suc count) number h =
     let half = number-low_bits count (number / 2) (double number (2 ^ count) below) in
     ap (λ n. number % 2 + 2 * n) half ∙ omega arith
 
-pub low_bits-number : (bits : List ℕ) → AreBits bits
+low_bits-number : (bits : List ℕ) → AreBits bits
     → low_bits (length bits) (number_of_low_bits bits) ≡ bits
 low_bits-number [] h = refl
 low_bits-number (bit ∷ bits) h =

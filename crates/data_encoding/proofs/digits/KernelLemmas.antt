@@ -4,6 +4,7 @@ use Rattle.std.proofs.lemmas.Bool.{cases_lt}
 use Rattle.std.proofs.lemmas.List.{length-replicate, length-map, replicate-append-replicate}
 use Rattle.std.proofs.lemmas.Nat.{div-add-mod', mod_below, mul-le, pow_pos}
 use Rattle.std.proofs.Math.Nat.{mul_comm, mod-eq_of_lt, mod-lt, div-eq_of_lt-le, div-lt_iff_lt-mul}
+use Rattle.std.proofs.Math.Pow.{mod-mod-pow}
 use Rattle.std.specs.Prelude.{flat_map}
 use Rattle.std.specs.List.{range_with_len, filter_map, cons_option}
 use Rattle.std.specs.Simd.{first_chunks}
@@ -14,7 +15,7 @@ use Rattle.data_encoding.specs.Fault.{bytes_of_group}
 use Rattle.data_encoding.specs.Grammar.{Positioned}
 use Rattle.data_encoding.specs.Tables.{HoldsSymbols, HoldsValues, IsGroup}
 use Rattle.data_encoding.specs.Text.{plain_text}
-use Rattle.data_encoding.specs.Words.{digit, zeros_to, word_of}
+use Rattle.data_encoding.specs.Words.{digit, low_byte, weight, zeros_to, word_of}
 use Rattle.data_encoding.proofs.digits.BitLemmas.{AreBits, AreBits-flat_map, AreBits-bits_of}
 use Rattle.data_encoding.proofs.grammar.UnpaddedGroupLemmas.{length-bits_of_bytes, length-bits_of_values}
 use Rattle.data_encoding.proofs.lists.RunLemmas.{run_count}
@@ -72,14 +73,21 @@ run_count-most size n count h k =
     (omega (arith, mul_comm size count)) in
     omega arith
 
+-- the lowest bits of a byte
+lowest_bits : (n width : ℕ) → width ≤ 8 → n % 2 ^ 8 % 2 ^ width ≡ n % 2 ^ width
+lowest_bits n width h =
+    let whole : 8 - width + width ≡ 8 = omega arith in
+    ap (λ m. n % 2 ^ m % 2 ^ width) (sym whole) ∙ mod-mod-pow n (8 - width) width
+
 -- the symbols of the first digits of a word of bytes are the text of these
-pub text_by-word : (base : Base) (order : BitOrder) (width bytes count : ℕ)
+text_by-word : (base : Base) (order : BitOrder) (width bytes count : ℕ)
     (symbols input : List ℕ) → 0 < width → width * count ≡ 8 * bytes → length input ≤ bytes
-    → ((value : ℕ) → value < 2 ^ width → symbol base value ≡ slice_index symbols value)
-    → map (λ k. slice_index symbols (digit order width count (word_of order 8 bytes input) k))
+    → ((byte : ℕ) → byte < 256 → symbol base (byte % 2 ^ width) ≡ slice_index symbols byte)
+    → width ≤ 8
+    → map (λ k. slice_index symbols (low_byte order width count (word_of order 8 bytes input) k))
     (range_with_len 0 (run_count width (8 * length input)))
     ≡ text_by base width order (bits_of_bytes order input)
-text_by-word base order width bytes count symbols input some same few at =
+text_by-word base order width bytes count symbols input some same few at narrow =
     let bits = bits_of_bytes order input in
     let len : length bits ≡ 8 * length input = length-bits_of_bytes order input in
     let n = run_count width (8 * length input) in
@@ -97,11 +105,12 @@ text_by-word base order width bytes count symbols input some same few at =
     ∙ ap (λ m. length bits + m) (length-replicate {A = ℕ} extra 0) in
     let count_of : run_count width (length (bits ++ replicate extra 0)) ≡ n =
     ap (run_count width) runs_len ∙ run_count-missing width (length bits) some ∙ sym many in
-    ap (λ m. map (λ k. slice_index symbols (digit order width count
+    ap (λ m. map (λ k. slice_index symbols (low_byte order width count
     (number_of order (zeros_to m bits)) k)) (range_with_len 0 n)) (sym same)
-    ∙ map-range-same (λ k. slice_index symbols (digit order width count word k))
+    ∙ map-range-same (λ k. slice_index symbols (low_byte order width count word k))
     (λ k. symbol base (digit order width count word k)) n
-    (λ k below. sym (at (digit order width count word k) (mod-lt _ (pow_pos width))))
+    (λ k below. sym (at (low_byte order width count word k) (mod-lt _ (pow_pos 8)))
+    ∙ ap (symbol base) (lowest_bits (word / 2 ^ weight order width count k) width narrow))
     ∙ sym (map-twice (symbol base) (digit order width count word) (range_with_len 0 n))
     ∙ ap (map (symbol base)) (digits-runs order width count n bits are (omega arith) most)
     ∙ map-twice (symbol base) (number_of order)
@@ -111,7 +120,7 @@ text_by-word base order width bytes count symbols input some same few at =
     ∙ ap (λ m. show (first_chunks width m (bits ++ replicate extra 0))) (sym count_of)
 
 -- the bytes of a whole group and its symbols have as many bits
-pub group_same_bits : (width bytes count : ℕ) → IsGroup width bytes count
+group_same_bits : (width bytes count : ℕ) → IsGroup width bytes count
     → width * count ≡ 8 * bytes
 group_same_bits width bytes count group =
     ap (λ n. width * n) group.has_symbols
@@ -122,14 +131,14 @@ group_same_bits width bytes count group =
 pub plain_text-word : (base : Base) (order : BitOrder) (width bytes count : ℕ)
     (symbols input : List ℕ) → IsGroup width bytes count → length input ≤ bytes
     → base.width ≡ width → base.order ≡ order → HoldsSymbols base symbols
-    → map (λ k. slice_index symbols (digit order width count (word_of order 8 bytes input) k))
+    → map (λ k. slice_index symbols (low_byte order width count (word_of order 8 bytes input) k))
     (range_with_len 0 ((8 * length input + (width - 1)) / width))
     ≡ plain_text base input
 plain_text-word base order width bytes count symbols input group few w o holds =
     let same = group_same_bits width bytes count group in
     text_by-word base order width bytes count symbols input group.is_width.some same few
-    (subst (λ m. (value : ℕ) → value < 2 ^ m → symbol base value ≡ slice_index symbols value) w
-    holds.at_value)
+    (subst (λ m. (byte : ℕ) → byte < 256 → symbol base (byte % 2 ^ m) ≡ slice_index symbols byte)
+    w holds.at_byte) (omega (arith, group.is_width.few))
     ∙ sym (λ i. text_by base (w i) (o i) (bits_of_bytes (o i) input))
 
 -- the bytes of the bits of values
@@ -140,7 +149,7 @@ bytes_by order width values =
     (flat_map (bits_of order width) values)))
 
 -- the first bytes of a word of values are those of their bits
-pub bytes_by-word : (order : BitOrder) (width bytes count n : ℕ) (values : List ℕ)
+bytes_by-word : (order : BitOrder) (width bytes count n : ℕ) (values : List ℕ)
     → width * count ≡ 8 * bytes → length values ≤ count → n ≡ width * length values / 8
     → map (digit order 8 bytes (word_of order width count values)) (range_with_len 0 n)
     ≡ bytes_by order width values
@@ -169,7 +178,8 @@ bytes_by-word order width bytes count n values same few is =
     ∙ ap (λ m. map (number_of order) (first_chunks 8 m front)) (sym count_of)
 
 -- the values of symbols are what the table says of them
-pub values_in-table : (base : Base) (values : List ℕ) (ks : List Positioned) → HoldsValues base values
+pub values_in-table : (base : Base) (values : List ℕ) (ks : List Positioned) → HoldsValues base
+    values
     → ((k : ℕ) → slice_index (map (λ (p : Positioned). p.byte) ks) k < 256)
     → ((k : ℕ) → k < length (map (λ (p : Positioned). p.byte) ks)
     → slice_index values (slice_index (map (λ (p : Positioned). p.byte) ks) k) < 128)

@@ -1,5 +1,5 @@
 -- The six widths.
-use Rattle.std.proofs.Common.{◌≡◌, ℕ, zero, suc, ◌*◌, ◌/◌, ◌^◌, ◌<◌, ◌≤◌, refl, arith}
+use Rattle.std.proofs.Common.{◌≡◌, ℕ, zero, suc, ◌-◌, ◌*◌, ◌/◌, ◌^◌, ◌<◌, ◌≤◌, refl, arith}
 use Rattle.data_encoding.specs.Base.{IsWidth, group_bytes, group_symbols}
 
 -- what holds of each of the six
@@ -30,6 +30,10 @@ group_symbols-pos =
     by_width (λ w. 0 < group_symbols w) (omega arith) (omega arith) (omega arith) (omega arith)
     (omega arith) (omega arith)
 
+-- so often is their number doubled until the symbols fill their table
+pub times_doubled : (width : ℕ) → IsWidth width → 2 ^ (8 - width) ≡ 256 / 2 ^ width
+times_doubled = by_width (λ w. 2 ^ (8 - w) ≡ 256 / 2 ^ w) refl refl refl refl refl refl
+
 -- the symbols fill their table
 pub times_symbols : (width : ℕ) → IsWidth width → 256 / 2 ^ width * 2 ^ width ≡ 256
 times_symbols = by_width (λ w. 256 / 2 ^ w * 2 ^ w ≡ 256) refl refl refl refl refl refl
@@ -43,3 +47,13 @@ pub symbols-few : (width : ℕ) → IsWidth width → 2 ^ width ≤ 64
 symbols-few =
     by_width (λ w. 2 ^ w ≤ 64) (omega arith) (omega arith) (omega arith) (omega arith)
     (omega arith) (omega arith)
+
+pub group_symbols-few : (width : ℕ) → IsWidth width → group_symbols width ≤ 8
+group_symbols-few =
+    by_width (λ w. group_symbols w ≤ 8) (omega arith) (omega arith) (omega arith) (omega arith)
+    (omega arith) (omega arith)
+
+pub group_bytes-few : (width : ℕ) → IsWidth width → group_bytes width ≤ group_symbols width
+group_bytes-few =
+    by_width (λ w. group_bytes w ≤ group_symbols w) (omega arith) (omega arith) (omega arith)
+    (omega arith) (omega arith) (omega arith)

@@ -18,7 +18,7 @@ regroup : (b x m y : ℕ) → b + 2 * (x + m * y) ≡ b + 2 * x + 2 * m * y
 regroup b x m y = omega (arith, mul_assoc 2 m y)
 
 -- lower bits, and then higher ones
-pub number-append : (low high : List ℕ)
+number-append : (low high : List ℕ)
     → number_of_low_bits (low ++ high)
     ≡ number_of_low_bits low + 2 ^ length low * number_of_low_bits high
 number-append [] high = omega arith
@@ -28,11 +28,11 @@ number-append (bit ∷ low) high =
     ∙ ap (λ m. bit + 2 * number_of_low_bits low + m * number_of_low_bits high)
     (sym (pow-succ' 2 (length low)))
 
-pub number-zeros : (n : ℕ) → number_of_low_bits (replicate n 0) ≡ 0
+number-zeros : (n : ℕ) → number_of_low_bits (replicate n 0) ≡ 0
 number-zeros zero = refl
 number-zeros (suc n) = ap (λ k. 0 + 2 * k) (number-zeros n)
 
-pub reverse-zeros : (n : ℕ) → reverse {A = ℕ} (replicate n 0) ≡ replicate n 0
+reverse-zeros : (n : ℕ) → reverse {A = ℕ} (replicate n 0) ≡ replicate n 0
 reverse-zeros zero = refl
 reverse-zeros (suc n) =
     reverse-append (0 ∷ []) (replicate n 0) ∙ ap (λ l. l ++ 0 ∷ []) (reverse-zeros n)
@@ -161,34 +161,50 @@ word_of-more MostSignificantFirst size count index digits d is h k =
     ≡ word_of MostSignificantFirst size m digits + d * 2 ^ (size * r)) whole
     (more_most size index r digits d is k)
 
--- a digit is the number of its bits
-digit-parts : (order : BitOrder) (size count index : ℕ) (front run rest : List ℕ)
-    → AreBits (front ++ (run ++ rest)) → length front ≡ size * index → length run ≡ size
-    → length rest ≡ size * (count - 1 - index)
-    → digit order size count (number_of order (front ++ (run ++ rest))) index
+-- the number of the bits below some that stand between a front and a rest
+abbrev pub bits_below : BitOrder → List ℕ → List ℕ → ℕ
+bits_below LeastSignificantFirst front rest = length front
+bits_below MostSignificantFirst front rest = length rest
+
+-- the bits between others, cut out of a word
+pub number-part : (order : BitOrder) (front run rest : List ℕ) → AreBits (front ++ (run ++ rest))
+    → number_of order (front ++ (run ++ rest)) / 2 ^ bits_below order front rest % 2 ^ length run
     ≡ number_of order run
-digit-parts LeastSignificantFirst size count index front run rest h f m r =
-    let bits = AreBits-right front (run ++ rest) h in
-    (λ i. number_of_low_bits (front ++ (run ++ rest)) / 2 ^ sym f i % 2 ^ sym m i)
-    ∙ number-middle front run rest (AreBits-left front (run ++ rest) h)
-    (AreBits-left run rest bits)
-digit-parts MostSignificantFirst size count index front run rest h f m r =
+number-part LeastSignificantFirst front run rest h =
+    number-middle front run rest (AreBits-left front (run ++ rest) h)
+    (AreBits-left run rest (AreBits-right front (run ++ rest) h))
+number-part MostSignificantFirst front run rest h =
     let bits = AreBits-right front (run ++ rest) h in
     let turned : reverse (front ++ (run ++ rest))
     ≡ reverse rest ++ (reverse run ++ reverse front) =
     reverse-append front (run ++ rest)
     ∙ ap (λ l. l ++ reverse front) (reverse-append run rest)
     ∙ append_assoc (reverse rest) (reverse run) (reverse front) in
-    let low : size * (count - 1 - index) ≡ length (reverse rest) =
-    sym (length-reverse rest ∙ r) in
-    let middle : size ≡ length (reverse run) = sym (length-reverse run ∙ m) in
-    (λ i. number_of_low_bits (turned i) / 2 ^ low i % 2 ^ middle i)
+    (λ i. number_of_low_bits (turned i) / 2 ^ sym (length-reverse rest) i
+    % 2 ^ sym (length-reverse run) i)
     ∙ number-middle (reverse rest) (reverse run) (reverse front)
     (AreBits-reverse rest (AreBits-right run rest bits))
     (AreBits-reverse run (AreBits-left run rest bits))
 
+weight-below : (order : BitOrder) (size count index : ℕ) (front rest : List ℕ)
+    → length front ≡ size * index → length rest ≡ size * (count - 1 - index)
+    → weight order size count index ≡ bits_below order front rest
+weight-below LeastSignificantFirst size count index front rest f r = sym f
+weight-below MostSignificantFirst size count index front rest f r = sym r
+
+-- a digit is the number of its bits
+digit-parts : (order : BitOrder) (size count index : ℕ) (front run rest : List ℕ)
+    → AreBits (front ++ (run ++ rest)) → length front ≡ size * index → length run ≡ size
+    → length rest ≡ size * (count - 1 - index)
+    → digit order size count (number_of order (front ++ (run ++ rest))) index
+    ≡ number_of order run
+digit-parts order size count index front run rest h f m r =
+    (λ i. number_of order (front ++ (run ++ rest))
+    / 2 ^ weight-below order size count index front rest f r i % 2 ^ sym m i)
+    ∙ number-part order front run rest h
+
 -- the bits of a digit, counted from the first
-pub digit-number_of : (order : BitOrder) (size count index : ℕ) (bits : List ℕ) → AreBits bits
+digit-number_of : (order : BitOrder) (size count index : ℕ) (bits : List ℕ) → AreBits bits
     → length bits ≡ size * count → index < count
     → digit order size count (number_of order bits) index
     ≡ number_of order (take size (drop (size * index) bits))
@@ -227,7 +243,7 @@ runs_from size (suc n) a xs =
     (ap (λ m. drop m xs) (mul-add size a 1 ∙ omega arith)
     ∙ sym (drop-drop size (size * a) xs)))
 
-pub first_chunks-places : (size n : ℕ) (xs : List ℕ)
+first_chunks-places : (size n : ℕ) (xs : List ℕ)
     → map (λ k. take size (drop (size * k) xs)) (range_with_len 0 n) ≡ first_chunks size n xs
 first_chunks-places size n xs =
     runs_from size n 0 xs ∙ ap (λ m. first_chunks size n (drop m xs)) (mul-zero size)

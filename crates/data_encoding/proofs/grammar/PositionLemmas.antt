@@ -1,9 +1,14 @@
 -- Characters with their places.
-use Rattle.std.proofs.Common.{◌≡◌, ℕ, ◌+◌, List, [], ◌∷◌, ◌++◌, length, map, ap, ◌∙◌, arith}
+use Rattle.std.proofs.Common.{◌≡◌, ℕ, zero, suc, ◌+◌, ◌<◌, ◌≤◌, false, true, not, List, [], ◌∷◌, ◌++◌, length, map, take, get_or, refl, sym, ap, ◌∙◌, arith}
 use Rattle.std.proofs.lemmas.List.{map-append, length-map}
 use Rattle.std.proofs.lemmas.List.FromFn.{length-enumerate_from}
-use Rattle.std.specs.List.{enumerate_from}
-use Rattle.data_encoding.specs.Grammar.{positioned_from}
+use Rattle.std.specs.List.{AllByRecursion, enumerate_from, filter}
+use Rattle.data_encoding.specs.declared.encoding.Character.{Character}
+use Rattle.data_encoding.specs.declared.encoding.Character.TheVariants.{Invalid}
+use Rattle.data_encoding.specs.Base.{Base, meaning, is_ignored, ignores_some}
+use Rattle.data_encoding.specs.Grammar.{Positioned, positioned, positioned_from, kept}
+use Rattle.data_encoding.specs.Fault.{position_of}
+use Rattle.data_encoding.proofs.lists.ListLemmas.{AllFail, AllFail-list_any, filter-all, length-filter}
 
 enumerate_from-append : (n : ℕ) (xs ys : List ℕ)
     → enumerate_from n (xs ++ ys) ≡ enumerate_from n xs ++ enumerate_from (n + length xs) ys
@@ -13,13 +18,74 @@ enumerate_from-append n (x ∷ xs) ys =
     ∙ ap (λ k. enumerate_from (n + 1) xs ++ enumerate_from k ys) (omega arith))
 
 pub positioned_from-append : (place : ℕ) (xs ys : List ℕ)
-    → positioned_from place (xs ++ ys) ≡ positioned_from place xs ++ positioned_from (place + length xs) ys
+    → positioned_from place (xs ++ ys)
+    ≡ positioned_from place xs ++ positioned_from (place + length xs) ys
 positioned_from-append place xs ys =
-    ap (map (λ (p : ℕ × ℕ). record { position = p.0; byte = p.1 })) (enumerate_from-append place xs ys)
+    ap (map (λ (p : ℕ × ℕ). record { position = p.0; byte = p.1 }))
+    (enumerate_from-append place xs ys)
     ∙ map-append (λ (p : ℕ × ℕ). record { position = p.0; byte = p.1 }) (enumerate_from place xs)
     (enumerate_from (place + length xs) ys)
 
-pub length-positioned_from : (place : ℕ) (text : List ℕ) → length (positioned_from place text) ≡ length text
+pub length-positioned_from : (place : ℕ) (text : List ℕ)
+    → length (positioned_from place text) ≡ length text
 length-positioned_from place text =
     length-map (enumerate_from place text) (λ (p : ℕ × ℕ). record { position = p.0; byte = p.1 })
     ∙ length-enumerate_from place text
+
+pub take-positioned_from : (place count : ℕ) (group : List ℕ)
+    → take count (positioned_from place group) ≡ positioned_from place (take count group)
+take-positioned_from place zero group = refl
+take-positioned_from place (suc count) [] = refl
+take-positioned_from place (suc count) (byte ∷ group) =
+    ap (λ l. record { position = place; byte = byte } ∷ l)
+    (take-positioned_from (place + 1) count group)
+
+-- the characters of a group are its bytes, each at its place
+pub bytes-positioned_from : (place : ℕ) (group : List ℕ)
+    → map (λ (k : Positioned). k.byte) (positioned_from place group) ≡ group
+bytes-positioned_from place [] = refl
+bytes-positioned_from place (byte ∷ group) =
+    ap (λ l. byte ∷ l) (bytes-positioned_from (place + 1) group)
+
+pub length-by_bytes : (ks : List Positioned) (group : List ℕ)
+    → map (λ (k : Positioned). k.byte) ks ≡ group → length ks ≡ length group
+length-by_bytes ks group h = sym (length-map ks (λ (k : Positioned). k.byte)) ∙ ap length h
+
+pub position_of-positioned_from : (place : ℕ) (group : List ℕ) (index : ℕ) → index < length group
+    → position_of (positioned_from place group) index ≡ place + index
+position_of-positioned_from place [] index h = absurd (omega (arith, h))
+position_of-positioned_from place (byte ∷ group) zero h = omega arith
+position_of-positioned_from place (byte ∷ group) (suc index) h =
+    position_of-positioned_from (place + 1) group index (omega (arith, h)) ∙ omega arith
+
+not_ignored_at : (meanings : List Character) → AllFail is_ignored meanings
+    → (byte : ℕ) → is_ignored (get_or meanings byte Invalid) ≡ false
+not_ignored_at [] h byte = refl
+not_ignored_at (m ∷ meanings) h zero = h.0
+not_ignored_at (m ∷ meanings) h (suc byte) = not_ignored_at meanings h.1 byte
+
+each_kept : (base : Base) → ((byte : ℕ) → is_ignored (meaning base byte) ≡ false)
+    → (ks : List Positioned)
+    → AllByRecursion (λ k. not (is_ignored (meaning base k.byte)) ≡ true) ks
+each_kept base h [] = tt
+each_kept base h (k ∷ ks) = (ap not (h k.byte), each_kept base h ks)
+
+-- where nothing is ignored, each byte is kept
+pub filter-plain : (base : Base) → ignores_some base ≡ false → (ks : List Positioned)
+    → filter (λ k. not (is_ignored (meaning base k.byte))) ks ≡ ks
+filter-plain base h ks =
+    filter-all (λ (k : Positioned). not (is_ignored (meaning base k.byte))) ks
+    (each_kept base (not_ignored_at base.meanings (AllFail-list_any is_ignored base.meanings h)) ks)
+
+pub length-kept : (base : Base) (text : List ℕ) → length (kept base text) ≤ length text
+length-kept base text =
+    omega (
+      arith,
+      length-filter (λ (k : Positioned). not (is_ignored (meaning base k.byte))) (positioned text),
+      length-positioned_from 0 text,
+    )
+
+pub length-kept_plain : (base : Base) (text : List ℕ) → ignores_some base ≡ false
+    → length (kept base text) ≡ length text
+length-kept_plain base text h =
+    ap length (filter-plain base h (positioned text)) ∙ length-positioned_from 0 text

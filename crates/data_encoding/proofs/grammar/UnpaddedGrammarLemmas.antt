@@ -24,7 +24,7 @@ module _ (base : Base) (width : IsWidth base.width) where
   abbrev bits : List ℕ → List ℕ
   bits values = flat_map (bits_of base.order base.width) values
 
-  pub PlainMeans-nil : PlainMeans base [] []
+  PlainMeans-nil : PlainMeans base [] []
   PlainMeans-nil = record {
     values = [];
     rest = [];
@@ -36,7 +36,7 @@ module _ (base : Base) (width : IsWidth base.width) where
   }
 
   -- symbols of so many whole bytes and others mean their bytes joined
-  pub PlainMeans-append : (group others : List Positioned) (bytes more : List ℕ) (whole : ℕ)
+  PlainMeans-append : (group others : List Positioned) (bytes more : List ℕ) (whole : ℕ)
       → base.width * length group ≡ 8 * whole → PlainMeans base group bytes
       → PlainMeans base others more → PlainMeans base (group ++ others) (bytes ++ more)
   PlainMeans-append group others bytes more whole all first second =
@@ -71,11 +71,11 @@ module _ (base : Base) (width : IsWidth base.width) where
       (ap (λ n. base.width * n) whole ∙ group_bits base.width width) first second
 
   -- what a whole group and others mean is joined of what each means
-  pub record AreJoined (group others : List Positioned) (bytes : List ℕ) : Type 0 where
-    pub first : PlainMeans base group (take (group_bytes base.width) bytes)
-    pub second : PlainMeans base others (drop (group_bytes base.width) bytes)
+  record AreJoined (group others : List Positioned) (bytes : List ℕ) : Type 0 where
+    first : PlainMeans base group (take (group_bytes base.width) bytes)
+    second : PlainMeans base others (drop (group_bytes base.width) bytes)
 
-  pub PlainMeans-split : (group others : List Positioned) (bytes : List ℕ)
+  PlainMeans-split : (group others : List Positioned) (bytes : List ℕ)
       → length group ≡ group_symbols base.width → PlainMeans base (group ++ others) bytes
       → AreJoined group others bytes
   PlainMeans-split group others bytes whole means =
@@ -139,7 +139,7 @@ module _ (base : Base) (width : IsWidth base.width) where
   abbrev pub ArePlain : List (List Positioned) → Type 0
   ArePlain groups = AllByRecursion (λ group. plain_fault base group ≡ None) groups
 
-  abbrev pub groups_of : List Positioned → List (List Positioned)
+  abbrev groups_of : List Positioned → List (List Positioned)
   groups_of ks = runs (group_symbols base.width) ks
 
   abbrev bytes_of : List (List Positioned) → List ℕ

@@ -22,9 +22,9 @@ use Rattle.data_encoding.proofs.lists.ListLemmas.{AllFail, position-none, AllFai
 use Rattle.data_encoding.proofs.lists.RunLemmas.{runs-first, runs-flat_map}
 
 -- whole bytes of bits are the bits of those bytes
-pub record AreBytesOf (order : BitOrder) (bits bytes : List ℕ) : Type 0 where
-  pub same_bits : bits_of_bytes order bytes ≡ bits
-  pub below : AllByRecursion (λ byte. byte < 256) bytes
+record AreBytesOf (order : BitOrder) (bits bytes : List ℕ) : Type 0 where
+  same_bits : bits_of_bytes order bytes ≡ bits
+  below : AllByRecursion (λ byte. byte < 256) bytes
 
 bytes_within : (n : ℕ) (order : BitOrder) (bits : List ℕ) → AreBits bits → length bits % 8 ≡ 0
     → length bits ≤ n → AreBytesOf order bits (map (number_of order) (runs 8 bits))
@@ -55,7 +55,7 @@ bytes_within (suc n) order (bit ∷ bits) h e k =
       below = (omega (arith, first_below), others.below);
     })
 
-pub AreBytesOf-runs : (order : BitOrder) (bits : List ℕ) → AreBits bits → length bits % 8 ≡ 0
+AreBytesOf-runs : (order : BitOrder) (bits : List ℕ) → AreBits bits → length bits % 8 ≡ 0
     → AreBytesOf order bits (map (number_of order) (runs 8 bits))
 AreBytesOf-runs order bits h e = bytes_within (length bits) order bits h e (omega arith)
 
@@ -66,7 +66,7 @@ numbers_back order (byte ∷ bytes) h =
     (λ i. number_of-bits_of order 8 byte (omega (arith, h.0)) i ∷ numbers_back order bytes h.1 i)
 
 -- the bits of bytes, as bytes again
-pub bytes-bits : (order : BitOrder) (bytes : List ℕ) → AllByRecursion (λ byte. byte < 256) bytes
+bytes-bits : (order : BitOrder) (bytes : List ℕ) → AllByRecursion (λ byte. byte < 256) bytes
     → map (number_of order) (runs 8 (bits_of_bytes order bytes)) ≡ bytes
 bytes-bits order bytes h =
     ap (map (number_of order))
@@ -83,7 +83,7 @@ length-bits_of_values order width values =
     length-pieces width (bits_of order width) values (length-bits_of order width)
 
 -- symbols have the values that were found
-pub values-symbols : (meanings : List Character) → AllByRecursion (λ m. is_symbol m ≡ true) meanings
+values-symbols : (meanings : List Character) → AllByRecursion (λ m. is_symbol m ≡ true) meanings
     → meanings ≡ map (λ value. Symbol value) (filter_map value_of meanings)
 values-symbols [] h = refl
 values-symbols (Symbol value ∷ meanings) h =
@@ -92,7 +92,7 @@ values-symbols (Padding ∷ meanings) h = absurd (false≢true h.0)
 values-symbols (Ignored ∷ meanings) h = absurd (false≢true h.0)
 values-symbols (Invalid ∷ meanings) h = absurd (false≢true h.0)
 
-pub symbols-values : (values : List ℕ)
+symbols-values : (values : List ℕ)
     → filter_map value_of (map (λ value. Symbol value) values) ≡ values
 symbols-values [] = refl
 symbols-values (value ∷ values) = ap (λ l. value ∷ l) (symbols-values values)
@@ -198,9 +198,9 @@ quiet true any fault h = ap (λ b. cond b (Some fault) None) (h refl)
 quiet false any fault h = refl
 
 -- bits that are bytes and a short rest
-pub record AreSplit (bits front rest : List ℕ) : Type 0 where
-  pub is_front : take (length bits / 8 * 8) bits ≡ front
-  pub is_rest : drop (length bits / 8 * 8) bits ≡ rest
+record AreSplit (bits front rest : List ℕ) : Type 0 where
+  is_front : take (length bits / 8 * 8) bits ≡ front
+  is_rest : drop (length bits / 8 * 8) bits ≡ rest
 
 split_bits : (bits front rest : List ℕ) (count : ℕ) → bits ≡ front ++ rest
     → length front ≡ 8 * count → length rest < 8 → AreSplit bits front rest

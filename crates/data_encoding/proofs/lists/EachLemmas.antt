@@ -1,8 +1,8 @@
 -- Tests that all elements of a list pass.
-use Rattle.std.proofs.Common.{◌≡◌, ℕ, zero, suc, ◌+◌, ◌<◌, ◌≤◌, Bool, true, false, ◌&&◌, cond, List, [], ◌∷◌, ◌++◌, length, map, take, get_or, refl, ap, ◌∙◌, subst, arith, ⊎_elim}
+use Rattle.std.proofs.Common.{◌≡◌, ℕ, zero, suc, ◌+◌, ◌<◌, ◌≤◌, Bool, true, false, ◌&&◌, ◌||◌, cond, List, [], ◌∷◌, ◌++◌, length, map, take, get_or, refl, ap, ◌∙◌, subst, arith, ⊎_elim}
 use Rattle.std.proofs.Math.ListN.{set}
 use Rattle.std.specs.Cmp.{first_so, second_so}
-use Rattle.std.specs.List.{AllByRecursion, filter, list_all, range_with_len}
+use Rattle.std.specs.List.{AllByRecursion, filter, list_all, list_any, range_with_len}
 use Rattle.std.proofs.lemmas.Bool.{cases_eq}
 
 -- at one place
@@ -59,6 +59,14 @@ take-set-lt zero xs i y h = absurd (omega (arith, h))
 take-set-lt (suc n) [] i y h = refl
 take-set-lt (suc n) (x ∷ xs) zero y h = refl
 take-set-lt (suc n) (x ∷ xs) (suc i) y h = ap (λ l. x ∷ l) (take-set-lt n xs i y (omega (arith, h)))
+
+-- a test that each fails is passed by none
+pub none_passes : {X : Type 0} (test : X → Bool) (xs : List X) (d : X)
+    → ((i : ℕ) → i < length xs → test (get_or xs i d) ≡ false) → list_any test xs ≡ false
+none_passes test [] d h = refl
+none_passes test (x ∷ xs) d h =
+    ap (λ b. b || list_any test xs) (h 0 (omega arith))
+    ∙ none_passes test xs d (λ i k. h (suc i) (omega (arith, k)))
 
 -- what holds of all of two lists
 pub all_parts : {X : Type 0} (P : X → Type 0) (xs ys : List X) → AllByRecursion P (xs ++ ys)

@@ -1,8 +1,8 @@
 -- Lists: what is found first, what is left out, and parts that are joined.
-use Rattle.std.proofs.Common.{◌≡◌, ℕ, suc, ◌+◌, ◌≤◌, Bool, true, false, not, cond, ◌||◌, nat_lt, List, [], ◌∷◌, ◌++◌, length, map, take, drop, replicate, Option, Some, None, refl, sym, ap, ◌∙◌, arith, length-append}
+use Rattle.std.proofs.Common.{◌≡◌, ℕ, suc, ◌+◌, ◌≤◌, Bool, true, false, not, cond, ◌||◌, nat_lt, List, [], ◌∷◌, ◌++◌, length, map, take, drop, replicate, Option, Some, None, refl, sym, ap, ◌∙◌, arith}
 use Rattle.std.proofs.lemmas.Bool.Decides.{nat_tests}
-use Rattle.std.specs.List.{AllByRecursion, list_any, filter, filter_map, take_while, position, prefix_len, slice_get, cons_option}
-use Rattle.std.proofs.lemmas.List.{take_at, drop_at, take_all}
+use Rattle.std.specs.List.{AllByRecursion, list_any, filter, filter_map, position, prefix_len, cons_option}
+use Rattle.std.proofs.lemmas.List.{take_at, drop_at}
 
 -- none passes the test
 abbrev pub AllFail : {X : Type 0} → (X → Bool) → List X → Type 0
@@ -82,17 +82,6 @@ length-filter test [] = omega arith
 length-filter test (x ∷ xs) =
     shorter (test x) x xs (filter test xs) (length-filter test xs)
 
-passed : {X : Type 0} (test : X → Bool) (xs : List X)
-    → AllByRecursion (λ x. test x ≡ true) xs → prefix_len test xs ≡ length xs
-passed test [] h = refl
-passed test (x ∷ xs) h =
-    ap (λ b. cond b (1 + prefix_len test xs) 0) h.0
-    ∙ ap (λ n. 1 + n) (passed test xs h.1) ∙ omega arith
-
-pub take_while-all : {X : Type 0} (test : X → Bool) (xs : List X)
-    → AllByRecursion (λ x. test x ≡ true) xs → take_while test xs ≡ xs
-take_while-all test xs h = take_all (prefix_len test xs) xs (omega (arith, passed test xs h))
-
 pub filter_map-map : {X Y Z : Type 0} (f : Y → Option Z) (g : X → Y) (xs : List X)
     → filter_map f (map g xs) ≡ filter_map (λ x. f (g x)) xs
 filter_map-map f g [] = refl
@@ -108,47 +97,14 @@ parts_same xs ys zs ws h e = (
       ∙ drop_at zs ws (length xs) (sym e),
 )
 
--- the first of what is given, and none
-pub first-none : {X : Type 0} (xs : List X) → slice_get xs 0 ≡ None → xs ≡ []
-first-none [] h = refl
-first-none (x ∷ xs) h = cc
-
+-- nothing is given
 pub filter_map-none : {X Y : Type 0} (f : X → Option Y) (xs : List X)
     → AllByRecursion (λ x. f x ≡ None) xs → filter_map f xs ≡ []
 filter_map-none f [] h = refl
 filter_map-none f (x ∷ xs) h =
     ap (λ o. cons_option o (filter_map f xs)) h.0 ∙ filter_map-none f xs h.1
 
-gave : {Y : Type 0} (o : Option Y) (ys : List Y) → cons_option o ys ≡ [] → (o ≡ None) × (ys ≡ [])
-gave None ys h = (refl, h)
-gave (Some y) ys h = cc
-
-pub none-filter_map : {X Y : Type 0} (f : X → Option Y) (xs : List X) → filter_map f xs ≡ []
-    → AllByRecursion (λ x. f x ≡ None) xs
-none-filter_map f [] h = tt
-none-filter_map f (x ∷ xs) h =
-    let here = gave (f x) (filter_map f xs) h in (here.0, none-filter_map f xs here.1)
-
 -- zeros
 pub zeros : (xs : List ℕ) → AllByRecursion (λ x. x ≡ 0) xs → xs ≡ replicate (length xs) 0
 zeros [] h = refl
 zeros (x ∷ xs) h = (λ i. h.0 i ∷ zeros xs h.1 i)
-
--- the first that passes is found
-pub position-first : {X : Type 0} (test : X → Bool) (xs : List X) (x : X) (ys : List X)
-    → AllFail test xs → test x ≡ true → position test (xs ++ x ∷ ys) ≡ Some (length xs)
-position-first test xs x ys h e =
-    let place = prefix_len-first test xs x ys h e in
-    let inside : nat_lt (prefix_len (λ y. not (test y)) (xs ++ x ∷ ys)) (length (xs ++ x ∷ ys))
-    ≡ true =
-    grind (arith, nat_tests, place, length-append xs (x ∷ ys)) in
-    ap (λ b. cond b (Some (prefix_len (λ y. not (test y)) (xs ++ x ∷ ys))) None) inside
-    ∙ ap (λ n. Some n) place where
-      prefix_len-first : {X : Type 0} (test : X → Bool) (xs : List X) (x : X) (ys : List X)
-          → AllFail test xs → test x ≡ true
-          → prefix_len (λ y. not (test y)) (xs ++ x ∷ ys) ≡ length xs
-      prefix_len-first test [] x ys h e =
-          ap (λ b. cond (not b) (1 + prefix_len (λ y. not (test y)) ys) 0) e
-      prefix_len-first test (z ∷ xs) x ys h e =
-          ap (λ b. cond (not b) (1 + prefix_len (λ y. not (test y)) (xs ++ x ∷ ys)) 0) h.0
-          ∙ ap (λ n. 1 + n) (prefix_len-first test xs x ys h.1 e) ∙ omega arith

@@ -1,7 +1,7 @@
 -- Where groups stand in what is read and in what is written.
 use Rattle.std.proofs.Common.{◌≡◌, ℕ, ◌+◌, ◌-◌, ◌*◌, ◌/◌, ◌%◌, ◌<◌, ◌≤◌, List, length, take, drop, sym, ap, ◌∙◌, subst, arith, length-take-le}
 use Rattle.std.proofs.lemmas.List.{length-drop}
-use Rattle.std.proofs.Math.Nat.{mul-add, add-mul, mul_left_comm, mul-add-div, mul-add-mod_self_left, mul-le-mul_right, mod-lt, div-eq_of_lt}
+use Rattle.std.proofs.Math.Nat.{mul-add, add-mul, mul_left_comm, mul-add-div, mul-add-mod_self_left, mul-le-mul_right, div-eq_of_lt}
 use Rattle.std.proofs.lemmas.Nat.{div-add-mod'}
 use Rattle.data_encoding.specs.Tables.{IsGroup}
 use Rattle.data_encoding.proofs.digits.WidthLemmas.{group_bits, group_bytes-pos, group_symbols-pos}
@@ -79,11 +79,21 @@ group-before n size i h =
 pub groups-within : (n size : ℕ) → n / size * size ≤ n
 groups-within n size = omega (arith, div-add-mod' n size)
 
-pub short-rest : (n size : ℕ) → 0 < size → n - n / size * size < size
-short-rest n size h = omega (arith, div-add-mod' n size, mod-lt n h)
-
 pub one-more : (i size : ℕ) → (i + 1) * size ≡ i * size + size
 one-more i size = add-mul i 1 size ∙ omega arith
+
+-- the next four groups of some end before the last of them
+pub fours-before : (n size i : ℕ) → i < n / 4 → 4 * i * size + 4 * size ≤ n * size
+fours-before n size i h =
+    let next : 4 * i * size + 4 * size ≡ (4 * i + 4) * size = sym (add-mul (4 * i) 4 size) in
+    let few : 4 * i + 4 ≤ n = omega (arith, h, groups-within n 4) in
+    omega (arith, next, mul-le-mul_right size few)
+
+-- one of four parts ends before the end
+pub part-of-four : (n size i : ℕ) → n ≡ 4 * size → i < 4 → i * size + size ≤ n
+part-of-four n size i e h =
+    let up : (i + 1) * size ≤ 4 * size = mul-le-mul_right size (omega (arith, h)) in
+    omega (arith, up, one-more i size, e)
 
 -- a whole group gives a whole group
 pub whole-group : (m d from to extra : ℕ) → m * from ≡ d * to → extra < d

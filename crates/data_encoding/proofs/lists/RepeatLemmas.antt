@@ -1,8 +1,8 @@
 -- A list again and again.
-use Rattle.std.proofs.Common.{◌≡◌, ℕ, zero, suc, ◌+◌, ◌-◌, ◌*◌, ◌%◌, ◌<◌, ◌≤◌, List, length, take, get_or, replicate, refl, sym, ap, ◌∙◌, arith, ⊎_elim, length-append}
-use Rattle.std.proofs.Math.Nat.{mod-eq-sub-mod, mod-eq_of_lt, zero-mul, suc-mul}
+use Rattle.std.proofs.Common.{◌≡◌, ℕ, zero, suc, ◌+◌, ◌-◌, ◌*◌, ◌%◌, ◌<◌, ◌≤◌, List, length, take, get_or, replicate, refl, sym, ap, ◌∙◌, arith, ⊎_elim, length-append, append_assoc, ◌++◌}
+use Rattle.std.proofs.Math.Nat.{mod-eq-sub-mod, mod-eq_of_lt, zero-mul, suc-mul, zero-add, suc-add}
 use Rattle.std.proofs.lemmas.Bool.{cases_lt}
-use Rattle.std.proofs.lemmas.List.{get_or_append_left, get_or-append_right, ext_get_or, take_at}
+use Rattle.std.proofs.lemmas.List.{get_or_append_left, get_or-append_right, take_at}
 use Rattle.std.specs.List.{concat}
 
 abbrev repeats : ℕ → List ℕ → List ℕ
@@ -31,14 +31,13 @@ get_or-repeats (suc times) xs k h =
     ∙ ap (λ n. get_or xs n 0) (sym (mod-eq-sub-mod later)))
     (cases_lt k size)
 
--- a table that is filled place by place
-pub repeats-from_places : (table xs : List ℕ) (times : ℕ) → length table ≡ times * length xs
-    → ((k : ℕ) → k < times * length xs → get_or table k 0 ≡ get_or xs (k % length xs) 0)
-    → table ≡ concat (replicate times xs)
-repeats-from_places table xs times long places =
-    ext_get_or 0 table (repeats times xs) (long ∙ sym (length-repeats times xs))
-    (λ k less. let within : k < times * length xs = omega (arith, less, long) in
-    places k within ∙ sym (get_or-repeats times xs k within))
+-- twice as many
+pub repeats-add : (m n : ℕ) (xs : List ℕ)
+    → concat (replicate (m + n) xs) ≡ concat (replicate m xs) ++ concat (replicate n xs)
+repeats-add zero n xs = ap (λ k. repeats k xs) (zero-add n)
+repeats-add (suc m) n xs =
+    ap (λ k. repeats k xs) (suc-add m n) ∙ ap (λ l. xs ++ l) (repeats-add m n xs)
+    ∙ sym (append_assoc xs (repeats m xs) (repeats n xs))
 
 -- the first of them
 pub take-repeats : (times : ℕ) (xs : List ℕ) → 0 < times

@@ -1,9 +1,9 @@
 -- What the builder makes of a specification.
-use Rattle.std.proofs.Common.{◌≡◌, ℕ, zero, suc, ◌%◌, ◌/◌, ◌^◌, ◌<◌, ◌==◌, Bool, true, false, ◌||◌, cond, List, [], ◌++◌, length, map, take, replicate, Option, Some, None, IfSome, Result, Ok, refl, sym, ap, ◌∙◌, arith}
+use Rattle.std.proofs.Common.{◌≡◌, ℕ, zero, suc, ◌%◌, ◌/◌, ◌^◌, ◌<◌, ◌==◌, Bool, true, false, ◌||◌, cond, List, [], ◌++◌, length, map, take, replicate, Option, Some, None, is_none, IfSome, Result, Ok, refl, sym, ap, ◌∙◌, arith}
 use Rattle.std.specs.List.{concat}
 use Rattle.data_encoding.specs.declared.encoding.Character.{Character}
 use Rattle.data_encoding.specs.declared.encoding.Encoding.TheInside.{Inside}
-use Rattle.data_encoding.specs.declared.builder.Refusal.{Refusal}
+use Rattle.data_encoding.specs.declared.meanings.Refusal.{Refusal}
 use Rattle.data_encoding.specs.Base.{Base, IsWidth}
 use Rattle.data_encoding.specs.Encoding.{KeepsRules, base_of_tables, wrapping_by}
 use Rattle.data_encoding.specs.Entries.{HoldsEntries, meaning_of_entry}
@@ -15,7 +15,7 @@ use Rattle.data_encoding.proofs.specification.RuleLemmas.{IsRuledPadding, IsRule
 use Rattle.data_encoding.proofs.digits.WidthLemmas.{times-pos}
 
 -- the judgements, part after part
-pub judged-parts : (width : ℕ) (fields : Fields) (r : Result (List Character) Refusal)
+judged-parts : (width : ℕ) (fields : Fields) (r : Result (List Character) Refusal)
     → meanings_after r (judgements width fields)
     ≡ meanings_after (meanings_after (meanings_after (meanings_after
     (meanings_after r (symbol_judgements 0 fields.symbols))
@@ -88,7 +88,7 @@ module _ (width : ℕ) (fields : Fields) where
       after-wrapping one two three (Ok four) h k l m ∙ n
 
 -- the lines that the builder keeps
-pub wrapping_by-kept : (column : ℕ) (separator : List ℕ)
+wrapping_by-kept : (column : ℕ) (separator : List ℕ)
     → wrapping_by (cond (wraps column separator) column 0)
     (cond (wraps column separator) separator [])
     ≡ cond (wraps column separator)
@@ -106,7 +106,7 @@ wrapping_by-kept column separator = by_test (wraps column separator) refl where
   by_test false h = refl
 
 -- no lines have no separator
-pub nothing-kept : (column : ℕ) (separator : List ℕ)
+nothing-kept : (column : ℕ) (separator : List ℕ)
     → cond (wraps column separator) column 0 ≡ 0
     → cond (wraps column separator) separator [] ≡ []
 nothing-kept column separator = by_test (wraps column separator) refl where
@@ -141,6 +141,7 @@ pub record IsMadeOf (fields : Fields) (e : Inside) (meanings : List Character) :
   pub values : map meaning_of_entry (take 128 e.values) ≡ meanings
   pub order : e.order ≡ fields.order
   pub checks : e.checks_trailing_bits ≡ (fields.checks_trailing_bits || (8 % e.width == 0))
+  pub concatenates : e.concatenates ≡ (fields.concatenates || is_none fields.padding)
   pub padding : e.padding ≡ fields.padding
   pub column : e.column ≡ cond (wraps fields.column fields.separator) fields.column 0
   pub separator : e.separator.items
@@ -165,6 +166,7 @@ module _ (fields : Fields) (e : Inside) (meanings : List Character)
         order = made.order i;
         symbols = symbols i;
         checks_trailing_bits = made.checks i;
+        concatenates = made.concatenates i;
         padding = made.padding i;
         meanings = made.values i;
         wrapping = wrapping i;

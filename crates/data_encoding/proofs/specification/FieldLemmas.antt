@@ -22,6 +22,7 @@ pub record Describes (s : Specification) (e : Inside) : Type 0 where
   pub symbols : string_bytes s.symbols ≡ take (2 ^ e.width) e.symbols
   pub order : s.bit_order ≡ e.order
   pub checks : s.check_trailing_bits ≡ e.checks_trailing_bits
+  pub concatenates : s.concatenate ≡ e.concatenates
   pub padding : s.padding ≡ e.padding
   pub ignored : string_bytes s.ignore ≡ ignored_bytes (base_of_tables e)
   pub column : s.wrap.width ≡ e.column
@@ -40,6 +41,7 @@ specified-is s e rules is =
       symbols = is.symbols i;
       order = is.order i;
       checks_trailing_bits = is.checks i;
+      concatenates = is.concatenates i;
       padding = is.padding i;
       ignored = is.ignored i;
       column = column i;

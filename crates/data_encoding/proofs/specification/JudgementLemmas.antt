@@ -1,14 +1,14 @@
 -- Judgements in turn: what they keep, and what they define.
-use Rattle.std.proofs.Common.{◌≡◌, ◌≢◌, ℕ, zero, suc, ◌+◌, ◌<◌, ◌≤◌, Bool, true, false, nat_le, if◌then◌else◌, List, [], ◌∷◌, ◌++◌, length, drop, get_or, Result, Ok, Err, refl, sym, ap, ◌∙◌, arith, inl, inr, ⊎_elim, ◌⊎◌, get_or-set_same, get_or-set_other}
+use Rattle.std.proofs.Common.{◌≡◌, ◌≢◌, ℕ, zero, suc, ◌+◌, ◌<◌, ◌≤◌, Bool, true, false, nat_le, if◌then◌else◌, List, [], ◌∷◌, ◌++◌, length, get_or, Result, Ok, Err, refl, sym, ap, ◌∙◌, arith, inl, inr, ⊎_elim, ◌⊎◌, get_or-set_same, get_or-set_other}
 use Rattle.std.proofs.lemmas.Bool.{cases_lt}
 use Rattle.std.proofs.lemmas.Bool.Decides.{nat_tests}
-use Rattle.std.proofs.lemmas.List.{drop_more, drop_all, length-set, get_or_past}
+use Rattle.std.proofs.lemmas.List.{length-set, get_or_past}
 use Rattle.std.proofs.Math.ListN.{set}
 use Rattle.std.specs.List.{AllByRecursion, list_all}
 use Rattle.data_encoding.specs.declared.encoding.Character.{Character}
 use Rattle.data_encoding.specs.declared.encoding.Character.TheVariants.{Symbol, Invalid}
-use Rattle.data_encoding.specs.declared.builder.Refusal.{Refusal}
-use Rattle.data_encoding.specs.declared.builder.Refusal.TheVariants.{NotAscii, Undefined}
+use Rattle.data_encoding.specs.declared.meanings.Refusal.{Refusal}
+use Rattle.data_encoding.specs.declared.meanings.Refusal.TheVariants.{NotAscii, Undefined}
 use Rattle.data_encoding.specs.Fields.{Judgement, defined, translated, judged, meanings_after, is_same, symbol_judgements, Require, Define, Translate}
 use Rattle.data_encoding.proofs.tables.EntryLemmas.{defined_by, same-is_same}
 use Rattle.data_encoding.proofs.lists.EachLemmas.{list_all-set, passes_at}
@@ -25,26 +25,9 @@ meanings_after-append (Ok meanings) [] ks = refl
 meanings_after-append (Ok meanings) (j ∷ js) ks =
     meanings_after-append (judged meanings j) js ks
 
--- the judgements of the symbols from a place on
-pub symbols-step : (meanings : List Character) (symbols : List ℕ) (i : ℕ) → i < length symbols
-    → meanings_after (Ok meanings) (symbol_judgements i (drop i symbols))
-    ≡ meanings_after (defined meanings (get_or symbols i 0) (Symbol i))
-    (symbol_judgements (i + 1) (drop (i + 1) symbols))
-symbols-step meanings symbols i h =
-    ap (λ l. meanings_after (Ok meanings) (symbol_judgements i l)) (drop_more symbols i 0 h)
-
-pub symbols-end : (meanings : List Character) (symbols : List ℕ) (i : ℕ) → length symbols ≤ i
-    → meanings_after (Ok meanings) (symbol_judgements i (drop i symbols)) ≡ Ok meanings
-symbols-end meanings symbols i h =
-    ap (λ l. meanings_after (Ok meanings) (symbol_judgements i l)) (drop_all i symbols h)
-
 pub after-ok : (r : Judged) (meanings : List Character) (js : List Judgement) → r ≡ Ok meanings
     → meanings_after r js ≡ meanings_after (Ok meanings) js
 after-ok r meanings js h = ap (λ s. meanings_after s js) h
-
-pub after-err : (r : Judged) (refusal : Refusal) (js : List Judgement) → r ≡ Err refusal
-    → meanings_after r js ≡ Err refusal
-after-err r refusal js h = ap (λ s. meanings_after s js) h
 
 -- What a definition that is not refused does: it writes the meaning, or it was there.
 pub record IsDefined (before : List Character) (byte : ℕ) (m : Character) (after : List Character)
@@ -64,7 +47,7 @@ defined_by-ok false false true before after byte m h =
     let same : set before byte m ≡ after = cc in (refl, inr (refl, sym same))
 defined_by-ok false false false before after byte m h = cc
 
-pub defined-ok : (before after : List Character) (byte : ℕ) (m : Character)
+defined-ok : (before after : List Character) (byte : ℕ) (m : Character)
     → defined before byte m ≡ Ok after → IsDefined before byte m after
 defined-ok before after byte m h =
     let had = get_or before byte Invalid in
@@ -164,7 +147,7 @@ translated_by-ok false false r to after h = (refl, refl, h)
 not_same : (m : Character) → is_same m Invalid ≡ false → m ≢ Invalid
 not_same m h e = let same : is_same m Invalid ≡ true = ap (λ n. is_same n Invalid) e in cc
 
-pub translated-ok : (before after : List Character) (from to : ℕ)
+translated-ok : (before after : List Character) (from to : ℕ)
     → translated before from to ≡ Ok after → IsTranslated before from to after
 translated-ok before after from to h =
     let had = get_or before to Invalid in

@@ -7,7 +7,7 @@ use Rattle.std.proofs.Math.ListN.{set}
 use Rattle.std.specs.List.{AllByRecursion}
 use Rattle.data_encoding.specs.declared.encoding.Character.{Character}
 use Rattle.data_encoding.specs.declared.encoding.Character.TheVariants.{Symbol, Padding, Ignored, Invalid}
-use Rattle.data_encoding.specs.declared.builder.Refusal.TheVariants.{NotAscii, Undefined, WrapLength, WrapWidth}
+use Rattle.data_encoding.specs.declared.meanings.Refusal.TheVariants.{NotAscii, Undefined, WrapLength, WrapWidth}
 use Rattle.data_encoding.specs.Base.{Base, Wrapping, group_symbols, is_ignored, meaning, symbol}
 use Rattle.data_encoding.specs.Fields.{Fields, Judgement, base_of, base_with, defined, ignored_judgements, is_same, judged, judgements, meanings_after, no_meanings, padding_judgements, pair_judgements, symbol_judgements, translated, translation_judgements, width_of, wrapping_judgements, wraps, Require, Define, Translate, IsSpecified}
 use Rattle.data_encoding.specs.Layout.{column_of, fields_of, is_translated, own_character, separator_of, translated_bytes}
@@ -492,6 +492,7 @@ module _ (base : Base) (ruled : IsRuled base) where
         order = base.order;
         symbols = base.symbols;
         checks_trailing_bits = ruled.checked i;
+        concatenates = ruled.concatenated i;
         padding = base.padding;
         meanings = base.meanings;
         wrapping = wrapped i;

@@ -1,13 +1,13 @@
 -- The rules that a base keeps, and that each yield of a specification keeps them.
-use Rattle.std.proofs.Common.{◌≡◌, ℕ, zero, suc, ◌+◌, ◌%◌, ◌^◌, ◌<◌, ◌==◌, Bool, true, false, not, ◌&&◌, ◌||◌, nat_lt, cond, List, [], ◌∷◌, ◌++◌, length, map, get_or, Option, Some, None, Result, Ok, Err, refl, sym, ap, ◌∙◌, subst, arith}
+use Rattle.std.proofs.Common.{◌≡◌, ℕ, zero, suc, ◌+◌, ◌%◌, ◌^◌, ◌<◌, ◌==◌, Bool, true, false, not, ◌&&◌, ◌||◌, nat_lt, cond, List, [], ◌∷◌, ◌++◌, length, map, get_or, Option, Some, None, is_none, Result, Ok, Err, refl, sym, ap, ◌∙◌, subst, arith}
 use Rattle.std.proofs.lemmas.Bool.{and_parts, ltb-true, eqb-true, lt-ltb}
 use Rattle.std.proofs.lemmas.Bool.Decides.{nat_tests}
 use Rattle.std.proofs.lemmas.List.Quantifiers.{position-Some}
 use Rattle.std.specs.List.{AllByRecursion, list_all, zip}
 use Rattle.data_encoding.specs.declared.encoding.Character.{Character}
 use Rattle.data_encoding.specs.declared.encoding.Character.TheVariants.{Symbol, Padding, Ignored, Invalid}
-use Rattle.data_encoding.specs.declared.builder.Refusal.{Refusal}
-use Rattle.data_encoding.specs.declared.builder.Refusal.TheVariants.{WrapLength, WrapWidth}
+use Rattle.data_encoding.specs.declared.meanings.Refusal.{Refusal}
+use Rattle.data_encoding.specs.declared.meanings.Refusal.TheVariants.{WrapLength, WrapWidth}
 use Rattle.data_encoding.specs.Base.{Base, Wrapping, meaning, group_symbols, IsWidth}
 use Rattle.data_encoding.specs.Fields.{Fields, Judgement, base_of, base_by, base_with, ignored_judgements, judgements, meanings_after, no_meanings, padding_judgements, symbol_judgements, translation_judgements, width_of, wrapping_judgements, wraps, Require, Translate}
 use Rattle.data_encoding.proofs.specification.JudgementLemmas.{AreSteps, Brings, IsHeld, meanings_after-ok, meanings_after-pass, symbols-bring, symbols-held}
@@ -46,6 +46,7 @@ pub record IsRuled (base : Base) : Type 0 where
   pub is_width : IsWidth base.width
   pub count : length base.symbols ≡ 2 ^ base.width
   pub checked : (base.checks_trailing_bits || (8 % base.width == 0)) ≡ base.checks_trailing_bits
+  pub concatenated : (base.concatenates || is_none base.padding) ≡ base.concatenates
   pub long : length base.meanings ≡ 128
   pub own : (i : ℕ) → i < length base.symbols → (get_or base.symbols i 0 < 128)
       × (meaning base (get_or base.symbols i 0) ≡ Symbol i)
@@ -57,7 +58,7 @@ pub record IsRuled (base : Base) : Type 0 where
 abbrev sizes : List ℕ
 sizes = 1 ∷ 2 ∷ 4 ∷ 8 ∷ 16 ∷ 32 ∷ 64 ∷ []
 
-pub width_of-some : (count width : ℕ) → width_of count ≡ Some width → 0 < width
+width_of-some : (count width : ℕ) → width_of count ≡ Some width → 0 < width
     → IsWidth width × (count ≡ 2 ^ width)
 width_of-some count width h some =
     let at = position-Some (λ n. n == count) sizes width 0 h in
@@ -87,6 +88,7 @@ base_from width fields meanings = record {
   order = fields.order;
   symbols = fields.symbols;
   checks_trailing_bits = fields.checks_trailing_bits || (8 % width == 0);
+  concatenates = fields.concatenates || is_none fields.padding;
   padding = fields.padding;
   meanings = meanings;
   wrapping =
@@ -95,7 +97,7 @@ base_from width fields meanings = record {
 }
 
 -- What a yield comes from.
-pub record IsYield (fields : Fields) (base : Base) : Type 0 where
+record IsYield (fields : Fields) (base : Base) : Type 0 where
   pub width : ℕ
   pub meanings : List Character
   pub width_is : width_of (length fields.symbols) ≡ Some width
@@ -126,11 +128,11 @@ by-ok (Some (suc n)) fields base w h =
       is_base = is.2;
     }
 
-pub base_of-ok : (fields : Fields) (base : Base) → base_of fields ≡ Ok base → IsYield fields base
+base_of-ok : (fields : Fields) (base : Base) → base_of fields ≡ Ok base → IsYield fields base
 base_of-ok fields base h = by-ok (width_of (length fields.symbols)) fields base refl h
 
 -- the judgements part by part
-abbrev pub AllParts : (Judgement → Type 0) → ℕ → Fields → Type 0
+abbrev AllParts : (Judgement → Type 0) → ℕ → Fields → Type 0
 AllParts P width fields =
     AllByRecursion P (symbol_judgements 0 fields.symbols)
     × AllByRecursion P (padding_judgements width fields.padding)
@@ -138,7 +140,7 @@ AllParts P width fields =
     × AllByRecursion P (wrapping_judgements width fields.column fields.separator)
     × AllByRecursion P (translation_judgements fields.from fields.to)
 
-pub parts_of : (P : Judgement → Type 0) (width : ℕ) (fields : Fields)
+parts_of : (P : Judgement → Type 0) (width : ℕ) (fields : Fields)
     → AllByRecursion P (judgements width fields) → AllParts P width fields
 parts_of P width fields all =
     let a = symbol_judgements 0 fields.symbols in
@@ -152,7 +154,7 @@ parts_of P width fields all =
     let one = all_parts P a b two.0 in
     (one.0, one.1, two.1, three.1, four.1)
 
-pub from_parts : (P : Judgement → Type 0) (width : ℕ) (fields : Fields)
+from_parts : (P : Judgement → Type 0) (width : ℕ) (fields : Fields)
     → AllParts P width fields → AllByRecursion P (judgements width fields)
 from_parts P width fields parts =
     let a = symbol_judgements 0 fields.symbols in
@@ -273,6 +275,7 @@ module _ (width : ℕ) (fields : Fields) (meanings : List Character)
         is_width = size.0;
         count = size.1;
         checked = or_again fields.checks_trailing_bits (8 % width == 0);
+        concatenated = or_again fields.concatenates (is_none fields.padding);
         long = (steps).long;
         own = λ i h.
             let is = symbols-held meanings 0 fields.symbols (held).0 i h in

@@ -23,7 +23,7 @@ range-more n =
     ∙ ap (λ l. l ++ n ∷ []) (map-id (range_with_len 0 n))
 
 -- one number more
-pub filter-range : (test : ℕ → Bool) (n : ℕ)
+filter-range : (test : ℕ → Bool) (n : ℕ)
     → filter test (range_with_len 0 (n + 1))
     ≡ filter test (range_with_len 0 n) ++ cond (test n) (n ∷ []) []
 filter-range test n =
@@ -61,7 +61,7 @@ own-more base n h =
 value_entry : (count v : ℕ) → v < 64 → is_entry_of count v ≡ true → v < count
 value_entry count v h k = grind (arith, nat_tests)
 
-pub no_own : (base : Base) (v : ℕ) → 64 ≤ v → v ≢ 130
+no_own : (base : Base) (v : ℕ) → 64 ≤ v → v ≢ 130
     → None ≡ own_character base (meaning_of_entry v)
 no_own base v h k =
     sym ((λ i. own_character base (cond (le-ltb v 64 h i) (Symbol v)

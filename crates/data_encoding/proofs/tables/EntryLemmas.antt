@@ -7,8 +7,8 @@ use Rattle.std.proofs.Math.ListN.{set}
 use Rattle.std.specs.List.{list_all}
 use Rattle.data_encoding.specs.declared.encoding.Character.{Character}
 use Rattle.data_encoding.specs.declared.encoding.Character.TheVariants.{Symbol, Padding, Ignored, Invalid}
-use Rattle.data_encoding.specs.declared.builder.Refusal.{Refusal}
-use Rattle.data_encoding.specs.declared.builder.Refusal.TheVariants.{NotAscii, Duplicate}
+use Rattle.data_encoding.specs.declared.meanings.Refusal.{Refusal}
+use Rattle.data_encoding.specs.declared.meanings.Refusal.TheVariants.{NotAscii, Duplicate}
 use Rattle.data_encoding.specs.Entries.{meaning_of_entry, is_entry_of, HoldsEntries}
 use Rattle.data_encoding.specs.Fields.{defined, is_same}
 use Rattle.data_encoding.specs.Layout.{code_of}
@@ -16,9 +16,6 @@ use Rattle.data_encoding.proofs.lists.EachLemmas.{passes_at, list_all-set, take-
 
 pub entry_back : (v : ℕ) → is_entry_of 64 v ≡ true → code_of (meaning_of_entry v) ≡ v
 entry_back v h = grind (arith, nat_tests)
-
-pub is_entry-value : (v : ℕ) → v < 64 → is_entry_of 64 v ≡ true
-is_entry-value v h = grind (arith, nat_tests)
 
 same_number : (a b : ℕ) → (a == b) ≡ true → a ≡ b
 same_number a b h = grind (arith, nat_tests)
@@ -75,13 +72,6 @@ defined_by past same free meanings byte m =
     else if same then Ok meanings
     else if free then Ok (set meanings byte m)
     else Err (Duplicate byte)
-
-pub defined-past : (meanings : List Character) (byte : ℕ) (m : Character) → 128 ≤ byte
-    → defined meanings byte m ≡ Err NotAscii
-defined-past meanings byte m h =
-    let past : nat_le 128 byte ≡ true = grind (arith, nat_tests) in
-    ap (λ b. defined_by b (is_same (get_or meanings byte Invalid) m)
-    (is_same (get_or meanings byte Invalid) Invalid) meanings byte m) past
 
 module _ (values : List ℕ) (holds : HoldsEntries values) where
   pub length-entries : length values ≡ 256

@@ -30,7 +30,7 @@ pub any-ignored : (values : List ℕ)
 any-ignored [] = refl
 any-ignored (v ∷ values) = λ i. entry-ignored v i || any-ignored values i
 
-codes-back : (values : List ℕ) → list_all (is_entry_of 64) values ≡ true
+pub codes-back : (values : List ℕ) → list_all (is_entry_of 64) values ≡ true
     → map code_of (map meaning_of_entry values) ≡ values
 codes-back [] h = refl
 codes-back (v ∷ values) h =
@@ -49,17 +49,21 @@ module _ (e : Inside) (rules : KeepsRules e) where
       ∙ append_assoc e.symbols (take 128 e.values) (drop 128 e.values)
       ∙ ap (λ l. e.symbols ++ l) (take-append-drop 128 e.values)
 
+  abbrev flags : ℕ
+  flags =
+      e.width + order_flag e.order + (if e.checks_trailing_bits then 16 else 0)
+      + (if e.concatenates then 0 else 32)
+
   -- the layout as it is put together
   pub layout-joined : (first second third fourth whole tail : List ℕ) → first ≡ []
       → second ≡ first ++ e.symbols → third ≡ second ++ e.values
       → fourth ≡ third ++ unwrap_or e.padding 128
-      ∷ (e.width + order_flag e.order + (if e.checks_trailing_bits then 16 else 0)) ∷ []
+      ∷ flags ∷ []
       → whole ≡ fourth ++ tail
       → wrapping_bytes (ignores_some (base_of_tables e)) (wrapping_by e.column e.separator.items)
       ≡ tail → whole ≡ layout (base_of_tables e)
   layout-joined first second third fourth whole tail e0 e1 e2 e3 e4 is =
       let entry = unwrap_or e.padding 128 in
-      let flags = e.width + order_flag e.order + (if e.checks_trailing_bits then 16 else 0) in
       let both : third ≡ e.symbols ++ e.values =
       e2 ∙ ap (λ l. l ++ e.values) (e1 ∙ ap (λ l. l ++ e.symbols) e0) in
       e4 ∙ ap (λ l. l ++ tail) e3 ∙ append_assoc third (entry ∷ flags ∷ []) tail

@@ -1,20 +1,20 @@
 -- What the tables of an encoding say of its base.
-use Rattle.std.proofs.Common.{◌≡◌, ℕ, zero, suc, ◌^◌, ◌<◌, ◌≤◌, ◌==◌, Bool, true, false, nat_lt, cond, ◌||◌, List, [], ◌∷◌, length, map, take, get_or, Option, Some, None, refl, sym, ap, ◌∙◌, subst, arith, ⊎_elim}
+use Rattle.std.proofs.Common.{◌≡◌, ℕ, zero, suc, ◌*◌, ◌/◌, ◌%◌, ◌^◌, ◌<◌, ◌≤◌, ◌==◌, Bool, true, false, nat_lt, cond, List, length, map, take, get_or, Option, Some, None, IfSome, refl, sym, ap, ◌∙◌, subst, arith, ⊎_elim}
 use Rattle.std.proofs.lemmas.Bool.{cases_lt, false≢true, eqb-true}
 use Rattle.std.proofs.lemmas.Bool.Decides.{nat_tests}
 use Rattle.std.proofs.lemmas.List.{get_or-take, get_or_past, length-map}
-use Rattle.std.specs.List.{list_any}
 use Rattle.data_encoding.specs.declared.encoding.Character.TheVariants.{Symbol, Padding, Ignored, Invalid}
 use Rattle.data_encoding.specs.declared.encoding.Encoding.TheInside.{Inside}
-use Rattle.data_encoding.specs.Base.{Base, meaning, symbol, is_ignored, is_padding, is_symbol, IsWidth}
+use Rattle.data_encoding.specs.Base.{Base, meaning, symbol, ignores_some, is_ignored, is_padding, is_symbol, IsWidth}
 use Rattle.data_encoding.specs.Encoding.{KeepsPadding, KeepsRules, KeepsWrapping, base_of_tables, wrapping_by}
 use Rattle.data_encoding.specs.Entries.{is_entry_of, meaning_of_entry}
 use Rattle.data_encoding.specs.Plain.{IsPlain}
-use Rattle.data_encoding.specs.Tables.{IsBare, HoldsSymbols, HoldsValues, Writes, Reads}
+use Rattle.data_encoding.specs.Tables.{HoldsSymbols, HoldsValues, Writes}
 use Rattle.data_encoding.proofs.tables.EntryLemmas.{high_entry, length-entries, length-low, meaning-any}
 use Rattle.data_encoding.proofs.tables.TableRuleLemmas.{HoldsEntries-tables, IsWidth-tables, length-symbols, symbol-ascii, value-symbol}
-use Rattle.data_encoding.proofs.lists.EachLemmas.{passes_at}
-use Rattle.data_encoding.proofs.digits.WidthLemmas.{symbols-few}
+use Rattle.data_encoding.proofs.lists.EachLemmas.{none_passes, passes_at}
+use Rattle.data_encoding.proofs.digits.WidthLemmas.{symbols-few, times_symbols}
+use Rattle.data_encoding.proofs.lists.RepeatLemmas.{get_or-repeats}
 
 small_entry : (v count : ℕ) → is_entry_of count v ≡ true → v < 128 → v < count
 small_entry v count h k = grind (arith, nat_tests)
@@ -30,13 +30,8 @@ no_symbol v h =
       others false true = refl
       others false false = refl
 
--- a test that each fails is passed by none
-none_passes : {X : Type 0} (test : X → Bool) (xs : List X) (d : X)
-    → ((i : ℕ) → i < length xs → test (get_or xs i d) ≡ false) → list_any test xs ≡ false
-none_passes test [] d h = refl
-none_passes test (x ∷ xs) d h =
-    ap (λ b. b || list_any test xs) (h 0 (omega arith))
-    ∙ none_passes test xs d (λ i k. h (suc i) (omega (arith, k)))
+padding_entry : (v : ℕ) → is_padding (meaning_of_entry v) ≡ (v == 130)
+padding_entry v = grind (arith, nat_tests)
 
 module _ (e : Inside) (rules : KeepsRules e) where
   -- an entry that is a value is that of a symbol
@@ -55,7 +50,7 @@ module _ (e : Inside) (rules : KeepsRules e) where
       absurd (omega (arith, small, high_entry e.values holds byte high h)))
       (cases_lt byte 128)
 
-  pub HoldsValues-tables : HoldsValues (base_of_tables e) e.values
+  HoldsValues-tables : HoldsValues (base_of_tables e) e.values
   HoldsValues-tables = record {
     is_width = rules.is_width;
     symbols = λ byte h small.
@@ -66,13 +61,32 @@ module _ (e : Inside) (rules : KeepsRules e) where
     others = λ byte h large.
         ap is_symbol (meaning-any e.values (HoldsEntries-tables e rules) byte h)
         ∙ no_symbol (get_or e.values byte 0) large;
+    paddings = λ byte h.
+        ap is_padding (meaning-any e.values (HoldsEntries-tables e rules) byte h)
+        ∙ padding_entry (get_or e.values byte 0);
   }
 
-  pub HoldsSymbols-tables : HoldsSymbols (base_of_tables e) e.symbols
+  HoldsSymbols-tables : HoldsSymbols (base_of_tables e) e.symbols
   HoldsSymbols-tables = record {
     is_width = rules.is_width;
-    at_value = λ value h. get_or-take (2 ^ e.width) e.symbols value 0 h;
+    at_byte = λ byte h.
+        let front = take (2 ^ e.width) e.symbols in
+        let times = 256 / 2 ^ e.width in
+        let count = length-symbols e rules in
+        let whole : times * length front ≡ 256 =
+        ap (λ n. times * n) count ∙ times_symbols e.width (IsWidth-tables e rules) in
+        ap (λ n. get_or front (byte % n) 0) (sym count)
+        ∙ sym (get_or-repeats times front byte (omega (arith, h, whole)))
+        ∙ ap (λ l. get_or l byte 0) (sym rules.symbols_repeat);
   }
+
+  -- padding is ASCII
+  padding-ascii : IfSome e.padding (λ character. character < 128)
+  padding-ascii = by_padding e.padding rules.padding where
+    by_padding : (o : Option ℕ) → KeepsPadding o e.width e.values
+        → IfSome o (λ character. character < 128)
+    by_padding None keeps = tt
+    by_padding (Some character) keeps = keeps.0
 
   -- each symbol is ASCII, and so is what stands for a value that none has
   any_symbol-ascii : (value : ℕ) → symbol (base_of_tables e) value < 128
@@ -86,15 +100,6 @@ module _ (e : Inside) (rules : KeepsRules e) where
       (cases_lt value (2 ^ e.width))
 
   module _ (plain : IsPlain (base_of_tables e)) where
-    unpadded-by : (o : Option ℕ) → KeepsPadding o e.width e.values → o ≡ None
-    unpadded-by None keeps = refl
-    unpadded-by (Some character) keeps =
-        let few : character < 256 = omega (arith, keeps.0) in
-        let means : meaning (base_of_tables e) character ≡ Padding =
-        meaning-any e.values (HoldsEntries-tables e rules) character few
-        ∙ ap meaning_of_entry keeps.1 in
-        absurd (false≢true (sym (plain.none_pads character few) ∙ ap is_padding means))
-
     never_129 : (byte : ℕ) → get_or e.values byte 0 ≡ 129 → ⊥
     never_129 byte h =
         let holds = HoldsEntries-tables e rules in
@@ -117,21 +122,20 @@ module _ (e : Inside) (rules : KeepsRules e) where
         (eqb-true (get_or e.values (get_or separator 0 0) 0) 129
         (passes_at (λ byte. get_or e.values byte 0 == 129) separator 0 0 keeps.4 keeps.2)))
 
-    -- nothing is padded, ignored or wrapped
-    pub IsBare-tables : IsBare (base_of_tables e)
-    IsBare-tables = record {
-      unpadded = unpadded-by e.padding rules.padding;
-      unwrapped = unwrapped-by e.column e.separator.items rules.wrapping;
-      ignores_none =
-          none_passes is_ignored (map meaning_of_entry (take 128 e.values)) Invalid
-          (λ i h. plain.none_ignored i
-          (omega (
-            arith,
-            h,
-            length-map (take 128 e.values) meaning_of_entry,
-            length-low e.values (HoldsEntries-tables e rules),
-          )));
-    }
+    -- what ignores nothing has no lines
+    unwrapped-tables : (base_of_tables e).wrapping ≡ None
+    unwrapped-tables = unwrapped-by e.column e.separator.items rules.wrapping
+
+    pub ignores_none-tables : ignores_some (base_of_tables e) ≡ false
+    ignores_none-tables =
+        none_passes is_ignored (map meaning_of_entry (take 128 e.values)) Invalid
+        (λ i h. plain.none_ignored i
+        (omega (
+          arith,
+          h,
+          length-map (take 128 e.values) meaning_of_entry,
+          length-low e.values (HoldsEntries-tables e rules),
+        )))
 
 -- what a contract knows of the base that it sees
 module _ (e : Inside) (rules : KeepsRules e) (seen : Base) (is : base_of_tables e ≡ seen) where
@@ -141,26 +145,27 @@ module _ (e : Inside) (rules : KeepsRules e) (seen : Base) (is : base_of_tables 
   pub symbols-seen : (value : ℕ) → symbol seen value < 128
   symbols-seen value = subst (λ b. symbol b value < 128) is (any_symbol-ascii e rules value)
 
+  pub padding-seen : IfSome seen.padding (λ character. character < 128)
+  padding-seen =
+      subst (λ b. IfSome b.padding (λ character. character < 128)) is (padding-ascii e rules)
+
+  pub Writes-tables : (width : ℕ) → e.width ≡ width → Writes seen e.symbols width e.order
+  Writes-tables width h =
+      subst (λ b. Writes b e.symbols width e.order) is (record {
+        width_is = h;
+        order_is = refl;
+        holds = HoldsSymbols-tables e rules;
+      })
+
+  pub HoldsValues-seen : HoldsValues seen e.values
+  HoldsValues-seen = subst (λ b. HoldsValues b e.values) is (HoldsValues-tables e rules)
+
   module _ (plain : IsPlain seen) where
-    pub IsBare-seen : IsBare seen
-    IsBare-seen = subst IsBare is (IsBare-tables e rules (subst IsPlain (sym is) plain))
+    pub unwrapped-seen : seen.wrapping ≡ None
+    unwrapped-seen =
+        subst (λ b. b.wrapping ≡ None) is (unwrapped-tables e rules (subst IsPlain (sym is) plain))
 
-    pub Writes-tables : (width : ℕ) → e.width ≡ width → Writes seen e.symbols width e.order
-    Writes-tables width h =
-        subst (λ b. Writes b e.symbols width e.order) is (record {
-          bare = IsBare-tables e rules (subst IsPlain (sym is) plain);
-          width_is = h;
-          order_is = refl;
-          holds = HoldsSymbols-tables e rules;
-        })
-
-    pub Reads-tables : (width : ℕ) → e.width ≡ width
-        → Reads seen e.values width e.order e.checks_trailing_bits
-    Reads-tables width h =
-        subst (λ b. Reads b e.values width e.order e.checks_trailing_bits) is (record {
-          bare = IsBare-tables e rules (subst IsPlain (sym is) plain);
-          width_is = h;
-          order_is = refl;
-          checks_is = refl;
-          holds = HoldsValues-tables e rules;
-        })
+    pub ignores_none-seen : ignores_some seen ≡ false
+    ignores_none-seen =
+        subst (λ b. ignores_some b ≡ false) is
+        (ignores_none-tables e rules (subst IsPlain (sym is) plain))

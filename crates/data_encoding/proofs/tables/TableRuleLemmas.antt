@@ -1,5 +1,5 @@
 -- The rules on the tables of an encoding are those on its base.
-use Rattle.std.proofs.Common.{◌≡◌, ℕ, zero, suc, ◌%◌, ◌/◌, ◌^◌, ◌<◌, ◌≤◌, ◌==◌, Bool, true, false, not, ◌||◌, nat_lt, cond, List, [], ◌∷◌, length, map, take, get_or, replicate, Option, Some, None, refl, sym, ap, ◌∙◌, arith, ⊎_elim}
+use Rattle.std.proofs.Common.{◌≡◌, ℕ, zero, suc, ◌%◌, ◌/◌, ◌^◌, ◌<◌, ◌≤◌, ◌==◌, Bool, true, false, not, ◌||◌, nat_lt, cond, List, [], ◌∷◌, length, map, take, get_or, replicate, Option, Some, None, is_none, is_some, refl, sym, ap, ◌∙◌, arith, ⊎_elim}
 use Rattle.std.proofs.lemmas.Bool.{eqb-true, eq-eqb, lt-ltb, ltb-true, cases_lt}
 use Rattle.std.proofs.lemmas.Bool.Decides.{nat_tests}
 use Rattle.std.proofs.lemmas.List.{ext_get_or, get_or-map, get_or_past, length-map}
@@ -64,6 +64,20 @@ rule-checked : (check whole : Bool) → (check || whole) ≡ check → (check ||
 rule-checked true whole h = refl
 rule-checked false true h = cc
 rule-checked false false h = refl
+
+concatenated-rule : (concatenates : Bool) (padding : Option ℕ)
+    → (concatenates || is_some padding) ≡ true
+    → (concatenates || is_none padding) ≡ concatenates
+concatenated-rule true padding h = refl
+concatenated-rule false (Some character) h = refl
+concatenated-rule false None h = cc
+
+rule-concatenated : (concatenates : Bool) (padding : Option ℕ)
+    → (concatenates || is_none padding) ≡ concatenates
+    → (concatenates || is_some padding) ≡ true
+rule-concatenated true padding h = refl
+rule-concatenated false (Some character) h = refl
+rule-concatenated false None h = cc
 
 -- from the tables to the base
 module _ (e : Inside) (rules : KeepsRules e) where
@@ -176,6 +190,7 @@ module _ (e : Inside) (rules : KeepsRules e) where
     is_width = IsWidth-tables;
     count = length-symbols;
     checked = checked-rule e.checks_trailing_bits (8 % e.width == 0) rules.whole_checked;
+    concatenated = concatenated-rule e.concatenates e.padding rules.unpadded_concatenates;
     long =
         length-map (take 128 e.values) meaning_of_entry
         ∙ length-low e.values (HoldsEntries-tables);
@@ -261,6 +276,7 @@ module _ (e : Inside) (ruled : IsRuled (base_of_tables e)) (holds : HoldsEntries
       → (e.column ≡ 0 → e.separator.items ≡ []) → KeepsRules e
   KeepsRules-ruled repeat none = record {
     is_width = ruled.is_width;
+    unpadded_concatenates = rule-concatenated e.concatenates e.padding ruled.concatenated;
     whole_checked = rule-checked e.checks_trailing_bits (8 % e.width == 0) ruled.checked;
     symbols_repeat = repeat;
     symbols_are_ascii =

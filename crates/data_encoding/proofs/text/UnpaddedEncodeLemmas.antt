@@ -1,20 +1,14 @@
 -- Data encoded group by group.
-use Rattle.std.proofs.Common.{◌≡◌, ℕ, ◌+◌, ◌-◌, ◌*◌, ◌/◌, ◌%◌, ◌<◌, ◌≤◌, List, ◌++◌, All, length, take, drop, refl, sym, ap, ◌∙◌, subst, arith, length-append, length-take-le}
+use Rattle.std.proofs.Common.{◌≡◌, ℕ, ◌+◌, ◌-◌, ◌*◌, ◌%◌, ◌<◌, ◌≤◌, List, ◌++◌, length, take, drop, refl, sym, ap, ◌∙◌, subst, arith, length-append, length-take-le}
 use Rattle.std.proofs.Math.Seq.{take-add}
 use Rattle.std.proofs.Math.Nat.{mul_left_comm, mul-mod_right, zero-mul}
-use Rattle.std.proofs.lemmas.List.{length-drop, take_all}
+use Rattle.std.proofs.lemmas.List.{append-nil, drop_all, drop_at, length-drop, take_all}
 use Rattle.std.proofs.lemmas.Slice.{take-put_mid}
-use Rattle.std.specs.List.{AllByRecursion}
-use Rattle.std.proofs.lemmas.List.Elements.{All-from_recursion}
 use borrow.Rule.Slice.PartMut.{put_mid}
 use Rattle.data_encoding.specs.Base.{Base}
-use Rattle.data_encoding.specs.Text.{plain_text, text_of}
-use Rattle.data_encoding.specs.declared.encoding.Encoding.TheInside.{Inside}
-use Rattle.data_encoding.specs.Encoding.{base_of_tables, KeepsRules}
-use Rattle.data_encoding.specs.Plain.{IsPlain}
+use Rattle.data_encoding.specs.Text.{plain_text}
 use Rattle.data_encoding.proofs.lists.PartLemmas.{IsWhole}
-use Rattle.data_encoding.proofs.tables.TableLemmas.{IsBare-seen, IsWidth-seen, symbols-seen}
-use Rattle.data_encoding.proofs.text.UnpaddedTextLemmas.{plain_text-join, plain_text-nil, length-text_of, ascii-text_of}
+use Rattle.data_encoding.proofs.text.UnpaddedTextLemmas.{plain_text-join, plain_text-nil}
 
 pub length-put_mid : {X : Type 0} (a k : ℕ) (xs ys : List X) → a + k ≤ length xs
     → length ys ≡ k → length (put_mid a k xs ys) ≡ length xs
@@ -29,6 +23,14 @@ length-put_mid a k xs ys h e =
       h,
       e,
     )
+
+-- what stands behind a front is what was written there
+pub drop-put_mid_at : {X : Type 0} (a : ℕ) (xs ys : List X) → a ≤ length xs
+    → drop a (put_mid a (length xs - a) xs ys) ≡ ys
+drop-put_mid_at a xs ys h =
+    let none = drop_all (length xs - a) (drop a xs) (omega (arith, length-drop a xs)) in
+    drop_at (take a xs) (ys ++ drop (length xs - a) (drop a xs)) a (length-take-le a xs h)
+    ∙ ap (λ l. ys ++ l) none ∙ append-nil ys
 
 module _ (base : Base) (width bytes symbols : ℕ) (whole : IsWhole width bytes symbols)
     (is : base.width ≡ width) where
@@ -78,21 +80,3 @@ module _ (base : Base) (width bytes symbols : ℕ) (whole : IsWhole width bytes 
         (omega (arith, len, full)))
         ∙ encoded-next
         ∙ ap (plain_text base) (take_all (i * bytes + more) input (omega (arith, all)))
-
--- the length of a text, by the tables of an encoding
-pub room-tables : (e : Inside) (rules : KeepsRules e) (seen : Base) (is : base_of_tables e ≡ seen)
-    (plain : IsPlain seen) (input : List ℕ) (size width : ℕ) → e.width ≡ width
-    → size ≡ length (text_of seen input) → size ≡ (8 * length input + (width - 1)) / width
-room-tables e rules seen is plain input size width h exact =
-    exact
-    ∙ length-text_of seen input (IsBare-seen e rules seen is plain) (IsWidth-seen e rules seen is)
-    ∙ ap (λ w. (8 * length input + (w - 1)) / w) (ap (λ b. b.width) (sym is) ∙ h)
-
--- what is written by the tables of an encoding is ASCII
-pub ascii-tables : (e : Inside) (rules : KeepsRules e) (seen : Base) (is : base_of_tables e ≡ seen)
-    (plain : IsPlain seen) (input output : List ℕ) → output ≡ text_of seen input
-    → All (λ byte. byte < 128) output
-ascii-tables e rules seen is plain input output h =
-    All-from_recursion (λ b. b < 128) output
-    (subst (AllByRecursion (λ b. b < 128)) (sym h)
-    (ascii-text_of seen input (IsBare-seen e rules seen is plain) (symbols-seen e rules seen is)))

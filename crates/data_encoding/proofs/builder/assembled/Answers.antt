@@ -9,14 +9,16 @@ use Rattle.data_encoding.proofs.builder.assembled.Goals as goal
 pub padding_byte-requires : goal.padding_byte-requires
 padding_byte-requires c =
     let fields = fields_of_parts c.args.parts.now in
-    let ruled = IsRuled-from c.args.width fields c.args.meanings c.requires.sized c.requires.width.some
+    let ruled = IsRuled-from c.args.width fields c.args.meanings c.requires.sized
+    c.requires.width.some
     c.requires.judged in
     padding-ascii (base_from c.args.width fields c.args.meanings) fields.padding ruled.padding
 
 pub column_byte-requires : goal.column_byte-requires
 column_byte-requires c =
     let fields = fields_of_parts c.args.parts.now in
-    let ruled = IsRuled-from c.args.width fields c.args.meanings c.requires.sized c.requires.width.some
+    let ruled = IsRuled-from c.args.width fields c.args.meanings c.requires.sized
+    c.requires.width.some
     c.requires.judged in
     λ on. (lines-short (base_from c.args.width fields c.args.meanings)
     (wraps fields.column fields.separator) fields.column fields.separator ruled.wrapping on).0
@@ -24,7 +26,8 @@ column_byte-requires c =
 pub separator_bytes-requires : goal.separator_bytes-requires
 separator_bytes-requires c =
     let fields = fields_of_parts c.args.parts.now in
-    let ruled = IsRuled-from c.args.width fields c.args.meanings c.requires.sized c.requires.width.some
+    let ruled = IsRuled-from c.args.width fields c.args.meanings c.requires.sized
+    c.requires.width.some
     c.requires.judged in
     λ on. (lines-short (base_from c.args.width fields c.args.meanings)
     (wraps fields.column fields.separator) fields.column fields.separator ruled.wrapping on).1
@@ -36,6 +39,7 @@ inside c = record {
   width = c.args.width;
   order = c.args.parts.now.order;
   checks_trailing_bits = c.checks_trailing_bits.result;
+  concatenates = c.concatenates.result;
   padding = c.padding_byte.result;
   column = c.column_byte.result;
   separator = c.separator_bytes.result;
@@ -54,6 +58,7 @@ made c = record {
   values = c.into_values.ensures.meanings;
   order = refl;
   checks = c.checks_trailing_bits.ensures;
+  concatenates = c.concatenates.ensures;
   padding = c.padding_byte.ensures;
   column = c.column_byte.ensures;
   separator = c.separator_bytes.ensures;

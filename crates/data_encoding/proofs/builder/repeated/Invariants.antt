@@ -1,7 +1,11 @@
-use Rattle.std.proofs.Common.{◌≡◌, ℕ, ◌%◌, ◌<◌, length, get_or}
+use Rattle.std.proofs.Common.{◌≡◌, ◌-◌, ◌^◌, length, replicate, take}
+use Rattle.std.specs.List.{concat}
 use Rattle.data_encoding.proofs.builder.repeated.Given as goal
 
-abbrev pub invariant-loop-index : goal.invariant-loop-index
-invariant-loop-index l =
-    (length l.table ≡ 256)
-    × ((k : ℕ) → k < l.index → get_or l.table k 0 ≡ get_or l.symbols (k % l.count) 0)
+abbrev pub invariant-loop : goal.invariant-loop
+invariant-loop l = record {
+  long : length l.table ≡ 256;
+  filled : l.filled ≡ 2 ^ l.counter;
+  front : take l.filled l.table
+      ≡ concat (replicate (2 ^ (l.counter - l.fn.width)) l.fn.symbols);
+}

@@ -7,5 +7,6 @@ use Rattle.data_encoding.proofs.encode.encode_groups.Given as goal
 abbrev pub invariant-loop-index : goal.invariant-loop-index
 invariant-loop-index g l = record {
   written : (base : Base) → Writes base l.symbols g.row.WIDTH l.order
-      → take (l.index * g.row.SYMBOLS) l.output ≡ plain_text base (take (l.index * g.row.BYTES) l.input);
+      → take (l.index * g.row.SYMBOLS) l.output ≡ plain_text base
+      (take (l.index * g.row.BYTES) l.input);
 }

@@ -1,22 +1,41 @@
-use Rattle.std.proofs.Common.{◌*◌, sym, ap, ◌∙◌}
-use Rattle.std.specs.Int.{div_ceil}
-use Rattle.data_encoding.proofs.tables.TableRuleLemmas.{is_base_of}
+use Rattle.std.proofs.Common.{◌*◌, length, sym, ap, ◌∙◌}
+use Rattle.data_encoding.specs.Base.{Base, group_bytes, group_symbols, is_padded}
 use Rattle.data_encoding.proofs.lists.RunLemmas.{run_count}
-use Rattle.data_encoding.proofs.tables.TableLemmas.{IsBare-seen, IsWidth-seen}
-use Rattle.data_encoding.proofs.text.UnpaddedTextLemmas.{length-text_of, run_count-ceil}
+use Rattle.data_encoding.proofs.tables.TableLemmas.{IsWidth-seen, unwrapped-seen}
+use Rattle.data_encoding.proofs.tables.TableRuleLemmas.{is_base_of}
+use Rattle.data_encoding.proofs.text.PaddedTextLemmas.{length-padded, length-unpadded, text_of-unwrapped}
 use Rattle.data_encoding.proofs.encoding.Encoding.encode_len.Goals as goal
+
+pub returns-then-is_none-clause-length : goal.returns-then-is_none-clause-length
+returns-then-is_none-clause-length c bytes h =
+    let e = c.self.inside in
+    let seen = c.args.self.now in
+    let width = IsWidth-seen e c.self.invariant seen c.self.view_is in
+    let unwrapped = unwrapped-seen e c.self.invariant seen c.self.view_is c.requires.plain in
+    let none = ap is_padded (sym c.self.view_is) ∙ c.if-is_none.ensures in
+    ap length (text_of-unwrapped seen bytes unwrapped)
+    ∙ length-unpadded seen bytes width none
+    ∙ ap (λ n. run_count seen.width (8 * n)) h
+    ∙ ap (λ (b : Base). run_count b.width (8 * c.args.len)) (sym c.self.view_is)
+    ∙ sym c.symbol_count.ensures
+
+pub returns-then-is_none-clause-base : goal.returns-then-is_none-clause-base
+returns-then-is_none-clause-base c =
+    rw (← c.self.view_is) (is_base_of c.self.inside c.self.invariant)
 
 pub returns-clause-length : goal.returns-clause-length
 returns-clause-length c bytes h =
     let e = c.self.inside in
     let seen = c.args.self.now in
-    let bare = IsBare-seen e c.self.invariant seen c.self.view_is c.requires.plain in
     let width = IsWidth-seen e c.self.invariant seen c.self.view_is in
-    length-text_of seen bytes bare width
-    ∙ ap (λ n. run_count seen.width (8 * n)) h
-    ∙ run_count-ceil seen.width (8 * c.args.len) width.some
-    ∙ ap (λ b. div_ceil (8 * c.args.len) b.width) (sym c.self.view_is)
-    ∙ sym c.div_ceil.ensures
+    let unwrapped = unwrapped-seen e c.self.invariant seen c.self.view_is c.requires.plain in
+    let some = ap is_padded (sym c.self.view_is) ∙ c.if-is_none.ensures in
+    ap length (text_of-unwrapped seen bytes unwrapped)
+    ∙ length-padded seen bytes width some
+    ∙ ap (λ n. run_count (group_bytes seen.width) n * group_symbols seen.width) h
+    ∙ ap (λ (b : Base). run_count (group_bytes b.width) c.args.len * group_symbols b.width)
+    (sym c.self.view_is)
+    ∙ sym c.filled_count.ensures.value
 
 pub returns-clause-base : goal.returns-clause-base
 returns-clause-base c = rw (← c.self.view_is) (is_base_of c.self.inside c.self.invariant)

@@ -18,6 +18,7 @@ returns c =
       symbols = c.in_ok-ascii_text.field-0;
       bit_order = e.order;
       check_trailing_bits = e.checks_trailing_bits;
+      concatenate = e.concatenates;
       padding = c.character.result;
       ignore = c.in_ok-ignored_text.field-0;
       wrap = record { width = e.column; separator = c.in_ok-ascii_text-2.field-0 };
@@ -29,6 +30,7 @@ returns c =
           ∙ ap (λ n. take n e.symbols) c.symbol_count-count.ensures.value;
       order = refl;
       checks = refl;
+      concatenates = refl;
       padding = c.character.ensures;
       ignored = c.in_ok-ignored_text.ensures ∙ ap ignored_bytes view;
       column = refl;

@@ -1,0 +1,379 @@
+-- How far a decoding has come: the step of a run, of a group, the end, and the first fault.
+use Rattle.std.proofs.Common.{◌≡◌, ℕ, zero, suc, ◌+◌, ◌-◌, ◌*◌, ◌/◌, ◌%◌, ◌<◌, ◌≤◌, ◌⊎◌, Bool, true, false, List, [], ◌∷◌, ◌++◌, length, take, drop, get_or, None, refl, sym, ap, ◌∙◌, subst, arith, length-append, length-take-le, ⊎_elim, inl, inr}
+use Rattle.std.proofs.lemmas.Bool.{false≢true}
+use Rattle.std.proofs.lemmas.List.{length-drop, append-nil, get_or-take}
+use Rattle.std.proofs.lemmas.List.Concat.{flat_map-append}
+use Rattle.std.proofs.Math.Nat.{zero-mod, mul-le-mul_left, mul-mod_left, add-mul, zero-mul, suc-mul, mod_self}
+use Rattle.std.proofs.lemmas.Nat.{div-add-mod'}
+use Rattle.std.specs.Prelude.{flat_map}
+use Rattle.data_encoding.specs.Base.{Base, meaning, is_symbol, is_padded, ignores_some, group_bytes, group_symbols, IsWidth}
+use Rattle.data_encoding.specs.Bits.{runs}
+use Rattle.data_encoding.specs.Grammar.{Positioned, positioned, positioned_from, kept, groups, is_final, Means}
+use Rattle.data_encoding.specs.Lengths.{length_fault, most_bytes}
+use Rattle.data_encoding.specs.Fault.{fault_after, group_fault, bytes_of_group, fault_of, or_else, first_after, sound_after, sound_bytes}
+use Rattle.data_encoding.specs.Partial.{position_after}
+use Rattle.data_encoding.proofs.digits.WidthLemmas.{group_bits, group_symbols-pos}
+use Rattle.data_encoding.proofs.lists.RunLemmas.{runs-nil, runs-join, runs-short, flat_map-runs}
+use Rattle.data_encoding.proofs.lists.EndLemmas.{AllSo}
+use Rattle.data_encoding.proofs.grammar.PositionLemmas.{filter-plain, length-kept, length-positioned_from, bytes-positioned_from}
+use Rattle.data_encoding.proofs.grammar.KeptLemmas.{kept_in, kept_from, between, kept-split, kept-more, kept_from-more, nothing-left, position_after-append, position_after-positioned}
+use Rattle.data_encoding.proofs.grammar.LengthLemmas.{most_bytes-by}
+use Rattle.data_encoding.proofs.grammar.GroupLemmas.{GroupMeans-sound}
+use Rattle.data_encoding.proofs.grammar.MeaningLemmas.{Means-no_fault}
+use Rattle.data_encoding.proofs.grammar.SoundLemmas.{AreSound, AreSound-append, fault_after-none, first-none, sound-all}
+use Rattle.data_encoding.proofs.grammar.WholeGroupLemmas.{AreSound-symbols, symbols-positioned, kept_in-symbols, bytes_of_runs-same}
+use Rattle.data_encoding.proofs.decoding.RoomLemmas.{length-bytes_of_groups, room-bits, room-plain, room-whole}
+
+-- So much of the text was read and so many bytes written: whole groups without a fault, or all
+-- groups, where the last of an unpadded text may be shorter.
+pub record HasDecodedTo (base : Base) (text : List ℕ) (read written : ℕ) (ended : Bool)
+    (output : List ℕ) : Type 0 where
+  pub within : read ≤ length text
+  pub sound : AreSound base false (groups base (take read text)) ended
+  pub whole : (length (kept base (take read text)) % group_symbols base.width ≡ 0)
+      ⊎ ((kept_from base read text ≡ []) × (is_padded base ≡ false))
+  pub ends : position_after (kept base (take read text)) ≡ read
+  pub fits : written ≤ length output
+  pub writes : take written output ≡ flat_map (bytes_of_group base) (groups base (take read text))
+
+-- These are the kept bytes from one position to another, which is just after the last of them.
+pub record IsPart (base : Base) (text : List ℕ) (read stop : ℕ) (part : List Positioned)
+    : Type 0 where
+  pub after : read ≤ stop
+  pub within : stop ≤ length text
+  pub is_kept : part ≡ kept_in base read (between read stop text)
+  pub some : 0 < length part
+  pub ends : position_after part ≡ stop
+
+-- They are the next group: a whole one, or the last.
+pub record IsNext (base : Base) (text : List ℕ) (read stop : ℕ) (group : List Positioned)
+    : Type 0 where
+  pub is_part : IsPart base text read stop group
+  pub few : length group ≤ group_symbols base.width
+  pub last : (length group ≡ group_symbols base.width) ⊎ (kept_from base stop text ≡ [])
+
+-- where nothing is ignored: so many bytes as they stand, a whole group or all that are left
+pub next-plain : (base : Base) → ignores_some base ≡ false → (text : List ℕ) (read count : ℕ)
+    → 0 < count → count ≤ group_symbols base.width → read + count ≤ length text
+    → (count ≡ group_symbols base.width) ⊎ (read + count ≡ length text)
+    → IsNext base text read (read + count) (positioned_from read (take count (drop read text)))
+next-plain base none text read count some few within last =
+    let part = take count (drop read text) in
+    let part_len : length part ≡ count =
+    length-take-le count (drop read text) (omega (arith, length-drop read text, within)) in
+    let len : length (positioned_from read part) ≡ count =
+    length-positioned_from read part ∙ part_len in
+    let same : read + count - read ≡ count = omega arith in
+    record {
+      is_part = record {
+        after = omega arith;
+        within = within;
+        is_kept =
+            sym (filter-plain base none (positioned_from read (between read (read + count) text))
+            ∙ ap (λ n. positioned_from read (take n (drop read text))) same);
+        some = omega (arith, len, some);
+        ends = position_after-positioned read part (omega (arith, part_len, some))
+            ∙ ap (λ n. read + n) part_len;
+      };
+      few = omega (arith, len, few);
+      last = ⊎_elim {C = (length (positioned_from read part) ≡ group_symbols base.width)
+          ⊎ (kept_from base (read + count) text ≡ [])}
+          (λ whole. inl (len ∙ whole))
+          (λ end. inr (ap (λ n. kept_from base n text) end ∙ nothing-left base text)) last;
+    }
+
+all_at : (test : ℕ → Bool) (xs : List ℕ)
+    → ((k : ℕ) → k < length xs → test (get_or xs k 0) ≡ true) → AllSo test xs
+all_at test [] h = tt
+all_at test (x ∷ xs) h =
+    (h 0 (omega arith), all_at test xs (λ k less. h (suc k) (omega (arith, less))))
+
+both_whole : (size m n : ℕ) → m % size ≡ 0 → n % size ≡ 0 → (m + n) % size ≡ 0
+both_whole size m n h k =
+    let parts : m + n ≡ (m / size + n / size) * size =
+    omega (
+      arith,
+      add-mul (m / size) (n / size) size,
+      div-add-mod' m size,
+      div-add-mod' n size,
+      h,
+      k,
+    ) in
+    ap (λ x. x % size) parts ∙ mul-mod_left (m / size + n / size) size
+
+module _ (base : Base) (width : IsWidth base.width) (text : List ℕ) where
+  abbrev enc : ℕ
+  enc = group_bytes base.width
+
+  abbrev dec : ℕ
+  dec = group_symbols base.width
+
+  pos : 0 < dec
+  pos = group_symbols-pos base.width width
+
+  no_groups : runs {X = Positioned} dec [] ≡ []
+  no_groups = runs-nil {X = Positioned} dec pos
+
+  pub begin : (output : List ℕ) → HasDecodedTo base text 0 0 false output
+  begin output = record {
+    within = omega arith;
+    sound = subst (λ gs. AreSound base false gs false) (sym no_groups) refl;
+    whole = inl (zero-mod dec);
+    ends = refl;
+    fits = omega arith;
+    writes = ap (flat_map (bytes_of_group base)) (sym no_groups);
+  }
+
+  -- another output with the same bytes at its front
+  pub same-output : (read written : ℕ) (ended : Bool) (old new : List ℕ)
+      → HasDecodedTo base text read written ended old
+      → written ≤ length new → take written new ≡ take written old
+      → HasDecodedTo base text read written ended new
+  same-output read written ended old new so_far fits same = record {
+    within = so_far.within;
+    sound = so_far.sound;
+    whole = so_far.whole;
+    ends = so_far.ends;
+    fits = fits;
+    writes = same ∙ so_far.writes;
+  }
+
+  -- while something is left, whole groups were read
+  pub whole-before : (read written : ℕ) (begun : Bool) (old : List ℕ) (stop : ℕ)
+      (part : List Positioned)
+      → HasDecodedTo base text read written begun old → IsPart base text read stop part
+      → length (kept base (take read text)) % dec ≡ 0
+  whole-before read written begun old stop part so_far next =
+      ⊎_elim {C = length (kept base (take read text)) % dec ≡ 0} (λ whole. whole)
+      (λ all.
+      let left = kept_from-more base read text so_far.within stop next.after next.within in
+      absurd (omega (
+        arith,
+        next.some,
+        ap length next.is_kept,
+        ap length (sym left ∙ all.0),
+        length-append (kept_in base read (between read stop text)) (kept_from base stop text),
+      )))
+      so_far.whole
+
+  groups-more : (read written : ℕ) (begun : Bool) (old : List ℕ) (stop : ℕ) (part : List Positioned)
+      → HasDecodedTo base text read written begun old → IsPart base text read stop part
+      → groups base (take stop text) ≡ groups base (take read text) ++ runs dec part
+  groups-more read written begun old stop part so_far next =
+      ap (runs dec) (kept-more base read text so_far.within stop next.after next.within
+      ∙ ap (λ l. kept base (take read text) ++ l) (sym next.is_kept))
+      ∙ runs-join dec (kept base (take read text)) part pos
+      (whole-before read written begun old stop part so_far next)
+
+  advance : (read written stop count : ℕ) (begun ended : Bool) (part : List Positioned)
+      (old new : List ℕ) → HasDecodedTo base text read written begun old
+      → IsPart base text read stop part
+      → AreSound base begun (runs dec part) ended
+      → (length part % dec ≡ 0) ⊎ ((kept_from base stop text ≡ []) × (is_padded base ≡ false))
+      → written + count ≤ length new
+      → take (written + count) new
+      ≡ take written old ++ flat_map (bytes_of_group base) (runs dec part)
+      → HasDecodedTo base text stop (written + count) ended new
+  advance read written stop count begun ended part old new so_far next sound last fits writes =
+      let more = groups-more read written begun old stop part so_far next in
+      let parts = kept-more base read text so_far.within stop next.after next.within
+      ∙ ap (λ l. kept base (take read text) ++ l) (sym next.is_kept) in
+      record {
+        within = next.within;
+        sound = subst (λ gs. AreSound base false gs ended) (sym more)
+            (AreSound-append base false begun ended (groups base (take read text)) (runs dec part)
+            so_far.sound sound);
+        whole = ⊎_elim {C = (length (kept base (take stop text)) % dec ≡ 0)
+            ⊎ ((kept_from base stop text ≡ []) × (is_padded base ≡ false))}
+            (λ whole. inl (ap (λ n. n % dec)
+            (ap length parts ∙ length-append (kept base (take read text)) part)
+            ∙ both_whole dec (length (kept base (take read text))) (length part)
+            (whole-before read written begun old stop part so_far next) whole))
+            (λ all. inr all) last;
+        ends = ap position_after parts
+            ∙ position_after-append (kept base (take read text)) part next.some ∙ next.ends;
+        fits = fits;
+        writes = writes
+            ∙ ap (λ l. l ++ flat_map (bytes_of_group base) (runs dec part)) so_far.writes
+            ∙ sym (flat_map-append (bytes_of_group base) (groups base (take read text))
+            (runs dec part))
+            ∙ ap (flat_map (bytes_of_group base)) (sym more);
+      }
+
+  -- nothing more
+  after-none : (read written : ℕ) (old new : List ℕ)
+      → HasDecodedTo base text read written false old → written + 0 * enc ≤ length new
+      → take (written + 0 * enc) new ≡ take written old ++ flat_map (bytes_of_group base)
+      (runs dec (positioned (take (0 * dec) (drop read text))))
+      → HasDecodedTo base text (read + 0 * dec) (written + 0 * enc) false new
+  after-none read written old new so_far fits writes =
+      let same_read : read ≡ read + 0 * dec = omega (arith, zero-mul dec) in
+      let same_written : written + 0 * enc ≡ written = omega (arith, zero-mul enc) in
+      let no_bytes : flat_map (bytes_of_group base)
+      (runs dec (positioned (take (0 * dec) (drop read text)))) ≡ [] =
+      ap (λ n. flat_map (bytes_of_group base) (runs dec (positioned (take n (drop read text)))))
+      (zero-mul dec) ∙ ap (flat_map (bytes_of_group base)) no_groups in
+      let kept_front : take written new ≡ take written old =
+      ap (λ n. take n new) (sym same_written) ∙ writes ∙ ap (λ l. take written old ++ l) no_bytes
+      ∙ append-nil (take written old) in
+      subst (λ n. HasDecodedTo base text n (written + 0 * enc) false new) same_read
+      (subst (λ n. HasDecodedTo base text read n false new) (sym same_written)
+      (same-output read written false old new so_far (omega (arith, fits, same_written))
+      kept_front))
+
+  -- so many whole groups, of symbols alone
+  pub after-run : (read written count : ℕ) (old new : List ℕ)
+      → HasDecodedTo base text read written false old
+      → count * dec ≤ length text - read
+      → ((k : ℕ) → k < count * dec
+      → is_symbol (meaning base (get_or (drop read text) k 0)) ≡ true)
+      → written + count * enc ≤ length new
+      → take (written + count * enc) new
+      ≡ take written old ++ flat_map (bytes_of_group base)
+      (runs dec (positioned (take (count * dec) (drop read text))))
+      → HasDecodedTo base text (read + count * dec) (written + count * enc) false new
+  after-run read written zero old new so_far room symbols fits writes =
+      after-none read written old new so_far fits writes
+  after-run read written (suc count) old new so_far room symbols fits writes =
+      let n = suc count * dec in
+      let part = take n (drop read text) in
+      let part_len : length part ≡ n =
+      length-take-le n (drop read text) (omega (arith, length-drop read text, room)) in
+      let some : 0 < n = omega (arith, suc-mul count dec, pos) in
+      let all : AllSo (λ byte. is_symbol (meaning base byte)) part =
+      all_at (λ byte. is_symbol (meaning base byte)) part
+      (λ k less. let inside : k < n = omega (arith, less, part_len) in
+      ap (λ byte. is_symbol (meaning base byte)) (get_or-take n (drop read text) k 0 inside)
+      ∙ symbols k inside) in
+      let same : between read (read + n) text ≡ part =
+      ap (λ m. take m (drop read text)) (omega arith) in
+      let len : length (positioned_from read part) ≡ n =
+      length-positioned_from read part ∙ part_len in
+      advance read written (read + n) (suc count * enc) false false (positioned_from read part) old
+      new so_far
+      (record {
+        after = omega arith;
+        within = omega (arith, so_far.within, room);
+        is_kept = sym (ap (kept_in base read) same ∙ kept_in-symbols base read part all);
+        some = omega (arith, len, some);
+        ends = position_after-positioned read part (omega (arith, part_len, some))
+            ∙ ap (λ m. read + m) part_len;
+      })
+      (AreSound-symbols base width (suc count) (positioned_from read part) len
+      (symbols-positioned base read part all))
+      (inl (ap (λ m. m % dec) len ∙ mul-mod_left (suc count) dec))
+      fits
+      (writes ∙ ap (λ l. take written old ++ l)
+      (bytes_of_runs-same base dec (positioned part) (positioned_from read part) pos
+      (bytes-positioned_from 0 part ∙ sym (bytes-positioned_from read part))))
+
+  -- a group more
+  pub after-group : (read written stop count : ℕ) (begun : Bool) (group : List Positioned)
+      (old new : List ℕ) → HasDecodedTo base text read written begun old
+      → IsNext base text read stop group → fault_after begun base group ≡ None
+      → written + count ≤ length new
+      → take (written + count) new ≡ take written old ++ bytes_of_group base group
+      → HasDecodedTo base text stop (written + count) (is_final base group) new
+  after-group read written stop count begun group old new so_far next sound fits writes =
+      let one : runs dec group ≡ group ∷ [] = runs-short dec group next.is_part.some next.few in
+      let no_fault = (fault_after-none base begun group sound).1 in
+      advance read written stop count begun (is_final base group) group old new so_far
+      next.is_part
+      (subst (λ gs. AreSound base begun gs (is_final base group)) (sym one) (sound, refl))
+      (by (is_padded base) refl no_fault)
+      fits
+      (writes ∙ ap (λ l. take written old ++ l)
+      (sym (append-nil (bytes_of_group base group))
+      ∙ ap (flat_map (bytes_of_group base)) (sym one))) where
+        by : (b : Bool) → is_padded base ≡ b → group_fault base group ≡ None
+            → (length group % dec ≡ 0)
+            ⊎ ((kept_from base stop text ≡ []) × (is_padded base ≡ false))
+        by true is h =
+            inl (ap (λ n. n % dec) (GroupMeans-sound base width is group next.few h).is_whole
+            ∙ mod_self dec)
+        by false is h =
+            ⊎_elim {C = (length group % dec ≡ 0)
+            ⊎ ((kept_from base stop text ≡ []) × (is_padded base ≡ false))}
+            (λ whole. inl (ap (λ n. n % dec) whole ∙ mod_self dec)) (λ none. inr (none, is))
+            next.last
+
+  module _ (read written : ℕ) (ended : Bool) (output : List ℕ)
+      (so_far : HasDecodedTo base text read written ended output) where
+    pub written_len : length (take written output) ≡ written
+    written_len = length-take-le written output so_far.fits
+
+    few_kept : length (kept base (take read text)) ≤ read
+    few_kept = omega (
+      arith,
+      length-kept base (take read text),
+      length-take-le read text so_far.within,
+    )
+
+    few_written : 8 * written ≤ base.width * length (kept base (take read text))
+    few_written =
+        let same : length (flat_map (bytes_of_group base) (groups base (take read text)))
+        ≡ written =
+        ap length (sym so_far.writes) ∙ written_len in
+        let all : base.width * length (flat_map (λ g. g) (groups base (take read text)))
+        ≡ base.width * length (kept base (take read text)) =
+        ap (λ ks. base.width * length ks) (flat_map-runs dec (kept base (take read text)) pos) in
+        omega (arith, length-bytes_of_groups base (groups base (take read text)), same, all)
+
+    few_bits : 8 * written ≤ base.width * read
+    few_bits = omega (arith, few_written, mul-le-mul_left base.width few_kept)
+
+    -- there is room for the groups that are left
+    pub room-run : (count : ℕ) → count * dec ≤ length text - read
+        → written + count * enc ≤ most_bytes base (length text)
+    room-run count h = by (is_padded base) refl where
+      by : (b : Bool) → is_padded base ≡ b → written + count * enc ≤ most_bytes base (length text)
+      by false is =
+          subst (λ most. written + count * enc ≤ most)
+          (sym (most_bytes-by base (length text) false is))
+          (room-plain base.width enc dec (length text) read written (group_bits base.width width)
+          so_far.within few_bits count h)
+      by true is =
+          let many = length (kept base (take read text)) in
+          let whole : many % dec ≡ 0 =
+          ⊎_elim {C = many % dec ≡ 0} (λ exact. exact)
+          (λ all. absurd (false≢true (sym all.1 ∙ is))) so_far.whole in
+          let exact : many / dec * dec ≡ many = omega (arith, div-add-mod' many dec, whole) in
+          subst (λ most. written + count * enc ≤ most)
+          (sym (most_bytes-by base (length text) true is))
+          (room-whole base.width enc dec (length text) read written (group_bits base.width width)
+          so_far.within pos (many / dec) count
+          (subst (λ n. 8 * written ≤ base.width * n) (sym exact) few_written)
+          (omega (arith, exact, few_kept)) h)
+
+    -- and for the last of an unpadded text, perhaps shorter
+    pub room-group : (count : ℕ) → is_padded base ≡ false → count ≤ length text - read
+        → written + base.width * count / 8 ≤ most_bytes base (length text)
+    room-group count is h =
+        let bits = room-bits base.width enc dec (length text) read written
+        (group_bits base.width width) so_far.within few_bits count h in
+        subst (λ most. written + base.width * count / 8 ≤ most)
+        (sym (most_bytes-by base (length text) false is)) (omega (arith, bits))
+
+    -- the bytes of what was read
+    pub sound_bytes-front : sound_bytes base (take read text) ≡ take written output
+    sound_bytes-front =
+        ap (flat_map (bytes_of_group base))
+        (sound-all base false ended (groups base (take read text)) so_far.sound)
+        ∙ sym so_far.writes
+
+    -- where nothing is left, the text has no fault, and means what was written
+    pub at-end : length_fault base (length text) ≡ None → kept_from base read text ≡ []
+        → (fault_of base text ≡ None) × (sound_bytes base text ≡ take written output)
+        × Means base text (take written output)
+    at-end no_length_fault none_left =
+        let front : groups base text ≡ groups base (take read text) =
+        ap (runs dec) (kept-split base read text so_far.within
+        ∙ ap (λ l. kept base (take read text) ++ l) none_left
+        ∙ append-nil (kept base (take read text))) in
+        let fine : fault_of base text ≡ None =
+        (λ i. or_else (no_length_fault i) (first_after false base (front i)))
+        ∙ first-none base false ended (groups base (take read text)) so_far.sound in
+        let bytes : sound_bytes base text ≡ take written output =
+        ap (λ gs. flat_map (bytes_of_group base) (sound_after false base gs)) front
+        ∙ sound_bytes-front in
+        (fine, bytes, subst (Means base text) bytes (Means-no_fault base width text fine))

@@ -1,0 +1,103 @@
+-- How many bytes groups have, and the room that is left for others.
+use Rattle.std.proofs.Common.{◌≡◌, ℕ, suc, ◌+◌, ◌-◌, ◌*◌, ◌/◌, ◌%◌, ◌<◌, ◌≤◌, List, [], ◌∷◌, ◌++◌, length, take, Option, Some, None, ap, ◌∙◌, arith, length-append, length-take-le, ⊎_elim}
+use Rattle.std.proofs.Math.Nat.{mul-add, add-mul, mul_left_comm, mul-le-mul_left, mul-le-mul_right, le-div_iff_mul-le}
+use Rattle.std.proofs.lemmas.Bool.{cases_lt}
+use Rattle.std.proofs.lemmas.Nat.{div-add-mod'}
+use Rattle.std.proofs.lemmas.List.{length-map}
+use Rattle.std.specs.Prelude.{flat_map}
+use Rattle.std.specs.List.{filter_map, cons_option}
+use Rattle.data_encoding.specs.Base.{Base, meaning, value_of}
+use Rattle.data_encoding.specs.Bits.{number_of, runs}
+use Rattle.data_encoding.specs.Grammar.{Positioned}
+use Rattle.data_encoding.specs.Fault.{symbol_bits, bytes_of_group}
+use Rattle.data_encoding.proofs.lists.RunLemmas.{length-runs}
+use Rattle.data_encoding.proofs.grammar.UnpaddedGroupLemmas.{values_in, length-bits_of_values}
+
+-- between two multiples there is a whole group or more
+pub multiples : (size m n : ℕ) → m % size ≡ 0 → n % size ≡ 0 → m < n → m + size ≤ n
+multiples size m n h k less =
+    let whole_m : m ≡ m / size * size = omega (arith, div-add-mod' m size, h) in
+    let whole_n : n ≡ n / size * size = omega (arith, div-add-mod' n size, k) in
+    ⊎_elim {C = m + size ≤ n}
+    (λ (more : m / size < n / size).
+    let next : (m / size + 1) * size ≤ n / size * size =
+    mul-le-mul_right size (omega (arith, more)) in
+    omega (arith, add-mul (m / size) 1 size, next, whole_m, whole_n))
+    (λ (few : n / size ≤ m / size).
+    let least : n / size * size ≤ m / size * size = mul-le-mul_right size few in
+    absurd (omega (arith, least, whole_m, whole_n, less)))
+    (cases_lt (m / size) (n / size))
+
+length-filter_map : {X Y : Type 0} (f : X → Option Y) (xs : List X)
+    → length (filter_map f xs) ≤ length xs
+length-filter_map f [] = omega arith
+length-filter_map {X = X} {Y = Y} f (x ∷ xs) = by (f x) (length-filter_map f xs) where
+  by : (o : Option Y) → length (filter_map f xs) ≤ length xs
+      → length (cons_option o (filter_map f xs)) ≤ suc (length xs)
+  by None h = omega (arith, h)
+  by (Some y) h = omega (arith, h)
+
+length-bytes_of_group : (base : Base) (group : List Positioned)
+    → 8 * length (bytes_of_group base group) ≤ base.width * length group
+length-bytes_of_group base group =
+    let bits = symbol_bits base group in
+    let front = take (length bits / 8 * 8) bits in
+    let front_len : length front ≡ length bits / 8 * 8 =
+    length-take-le (length bits / 8 * 8) bits (omega arith) in
+    let count : length (bytes_of_group base group) ≡ (length front + 7) / 8 =
+    length-map (runs 8 front) (number_of base.order) ∙ length-runs 8 front in
+    let all : length bits ≡ base.width * length (values_in base group) =
+    length-bits_of_values base.order base.width (values_in base group) in
+    let few : base.width * length (values_in base group) ≤ base.width * length group =
+    mul-le-mul_left base.width
+    (length-filter_map (λ (k : Positioned). value_of (meaning base k.byte)) group) in
+    omega (arith, count, front_len, all, few)
+
+-- as many bits at most as symbols have
+pub length-bytes_of_groups : (base : Base) (groups : List (List Positioned))
+    → 8 * length (flat_map (bytes_of_group base) groups)
+    ≤ base.width * length (flat_map (λ group. group) groups)
+length-bytes_of_groups base [] = omega arith
+length-bytes_of_groups base (group ∷ groups) =
+    let bytes = length-append (bytes_of_group base group) (flat_map (bytes_of_group base) groups) in
+    let symbols : base.width * length (group ++ flat_map (λ g. g) groups)
+    ≡ base.width * length group + base.width * length (flat_map (λ g. g) groups) =
+    ap (λ n. base.width * n) (length-append group (flat_map (λ g. g) groups))
+    ∙ mul-add base.width (length group) (length (flat_map (λ g. g) groups)) in
+    omega (
+      arith,
+      bytes,
+      symbols,
+      length-bytes_of_group base group,
+      length-bytes_of_groups base groups,
+    )
+
+-- Of a text of so many symbols, some are read, and the bytes of no more written.
+module _ (width enc dec len read written : ℕ) (same : width * dec ≡ 8 * enc) (within : read ≤ len)
+  where
+    regroup : (count : ℕ) → width * (count * dec) ≡ 8 * (count * enc)
+    regroup count =
+        mul_left_comm width count dec ∙ ap (λ n. count * n) same ∙ mul_left_comm count 8 enc
+
+    -- there is room for as many bits as are left
+    pub room-bits : 8 * written ≤ width * read → (more : ℕ) → more ≤ len - read
+        → 8 * written + width * more ≤ width * len
+    room-bits h more few =
+        let all : width * (read + more) ≤ width * len =
+        mul-le-mul_left width (omega (arith, few, within)) in
+        omega (arith, mul-add width read more, all, h)
+
+    pub room-plain : 8 * written ≤ width * read → (count : ℕ) → count * dec ≤ len - read
+        → written + count * enc ≤ width * len / 8
+    room-plain h count few =
+        omega (arith, room-bits h (count * dec) few, regroup count)
+
+    -- and for as many whole groups, where whole ones were read
+    pub room-whole : 0 < dec → (q count : ℕ) → 8 * written ≤ width * (q * dec) → q * dec ≤ read
+        → count * dec ≤ len - read → written + count * enc ≤ len / dec * enc
+    room-whole pos q count h before few =
+        let fits : (q + count) * dec ≤ len =
+        omega (arith, add-mul q count dec, before, few, within) in
+        let least : q + count ≤ len / dec =
+        (le-div_iff_mul-le {k = dec} {x = q + count} {y = len} pos).1 fits in
+        omega (arith, regroup q, h, add-mul q count enc, mul-le-mul_right enc least)

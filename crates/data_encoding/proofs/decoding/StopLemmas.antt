@@ -1,0 +1,332 @@
+-- Where a decoding stops: at the first faulty group.
+use Rattle.std.proofs.Common.{◌≡◌, ℕ, ◌+◌, ◌-◌, ◌*◌, ◌/◌, ◌%◌, ◌<◌, ◌≤◌, ◌==◌, Bool, true, false, not, cond, ◌&&◌, ◌||◌, nat_lt, List, [], ◌∷◌, ◌++◌, length, take, drop, Option, Some, None, is_some, IsOkAnd, refl, sym, ap, ◌∙◌, subst, arith, length-take-le, ⊎_elim}
+use Rattle.std.proofs.lemmas.Bool.Decides.{nat_tests}
+use Rattle.std.proofs.lemmas.Nat.{div-add-mod'}
+use Rattle.std.proofs.lemmas.List.{length-drop, append-nil}
+use Rattle.std.proofs.Math.Nat.{mul-add, mul_left_comm}
+use Rattle.std.specs.Prelude.{flat_map}
+use Rattle.std.specs.List.{list_any, position}
+use Rattle.data_encoding.specs.declared.error.DecodeError.{DecodeError}
+use Rattle.data_encoding.specs.declared.error.DecodeKind.TheVariants.{Length as LengthFault, Symbol as SymbolFault, Trailing as TrailingFault, Padding as PaddingFault}
+use Rattle.data_encoding.specs.declared.error.DecodePartial.{DecodePartial}
+use Rattle.data_encoding.specs.Base.{Base, meaning, is_symbol, is_padded, ignores_some, group_bytes, group_symbols, IsWidth}
+use Rattle.data_encoding.specs.Bits.{runs}
+use Rattle.data_encoding.specs.Grammar.{Positioned, positioned_from, kept, groups, is_final, Means}
+use Rattle.data_encoding.specs.Lengths.{is_valid_count, is_valid_length, length_fault, decoded_len}
+use Rattle.data_encoding.specs.Fault.{position_of, fault_at, fault_at_first, trailing_bits, symbols_fault, plain_fault, padded_fault_at, count_before_padding, group_fault, fault_after, or_else, first_after, sound_after, fault_of, sound_groups, sound_bytes}
+use Rattle.data_encoding.specs.Partial.{StopsAt, position_after, sound_len, read_len, is_length_fault, is_sound_run, partial_at, partial_by, partial_of}
+use Rattle.data_encoding.proofs.digits.WidthLemmas.{group_bits, group_symbols-pos}
+use Rattle.data_encoding.proofs.lists.RunLemmas.{runs-nil, runs-append, runs-join, runs-short, flat_map-runs}
+use Rattle.data_encoding.proofs.grammar.PositionLemmas.{length-kept_plain, length-positioned_from, filter-plain}
+use Rattle.data_encoding.proofs.grammar.KeptLemmas.{kept_from, between, kept-split, kept_from-more, kept_in-stands, length-between}
+use Rattle.data_encoding.proofs.grammar.LengthLemmas.{length_fault-none, length_fault-valid, is_valid_length-by}
+use Rattle.data_encoding.proofs.grammar.GroupLemmas.{group_fault-inside, plain_fault-valid, whole-valid}
+use Rattle.data_encoding.proofs.grammar.SoundLemmas.{first-AreSound, sound-AreSound, first-none}
+use Rattle.data_encoding.proofs.grammar.MeaningLemmas.{Means-no_fault, sound_bytes-Means, decoded_len-Means}
+use Rattle.data_encoding.proofs.decoding.RoomLemmas.{multiples}
+use Rattle.data_encoding.proofs.decoding.ProgressLemmas.{HasDecodedTo, IsNext, whole-before, written_len, sound_bytes-front}
+
+-- so many symbols of whole groups have whole bytes
+whole_bits : (width enc dec count : ℕ) → width * dec ≡ 8 * enc → count % dec ≡ 0
+    → width * count ≡ 8 * (count / dec * enc)
+whole_bits width enc dec count same exact =
+    let all : count ≡ count / dec * dec = omega (arith, div-add-mod' count dec, exact) in
+    ap (λ n. width * n) all ∙ mul_left_comm width (count / dec) dec
+    ∙ ap (λ n. count / dec * n) same ∙ mul_left_comm (count / dec) 8 enc
+
+module _ (base : Base) (width : IsWidth base.width) (len : ℕ)
+    (exact : len % group_symbols base.width ≡ 0) where
+  bits : base.width * len ≡ 8 * (len / group_symbols base.width * group_bytes base.width)
+  bits =
+      whole_bits base.width (group_bytes base.width) (group_symbols base.width) len
+      (group_bits base.width width) exact
+
+  -- the length of whole groups is valid
+  whole-length : is_valid_length base len ≡ true
+  whole-length = by (is_padded base) refl where
+    by : (b : Bool) → is_padded base ≡ b → is_valid_length base len ≡ true
+    by true is = is_valid_length-by base len true is ∙ grind (arith, nat_tests)
+    by false is =
+        let none_over : base.width * len % 8 ≡ 0 = omega (arith, bits) in
+        is_valid_length-by base len false is
+        ∙ ap (λ n. nat_lt n base.width) none_over ∙ grind (arith, nat_tests, width.some)
+
+-- the kind of a fault of symbols, or of padding
+kind_of : (fault error : DecodeError) → Some fault ≡ Some error
+    → is_length_fault fault.kind ≡ false → is_length_fault error.kind ≡ false
+kind_of fault error h k =
+    let same : fault ≡ error = cc in subst (λ x. is_length_fault x.kind ≡ false) same k
+
+kind_by : (o : Option ℕ) (trails : Bool) (group : List Positioned) (last : ℕ) (error : DecodeError)
+    → fault_at_first o group (cond trails (fault_at TrailingFault group last) None) ≡ Some error
+    → is_length_fault error.kind ≡ false
+kind_by (Some index) trails group last error h =
+    kind_of (record { position = position_of group index; kind = SymbolFault }) error h refl
+kind_by None true group last error h =
+    kind_of (record { position = position_of group last; kind = TrailingFault }) error h refl
+kind_by None false group last error h = cc
+
+kind-symbols : (base : Base) (group : List Positioned) (error : DecodeError)
+    → symbols_fault base group ≡ Some error → is_length_fault error.kind ≡ false
+kind-symbols base group error h =
+    kind_by (position (λ k. not (is_symbol (meaning base k.byte))) group)
+    (base.checks_trailing_bits && list_any (λ bit. not (bit == 0)) (trailing_bits base group)) group
+    (length group - 1) error h
+
+kind-padding : (base : Base) (group : List Positioned) (bad : Bool) (count : ℕ)
+    (error : DecodeError)
+    → cond bad (fault_at PaddingFault group count) (symbols_fault base (take count group))
+    ≡ Some error
+    → is_length_fault error.kind ≡ false
+kind-padding base group true count error h =
+    kind_of (record { position = position_of group count; kind = PaddingFault }) error h refl
+kind-padding base group false count error h = kind-symbols base (take count group) error h
+
+-- a whole group has no fault of a length, nor has an unpadded one of a valid number
+kind-group : (base : Base) (group : List Positioned) (error : DecodeError) (b : Bool)
+    → is_padded base ≡ b
+    → cond b (nat_lt (length group) (group_symbols base.width) ≡ false)
+    (is_valid_count base.width (length group) ≡ true)
+    → group_fault base group ≡ Some error → is_length_fault error.kind ≡ false
+kind-group base group error true is whole h =
+    let count = count_before_padding base group in
+    let bad = count == 0 || not (is_valid_count base.width count) in
+    kind-padding base group bad count error
+    (sym (ap (λ b. cond b (fault_at LengthFault group 0)
+    (cond bad (fault_at PaddingFault group count) (symbols_fault base (take count group)))) whole)
+    ∙ sym (ap (λ b. cond b (padded_fault_at base group count) (plain_fault base group)) is) ∙ h)
+kind-group base group error false is valid h =
+    kind-symbols base group error
+    (sym (plain_fault-valid base group valid)
+    ∙ sym (ap (λ b. cond b (padded_fault_at base group (count_before_padding base group))
+    (plain_fault base group)) is)
+    ∙ h)
+
+module _ (base : Base) (width : IsWidth base.width) (text : List ℕ) (read written : ℕ)
+    (ended : Bool) (output : List ℕ) (so_far : HasDecodedTo base text read written ended output)
+    (no_length_fault : length_fault base (length text) ≡ None) (stop : ℕ) (group : List Positioned)
+    (error : DecodeError) (next : IsNext base text read stop group)
+    (faulty : fault_after ended base group ≡ Some error) where
+  abbrev dec : ℕ
+  dec = group_symbols base.width
+
+  pos : 0 < dec
+  pos = group_symbols-pos base.width width
+
+  whole : length (kept base (take read text)) % dec ≡ 0
+  whole = whole-before base width text read written ended output stop group so_far next.is_part
+
+  rest_is : kept_from base read text ≡ group ++ kept_from base stop text
+  rest_is =
+      kept_from-more base read text so_far.within stop next.is_part.after next.is_part.within
+      ∙ ap (λ l. l ++ kept_from base stop text) (sym next.is_part.is_kept)
+
+  others : List (List Positioned)
+  others = runs dec (kept_from base stop text)
+
+  groups_left : runs dec (group ++ kept_from base stop text) ≡ group ∷ others
+  unfolding others
+  groups_left =
+      ⊎_elim {C = runs dec (group ++ kept_from base stop text) ≡ group ∷ others}
+      (λ len. runs-append dec group (kept_from base stop text) pos len)
+      (λ none.
+      ap (λ l. runs dec (group ++ l)) none ∙ ap (runs dec) (append-nil group)
+      ∙ runs-short dec group next.is_part.some next.few
+      ∙ ap (λ gs. group ∷ gs) (sym (runs-nil {X = Positioned} dec pos) ∙ ap (runs dec) (sym none)))
+      next.last
+
+  groups_are : groups base text ≡ groups base (take read text) ++ group ∷ others
+  groups_are =
+      ap (runs dec) (kept-split base read text so_far.within
+      ∙ ap (λ l. kept base (take read text) ++ l) rest_is)
+      ∙ runs-join dec (kept base (take read text)) (group ++ kept_from base stop text) pos whole
+      ∙ ap (λ l. groups base (take read text) ++ l) groups_left
+
+  fault_is : fault_of base text ≡ Some error
+  fault_is =
+      (λ i. or_else (no_length_fault i) (first_after false base (groups_are i)))
+      ∙ first-AreSound base false ended (groups base (take read text)) (group ∷ others) so_far.sound
+      ∙ ap (λ o. or_else o (first_after (is_final base group) base others)) faulty
+
+  sound_are : sound_groups base (groups base text) ≡ groups base (take read text)
+  sound_are =
+      ap (sound_after false base) groups_are
+      ∙ sound-AreSound base false ended (groups base (take read text)) (group ∷ others) so_far.sound
+      ∙ ap (λ o. groups base (take read text) ++ cond (is_some o) []
+      (group ∷ sound_after (is_final base group) base others)) faulty
+      ∙ append-nil (groups base (take read text))
+
+  sound_len_is : sound_len base text ≡ read
+  sound_len_is =
+      ap (λ gs. position_after (flat_map (λ g. g) gs)) sound_are
+      ∙ ap position_after (flat_map-runs dec (kept base (take read text)) pos) ∙ so_far.ends
+
+  front_sound : fault_of base (take read text) ≡ None
+  front_sound =
+      let valid : length_fault base (length (take read text)) ≡ None =
+      length_fault-none base (length (take read text))
+      (λ none. whole-length base width (length (take read text))
+      (ap (λ n. n % dec) (sym (length-kept_plain base (take read text) none)) ∙ whole)) in
+      ap (λ o. or_else o (first_after false base (groups base (take read text)))) valid
+      ∙ first-none base false ended (groups base (take read text)) so_far.sound
+
+  fault_inside : (index : ℕ) × (index < length group) × (error.position ≡ position_of group index)
+  fault_inside = by ended faulty where
+    by : (b : Bool) → fault_after b base group ≡ Some error
+        → (index : ℕ) × (index < length group) × (error.position ≡ position_of group index)
+    by true h =
+        let first : DecodeError = record { position = position_of group 0; kind = PaddingFault } in
+        let same : first ≡ error = cc in
+        (0, next.is_part.some, sym (ap (λ (x : DecodeError). x.position) same))
+    by false h =
+        group_fault-inside base width group next.is_part.some next.few error h
+
+  bounds : (read ≤ error.position) × (error.position < stop)
+  bounds =
+      let part = between read stop text in
+      let part_len = length-between base read text so_far.within stop next.is_part.after
+      next.is_part.within in
+      let stands = subst (λ g. fault_inside.0 < length g
+      → (read ≤ position_of g fault_inside.0) × (position_of g fault_inside.0 < stop))
+      (sym next.is_part.is_kept)
+      (kept_in-stands base read stop part fault_inside.0
+      (omega (arith, part_len, next.is_part.after))) fault_inside.1 in
+      subst (λ n. (read ≤ n) × (n < stop)) (sym fault_inside.2) stands
+
+  -- at a faulty group, the text has its fault
+  pub at-fault : is_length_fault error.kind ≡ false
+      → StopsAt base text output (record { read = read; written = written; error = error })
+  at-fault kind =
+      let read_is : read_len base text error ≡ read =
+      ap (λ b. cond (b && is_sound_run base (drop (sound_len base text) text)) error.position
+      (sound_len base text)) kind
+      ∙ sound_len_is in
+      let bytes : sound_bytes base (take read text) ≡ take written output =
+      sound_bytes-front base width text read written ended output so_far in
+      let written_is : length (sound_bytes base (take read text)) ≡ written =
+      ap length bytes ∙ written_len base width text read written ended output so_far in
+      record {
+        is_partial =
+            ap (partial_by base text) fault_is
+            ∙ ap (λ k. Some (record {
+              read = k;
+              written = length (sound_bytes base (take k text));
+              error = error;
+            })) read_is
+            ∙ ap (λ k. Some (record { read = read; written = k; error = error })) written_is;
+        means = subst (Means base (take read text)) bytes
+            (Means-no_fault base width (take read text) front_sound);
+        read_before = bounds.0;
+        within = omega (arith, bounds.1, next.is_part.within);
+      }
+
+  module _ (none : ignores_some base ≡ false) where
+    read_whole : read % dec ≡ 0
+    read_whole =
+        ap (λ n. n % dec)
+        (sym (length-kept_plain base (take read text) none
+        ∙ length-take-le read text so_far.within))
+        ∙ whole
+
+    group_len : length group ≡ stop - read
+    group_len =
+        ap length next.is_part.is_kept
+        ∙ ap length (filter-plain base none (positioned_from read (between read stop text)))
+        ∙ length-positioned_from read (between read stop text)
+        ∙ length-between base read text so_far.within stop next.is_part.after next.is_part.within
+
+    last_stop : kept_from base stop text ≡ [] → read + length group ≡ length text
+    last_stop empty =
+        let left : length (drop stop text) ≡ 0 =
+        sym (length-positioned_from stop (drop stop text))
+        ∙ ap length
+        (sym (filter-plain base none (positioned_from stop (drop stop text))) ∙ empty) in
+        omega (
+          arith,
+          length-drop stop text,
+          left,
+          group_len,
+          next.is_part.after,
+          next.is_part.within,
+        )
+
+    -- where nothing is ignored, that is no fault of a length
+    pub kind-next : is_length_fault error.kind ≡ false
+    kind-next = by ended faulty where
+      whole_or_valid : (b : Bool) → is_padded base ≡ b
+          → cond b (nat_lt (length group) dec ≡ false)
+          (is_valid_count base.width (length group) ≡ true)
+      whole_or_valid true is =
+          ⊎_elim {C = nat_lt (length group) dec ≡ false}
+          (λ len. grind (arith, nat_tests, len))
+          (λ empty.
+          let sum = last_stop empty in
+          let valid : (length text % dec == 0) ≡ true =
+          sym (is_valid_length-by base (length text) true is)
+          ∙ length_fault-valid base (length text) no_length_fault none in
+          let exact : length text % dec ≡ 0 = grind (arith, nat_tests) in
+          let more = multiples dec read (length text) read_whole exact
+          (omega (arith, sum, next.is_part.some)) in
+          let least : dec ≤ length group = omega (arith, more, sum) in
+          grind (arith, nat_tests))
+          next.last
+      whole_or_valid false is =
+          ⊎_elim {C = is_valid_count base.width (length group) ≡ true}
+          (λ len. ap (is_valid_count base.width) len ∙ whole-valid base.width width)
+          (λ empty.
+          let sum = last_stop empty in
+          let valid : is_valid_count base.width (length text) ≡ true =
+          sym (is_valid_length-by base (length text) false is)
+          ∙ length_fault-valid base (length text) no_length_fault none in
+          let all : base.width * length text
+          ≡ base.width * read + base.width * length group =
+          ap (λ n. base.width * n) (sym sum) ∙ mul-add base.width read (length group) in
+          let before = bits base width read read_whole in
+          let same : base.width * length group % 8 ≡ base.width * length text % 8 =
+          omega (arith, all, before) in
+          ap (λ n. nat_lt n base.width) same ∙ valid)
+          next.last
+
+      by : (b : Bool) → fault_after b base group ≡ Some error → is_length_fault error.kind ≡ false
+      by true h =
+          kind_of (record { position = position_of group 0; kind = PaddingFault }) error h refl
+      by false h =
+          kind-group base group error (is_padded base) refl (whole_or_valid (is_padded base) refl) h
+
+-- what has a fault means nothing
+pub fault-partial : (base : Base) (text : List ℕ) (partial : DecodePartial)
+    → partial_of base text ≡ Some partial → fault_of base text ≡ Some partial.error
+fault-partial base text partial h = by (fault_of base text) h where
+  by : (o : Option DecodeError) → partial_by base text o ≡ Some partial → o ≡ Some partial.error
+  by None h = cc
+  by (Some error) h =
+      let same : partial_at base text error ≡ partial = cc in
+      ap (λ (p : DecodePartial). Some p.error) same
+
+written-partial : (base : Base) (text : List ℕ) (partial : DecodePartial)
+    → partial_of base text ≡ Some partial
+    → partial.written ≡ length (sound_bytes base (take partial.read text))
+written-partial base text partial h = by (fault_of base text) h where
+  by : (o : Option DecodeError) → partial_by base text o ≡ Some partial
+      → partial.written ≡ length (sound_bytes base (take partial.read text))
+  by None h = cc
+  by (Some error) h =
+      let same : partial_at base text error ≡ partial = cc in
+      subst (λ (p : DecodePartial). p.written ≡ length (sound_bytes base (take p.read text))) same
+      refl
+
+-- no more is written than what was read may mean
+pub most-partial : (base : Base) → IsWidth base.width → (text output : List ℕ)
+    (partial : DecodePartial) → StopsAt base text output partial
+    → IsOkAnd (decoded_len base partial.read) (λ most. partial.written ≤ most)
+most-partial base width text output partial stops =
+    let front = take partial.read text in
+    let bytes = take partial.written output in
+    let read_len : length front ≡ partial.read =
+    length-take-le partial.read text (omega (arith, stops.read_before, stops.within)) in
+    let written_len : length bytes ≡ partial.written =
+    ap length (sym (sound_bytes-Means base width front bytes stops.means))
+    ∙ sym (written-partial base text partial stops.is_partial) in
+    subst (λ n. IsOkAnd (decoded_len base n) (λ most. partial.written ≤ most)) read_len
+    (subst (λ n. IsOkAnd (decoded_len base (length front)) (λ most. n ≤ most)) written_len
+    (decoded_len-Means base width front bytes stops.means))

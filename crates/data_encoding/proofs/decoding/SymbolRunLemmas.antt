@@ -1,0 +1,223 @@
+-- Runs of whole groups of symbols, one after the other.
+use Rattle.std.proofs.Common.{◌≡◌, ℕ, ◌+◌, ◌-◌, ◌*◌, ◌%◌, ◌<◌, ◌≤◌, true, List, ◌++◌, length, take, drop, get_or, slice_index, refl, sym, ap, ◌∙◌, subst, arith, length-take-le, ⊎_elim}
+use Rattle.std.proofs.Math.Seq.{take-add}
+use Rattle.std.proofs.Math.Nat.{add-mul, mul-mod_left, zero-mul}
+use Rattle.std.proofs.lemmas.Bool.{cases_lt}
+use Rattle.std.proofs.lemmas.List.{append-nil, get_or-take, get_or-drop, length-drop, take_all, take_at}
+use Rattle.std.proofs.lemmas.List.Concat.{flat_map-append}
+use Rattle.std.proofs.lemmas.Slice.{take-put_mid}
+use borrow.Rule.Slice.PartMut.{put_mid}
+use Rattle.std.specs.Prelude.{flat_map}
+use Rattle.data_encoding.specs.Base.{Base, IsWidth, meaning, is_symbol, group_bytes, group_symbols}
+use Rattle.data_encoding.specs.Bits.{runs}
+use Rattle.data_encoding.specs.Decoding.{IsRun}
+use Rattle.data_encoding.specs.Fault.{bytes_of_group}
+use Rattle.data_encoding.specs.Tables.{HoldsValues, IsGroup}
+use Rattle.data_encoding.specs.Grammar.{Positioned, positioned, positioned_from}
+use Rattle.data_encoding.proofs.digits.WidthLemmas.{group_symbols-pos}
+use Rattle.data_encoding.proofs.lists.RunLemmas.{runs-nil, runs-join, runs-short}
+use Rattle.data_encoding.proofs.grammar.PositionLemmas.{positioned_from-append, length-positioned_from, bytes-positioned_from}
+use Rattle.data_encoding.proofs.grammar.WholeGroupLemmas.{bytes_of_runs-same}
+
+module _ (base : Base) (width : IsWidth base.width) where
+  abbrev enc : ℕ
+  enc = group_bytes base.width
+
+  abbrev dec : ℕ
+  dec = group_symbols base.width
+
+  pos : 0 < dec
+  pos = group_symbols-pos base.width width
+
+  abbrev bytes_of : List Positioned → List ℕ
+  bytes_of ks = flat_map (bytes_of_group base) (runs dec ks)
+
+  -- no group
+  pub run-none : (part old new : List ℕ) → IsRun base part 0 old new
+  run-none part old new = record {
+    within = omega (arith, zero-mul dec);
+    are_symbols = λ k h. absurd (omega (arith, h, zero-mul dec));
+    bytes = ap (λ n. take n new) (zero-mul enc)
+        ∙ sym (ap (λ n. bytes_of (positioned (take n part))) (zero-mul dec)
+        ∙ ap (flat_map (bytes_of_group base)) (runs-nil {X = Positioned} dec pos));
+  }
+
+  kept : (part old output piece : List ℕ) (i k : ℕ) → IsRun base part i old output
+      → i * enc ≤ length output → IsRun base part i old (put_mid (i * enc) k output piece)
+  kept part old output piece i k run fits = record {
+    within = run.within;
+    are_symbols = run.are_symbols;
+    bytes = take_at (take (i * enc) output) (piece ++ drop k (drop (i * enc) output)) (i * enc)
+        (length-take-le (i * enc) output fits) ∙ run.bytes;
+  }
+
+  symbols-more : (part : List ℕ) (i m : ℕ)
+      → ((k : ℕ) → k < i * dec → is_symbol (meaning base (slice_index part k)) ≡ true)
+      → ((k : ℕ) → k < m * dec
+      → is_symbol (meaning base (slice_index (take (m * dec) (drop (i * dec) part)) k)) ≡ true)
+      → (k : ℕ) → k < (i + m) * dec → is_symbol (meaning base (slice_index part k)) ≡ true
+  symbols-more part i m first second k h =
+      ⊎_elim {C = is_symbol (meaning base (slice_index part k)) ≡ true}
+      (λ (less : k < i * dec). first k less)
+      (λ (past : i * dec ≤ k).
+      let j = k - i * dec in
+      let below : j < m * dec = omega (arith, h, past, add-mul i m dec) in
+      let back : i * dec + j ≡ k = omega (arith, past) in
+      let same : slice_index (take (m * dec) (drop (i * dec) part)) j ≡ slice_index part k =
+      get_or-take (m * dec) (drop (i * dec) part) j 0 below ∙ get_or-drop (i * dec) part j 0
+      ∙ ap (λ n. get_or part n 0) back in
+      subst (λ byte. is_symbol (meaning base byte) ≡ true) same (second j below))
+      (cases_lt k (i * dec))
+
+  bytes-more : (part : List ℕ) (i m : ℕ) → (i + m) * dec ≤ length part
+      → bytes_of (positioned (take (i * dec) part))
+      ++ bytes_of (positioned (take (m * dec) (take (m * dec) (drop (i * dec) part))))
+      ≡ bytes_of (positioned (take ((i + m) * dec) part))
+  bytes-more part i m within =
+      let front = take (i * dec) part in
+      let back = take (m * dec) (drop (i * dec) part) in
+      let sum : (i + m) * dec ≡ i * dec + m * dec = add-mul i m dec in
+      let front_len : length front ≡ i * dec =
+      length-take-le (i * dec) part (omega (arith, within, sum)) in
+      let back_len : length back ≡ m * dec =
+      length-take-le (m * dec) (drop (i * dec) part)
+      (omega (arith, within, sum, length-drop (i * dec) part)) in
+      let ks = positioned front in
+      let js = positioned_from (0 + length front) back in
+      let whole : length ks % dec ≡ 0 =
+      ap (λ n. n % dec) (length-positioned_from 0 front ∙ front_len) ∙ mul-mod_left i dec in
+      let again : take (m * dec) back ≡ back = take_all (m * dec) back (omega (arith, back_len)) in
+      let moved : bytes_of (positioned (take (m * dec) back)) ≡ bytes_of js =
+      bytes_of_runs-same base dec (positioned (take (m * dec) back)) js pos
+      (bytes-positioned_from 0 (take (m * dec) back) ∙ again
+      ∙ sym (bytes-positioned_from (0 + length front) back)) in
+      ap (λ l. bytes_of ks ++ l) moved
+      ∙ sym (flat_map-append (bytes_of_group base) (runs dec ks) (runs dec js))
+      ∙ ap (flat_map (bytes_of_group base)) (sym (runs-join dec ks js pos whole))
+      ∙ ap (λ l. bytes_of l) (sym (positioned_from-append 0 front back))
+      ∙ ap (λ l. bytes_of (positioned l)) (sym (take-add (i * dec) (m * dec) part))
+      ∙ ap (λ n. bytes_of (positioned (take n part))) (sym sum)
+
+  more : (part old output before piece : List ℕ) (i m k : ℕ) → (i + m) * dec ≤ length part
+      → i * enc ≤ length output → length piece ≡ m * enc → IsRun base part i old output
+      → IsRun base (take (m * dec) (drop (i * dec) part)) m before piece
+      → IsRun base part (i + m) old (put_mid (i * enc) k output piece)
+  more part old output before piece i m k within fits len first second =
+      let sum : (i + m) * enc ≡ i * enc + length piece =
+      add-mul i m enc ∙ ap (λ n. i * enc + n) (sym len) in
+      let all : take (m * enc) piece ≡ piece = take_all (m * enc) piece (omega (arith, len)) in
+      record {
+        within = within;
+        are_symbols = symbols-more part i m first.are_symbols second.are_symbols;
+        bytes = ap (λ n. take n (put_mid (i * enc) k output piece)) sum
+            ∙ take-put_mid (i * enc) k output piece (i * enc + length piece) refl fits
+            ∙ (λ j. first.bytes j ++ (sym all ∙ second.bytes) j)
+            ∙ bytes-more part i m within;
+      }
+
+  one : (group old piece : List ℕ) → length group ≡ dec
+      → ((k : ℕ) → k < length group → is_symbol (meaning base (slice_index group k)) ≡ true)
+      → length piece ≡ enc → piece ≡ bytes_of_group base (positioned group)
+      → IsRun base group 1 old piece
+  one group old piece len symbols piece_len is =
+      let all : take (1 * dec) group ≡ group =
+      take_all (1 * dec) group (omega (arith, len)) in
+      let ks = positioned group in
+      let ks_len : length ks ≡ dec = length-positioned_from 0 group ∙ len in
+      record {
+        within = omega (arith, len);
+        are_symbols = λ k h. symbols k (omega (arith, h, len));
+        bytes = take_all (1 * enc) piece (omega (arith, piece_len)) ∙ is
+            ∙ sym (ap (λ l. bytes_of (positioned l)) all
+            ∙ ap (flat_map (bytes_of_group base))
+            (runs-short dec ks (omega (arith, ks_len, pos)) (omega (arith, ks_len)))
+            ∙ append-nil (bytes_of_group base ks));
+      }
+
+-- the same, with the sizes of a group as they are called elsewhere
+module _ (base : Base) (width : IsWidth base.width) (w bytes symbols : ℕ)
+    (group : IsGroup w bytes symbols) (is : base.width ≡ w) where
+  same_bytes : group_bytes base.width ≡ bytes
+  same_bytes = ap group_bytes is ∙ sym group.has_bytes
+
+  same_symbols : group_symbols base.width ≡ symbols
+  same_symbols = ap group_symbols is ∙ sym group.has_symbols
+
+  -- what is written behind a run leaves it
+  pub run-kept : (part old output piece : List ℕ) (i k : ℕ) → i * bytes ≤ length output
+      → IsRun base part i old output → IsRun base part i old (put_mid (i * bytes) k output piece)
+  run-kept part old output piece i k fits run =
+      subst (λ n. i * n ≤ length output → IsRun base part i old (put_mid (i * n) k output piece))
+      same_bytes (kept base width part old output piece i k run) fits
+
+  -- more groups behind a run
+  run-more : (part old output before piece : List ℕ) (i m k : ℕ)
+      → (i + m) * symbols ≤ length part → i * bytes ≤ length output → length piece ≡ m * bytes
+      → IsRun base part i old output
+      → IsRun base (take (m * symbols) (drop (i * symbols) part)) m before piece
+      → IsRun base part (i + m) old (put_mid (i * bytes) k output piece)
+  run-more part old output before piece i m k =
+      subst (λ n. (i + m) * symbols ≤ length part → i * n ≤ length output → length piece ≡ m * n
+      → IsRun base part i old output
+      → IsRun base (take (m * symbols) (drop (i * symbols) part)) m before piece
+      → IsRun base part (i + m) old (put_mid (i * n) k output piece)) same_bytes
+      (subst (λ d. (i + m) * d ≤ length part → i * group_bytes base.width ≤ length output
+      → length piece ≡ m * group_bytes base.width → IsRun base part i old output
+      → IsRun base (take (m * d) (drop (i * d) part)) m before piece
+      → IsRun base part (i + m) old (put_mid (i * group_bytes base.width) k output piece))
+      same_symbols
+      (more base width part old output before piece i m k))
+
+  -- a group of symbols is a run
+  run-one : (part piece : List ℕ) → length part ≡ symbols
+      → ((k : ℕ) → k < length part → is_symbol (meaning base (slice_index part k)) ≡ true)
+      → length piece ≡ bytes → piece ≡ bytes_of_group base (positioned part)
+      → IsRun base part 1 piece piece
+  run-one part piece len are_symbols piece_len is_bytes =
+      one base width part piece piece (len ∙ sym same_symbols) are_symbols
+      (piece_len ∙ sym same_bytes) is_bytes
+
+  -- a run of the next groups, which stand between two positions, behind a run
+  pub run-next : (part old output before piece : List ℕ) (i m next k stop : ℕ) → next ≡ i + m
+      → stop ≡ i * symbols + m * symbols → stop ≤ length part → i * bytes ≤ length output
+      → length piece ≡ m * bytes → IsRun base part i old output
+      → IsRun base (take (stop - i * symbols) (drop (i * symbols) part)) m before piece
+      → IsRun base part next old (put_mid (i * bytes) k output piece)
+  run-next part old output before piece i m next k stop next_is stop_is within fits len first
+      second =
+      let sum : (i + m) * symbols ≡ stop = add-mul i m symbols ∙ sym stop_is in
+      let size : stop - i * symbols ≡ m * symbols = omega (arith, stop_is) in
+      subst (λ n. IsRun base part n old (put_mid (i * bytes) k output piece)) (sym next_is)
+      (run-more part old output before piece i m k (omega (arith, sum, within)) fits len first
+      (subst (λ n. IsRun base (take n (drop (i * symbols) part)) m before piece) size second))
+
+  -- a group of symbols behind a run
+  pub group-next : (values part old output piece : List ℕ) (i k stop : ℕ)
+      → stop ≡ i * symbols + symbols → stop ≤ length part → i * bytes ≤ length output
+      → length piece ≡ bytes → HoldsValues base values → IsRun base part i old output
+      → ((j : ℕ) → slice_index part j < 256)
+      → ((j : ℕ) → j < length (take (stop - i * symbols) (drop (i * symbols) part))
+      → slice_index values (slice_index (take (stop - i * symbols) (drop (i * symbols) part)) j) <
+      128)
+      → piece ≡ bytes_of_group base
+      (positioned (take (stop - i * symbols) (drop (i * symbols) part)))
+      → IsRun base part (i + 1) old (put_mid (i * bytes) k output piece)
+  group-next values part old output piece i k stop stop_is within fits len holds first bytes_fit
+      entries is_bytes =
+      let sub = take (stop - i * symbols) (drop (i * symbols) part) in
+      let size : stop - i * symbols ≡ symbols = omega (arith, stop_is) in
+      let sub_len : length sub ≡ symbols =
+      length-take-le (stop - i * symbols) (drop (i * symbols) part)
+      (omega (arith, length-drop (i * symbols) part, within)) ∙ size in
+      run-next part old output piece piece i 1 (i + 1) k stop refl (stop_is ∙ omega arith) within
+      fits
+      (omega (arith, len)) first
+      (run-one sub piece sub_len
+      (λ j h.
+      let is_byte : slice_index sub j < 256 =
+      subst (λ n. n < 256)
+      (sym (get_or-take (stop - i * symbols) (drop (i * symbols) part) j 0
+      (omega (arith, h, sub_len, size))
+      ∙ get_or-drop (i * symbols) part j 0)) (bytes_fit (i * symbols + j)) in
+      ap is_symbol (holds.symbols (slice_index sub j) is_byte (entries j h)))
+      len is_bytes)

@@ -1,0 +1,104 @@
+use Rattle.std.proofs.Common.{◌≡◌, ◌*◌, ◌/◌, ◌<◌, ◌≤◌, ◌==◌, ◌&&◌, false, not, length, take, drop, refl, sym, ap, ◌∙◌, subst, arith, length-take-le, ⊎_elim}
+use Rattle.std.proofs.Math.Nat.{mul-le-mul_left}
+use Rattle.std.proofs.lemmas.Bool.{cases_lt, false≢true}
+use Rattle.std.specs.List.{list_any}
+use Rattle.data_encoding.specs.Base.{Base}
+use Rattle.data_encoding.specs.Decoding.{HasFault}
+use Rattle.data_encoding.specs.Fault.{trailing_bits}
+use Rattle.data_encoding.specs.Grammar.{positioned}
+use Rattle.data_encoding.proofs.decoding.GroupJudgementLemmas.{group-sound, symbol-fault, trailing-fault}
+use Rattle.data_encoding.proofs.digits.WidthLemmas.{group_symbols-few}
+use Rattle.data_encoding.proofs.grammar.PositionLemmas.{bytes-positioned_from}
+use Rattle.data_encoding.proofs.tables.TableLemmas.{HoldsValues-seen}
+use Rattle.data_encoding.proofs.encoding.Encoding.decode_group.Goals as goal
+use Rattle.data_encoding.proofs.encoding.Encoding.decode_group.Goals.{else-self-via-then-self+else-has_trailing, else-self-via-else-self}
+
+pub decode_symbols-requires-clause-exact : goal.decode_symbols-requires-clause-exact
+decode_symbols-requires-clause-exact g c =
+    let count = c.in-Ok.count in
+    let group = c.args.group.now in
+    let few = c.in-Ok.ensures.symbols.within in
+    let most = mul-le-mul_left g.row.WIDTH few in
+    length-take-le (g.row.WIDTH * count / 8) c.args.output.now (omega (arith, most))
+    ∙ ap (λ n. g.row.WIDTH * n / 8) (sym (length-take-le count group few))
+
+pub returns-then-not-decode_symbols-clause-fault :
+    goal.returns-then-not-decode_symbols-clause-fault
+returns-then-not-decode_symbols-clause-fault g c =
+    let seen = c.args.self.now in
+    let group = c.args.group.now in
+    let count = c.in-Ok.count in
+    let symbols = take count group in
+    let found = c.symbol_position.result in
+    let inside : found < length symbols =
+    ⊎_elim
+    (λ (inside : found < length symbols). inside)
+    (λ (past : length symbols ≤ found).
+    absurd (false≢true (c.if-not-decode_symbols.ensures.symbols.1
+    (λ k below. c.symbol_position.ensures.before k (omega (arith, past, below))))))
+    (cases_lt found (length symbols)) in
+    subst (HasFault seen group) (sym c.faulty.ensures)
+    (symbol-fault seen c.self.inside.values
+    (HoldsValues-seen c.self.inside c.self.invariant seen c.self.view_is) group
+    (λ k. (c.type_inv.group k).fits) count c.in-Ok.ensures.symbols found inside
+    c.symbol_position.ensures.before (c.symbol_position.ensures.there inside))
+
+pub has_trailing-requires-clause-few : goal.has_trailing-requires-clause-few
+has_trailing-requires-clause-few g c =
+    let few = length-take-le c.in-Ok.count c.args.group.now c.in-Ok.ensures.symbols.within in
+    let most = group_symbols-few g.row.WIDTH c.requires.group.is_width in
+    omega (arith, few, most, c.in-Ok.ensures.symbols.within, c.requires.group.has_symbols)
+
+pub has_trailing-requires-clause-symbols : goal.has_trailing-requires-clause-symbols
+has_trailing-requires-clause-symbols g c = c.if-not-decode_symbols.ensures.symbols.0 refl
+
+pub overflow_sub-count : goal.overflow_sub-count
+overflow_sub-count g c =
+    let few = length-take-le c.in-Ok.count c.args.group.now c.in-Ok.ensures.symbols.within in
+    omega (arith, few, c.if-has_trailing.ensures.some refl)
+
+pub returns-then-has_trailing-clause-fault : goal.returns-then-has_trailing-clause-fault
+returns-then-has_trailing-clause-fault g c =
+    let seen = c.args.self.now in
+    let group = c.args.group.now in
+    let count = c.in-Ok.count in
+    let holds = HoldsValues-seen c.self.inside c.self.invariant seen c.self.view_is in
+    subst (HasFault seen group) (sym c.faulty-then-has_trailing.ensures)
+    (trailing-fault seen c.self.inside.values holds group (λ k. (c.type_inv.group k).fits) count
+    c.in-Ok.ensures.symbols (c.if-not-decode_symbols.ensures.symbols.0 refl)
+    (ap (λ (b : Base). b.checks_trailing_bits) (sym c.self.view_is) ∙ c.if-self.true)
+    (sym (c.if-has_trailing.ensures.any seen (positioned (take count group)) c.requires.width
+    (ap (λ (b : Base). b.order) (sym c.self.view_is)) holds
+    (bytes-positioned_from 0 (take count group))))
+    (c.if-has_trailing.ensures.some refl))
+
+pub returns-clause-sound : goal.returns-clause-sound
+returns-clause-sound g c =
+    let seen = c.args.self.now in
+    let group = c.args.group.now in
+    let count = c.in-Ok.count in
+    let ks = positioned (take count group) in
+    let few = c.in-Ok.ensures.symbols.within in
+    let most = mul-le-mul_left g.row.WIDTH few in
+    let holds = HoldsValues-seen c.self.inside c.self.invariant seen c.self.view_is in
+    let order = ap (λ (b : Base). b.order) (sym c.self.view_is) in
+    let checks = ap (λ (b : Base). b.checks_trailing_bits) (sym c.self.view_is) in
+    let quiet : (seen.checks_trailing_bits
+    && list_any (λ bit. not (bit == 0)) (trailing_bits seen ks)) ≡ false =
+    elim c.else-self.branch [
+      | else-self-via-then-self+else-has_trailing w ↦
+          (λ i. (checks ∙ w.if-self.true) i
+          && sym (w.if-has_trailing.ensures.any seen ks c.requires.width order holds
+          (bytes-positioned_from 0 (take count group))) i)
+      | else-self-via-else-self w ↦
+          ap (λ b. b && list_any (λ bit. not (bit == 0)) (trailing_bits seen ks))
+          (checks ∙ w.if-self.false)
+    ] in
+    group-sound seen c.self.inside.values holds group (λ k. (c.type_inv.group k).fits) count
+    c.in-Ok.ensures.symbols (c.if-not-decode_symbols.ensures.symbols.0 refl) quiet
+    c.decode_symbols.new.output (drop (g.row.WIDTH * count / 8) c.args.output.now)
+    (c.decode_symbols.auto.output
+    ∙ length-take-le (g.row.WIDTH * count / 8) c.args.output.now (omega (arith, most))
+    ∙ ap (λ w. w * count / 8) (sym c.requires.width))
+    (c.if-not-decode_symbols.ensures.bytes seen ks c.requires.width order holds
+    (bytes-positioned_from 0 (take count group)) refl)

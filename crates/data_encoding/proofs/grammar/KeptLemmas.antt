@@ -1,0 +1,121 @@
+-- The bytes of a text that are not ignored, part by part, and where they stand.
+use Rattle.std.proofs.Common.{◌≡◌, ℕ, ◌+◌, ◌-◌, ◌<◌, ◌≤◌, Bool, not, List, [], ◌∷◌, ◌++◌, length, take, drop, reverse, refl, sym, ap, ◌∙◌, arith, take-append-drop, length-take-le}
+use Rattle.std.proofs.lemmas.List.{length-drop, length-reverse, reverse-append, drop-drop, drop_all}
+use Rattle.std.proofs.lemmas.List.Elements.{filter-append, All-filter, All-from_recursion, All-get_or}
+use Rattle.std.proofs.Math.Seq.{take-add}
+use Rattle.std.specs.List.{AllByRecursion, filter}
+use Rattle.data_encoding.specs.Base.{Base, meaning, is_ignored}
+use Rattle.data_encoding.specs.Grammar.{Positioned, positioned_from, kept}
+use Rattle.data_encoding.specs.Fault.{position_of}
+use Rattle.data_encoding.specs.Partial.{position_after, position_after_first}
+use Rattle.data_encoding.proofs.grammar.PositionLemmas.{positioned_from-append}
+
+-- the bytes of a part, from this position on, that are not ignored
+abbrev pub kept_in : Base → ℕ → List ℕ → List Positioned
+kept_in base start part =
+    filter (λ k. not (is_ignored (meaning base k.byte))) (positioned_from start part)
+
+-- those of a text from a position on
+abbrev pub kept_from : Base → ℕ → List ℕ → List Positioned
+kept_from base read text = kept_in base read (drop read text)
+
+-- the part of a text between two positions
+abbrev pub between : ℕ → ℕ → List ℕ → List ℕ
+between read stop text = take (stop - read) (drop read text)
+
+module _ (base : Base) where
+  kept_in-append : (start : ℕ) (xs ys : List ℕ)
+      → kept_in base start (xs ++ ys) ≡ kept_in base start xs ++ kept_in base (start + length xs) ys
+  kept_in-append start xs ys =
+      let keeps : Positioned → Bool = λ k. not (is_ignored (meaning base k.byte)) in
+      ap (filter keeps) (positioned_from-append start xs ys)
+      ∙ filter-append keeps (positioned_from start xs) (positioned_from (start + length xs) ys)
+
+  module _ (read : ℕ) (text : List ℕ) (within : read ≤ length text) where
+    at_read : 0 + length (take read text) ≡ read
+    at_read = omega (arith, length-take-le read text within)
+
+    pub kept-split : kept base text ≡ kept base (take read text) ++ kept_from base read text
+    kept-split =
+        ap (kept base) (sym (take-append-drop read text))
+        ∙ kept_in-append 0 (take read text) (drop read text)
+        ∙ ap (λ n. kept base (take read text) ++ kept_in base n (drop read text)) at_read
+
+    module _ (stop : ℕ) (after : read ≤ stop) (inside : stop ≤ length text) where
+      sum : read + (stop - read) ≡ stop
+      sum = omega arith
+
+      pub length-between : length (between read stop text) ≡ stop - read
+      length-between =
+          length-take-le (stop - read) (drop read text)
+          (omega (arith, length-drop read text, inside))
+
+      pub kept-more : kept base (take stop text)
+          ≡ kept base (take read text) ++ kept_in base read (between read stop text)
+      kept-more =
+          ap (λ n. kept base (take n text)) (sym sum)
+          ∙ ap (kept base) (take-add read (stop - read) text)
+          ∙ kept_in-append 0 (take read text) (between read stop text)
+          ∙ ap (λ n. kept base (take read text) ++ kept_in base n (between read stop text)) at_read
+
+      pub kept_from-more : kept_from base read text
+          ≡ kept_in base read (between read stop text) ++ kept_from base stop text
+      kept_from-more =
+          let place : read + length (between read stop text) ≡ stop =
+          omega (arith, length-between) in
+          let rest : drop (stop - read) (drop read text) ≡ drop stop text =
+          drop-drop (stop - read) read text ∙ ap (λ n. drop n text) sum in
+          ap (kept_in base read) (sym (take-append-drop (stop - read) (drop read text)))
+          ∙ kept_in-append read (between read stop text) (drop (stop - read) (drop read text))
+          ∙ (λ i. kept_in base read (between read stop text) ++ kept_in base (place i) (rest i))
+
+  -- nothing is left after all of a text
+  pub nothing-left : (text : List ℕ) → kept_from base (length text) text ≡ []
+  nothing-left text =
+      ap (kept_in base (length text)) (drop_all (length text) text (omega arith))
+
+-- the position after the last of some is that of these and any before them
+after_first-append : (xs ys : List Positioned) → 0 < length xs
+    → position_after_first (xs ++ ys) ≡ position_after_first xs
+after_first-append [] ys h = absurd (omega (arith, h))
+after_first-append (x ∷ xs) ys h = refl
+
+pub position_after-append : (xs ys : List Positioned) → 0 < length ys
+    → position_after (xs ++ ys) ≡ position_after ys
+position_after-append xs ys h =
+    ap position_after_first (reverse-append xs ys)
+    ∙ after_first-append (reverse ys) (reverse xs) (omega (arith, length-reverse ys, h))
+
+pub position_after-positioned : (start : ℕ) (part : List ℕ) → 0 < length part
+    → position_after (positioned_from start part) ≡ start + length part
+position_after-positioned start [] h = absurd (omega (arith, h))
+position_after-positioned start (byte ∷ []) h = refl
+position_after-positioned start (byte ∷ other ∷ part) h =
+    position_after-append (record { position = start; byte = byte } ∷ [])
+    (positioned_from (start + 1) (other ∷ part))
+    (omega arith)
+    ∙ position_after-positioned (start + 1) (other ∷ part) (omega arith) ∙ omega arith
+
+-- each member stands in its part
+abbrev StandsIn : ℕ → ℕ → Positioned → Type 0
+StandsIn start stop k = (start ≤ k.position) × (k.position < stop)
+
+each_stands : (start stop n : ℕ) (part : List ℕ) → start ≤ n → n + length part ≤ stop
+    → AllByRecursion (StandsIn start stop) (positioned_from n part)
+each_stands start stop n [] low high = tt
+each_stands start stop n (byte ∷ part) low high = (
+  (low, omega (arith, high)),
+  each_stands start stop (n + 1) part (omega (arith, low)) (omega (arith, high)),
+)
+
+pub kept_in-stands : (base : Base) (start stop : ℕ) (part : List ℕ) (index : ℕ)
+    → start + length part ≤ stop → index < length (kept_in base start part)
+    → (start ≤ position_of (kept_in base start part) index)
+    × (position_of (kept_in base start part) index < stop)
+kept_in-stands base start stop part index h inside =
+    let keeps : Positioned → Bool = λ k. not (is_ignored (meaning base k.byte)) in
+    All-get_or (StandsIn start stop) (kept_in base start part) index
+    (record { position = 0; byte = 0 }) inside
+    (All-filter keeps (StandsIn start stop) (positioned_from start part)
+    (All-from_recursion (StandsIn start stop) (positioned_from start part)
+    (each_stands start stop start part (omega arith) h)))

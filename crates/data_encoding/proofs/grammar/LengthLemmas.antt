@@ -1,0 +1,68 @@
+-- The fault of a length, for every base.
+use Rattle.std.proofs.Common.{◌≡◌, ℕ, ◌*◌, ◌/◌, ◌%◌, ◌==◌, Bool, true, false, not, cond, ◌&&◌, Option, Some, None, Ok, Err, refl, ap}
+use Rattle.data_encoding.specs.declared.error.DecodeKind.TheVariants.{Length as LengthFault}
+use Rattle.data_encoding.specs.declared.error.DecodeError.{DecodeError}
+use Rattle.data_encoding.specs.Base.{Base, is_padded, ignores_some, group_bytes, group_symbols}
+use Rattle.data_encoding.specs.Lengths.{decoded_len, greatest_valid_count, greatest_valid_length, is_valid_count, is_valid_length, length_fault, most_bytes, unless_fault}
+
+none_from : (ignores valid : Bool) (fault : DecodeError) → (ignores ≡ false → valid ≡ true)
+    → cond (not ignores && not valid) (Some fault) None ≡ None
+none_from true valid fault h = refl
+none_from false valid fault h = ap (λ b. cond (not b) (Some fault) None) (h refl)
+
+valid_from : (ignores valid : Bool) (fault : DecodeError)
+    → cond (not ignores && not valid) (Some fault) None ≡ None → ignores ≡ false → valid ≡ true
+valid_from true valid fault h e = cc
+valid_from false true fault h e = refl
+valid_from false false fault h e = cc
+
+module _ (base : Base) (len : ℕ) where
+  pub length_fault-none : (ignores_some base ≡ false → is_valid_length base len ≡ true)
+      → length_fault base len ≡ None
+  length_fault-none h = none_from (ignores_some base) (is_valid_length base len) _ h
+
+  pub length_fault-valid : length_fault base len ≡ None → ignores_some base ≡ false
+      → is_valid_length base len ≡ true
+  length_fault-valid h = valid_from (ignores_some base) (is_valid_length base len) _ h
+
+  module _ (b : Bool) (padded : is_padded base ≡ b) where
+    pub is_valid_length-by : is_valid_length base len
+        ≡ cond b (len % group_symbols base.width == 0) (is_valid_count base.width len)
+    is_valid_length-by =
+        ap (λ p. cond p (len % group_symbols base.width == 0) (is_valid_count base.width len))
+        padded
+
+    pub most_bytes-by : most_bytes base len
+        ≡ cond b (len / group_symbols base.width * group_bytes base.width) (base.width * len / 8)
+    most_bytes-by =
+        ap (λ p. cond p (len / group_symbols base.width * group_bytes base.width)
+        (base.width * len / 8)) padded
+
+    pub greatest_valid_length-by : greatest_valid_length base len
+        ≡ cond b (len / group_symbols base.width * group_symbols base.width)
+        (greatest_valid_count base.width len)
+    greatest_valid_length-by =
+        ap (λ p. cond p (len / group_symbols base.width * group_symbols base.width)
+        (greatest_valid_count base.width len)) padded
+
+  -- how many bytes are due
+  pub decoded_len-valid : is_valid_length base len ≡ true
+      → decoded_len base len ≡ Ok (most_bytes base len)
+  decoded_len-valid valid =
+      ap (λ o. unless_fault o (most_bytes base len)) (length_fault-none (λ _. valid))
+
+  pub decoded_len-invalid : ignores_some base ≡ false → is_valid_length base len ≡ false
+      → decoded_len base len
+      ≡ Err (record { position = greatest_valid_length base len; kind = LengthFault })
+  decoded_len-invalid none invalid = λ i.
+      unless_fault (cond (not (none i) && not (invalid i))
+      (Some (record { position = greatest_valid_length base len; kind = LengthFault })) None)
+      (most_bytes base len)
+
+  pub decoded_len-counted : (count : ℕ) → decoded_len base len ≡ Ok count
+      → (length_fault base len ≡ None) × (most_bytes base len ≡ count)
+  decoded_len-counted count = by (length_fault base len) where
+    by : (o : Option DecodeError) → unless_fault o (most_bytes base len) ≡ Ok count
+        → (o ≡ None) × (most_bytes base len ≡ count)
+    by None h = (refl, cc)
+    by (Some fault) h = cc

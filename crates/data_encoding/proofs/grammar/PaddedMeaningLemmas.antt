@@ -1,0 +1,159 @@
+-- A text of a padded base means something exactly where it has no fault.
+use Rattle.std.proofs.Common.{◌≡◌, ℕ, zero, suc, ◌+◌, ◌*◌, ◌/◌, ◌%◌, ◌≤◌, Bool, true, false, List, [], ◌∷◌, ◌++◌, length, drop, None, refl, sym, ap, ◌∙◌, subst, arith, length-append, length-take}
+use Rattle.std.proofs.lemmas.Bool.Decides.{nat_tests}
+use Rattle.std.proofs.Math.Nat.{mul-mod_left, mul-le-mul_right, mul-le-mul_left, add_comm, zero-mul, suc-mul, le-div_iff_mul-le}
+use Rattle.std.specs.Prelude.{flat_map}
+use Rattle.std.specs.Simd.{first_chunks}
+use Rattle.std.specs.List.{AllByRecursion}
+use Rattle.data_encoding.specs.Base.{Base, is_padded, group_symbols, group_bytes, IsWidth}
+use Rattle.data_encoding.specs.Grammar.{Positioned, kept, groups, GroupMeans, GroupsMean, is_final}
+use Rattle.data_encoding.specs.Lengths.{length_fault, most_bytes}
+use Rattle.data_encoding.specs.Fault.{bytes_of_group, fault_after, fault_of, first_fault, or_else, sound_bytes}
+use Rattle.data_encoding.proofs.digits.WidthLemmas.{group_bits, group_symbols-pos}
+use Rattle.data_encoding.proofs.lists.RunLemmas.{flat_map-runs}
+use Rattle.data_encoding.proofs.grammar.UnpaddedGroupLemmas.{PlainMeans-count}
+use Rattle.data_encoding.proofs.grammar.GroupLemmas.{GroupMeans-sound, GroupMeans-no_fault, GroupMeans-bytes}
+use Rattle.data_encoding.proofs.grammar.PositionLemmas.{length-kept, length-kept_plain}
+use Rattle.data_encoding.proofs.grammar.LengthLemmas.{length_fault-none, is_valid_length-by, most_bytes-by}
+use Rattle.data_encoding.proofs.grammar.SoundLemmas.{AreSound, AreSound-none, ends_after, fault_after-none, neither_fault, first-none, sound-all}
+
+-- the groups of a text are no longer than a whole one
+few_in_chunks : {X : Type 0} (size count : ℕ) (xs : List X)
+    → AllByRecursion (λ (run : List X). length run ≤ size) (first_chunks size count xs)
+few_in_chunks size zero xs = tt
+few_in_chunks size (suc count) xs =
+    (omega (arith, length-take size xs), few_in_chunks size count (drop size xs))
+
+-- none follows one that ended
+none_follow : (base : Base) (ended : Bool) (gs : List (List Positioned))
+    → AreSound base true gs ended → gs ≡ []
+none_follow base ended [] h = refl
+none_follow base ended (g ∷ gs) h = let never = fault_after-none base true g h.0 in cc
+
+module _ (base : Base) (width : IsWidth base.width) (padded : is_padded base ≡ true) where
+  abbrev AreFew : List (List Positioned) → Type 0
+  AreFew gs = AllByRecursion (λ (g : List Positioned). length g ≤ group_symbols base.width) gs
+
+  -- groups without a fault mean their bytes joined
+  GroupsMean-sound : (begun ended : Bool) (gs : List (List Positioned)) → AreFew gs
+      → AreSound base begun gs ended → GroupsMean base gs (flat_map (bytes_of_group base) gs)
+  GroupsMean-sound begun ended [] few h = refl
+  GroupsMean-sound begun ended (g ∷ gs) few h = (
+    bytes_of_group base g,
+    flat_map (bytes_of_group base) gs,
+    refl,
+    GroupMeans-sound base width padded g few.0 (fault_after-none base begun g h.0).1,
+    (λ final. none_follow base ended gs (subst (λ b. AreSound base b gs ended) final h.1)),
+    GroupsMean-sound (is_final base g) ended gs few.1 h.1,
+  )
+
+  -- and groups that mean something have none
+  sound-GroupsMean : (begun : Bool) (gs : List (List Positioned)) (bytes : List ℕ)
+      → (begun ≡ true → gs ≡ []) → GroupsMean base gs bytes
+      → AreSound base begun gs (ends_after base begun gs)
+  sound-GroupsMean begun [] bytes last h = refl
+  sound-GroupsMean begun (g ∷ gs) bytes last h =
+      (here begun last, sound-GroupsMean (is_final base g) gs h.1 h.4 h.5) where
+        here : (b : Bool) → (b ≡ true → g ∷ gs ≡ []) → fault_after b base g ≡ None
+        here true none = let never = none refl in cc
+        here false none = GroupMeans-no_fault base width padded g h.0 h.3
+
+  bytes-GroupsMean : (gs : List (List Positioned)) (bytes : List ℕ) → GroupsMean base gs bytes
+      → flat_map (bytes_of_group base) gs ≡ bytes
+  bytes-GroupsMean [] bytes h = sym h
+  bytes-GroupsMean (g ∷ gs) bytes h =
+      (λ i. GroupMeans-bytes base width padded g h.0 h.3 i ++ bytes-GroupsMean gs h.1 h.5 i)
+      ∙ sym h.2
+
+  -- they are whole
+  whole-GroupsMean : (gs : List (List Positioned)) (bytes : List ℕ) → GroupsMean base gs bytes
+      → length (flat_map (λ g. g) gs) ≡ length gs * group_symbols base.width
+  whole-GroupsMean [] bytes h = sym (zero-mul (group_symbols base.width))
+  whole-GroupsMean (g ∷ gs) bytes h =
+      length-append g (flat_map (λ x. x) gs)
+      ∙ (λ i. h.3.is_whole i + whole-GroupsMean gs h.1 h.5 i)
+      ∙ add_comm (group_symbols base.width) (length gs * group_symbols base.width)
+      ∙ sym (suc-mul (length gs) (group_symbols base.width))
+
+  -- and each means at most the bytes of a whole group
+  most-GroupMeans : (g : List Positioned) (bytes : List ℕ) → GroupMeans base g bytes
+      → length bytes ≤ group_bytes base.width
+  most-GroupMeans g bytes means =
+      let count = PlainMeans-count base width means.symbols bytes means.means in
+      let few : length means.symbols ≤ group_symbols base.width =
+      omega (
+        arith,
+        sym (length-append means.symbols means.padding) ∙ ap length (sym means.is_group),
+        means.is_whole,
+      ) in
+      let bits = mul-le-mul_left base.width few in
+      omega (arith, count, bits, group_bits base.width width)
+
+  most-GroupsMean : (gs : List (List Positioned)) (bytes : List ℕ) → GroupsMean base gs bytes
+      → length bytes ≤ length gs * group_bytes base.width
+  most-GroupsMean [] bytes h = omega (arith, ap length h)
+  most-GroupsMean (g ∷ gs) bytes h =
+      omega (
+        arith,
+        ap length h.2,
+        length-append h.0 h.1,
+        most-GroupMeans g h.0 h.3,
+        most-GroupsMean gs h.1 h.5,
+        suc-mul (length gs) (group_bytes base.width),
+      )
+
+  module _ (text : List ℕ) where
+    pub padded-no_fault : fault_of base text ≡ None
+        → GroupsMean base (groups base text) (sound_bytes base text)
+    padded-no_fault h =
+        let gs = groups base text in
+        let none = neither_fault (length_fault base (length text)) (first_fault base gs) h in
+        let sound = AreSound-none base false gs none.1 in
+        subst (λ l. GroupsMean base gs (flat_map (bytes_of_group base) l))
+        (sym (sound-all base false (ends_after base false gs) gs sound))
+        (GroupsMean-sound false (ends_after base false gs) gs
+        (few_in_chunks (group_symbols base.width) _ (kept base text)) sound)
+
+    module _ (bytes : List ℕ) (means : GroupsMean base (groups base text) bytes) where
+      whole : length (kept base text) ≡ length (groups base text) * group_symbols base.width
+      whole =
+          ap length (sym (flat_map-runs (group_symbols base.width) (kept base text)
+          (group_symbols-pos base.width width)))
+          ∙ whole-GroupsMean (groups base text) bytes means
+
+      pub padded-no_length_fault : length_fault base (length text) ≡ None
+      padded-no_length_fault =
+          length_fault-none base (length text)
+          (λ none.
+          let exact : length text % group_symbols base.width ≡ 0 =
+          ap (λ n. n % group_symbols base.width) (sym (length-kept_plain base text none) ∙ whole)
+          ∙ mul-mod_left (length (groups base text)) (group_symbols base.width) in
+          is_valid_length-by base (length text) true padded ∙ grind (arith, nat_tests))
+
+      sound : AreSound base false (groups base text) (ends_after base false (groups base text))
+      sound = sound-GroupsMean false (groups base text) bytes (λ h. cc) means
+
+      pub no_fault-padded : fault_of base text ≡ None
+      no_fault-padded =
+          let gs = groups base text in
+          ap (λ o. or_else o (first_fault base gs)) padded-no_length_fault
+          ∙ first-none base false (ends_after base false gs) gs sound
+
+      pub sound_bytes-padded : sound_bytes base text ≡ bytes
+      sound_bytes-padded =
+          let gs = groups base text in
+          ap (flat_map (bytes_of_group base))
+          (sound-all base false (ends_after base false gs) gs sound)
+          ∙ bytes-GroupsMean gs bytes means
+
+      pub length-padded : length bytes ≤ most_bytes base (length text)
+      length-padded =
+          let count = length (groups base text) in
+          let fits : count * group_symbols base.width ≤ length text =
+          omega (arith, whole, length-kept base text) in
+          let few : count ≤ length text / group_symbols base.width =
+          (le-div_iff_mul-le {k = group_symbols base.width} {x = count} {y = length text}
+          (group_symbols-pos base.width width)).1 fits in
+          let most = mul-le-mul_right (group_bytes base.width) few in
+          subst (λ n. length bytes ≤ n) (sym (most_bytes-by base (length text) true padded))
+          (omega (arith, most-GroupsMean (groups base text) bytes means, most))

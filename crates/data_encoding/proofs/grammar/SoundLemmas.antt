@@ -1,0 +1,93 @@
+-- Groups without a fault, one after the other.
+use Rattle.std.proofs.Common.{◌≡◌, ℕ, Bool, true, false, not, cond, ◌&&◌, List, [], ◌∷◌, ◌++◌, map, Option, Some, None, is_some, refl, sym, ap, ◌∙◌, subst}
+use Rattle.std.proofs.lemmas.List.{append-nil}
+use Rattle.data_encoding.specs.declared.error.DecodeError.{DecodeError}
+use Rattle.data_encoding.specs.declared.encoding.Character.TheVariants.{Symbol}
+use Rattle.data_encoding.specs.Base.{Base, meaning, is_padding}
+use Rattle.data_encoding.specs.Grammar.{Positioned, is_final}
+use Rattle.data_encoding.specs.Fault.{fault_after, group_fault, or_else, first_after, sound_after}
+use Rattle.data_encoding.proofs.lists.ListLemmas.{AllFail, list_any-none}
+use Rattle.data_encoding.proofs.grammar.GroupLemmas.{symbols_alone, fail-meanings}
+
+-- whether one ended before them, and after them
+abbrev pub AreSound : Base → Bool → List (List Positioned) → Bool → Type 0
+AreSound base begun [] ended = begun ≡ ended
+AreSound base begun (group ∷ others) ended =
+    (fault_after begun base group ≡ None) × AreSound base (is_final base group) others ended
+
+-- whether one ended after them, sound or not
+abbrev pub ends_after : Base → Bool → List (List Positioned) → Bool
+ends_after base begun [] = begun
+ends_after base begun (group ∷ others) = ends_after base (is_final base group) others
+
+-- one without a fault stands after none that ended
+pub fault_after-none : (base : Base) (begun : Bool) (group : List Positioned)
+    → fault_after begun base group ≡ None → (begun ≡ false) × (group_fault base group ≡ None)
+fault_after-none base true group h = cc
+fault_after-none base false group h = (refl, h)
+
+-- symbols alone end nothing
+pub symbols-not_final : (base : Base) (group : List Positioned) (values : List ℕ)
+    → map (λ k. meaning base k.byte) group ≡ map (λ value. Symbol value) values
+    → is_final base group ≡ false
+symbols-not_final base group values h =
+    ap (λ b. not base.concatenates && b)
+    (list_any-none (λ k. is_padding (meaning base k.byte)) group
+    (fail-meanings base group (subst (AllFail is_padding) (sym h) (symbols_alone values))))
+    ∙ none (not base.concatenates) where
+      none : (b : Bool) → (b && false) ≡ false
+      none true = refl
+      none false = refl
+
+pub neither_fault : (o p : Option DecodeError) → or_else o p ≡ None → (o ≡ None) × (p ≡ None)
+neither_fault None p h = (refl, h)
+neither_fault (Some error) p h = cc
+
+module _ (base : Base) where
+  pub AreSound-append : (begun middle ended : Bool) (groups others : List (List Positioned))
+      → AreSound base begun groups middle → AreSound base middle others ended
+      → AreSound base begun (groups ++ others) ended
+  AreSound-append begun middle ended [] others h k =
+      subst (λ b. AreSound base b others ended) (sym h) k
+  AreSound-append begun middle ended (group ∷ groups) others h k =
+      (h.0, AreSound-append (is_final base group) middle ended groups others h.1 k)
+
+  -- the others decide
+  pub first-AreSound : (begun ended : Bool) (groups others : List (List Positioned))
+      → AreSound base begun groups ended
+      → first_after begun base (groups ++ others) ≡ first_after ended base others
+  first-AreSound begun ended [] others h = ap (λ b. first_after b base others) h
+  first-AreSound begun ended (group ∷ groups) others h =
+      ap (λ o. or_else o (first_after (is_final base group) base (groups ++ others))) h.0
+      ∙ first-AreSound (is_final base group) ended groups others h.1
+
+  pub sound-AreSound : (begun ended : Bool) (groups others : List (List Positioned))
+      → AreSound base begun groups ended
+      → sound_after begun base (groups ++ others) ≡ groups ++ sound_after ended base others
+  sound-AreSound begun ended [] others h = ap (λ b. sound_after b base others) h
+  sound-AreSound begun ended (group ∷ groups) others h =
+      ap (λ o. cond (is_some o) []
+      (group ∷ sound_after (is_final base group) base (groups ++ others))) h.0
+      ∙ ap (λ l. group ∷ l) (sound-AreSound (is_final base group) ended groups others h.1)
+
+  pub first-none : (begun ended : Bool) (groups : List (List Positioned))
+      → AreSound base begun groups ended → first_after begun base groups ≡ None
+  first-none begun ended groups h =
+      ap (first_after begun base) (sym (append-nil groups))
+      ∙ first-AreSound begun ended groups [] h
+
+  pub sound-all : (begun ended : Bool) (groups : List (List Positioned))
+      → AreSound base begun groups ended → sound_after begun base groups ≡ groups
+  sound-all begun ended groups h =
+      ap (sound_after begun base) (sym (append-nil groups))
+      ∙ sound-AreSound begun ended groups [] h ∙ append-nil groups
+
+  -- groups are sound where none has a fault
+  pub AreSound-none : (begun : Bool) (groups : List (List Positioned))
+      → first_after begun base groups ≡ None
+      → AreSound base begun groups (ends_after base begun groups)
+  AreSound-none begun [] h = refl
+  AreSound-none begun (group ∷ groups) h =
+      let both = neither_fault (fault_after begun base group)
+      (first_after (is_final base group) base groups) h in
+      (both.0, AreSound-none (is_final base group) groups both.1)

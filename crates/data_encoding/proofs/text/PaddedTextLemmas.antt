@@ -1,0 +1,152 @@
+-- The text of data with padding.
+use Rattle.std.proofs.Common.{◌≡◌, ℕ, zero, suc, ◌+◌, ◌-◌, ◌*◌, ◌<◌, ◌≤◌, true, false, Option, Some, None, IfSome, is_some, List, ◌++◌, length, take, drop, replicate, refl, sym, ap, ◌∙◌, subst, arith, length-append}
+use Rattle.std.proofs.Math.Nat.{mul_comm}
+use Rattle.std.proofs.lemmas.List.{length-replicate}
+use Rattle.std.specs.List.{AllByRecursion}
+use borrow.Rule.Slice.PartMut.{put_mid}
+use Rattle.data_encoding.specs.declared.encoding.Encoding.TheInside.{Inside}
+use Rattle.data_encoding.specs.Encoding.{base_of_tables, KeepsRules}
+use Rattle.data_encoding.specs.Base.{Base, symbol, is_padded, group_bytes, group_symbols, IsWidth}
+use Rattle.data_encoding.specs.Bits.{missing}
+use Rattle.data_encoding.specs.Text.{filled_with, in_lines, padded_text, plain_text, text_of, with_padding}
+use Rattle.data_encoding.proofs.digits.KernelLemmas.{filled_count}
+use Rattle.data_encoding.proofs.digits.WidthLemmas.{by_width, group_symbols-pos}
+use Rattle.data_encoding.proofs.lists.EachLemmas.{all_joined}
+use Rattle.data_encoding.proofs.lists.PartLemmas.{length-rest}
+use Rattle.data_encoding.proofs.lists.RunLemmas.{run_count}
+use Rattle.data_encoding.proofs.tables.TableLemmas.{IsWidth-seen}
+use Rattle.data_encoding.proofs.text.UnpaddedEncodeLemmas.{drop-put_mid_at}
+use Rattle.data_encoding.proofs.text.UnpaddedTextLemmas.{ascii-plain_text, length-plain_text}
+
+-- the symbols of data are as many groups as its bytes
+groups-same : (width : ℕ) → IsWidth width → (n : ℕ)
+    → run_count (group_symbols width) (run_count width (8 * n)) ≡ run_count (group_bytes width) n
+groups-same =
+    by_width (λ w. (n : ℕ)
+    → run_count (group_symbols w) (run_count w (8 * n)) ≡ run_count (group_bytes w) n)
+    (λ n. omega arith) (λ n. omega arith) (λ n. omega arith) (λ n. omega arith)
+    (λ n. omega arith) (λ n. omega arith)
+
+pub length-filled_with : (filler size : ℕ) (xs : List ℕ)
+    → length (filled_with filler size xs) ≡ length xs + missing size (length xs)
+length-filled_with filler size xs =
+    length-append xs (replicate (missing size (length xs)) filler)
+    ∙ ap (λ n. length xs + n) (length-replicate (missing size (length xs)) filler)
+
+-- where there are no lines
+pub text_of-unwrapped : (base : Base) (bytes : List ℕ) → base.wrapping ≡ None
+    → text_of base bytes ≡ padded_text base bytes
+text_of-unwrapped base bytes none = ap (λ o. in_lines o (padded_text base bytes)) none
+
+module _ (base : Base) (bytes : List ℕ) (width : IsWidth base.width) where
+  pub padded_text-unpadded : is_padded base ≡ false
+      → padded_text base bytes ≡ plain_text base bytes
+  padded_text-unpadded none = by_padding base.padding none where
+    by_padding : (o : Option ℕ) → is_some o ≡ false
+        → with_padding o (group_symbols base.width) (plain_text base bytes)
+        ≡ plain_text base bytes
+    by_padding None h = refl
+    by_padding (Some character) h = cc
+
+  pub length-unpadded : is_padded base ≡ false
+      → length (padded_text base bytes) ≡ run_count base.width (8 * length bytes)
+  length-unpadded none =
+      ap length (padded_text-unpadded none) ∙ length-plain_text base bytes width.some
+
+  filled : (character : ℕ) → base.padding ≡ Some character → padded_text base bytes
+      ≡ filled_with character (group_symbols base.width) (plain_text base bytes)
+  filled character some =
+      ap (λ o. with_padding o (group_symbols base.width) (plain_text base bytes)) some
+
+  -- the symbols and the padding are one after the other
+  module _ (count size : ℕ) (is : count ≡ run_count base.width (8 * length bytes))
+      (whole : size ≡ length (padded_text base bytes)) where
+    pub symbols-first : count ≤ size
+    symbols-first =
+        subst (λ n. count ≤ n) (sym whole)
+        (subst (λ n. n ≤ length (padded_text base bytes))
+        (length-plain_text base bytes width.some ∙ sym is) (by_padding base.padding)) where
+          by_padding : (o : Option ℕ) → length (plain_text base bytes)
+              ≤ length (with_padding o (group_symbols base.width) (plain_text base bytes))
+          by_padding None = omega arith
+          by_padding (Some character) =
+              omega (
+                arith,
+                length-filled_with character (group_symbols base.width) (plain_text base bytes),
+              )
+
+    pub padded_text-some : (character : ℕ) → base.padding ≡ Some character
+        → padded_text base bytes ≡ plain_text base bytes ++ replicate (size - count) character
+    padded_text-some character some =
+        let text = plain_text base bytes in
+        let len : length text ≡ count = length-plain_text base bytes width.some ∙ sym is in
+        let all = whole ∙ ap length (filled character some)
+        ∙ length-filled_with character (group_symbols base.width) text in
+        filled character some ∙ ap (λ n. text ++ replicate n character) (omega (arith, all, len))
+
+  -- whole groups
+  pub length-padded : is_padded base ≡ true
+      → length (padded_text base bytes)
+      ≡ run_count (group_bytes base.width) (length bytes) * group_symbols base.width
+  length-padded some =
+      let size = group_symbols base.width in
+      let text = plain_text base bytes in
+      by_padding base.padding some
+      ∙ filled_count size (length text) (group_symbols-pos base.width width)
+      ∙ ap (λ n. size * run_count size n) (length-plain_text base bytes width.some)
+      ∙ ap (λ n. size * n) (groups-same base.width width (length bytes))
+      ∙ mul_comm size (run_count (group_bytes base.width) (length bytes)) where
+        by_padding : (o : Option ℕ) → is_some o ≡ true
+            → length (with_padding o (group_symbols base.width) (plain_text base bytes))
+            ≡ length (plain_text base bytes)
+            + missing (group_symbols base.width) (length (plain_text base bytes))
+        by_padding None h = cc
+        by_padding (Some character) h =
+            length-filled_with character (group_symbols base.width) (plain_text base bytes)
+
+all-replicate : (P : ℕ → Type 0) (n x : ℕ) → P x → AllByRecursion P (replicate n x)
+all-replicate P zero x h = tt
+all-replicate P (suc n) x h = (h, all-replicate P n x h)
+
+-- a text of ASCII symbols and ASCII padding is ASCII
+pub ascii-padded_text : (base : Base) (bytes : List ℕ) → ((value : ℕ) → symbol base value < 128)
+    → IfSome base.padding (λ character. character < 128)
+    → AllByRecursion (λ byte. byte < 128) (padded_text base bytes)
+ascii-padded_text base bytes symbols padding = by_padding base.padding padding where
+  by_padding : (o : Option ℕ) → IfSome o (λ character. character < 128)
+      → AllByRecursion (λ byte. byte < 128)
+      (with_padding o (group_symbols base.width) (plain_text base bytes))
+  by_padding None h = ascii-plain_text base symbols bytes
+  by_padding (Some character) h =
+      let text = plain_text base bytes in
+      all_joined (λ byte. byte < 128) text
+      (replicate (missing (group_symbols base.width) (length text)) character)
+      (ascii-plain_text base symbols bytes)
+      (all-replicate (λ byte. byte < 128) (missing (group_symbols base.width) (length text))
+      character h)
+
+-- what is written behind the symbols, by the tables of an encoding
+module _ (e : Inside) (rules : KeepsRules e) (seen : Base) (is : base_of_tables e ≡ seen)
+    (input output : List ℕ) (exact : length output ≡ length (padded_text seen input))
+    (count : ℕ) (counted : count ≡ run_count e.width (8 * length input)) where
+  seen_count : count ≡ run_count seen.width (8 * length input)
+  seen_count = counted ∙ ap (λ b. run_count b.width (8 * length input)) is
+
+  pub count-inside : count ≤ length output
+  count-inside =
+      symbols-first seen input (IsWidth-seen e rules seen is) count (length output) seen_count
+      exact
+
+  module _ (character : ℕ) (some : e.padding ≡ Some character) (filled : List ℕ)
+      (is_padding : filled
+      ≡ replicate (length (take (length output - count) (drop count output))) character) where
+    abbrev written : List ℕ
+    written = put_mid count (length output - count) output filled
+
+    pub padding-written : padded_text seen input ≡ plain_text seen input ++ drop count written
+    padding-written =
+        padded_text-some seen input (IsWidth-seen e rules seen is) count (length output) seen_count
+        exact character (ap (λ b. b.padding) (sym is) ∙ some)
+        ∙ ap (λ l. plain_text seen input ++ l)
+        (ap (λ n. replicate n character) (sym (length-rest count output))
+        ∙ sym is_padding ∙ sym (drop-put_mid_at count output filled count-inside))

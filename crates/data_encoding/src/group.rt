@@ -1,0 +1,130 @@
+//! The judgement of one group of a text: its bytes, or its fault.
+
+ghost use Rattle.std.specs.Prelude.{◌≡◌, ℕ, ◌*◌, ◌/◌, ◌<◌, ◌≤◌, ◌==◌, not, true, List, length, map, take, IsTrue, slice_index, IfOk, IfErr};
+ghost use Rattle.std.specs.List.{list_any};
+ghost use Rattle.data_encoding.specs.Base.{Base, is_padded};
+ghost use Rattle.data_encoding.specs.Decoding.{HasFault, HasSymbols, IsDecodedGroup};
+ghost use Rattle.data_encoding.specs.Fault.{count_before_padding, trailing_bits};
+ghost use Rattle.data_encoding.specs.Grammar.{Positioned, positioned};
+ghost use Rattle.data_encoding.specs.Lengths.{is_valid_count};
+ghost use Rattle.data_encoding.specs.Tables.{HoldsValues, IsGroup};
+
+use crate::bits::{decode_symbols, symbol_position};
+use crate::encoding::{BitOrder, Encoding, PADDING};
+use crate::error::DecodeKind;
+
+// What is wrong with a group, and with which of its bytes.
+#[derive(Clone, Copy, Drop)]
+pub(crate) struct GroupFault {
+    pub(crate) index: usize,
+    pub(crate) kind: DecodeKind,
+}
+
+impl Encoding {
+    /// Decodes a group to the front of the output, and answers how many symbols it has. It is the
+    /// one place where a fault of a group is found.
+    #[inline(always)]
+    pub(crate) fn decode_group<const WIDTH: usize, const BYTES: usize, const SYMBOLS: usize>(
+        &self,
+        group: &[u8],
+        output: &mut [u8],
+    ) -> Result<usize, GroupFault>
+        requires group { IsGroup WIDTH BYTES SYMBOLS }
+        requires width { self.now.width ≡ WIDTH }
+        requires some { 0 < length group.now }
+        requires few { length group.now ≤ SYMBOLS }
+        requires room { WIDTH * length group.now / 8 ≤ length output.old }
+        ensures sound { IfOk result (λ count.
+            IsDecodedGroup self.now group.now count output.new) }
+        ensures fault { IfErr result (HasFault self.now group.now) }
+    {
+        let count = match self.count_symbols::<WIDTH, BYTES, SYMBOLS>(group) {
+            Ok(count) => count,
+            Err(fault) => return Err(fault),
+        };
+        let symbols = &group[..count];
+        let room = &mut output[..WIDTH * count / 8];
+        if !decode_symbols::<WIDTH, BYTES, SYMBOLS>(&self.values, self.order, symbols, room) {
+            return Err(faulty(symbol_position(&self.values, symbols), DecodeKind::Symbol));
+        }
+        if self.checks_trailing_bits && has_trailing::<WIDTH>(&self.values, self.order, symbols) {
+            return Err(faulty(count - 1, DecodeKind::Trailing));
+        }
+        Ok(count)
+    }
+
+    // How many symbols a group has before its padding, where so many may be.
+    #[inline(always)]
+    fn count_symbols<const WIDTH: usize, const BYTES: usize, const SYMBOLS: usize>(
+        &self,
+        group: &[u8],
+    ) -> Result<usize, GroupFault>
+        requires group { IsGroup WIDTH BYTES SYMBOLS }
+        requires width { self.now.width ≡ WIDTH }
+        requires some { 0 < length group.now }
+        requires few { length group.now ≤ SYMBOLS }
+        ensures symbols { IfOk result (HasSymbols self.now group.now) }
+        ensures fault { IfErr result (HasFault self.now group.now) }
+    {
+        if self.padding.is_none() {
+            let trailing = WIDTH * group.len() % 8;
+            if trailing >= WIDTH {
+                return Err(faulty(group.len() - trailing / WIDTH, DecodeKind::Length));
+            }
+            return Ok(group.len());
+        }
+        if group.len() < SYMBOLS {
+            return Err(faulty(0, DecodeKind::Length));
+        }
+        let count = before_padding(&self.values, group);
+        if count == 0 || WIDTH * count % 8 >= WIDTH {
+            return Err(faulty(count, DecodeKind::Padding));
+        }
+        Ok(count)
+    }
+}
+
+#[cold]
+fn faulty(index: usize, kind: DecodeKind) -> GroupFault
+    ensures { result ≡ record { index = index; kind = kind } }
+{
+    GroupFault { index, kind }
+}
+
+// How many bytes of a group come before the padding at its end.
+fn before_padding(values: &[u8; 256], group: &[u8]) -> usize
+    ensures count { (base : Base) → HoldsValues base values.now
+        → result ≡ count_before_padding base (positioned group.now) }
+    ensures within { result ≤ length group.now }
+{
+    for padding in 0..group.len() {
+        let count = group.len() - padding;
+        if values[group[count - 1] as usize] != PADDING {
+            return count;
+        }
+    }
+    0
+}
+
+// Whether bits are left after the last whole byte of these symbols that are not zeros.
+fn has_trailing<const WIDTH: usize>(values: &[u8; 256], order: BitOrder, symbols: &[u8]) -> bool
+    requires narrow { WIDTH ≤ 6 }
+    requires few { length symbols.now ≤ 8 }
+    requires symbols { (k : ℕ) → k < length symbols.now
+        → slice_index values.now (slice_index symbols.now k) < 128 }
+    requires valid { is_valid_count WIDTH (length symbols.now) ≡ true }
+    ensures any { (base : Base) (ks : List Positioned) → base.width ≡ WIDTH → base.order ≡ order
+        → HoldsValues base values.now → map (λ k. k.byte) ks ≡ symbols.now
+        → result ≡ list_any (λ bit. not (bit == 0)) (trailing_bits base ks) }
+    ensures some { IsTrue result → 0 < length symbols.now }
+{
+    let Some(last) = symbols.last() else {
+        return false;
+    };
+    let trailing = WIDTH * symbols.len() % 8;
+    let value = values[*last as usize];
+    match order {
+        BitOrder::MostSignificantFirst => value % (1 << trailing) != 0,
+        BitOrder::LeastSignificantFirst => value >> (WIDTH - trailing) != 0,
+    }
+}

@@ -1,0 +1,230 @@
+//! What each byte means while a specification is judged.
+
+ghost use Rattle.std.specs.Prelude.{◌≡◌, ◌/◌, ◌%◌, ◌^◌, ◌==◌, ◌||◌, ◌<◌, ◌≤◌, List, [], length, take, map, replicate, zip, slice_index_or, if◌then◌else◌, is_none, IfOk, OnOk, IfErr, IfSome, IsTrue, Ok, Err, Some, None};
+ghost use Rattle.std.specs.List.{concat};
+ghost use Rattle.data_encoding.specs.declared.encoding.Character.TheVariants.{Invalid};
+ghost use Rattle.data_encoding.specs.Base.{IsWidth};
+ghost use Rattle.data_encoding.specs.Encoding.{wrapping_by};
+ghost use Rattle.data_encoding.specs.Entries.{meaning_of_entry, is_entry_of, HoldsEntries};
+ghost use Rattle.data_encoding.specs.Fields.{Fields, base_of, base_by, defined, ignored_judgements, judgements, meanings_after, no_meanings, padding_judgements, symbol_judgements, translated, translation_judgements, width_of, wrapping_judgements, wraps};
+ghost use Rattle.data_encoding.specs.Predefined.{symbols_alone};
+ghost use Rattle.data_encoding.specs.Specification.{fields_of_parts};
+
+use crate::encoding::{IGNORED, INVALID, PADDING, group_symbols};
+use std::marker::Model;
+
+// Why a specification is refused, with the byte or the number that shows it.
+#[derive(Clone, Copy, Debug)]
+pub(crate) enum Refusal {
+    // There are not 2, 4, 8, 16, 32 or 64 symbols.
+    BadSize,
+
+    // A character is not ASCII.
+    NotAscii,
+
+    // The byte is given two meanings.
+    Duplicate(u8),
+
+    // There is padding, and no text needs any.
+    ExtraPadding,
+
+    // The width of lines or the length of the separator is over 255.
+    WrapLength,
+
+    // The width of lines is no multiple of this.
+    WrapWidth(u8),
+
+    // The texts of a translation differ in length.
+    FromTo,
+
+    // A byte is translated to this one, which has no meaning.
+    Undefined(u8),
+}
+
+// What the bytes mean so far, by a table of values.
+#[derive(Drop)]
+pub(crate) struct Meanings {
+    values: [u8; 256],
+}
+
+impl Model for Meanings {
+    ghost use Rattle.std.specs.Prelude.{List};
+    ghost use Rattle.data_encoding.specs.declared.encoding.Character.{Character};
+
+    ghost Value = { List Character };
+
+    ghost use Rattle.data_encoding.specs.Meanings.{meanings_of_table, HasEntries};
+
+    ghost view = { meanings_of_table };
+
+    ghost invariant = { HasEntries };
+}
+
+impl Meanings {
+    // No byte means anything.
+    pub(crate) fn new() -> Meanings
+        ensures { result ≡ no_meanings }
+    {
+        Meanings {
+            values: [INVALID; 256],
+        }
+    }
+
+    // The entry of the byte.
+    fn entry(&self, byte: u8) -> u8
+        ensures meaning { slice_index_or self.now byte Invalid ≡ meaning_of_entry result }
+        ensures entry { IsTrue (is_entry_of 64 result) }
+    {
+        self.values[byte as usize]
+    }
+
+    // Gives the byte a meaning, where it has no other.
+    fn define(&mut self, byte: u8, entry: u8) -> Result<(), Refusal>
+        requires { IsTrue (is_entry_of 64 entry) }
+        ensures defined { OnOk result
+            (defined self.old byte (meaning_of_entry entry) ≡ Ok self.new) }
+        ensures refused { IfErr result
+            (λ refusal. defined self.old byte (meaning_of_entry entry) ≡ Err refusal) }
+    {
+        if byte >= 128 {
+            return Err(Refusal::NotAscii);
+        }
+        let had = self.values[byte as usize];
+        if had == entry {
+            return Ok(());
+        }
+        if had != INVALID {
+            return Err(Refusal::Duplicate(byte));
+        }
+        self.values[byte as usize] = entry;
+        Ok(())
+    }
+
+    // Gives each symbol its value.
+    pub(crate) fn define_symbols(&mut self, symbols: &[u8]) -> Result<(), Refusal>
+        requires { length symbols.now ≤ 64 }
+        ensures defined { OnOk result
+            (meanings_after (Ok self.old) (symbol_judgements 0 symbols.now) ≡ Ok self.new) }
+        ensures refused { IfErr result
+            (λ refusal. meanings_after (Ok self.old) (symbol_judgements 0 symbols.now)
+            ≡ Err refusal) }
+    {
+        for value in 0..symbols.len() {
+            self.define(symbols[value], value as u8)?;
+        }
+        Ok(())
+    }
+
+    // Lets the character be padding, where there is one.
+    pub(crate) fn define_padding(&mut self, width: u8, padding: Option<char>) -> Result<(), Refusal>
+        requires { 0 < width }
+        ensures defined { OnOk result
+            (meanings_after (Ok self.old) (padding_judgements width padding) ≡ Ok self.new) }
+        ensures refused { IfErr result
+            (λ refusal. meanings_after (Ok self.old) (padding_judgements width padding)
+            ≡ Err refusal) }
+    {
+        let Some(character) = padding else {
+            return Ok(());
+        };
+        if 8 % width == 0 {
+            return Err(Refusal::ExtraPadding);
+        }
+        let code = character as u32;
+        if code >= 128 {
+            return Err(Refusal::NotAscii);
+        }
+        self.define(code as u8, PADDING)
+    }
+
+    // Lets the bytes be ignored.
+    pub(crate) fn define_ignored(&mut self, bytes: &[u8]) -> Result<(), Refusal>
+        ensures defined { OnOk result
+            (meanings_after (Ok self.old) (ignored_judgements bytes.now) ≡ Ok self.new) }
+        ensures refused { IfErr result
+            (λ refusal. meanings_after (Ok self.old) (ignored_judgements bytes.now)
+            ≡ Err refusal) }
+    {
+        for index in 0..bytes.len() {
+            self.define(bytes[index], IGNORED)?;
+        }
+        Ok(())
+    }
+
+    // Judges the lines, where there are some, and lets their separator be ignored.
+    pub(crate) fn define_wrapping(
+        &mut self,
+        width: u8,
+        column: usize,
+        separator: &[u8],
+    ) -> Result<(), Refusal>
+        requires width { IsWidth width }
+        ensures defined { OnOk result
+            (meanings_after (Ok self.old) (wrapping_judgements width column separator.now)
+            ≡ Ok self.new) }
+        ensures refused { IfErr result
+            (λ refusal. meanings_after (Ok self.old)
+            (wrapping_judgements width column separator.now) ≡ Err refusal) }
+    {
+        if !wraps(column, separator) {
+            return Ok(());
+        }
+        if column >= 256 || separator.len() >= 256 {
+            return Err(Refusal::WrapLength);
+        }
+        let count = group_symbols(width);
+        if column % count as usize != 0 {
+            return Err(Refusal::WrapWidth(count));
+        }
+        self.define_ignored(separator)
+    }
+
+    // Lets a byte mean what another means.
+    fn translate_byte(&mut self, from: u8, to: u8) -> Result<(), Refusal>
+        ensures defined { OnOk result (translated self.old from to ≡ Ok self.new) }
+        ensures refused { IfErr result (λ refusal. translated self.old from to ≡ Err refusal) }
+    {
+        if to >= 128 {
+            return Err(Refusal::NotAscii);
+        }
+        let entry = self.entry(to);
+        if entry == INVALID {
+            return Err(Refusal::Undefined(to));
+        }
+        self.define(from, entry)
+    }
+
+    // Lets each byte of one text mean what that of the other means.
+    pub(crate) fn translate(&mut self, from: &[u8], to: &[u8]) -> Result<(), Refusal>
+        ensures defined { OnOk result
+            (meanings_after (Ok self.old) (translation_judgements from.now to.now)
+            ≡ Ok self.new) }
+        ensures refused { IfErr result
+            (λ refusal. meanings_after (Ok self.old) (translation_judgements from.now to.now)
+            ≡ Err refusal) }
+    {
+        if from.len() != to.len() {
+            return Err(Refusal::FromTo);
+        }
+        for index in 0..from.len() {
+            self.translate_byte(from[index], to[index])?;
+        }
+        Ok(())
+    }
+
+    // The table of values.
+    pub(crate) fn into_values(self) -> [u8; 256]
+        ensures meanings { map meaning_of_entry (take 128 result) ≡ self }
+        ensures entries { HoldsEntries result }
+    {
+        let Meanings { values } = self;
+        values
+    }
+}
+
+// Whether there are lines.
+pub(crate) fn wraps(column: usize, separator: &[u8]) -> bool
+    ensures { result ≡ wraps column separator.now }
+{
+    column != 0 && !separator.is_empty()
+}

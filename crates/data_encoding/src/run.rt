@@ -1,0 +1,132 @@
+//! Runs of whole groups that are symbols alone, decoded without a judgement.
+
+ghost use Rattle.std.specs.Prelude.{◌≡◌, ℕ, ◌*◌, ◌/◌, ◌≤◌, length, IsTrue};
+ghost use Rattle.data_encoding.specs.Base.{Base};
+ghost use Rattle.data_encoding.specs.Decoding.{IsRun};
+ghost use Rattle.data_encoding.specs.Tables.{HoldsValues, IsGroup};
+
+use crate::bits::{decode_entries, decode_symbols};
+use crate::encoding::BitOrder;
+
+/// Decodes whole groups in a row, from the front of the input to the front of the output, up to the
+/// first that has a byte that is no symbol, and answers how many they are. What stands behind their
+/// bytes is not said.
+// Part of its caller, since a call costs more than a short text.
+#[inline(always)]
+pub(crate) fn decode_run<const WIDTH: usize, const BYTES: usize, const SYMBOLS: usize>(
+    values: &[u8; 256],
+    order: BitOrder,
+    input: &[u8],
+    output: &mut [u8],
+) -> usize
+    requires group { IsGroup WIDTH BYTES SYMBOLS }
+    requires room { length input.now / SYMBOLS * BYTES ≤ length output.old }
+    ensures run { (base : Base) → base.width ≡ WIDTH → base.order ≡ order
+        → HoldsValues base values.now → IsRun base input.now result output.old output.new }
+    ensures within { result * SYMBOLS ≤ length input.now }
+{
+    match order {
+        BitOrder::MostSignificantFirst => decode_groups::<WIDTH, BYTES, SYMBOLS>(
+            values,
+            BitOrder::MostSignificantFirst,
+            input,
+            output,
+        ),
+        BitOrder::LeastSignificantFirst => decode_groups::<WIDTH, BYTES, SYMBOLS>(
+            values,
+            BitOrder::LeastSignificantFirst,
+            input,
+            output,
+        ),
+    }
+}
+
+// With the order as a constant, once this is part of its caller: four groups at a time, and then
+// group by group.
+#[inline(always)]
+fn decode_groups<const WIDTH: usize, const BYTES: usize, const SYMBOLS: usize>(
+    values: &[u8; 256],
+    order: BitOrder,
+    input: &[u8],
+    output: &mut [u8],
+) -> usize
+    requires group { IsGroup WIDTH BYTES SYMBOLS }
+    requires room { length input.now / SYMBOLS * BYTES ≤ length output.old }
+    ensures run { (base : Base) → base.width ≡ WIDTH → base.order ≡ order
+        → HoldsValues base values.now → IsRun base input.now result output.old output.new }
+    ensures within { result ≤ length input.now / SYMBOLS }
+{
+    let count = input.len() / SYMBOLS;
+    let first = decode_by_fours::<WIDTH, BYTES, SYMBOLS>(values, order, input, output);
+    for index in first..count {
+        let read = index * SYMBOLS;
+        let written = index * BYTES;
+        if !decode_symbols::<WIDTH, BYTES, SYMBOLS>(
+            values,
+            order,
+            &input[read..read + SYMBOLS],
+            &mut output[written..written + BYTES],
+        ) {
+            return index;
+        }
+    }
+    count
+}
+
+// Four groups at a time, tested together; the four with a byte that is no symbol are left.
+#[inline(always)]
+fn decode_by_fours<const WIDTH: usize, const BYTES: usize, const SYMBOLS: usize>(
+    values: &[u8; 256],
+    order: BitOrder,
+    input: &[u8],
+    output: &mut [u8],
+) -> usize
+    requires group { IsGroup WIDTH BYTES SYMBOLS }
+    requires room { length input.now / SYMBOLS * BYTES ≤ length output.old }
+    ensures run { (base : Base) → base.width ≡ WIDTH → base.order ≡ order
+        → HoldsValues base values.now → IsRun base input.now result output.old output.new }
+    ensures within { result ≤ length input.now / SYMBOLS }
+{
+    let count = input.len() / SYMBOLS / 4;
+    for index in 0..count {
+        let read = 4 * index * SYMBOLS;
+        let written = 4 * index * BYTES;
+        if !decode_four_groups::<WIDTH, BYTES, SYMBOLS>(
+            values,
+            order,
+            &input[read..read + 4 * SYMBOLS],
+            &mut output[written..written + 4 * BYTES],
+        ) {
+            return 4 * index;
+        }
+    }
+    4 * count
+}
+
+// Four whole groups; `false`, and any bytes, where some byte of the input is no symbol.
+#[inline(always)]
+fn decode_four_groups<const WIDTH: usize, const BYTES: usize, const SYMBOLS: usize>(
+    values: &[u8; 256],
+    order: BitOrder,
+    input: &[u8],
+    output: &mut [u8],
+) -> bool
+    requires group { IsGroup WIDTH BYTES SYMBOLS }
+    requires symbols { length input.now ≡ 4 * SYMBOLS }
+    requires exact { length output.old ≡ 4 * BYTES }
+    ensures { IsTrue result → (base : Base) → base.width ≡ WIDTH → base.order ≡ order
+        → HoldsValues base values.now → IsRun base input.now 4 output.old output.new }
+{
+    let mut all = 0;
+    for index in 0..4 {
+        let read = index * SYMBOLS;
+        let written = index * BYTES;
+        all |= decode_entries::<WIDTH, BYTES, SYMBOLS>(
+            values,
+            order,
+            &input[read..read + SYMBOLS],
+            &mut output[written..written + BYTES],
+        );
+    }
+    all < 128
+}
