@@ -1,0 +1,3 @@
+pub mod FaultLemmas
+pub mod RoundTripLemmas
+pub mod YieldLemmas

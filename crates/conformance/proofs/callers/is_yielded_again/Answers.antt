@@ -1,0 +1,18 @@
+use Rattle.std.proofs.Common.{ap, ◌∙◌}
+use Rattle.data_encoding.specs.Fields.{base_of}
+use Rattle.conformance.proofs.YieldLemmas.{same_yield, no_refusal}
+use Rattle.conformance.proofs.callers.is_yielded_again.Goals as goal
+
+pub returns-in-Ok : goal.returns-in-Ok
+returns-in-Ok c =
+    let yields =
+    ap base_of c.in_ok-specification.ensures
+    ∙ c.specification_again.ensures c.args.encoding.now c.bit_width-width.ensures.base in
+    c.eq.ensures.base.1 (same_yield _ _ _ c.in-Ok.ensures.yields yields)
+
+pub returns : goal.returns
+returns c =
+    let yields =
+    ap base_of c.in_ok-specification.ensures
+    ∙ c.specification_again.ensures c.args.encoding.now c.bit_width-width.ensures.base in
+    absurd (no_refusal _ _ _ yields c.in-Err.ensures.refused)

@@ -1,0 +1,143 @@
+//! Small functions of a user, each proved from the contracts of the calls that it makes.
+
+ghost use Rattle.std.specs.Prelude.{◌≡◌, ◌⊎◌, ◌≤◌, length, Err, IsTrue, IfOk, IfSome};
+ghost use Rattle.std.specs.String.{string_bytes};
+ghost use Rattle.data_encoding.specs.Plain.{IsPlain};
+
+use data_encoding::laws::specification_again;
+use data_encoding::{
+    DECODE_LIMIT, DecodeError, DecodeFault, DecodeKind, ENCODE_LIMIT, Encoding, Specification,
+    SpecificationError, hexlower,
+};
+use std::alloc::{AllocError, Global};
+
+/// Why data did not come back.
+#[derive(Debug, Drop)]
+pub enum Trouble {
+    /// No encoding is built from the specification.
+    Refused(SpecificationError),
+
+    /// The encoding ignores a byte.
+    NotServed,
+
+    /// The data, or their text, are too long for one call.
+    TooLong,
+
+    /// The text has a fault.
+    Fault(DecodeError),
+
+    /// No memory was found.
+    OutOfMemory,
+}
+
+impl From<AllocError> for Trouble {
+    ghost use Rattle.std.specs.Prelude.{◌≡◌};
+    ghost use Rattle.conformance.specs.declared.callers.Trouble.TheVariants.{OutOfMemory};
+
+    ghost from_gives = { λ _ trouble. trouble ≡ OutOfMemory };
+
+    fn from(_error: AllocError) -> Trouble {
+        Trouble::OutOfMemory
+    }
+}
+
+/// Whether the calls that encode or decode serve the encoding: no byte is ignored.
+pub fn is_served(encoding: &Encoding) -> bool
+    ensures { IsTrue result → IsPlain encoding.now }
+{
+    for byte in 0..256usize {
+        if encoding.interpret_byte(byte as u8).is_ignored() {
+            return false;
+        }
+    }
+    true
+}
+
+/// The data again, by way of their text.
+pub fn there_and_back(
+    alloc: Global,
+    specification: &Specification,
+    input: &[u8],
+) -> Result<Vec<u8>, Trouble>
+    ensures same { IfOk result (λ bytes. bytes.items ≡ input.now) }
+    ensures no_fault { (error : DecodeError) → result ≡ Err (Trouble.Fault error) → ⊥ }
+{
+    let encoding = match specification.encoding() {
+        Ok(encoding) => encoding,
+        Err(error) => return Err(Trouble::Refused(error)),
+    };
+    if !is_served(&encoding) {
+        return Err(Trouble::NotServed);
+    }
+    if input.len() > ENCODE_LIMIT {
+        return Err(Trouble::TooLong);
+    }
+    let _width = encoding.bit_width();
+    let text = encoding.encode(alloc, input)?;
+    if text.len() > DECODE_LIMIT {
+        return Err(Trouble::TooLong);
+    }
+    match encoding.decode(alloc, text.as_bytes()) {
+        Ok(bytes) => Ok(bytes),
+        Err(DecodeFault::Error(error)) => Err(Trouble::Fault(error)),
+        Err(DecodeFault::OutOfMemory) => Err(Trouble::OutOfMemory),
+    }
+}
+
+/// What a text is answered with a byte that is no symbol, at position 1.
+pub fn no_symbol(alloc: Global) -> Result<Vec<u8>, DecodeFault>
+    ensures { (result ≡ Err (DecodeFault.Error (record { position = 1; kind = DecodeKind.Symbol })))
+        ⊎ (result ≡ Err DecodeFault.OutOfMemory) }
+{
+    hexlower().decode(alloc, b"4G")
+}
+
+/// What a text of an odd length is answered: its length is judged before memory is asked for.
+pub fn odd_length(alloc: Global) -> Result<Vec<u8>, DecodeFault>
+    ensures { result ≡ Err (DecodeFault.Error (record { position = 2; kind = DecodeKind.Length })) }
+{
+    hexlower().decode(alloc, b"4G4")
+}
+
+/// The symbols of the encoding that is asked for, where there is one: those that were asked for.
+pub fn symbols_of(
+    alloc: Global,
+    specification: &Specification,
+) -> Result<Option<String>, AllocError>
+    ensures { IfOk result (λ found. IfSome found
+        (λ symbols. string_bytes symbols ≡ string_bytes specification.now.symbols)) }
+{
+    match specification.encoding() {
+        Ok(encoding) => Ok(Some(encoding.specification(alloc)?.symbols)),
+        Err(_) => Ok(None),
+    }
+}
+
+/// Whether `decode` refuses the text for its length where `decode_len` refuses the length.
+pub fn is_refused_alike(alloc: Global, encoding: &Encoding, text: &[u8]) -> bool
+    requires limit { length text.now ≤ DECODE_LIMIT }
+    requires plain { IsPlain encoding.now }
+    ensures { IsTrue result }
+{
+    match encoding.decode_len(text.len()) {
+        Ok(_) => true,
+        Err(error) => match encoding.decode(alloc, text) {
+            Ok(_) => false,
+            Err(DecodeFault::Error(other)) => other == error,
+            Err(DecodeFault::OutOfMemory) => false,
+        },
+    }
+}
+
+/// Whether an equal encoding is built from the specification of the encoding.
+pub fn is_yielded_again(alloc: Global, encoding: &Encoding) -> Result<bool, AllocError>
+    ensures { IfOk result IsTrue }
+{
+    let _width = encoding.bit_width();
+    specification_again();
+    let specification = encoding.specification(alloc)?;
+    match specification.encoding() {
+        Ok(other) => Ok(other == *encoding),
+        Err(_) => Ok(false),
+    }
+}

@@ -1,0 +1,96 @@
+//! From data to text.
+
+ghost use Rattle.std.specs.Prelude.{◌≤◌, length};
+ghost use Rattle.data_encoding.specs.Plain.{IsPlain};
+
+use super::rows::{bytes_of, row_of};
+use crate::callers::is_served;
+use data_encoding::{ENCODE_LIMIT, Encoding, hexlower};
+use std::alloc::Global;
+use std::test::Fail;
+
+const TEXTS: &str = "\
+hex|most|check|||0|||||
+hex|most|check|||0||||Hello|48656c6c6f
+hex|most|check|||0||||Bit|426974
+hex|most|check|||0||||\u{de}\u{ad}\u{be}\u{ef}|deadbeef
+octal|most|check|||0||||Bit|20464564
+octal|most|check|||0||||B|204
+base64|most|check|||0||||B|Qg
+binary|most|check|||0||||S|01010011
+binary|least|check|||0||||S|11001010
+dnscurve|least|check|||0||BCDFGHJKLMNPQRSTUVWXYZ|bcdfghjklmnpqrstuvwxyz|d\u{88}|4321
+base32hex|most|check|||0||||\0|00
+base32hex|most|check|||0||||\0\0|0000
+base32hex|most|check|||0||||\u{1}|04";
+
+// Of each data its length alone.
+const LENGTHS: &str = "\
+base64|most|check|=||0|||||0
+base64|most|check|=||0||||.|4
+base64|most|check|=||0||||...|4
+base64|most|check|=||0||||....|8
+base32|most|check|=||0||||.|8";
+
+// Whether the data have the text, as it is written into an output of its length.
+fn writes(encoding: &Encoding, input: &[u8], want: &[u8]) -> bool
+    requires limit { length input.now ≤ ENCODE_LIMIT }
+    requires plain { IsPlain encoding.now }
+{
+    let mut output = [0; 32];
+    let len = encoding.encode_len(input.len());
+    if len > output.len() {
+        return false;
+    }
+    encoding.encode_mut(input, &mut output[..len]);
+    &output[..len] == want
+}
+
+pub(super) fn gives(alloc: Global, line: &str) -> Result<bool, Fail> {
+    let row = row_of(alloc, line)?;
+    let encoding = row.specification.encoding()?;
+    let input = bytes_of(alloc, row.input)?;
+    if !is_served(&encoding) || input.len() > ENCODE_LIMIT {
+        return Ok(false);
+    }
+    let text = encoding.encode(alloc, &input)?;
+    Ok(text.as_str() == row.want && writes(&encoding, &input, row.want.as_bytes()))
+}
+
+#[test]
+fn encodes(rt: HostRuntime) -> Result<(), Fail> {
+    for line in TEXTS.split('\n') {
+        assert!(rt; gives(rt.alloc(), line)?, "{line}");
+    }
+    Ok(())
+}
+
+// Whether the text of data of such a length has the length that the row wants.
+fn has_length(alloc: Global, line: &str) -> Result<bool, Fail> {
+    let row = row_of(alloc, line)?;
+    let encoding = row.specification.encoding()?;
+    if !is_served(&encoding) || row.input.len() > ENCODE_LIMIT {
+        return Ok(false);
+    }
+    Ok(encoding.encode_len(row.input.len()) == row.want.parse()?)
+}
+
+#[test]
+fn tells_lengths(rt: HostRuntime) -> Result<(), Fail> {
+    for line in LENGTHS.split('\n') {
+        assert!(rt; has_length(rt.alloc(), line)?, "{line}");
+    }
+    Ok(())
+}
+
+// The text that is handed out is the output's own bytes.
+#[test]
+fn hands_out_the_output(rt: HostRuntime) -> Result<(), Fail> {
+    let encoding = hexlower();
+    let mut output = [0; 6];
+    assert!(rt; encoding.encode_len(3) == 6);
+    let text = encoding.encode_mut_str(b"Bit", &mut output);
+    assert_eq!(rt; text, "426974");
+    assert_eq!(rt; output.as_slice(), b"426974".as_slice());
+    Ok(())
+}

@@ -1,0 +1,131 @@
+//! Rows of tables, in which a bar stands between two fields.
+
+use data_encoding::{BitOrder, Specification};
+use std::alloc::{AllocError, Global};
+use std::test::Fail;
+
+const BASE32: &str = "ABCDEFGHIJKLMNOPQRSTUVWXYZ234567";
+
+const BASE32HEX: &str = "0123456789ABCDEFGHIJKLMNOPQRSTUV";
+
+const DNSCURVE: &str = "0123456789bcdfghjklmnpqrstuvwxyz";
+
+const BASE64: &str = "ABCDEFGHIJKLMNOPQRSTUVWXYZabcdefghijklmnopqrstuvwxyz0123456789+/";
+
+// What a row says: a specification, what is done with it, and what comes of it.
+#[derive(Drop)]
+pub(super) struct Row<'a> {
+    pub(super) specification: Specification,
+    pub(super) input: &'a str,
+    pub(super) want: &'a str,
+}
+
+// The symbols, the bit that comes first, whether texts stay single and trailing bits are checked,
+// the padding, the ignored bytes, the width of a line, the separator, the texts of the translation;
+// then the input, where there is one, and what is wanted.
+pub(super) fn row_of(alloc: Global, line: &str) -> Result<Row<'_>, Fail> {
+    let mut fields = line.split('|');
+    let mut specification = Specification::new(alloc);
+    put(
+        &mut specification.symbols,
+        symbols_named(fields.next().unwrap_or("")),
+    )?;
+    if fields.next() == Some("least") {
+        specification.bit_order = BitOrder::LeastSignificantFirst;
+    }
+    let rules = fields.next().unwrap_or("");
+    specification.concatenate = !rules.starts_with("single");
+    specification.check_trailing_bits = rules.ends_with("check");
+    specification.padding = fields.next().unwrap_or("").chars().next();
+    put(&mut specification.ignore, fields.next().unwrap_or(""))?;
+    specification.wrap.width = fields.next().unwrap_or("").parse()?;
+    put(
+        &mut specification.wrap.separator,
+        fields.next().unwrap_or(""),
+    )?;
+    put(
+        &mut specification.translate.from,
+        fields.next().unwrap_or(""),
+    )?;
+    put(&mut specification.translate.to, fields.next().unwrap_or(""))?;
+    let tenth = fields.next().unwrap_or("");
+    let (input, want) = match fields.next() {
+        Some(eleventh) => (tenth, eleventh),
+        None => ("", tenth),
+    };
+    Ok(Row {
+        specification,
+        input,
+        want,
+    })
+}
+
+// The symbols of a field, which may name an alphabet in their place.
+fn symbols_named(name: &str) -> &str {
+    match name {
+        "binary" => "01",
+        "quaternary" => "0123",
+        "octal" => "01234567",
+        "hex" => "0123456789abcdef",
+        "base32" => BASE32,
+        "base32hex" => BASE32HEX,
+        "dnscurve" => DNSCURVE,
+        "base64" => BASE64,
+        _ => name,
+    }
+}
+
+// The character that one of a row stands for: arrows are control characters.
+fn meant(character: char) -> char {
+    match character {
+        '↵' => '\n',
+        '←' => '\r',
+        '→' => '\t',
+        _ => character,
+    }
+}
+
+fn put(text: &mut String, field: &str) -> Result<(), AllocError> {
+    for character in field.chars() {
+        text.push(meant(character))?;
+    }
+    Ok(())
+}
+
+// The bytes of a field, each written as the character of its code.
+pub(super) fn bytes_of(alloc: Global, field: &str) -> Result<Vec<u8>, AllocError> {
+    let mut bytes = Vec::new(alloc);
+    for character in field.chars() {
+        bytes.push(u8::try_from(meant(character)).unwrap_or(b'?'))?;
+    }
+    Ok(bytes)
+}
+
+// The bytes as a row writes them.
+pub(super) fn field_of(alloc: Global, bytes: &[u8]) -> Result<String, AllocError> {
+    let mut field = String::new(alloc);
+    for byte in bytes {
+        field.push(char::from(*byte))?;
+    }
+    Ok(field)
+}
+
+// A specification as a row writes it, besides its symbols and the order of its bits.
+pub(super) fn described(
+    alloc: Global,
+    specification: &Specification,
+) -> Result<String, AllocError> {
+    let single = if specification.concatenate {
+        ""
+    } else {
+        "single/"
+    };
+    let check = specification.check_trailing_bits;
+    let padding = specification.padding;
+    let ignored = specification.ignore.as_str();
+    let width = specification.wrap.width;
+    let separator = specification.wrap.separator.as_str();
+    let from = specification.translate.from.as_str();
+    let to = specification.translate.to.as_str();
+    format!(in alloc; "{single}{check}/{padding:?}/{ignored}/{width}/{separator}/{from}/{to}")
+}

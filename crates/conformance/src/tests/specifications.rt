@@ -1,0 +1,180 @@
+//! Specifications that yield encodings, and specifications that are refused.
+
+use super::rows::{Row, described, row_of};
+use super::table;
+use data_encoding::{BitOrder, Character, Encoding, Specification};
+use std::alloc::{AllocError, Global};
+use std::test::Fail;
+
+const JUDGEMENTS: &str = "\
+|most|check|||0||||invalid number of symbols
+010|most|check|||0||||invalid number of symbols
+é|most|check|||0||||non-ascii character
+00|most|check|||0||||'0' has conflicting definitions
+octal|most|check|||0||||an encoding
+hex|most|check|=||0||||unnecessary padding
+01|most|check|é||0||||unnecessary padding
+octal|most|check|é||0||||non-ascii character
+octal|most|check|0||0||||'0' has conflicting definitions
+octal|most|check|=|=|0||||'=' has conflicting definitions
+octal|most|check||  |0||||an encoding
+base64|most|check|||8|A|||'A' has conflicting definitions
+base64|most|check|||8|é|||non-ascii character
+base64|most|check|||10|↵|||wrap width not a multiple of 4
+base64|most|check|||256|↵|||invalid wrap width or separator length
+base64|most|check|||300||||an encoding
+base64|most|check|||7|\
+    ----------------------------------------------------------------\
+    ----------------------------------------------------------------\
+    ----------------------------------------------------------------\
+    ----------------------------------------------------------------|||\
+    invalid wrap width or separator length
+01|most|check|||0||ab|0|translate from/to length mismatch
+01|most|check|||0||a|é|translate from/to length mismatch
+01|most|check|||0||é|00|non-ascii character
+01|most|check|||0||ab|é|non-ascii character
+01|most|check|||0||0|0|an encoding
+01|most|check|||0||0|1|'0' has conflicting definitions
+01|most|check|||0||a|a|'a' is undefined
+01|most|check|||0||ba|a0|'a' is undefined
+01|most|check|||0||ab|0a|an encoding
+01|most|check||\0\0|0||\0|0|'\\0' has conflicting definitions
+01|most|check|||0||a|\0|'\\0' is undefined
+0↵|most|check||↵|0||||'\\n' has conflicting definitions
+01|most|check|||0||a|↵|'\\n' is undefined
+0 |most|check|| |0||||' ' has conflicting definitions
+01|most|check|||0||a| |' ' is undefined
+0'|most|check||'|0||||'\\'' has conflicting definitions
+01|most|check|||0||a|'|'\\'' is undefined
+0\"|most|check||\"|0||||'\"' has conflicting definitions
+01|most|check|||0||a|\"|'\"' is undefined
+0\\|most|check||\\|0||||'\\\\' has conflicting definitions
+01|most|check|||0||a|\\|'\\\\' is undefined
+0\u{7f}|most|check||\u{7f}|0||||'\\u{7f}' has conflicting definitions
+01|most|check|||0||a|\u{7f}|'\\u{7f}' is undefined";
+
+// The last field is that specification of the encoding: whether texts stay single, its check,
+// padding, ignored bytes, lines and translation.
+const DESCRIPTIONS: &str = "\
+binary|most||||0||||true/None//0///
+octal|most||||0||||false/None//0///
+octal|most|check|||0||||true/None//0///
+base64|most|check|||300||||true/None//0///
+base64|most|check|=||76|--|||true/Some('=')/-/76/--//
+base32|most|check|||0||01l8|OIIB|true/None//0//018l/OIBI
+binary|most|check||-|0||_|-|true/None/-_/0///
+binary|most|check|||0||ab|0a|true/None//0//ab/00
+octal|most|check|=||0||~|=|true/Some('=')//0//~/=
+base64|most|single check|||0||||true/None//0///
+base64|most|single check|=||0||||single/true/Some('=')//0///";
+
+// What becomes of a specification.
+fn judged(alloc: Global, row: &Row<'_>) -> Result<String, Fail> {
+    Ok(match row.specification.encoding() {
+        Ok(_) => String::from_str(alloc, "an encoding")?,
+        Err(error) => error.to_string(alloc)?,
+    })
+}
+
+#[test]
+fn judges_specifications(rt: HostRuntime) -> Result<(), Fail> {
+    for line in JUDGEMENTS.split('\n') {
+        let row = row_of(rt.alloc(), line)?;
+        assert_eq!(rt; judged(rt.alloc(), &row)?.as_str(), row.want, "{line}");
+    }
+    Ok(())
+}
+
+#[test]
+fn describes_encodings(rt: HostRuntime) -> Result<(), Fail> {
+    for line in DESCRIPTIONS.split('\n') {
+        let row = row_of(rt.alloc(), line)?;
+        let again = row.specification.encoding()?.specification(rt.alloc())?;
+        assert_eq!(rt; described(rt.alloc(), &again)?.as_str(), row.want, "{line}");
+    }
+    Ok(())
+}
+
+// What a byte means, as the layout has it.
+fn entry(character: Character) -> u8 {
+    match character {
+        Character::Symbol { value } => (value % 64) as u8,
+        Character::Invalid => 128,
+        Character::Ignored => 129,
+        Character::Padding => 130,
+    }
+}
+
+// What the layout has after the tables.
+fn push_rest(
+    layout: &mut Vec<u8>,
+    specification: &Specification,
+    width: usize,
+) -> Result<(), Fail> {
+    layout.push(match specification.padding {
+        Some(padding) => u8::try_from(u32::from(padding))?,
+        None => 128,
+    })?;
+    let order = match specification.bit_order {
+        BitOrder::MostSignificantFirst => 8,
+        BitOrder::LeastSignificantFirst => 0,
+    };
+    let check = u8::from(specification.check_trailing_bits).wrapping_mul(16);
+    layout.push(u8::try_from(width)? | order | check)?;
+    if specification.wrap.width != 0 {
+        layout.push(u8::try_from(specification.wrap.width)?)?;
+    } else if !specification.ignore.is_empty() {
+        layout.push(0)?;
+    }
+    layout.extend_from_slice(specification.wrap.separator.as_bytes())?;
+    Ok(())
+}
+
+// The layout of the original crate: the symbols again and again, what each byte means, the rest.
+fn layout(alloc: Global, encoding: &Encoding) -> Result<Vec<u8>, Fail> {
+    let specification = encoding.specification(alloc)?;
+    let symbols = specification.symbols.as_bytes();
+    let mut layout = Vec::new(alloc);
+    for symbol in symbols.iter().cycle().take(256) {
+        layout.push(*symbol)?;
+    }
+    for byte in 0..=255u8 {
+        layout.push(entry(encoding.interpret_byte(byte)))?;
+    }
+    push_rest(&mut layout, &specification, encoding.bit_width())?;
+    Ok(layout)
+}
+
+// The length of a layout, and the sum of its bytes, each times its position.
+fn summed(alloc: Global, layout: &[u8]) -> Result<String, AllocError> {
+    let mut sum: u64 = 0;
+    let mut position: u64 = 0;
+    for byte in layout {
+        position = position.wrapping_add(1);
+        sum = sum.wrapping_add(position.wrapping_mul(u64::from(*byte))) % 1_000_003;
+    }
+    let len = layout.len();
+    format!(in alloc; "{len} bytes, {sum}")
+}
+
+// Whether the row has our answer, and what is yielded yields itself again.
+fn agrees(alloc: Global, line: &str) -> Result<bool, Fail> {
+    let row = row_of(alloc, line)?;
+    match row.specification.encoding() {
+        Ok(encoding) => {
+            let answer = summed(alloc, &layout(alloc, &encoding)?)?;
+            let again = encoding.specification(alloc)?.encoding()?;
+            Ok(answer.as_str() == row.want && encoding == again)
+        }
+        Err(error) => Ok(error.to_string(alloc)?.as_str() == row.want),
+    }
+}
+
+#[test]
+fn answers_as_the_original(rt: HostRuntime) -> Result<(), Fail> {
+    assert_eq!(rt; table::ROWS.split('\n').count(), 200);
+    for line in table::ROWS.split('\n') {
+        assert!(rt; agrees(rt.alloc(), line)?, "{line}");
+    }
+    Ok(())
+}
