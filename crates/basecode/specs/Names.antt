@@ -14,8 +14,8 @@ fields_named name =
     option_map (λ (entry : List ℕ × Fields). entry.1)
     (find (λ (entry : List ℕ × Fields). bytes_eq name entry.0) names)
 
--- The name is known, and its specification yields the base.
+-- The name is known, and the base is built from its specification.
 pub record IsNamed (name : List ℕ) (base : Base) : Type 0 where
   pub fields : Fields
   pub is_known : fields_named name ≡ Some fields
-  pub yields : base_of fields ≡ Ok base
+  pub is_built : base_of fields ≡ Ok base

@@ -37,11 +37,11 @@ abbrev pub task_of : List (List ℕ) → Option Task
 task_of (word ∷ name ∷ []) = both (verb_of word) (fields_named name)
 task_of _ = None
 
--- The words ask for the verb at the base that a specification yields.
+-- The words ask for the verb by the base that is built from a specification.
 pub record Asks (words : List (List ℕ)) (verb : Verb) (base : Base) : Type 0 where
   pub fields : Fields
   pub is_task : task_of words ≡ Some (record { verb = verb; fields = fields })
-  pub yields : base_of fields ≡ Ok base
+  pub is_built : base_of fields ≡ Ok base
 
 -- A name is wrong only where it follows a verb, and else all the words are.
 abbrev pub IsWrong : List (List ℕ) → WordFault → Type 0

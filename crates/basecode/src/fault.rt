@@ -34,13 +34,13 @@ pub enum Fault {
     /// A write or a flush failed.
     Write,
 
-    /// No memory was found.
+    /// An allocation failed.
     OutOfMemory,
 }
 
 impl Fault {
-    /// The exit status: 1 where the input has a fault or is too long, 3 where a read or a write
-    /// failed, and 4 for want of memory.
+    /// The exit status: 1 where the input has a fault or is too long, 3 where a read, a write or a
+    /// flush failed, and 4 where the program is out of memory.
     pub fn status(self) -> u8
         ensures { result ≡ status_of self }
     {

@@ -20,7 +20,7 @@ pub enum InputFault {
     /// The input is longer than the limit.
     TooLong,
 
-    /// No memory was found for what was read.
+    /// An allocation for what was read failed.
     OutOfMemory,
 }
 

@@ -1,11 +1,12 @@
 //! `basecode`: standard input as text over an alphabet of symbols, and back.
 //!
-//! `basecode encode NAME` writes the text of what it reads, and `basecode decode NAME` the bytes
-//! that the text means that it reads, by the encoding of that name. The exit status is 0 where that
-//! was done, 1 where the input has a fault or is too long, 2 where the words are wrong, 3 where a
-//! read or a write failed, and 4 for want of memory.
+//! `basecode encode NAME` reads bytes and writes their text, and `basecode decode NAME` reads a
+//! text and writes the bytes that it means, by the encoding of that name. The exit status is 0
+//! where that was done, 1 where the input has a fault or is too long, 2 where the words are wrong,
+//! 3 where a read, a write or a flush failed, and 4 where memory ran out.
 #![tactic(auto)]
 
+mod callers;
 mod command;
 mod fault;
 mod input;
@@ -15,24 +16,23 @@ mod watch;
 
 use fault::{Fault, tell};
 pub use run::run;
-use std::env;
 use std::process::ExitCode;
+use std::{env, io};
 pub use watch::Watch;
+
+// The words of the command line, without the name of the program.
+fn words_of(rt: &HostRuntime) -> io::Result<Vec<String>> {
+    Ok(env::args(rt)?.skip(1).collect(rt.alloc())?)
+}
 
 fn main(rt: HostRuntime) -> ExitCode {
     let mut faults = rt.stderr();
+    let Ok(words) = words_of(&rt) else {
+        // A word that is not UTF-8 ends here too.
+        tell(&mut faults, &Fault::OutOfMemory);
+        return ExitCode::from(Fault::OutOfMemory.status());
+    };
     let mut reader = Watch::new(rt.reader());
     let mut writer = Watch::new(rt.stdout());
-    let words = match env::args(&rt) {
-        Ok(all) => all.skip(1).collect::<Vec<String>>(rt.alloc()),
-        Err(_) => {
-            tell(&mut faults, &Fault::OutOfMemory);
-            return ExitCode::from(4);
-        }
-    };
-    let Ok(words) = words else {
-        tell(&mut faults, &Fault::OutOfMemory);
-        return ExitCode::from(4);
-    };
     ExitCode::from(run(rt.alloc(), &words, &mut reader, &mut writer, &mut faults))
 }

@@ -4,7 +4,7 @@ ghost use Rattle.std.specs.Prelude.{◌≡◌, ◌≢◌, ◌≤◌, ◌↔◌, 
 ghost use Rattle.std.specs.Io.KnownBytes.{Keeps};
 ghost use Rattle.data_encoding.specs.Plain.{IsPlain};
 ghost use Rattle.basecode.specs.Faults.{status_after};
-ghost use Rattle.basecode.specs.Run.{Converts, Done, Explains, IsAnswer, IsNoAnswer, Refused};
+ghost use Rattle.basecode.specs.Run.{Begins, Begun, Converts, Done, Explains, IsAnswer, IsNoAnswer, Refused};
 ghost use Rattle.basecode.specs.Input.{ReadsSome};
 ghost use Rattle.basecode.specs.Watch.{has_failed, inner_of};
 ghost use Rattle.basecode.specs.Words.{limit_of, task_of, texts};
@@ -20,9 +20,10 @@ use std::io::{Read, Write};
 ///
 /// The whole input is read, and then its answer is written and flushed once: status 0. A text that
 /// has a fault, or an input with more bytes than the limit of its verb, is status 1, wrong words
-/// are 2, a failed read, write or flush is 3, and want of memory is 4. At 1, 2 and 4 nothing is
-/// written or flushed, and at 2 nothing is read. What went wrong is printed to `faults` as a line;
-/// a failure to print it changes nothing.
+/// are 2, a failed read, write or flush is 3, and out of memory is 4. At 1, 2 and 4 nothing is
+/// written or flushed, and at 2 nothing is read. At 3 nothing was written where the read failed,
+/// and a beginning of the answer where a write or the flush did. What went wrong is printed to
+/// `faults` as a line; a failure to print it changes nothing.
 pub fn run<R: Read, W: Write, F: Write>(
     alloc: Global,
     words: &[String],
@@ -47,9 +48,13 @@ pub fn run<R: Read, W: Write, F: Write>(
     ensures memory { result ≡ 4
         → ReadsSome (R.remaining (inner_of reader.old)) (R.remaining (inner_of reader.new)) }
 
-    // Only an answer is written, or the beginning of one where a write failed.
+    // Only an answer is written, or a beginning of it where a write or the flush failed.
     ensures unwritten { result ≢ 0 → result ≢ 3
         → Keeps (W.contents (inner_of writer.old)) (W.contents (inner_of writer.new)) }
+    ensures begun { IsTrue (has_failed writer.new)
+        → Begun (texts words.now) (R.remaining (inner_of reader.old))
+        (R.remaining (inner_of reader.new)) (W.contents (inner_of writer.old))
+        (W.contents (inner_of writer.new)) }
     ensures unanswered { IsTrue (has_failed reader.new)
         → Keeps (W.contents (inner_of writer.old)) (W.contents (inner_of writer.new)) }
 {
@@ -97,6 +102,9 @@ fn convert<R: Read, W: Write>(
         (R.remaining (inner_of reader.old)) (R.remaining (inner_of reader.new))) }
     ensures read { (result ≡ Err Fault.Read) ↔ IsTrue (has_failed reader.new) }
     ensures write { (result ≡ Err Fault.Write) ↔ IsTrue (has_failed writer.new) }
+    ensures begun { result ≡ Err Fault.Write → Begins task.now.verb task.now.encoding
+        (R.remaining (inner_of reader.old)) (R.remaining (inner_of reader.new))
+        (W.contents (inner_of writer.old)) (W.contents (inner_of writer.new)) }
     ensures unwritten { IsErr result → result ≢ Err Fault.Write
         → Keeps (W.contents (inner_of writer.old)) (W.contents (inner_of writer.new)) }
 {

@@ -15,5 +15,5 @@ returns-in-Some-encoding_named-clause-asked c =
     record {
       fields = named.fields;
       is_task = task_of_two _ _ _ _ _ are verb fields;
-      yields = named.yields;
+      is_built = named.is_built;
     }

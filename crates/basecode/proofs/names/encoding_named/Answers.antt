@@ -7,5 +7,5 @@ pub returns-in-HEXLOWER-clause-known : goal.returns-in-HEXLOWER-clause-known
 returns-in-HEXLOWER-clause-known c = record {
   fields = hexlower_fields;
   is_known = ap fields_named c.in-HEXLOWER.is;
-  yields = c.hexlower.ensures.yields;
+  is_built = c.hexlower.ensures.yields;
 }

@@ -1,0 +1,117 @@
+//! Small callers, each proved from the clauses of what it calls: what these let a user conclude.
+
+ghost use Rattle.std.specs.Prelude.{◌≡◌, ◌≢◌, ◌+◌, ◌++◌, ◌<◌, ◌≤◌, ℕ, List, [], ◌∷◌, codes, drop, length, string_bytes, take, IfOk, IfSome, IsSome, None};
+ghost use Rattle.data_encoding.specs.Base.{Base};
+ghost use Rattle.data_encoding.specs.Fault.{fault_of};
+ghost use Rattle.data_encoding.specs.Grammar.{Means};
+ghost use Rattle.data_encoding.specs.Text.{text_of};
+ghost use Rattle.basecode.specs.Names.{IsNamed, fields_named};
+ghost use Rattle.basecode.specs.Words.{texts, verb_of};
+
+use crate::command::task_named;
+use crate::run::run;
+use crate::watch::Watch;
+use data_encoding::{DECODE_LIMIT, ENCODE_LIMIT};
+use std::alloc::{AllocError, Global};
+
+/// A run over bytes in memory: its exit status, what it did not read, and what its output holds.
+#[derive(Debug, Drop)]
+struct Outcome<'a> {
+    status: u8,
+    rest: &'a [u8],
+    output: Vec<u8>,
+}
+
+// Two words.
+fn words_of(alloc: Global, verb: &str, name: &str) -> Result<Vec<String>, AllocError>
+    ensures { IfOk result (λ words. texts words.items ≡ verb.now ∷ name.now ∷ []) }
+{
+    let verb = String::from_str(alloc, verb)?;
+    let name = String::from_str(alloc, name)?;
+    Ok(vec![in alloc; verb, name]?)
+}
+
+// Encodes bytes in memory, after those of the output.
+fn encode<'a>(
+    alloc: Global,
+    name: &str,
+    input: &'a [u8],
+    output: Vec<u8>,
+) -> Result<Outcome<'a>, AllocError>
+    ensures whole { IfOk result (λ ended. ended.status ≡ 0 → ended.rest.now ≡ []) }
+    ensures text { IfOk result (λ ended. ended.status ≡ 0 → (base : Base) → IsNamed name.now base
+        → ended.output.items ≡ output.items ++ text_of base input.now) }
+    ensures too_long { IfOk result (λ ended. ended.status ≡ 1
+        → (ENCODE_LIMIT < length input.now)
+        × (ended.rest.now ≡ drop (ENCODE_LIMIT + 1) input.now)) }
+    ensures memory { IfOk result (λ ended. ended.status ≡ 4 → input.now ≢ []) }
+    ensures begun { IfOk result (λ ended. ended.status ≡ 3 → (base : Base) → IsNamed name.now base
+        → (count : ℕ)
+        × (ended.output.items ≡ output.items ++ take count (text_of base input.now))) }
+    ensures kept { IfOk result (λ ended. ended.status ≢ 0 → ended.status ≢ 3
+        → ended.output.items ≡ output.items) }
+{
+    let words = words_of(alloc, "encode", name)?;
+    let mut reader = Watch::new(input);
+    let mut writer = Watch::new(output);
+    let mut faults = Vec::new(alloc);
+    let status = run(alloc, &words, &mut reader, &mut writer, &mut faults);
+    Ok(Outcome {
+        status,
+        rest: reader.into_inner(),
+        output: writer.into_inner(),
+    })
+}
+
+// Decodes a text in memory, after the bytes of the output.
+fn decode<'a>(
+    alloc: Global,
+    name: &str,
+    input: &'a [u8],
+    output: Vec<u8>,
+) -> Result<Outcome<'a>, AllocError>
+    ensures whole { IfOk result (λ ended. ended.status ≡ 0 → ended.rest.now ≡ []) }
+    ensures means { IfOk result (λ ended. ended.status ≡ 0 → (base : Base) → IsNamed name.now base
+        → (bytes : List ℕ) × Means base input.now bytes
+        × (ended.output.items ≡ output.items ++ bytes)) }
+    ensures sound { IfOk result (λ ended. (base : Base) → IsNamed name.now base
+        → fault_of base input.now ≡ None → length input.now ≤ DECODE_LIMIT → ended.status ≢ 1) }
+{
+    let words = words_of(alloc, "decode", name)?;
+    let mut reader = Watch::new(input);
+    let mut writer = Watch::new(output);
+    let mut faults = Vec::new(alloc);
+    let status = run(alloc, &words, &mut reader, &mut writer, &mut faults);
+    Ok(Outcome {
+        status,
+        rest: reader.into_inner(),
+        output: writer.into_inner(),
+    })
+}
+
+// Encodes five bytes in memory, after a sign.
+fn encode_hello(alloc: Global) -> Result<Option<Vec<u8>>, AllocError>
+    ensures { IfOk result (λ output. IfSome output (λ bytes.
+        bytes.items ≡ codes "> 48656c6c6f")) }
+{
+    let outcome = encode(alloc, "HEXLOWER", b"Hello", vec![in alloc; b'>', b' ']?)?;
+    if outcome.status != 0 {
+        return Ok(None);
+    }
+    Ok(Some(outcome.output))
+}
+
+// What is printed of two words, and nothing where they are right.
+fn told(alloc: Global, verb: &str, name: &str) -> Result<String, AllocError>
+    ensures no_verb { IfOk result (λ line. verb_of verb.now ≡ None → string_bytes line
+        ≡ codes "usage: basecode list OR encode NAME OR decode NAME OR canonical NAME") }
+    ensures no_name { IfOk result (λ line. IsSome (verb_of verb.now)
+        → fields_named name.now ≡ None
+        → string_bytes line ≡ codes "unknown encoding: " ++ name.now) }
+{
+    let words = words_of(alloc, verb, name)?;
+    match task_named(&words) {
+        Ok(_) => Ok(String::new(alloc)),
+        Err(fault) => format!(in alloc; "{fault}"),
+    }
+}

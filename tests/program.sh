@@ -1,0 +1,186 @@
+#!/usr/bin/env bash
+# Runs the built program from outside: its words, exit statuses and lines, and streams that fail.
+#
+# usage: tests/program.sh [PROGRAM]
+#
+# Prints what failed and what was skipped. The last line is `N passed, M failed`.
+set -u
+cd "$(dirname "$0")/.." || exit 1
+export LC_ALL=C
+
+program=${1:-crates/basecode/out/basecode}
+if [ $# = 0 ] && { [ ! -x "$program" ] ||
+    [ -n "$(find crates/*/src crates/*/specs crates/*/proofs -newer "$program" -print -quit)" ]; }
+then
+    # `rt run` leaves the program in out/.
+    built=$(cd crates/basecode && rt run -- encode HEXLOWER 2>&1 </dev/null) || {
+        printf '%s\n' "$built" | tail -n 20
+        echo "the program was not built"
+        exit 1
+    }
+fi
+if [ ! -x "$program" ]; then
+    echo "no program: $program"
+    exit 1
+fi
+program=$(realpath "$program")
+
+room=$(mktemp -d)
+trap 'rm -rf "$room"' EXIT
+cd "$room" || exit 1
+passed=0
+failed=0
+usage='basecode: usage: basecode list OR encode NAME OR decode NAME OR canonical NAME'
+
+# count NAME CONDITION..: counts a test, which passes where the command of its condition does.
+count() {
+    local name=$1
+    shift
+    if "$@" >&2; then
+        passed=$((passed + 1))
+    else
+        failed=$((failed + 1))
+        echo "FAILED: $name"
+    fi
+}
+
+skip() {
+    echo "skipped: $1"
+}
+
+# is_run STATUS OUTPUT LINE: whether the last run ended, wrote and printed so. A line ends in LF.
+is_run() {
+    printf '%b' "$2" >wanted.output
+    if [ -n "$3" ]; then printf '%s\n' "$3"; fi >wanted.line
+    [ "$status" = "$1" ] || { echo "  status $status, and not $1"; return 1; }
+    cmp output wanted.output && cmp line wanted.line
+}
+
+# check NAME STATUS OUTPUT LINE INPUT WORD..: runs the words on the input.
+check() {
+    local name=$1 wanted=$2 text=$3 line=$4
+    printf '%b' "$5" >input
+    shift 5
+    "$program" "$@" <input >output 2>line
+    status=$?
+    count "$name" is_run "$wanted" "$text" "$line"
+}
+
+check 'encodes' 0 48656c6c6f '' 'Hello' encode HEXLOWER
+check 'encodes any byte' 0 00ff0adeadbeef '' '\x00\xff\n\xde\xad\xbe\xef' encode HEXLOWER
+check 'encodes nothing' 0 '' '' '' encode HEXLOWER
+check 'decodes' 0 'Hello' '' 48656c6c6f decode HEXLOWER
+check 'decodes any byte' 0 '\x00\xff\n\xde\xad\xbe\xef' '' 00ff0adeadbeef decode HEXLOWER
+check 'decodes nothing' 0 '' '' '' decode HEXLOWER
+
+check 'an invalid symbol' 1 '' 'basecode: invalid symbol at 1' 4G decode HEXLOWER
+check 'an invalid length' 1 '' 'basecode: invalid length at 2' 4G4 decode HEXLOWER
+check 'an upper case symbol' 1 '' 'basecode: invalid symbol at 0' DE decode HEXLOWER
+check 'a line feed' 1 '' 'basecode: invalid length at 4' '6869\n' decode HEXLOWER
+check 'a fault behind sound groups' 1 '' 'basecode: invalid symbol at 7' 48656c6g decode HEXLOWER
+
+check 'an unknown name' 2 '' 'basecode: unknown encoding: NOPE' 4G decode NOPE
+check 'a name in lower case' 2 '' 'basecode: unknown encoding: hexlower' 4G encode hexlower
+check 'an empty name' 2 '' 'basecode: unknown encoding: ' 4G encode ''
+check 'no words' 2 '' "$usage" 4G
+check 'one word' 2 '' "$usage" 4G encode
+check 'three words' 2 '' "$usage" 4G encode HEXLOWER HEXLOWER
+check 'no verb' 2 '' "$usage" 4G recode NOPE
+check 'an empty verb' 2 '' "$usage" 4G '' HEXLOWER
+
+# Words that `main` can't take are out of memory, whatever the cause.
+check 'a word that is not UTF-8' 4 '' 'basecode: out of memory' 4G encode $'\xff'
+
+# Wrong words read nothing: the next command has the whole input.
+printf Hello >input
+{ "$program" recode HEXLOWER 2>line; status=$?; cat; } <input >output
+count 'wrong words read nothing' is_run 2 Hello "$usage"
+
+# An input that comes in pieces is one input.
+: >output
+{ printf 4; sleep 0.2; printf 86; sleep 0.2; printf 5; } |
+    { "$program" decode HEXLOWER >output 2>line; echo $? >status; }
+status=$(cat status)
+count 'an input in pieces' is_run 0 He ''
+
+# A directory can't be read.
+"$program" encode HEXLOWER <. >output 2>line
+status=$?
+count 'a directory as input' is_run 3 '' 'basecode: read failed'
+
+"$program" encode HEXLOWER <&- >output 2>line
+status=$?
+count 'a closed input' is_run 3 '' 'basecode: read failed'
+
+: >output
+"$program" encode HEXLOWER <input >&- 2>line
+status=$?
+count 'a closed output' is_run 3 '' 'basecode: write failed'
+
+# What can't be printed changes no status.
+printf 4G >input
+: >line
+"$program" decode HEXLOWER <input >output 2>&-
+status=$?
+count 'a fault, and a closed place for its line' is_run 1 '' ''
+
+if [ -c /dev/full ]; then
+    printf Hello >input
+    : >output
+    "$program" encode HEXLOWER <input >/dev/full 2>line
+    status=$?
+    count 'a full disk' is_run 3 '' 'basecode: write failed'
+    printf 4G >input
+    : >line
+    "$program" decode HEXLOWER <input >output 2>/dev/full
+    status=$?
+    count 'a fault, and a full disk for its line' is_run 1 '' ''
+    "$program" encode HEXLOWER <input >/dev/full 2>/dev/full
+    status=$?
+    count 'a full disk for the answer and the line' is_run 3 '' ''
+else
+    skip 'a full disk: no /dev/full'
+fi
+
+# A pipe that nothing reads is a write that fails, and no signal ends the program.
+if command -v mkfifo >/dev/null; then
+    printf Hello >input
+    : >output
+    mkfifo pipe
+    exec 3<>pipe 4>pipe 3<&-
+    "$program" encode HEXLOWER <input >&4 2>line
+    status=$?
+    exec 4>&-
+    count 'a closed pipe' is_run 3 '' 'basecode: write failed'
+else
+    skip 'a closed pipe: no mkfifo'
+fi
+
+# 64 MiB, there and back.
+head -c 67108864 /dev/urandom >input
+"$program" encode HEXLOWER <input >text 2>line
+status=$?
+: >output
+count 'encodes 64 MiB' is_run 0 '' ''
+if command -v xxd >/dev/null; then
+    xxd -p input | tr -d '\n' >wanted.text
+    count '64 MiB as xxd encodes them' cmp text wanted.text
+else
+    skip '64 MiB as xxd encodes them: no xxd'
+fi
+"$program" decode HEXLOWER <text >back 2>line
+status=$?
+count 'decodes 128 MiB' is_run 0 '' ''
+count '64 MiB come back' cmp input back
+
+# Where memory runs out, nothing is written.
+if (ulimit -v 98304 && "$program" encode HEXLOWER </dev/null >output 2>line); then
+    (ulimit -v 98304 && "$program" encode HEXLOWER <input >output 2>line)
+    status=$?
+    count 'out of memory' is_run 4 '' 'basecode: out of memory'
+else
+    skip 'out of memory: no limit on memory here'
+fi
+
+echo "$passed passed, $failed failed"
+[ "$failed" = 0 ]
