@@ -5,4 +5,10 @@ pub mod RoomLemmas
 pub mod ProgressLemmas
 pub mod SymbolRunLemmas
 pub mod StopLemmas
+pub mod GatherLemmas
+pub mod IgnoringLemmas
+pub mod GreatestLengthLemmas
+pub mod CutLemmas
+pub mod SoundRunLemmas
+pub mod LastRunLemmas
 pub mod LoopLemmas

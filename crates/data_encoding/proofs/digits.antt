@@ -1,5 +1,6 @@
 -- Bits, digits and words, and the kernel of one group.
 pub mod BitLemmas
+pub mod ValueLemmas
 pub mod WidthLemmas
 pub mod WordLemmas
 pub mod KernelLemmas

@@ -1,6 +1,7 @@
 -- Texts in groups, and what they mean.
 pub mod PositionLemmas
 pub mod KeptLemmas
+pub mod SameBytesLemmas
 pub mod LengthLemmas
 pub mod UnpaddedGroupLemmas
 pub mod GroupLemmas
@@ -10,4 +11,4 @@ pub mod UnpaddedGrammarLemmas
 pub mod UnpaddedMeaningLemmas
 pub mod PaddedMeaningLemmas
 pub mod MeaningLemmas
-pub mod PlainLemmas
+pub mod JoinLemmas

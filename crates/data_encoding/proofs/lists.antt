@@ -5,3 +5,4 @@ pub mod PartLemmas
 pub mod EachLemmas
 pub mod EndLemmas
 pub mod RepeatLemmas
+pub mod WriteLemmas

@@ -1,5 +1,11 @@
 -- The text of data.
-pub mod UnpaddedTextLemmas
-pub mod UnpaddedEncodeLemmas
+pub mod PlainTextLemmas
+pub mod PlainGroupLemmas
 pub mod PaddedTextLemmas
-pub mod UnpaddedLoopLemmas
+pub mod TextJoinLemmas
+pub mod LineLemmas
+pub mod LineLoopLemmas
+pub mod PlainLoopLemmas
+pub mod SymbolMeaningLemmas
+pub mod KeptTextLemmas
+pub mod TextMeaningLemmas

@@ -1,11 +1,13 @@
--- What the parts of a decoding promise: a run of whole groups, and a group that is judged alone.
-use Rattle.std.specs.Prelude.{◌≡◌, ℕ, ◌*◌, ◌/◌, ◌<◌, ◌≤◌, ◌&&◌, not, nat_lt, true, List, length, take, flat_map, if◌then◌else◌, Some, None, slice_index}
+-- What the parts of a decoding promise: a run of whole groups, the next group, and its judgement.
+use Rattle.std.specs.Prelude.{◌≡◌, ℕ, ◌+◌, ◌-◌, ◌*◌, ◌/◌, ◌<◌, ◌≤◌, ◌⊎◌, ◌&&◌, not, nat_lt, true, false, List, length, map, take, drop, flat_map, if◌then◌else◌, Some, None, is_some, slice_index}
+use Rattle.data_encoding.specs.declared.error.DecodePartial.{DecodePartial}
 use Rattle.data_encoding.specs.declared.group.GroupFault.{GroupFault}
-use Rattle.data_encoding.specs.Base.{Base, meaning, is_symbol, is_padded, group_bytes, group_symbols}
+use Rattle.data_encoding.specs.Base.{Base, meaning, is_symbol, is_ignored, is_padded, group_bytes, group_symbols}
 use Rattle.data_encoding.specs.Bits.{runs}
-use Rattle.data_encoding.specs.Grammar.{Positioned, Means, positioned, is_final}
-use Rattle.data_encoding.specs.Lengths.{is_valid_count}
-use Rattle.data_encoding.specs.Fault.{bytes_of_group, count_before_padding, fault_of, group_fault, sound_bytes, symbols_fault}
+use Rattle.data_encoding.specs.Grammar.{Positioned, Means, kept, positioned, is_final}
+use Rattle.data_encoding.specs.Lengths.{greatest_valid_length, is_valid_count}
+use Rattle.data_encoding.specs.Fault.{bytes_of_group, count_before_padding, fault_of, group_fault, position_of, sound_bytes, symbols_fault}
+use Rattle.data_encoding.specs.Partial.{is_length_fault}
 
 -- So many whole groups in a row, from the front of a part of a text, are symbols alone; their bytes
 -- stand at the front of the output, which keeps its length.
@@ -45,6 +47,48 @@ pub record HasFault (base : Base) (group : List ℕ) (fault : GroupFault) : Type
   pub inside : fault.index < length group
   pub is_fault : group_fault base (positioned group)
       ≡ Some (record { position = fault.index; kind = fault.kind })
+
+-- The bytes of a part that are not ignored, up to the end of one of them: so many, or all.
+pub record IsGathered (base : Base) (size : ℕ) (part bytes : List ℕ) (span : ℕ) : Type 0 where
+  pub within : span ≤ length part
+  pub bytes_are : map (λ k. k.byte) (kept base (take span part)) ≡ bytes
+  pub ends : 0 < span → is_ignored (meaning base (slice_index part (span - 1))) ≡ false
+  pub few : length bytes ≤ size
+  pub last : (length bytes ≡ size) ⊎ (length (kept base part) ≡ length bytes)
+
+-- the greatest front of valid length
+abbrev pub valid_front : Base → List ℕ → List ℕ
+valid_front base rest = take (greatest_valid_length base (length rest)) rest
+
+-- The front of valid length decodes as it stands, to so many bytes: it is empty, or one group.
+abbrev pub IsLastRun : Base → List ℕ → ℕ → List ℕ → Type 0
+IsLastRun base rest written new =
+    ((length (valid_front base rest) ≡ 0) × (written ≡ 0))
+    ⊎ ((0 < length (valid_front base rest))
+    × (length (valid_front base rest) ≤ group_symbols base.width)
+    × (count : ℕ) × IsDecodedGroup base (valid_front base rest) count new
+    × (written ≡ base.width * count / 8))
+
+-- It does not: it is more than a group, or a group with a fault.
+abbrev pub HasNoLastRun : Base → List ℕ → Type 0
+HasNoLastRun base rest =
+    (0 < length (valid_front base rest))
+    × (length (valid_front base rest) ≤ group_symbols base.width
+    → is_some (group_fault base (positioned (valid_front base rest))) ≡ true)
+
+-- What is told of a faulty group, before which so much was read and written: only where it is too
+-- short may a last run be read too.
+pub record IsStop (base : Base) (rest : List ℕ) (read written : ℕ) (fault : GroupFault)
+    (new : List ℕ) (partial : DecodePartial) : Type 0 where
+  pub error_is : partial.error ≡ record {
+    position = read + position_of (kept base rest) fault.index;
+    kind = fault.kind;
+  }
+  pub how : ((partial.read ≡ read) × (partial.written ≡ written)
+      × (is_length_fault fault.kind ≡ true → HasNoLastRun base rest))
+      ⊎ ((is_length_fault fault.kind ≡ true) × (partial.read ≡ partial.error.position)
+      × (more : ℕ) × (partial.written ≡ written + more)
+      × (written + more ≤ length new) × IsLastRun base rest more (drop written new))
 
 -- A text without a fault: the bytes that were written are those that it means.
 pub record IsDecoded (base : Base) (text : List ℕ) (written : ℕ) (output : List ℕ) : Type 0 where

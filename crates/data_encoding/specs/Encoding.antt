@@ -2,7 +2,7 @@
 use Rattle.std.specs.Prelude.{◌≡◌, ℕ, zero, suc, ◌/◌, ◌%◌, ◌^◌, ◌<◌, ◌==◌, nat_lt, ◌||◌, not, IsTrue, List, [], length, map, replicate, take, drop, slice_index, Option, None, Some, is_some}
 use Rattle.std.specs.List.{concat, list_all, range_with_len}
 use Rattle.data_encoding.specs.declared.encoding.Encoding.TheInside.{Inside}
-use Rattle.data_encoding.specs.Base.{Base, IsWidth, Wrapping, group_symbols}
+use Rattle.data_encoding.specs.Base.{Base, IsWidth, Wrapping, ignores_some, group_symbols}
 use Rattle.data_encoding.specs.Entries.{meaning_of_entry, is_entry_of}
 
 -- lines of no characters are no lines
@@ -51,4 +51,5 @@ pub record KeepsRules (e : Inside) : Type 0 where
   pub entries : IsTrue (list_all (is_entry_of (2 ^ e.width)) (take 128 e.values))
   pub invalid_from_128 : drop 128 e.values ≡ replicate 128 128
   pub padding : KeepsPadding e.padding e.width e.values
+  pub ignores : e.ignores ≡ ignores_some (base_of_tables e)
   pub wrapping : KeepsWrapping e.column e.separator.items e.width e.values

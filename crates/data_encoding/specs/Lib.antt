@@ -13,7 +13,6 @@ pub mod Encoding
 pub mod Layout
 pub mod Specification
 pub mod Laws
-pub mod Plain
 pub mod Tables
 pub mod Decoding
 pub mod Printed

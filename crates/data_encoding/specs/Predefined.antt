@@ -109,6 +109,7 @@ tables_of kept = record {
   checks_trailing_bits = kept.checks_trailing_bits;
   concatenates = kept.concatenates;
   padding = kept.padding;
+  ignores = kept.ignores;
   column = kept.column;
   separator = record { items = kept.separator.now };
 }

@@ -2,7 +2,7 @@
 use Rattle.std.specs.Prelude.{◌≡◌, ℕ, ◌%◌, ◌^◌, ◌<◌, ◌≤◌, ◌==◌, false, List, slice_index}
 use Rattle.data_encoding.specs.declared.encoding.Character.TheVariants.{Symbol}
 use Rattle.data_encoding.specs.declared.encoding.BitOrder.{BitOrder}
-use Rattle.data_encoding.specs.Base.{Base, IsWidth, meaning, symbol, group_bytes, group_symbols, is_symbol, is_padding}
+use Rattle.data_encoding.specs.Base.{Base, IsWidth, meaning, symbol, group_bytes, group_symbols, is_symbol, is_padding, is_ignored}
 
 -- At each byte stands the symbol of the value in its lowest bits.
 pub record HoldsSymbols (base : Base) (symbols : List ℕ) : Type 0 where
@@ -10,8 +10,8 @@ pub record HoldsSymbols (base : Base) (symbols : List ℕ) : Type 0 where
   pub at_byte : (byte : ℕ) → byte < 256
       → symbol base (byte % 2 ^ base.width) ≡ slice_index symbols byte
 
--- At each byte stands the value that it has, or 128 or more where it is no symbol: 130 where it is
--- padding.
+-- At each byte stands the value that it has, or 128 or more where it is no symbol: 129 where it is
+-- ignored, and 130 where it is padding.
 pub record HoldsValues (base : Base) (values : List ℕ) : Type 0 where
   pub is_width : IsWidth base.width
   pub symbols : (byte : ℕ) → byte < 256 → slice_index values byte < 128
@@ -22,6 +22,8 @@ pub record HoldsValues (base : Base) (values : List ℕ) : Type 0 where
       → is_symbol (meaning base byte) ≡ false
   pub paddings : (byte : ℕ) → byte < 256
       → is_padding (meaning base byte) ≡ (slice_index values byte == 130)
+  pub ignoreds : (byte : ℕ) → byte < 256
+      → is_ignored (meaning base byte) ≡ (slice_index values byte == 129)
 
 -- So many bytes and so many symbols of so many bits are a whole group.
 pub record IsGroup (width bytes symbols : ℕ) : Type 0 where

@@ -168,6 +168,7 @@ fn assembled(parts: &Parts<'_>, width: u8, meanings: Meanings) -> Encoding
         (judgements width (fields_of_parts parts.now)) ≡ Ok meanings }
     ensures { base_of (fields_of_parts parts.now) ≡ Ok result }
 {
+    let ignores = meanings.ignores_some();
     Encoding {
         symbols: repeated(parts.symbols, width),
         values: meanings.into_values(),
@@ -176,6 +177,7 @@ fn assembled(parts: &Parts<'_>, width: u8, meanings: Meanings) -> Encoding
         checks_trailing_bits: checks_trailing_bits(parts.check, width),
         concatenates: concatenates(parts.concatenate, parts.padding),
         padding: padding_byte(parts.padding),
+        ignores,
         column: column_byte(parts.column, parts.separator),
         separator: separator_bytes(parts.column, parts.separator),
     }

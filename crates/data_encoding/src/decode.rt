@@ -1,20 +1,18 @@
 //! From text to data.
-//!
-//! The calls that decode ask that no byte is ignored, as `interpret_byte` tells.
 
-ghost use Rattle.std.specs.Prelude.{◌≡◌, ℕ, ◌+◌, ◌-◌, ◌*◌, ◌/◌, ◌<◌, ◌≤◌, ◌⊎◌, List, length, take, None, Some, Ok, Err, IfOk, IfErr, IsOk, IsOkAnd};
+ghost use Rattle.std.specs.Prelude.{◌≡◌, ℕ, List, false, ◌+◌, ◌-◌, ◌*◌, ◌/◌, ◌<◌, ◌≤◌, ◌⊎◌, length, take, drop, None, Some, Ok, Err, IfOk, IfErr, IfSome, IsOk, IsOkAnd};
 ghost use Rattle.data_encoding.specs.Base.{IsWidth};
-ghost use Rattle.data_encoding.specs.Decoding.{IsDecoded};
-ghost use Rattle.data_encoding.specs.Fault.{IsRefusal, fault_of, sound_bytes};
-ghost use Rattle.data_encoding.specs.Grammar.{Means};
+ghost use Rattle.data_encoding.specs.Decoding.{HasNoLastRun, IsDecoded, IsGathered, IsLastRun, IsStop, valid_front};
+ghost use Rattle.data_encoding.specs.Fault.{IsRefusal, fault_of, position_of, sound_bytes};
+ghost use Rattle.data_encoding.specs.Grammar.{Means, kept};
 ghost use Rattle.data_encoding.specs.Fields.{IsSpecified};
-ghost use Rattle.data_encoding.specs.Lengths.{decoded_len};
+ghost use Rattle.data_encoding.specs.Lengths.{decoded_len, greatest_valid_length, is_valid_length, most_bytes};
 ghost use Rattle.data_encoding.specs.Partial.{StopsAt, partial_of};
-ghost use Rattle.data_encoding.specs.Plain.{IsPlain};
 ghost use Rattle.data_encoding.specs.Tables.{IsGroup};
 
 use crate::encoding::{Encoding, group_bytes, group_symbols};
 use crate::error::{DecodeError, DecodeFault, DecodeKind, DecodePartial};
+use crate::group::GroupFault;
 use crate::memory::zeros;
 use crate::run::decode_run;
 use std::alloc::Global;
@@ -26,51 +24,76 @@ const _: () = prove!(DECODE_LIMIT == 2305843009213693951);
 
 impl Encoding {
     /// The greatest number of bytes that a text of `len` bytes, at most `DECODE_LIMIT`, may mean.
-    /// No byte may be ignored.
     ///
-    /// A length that no text has is a `Length` fault, at the greatest length below it that a text
-    /// may have: where texts are padded, that is a number of whole groups.
+    /// Where no byte is ignored, a length that no text has is a `Length` fault, at the greatest
+    /// length below it that a text may have: where texts are padded, that is a number of whole
+    /// groups.
     pub fn decode_len(&self, len: usize) -> Result<usize, DecodeError>
         requires limit { len ≤ DECODE_LIMIT }
-        requires plain { IsPlain self.now }
         ensures value { result ≡ decoded_len self.now len }
         ensures position { IfErr result (λ error. error.position < len) }
         ensures most { (text bytes : List ℕ) → length text ≡ len → Means self.now text bytes
             → IsOkAnd result (λ most. length bytes ≤ most) }
         ensures base { IsSpecified self.now }
     {
-        if self.padding.is_some() {
-            let symbols = group_symbols(self.width) as usize;
-            if len % symbols != 0 {
-                return Err(DecodeError {
-                    position: len / symbols * symbols,
-                    kind: DecodeKind::Length,
-                });
-            }
-            return Ok(len / symbols * group_bytes(self.width) as usize);
-        }
-        let width = self.width as usize;
-        let bits = width * len;
-        let trailing = bits % 8;
-        if trailing >= width {
+        if !self.ignores && !self.is_valid_length(len) {
             return Err(DecodeError {
-                position: len - trailing / width,
+                position: self.greatest_valid_length(len),
                 kind: DecodeKind::Length,
             });
         }
-        Ok(bits / 8)
+        Ok(self.most_bytes(len))
+    }
+
+    // Whether a text of so many bytes, none of them ignored, may mean something.
+    fn is_valid_length(&self, len: usize) -> bool
+        requires limit { len ≤ DECODE_LIMIT }
+        ensures { result ≡ is_valid_length self.now len }
+    {
+        if self.padding.is_some() {
+            return len % group_symbols(self.width) as usize == 0;
+        }
+        let width = self.width as usize;
+        width * len % 8 < width
+    }
+
+    // The greatest length of such a text that is not longer.
+    fn greatest_valid_length(&self, len: usize) -> usize
+        requires limit { len ≤ DECODE_LIMIT }
+        ensures value { result ≡ greatest_valid_length self.now len }
+        ensures most { result ≤ len }
+        ensures less { is_valid_length self.now len ≡ false → result < len }
+    {
+        if self.padding.is_some() {
+            let symbols = group_symbols(self.width) as usize;
+            return len / symbols * symbols;
+        }
+        let width = self.width as usize;
+        len - width * len % 8 / width
+    }
+
+    // As many bytes as a text of this length may mean.
+    fn most_bytes(&self, len: usize) -> usize
+        requires limit { len ≤ DECODE_LIMIT }
+        ensures { result ≡ most_bytes self.now len }
+    {
+        if self.padding.is_some() {
+            return len / group_symbols(self.width) as usize * group_bytes(self.width) as usize;
+        }
+        self.width as usize * len / 8
     }
 
     /// Writes the data that the text means to the front of `output`, which has exactly
     /// `decode_len` of the text's length, and answers how many bytes they are. The text has at most
-    /// `DECODE_LIMIT` bytes. No byte may be ignored.
+    /// `DECODE_LIMIT` bytes.
     ///
     /// Padded texts that stand one after the other decode as one, where they may be concatenated.
     /// A text that means nothing has one fault. Of it, the beginning that was read means the bytes
-    /// that were written; what stands in the output after these is not said.
+    /// that were written: those of the groups before the faulty one and, where a last group is too
+    /// short and bytes are ignored, of its symbols that stand in a row, where they are valid. What
+    /// stands in the output after these is not said.
     pub fn decode_mut(&self, input: &[u8], output: &mut [u8]) -> Result<usize, DecodePartial>
         requires limit { length input.now ≤ DECODE_LIMIT }
-        requires plain { IsPlain self.now }
         requires exact { decoded_len self.now (length input.now) ≡ Ok (length output.old) }
         ensures decoded { IfOk result (λ n. (n ≤ length output.new)
             × Means self.now input.now (take n output.new)) }
@@ -93,7 +116,6 @@ impl Encoding {
     #[inline(always)]
     fn decode_by_width(&self, input: &[u8], output: &mut [u8]) -> Result<usize, DecodePartial>
         requires limit { length input.now ≤ DECODE_LIMIT }
-        requires plain { IsPlain self.now }
         requires exact { decoded_len self.now (length input.now) ≡ Ok (length output.old) }
         ensures decoded { IfOk result (λ n. IsDecoded self.now input.now n output.new) }
         ensures stopped { IfErr result (StopsAt self.now input.now output.new) }
@@ -119,7 +141,6 @@ impl Encoding {
         requires group { IsGroup WIDTH BYTES SYMBOLS }
         requires width { self.now.width ≡ WIDTH }
         requires limit { length input.now ≤ DECODE_LIMIT }
-        requires plain { IsPlain self.now }
         requires exact { decoded_len self.now (length input.now) ≡ Ok (length output.old) }
         ensures decoded { IfOk result (λ n. IsDecoded self.now input.now n output.new) }
         ensures stopped { IfErr result (StopsAt self.now input.now output.new) }
@@ -135,24 +156,149 @@ impl Encoding {
             );
             read += count * SYMBOLS;
             written += count * BYTES;
-            if read < input.len() {
-                let group = next_group::<SYMBOLS>(&input[read..]);
-                match self.decode_group::<WIDTH, BYTES, SYMBOLS>(group, &mut output[written..]) {
-                    Ok(count) => {
-                        read += group.len();
-                        written += WIDTH * count / 8;
-                        if count < group.len() && !self.concatenates && read < input.len() {
-                            return stopped(read, written, read, DecodeKind::Padding);
-                        }
+            let mut room = [0; 8];
+            let group = self.next_group::<SYMBOLS>(&input[read..], &mut room);
+            if group.bytes.is_empty() {
+                return Ok(written);
+            }
+            let rest = &mut output[written..];
+            match self.decode_group::<WIDTH, BYTES, SYMBOLS>(group.bytes, rest) {
+                Ok(count) => {
+                    read += group.span;
+                    written += WIDTH * count / 8;
+                    if count < group.bytes.len() && !self.concatenates {
+                        return self.ended::<SYMBOLS>(input, read, written);
                     }
-                    Err(fault) => return stopped(read, written, read + fault.index, fault.kind),
+                }
+                Err(fault) => {
+                    return Err(self.stopped::<WIDTH, BYTES, SYMBOLS>(
+                        input, read, output, written, fault,
+                    ));
                 }
             }
         }
         Ok(written)
     }
 
-    /// The data that the text, of at most `DECODE_LIMIT` bytes, means. No byte may be ignored.
+    // After a group that no other may follow: the text ends there, or the next group is a fault.
+    #[inline(never)]
+    fn ended<const SYMBOLS: usize>(
+        &self,
+        input: &[u8],
+        read: usize,
+        written: usize,
+    ) -> Result<usize, DecodePartial>
+        requires some { 0 < SYMBOLS }
+        requires few { SYMBOLS ≤ 8 }
+        requires limit { length input.now ≤ DECODE_LIMIT }
+        requires within { read ≤ length input.now }
+        ensures end { IfOk result (λ n. (n ≡ written)
+            × (length (kept self.now (drop read input.now)) ≡ 0)) }
+        ensures fault { IfErr result (λ partial.
+            ((group : List ℕ) × (span : ℕ) × (0 < length group)
+            × IsGathered self.now SYMBOLS (drop read input.now) group span)
+            × (partial ≡ record {
+              read = read;
+              written = written;
+              error = record {
+                position = read + position_of (kept self.now (drop read input.now)) 0;
+                kind = DecodeKind.Padding;
+              };
+            })) }
+    {
+        let rest = &input[read..];
+        let mut room = [0; 8];
+        if self.next_group::<SYMBOLS>(rest, &mut room).bytes.is_empty() {
+            return Ok(written);
+        }
+        Err(DecodePartial {
+            read,
+            written,
+            error: DecodeError {
+                position: read + self.kept_position(rest, 0),
+                kind: DecodeKind::Padding,
+            },
+        })
+    }
+
+    // What is told of a faulty group: only after a group that is too short may more be read.
+    #[cold]
+    fn stopped<const WIDTH: usize, const BYTES: usize, const SYMBOLS: usize>(
+        &self,
+        input: &[u8],
+        read: usize,
+        output: &mut [u8],
+        written: usize,
+        fault: GroupFault,
+    ) -> DecodePartial
+        requires group { IsGroup WIDTH BYTES SYMBOLS }
+        requires width { self.now.width ≡ WIDTH }
+        requires limit { length input.now ≤ DECODE_LIMIT }
+        requires within { read ≤ length input.now }
+        requires fits { written ≤ length output.old }
+        requires inside { fault.index < length (kept self.now (drop read input.now)) }
+        requires room { length (valid_front self.now (drop read input.now)) ≤ SYMBOLS
+            → WIDTH * length (valid_front self.now (drop read input.now)) / 8
+            ≤ length output.old - written }
+        ensures stop { IsStop self.now (drop read input.now) read written fault output.new result }
+        ensures kept { take written output.new ≡ take written output.old }
+    {
+        let rest = &input[read..];
+        let error = DecodeError {
+            position: read + self.kept_position(rest, fault.index),
+            kind: fault.kind,
+        };
+        if !matches!(fault.kind, DecodeKind::Length) {
+            return DecodePartial {
+                read,
+                written,
+                error,
+            };
+        }
+        match self.decode_last_run::<WIDTH, BYTES, SYMBOLS>(rest, &mut output[written..]) {
+            Some(count) => DecodePartial {
+                read: error.position,
+                written: written + count,
+                error,
+            },
+            None => DecodePartial {
+                read,
+                written,
+                error,
+            },
+        }
+    }
+
+    // Decodes the greatest front of valid length of the rest of a text as it stands, and answers
+    // how many bytes it means; nothing where it has a fault.
+    fn decode_last_run<const WIDTH: usize, const BYTES: usize, const SYMBOLS: usize>(
+        &self,
+        rest: &[u8],
+        output: &mut [u8],
+    ) -> Option<usize>
+        requires group { IsGroup WIDTH BYTES SYMBOLS }
+        requires width { self.now.width ≡ WIDTH }
+        requires limit { length rest.now ≤ DECODE_LIMIT }
+        requires room { length (valid_front self.now rest.now) ≤ SYMBOLS
+            → WIDTH * length (valid_front self.now rest.now) / 8 ≤ length output.old }
+        ensures run { IfSome result (λ written. (written ≤ length output.new)
+            × IsLastRun self.now rest.now written output.new) }
+        ensures none { result ≡ None → HasNoLastRun self.now rest.now }
+    {
+        let len = self.greatest_valid_length(rest.len());
+        if len == 0 {
+            return Some(0);
+        }
+        if len > SYMBOLS {
+            return None;
+        }
+        match self.decode_group::<WIDTH, BYTES, SYMBOLS>(&rest[..len], output) {
+            Ok(count) => Some(WIDTH * count / 8),
+            Err(_) => None,
+        }
+    }
+
+    /// The data that the text, of at most `DECODE_LIMIT` bytes, means.
     ///
     /// Padded texts that stand one after the other decode as one, where they may be concatenated.
     /// A text that means nothing has one fault: its length is judged first; then the first faulty
@@ -160,7 +306,6 @@ impl Encoding {
     /// a valid length that may mean one byte or more.
     pub fn decode(&self, alloc: Global, input: &[u8]) -> Result<Vec<u8>, DecodeFault>
         requires limit { length input.now ≤ DECODE_LIMIT }
-        requires plain { IsPlain self.now }
         ensures means { IfOk result (λ bytes. Means self.now input.now bytes.items) }
         ensures sound { IfOk result (λ bytes. (fault_of self.now input.now ≡ None)
             × (sound_bytes self.now input.now ≡ bytes.items)) }
@@ -180,34 +325,4 @@ impl Encoding {
             Err(partial) => Err(DecodeFault::Error(partial.error)),
         }
     }
-}
-
-// The next group: so many bytes, or the fewer that are left.
-fn next_group<const SYMBOLS: usize>(rest: &[u8]) -> &[u8]
-    ensures { result.now ≡ take SYMBOLS rest.now }
-{
-    if rest.len() < SYMBOLS {
-        return rest;
-    }
-    &rest[..SYMBOLS]
-}
-
-#[cold]
-fn stopped(
-    read: usize,
-    written: usize,
-    position: usize,
-    kind: DecodeKind,
-) -> Result<usize, DecodePartial>
-    ensures { result ≡ Err (record {
-      read = read;
-      written = written;
-      error = record { position = position; kind = kind };
-    }) }
-{
-    Err(DecodePartial {
-        read,
-        written,
-        error: DecodeError { position, kind },
-    })
 }

@@ -1,14 +1,10 @@
 //! From data to text.
-//!
-//! The calls that encode ask that no byte is ignored, as `interpret_byte` tells. Texts then have no
-//! lines: they are symbols, with the last group filled with padding where there is some.
 
-ghost use Rattle.std.specs.Prelude.{◌≡◌, All, ℕ, ◌<◌, ◌+◌, ◌-◌, ◌*◌, ◌/◌, ◌≤◌, List, ◌++◌, length, drop, replicate, IfOk, IsOk};
+ghost use Rattle.std.specs.Prelude.{◌≡◌, All, ℕ, ◌<◌, ◌+◌, ◌-◌, ◌*◌, ◌/◌, ◌≤◌, List, ◌++◌, length, drop, replicate, IfOk, IsOk, IsSome};
 ghost use Rattle.std.specs.String.{string_bytes};
 ghost use Rattle.data_encoding.specs.Base.{Base, IsWidth, group_bytes, group_symbols};
 ghost use Rattle.data_encoding.specs.Fields.{IsSpecified};
 ghost use Rattle.data_encoding.specs.Lengths.{alignment};
-ghost use Rattle.data_encoding.specs.Plain.{IsPlain};
 ghost use Rattle.data_encoding.specs.Tables.{IsGroup, Writes};
 ghost use Rattle.data_encoding.specs.Text.{padded_text, plain_text, text_of};
 
@@ -23,16 +19,29 @@ pub const ENCODE_LIMIT: usize = usize::MAX / 512;
 const _: () = prove!(ENCODE_LIMIT == 36028797018963967);
 
 impl Encoding {
-    /// The length of the text of `len` bytes of data, at most `ENCODE_LIMIT`.
-    ///
-    /// No byte may be ignored.
+    /// The length of the text of `len` bytes of data, at most `ENCODE_LIMIT`, with its padding and
+    /// the separators of its lines: at most 263 for each byte.
     pub fn encode_len(&self, len: usize) -> usize
         requires limit { len ≤ ENCODE_LIMIT }
-        requires plain { IsPlain self.now }
         ensures length { (bytes : List ℕ) → length bytes ≡ len
             → length (text_of self.now bytes) ≡ result }
+        ensures most { result ≤ 263 * len }
         ensures empty { len ≡ 0 → result ≡ 0 }
         ensures base { IsSpecified self.now }
+    {
+        let count = self.padded_len(len);
+        if self.column == 0 {
+            return count;
+        }
+        count + count.div_ceil(self.column as usize) * self.separator.len()
+    }
+
+    // The same without separators.
+    fn padded_len(&self, len: usize) -> usize
+        requires limit { len ≤ ENCODE_LIMIT }
+        ensures length { (bytes : List ℕ) → length bytes ≡ len
+            → length (padded_text self.now bytes) ≡ result }
+        ensures empty { len ≡ 0 → result ≡ 0 }
     {
         if self.padding.is_none() {
             return symbol_count(self.width, len);
@@ -54,24 +63,27 @@ impl Encoding {
 
     /// Writes the text of the data into `output`, which has exactly its length: `encode_len` of the
     /// data's, which is at most `ENCODE_LIMIT`.
-    ///
-    /// No byte may be ignored.
     pub fn encode_mut(&self, input: &[u8], output: &mut [u8])
         requires limit { length input.now ≤ ENCODE_LIMIT }
-        requires plain { IsPlain self.now }
         requires exact { length output.old ≡ length (text_of self.now input.now) }
         ensures text { output.new ≡ text_of self.now input.now }
         ensures ascii { All (λ byte. byte < 128) output.new }
     {
-        let (width, order) = (self.width, self.order);
-        let count = self.pad(input, output);
-        encode_by_width(&self.symbols, width, order, input, &mut output[..count]);
+        // The width is then a constant, and with it the sizes of a group: loops over a group are
+        // unrolled.
+        match self.width {
+            1 => self.encode_in_order::<1, 1, 8>(input, output),
+            2 => self.encode_in_order::<2, 1, 4>(input, output),
+            3 => self.encode_in_order::<3, 3, 8>(input, output),
+            4 => self.encode_in_order::<4, 1, 2>(input, output),
+            5 => self.encode_in_order::<5, 5, 8>(input, output),
+            _ => self.encode_in_order::<6, 3, 4>(input, output),
+        }
     }
 
     /// Does what `encode_mut` does, on the same conditions, and answers the output as text.
     pub fn encode_mut_str<'a>(&self, input: &[u8], output: &'a mut [u8]) -> &'a str
         requires limit { length input.now ≤ ENCODE_LIMIT }
-        requires plain { IsPlain self.now }
         requires exact { length output.old ≡ length (text_of self.now input.now) }
         ensures { result.now ≡ text_of self.now input.now }
     {
@@ -80,13 +92,11 @@ impl Encoding {
     }
 
     /// The text of the data, of at most `ENCODE_LIMIT` bytes: its symbols, and padding that fills
-    /// the last group.
+    /// the last group; in lines, where the encoding has them, each followed by the separator.
     ///
-    /// The only error is that memory ran out, which is never answered for no data. No byte may be
-    /// ignored.
+    /// The only error is that memory ran out, which is never answered for no data.
     pub fn encode(&self, alloc: Global, input: &[u8]) -> Result<String, AllocError>
         requires limit { length input.now ≤ ENCODE_LIMIT }
-        requires plain { IsPlain self.now }
         ensures text { IfOk result (λ text. string_bytes text ≡ text_of self.now input.now) }
         ensures empty { length input.now ≡ 0 → IsOk result }
     {
@@ -95,12 +105,143 @@ impl Encoding {
         Ok(unsafe { String::from_utf8_unchecked(output) })
     }
 
-    // Writes the padding of the text to the end of `output`, and answers how many symbols come
-    // before it.
-    fn pad(&self, input: &[u8], output: &mut [u8]) -> usize
+    // With the order as a constant too: each digit then stands at a known bit of its word.
+    fn encode_in_order<const WIDTH: usize, const BYTES: usize, const SYMBOLS: usize>(
+        &self,
+        input: &[u8],
+        output: &mut [u8],
+    )
+        requires group { IsGroup WIDTH BYTES SYMBOLS }
+        requires width { self.now.width ≡ WIDTH }
+        requires limit { length input.now ≤ ENCODE_LIMIT }
+        requires exact { length output.old ≡ length (text_of self.now input.now) }
+        ensures { output.new ≡ text_of self.now input.now }
+    {
+        if self.column != 0 {
+            return self.encode_lines_in_order::<WIDTH, BYTES, SYMBOLS>(input, output);
+        }
+        match self.order {
+            BitOrder::MostSignificantFirst => self.encode_padded::<WIDTH, BYTES, SYMBOLS>(
+                BitOrder::MostSignificantFirst,
+                input,
+                output,
+            ),
+            BitOrder::LeastSignificantFirst => self.encode_padded::<WIDTH, BYTES, SYMBOLS>(
+                BitOrder::LeastSignificantFirst,
+                input,
+                output,
+            ),
+        }
+    }
+
+    // The same in lines. Not inlined, so that texts without lines do not pay for it.
+    #[inline(never)]
+    fn encode_lines_in_order<const WIDTH: usize, const BYTES: usize, const SYMBOLS: usize>(
+        &self,
+        input: &[u8],
+        output: &mut [u8],
+    )
+        requires group { IsGroup WIDTH BYTES SYMBOLS }
+        requires width { self.now.width ≡ WIDTH }
+        requires lines { IsSome self.now.wrapping }
+        requires limit { length input.now ≤ ENCODE_LIMIT }
+        requires exact { length output.old ≡ length (text_of self.now input.now) }
+        ensures { output.new ≡ text_of self.now input.now }
+    {
+        match self.order {
+            BitOrder::MostSignificantFirst => self.encode_lines::<WIDTH, BYTES, SYMBOLS>(
+                BitOrder::MostSignificantFirst,
+                input,
+                output,
+            ),
+            BitOrder::LeastSignificantFirst => self.encode_lines::<WIDTH, BYTES, SYMBOLS>(
+                BitOrder::LeastSignificantFirst,
+                input,
+                output,
+            ),
+        }
+    }
+
+    // Line after line, the last perhaps shorter.
+    #[inline(always)]
+    fn encode_lines<const WIDTH: usize, const BYTES: usize, const SYMBOLS: usize>(
+        &self,
+        order: BitOrder,
+        input: &[u8],
+        output: &mut [u8],
+    )
+        requires group { IsGroup WIDTH BYTES SYMBOLS }
+        requires width { self.now.width ≡ WIDTH }
+        requires order { self.now.order ≡ order }
+        requires lines { IsSome self.now.wrapping }
+        requires limit { length input.now ≤ ENCODE_LIMIT }
+        requires exact { length output.old ≡ length (text_of self.now input.now) }
+        ensures { output.new ≡ text_of self.now input.now }
+    {
+        let line_bytes = self.encode_align();
+        let line_len = self.column as usize + self.separator.len();
+        for index in 0..input.len().div_ceil(line_bytes) {
+            let read = index * line_bytes;
+            let read_end = input.len().min(read + line_bytes);
+            let written = index * line_len;
+            let written_end = output.len().min(written + line_len);
+            self.encode_line::<WIDTH, BYTES, SYMBOLS>(
+                order,
+                &input[read..read_end],
+                &mut output[written..written_end],
+            );
+        }
+    }
+
+    // The text of at most a line, and the separator.
+    #[inline(always)]
+    fn encode_line<const WIDTH: usize, const BYTES: usize, const SYMBOLS: usize>(
+        &self,
+        order: BitOrder,
+        input: &[u8],
+        output: &mut [u8],
+    )
+        requires group { IsGroup WIDTH BYTES SYMBOLS }
+        requires width { self.now.width ≡ WIDTH }
+        requires order { self.now.order ≡ order }
+        requires limit { length input.now ≤ ENCODE_LIMIT }
+        requires some { 0 < length input.now }
+        requires line { length input.now ≤ alignment self.now }
+        requires exact { length output.old ≡ length (text_of self.now input.now) }
+        ensures { output.new ≡ text_of self.now input.now }
+    {
+        let end = output.len() - self.separator.len();
+        self.encode_padded::<WIDTH, BYTES, SYMBOLS>(order, input, &mut output[..end]);
+        output[end..].copy_from_slice(self.separator.as_slice());
+    }
+
+    // The symbols, and the padding.
+    #[inline(always)]
+    fn encode_padded<const WIDTH: usize, const BYTES: usize, const SYMBOLS: usize>(
+        &self,
+        order: BitOrder,
+        input: &[u8],
+        output: &mut [u8],
+    )
+        requires group { IsGroup WIDTH BYTES SYMBOLS }
+        requires width { self.now.width ≡ WIDTH }
+        requires order { self.now.order ≡ order }
         requires limit { length input.now ≤ ENCODE_LIMIT }
         requires exact { length output.old ≡ length (padded_text self.now input.now) }
-        ensures count { result ≡ (8 * length input.now + (self.now.width - 1)) / self.now.width }
+        ensures { output.new ≡ padded_text self.now input.now }
+    {
+        let count = self.pad::<WIDTH>(input, output);
+        encode_by_fours::<WIDTH, BYTES, SYMBOLS>(&self.symbols, order, input, &mut output[..count]);
+    }
+
+    // Writes the padding of the text to the end of `output`, and answers how many symbols come
+    // before it.
+    #[inline(always)]
+    fn pad<const WIDTH: usize>(&self, input: &[u8], output: &mut [u8]) -> usize
+        requires width { self.now.width ≡ WIDTH }
+        requires limit { length input.now ≤ ENCODE_LIMIT }
+        requires exact { length output.old ≡ length (padded_text self.now input.now) }
+        ensures count { result ≡ (8 * length input.now + (WIDTH - 1)) / WIDTH }
         ensures inside { result ≤ length output.new }
         ensures padding { padded_text self.now input.now
             ≡ plain_text self.now input.now ++ drop result output.new }
@@ -108,7 +249,7 @@ impl Encoding {
         let Some(character) = self.padding else {
             return output.len();
         };
-        let count = symbol_count(self.width, input.len());
+        let count = symbol_count(WIDTH as u8, input.len());
         output[count..].fill(character);
         count
     }
@@ -147,58 +288,9 @@ fn filled_count(width: u8, len: usize) -> usize
     }
 }
 
-// Makes the width a constant, and with it the sizes of a group: loops over a group are unrolled.
-fn encode_by_width(symbols: &[u8; 256], width: u8, order: BitOrder, input: &[u8], output: &mut [u8])
-    requires width { IsWidth width }
-    requires limit { length input.now ≤ ENCODE_LIMIT }
-    requires exact { length output.old ≡ (8 * length input.now + (width - 1)) / width }
-    ensures { (base : Base) → Writes base symbols.now width order
-        → output.new ≡ plain_text base input.now }
-{
-    match width {
-        1 => encode_in_order::<1, 1, 8>(symbols, order, input, output),
-        2 => encode_in_order::<2, 1, 4>(symbols, order, input, output),
-        3 => encode_in_order::<3, 3, 8>(symbols, order, input, output),
-        4 => encode_in_order::<4, 1, 2>(symbols, order, input, output),
-        5 => encode_in_order::<5, 5, 8>(symbols, order, input, output),
-        _ => encode_in_order::<6, 3, 4>(symbols, order, input, output),
-    }
-}
-
-// Makes the order a constant too: each digit then stands at a known bit of its word.
-fn encode_in_order<const WIDTH: usize, const BYTES: usize, const SYMBOLS: usize>(
-    symbols: &[u8; 256],
-    order: BitOrder,
-    input: &[u8],
-    output: &mut [u8],
-)
-    requires group { IsGroup WIDTH BYTES SYMBOLS }
-    requires limit { length input.now ≤ ENCODE_LIMIT }
-    requires exact { length output.old ≡ (8 * length input.now + (WIDTH - 1)) / WIDTH }
-    ensures { (base : Base) → Writes base symbols.now WIDTH order
-        → output.new ≡ plain_text base input.now }
-{
-    match order {
-        BitOrder::MostSignificantFirst => {
-            encode_by_fours::<WIDTH, BYTES, SYMBOLS>(
-                symbols,
-                BitOrder::MostSignificantFirst,
-                input,
-                output,
-            )
-        }
-        BitOrder::LeastSignificantFirst => {
-            encode_by_fours::<WIDTH, BYTES, SYMBOLS>(
-                symbols,
-                BitOrder::LeastSignificantFirst,
-                input,
-                output,
-            )
-        }
-    }
-}
-
-// Four groups at a time, so that the loop's own steps cost less, and then what is left.
+// Four groups at a time, so that the loop's own steps cost less, and then what is left. Inlined, so
+// that the order is a constant.
+#[inline(always)]
 fn encode_by_fours<const WIDTH: usize, const BYTES: usize, const SYMBOLS: usize>(
     symbols: &[u8; 256],
     order: BitOrder,

@@ -96,6 +96,9 @@ pub struct Encoding {
 
     pub(crate) padding: Option<u8>,
 
+    // Whether a byte is ignored, as the table of values tells.
+    pub(crate) ignores: bool,
+
     // The length of a line, or 0, and what follows each line.
     pub(crate) column: u8,
     pub(crate) separator: ArrayVec<u8, 255>,
@@ -183,6 +186,7 @@ impl Clone for Encoding {
             checks_trailing_bits: self.checks_trailing_bits,
             concatenates: self.concatenates,
             padding: self.padding,
+            ignores: self.ignores,
             column: self.column,
             separator: copied(self.separator.as_slice()),
         })

@@ -33,7 +33,8 @@ impl Encoding {
         requires width { self.now.width ≡ WIDTH }
         requires some { 0 < length group.now }
         requires few { length group.now ≤ SYMBOLS }
-        requires room { WIDTH * length group.now / 8 ≤ length output.old }
+        requires room { (is_padded self.now ≡ true → length group.now ≡ SYMBOLS)
+            → WIDTH * length group.now / 8 ≤ length output.old }
         ensures sound { IfOk result (λ count.
             IsDecodedGroup self.now group.now count output.new) }
         ensures fault { IfErr result (HasFault self.now group.now) }
@@ -64,6 +65,8 @@ impl Encoding {
         requires some { 0 < length group.now }
         requires few { length group.now ≤ SYMBOLS }
         ensures symbols { IfOk result (HasSymbols self.now group.now) }
+        ensures whole { IfOk result
+            (λ _. is_padded self.now ≡ true → length group.now ≡ SYMBOLS) }
         ensures fault { IfErr result (HasFault self.now group.now) }
     {
         if self.padding.is_none() {

@@ -2,10 +2,9 @@
 
 ghost use Rattle.std.specs.Prelude.{◌≡◌, ◌+◌, ◌≤◌, ◌++◌, length, if◌then◌else◌, unwrap_or};
 ghost use Rattle.arrayvec.specs.ArrayVec.{array_vec_len};
-ghost use Rattle.data_encoding.specs.Base.{ignores_some};
 ghost use Rattle.data_encoding.specs.Layout.{layout, order_flag};
 
-use crate::encoding::{BitOrder, Encoding, IGNORED, INVALID};
+use crate::encoding::{BitOrder, Encoding, INVALID};
 use arrayvec::ArrayVec;
 
 impl Encoding {
@@ -20,7 +19,7 @@ impl Encoding {
         if self.column != 0 {
             put(&mut bytes, &[self.column]);
             put(&mut bytes, self.separator.as_slice());
-        } else if self.ignores_some() {
+        } else if self.ignores {
             put(&mut bytes, &[0]);
         }
         bytes
@@ -40,13 +39,6 @@ impl Encoding {
         let check = if self.checks_trailing_bits { 16 } else { 0 };
         let single = if self.concatenates { 0 } else { 32 };
         self.width + order + check + single
-    }
-
-    // Whether a byte is ignored.
-    fn ignores_some(&self) -> bool
-        ensures { result ≡ ignores_some self.now }
-    {
-        self.values[..128].contains(&IGNORED)
     }
 }
 

@@ -11,6 +11,7 @@ mod decode;
 mod encode;
 mod encoding;
 mod error;
+mod gather;
 mod group;
 pub mod laws;
 mod layout;

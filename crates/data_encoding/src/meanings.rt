@@ -1,9 +1,9 @@
 //! What each byte means while a specification is judged.
 
 ghost use Rattle.std.specs.Prelude.{◌≡◌, ◌/◌, ◌%◌, ◌^◌, ◌==◌, ◌||◌, ◌<◌, ◌≤◌, List, [], length, take, map, replicate, zip, slice_index_or, if◌then◌else◌, is_none, IfOk, OnOk, IfErr, IfSome, IsTrue, Ok, Err, Some, None};
-ghost use Rattle.std.specs.List.{concat};
+ghost use Rattle.std.specs.List.{concat, list_any};
 ghost use Rattle.data_encoding.specs.declared.encoding.Character.TheVariants.{Invalid};
-ghost use Rattle.data_encoding.specs.Base.{IsWidth};
+ghost use Rattle.data_encoding.specs.Base.{IsWidth, is_ignored};
 ghost use Rattle.data_encoding.specs.Encoding.{wrapping_by};
 ghost use Rattle.data_encoding.specs.Entries.{meaning_of_entry, is_entry_of, HoldsEntries};
 ghost use Rattle.data_encoding.specs.Fields.{Fields, base_of, base_by, defined, ignored_judgements, judgements, meanings_after, no_meanings, padding_judgements, symbol_judgements, translated, translation_judgements, width_of, wrapping_judgements, wraps};
@@ -210,6 +210,13 @@ impl Meanings {
             self.translate_byte(from[index], to[index])?;
         }
         Ok(())
+    }
+
+    // Whether a byte is ignored.
+    pub(crate) fn ignores_some(&self) -> bool
+        ensures { result ≡ list_any is_ignored self.now }
+    {
+        self.values[..128].contains(&IGNORED)
     }
 
     // The table of values.

@@ -3,7 +3,6 @@
 ghost use Rattle.std.specs.Prelude.{◌≡◌, Ok};
 ghost use Rattle.data_encoding.specs.Encoding.{KeepsRules, base_of_tables};
 ghost use Rattle.data_encoding.specs.Fields.{base_of};
-ghost use Rattle.data_encoding.specs.Plain.{IsPlain};
 ghost use Rattle.data_encoding.specs.Predefined.{hexlower_fields, tables_of};
 
 use crate::encoding::{BitOrder, Encoding, copied};
@@ -17,6 +16,7 @@ struct Predefined {
     checks_trailing_bits: bool,
     concatenates: bool,
     padding: Option<u8>,
+    ignores: bool,
     column: u8,
     separator: &'static [u8],
 }
@@ -37,6 +37,7 @@ impl Predefined {
             checks_trailing_bits: self.checks_trailing_bits,
             concatenates: self.concatenates,
             padding: self.padding,
+            ignores: self.ignores,
             column: self.column,
             separator: copied(separator),
         }
@@ -79,14 +80,14 @@ static HEXLOWER: Predefined = Predefined {
     checks_trailing_bits: true,
     concatenates: true,
     padding: None,
+    ignores: false,
     column: 0,
     separator: b"",
 };
 
 /// Hexadecimal with the letters `a` to `f`: RFC 4648, section 8, in lower case.
 pub fn hexlower() -> Encoding
-    ensures yields { base_of hexlower_fields ≡ Ok result }
-    ensures plain { IsPlain result }
+    ensures { base_of hexlower_fields ≡ Ok result }
 {
     HEXLOWER.encoding()
 }

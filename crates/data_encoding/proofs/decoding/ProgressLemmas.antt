@@ -6,7 +6,7 @@ use Rattle.std.proofs.lemmas.List.Concat.{flat_map-append}
 use Rattle.std.proofs.Math.Nat.{zero-mod, mul-le-mul_left, mul-mod_left, add-mul, zero-mul, suc-mul, mod_self}
 use Rattle.std.proofs.lemmas.Nat.{div-add-mod'}
 use Rattle.std.specs.Prelude.{flat_map}
-use Rattle.data_encoding.specs.Base.{Base, meaning, is_symbol, is_padded, ignores_some, group_bytes, group_symbols, IsWidth}
+use Rattle.data_encoding.specs.Base.{Base, meaning, is_symbol, is_padded, group_bytes, group_symbols, IsWidth}
 use Rattle.data_encoding.specs.Bits.{runs}
 use Rattle.data_encoding.specs.Grammar.{Positioned, positioned, positioned_from, kept, groups, is_final, Means}
 use Rattle.data_encoding.specs.Lengths.{length_fault, most_bytes}
@@ -15,8 +15,8 @@ use Rattle.data_encoding.specs.Partial.{position_after}
 use Rattle.data_encoding.proofs.digits.WidthLemmas.{group_bits, group_symbols-pos}
 use Rattle.data_encoding.proofs.lists.RunLemmas.{runs-nil, runs-join, runs-short, flat_map-runs}
 use Rattle.data_encoding.proofs.lists.EndLemmas.{AllSo}
-use Rattle.data_encoding.proofs.grammar.PositionLemmas.{filter-plain, length-kept, length-positioned_from, bytes-positioned_from}
-use Rattle.data_encoding.proofs.grammar.KeptLemmas.{kept_in, kept_from, between, kept-split, kept-more, kept_from-more, nothing-left, position_after-append, position_after-positioned}
+use Rattle.data_encoding.proofs.grammar.PositionLemmas.{length-kept, length-positioned_from, bytes-positioned_from}
+use Rattle.data_encoding.proofs.grammar.KeptLemmas.{kept_in, kept_from, between, kept-split, kept-more, kept_from-more, position_after-append, position_after-positioned}
 use Rattle.data_encoding.proofs.grammar.LengthLemmas.{most_bytes-by}
 use Rattle.data_encoding.proofs.grammar.GroupLemmas.{GroupMeans-sound}
 use Rattle.data_encoding.proofs.grammar.MeaningLemmas.{Means-no_fault}
@@ -51,36 +51,6 @@ pub record IsNext (base : Base) (text : List ℕ) (read stop : ℕ) (group : Lis
   pub is_part : IsPart base text read stop group
   pub few : length group ≤ group_symbols base.width
   pub last : (length group ≡ group_symbols base.width) ⊎ (kept_from base stop text ≡ [])
-
--- where nothing is ignored: so many bytes as they stand, a whole group or all that are left
-pub next-plain : (base : Base) → ignores_some base ≡ false → (text : List ℕ) (read count : ℕ)
-    → 0 < count → count ≤ group_symbols base.width → read + count ≤ length text
-    → (count ≡ group_symbols base.width) ⊎ (read + count ≡ length text)
-    → IsNext base text read (read + count) (positioned_from read (take count (drop read text)))
-next-plain base none text read count some few within last =
-    let part = take count (drop read text) in
-    let part_len : length part ≡ count =
-    length-take-le count (drop read text) (omega (arith, length-drop read text, within)) in
-    let len : length (positioned_from read part) ≡ count =
-    length-positioned_from read part ∙ part_len in
-    let same : read + count - read ≡ count = omega arith in
-    record {
-      is_part = record {
-        after = omega arith;
-        within = within;
-        is_kept =
-            sym (filter-plain base none (positioned_from read (between read (read + count) text))
-            ∙ ap (λ n. positioned_from read (take n (drop read text))) same);
-        some = omega (arith, len, some);
-        ends = position_after-positioned read part (omega (arith, part_len, some))
-            ∙ ap (λ n. read + n) part_len;
-      };
-      few = omega (arith, len, few);
-      last = ⊎_elim {C = (length (positioned_from read part) ≡ group_symbols base.width)
-          ⊎ (kept_from base (read + count) text ≡ [])}
-          (λ whole. inl (len ∙ whole))
-          (λ end. inr (ap (λ n. kept_from base n text) end ∙ nothing-left base text)) last;
-    }
 
 all_at : (test : ℕ → Bool) (xs : List ℕ)
     → ((k : ℕ) → k < length xs → test (get_or xs k 0) ≡ true) → AllSo test xs

@@ -52,7 +52,7 @@ module _ (base : Base) (width : IsWidth base.width) (len : ℕ)
         ∙ ap (λ n. nat_lt n base.width) none_over ∙ grind (arith, nat_tests, width.some)
 
 -- the kind of a fault of symbols, or of padding
-kind_of : (fault error : DecodeError) → Some fault ≡ Some error
+pub kind_of : (fault error : DecodeError) → Some fault ≡ Some error
     → is_length_fault fault.kind ≡ false → is_length_fault error.kind ≡ false
 kind_of fault error h k =
     let same : fault ≡ error = cc in subst (λ x. is_length_fault x.kind ≡ false) same k
@@ -83,7 +83,7 @@ kind-padding base group true count error h =
 kind-padding base group false count error h = kind-symbols base (take count group) error h
 
 -- a whole group has no fault of a length, nor has an unpadded one of a valid number
-kind-group : (base : Base) (group : List Positioned) (error : DecodeError) (b : Bool)
+pub kind-group : (base : Base) (group : List Positioned) (error : DecodeError) (b : Bool)
     → is_padded base ≡ b
     → cond b (nat_lt (length group) (group_symbols base.width) ≡ false)
     (is_valid_count base.width (length group) ≡ true)
@@ -110,13 +110,13 @@ module _ (base : Base) (width : IsWidth base.width) (text : List ℕ) (read writ
   abbrev dec : ℕ
   dec = group_symbols base.width
 
-  pos : 0 < dec
+  pub pos : 0 < dec
   pos = group_symbols-pos base.width width
 
-  whole : length (kept base (take read text)) % dec ≡ 0
+  pub whole : length (kept base (take read text)) % dec ≡ 0
   whole = whole-before base width text read written ended output stop group so_far next.is_part
 
-  rest_is : kept_from base read text ≡ group ++ kept_from base stop text
+  pub rest_is : kept_from base read text ≡ group ++ kept_from base stop text
   rest_is =
       kept_from-more base read text so_far.within stop next.is_part.after next.is_part.within
       ∙ ap (λ l. l ++ kept_from base stop text) (sym next.is_part.is_kept)
@@ -142,7 +142,7 @@ module _ (base : Base) (width : IsWidth base.width) (text : List ℕ) (read writ
       ∙ runs-join dec (kept base (take read text)) (group ++ kept_from base stop text) pos whole
       ∙ ap (λ l. groups base (take read text) ++ l) groups_left
 
-  fault_is : fault_of base text ≡ Some error
+  pub fault_is : fault_of base text ≡ Some error
   fault_is =
       (λ i. or_else (no_length_fault i) (first_after false base (groups_are i)))
       ∙ first-AreSound base false ended (groups base (take read text)) (group ∷ others) so_far.sound
@@ -156,7 +156,7 @@ module _ (base : Base) (width : IsWidth base.width) (text : List ℕ) (read writ
       (group ∷ sound_after (is_final base group) base others)) faulty
       ∙ append-nil (groups base (take read text))
 
-  sound_len_is : sound_len base text ≡ read
+  pub sound_len_is : sound_len base text ≡ read
   sound_len_is =
       ap (λ gs. position_after (flat_map (λ g. g) gs)) sound_are
       ∙ ap position_after (flat_map-runs dec (kept base (take read text)) pos) ∙ so_far.ends
@@ -181,7 +181,7 @@ module _ (base : Base) (width : IsWidth base.width) (text : List ℕ) (read writ
     by false h =
         group_fault-inside base width group next.is_part.some next.few error h
 
-  bounds : (read ≤ error.position) × (error.position < stop)
+  pub bounds : (read ≤ error.position) × (error.position < stop)
   bounds =
       let part = between read stop text in
       let part_len = length-between base read text so_far.within stop next.is_part.after

@@ -19,7 +19,7 @@ use Rattle.data_encoding.specs.Words.{digit, low_byte, weight, zeros_to, word_of
 use Rattle.data_encoding.proofs.digits.BitLemmas.{AreBits, AreBits-flat_map, AreBits-bits_of}
 use Rattle.data_encoding.proofs.grammar.UnpaddedGroupLemmas.{length-bits_of_bytes, length-bits_of_values}
 use Rattle.data_encoding.proofs.lists.RunLemmas.{run_count}
-use Rattle.data_encoding.proofs.text.UnpaddedTextLemmas.{text_by, missing-none, run_count-missing}
+use Rattle.data_encoding.proofs.text.PlainTextLemmas.{text_by, missing-none, run_count-missing}
 use Rattle.data_encoding.proofs.digits.WidthLemmas.{group_bits}
 use Rattle.data_encoding.proofs.digits.WordLemmas.{digits-runs, first_chunks-append, map-twice, map-range-same}
 

@@ -277,7 +277,7 @@ pub map-twice : {X Y Z : Type 0} (f : Y → Z) (g : X → Y) (xs : List X)
 map-twice f g [] = refl
 map-twice f g (x ∷ xs) = ap (λ l. f (g x) ∷ l) (map-twice f g xs)
 
-AreBits-zeros : (n : ℕ) → AreBits (replicate n 0)
+pub AreBits-zeros : (n : ℕ) → AreBits (replicate n 0)
 AreBits-zeros zero = tt
 AreBits-zeros (suc n) = (omega arith, AreBits-zeros n)
 

@@ -24,7 +24,7 @@ abbrev pub between : ℕ → ℕ → List ℕ → List ℕ
 between read stop text = take (stop - read) (drop read text)
 
 module _ (base : Base) where
-  kept_in-append : (start : ℕ) (xs ys : List ℕ)
+  pub kept_in-append : (start : ℕ) (xs ys : List ℕ)
       → kept_in base start (xs ++ ys) ≡ kept_in base start xs ++ kept_in base (start + length xs) ys
   kept_in-append start xs ys =
       let keeps : Positioned → Bool = λ k. not (is_ignored (meaning base k.byte)) in

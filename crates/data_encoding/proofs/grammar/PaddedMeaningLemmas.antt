@@ -115,8 +115,9 @@ module _ (base : Base) (width : IsWidth base.width) (padded : is_padded base ≡
         (few_in_chunks (group_symbols base.width) _ (kept base text)) sound)
 
     module _ (bytes : List ℕ) (means : GroupsMean base (groups base text) bytes) where
-      whole : length (kept base text) ≡ length (groups base text) * group_symbols base.width
-      whole =
+      pub length-groups : length (kept base text)
+          ≡ length (groups base text) * group_symbols base.width
+      length-groups =
           ap length (sym (flat_map-runs (group_symbols base.width) (kept base text)
           (group_symbols-pos base.width width)))
           ∙ whole-GroupsMean (groups base text) bytes means
@@ -126,7 +127,8 @@ module _ (base : Base) (width : IsWidth base.width) (padded : is_padded base ≡
           length_fault-none base (length text)
           (λ none.
           let exact : length text % group_symbols base.width ≡ 0 =
-          ap (λ n. n % group_symbols base.width) (sym (length-kept_plain base text none) ∙ whole)
+          ap (λ n. n % group_symbols base.width)
+          (sym (length-kept_plain base text none) ∙ length-groups)
           ∙ mul-mod_left (length (groups base text)) (group_symbols base.width) in
           is_valid_length-by base (length text) true padded ∙ grind (arith, nat_tests))
 
@@ -150,7 +152,7 @@ module _ (base : Base) (width : IsWidth base.width) (padded : is_padded base ≡
       length-padded =
           let count = length (groups base text) in
           let fits : count * group_symbols base.width ≤ length text =
-          omega (arith, whole, length-kept base text) in
+          omega (arith, length-groups, length-kept base text) in
           let few : count ≤ length text / group_symbols base.width =
           (le-div_iff_mul-le {k = group_symbols base.width} {x = count} {y = length text}
           (group_symbols-pos base.width width)).1 fits in

@@ -70,12 +70,17 @@ each_kept : (base : Base) → ((byte : ℕ) → is_ignored (meaning base byte) �
 each_kept base h [] = tt
 each_kept base h (k ∷ ks) = (ap not (h k.byte), each_kept base h ks)
 
--- where nothing is ignored, each byte is kept
+-- where nothing is ignored, no byte is
+pub never_ignored : (base : Base) → ignores_some base ≡ false → (byte : ℕ)
+    → is_ignored (meaning base byte) ≡ false
+never_ignored base h = not_ignored_at base.meanings (AllFail-list_any is_ignored base.meanings h)
+
+-- and each is kept
 pub filter-plain : (base : Base) → ignores_some base ≡ false → (ks : List Positioned)
     → filter (λ k. not (is_ignored (meaning base k.byte))) ks ≡ ks
 filter-plain base h ks =
     filter-all (λ (k : Positioned). not (is_ignored (meaning base k.byte))) ks
-    (each_kept base (not_ignored_at base.meanings (AllFail-list_any is_ignored base.meanings h)) ks)
+    (each_kept base (never_ignored base h) ks)
 
 pub length-kept : (base : Base) (text : List ℕ) → length (kept base text) ≤ length text
 length-kept base text =

@@ -36,7 +36,7 @@ module _ (base : Base) (width : IsWidth base.width) where
   }
 
   -- symbols of so many whole bytes and others mean their bytes joined
-  PlainMeans-append : (group others : List Positioned) (bytes more : List ℕ) (whole : ℕ)
+  pub PlainMeans-append : (group others : List Positioned) (bytes more : List ℕ) (whole : ℕ)
       → base.width * length group ≡ 8 * whole → PlainMeans base group bytes
       → PlainMeans base others more → PlainMeans base (group ++ others) (bytes ++ more)
   PlainMeans-append group others bytes more whole all first second =

@@ -1,5 +1,5 @@
 -- Symbols of one group: the bytes that they mean, and their fault.
-use Rattle.std.proofs.Common.{◌≡◌, ℕ, zero, suc, ◌+◌, ◌-◌, ◌*◌, ◌/◌, ◌%◌, ◌^◌, ◌<◌, ◌≤◌, ◌==◌, Bool, true, false, not, cond, ◌&&◌, nat_lt, List, [], ◌∷◌, ◌++◌, length, map, take, drop, replicate, Option, Some, None, refl, sym, ap, ◌∙◌, subst, arith, length-append, take-append-drop, length-take-le}
+use Rattle.std.proofs.Common.{◌≡◌, ℕ, zero, suc, ◌+◌, ◌*◌, ◌/◌, ◌%◌, ◌<◌, ◌≤◌, ◌==◌, Bool, true, false, not, cond, ◌&&◌, nat_lt, List, [], ◌∷◌, ◌++◌, length, map, take, drop, replicate, Option, Some, None, refl, sym, ap, ◌∙◌, subst, arith, length-append, take-append-drop, length-take-le}
 use Rattle.std.proofs.lemmas.Bool.{false≢true}
 use Rattle.std.proofs.lemmas.Bool.Decides.{nat_tests}
 use Rattle.std.proofs.lemmas.List.{length-map, length-drop, take_at, drop_at}
@@ -17,47 +17,10 @@ use Rattle.data_encoding.specs.Grammar.{Positioned, PlainMeans}
 use Rattle.data_encoding.specs.Lengths.{is_valid_count, greatest_valid_count}
 use Rattle.data_encoding.specs.Fault.{symbol_bits, trailing_bits, bytes_of_group, plain_fault, symbols_fault, trailing_fault, fault_at_first, fault_at}
 use Rattle.data_encoding.specs.declared.error.DecodeKind.TheVariants.{Length as LengthFault}
-use Rattle.data_encoding.proofs.digits.BitLemmas.{AreBits, AreBits-take, AreBits-drop, AreBits-flat_map, AreBits-bits_of, length-bits_of, length-pieces, bits_of-number_of, number_of-bits_of, number_of-below}
+use Rattle.data_encoding.proofs.digits.BitLemmas.{AreBits, AreBits-take, AreBits-flat_map, AreBits-bits_of, length-bits_of, length-pieces, number_of-bits_of}
+use Rattle.data_encoding.proofs.digits.ValueLemmas.{AreValuesOf-runs}
 use Rattle.data_encoding.proofs.lists.ListLemmas.{AllFail, position-none, AllFail-position, list_any-none, AllFail-list_any, filter_map-map, zeros}
-use Rattle.data_encoding.proofs.lists.RunLemmas.{runs-first, runs-flat_map}
-
--- whole bytes of bits are the bits of those bytes
-record AreBytesOf (order : BitOrder) (bits bytes : List ℕ) : Type 0 where
-  same_bits : bits_of_bytes order bytes ≡ bits
-  below : AllByRecursion (λ byte. byte < 256) bytes
-
-bytes_within : (n : ℕ) (order : BitOrder) (bits : List ℕ) → AreBits bits → length bits % 8 ≡ 0
-    → length bits ≤ n → AreBytesOf order bits (map (number_of order) (runs 8 bits))
-bytes_within n order [] h e k = record { same_bits = refl; below = tt }
-bytes_within zero order (bit ∷ bits) h e k = absurd (omega (arith, k))
-bytes_within (suc n) order (bit ∷ bits) h e k =
-    let all = bit ∷ bits in
-    let long : 8 ≤ length all = omega (arith, e) in
-    let front = take 8 all in
-    let rest = drop 8 all in
-    let front_len : length front ≡ 8 = length-take-le 8 all long in
-    let rest_len : length rest ≡ length all - 8 = length-drop 8 all in
-    let front_bits : AreBits front = AreBits-take 8 all h in
-    let others = bytes_within n order rest (AreBits-drop 8 all h) (omega (arith, rest_len, e))
-    (omega (arith, rest_len, k)) in
-    let first : bits_of order 8 (number_of order front) ≡ front =
-    subst (λ m. bits_of order m (number_of order front) ≡ front) front_len
-    (bits_of-number_of order front front_bits) in
-    let first_below : number_of order front < 2 ^ 8 =
-    subst (λ m. number_of order front < 2 ^ m) front_len (number_of-below order front front_bits) in
-    let is : number_of order front ∷ map (number_of order) (runs 8 rest)
-    ≡ map (number_of order) (runs 8 all) =
-    ap (map (number_of order)) (sym (runs-first 8 all (omega arith) (omega arith))) in
-    subst (AreBytesOf order all) is (record {
-      same_bits =
-          ap (λ l. l ++ bits_of_bytes order (map (number_of order) (runs 8 rest))) first
-          ∙ ap (λ l. front ++ l) others.same_bits ∙ take-append-drop 8 all;
-      below = (omega (arith, first_below), others.below);
-    })
-
-AreBytesOf-runs : (order : BitOrder) (bits : List ℕ) → AreBits bits → length bits % 8 ≡ 0
-    → AreBytesOf order bits (map (number_of order) (runs 8 bits))
-AreBytesOf-runs order bits h e = bytes_within (length bits) order bits h e (omega arith)
+use Rattle.data_encoding.proofs.lists.RunLemmas.{runs-flat_map}
 
 numbers_back : (order : BitOrder) (bytes : List ℕ) → AllByRecursion (λ byte. byte < 256) bytes
     → map (number_of order) (map (bits_of order 8) bytes) ≡ bytes
@@ -230,8 +193,8 @@ module _ (base : Base) (width : IsWidth base.width) where
       let are_bits : AreBits bits = AreBits-flat_map (bits_of base.order base.width)
       (values_in base group) (AreBits-bits_of base.order base.width) in
       let front_len : length (take whole bits) ≡ whole = length-take-le whole bits (omega arith) in
-      let bytes = AreBytesOf-runs base.order (take whole bits) (AreBits-take whole bits are_bits)
-      (omega (arith, front_len)) in
+      let bytes = AreValuesOf-runs (length bits / 8) base.order 8 (take whole bits) (omega arith)
+      (AreBits-take whole bits are_bits) (omega (arith, front_len)) in
       let symbols = are_symbols base group none.0 in
       let many : length (values_in base group) ≡ length group =
       sym (length-map (values_in base group) (λ value. Symbol value)) ∙ ap length (sym symbols)

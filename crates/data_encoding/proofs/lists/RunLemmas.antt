@@ -1,12 +1,16 @@
 -- Lists cut into runs.
-use Rattle.std.proofs.Common.{◌≡◌, ℕ, zero, suc, ◌+◌, ◌-◌, ◌*◌, ◌/◌, ◌%◌, ◌<◌, ◌≤◌, List, [], ◌∷◌, ◌++◌, length, map, take, drop, refl, sym, ap, ◌∙◌, arith, length-append, append_assoc, take-append-drop, length-take-le, ⊎_elim}
-use Rattle.std.proofs.Math.Nat.{add-div_left, div-eq_of_lt, div-eq_of_lt-le, zero-mul, suc-mul}
+use Rattle.std.proofs.Common.{◌≡◌, ℕ, zero, suc, ◌+◌, ◌-◌, ◌*◌, ◌/◌, ◌%◌, ◌<◌, ◌≤◌, List, [], ◌∷◌, ◌++◌, length, map, take, drop, refl, sym, ap, ◌∙◌, arith, length-append, append_assoc, take-append-drop, length-take-le, subst, ⊎_elim}
+use Rattle.std.proofs.Math.Nat.{add-div_left, add-mul, div-eq_of_lt, div-eq_of_lt-le, div-mul-le_self, lt-div-mul-add, mul-le-mul_right, zero-mul, suc-mul}
 use Rattle.std.proofs.lemmas.List.{take_at, drop_at, take_all, drop_all, length-map, take-map, drop-map, nil_from_length, length-drop}
 use Rattle.std.proofs.lemmas.Nat.{div-add-mod'}
 use Rattle.std.proofs.lemmas.Bool.{cases_lt}
+use Rattle.std.proofs.lemmas.Grind.{div_ceil_times}
+use Rattle.std.specs.Int.{div_ceil}
+use Rattle.std.specs.List.{AllByRecursion}
 use Rattle.std.specs.Prelude.{flat_map}
 use Rattle.std.specs.Simd.{first_chunks}
 use Rattle.data_encoding.specs.Bits.{runs}
+use Rattle.data_encoding.proofs.lists.EachLemmas.{all_joined, all_parts}
 
 -- how many runs there are
 abbrev pub run_count : ℕ → ℕ → ℕ
@@ -20,6 +24,47 @@ run_count-add size n h =
 run_count-short : (size n : ℕ) → 0 < n → n ≤ size → run_count size n ≡ 1
 run_count-short size n h k =
     div-eq_of_lt-le size (omega arith) (omega arith)
+
+-- each of them begins before the end, and together they reach it
+pub run-before : (size n i : ℕ) → 0 < size → i < run_count size n → i * size < n
+run-before size n i h k =
+    let up : (i + 1) * size ≤ run_count size n * size = mul-le-mul_right size (omega (arith, k)) in
+    omega (arith, up, add-mul i 1 size, div-mul-le_self (n + (size - 1)) size, h)
+
+pub runs-reach : (size n : ℕ) → 0 < size → n ≤ run_count size n * size
+runs-reach size n h =
+    let past : n + (size - 1) < run_count size n * size + size = lt-div-mul-add h in
+    omega (arith, past, h)
+
+-- the same by division that rounds up
+pub div_ceil-runs : (size n : ℕ) → 0 < size → div_ceil n size ≡ run_count size n
+div_ceil-runs size n h =
+    let bounds = div_ceil_times n size h in
+    sym (div-eq_of_lt-le {k = div_ceil n size} size {m = n + (size - 1)}
+    (omega (arith, bounds.1, h))
+    (omega (arith, bounds.0, h, add-mul (div_ceil n size) 1 size)))
+
+pub run_count-few : (size n k : ℕ) → 0 < size → n ≤ k * size → run_count size n ≤ k
+run_count-few size n k h few =
+    ⊎_elim {C = run_count size n ≤ k}
+    (λ (more : k < run_count size n). absurd (omega (arith, run-before size n k h more, few)))
+    (λ (less : run_count size n ≤ k). less)
+    (cases_lt k (run_count size n))
+
+pub run_count-some : (size n : ℕ) → 0 < size → 0 < n → 0 < run_count size n
+run_count-some size n h some =
+    ⊎_elim {C = 0 < run_count size n}
+    (λ (more : 0 < run_count size n). more)
+    (λ (none : run_count size n ≤ 0).
+    let no_more : run_count size n ≡ 0 = omega (arith, none) in
+    absurd (omega (
+      arith,
+      runs-reach size n h,
+      some,
+      ap (λ k. k * size) no_more,
+      zero-mul size,
+    )))
+    (cases_lt 0 (run_count size n))
 
 pub runs-nil : {X : Type 0} (size : ℕ) → 0 < size → runs {X = X} size [] ≡ []
 runs-nil size h = ap (λ k. first_chunks size k []) (div-eq_of_lt (omega arith))
@@ -133,3 +178,39 @@ length-first_chunks size (suc k) xs = ap (λ n. suc n) (length-first_chunks size
 pub length-runs : {X : Type 0} (size : ℕ) (xs : List X)
     → length (runs size xs) ≡ run_count size (length xs)
 length-runs size xs = length-first_chunks size (run_count size (length xs)) xs
+
+length-each_ended : {X : Type 0} (end : List X) (parts : List (List X))
+    → length (flat_map (λ part. part ++ end) parts)
+    ≡ length (flat_map (λ part. part) parts) + length parts * length end
+length-each_ended end [] = sym (zero-mul (length end)) ∙ omega arith
+length-each_ended end (part ∷ parts) =
+    let more : suc (length parts) * length end
+    ≡ length end + length parts * length end = suc-mul (length parts) (length end) ∙ omega arith in
+    omega (
+      arith,
+      length-append (part ++ end) (flat_map (λ p. p ++ end) parts),
+      length-append part end,
+      length-append part (flat_map (λ p. p) parts),
+      length-each_ended end parts,
+      more,
+    )
+
+-- the runs with an end behind each
+pub length-ended : {X : Type 0} (size : ℕ) (end xs : List X) → 0 < size
+    → length (flat_map (λ run. run ++ end) (runs size xs))
+    ≡ length xs + run_count size (length xs) * length end
+length-ended size end xs h =
+    length-each_ended end (runs size xs)
+    ∙ (λ i. length (flat_map-runs size xs h i) + length-runs size xs i * length end)
+
+pub all_ended : {X : Type 0} (P : X → Type 0) (end : List X) → AllByRecursion P end
+    → (size k : ℕ) (xs : List X) → AllByRecursion P xs
+    → AllByRecursion P (flat_map (λ run. run ++ end) (first_chunks size k xs))
+all_ended P end ends size zero xs all = tt
+all_ended P end ends size (suc k) xs all =
+    let parts = all_parts P (take size xs) (drop size xs)
+    (subst (AllByRecursion P) (sym (take-append-drop size xs)) all) in
+    all_joined P (take size xs ++ end)
+    (flat_map (λ run. run ++ end) (first_chunks size k (drop size xs)))
+    (all_joined P (take size xs) end parts.0 ends)
+    (all_ended P end ends size k (drop size xs) parts.1)

@@ -1,10 +1,10 @@
 -- What the builder makes of a specification.
 use Rattle.std.proofs.Common.{◌≡◌, ℕ, zero, suc, ◌%◌, ◌/◌, ◌^◌, ◌<◌, ◌==◌, Bool, true, false, ◌||◌, cond, List, [], ◌++◌, length, map, take, replicate, Option, Some, None, is_none, IfSome, Result, Ok, refl, sym, ap, ◌∙◌, arith}
-use Rattle.std.specs.List.{concat}
+use Rattle.std.specs.List.{concat, list_any}
 use Rattle.data_encoding.specs.declared.encoding.Character.{Character}
 use Rattle.data_encoding.specs.declared.encoding.Encoding.TheInside.{Inside}
 use Rattle.data_encoding.specs.declared.meanings.Refusal.{Refusal}
-use Rattle.data_encoding.specs.Base.{Base, IsWidth}
+use Rattle.data_encoding.specs.Base.{Base, IsWidth, is_ignored}
 use Rattle.data_encoding.specs.Encoding.{KeepsRules, base_of_tables, wrapping_by}
 use Rattle.data_encoding.specs.Entries.{HoldsEntries, meaning_of_entry}
 use Rattle.data_encoding.specs.Fields.{Fields, Judgement, base_of, base_with, ignored_judgements, judgements, meanings_after, no_meanings, padding_judgements, symbol_judgements, translation_judgements, width_of, wrapping_judgements, wraps}
@@ -143,6 +143,7 @@ pub record IsMadeOf (fields : Fields) (e : Inside) (meanings : List Character) :
   pub checks : e.checks_trailing_bits ≡ (fields.checks_trailing_bits || (8 % e.width == 0))
   pub concatenates : e.concatenates ≡ (fields.concatenates || is_none fields.padding)
   pub padding : e.padding ≡ fields.padding
+  pub ignores : e.ignores ≡ list_any is_ignored meanings
   pub column : e.column ≡ cond (wraps fields.column fields.separator) fields.column 0
   pub separator : e.separator.items
       ≡ cond (wraps fields.column fields.separator) fields.separator []
@@ -181,6 +182,7 @@ module _ (fields : Fields) (e : Inside) (meanings : List Character)
   pub rules-made : KeepsRules e
   rules-made =
       KeepsRules-ruled e (IsRuled-yield fields (base_of_tables e) (yields-made)) made.holds
+      (made.ignores ∙ ap (list_any is_ignored) (sym made.values))
       (made.repeat
       ∙ ap (λ l. concat (replicate (256 / 2 ^ e.width) l)) (sym (take-symbols)))
       (λ none. made.separator

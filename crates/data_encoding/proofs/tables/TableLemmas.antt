@@ -1,18 +1,17 @@
 -- What the tables of an encoding say of its base.
-use Rattle.std.proofs.Common.{◌≡◌, ℕ, zero, suc, ◌*◌, ◌/◌, ◌%◌, ◌^◌, ◌<◌, ◌≤◌, ◌==◌, Bool, true, false, nat_lt, cond, List, length, map, take, get_or, Option, Some, None, IfSome, refl, sym, ap, ◌∙◌, subst, arith, ⊎_elim}
-use Rattle.std.proofs.lemmas.Bool.{cases_lt, false≢true, eqb-true}
+use Rattle.std.proofs.Common.{◌≡◌, ℕ, ◌*◌, ◌/◌, ◌%◌, ◌^◌, ◌<◌, ◌≤◌, ◌==◌, Bool, true, false, nat_lt, cond, length, take, get_or, Option, Some, None, IfSome, refl, sym, ap, ◌∙◌, subst, arith, ⊎_elim}
+use Rattle.std.proofs.lemmas.Bool.{cases_lt}
 use Rattle.std.proofs.lemmas.Bool.Decides.{nat_tests}
-use Rattle.std.proofs.lemmas.List.{get_or-take, get_or_past, length-map}
+use Rattle.std.proofs.lemmas.List.{get_or-take, get_or_past}
 use Rattle.data_encoding.specs.declared.encoding.Character.TheVariants.{Symbol, Padding, Ignored, Invalid}
 use Rattle.data_encoding.specs.declared.encoding.Encoding.TheInside.{Inside}
-use Rattle.data_encoding.specs.Base.{Base, meaning, symbol, ignores_some, is_ignored, is_padding, is_symbol, IsWidth}
-use Rattle.data_encoding.specs.Encoding.{KeepsPadding, KeepsRules, KeepsWrapping, base_of_tables, wrapping_by}
+use Rattle.data_encoding.specs.Base.{Base, symbol, is_ignored, is_padding, is_symbol, IsWidth}
+use Rattle.data_encoding.specs.Encoding.{KeepsPadding, KeepsRules, base_of_tables}
 use Rattle.data_encoding.specs.Entries.{is_entry_of, meaning_of_entry}
-use Rattle.data_encoding.specs.Plain.{IsPlain}
 use Rattle.data_encoding.specs.Tables.{HoldsSymbols, HoldsValues, Writes}
-use Rattle.data_encoding.proofs.tables.EntryLemmas.{high_entry, length-entries, length-low, meaning-any}
+use Rattle.data_encoding.proofs.tables.EntryLemmas.{high_entry, length-low, meaning-any}
 use Rattle.data_encoding.proofs.tables.TableRuleLemmas.{HoldsEntries-tables, IsWidth-tables, length-symbols, symbol-ascii, value-symbol}
-use Rattle.data_encoding.proofs.lists.EachLemmas.{none_passes, passes_at}
+use Rattle.data_encoding.proofs.lists.EachLemmas.{passes_at}
 use Rattle.data_encoding.proofs.digits.WidthLemmas.{symbols-few, times_symbols}
 use Rattle.data_encoding.proofs.lists.RepeatLemmas.{get_or-repeats}
 
@@ -32,6 +31,9 @@ no_symbol v h =
 
 padding_entry : (v : ℕ) → is_padding (meaning_of_entry v) ≡ (v == 130)
 padding_entry v = grind (arith, nat_tests)
+
+ignored_entry : (v : ℕ) → is_ignored (meaning_of_entry v) ≡ (v == 129)
+ignored_entry v = grind (arith, nat_tests)
 
 module _ (e : Inside) (rules : KeepsRules e) where
   -- an entry that is a value is that of a symbol
@@ -64,6 +66,9 @@ module _ (e : Inside) (rules : KeepsRules e) where
     paddings = λ byte h.
         ap is_padding (meaning-any e.values (HoldsEntries-tables e rules) byte h)
         ∙ padding_entry (get_or e.values byte 0);
+    ignoreds = λ byte h.
+        ap is_ignored (meaning-any e.values (HoldsEntries-tables e rules) byte h)
+        ∙ ignored_entry (get_or e.values byte 0);
   }
 
   HoldsSymbols-tables : HoldsSymbols (base_of_tables e) e.symbols
@@ -99,44 +104,6 @@ module _ (e : Inside) (rules : KeepsRules e) where
       omega (arith, zero_there))
       (cases_lt value (2 ^ e.width))
 
-  module _ (plain : IsPlain (base_of_tables e)) where
-    never_129 : (byte : ℕ) → get_or e.values byte 0 ≡ 129 → ⊥
-    never_129 byte h =
-        let holds = HoldsEntries-tables e rules in
-        ⊎_elim
-        (λ (few : byte < 256).
-        let means : meaning (base_of_tables e) byte ≡ Ignored =
-        meaning-any e.values holds byte few ∙ ap meaning_of_entry h in
-        false≢true (sym (plain.none_ignored byte few) ∙ ap is_ignored means))
-        (λ (past : 256 ≤ byte).
-        let zero_there = get_or_past e.values byte 0
-        (omega (arith, past, length-entries e.values holds)) in
-        absurd (omega (arith, h, zero_there)))
-        (cases_lt byte 256)
-
-    unwrapped-by : (column : ℕ) (separator : List ℕ)
-        → KeepsWrapping column separator e.width e.values → wrapping_by column separator ≡ None
-    unwrapped-by zero separator keeps = refl
-    unwrapped-by (suc n) separator keeps =
-        absurd (never_129 (get_or separator 0 0)
-        (eqb-true (get_or e.values (get_or separator 0 0) 0) 129
-        (passes_at (λ byte. get_or e.values byte 0 == 129) separator 0 0 keeps.4 keeps.2)))
-
-    -- what ignores nothing has no lines
-    unwrapped-tables : (base_of_tables e).wrapping ≡ None
-    unwrapped-tables = unwrapped-by e.column e.separator.items rules.wrapping
-
-    pub ignores_none-tables : ignores_some (base_of_tables e) ≡ false
-    ignores_none-tables =
-        none_passes is_ignored (map meaning_of_entry (take 128 e.values)) Invalid
-        (λ i h. plain.none_ignored i
-        (omega (
-          arith,
-          h,
-          length-map (take 128 e.values) meaning_of_entry,
-          length-low e.values (HoldsEntries-tables e rules),
-        )))
-
 -- what a contract knows of the base that it sees
 module _ (e : Inside) (rules : KeepsRules e) (seen : Base) (is : base_of_tables e ≡ seen) where
   pub IsWidth-seen : IsWidth seen.width
@@ -159,13 +126,3 @@ module _ (e : Inside) (rules : KeepsRules e) (seen : Base) (is : base_of_tables 
 
   pub HoldsValues-seen : HoldsValues seen e.values
   HoldsValues-seen = subst (λ b. HoldsValues b e.values) is (HoldsValues-tables e rules)
-
-  module _ (plain : IsPlain seen) where
-    pub unwrapped-seen : seen.wrapping ≡ None
-    unwrapped-seen =
-        subst (λ b. b.wrapping ≡ None) is (unwrapped-tables e rules (subst IsPlain (sym is) plain))
-
-    pub ignores_none-seen : ignores_some seen ≡ false
-    ignores_none-seen =
-        subst (λ b. ignores_some b ≡ false) is
-        (ignores_none-tables e rules (subst IsPlain (sym is) plain))

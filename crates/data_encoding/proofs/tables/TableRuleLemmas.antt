@@ -8,7 +8,7 @@ use Rattle.std.specs.Cmp.{first_so, second_so}
 use Rattle.std.specs.List.{AllByRecursion, concat, list_all, range_with_len}
 use Rattle.data_encoding.specs.declared.encoding.Character.TheVariants.{Symbol, Padding, Ignored, Invalid}
 use Rattle.data_encoding.specs.declared.encoding.Encoding.TheInside.{Inside}
-use Rattle.data_encoding.specs.Base.{meaning, IsWidth}
+use Rattle.data_encoding.specs.Base.{meaning, ignores_some, IsWidth}
 use Rattle.data_encoding.specs.Encoding.{KeepsPadding, KeepsRules, KeepsWrapping, base_of_tables, wrapping_by}
 use Rattle.data_encoding.specs.Entries.{HoldsEntries, is_entry_of, meaning_of_entry}
 use Rattle.data_encoding.specs.Fields.{IsSpecified}
@@ -271,10 +271,11 @@ module _ (e : Inside) (ruled : IsRuled (base_of_tables e)) (holds : HoldsEntries
   keeps-wrapping (suc n) separator none rule =
       (rule.short, rule.whole, rule.ended, rule.ends_short, keeps-separator separator rule.ignored)
 
-  pub KeepsRules-ruled : e.symbols
+  pub KeepsRules-ruled : e.ignores ≡ ignores_some (base_of_tables e)
+      → e.symbols
       ≡ concat (replicate (256 / 2 ^ e.width) (take (2 ^ e.width) e.symbols))
       → (e.column ≡ 0 → e.separator.items ≡ []) → KeepsRules e
-  KeepsRules-ruled repeat none = record {
+  KeepsRules-ruled ignores repeat none = record {
     is_width = ruled.is_width;
     unpadded_concatenates = rule-concatenated e.concatenates e.padding ruled.concatenated;
     whole_checked = rule-checked e.checks_trailing_bits (8 % e.width == 0) ruled.checked;
@@ -293,5 +294,6 @@ module _ (e : Inside) (ruled : IsRuled (base_of_tables e)) (holds : HoldsEntries
         ∙ ruled.within);
     invalid_from_128 = holds.invalid_from_128;
     padding = keeps-padding e.padding ruled.padding;
+    ignores = ignores;
     wrapping = keeps-wrapping e.column e.separator.items none ruled.wrapping;
   }

@@ -15,11 +15,11 @@ use Rattle.data_encoding.proofs.lists.EachLemmas.{all_joined}
 use Rattle.data_encoding.proofs.lists.PartLemmas.{length-rest}
 use Rattle.data_encoding.proofs.lists.RunLemmas.{run_count}
 use Rattle.data_encoding.proofs.tables.TableLemmas.{IsWidth-seen}
-use Rattle.data_encoding.proofs.text.UnpaddedEncodeLemmas.{drop-put_mid_at}
-use Rattle.data_encoding.proofs.text.UnpaddedTextLemmas.{ascii-plain_text, length-plain_text}
+use Rattle.data_encoding.proofs.lists.WriteLemmas.{drop-put_mid_at}
+use Rattle.data_encoding.proofs.text.PlainTextLemmas.{ascii-plain_text, length-plain_text}
 
 -- the symbols of data are as many groups as its bytes
-groups-same : (width : ℕ) → IsWidth width → (n : ℕ)
+pub groups-same : (width : ℕ) → IsWidth width → (n : ℕ)
     → run_count (group_symbols width) (run_count width (8 * n)) ≡ run_count (group_bytes width) n
 groups-same =
     by_width (λ w. (n : ℕ)
@@ -128,13 +128,10 @@ ascii-padded_text base bytes symbols padding = by_padding base.padding padding w
 -- what is written behind the symbols, by the tables of an encoding
 module _ (e : Inside) (rules : KeepsRules e) (seen : Base) (is : base_of_tables e ≡ seen)
     (input output : List ℕ) (exact : length output ≡ length (padded_text seen input))
-    (count : ℕ) (counted : count ≡ run_count e.width (8 * length input)) where
-  seen_count : count ≡ run_count seen.width (8 * length input)
-  seen_count = counted ∙ ap (λ b. run_count b.width (8 * length input)) is
-
+    (count : ℕ) (counted : count ≡ run_count seen.width (8 * length input)) where
   pub count-inside : count ≤ length output
   count-inside =
-      symbols-first seen input (IsWidth-seen e rules seen is) count (length output) seen_count
+      symbols-first seen input (IsWidth-seen e rules seen is) count (length output) counted
       exact
 
   module _ (character : ℕ) (some : e.padding ≡ Some character) (filled : List ℕ)
@@ -145,7 +142,7 @@ module _ (e : Inside) (rules : KeepsRules e) (seen : Base) (is : base_of_tables 
 
     pub padding-written : padded_text seen input ≡ plain_text seen input ++ drop count written
     padding-written =
-        padded_text-some seen input (IsWidth-seen e rules seen is) count (length output) seen_count
+        padded_text-some seen input (IsWidth-seen e rules seen is) count (length output) counted
         exact character (ap (λ b. b.padding) (sym is) ∙ some)
         ∙ ap (λ l. plain_text seen input ++ l)
         (ap (λ n. replicate n character) (sym (length-rest count output))

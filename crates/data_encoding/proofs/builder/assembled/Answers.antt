@@ -41,6 +41,7 @@ inside c = record {
   checks_trailing_bits = c.checks_trailing_bits.result;
   concatenates = c.concatenates.result;
   padding = c.padding_byte.result;
+  ignores = c.ignores_some-ignores.result;
   column = c.column_byte.result;
   separator = c.separator_bytes.result;
 }
@@ -60,6 +61,7 @@ made c = record {
   checks = c.checks_trailing_bits.ensures;
   concatenates = c.concatenates.ensures;
   padding = c.padding_byte.ensures;
+  ignores = c.ignores_some-ignores.ensures;
   column = c.column_byte.ensures;
   separator = c.separator_bytes.ensures;
 }

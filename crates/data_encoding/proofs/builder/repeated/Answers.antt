@@ -6,7 +6,7 @@ use Rattle.std.proofs.lemmas.Slice.{take-put_mid}
 use Rattle.std.specs.List.{concat}
 use Rattle.data_encoding.proofs.digits.WidthLemmas.{times_doubled}
 use Rattle.data_encoding.proofs.lists.RepeatLemmas.{repeats-add}
-use Rattle.data_encoding.proofs.text.UnpaddedEncodeLemmas.{length-put_mid}
+use Rattle.data_encoding.proofs.lists.WriteLemmas.{length-put_mid}
 use Rattle.data_encoding.proofs.builder.repeated.Goals as goal
 
 pub loop-preserved : goal.loop-preserved

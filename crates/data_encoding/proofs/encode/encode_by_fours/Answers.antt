@@ -1,8 +1,8 @@
 use Rattle.std.proofs.Common.{◌+◌, ◌-◌, ◌*◌, ◌/◌, length, sym, ap, ◌∙◌, arith}
 use Rattle.std.proofs.Math.Nat.{div-le_self}
 use Rattle.data_encoding.specs.Text.{plain_text}
-use Rattle.data_encoding.proofs.text.UnpaddedEncodeLemmas.{encoded-none}
-use Rattle.data_encoding.proofs.text.UnpaddedLoopLemmas.{IsWhole-four, fits, written-next, written-last}
+use Rattle.data_encoding.proofs.text.PlainGroupLemmas.{encoded-none}
+use Rattle.data_encoding.proofs.text.PlainLoopLemmas.{IsWhole-four, fits, written-next, written-last}
 use Rattle.data_encoding.proofs.lists.PartLemmas.{group-before, length-rest, part-is}
 use Rattle.data_encoding.proofs.encode.encode_by_fours.Goals as goal
 

@@ -1,6 +1,6 @@
 use Rattle.std.proofs.Common.{◌*◌, length, ◌∙◌}
-use Rattle.data_encoding.proofs.text.UnpaddedEncodeLemmas.{encoded-none}
-use Rattle.data_encoding.proofs.text.UnpaddedLoopLemmas.{written-next}
+use Rattle.data_encoding.proofs.text.PlainGroupLemmas.{encoded-none}
+use Rattle.data_encoding.proofs.text.PlainLoopLemmas.{written-next}
 use Rattle.data_encoding.proofs.lists.PartLemmas.{IsWhole-group, length-part, part-of-four}
 use Rattle.data_encoding.proofs.encode.encode_four_groups.Goals as goal
 

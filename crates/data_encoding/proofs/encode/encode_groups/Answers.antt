@@ -1,7 +1,7 @@
 use Rattle.std.proofs.Common.{◌+◌, ◌-◌, ◌*◌, ◌/◌, length, sym, ap, ◌∙◌, arith}
 use Rattle.data_encoding.specs.Text.{plain_text}
-use Rattle.data_encoding.proofs.text.UnpaddedEncodeLemmas.{encoded-none}
-use Rattle.data_encoding.proofs.text.UnpaddedLoopLemmas.{fits, written-next, written-last}
+use Rattle.data_encoding.proofs.text.PlainGroupLemmas.{encoded-none}
+use Rattle.data_encoding.proofs.text.PlainLoopLemmas.{fits, written-next, written-last}
 use Rattle.data_encoding.proofs.lists.PartLemmas.{IsWhole-group, group-before, whole-group, length-part, length-rest, part-is}
 use Rattle.data_encoding.proofs.encode.encode_groups.Goals as goal
 

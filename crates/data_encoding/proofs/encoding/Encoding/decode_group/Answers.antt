@@ -13,13 +13,25 @@ use Rattle.data_encoding.proofs.tables.TableLemmas.{HoldsValues-seen}
 use Rattle.data_encoding.proofs.encoding.Encoding.decode_group.Goals as goal
 use Rattle.data_encoding.proofs.encoding.Encoding.decode_group.Goals.{else-self-via-then-self+else-has_trailing, else-self-via-else-self}
 
+pub slice_bounds-room-end : goal.slice_bounds-room-end
+slice_bounds-room-end g c =
+    let most = mul-le-mul_left g.row.WIDTH c.in-Ok.ensures.symbols.within in
+    omega (arith, most, c.requires.room c.in-Ok.ensures.whole)
+
+pub slice_bounds-room-end-2 : goal.slice_bounds-room-end-2
+slice_bounds-room-end-2 g c =
+    let most = mul-le-mul_left g.row.WIDTH c.in-Ok.ensures.symbols.within in
+    sym (length-take-le (g.row.WIDTH * c.in-Ok.count / 8) c.args.output.now
+    (omega (arith, most, c.requires.room c.in-Ok.ensures.whole)))
+
 pub decode_symbols-requires-clause-exact : goal.decode_symbols-requires-clause-exact
 decode_symbols-requires-clause-exact g c =
     let count = c.in-Ok.count in
     let group = c.args.group.now in
     let few = c.in-Ok.ensures.symbols.within in
     let most = mul-le-mul_left g.row.WIDTH few in
-    length-take-le (g.row.WIDTH * count / 8) c.args.output.now (omega (arith, most))
+    let room = c.requires.room c.in-Ok.ensures.whole in
+    length-take-le (g.row.WIDTH * count / 8) c.args.output.now (omega (arith, most, room))
     ∙ ap (λ n. g.row.WIDTH * n / 8) (sym (length-take-le count group few))
 
 pub returns-then-not-decode_symbols-clause-fault :
@@ -94,11 +106,12 @@ returns-clause-sound g c =
           ap (λ b. b && list_any (λ bit. not (bit == 0)) (trailing_bits seen ks))
           (checks ∙ w.if-self.false)
     ] in
+    let room = c.requires.room c.in-Ok.ensures.whole in
     group-sound seen c.self.inside.values holds group (λ k. (c.type_inv.group k).fits) count
     c.in-Ok.ensures.symbols (c.if-not-decode_symbols.ensures.symbols.0 refl) quiet
     c.decode_symbols.new.output (drop (g.row.WIDTH * count / 8) c.args.output.now)
     (c.decode_symbols.auto.output
-    ∙ length-take-le (g.row.WIDTH * count / 8) c.args.output.now (omega (arith, most))
+    ∙ length-take-le (g.row.WIDTH * count / 8) c.args.output.now (omega (arith, most, room))
     ∙ ap (λ w. w * count / 8) (sym c.requires.width))
     (c.if-not-decode_symbols.ensures.bytes seen ks c.requires.width order holds
     (bytes-positioned_from 0 (take count group)) refl)

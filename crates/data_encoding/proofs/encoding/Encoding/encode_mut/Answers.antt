@@ -1,42 +1,46 @@
-use Rattle.std.proofs.Common.{◌≡◌, ◌+◌, ◌-◌, ◌*◌, ◌/◌, ◌<◌, ◌++◌, length, drop, refl, sym, ap, ◌∙◌, subst, length-take-le}
+use Rattle.std.proofs.Common.{◌≡◌, ℕ, ◌<◌, All, List, sym, subst}
 use Rattle.std.specs.List.{AllByRecursion}
 use Rattle.std.proofs.lemmas.List.Elements.{All-from_recursion}
+use Rattle.data_encoding.specs.declared.encoding.Encoding.TheInside.{Inside}
 use Rattle.data_encoding.specs.Base.{Base}
-use Rattle.data_encoding.specs.Text.{padded_text}
-use Rattle.data_encoding.proofs.tables.TableLemmas.{Writes-tables, padding-seen, symbols-seen, unwrapped-seen}
-use Rattle.data_encoding.proofs.text.PaddedTextLemmas.{ascii-padded_text, text_of-unwrapped}
+use Rattle.data_encoding.specs.Encoding.{KeepsRules, base_of_tables}
+use Rattle.data_encoding.specs.Text.{text_of}
+use Rattle.data_encoding.proofs.text.LineLemmas.{ascii-seen}
 use Rattle.data_encoding.proofs.encoding.Encoding.encode_mut.Goals as goal
 
-pub pad-count-requires-clause-exact : goal.pad-count-requires-clause-exact
-pad-count-requires-clause-exact c =
-    c.requires.exact
-    ∙ ap length (text_of-unwrapped c.args.self.now c.args.input.now
-    (unwrapped-seen c.self.inside c.self.invariant _ c.self.view_is c.requires.plain))
+-- at each width
+ascii : (e : Inside) → KeepsRules e → (seen : Base) → base_of_tables e ≡ seen
+    → (input output : List ℕ) → output ≡ text_of seen input → All (λ byte. byte < 128) output
+ascii e rules seen is input output written =
+    All-from_recursion (λ byte. byte < 128) output
+    (subst (AllByRecursion (λ byte. byte < 128)) (sym written) (ascii-seen e rules seen is input))
 
-pub encode_by_width-requires-clause-exact : goal.encode_by_width-requires-clause-exact
-encode_by_width-requires-clause-exact c =
-    length-take-le c.pad-count.result c.pad-count.new.output c.pad-count.ensures.inside
-    ∙ c.pad-count.ensures.count
-    ∙ ap (λ (b : Base). (8 * length c.args.input.now + (b.width - 1)) / b.width)
-    (sym c.self.view_is)
+pub returns-in-1-clause-ascii : goal.returns-in-1-clause-ascii
+returns-in-1-clause-ascii c =
+    ascii c.self.inside c.self.invariant c.args.self.now c.self.view_is c.args.input.now
+    c.encode_in_order.new.output c.encode_in_order.ensures
 
-pub returns : goal.returns
-returns c =
-    let e = c.self.inside in
-    let seen = c.args.self.now in
-    let input = c.args.input.now in
-    let count = c.pad-count.result in
-    let rest = drop count c.pad-count.new.output in
-    let shown = c.encode_by_width.ensures seen
-    (Writes-tables e c.self.invariant seen c.self.view_is e.width refl) in
-    let padded : c.encode_by_width.new.output ++ rest ≡ padded_text seen input =
-    ap (λ l. l ++ rest) shown ∙ sym c.pad-count.ensures.padding in
-    record {
-      text = padded
-          ∙ sym (text_of-unwrapped seen input
-          (unwrapped-seen e c.self.invariant seen c.self.view_is c.requires.plain));
-      ascii = All-from_recursion (λ b. b < 128) (c.encode_by_width.new.output ++ rest)
-          (subst (AllByRecursion (λ b. b < 128)) (sym padded)
-          (ascii-padded_text seen input (symbols-seen e c.self.invariant seen c.self.view_is)
-          (padding-seen e c.self.invariant seen c.self.view_is)));
-    }
+pub returns-in-2-clause-ascii : goal.returns-in-2-clause-ascii
+returns-in-2-clause-ascii c =
+    ascii c.self.inside c.self.invariant c.args.self.now c.self.view_is c.args.input.now
+    c.encode_in_order-in-2.new.output c.encode_in_order-in-2.ensures
+
+pub returns-in-3-clause-ascii : goal.returns-in-3-clause-ascii
+returns-in-3-clause-ascii c =
+    ascii c.self.inside c.self.invariant c.args.self.now c.self.view_is c.args.input.now
+    c.encode_in_order-in-3.new.output c.encode_in_order-in-3.ensures
+
+pub returns-in-4-clause-ascii : goal.returns-in-4-clause-ascii
+returns-in-4-clause-ascii c =
+    ascii c.self.inside c.self.invariant c.args.self.now c.self.view_is c.args.input.now
+    c.encode_in_order-in-4.new.output c.encode_in_order-in-4.ensures
+
+pub returns-in-5-clause-ascii : goal.returns-in-5-clause-ascii
+returns-in-5-clause-ascii c =
+    ascii c.self.inside c.self.invariant c.args.self.now c.self.view_is c.args.input.now
+    c.encode_in_order-in-5.new.output c.encode_in_order-in-5.ensures
+
+pub returns-in_default-clause-ascii : goal.returns-in_default-clause-ascii
+returns-in_default-clause-ascii c =
+    ascii c.self.inside c.self.invariant c.args.self.now c.self.view_is c.args.input.now
+    c.encode_in_order-in_default.new.output c.encode_in_order-in_default.ensures

@@ -14,25 +14,23 @@ returns-then-self-ne0 c =
     (e.column ∷ e.separator.items) c.new-bytes.ensures c.put.ensures c.put-2.ensures head last
     (lines-tail e c.self.invariant c.if-self-ne0.true))
 
-pub returns-then-ignores_some : goal.returns-then-ignores_some
-returns-then-ignores_some c =
+pub returns-then-self : goal.returns-then-self
+returns-then-self c =
     let e = c.self.inside in
     let flags = rw (← c.self.view_is) at c.flags.ensures in
     let head = rw (c.padding_entry.ensures, flags) at c.put-3.ensures in
-    let some = rw (← c.self.view_is) at c.ignores_some.ensures in
     rw (← c.self.view_is) (layout-joined e c.self.invariant _ _ _ _ _ (0 ∷ [])
-    c.new-bytes.ensures c.put.ensures c.put-2.ensures head c.put-then-ignores_some.ensures
+    c.new-bytes.ensures c.put.ensures c.put-2.ensures head c.put-then-self.ensures
     (no_lines-tail e c.self.invariant true c.if-self-ne0.false
-    (sym some ∙ c.if-ignores_some.true)))
+    (sym c.self.invariant.ignores ∙ c.if-self.true)))
 
-pub returns-else-ignores_some : goal.returns-else-ignores_some
-returns-else-ignores_some c =
+pub returns-else-self : goal.returns-else-self
+returns-else-self c =
     let e = c.self.inside in
     let flags = rw (← c.self.view_is) at c.flags.ensures in
     let head = rw (c.padding_entry.ensures, flags) at c.put-3.ensures in
-    let some = rw (← c.self.view_is) at c.ignores_some.ensures in
     rw (← c.self.view_is) (layout-joined e c.self.invariant _ _ _ _ _ []
     c.new-bytes.ensures c.put.ensures c.put-2.ensures head
     (sym (append-nil c.put-3.new.layout.items))
     (no_lines-tail e c.self.invariant false c.if-self-ne0.false
-    (sym some ∙ c.if-ignores_some.false)))
+    (sym c.self.invariant.ignores ∙ c.if-self.false)))

@@ -1,4 +1,4 @@
--- The text of data, in parts.
+-- The symbols of data, in parts.
 use Rattle.std.proofs.Common.{◌≡◌, ℕ, ◌+◌, ◌-◌, ◌*◌, ◌/◌, ◌%◌, ◌<◌, ◌≤◌, List, [], ◌∷◌, ◌++◌, length, map, replicate, sym, ap, ◌∙◌, arith, ⊎_elim, length-append, append_assoc}
 use Rattle.std.proofs.lemmas.List.{length-map, map-append, append-nil, length-replicate, nil_from_length}
 use Rattle.std.proofs.lemmas.List.Concat.{flat_map-append}
@@ -54,17 +54,17 @@ abbrev pub text_by : Base → ℕ → BitOrder → List ℕ → List ℕ
 text_by base width order bits =
     map (λ run. symbol base (number_of order run)) (runs width (filled_with 0 width bits))
 
-filled-join : (size : ℕ) (xs ys : List ℕ) → 0 < size → length xs % size ≡ 0
-    → filled_with 0 size (xs ++ ys) ≡ xs ++ filled_with 0 size ys
-filled-join size xs ys h e =
-    ap (λ n. (xs ++ ys) ++ replicate n 0)
+pub filled-join : (filler size : ℕ) (xs ys : List ℕ) → 0 < size → length xs % size ≡ 0
+    → filled_with filler size (xs ++ ys) ≡ xs ++ filled_with filler size ys
+filled-join filler size xs ys h e =
+    ap (λ n. (xs ++ ys) ++ replicate n filler)
     (ap (missing size) (length-append xs ys) ∙ missing-join size (length xs) (length ys) h e)
-    ∙ append_assoc xs ys (replicate (missing size (length ys)) 0)
+    ∙ append_assoc xs ys (replicate (missing size (length ys)) filler)
 
-filled-whole : (size : ℕ) (xs : List ℕ) → length xs % size ≡ 0
-    → filled_with 0 size xs ≡ xs
-filled-whole size xs e =
-    ap (λ n. xs ++ replicate n 0) (missing-none size (length xs) e) ∙ append-nil xs
+pub filled-whole : (filler size : ℕ) (xs : List ℕ) → length xs % size ≡ 0
+    → filled_with filler size xs ≡ xs
+filled-whole filler size xs e =
+    ap (λ n. xs ++ replicate n filler) (missing-none size (length xs) e) ∙ append-nil xs
 
 -- data of whole symbols, and then other data
 pub plain_text-join : (base : Base) (bytes others : List ℕ) → 0 < base.width
@@ -78,12 +78,12 @@ plain_text-join base bytes others h e =
     let show = map (λ run. symbol base (number_of base.order run)) in
     ap (λ l. show (runs base.width (filled_with 0 base.width l)))
     (flat_map-append (bits_of base.order 8) bytes others)
-    ∙ ap (λ l. show (runs base.width l)) (filled-join base.width bits more h whole)
+    ∙ ap (λ l. show (runs base.width l)) (filled-join 0 base.width bits more h whole)
     ∙ ap show (runs-join base.width bits (filled_with 0 base.width more) h whole)
     ∙ map-append (λ run. symbol base (number_of base.order run)) (runs base.width bits)
     (runs base.width (filled_with 0 base.width more))
     ∙ ap (λ l. show (runs base.width l) ++ plain_text base others)
-    (sym (filled-whole base.width bits whole))
+    (sym (filled-whole 0 base.width bits whole))
 
 pub length-plain_text : (base : Base) (bytes : List ℕ) → 0 < base.width
     → length (plain_text base bytes) ≡ run_count base.width (8 * length bytes)

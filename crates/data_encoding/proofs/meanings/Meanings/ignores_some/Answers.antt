@@ -1,6 +1,6 @@
 use Rattle.std.proofs.Common.{take, ◌∙◌}
 use Rattle.data_encoding.proofs.tables.LayoutLemmas.{any-ignored}
-use Rattle.data_encoding.proofs.encoding.Encoding.ignores_some.Goals as goal
+use Rattle.data_encoding.proofs.meanings.Meanings.ignores_some.Goals as goal
 
 pub returns : goal.returns
 returns c =

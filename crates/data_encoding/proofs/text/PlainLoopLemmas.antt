@@ -6,7 +6,7 @@ use Rattle.data_encoding.specs.Base.{Base}
 use Rattle.data_encoding.specs.Tables.{IsGroup}
 use Rattle.data_encoding.specs.Text.{plain_text}
 use Rattle.data_encoding.proofs.lists.PartLemmas.{IsWhole, IsWhole-group, room-next, room-rest, size-rest, group-before, groups-within, one-more, length-part, length-rest}
-use Rattle.data_encoding.proofs.text.UnpaddedEncodeLemmas.{encoded-next, encoded-last}
+use Rattle.data_encoding.proofs.text.PlainGroupLemmas.{encoded-next, encoded-last}
 
 -- four whole groups are as whole as one
 pub IsWhole-four : (width bytes symbols : ℕ) → IsGroup width bytes symbols

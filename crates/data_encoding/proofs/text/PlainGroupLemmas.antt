@@ -1,36 +1,15 @@
--- Data encoded group by group.
-use Rattle.std.proofs.Common.{◌≡◌, ℕ, ◌+◌, ◌-◌, ◌*◌, ◌%◌, ◌<◌, ◌≤◌, List, ◌++◌, length, take, drop, refl, sym, ap, ◌∙◌, subst, arith, length-append, length-take-le}
+-- The symbols of data, group by group.
+use Rattle.std.proofs.Common.{◌≡◌, ℕ, ◌+◌, ◌*◌, ◌%◌, ◌<◌, ◌≤◌, List, ◌++◌, length, take, drop, refl, sym, ap, ◌∙◌, subst, arith, length-take-le}
 use Rattle.std.proofs.Math.Seq.{take-add}
 use Rattle.std.proofs.Math.Nat.{mul_left_comm, mul-mod_right, zero-mul}
-use Rattle.std.proofs.lemmas.List.{append-nil, drop_all, drop_at, length-drop, take_all}
+use Rattle.std.proofs.lemmas.List.{take_all}
 use Rattle.std.proofs.lemmas.Slice.{take-put_mid}
 use borrow.Rule.Slice.PartMut.{put_mid}
 use Rattle.data_encoding.specs.Base.{Base}
 use Rattle.data_encoding.specs.Text.{plain_text}
 use Rattle.data_encoding.proofs.lists.PartLemmas.{IsWhole}
-use Rattle.data_encoding.proofs.text.UnpaddedTextLemmas.{plain_text-join, plain_text-nil}
-
-pub length-put_mid : {X : Type 0} (a k : ℕ) (xs ys : List X) → a + k ≤ length xs
-    → length ys ≡ k → length (put_mid a k xs ys) ≡ length xs
-length-put_mid a k xs ys h e =
-    length-append (take a xs) (ys ++ drop k (drop a xs))
-    ∙ omega (
-      arith,
-      length-append ys (drop k (drop a xs)),
-      length-take-le a xs (omega (arith, h)),
-      length-drop k (drop a xs),
-      length-drop a xs,
-      h,
-      e,
-    )
-
--- what stands behind a front is what was written there
-pub drop-put_mid_at : {X : Type 0} (a : ℕ) (xs ys : List X) → a ≤ length xs
-    → drop a (put_mid a (length xs - a) xs ys) ≡ ys
-drop-put_mid_at a xs ys h =
-    let none = drop_all (length xs - a) (drop a xs) (omega (arith, length-drop a xs)) in
-    drop_at (take a xs) (ys ++ drop (length xs - a) (drop a xs)) a (length-take-le a xs h)
-    ∙ ap (λ l. ys ++ l) none ∙ append-nil ys
+use Rattle.data_encoding.proofs.lists.WriteLemmas.{length-put_mid}
+use Rattle.data_encoding.proofs.text.PlainTextLemmas.{plain_text-join, plain_text-nil}
 
 module _ (base : Base) (width bytes symbols : ℕ) (whole : IsWhole width bytes symbols)
     (is : base.width ≡ width) where

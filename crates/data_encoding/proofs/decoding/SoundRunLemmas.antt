@@ -1,0 +1,84 @@
+-- Whether the greatest front of valid length means something as it stands.
+use Rattle.std.proofs.Common.{◌≡◌, ℕ, ◌<◌, ◌≤◌, true, false, List, ◌∷◌, length, take, drop, Option, Some, None, is_none, refl, sym, ap, ◌∙◌, arith, length-take-le}
+use Rattle.data_encoding.specs.declared.error.DecodeError.{DecodeError}
+use Rattle.data_encoding.specs.Base.{Base, group_symbols, IsWidth}
+use Rattle.data_encoding.specs.Bits.{runs}
+use Rattle.data_encoding.specs.Grammar.{Positioned, positioned, is_final}
+use Rattle.data_encoding.specs.Lengths.{is_valid_length, greatest_valid_length, length_fault}
+use Rattle.data_encoding.specs.Fault.{group_fault, fault_of, or_else, first_after}
+use Rattle.data_encoding.specs.Partial.{ignoring_nothing, is_sound_run}
+use Rattle.data_encoding.proofs.digits.WidthLemmas.{group_symbols-pos}
+use Rattle.data_encoding.proofs.lists.RunLemmas.{runs-nil, runs-short, runs-first}
+use Rattle.data_encoding.proofs.grammar.PositionLemmas.{filter-plain, length-positioned_from}
+use Rattle.data_encoding.proofs.grammar.LengthLemmas.{length_fault-none}
+use Rattle.data_encoding.proofs.grammar.SoundLemmas.{neither_fault}
+use Rattle.data_encoding.proofs.decoding.GreatestLengthLemmas.{greatest-least, greatest-valid}
+use Rattle.data_encoding.proofs.decoding.IgnoringLemmas.{ignores_none-strict, group_fault-strict}
+
+is_none-none : (o : Option DecodeError) → is_none o ≡ true → o ≡ None
+is_none-none None h = refl
+is_none-none (Some error) h = cc
+
+module _ (base : Base) (width : IsWidth base.width) (bytes : List ℕ) where
+  abbrev dec : ℕ
+  dec = group_symbols base.width
+
+  abbrev len : ℕ
+  len = greatest_valid_length base (length bytes)
+
+  abbrev front : List ℕ
+  front = take len bytes
+
+  abbrev strict : Base
+  strict = ignoring_nothing base
+
+  front_len : length (positioned front) ≡ len
+  front_len =
+      length-positioned_from 0 front
+      ∙ length-take-le len bytes (greatest-least base width (length bytes))
+
+  strict_fault : fault_of strict front
+      ≡ first_after false strict (runs dec (positioned front))
+  strict_fault =
+      let valid : length_fault strict (length front) ≡ None =
+      length_fault-none strict (length front)
+      (λ none. ap (is_valid_length base) (sym (length-positioned_from 0 front) ∙ front_len)
+      ∙ greatest-valid base width (length bytes)) in
+      λ i. or_else (valid i)
+      (first_after false strict
+      (runs dec (filter-plain strict (ignores_none-strict base) (positioned front) i)))
+
+  -- no bytes mean no bytes
+  pub sound_run-none : len ≡ 0 → is_sound_run base bytes ≡ true
+  sound_run-none none =
+      ap is_none (strict_fault
+      ∙ ap (λ n. first_after false strict (runs dec (positioned (take n bytes)))) none
+      ∙ ap (first_after false strict)
+      (runs-nil {X = Positioned} dec (group_symbols-pos base.width width)))
+
+  module _ (some : 0 < len) where
+    -- a group without a fault means something
+    pub sound_run-group : len ≤ dec → group_fault base (positioned front) ≡ None
+        → is_sound_run base bytes ≡ true
+    sound_run-group few sound =
+        ap is_none (strict_fault
+        ∙ ap (first_after false strict)
+        (runs-short dec (positioned front) (omega (arith, front_len, some))
+        (omega (arith, front_len, few)))
+        ∙ ap (λ o. or_else o None) (group_fault-strict base (positioned front) ∙ sound))
+
+    -- and what means something begins with one
+    pub sound_run-first : is_sound_run base bytes ≡ true
+        → group_fault base (take dec (positioned front)) ≡ None
+    sound_run-first h =
+        let group = take dec (positioned front) in
+        let first = runs-first dec (positioned front) (group_symbols-pos base.width width)
+        (omega (arith, front_len, some)) in
+        let none : first_after false strict (group ∷ runs dec (drop dec (positioned front)))
+        ≡ None =
+        ap (first_after false strict) (sym first) ∙ sym strict_fault
+        ∙ is_none-none (fault_of strict front) h in
+        sym (group_fault-strict base group)
+        ∙ (neither_fault (group_fault strict group)
+        (first_after (is_final strict group) strict (runs dec (drop dec (positioned front))))
+        none).0

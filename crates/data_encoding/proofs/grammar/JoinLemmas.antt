@@ -1,0 +1,152 @@
+-- Texts one after the other.
+use Rattle.std.proofs.Common.{◌≡◌, ℕ, ◌⊎◌, flat_map, ◌+◌, ◌*◌, ◌%◌, ◌<◌, ◌==◌, Bool, true, false, not, ◌&&◌, List, [], ◌∷◌, ◌++◌, length, Option, Some, None, is_some, inl, inr, refl, sym, ap, ◌∙◌, subst, arith, append_assoc, ⊎_elim}
+use Rattle.std.proofs.Math.Nat.{mul-mod_left}
+use Rattle.std.proofs.lemmas.Bool.{false≢true}
+use Rattle.std.proofs.lemmas.List.Elements.{All-filter, recursion_from_All}
+use Rattle.std.specs.Prelude.{All}
+use Rattle.std.specs.List.{filter, list_any}
+use Rattle.data_encoding.specs.Base.{Base, IsWidth, meaning, is_ignored, is_padded, is_padding, group_symbols}
+use Rattle.data_encoding.specs.Bits.{runs}
+use Rattle.data_encoding.specs.Grammar.{Positioned, kept, groups, PlainMeans, GroupsMean, Means, MeansBy, is_final}
+use Rattle.data_encoding.specs.Laws.{MayBeFollowed}
+use Rattle.data_encoding.proofs.digits.WidthLemmas.{by_width, group_symbols-pos}
+use Rattle.data_encoding.proofs.grammar.GroupLemmas.{bytes_in}
+use Rattle.data_encoding.proofs.grammar.KeptLemmas.{kept_in, kept_in-append}
+use Rattle.data_encoding.proofs.grammar.PaddedMeaningLemmas.{length-groups}
+use Rattle.data_encoding.proofs.grammar.SameBytesLemmas.{bytes-kept_in, GroupsMean-same, PlainMeans-same}
+use Rattle.data_encoding.proofs.grammar.UnpaddedGrammarLemmas.{PlainMeans-append}
+use Rattle.data_encoding.proofs.grammar.UnpaddedGroupLemmas.{PlainMeans-count}
+use Rattle.data_encoding.proofs.lists.EachLemmas.{all_parts}
+use Rattle.data_encoding.proofs.lists.ListLemmas.{AllFail, list_any-none}
+use Rattle.data_encoding.proofs.lists.RunLemmas.{flat_map-runs, runs-join}
+use Rattle.data_encoding.proofs.specification.RuleLemmas.{IsRuled, IsRuledPadding}
+
+-- where eight bits are whole symbols, no bits are left
+none_left : (width : ℕ) → IsWidth width → (symbols bytes rest : ℕ) → 8 % width ≡ 0
+    → width * symbols ≡ 8 * bytes + rest → rest < width → rest ≡ 0
+none_left =
+    by_width
+    (λ w. (symbols bytes rest : ℕ) → 8 % w ≡ 0 → w * symbols ≡ 8 * bytes + rest → rest < w
+    → rest ≡ 0)
+    (λ s b r e h k. omega (arith, h, k)) (λ s b r e h k. omega (arith, h, k))
+    (λ s b r e h k. omega (arith, e)) (λ s b r e h k. omega (arith, h, k))
+    (λ s b r e h k. omega (arith, e)) (λ s b r e h k. omega (arith, e))
+
+module _ (base : Base) (ruled : IsRuled base) where
+  width : IsWidth base.width
+  width = ruled.is_width
+
+  abbrev size : ℕ
+  size = group_symbols base.width
+
+  abbrev pads : ℕ → Bool
+  pads byte = is_padding (meaning base byte)
+
+  -- groups of which none is final, and others
+  GroupsMean-append : (gs hs : List (List Positioned)) (bytes more : List ℕ)
+      → AllFail (is_final base) gs → GroupsMean base gs bytes → GroupsMean base hs more
+      → GroupsMean base (gs ++ hs) (bytes ++ more)
+  GroupsMean-append [] hs bytes more none first second =
+      subst (λ l. GroupsMean base hs (l ++ more)) (sym first) second
+  GroupsMean-append (g ∷ gs) hs bytes more none first second = (
+    first.0,
+    first.1 ++ more,
+    ap (λ l. l ++ more) first.2 ∙ append_assoc first.0 first.1 more,
+    first.3,
+    (λ final. absurd (false≢true (sym none.0 ∙ final))),
+    GroupsMean-append gs hs first.1 more none.1 first.5 second,
+  )
+
+  -- no group is final where texts concatenate, or where none holds padding
+  never_final : base.concatenates ≡ true → (gs : List (List Positioned))
+      → AllFail (is_final base) gs
+  never_final joins [] = tt
+  never_final joins (g ∷ gs) =
+      (ap (λ b. not b && list_any (λ k. pads k.byte) g) joins, never_final joins gs)
+
+  no_padding : (b : Bool) → (b && false) ≡ false
+  no_padding true = refl
+  no_padding false = refl
+
+  no_final : (gs : List (List Positioned))
+      → AllFail (λ k. pads k.byte) (flat_map (λ g. g) gs) → AllFail (is_final base) gs
+  no_final [] h = tt
+  no_final (g ∷ gs) h =
+      let others = flat_map (λ g. g) gs in
+      let parts = all_parts (λ (k : Positioned). pads k.byte ≡ false) g others h in (
+        ap (λ b. not base.concatenates && b) (list_any-none (λ k. pads k.byte) g parts.0)
+            ∙ no_padding (not base.concatenates),
+        no_final gs parts.1,
+      )
+
+  of_bytes : (ks : List Positioned) → AllFail pads (bytes_in ks) → AllFail (λ k. pads k.byte) ks
+  of_bytes [] h = tt
+  of_bytes (k ∷ ks) h = (h.0, of_bytes ks h.1)
+
+  module _ (text after bytes more : List ℕ) where
+    abbrev rest : List Positioned
+    rest = kept_in base (0 + length text) after
+
+    joined : kept base (text ++ after) ≡ kept base text ++ rest
+    joined = kept_in-append base 0 text after
+
+    same : bytes_in (kept base after) ≡ bytes_in rest
+    same = bytes-kept_in base 0 after ∙ sym (bytes-kept_in base (0 + length text) after)
+
+    none_kept : All (λ byte. pads byte ≡ false) text → AllFail (λ k. pads k.byte) (kept base text)
+    none_kept h =
+        let keeps : ℕ → Bool = λ byte. not (is_ignored (meaning base byte)) in
+        of_bytes (kept base text)
+        (subst (AllFail pads) (sym (bytes-kept_in base 0 text))
+        (recursion_from_All (λ byte. pads byte ≡ false) (filter keeps text)
+        (All-filter keeps (λ byte. pads byte ≡ false) text h)))
+
+    none_final : (base.concatenates ≡ true) ⊎ All (λ byte. pads byte ≡ false) text
+        → AllFail (is_final base) (groups base text)
+    none_final h =
+        ⊎_elim (λ joins. never_final joins (groups base text))
+        (λ unpadded. no_final (groups base text)
+        (subst (AllFail (λ k. pads k.byte))
+        (sym (flat_map-runs size (kept base text) (group_symbols-pos base.width width)))
+        (none_kept unpadded)))
+        h
+
+    plain_join : 8 % base.width ≡ 0 → PlainMeans base (kept base text) bytes
+        → PlainMeans base (kept base after) more
+        → PlainMeans base (kept base (text ++ after)) (bytes ++ more)
+    plain_join divides first second =
+        let count = PlainMeans-count base width (kept base text) bytes first in
+        let none = none_left base.width width (length (kept base text)) (length bytes)
+        (length first.rest) divides count first.rest_is_short in
+        subst (λ ks. PlainMeans base ks (bytes ++ more)) (sym joined)
+        (PlainMeans-append base width (kept base text) rest bytes more (length bytes)
+        (omega (arith, count, none)) first
+        (PlainMeans-same base (kept base after) rest more same second))
+
+    padded_join : is_padded base ≡ true
+        → (base.concatenates ≡ true) ⊎ All (λ byte. pads byte ≡ false) text
+        → GroupsMean base (groups base text) bytes → GroupsMean base (groups base after) more
+        → GroupsMean base (groups base (text ++ after)) (bytes ++ more)
+    padded_join padded follows first second =
+        let exact : length (kept base text) % size ≡ 0 =
+        ap (λ n. n % size) (length-groups base width padded text bytes first)
+        ∙ mul-mod_left (length (groups base text)) size in
+        subst (λ gs. GroupsMean base gs (bytes ++ more))
+        (sym (ap (runs size) joined
+        ∙ runs-join size (kept base text) rest (group_symbols-pos base.width width) exact))
+        (GroupsMean-append (groups base text) (runs size rest) bytes more (none_final follows) first
+        (GroupsMean-same base width padded (kept base after) rest more same second))
+
+    pub Means-join : MayBeFollowed base text → Means base text bytes → Means base after more
+        → Means base (text ++ after) (bytes ++ more)
+    Means-join = by base.padding refl ruled.padding where
+      by : (o : Option ℕ) → base.padding ≡ o → IsRuledPadding base o → MayBeFollowed base text
+          → MeansBy o base text bytes → MeansBy o base after more
+          → MeansBy o base (text ++ after) (bytes ++ more)
+      by None is h (inl follows) first second =
+          absurd (false≢true (sym (ap is_some is) ∙ follows.0))
+      by None is h (inr divides) first second = plain_join divides first second
+      by (Some character) is h (inl follows) first second =
+          padded_join (ap is_some is) follows.1 first second
+      by (Some character) is h (inr divides) first second =
+          absurd (false≢true (sym (ap (λ n. not (n == 0)) divides) ∙ h.2))

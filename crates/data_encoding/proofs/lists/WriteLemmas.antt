@@ -1,0 +1,31 @@
+-- What a list holds after a part of it is written.
+use Rattle.std.proofs.Common.{◌≡◌, ℕ, ◌+◌, ◌-◌, ◌≤◌, List, ◌++◌, length, take, drop, ap, ◌∙◌, arith, length-append, length-take-le}
+use Rattle.std.proofs.lemmas.List.{append-nil, drop_all, drop_at, length-drop}
+use borrow.Rule.Slice.PartMut.{put_mid}
+
+pub length-put_mid : {X : Type 0} (a k : ℕ) (xs ys : List X) → a + k ≤ length xs
+    → length ys ≡ k → length (put_mid a k xs ys) ≡ length xs
+length-put_mid a k xs ys h e =
+    length-append (take a xs) (ys ++ drop k (drop a xs))
+    ∙ omega (
+      arith,
+      length-append ys (drop k (drop a xs)),
+      length-take-le a xs (omega (arith, h)),
+      length-drop k (drop a xs),
+      length-drop a xs,
+      h,
+      e,
+    )
+
+-- the end of a list is written anew
+pub put_mid-end : {X : Type 0} (a : ℕ) (xs ys : List X)
+    → put_mid a (length xs - a) xs ys ≡ take a xs ++ ys
+put_mid-end a xs ys =
+    let none = drop_all (length xs - a) (drop a xs) (omega (arith, length-drop a xs)) in
+    ap (λ l. take a xs ++ (ys ++ l)) none ∙ ap (λ l. take a xs ++ l) (append-nil ys)
+
+-- what stands behind a front is what was written there
+pub drop-put_mid_at : {X : Type 0} (a : ℕ) (xs ys : List X) → a ≤ length xs
+    → drop a (put_mid a (length xs - a) xs ys) ≡ ys
+drop-put_mid_at a xs ys h =
+    ap (drop a) (put_mid-end a xs ys) ∙ drop_at (take a xs) ys a (length-take-le a xs h)

@@ -1,0 +1,85 @@
+-- The bytes of a text that are not ignored are its symbols and its padding.
+use Rattle.std.proofs.Common.{◌≡◌, ℕ, ◌<◌, append-nil, Bool, false, not, cond, List, [], ◌∷◌, ◌++◌, length, replicate, Option, Some, None, refl, sym, ap, ◌∙◌}
+use Rattle.std.proofs.lemmas.List.Elements.{All-replicate, filter-append, recursion_from_All}
+use Rattle.std.specs.Prelude.{flat_map}
+use Rattle.std.specs.List.{AllByRecursion, filter}
+use Rattle.data_encoding.specs.declared.encoding.Character.TheVariants.{Ignored}
+use Rattle.data_encoding.specs.Base.{Base, Wrapping, meaning, is_ignored, group_symbols}
+use Rattle.data_encoding.specs.Bits.{missing, runs}
+use Rattle.data_encoding.specs.Grammar.{kept}
+use Rattle.data_encoding.specs.Text.{in_lines, padded_text, plain_text, text_of, with_padding}
+use Rattle.data_encoding.proofs.grammar.GroupLemmas.{bytes_in}
+use Rattle.data_encoding.proofs.grammar.SameBytesLemmas.{bytes-kept_in}
+use Rattle.data_encoding.proofs.lists.EachLemmas.{all_joined}
+use Rattle.data_encoding.proofs.lists.ListLemmas.{AllFail}
+use Rattle.data_encoding.proofs.lists.RunLemmas.{flat_map-runs}
+use Rattle.data_encoding.proofs.specification.RuleLemmas.{IsRuled, IsRuledPadding, IsRuledWrapping}
+use Rattle.data_encoding.proofs.text.SymbolMeaningLemmas.{none_ignored-plain_text}
+
+module _ {X : Type 0} (test : X → Bool) where
+  filter-none : (xs : List X) → AllFail test xs → filter test xs ≡ []
+  filter-none [] h = refl
+  filter-none (x ∷ xs) h =
+      ap (λ b. cond b (x ∷ filter test xs) (filter test xs)) h.0 ∙ filter-none xs h.1
+
+  -- what is put after each part, and left out
+  filter-ended : (end : List X) → filter test end ≡ [] → (parts : List (List X))
+      → filter test (flat_map (λ part. part ++ end) parts)
+      ≡ filter test (flat_map (λ part. part) parts)
+  filter-ended end none [] = refl
+  filter-ended end none (part ∷ parts) =
+      filter-append test (part ++ end) (flat_map (λ p. p ++ end) parts)
+      ∙ (λ i. alone i ++ filter-ended end none parts i)
+      ∙ sym (filter-append test part (flat_map (λ p. p) parts)) where
+        alone : filter test (part ++ end) ≡ filter test part
+        alone = filter-append test part end ∙ ap (λ l. filter test part ++ l) none ∙ append-nil _
+
+module _ (base : Base) (ruled : IsRuled base) where
+  abbrev keeps : ℕ → Bool
+  keeps byte = not (is_ignored (meaning base byte))
+
+  separator_fails : (bytes : List ℕ)
+      → AllByRecursion (λ byte. (byte < 128) × (meaning base byte ≡ Ignored)) bytes
+      → AllFail keeps bytes
+  separator_fails [] h = tt
+  separator_fails (byte ∷ bytes) h =
+      (ap (λ m. not (is_ignored m)) h.0.1, separator_fails bytes h.1)
+
+  kept-in_lines : (text : List ℕ) → filter keeps (in_lines base.wrapping text) ≡ filter keeps text
+  kept-in_lines text = by base.wrapping ruled.wrapping where
+    by : (o : Option Wrapping) → IsRuledWrapping base o
+        → filter keeps (in_lines o text) ≡ filter keeps text
+    by None h = refl
+    by (Some lines) h =
+        filter-ended keeps lines.separator
+        (filter-none keeps lines.separator (separator_fails lines.separator h.ignored))
+        (runs lines.column text)
+        ∙ ap (filter keeps) (flat_map-runs lines.column text h.some)
+
+  none_ignored : (bytes : List ℕ)
+      → AllFail (λ byte. is_ignored (meaning base byte)) (padded_text base bytes)
+  none_ignored bytes = by base.padding ruled.padding where
+    by : (o : Option ℕ) → IsRuledPadding base o
+        → AllFail (λ byte. is_ignored (meaning base byte))
+        (with_padding o (group_symbols base.width) (plain_text base bytes))
+    by None h = none_ignored-plain_text base ruled bytes
+    by (Some character) h =
+        let lack = missing (group_symbols base.width) (length (plain_text base bytes)) in
+        let Kept : ℕ → Type 0 = λ byte. is_ignored (meaning base byte) ≡ false in
+        all_joined Kept (plain_text base bytes) (replicate lack character)
+        (none_ignored-plain_text base ruled bytes)
+        (recursion_from_All Kept (replicate lack character)
+        (All-replicate Kept lack character (ap is_ignored h.1)))
+
+  filter-kept : (text : List ℕ) → AllFail (λ byte. is_ignored (meaning base byte)) text
+      → filter keeps text ≡ text
+  filter-kept [] h = refl
+  filter-kept (byte ∷ text) h =
+      ap (λ b. cond (not b) (byte ∷ filter keeps text) (filter keeps text)) h.0
+      ∙ ap (λ l. byte ∷ l) (filter-kept text h.1)
+
+  pub bytes-kept_text : (bytes : List ℕ)
+      → bytes_in (kept base (text_of base bytes)) ≡ padded_text base bytes
+  bytes-kept_text bytes =
+      bytes-kept_in base 0 (text_of base bytes) ∙ kept-in_lines (padded_text base bytes)
+      ∙ filter-kept (padded_text base bytes) (none_ignored bytes)

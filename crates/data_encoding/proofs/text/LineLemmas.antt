@@ -1,0 +1,283 @@
+-- Texts in lines: their lengths, and one line after the other.
+use Rattle.std.proofs.Common.{◌≡◌, ◌≢◌, ℕ, zero, suc, ◌+◌, ◌*◌, ◌/◌, ◌<◌, ◌≤◌, Bool, true, false, Option, Some, None, IsSome, is_some, List, [], ◌∷◌, ◌++◌, length, refl, sym, ap, ◌∙◌, subst, arith, ⊎_elim, length-append, append-nil}
+use Rattle.std.proofs.Math.Nat.{le-mul_of_pos_right, mul-le-mul_right, zero-mul}
+use Rattle.std.proofs.lemmas.Bool.{cases_lt, false≢true}
+use Rattle.std.proofs.lemmas.List.{nil_from_length}
+use Rattle.std.proofs.lemmas.Nat.{mul-le}
+use Rattle.std.specs.List.{AllByRecursion}
+use Rattle.std.specs.Prelude.{flat_map}
+use Rattle.data_encoding.specs.Base.{Base, IsWidth, Wrapping, group_bytes, group_symbols, is_padded, meaning}
+use Rattle.data_encoding.specs.declared.encoding.Character.TheVariants.{Ignored}
+use Rattle.data_encoding.specs.declared.encoding.Encoding.TheInside.{Inside}
+use Rattle.data_encoding.specs.Encoding.{KeepsRules, KeepsWrapping, base_of_tables, wrapping_by}
+use Rattle.data_encoding.specs.Lengths.{align_by, alignment}
+use Rattle.data_encoding.specs.Text.{in_lines, padded_text, text_of}
+use Rattle.data_encoding.proofs.digits.WidthLemmas.{group_bytes-few, group_bytes-pos, group_symbols-few, group_symbols-pos}
+use Rattle.data_encoding.proofs.lists.RunLemmas.{all_ended, length-ended, run_count, run_count-few, run_count-some, runs-reach, runs-short}
+use Rattle.data_encoding.proofs.specification.RuleLemmas.{AreLines, IsRuled, IsRuledWrapping}
+use Rattle.data_encoding.proofs.tables.TableLemmas.{padding-seen, symbols-seen}
+use Rattle.data_encoding.proofs.tables.TableRuleLemmas.{IsRuled-tables}
+use Rattle.data_encoding.proofs.text.TextJoinLemmas.{length-padded_groups, line-groups, whole-parts}
+use Rattle.data_encoding.proofs.text.PaddedTextLemmas.{ascii-padded_text, groups-same, length-padded, length-unpadded, symbols-first, text_of-unwrapped}
+
+-- what follows each line
+abbrev pub separator_by : Option Wrapping → List ℕ
+separator_by None = []
+separator_by (Some lines) = lines.separator
+
+module _ (base : Base) (width : IsWidth base.width) (bytes : List ℕ) where
+  -- there are no more characters than whole groups have
+  padded-few : length (padded_text base bytes)
+      ≤ run_count (group_bytes base.width) (length bytes) * group_symbols base.width
+  padded-few = by (is_padded base) refl where
+    by : (b : Bool) → is_padded base ≡ b → length (padded_text base bytes)
+        ≤ run_count (group_bytes base.width) (length bytes) * group_symbols base.width
+    by true is = omega (arith, length-padded base bytes width is)
+    by false is =
+        let count = run_count base.width (8 * length bytes) in
+        let same = ap (λ n. n * group_symbols base.width)
+        (groups-same base.width width (length bytes)) in
+        omega (
+          arith,
+          length-unpadded base bytes width is,
+          runs-reach (group_symbols base.width) count (group_symbols-pos base.width width),
+          same,
+        )
+
+  -- and some where there are some data
+  padded-some : 0 < length bytes → 0 < length (padded_text base bytes)
+  padded-some some =
+      omega (
+        arith,
+        symbols-first base bytes width (run_count base.width (8 * length bytes))
+            (length (padded_text base bytes)) refl refl,
+        run_count-some base.width (8 * length bytes) width.some (omega (arith, some)),
+      )
+
+  groups-few : run_count (group_bytes base.width) (length bytes) ≤ length bytes
+  groups-few =
+      let size = group_bytes-pos base.width width in
+      run_count-few (group_bytes base.width) (length bytes) (length bytes) size
+      (le-mul_of_pos_right (length bytes) size)
+
+  padded-most : length (padded_text base bytes) ≤ 8 * length bytes
+  padded-most =
+      let groups = run_count (group_bytes base.width) (length bytes) in
+      omega (
+        arith,
+        padded-few,
+        mul-le groups (group_symbols base.width) (length bytes) 8 groups-few
+            (group_symbols-few base.width width),
+      )
+
+module _ (base : Base) (ruled : IsRuled base) (lines : Wrapping) (some : base.wrapping ≡ Some lines)
+  where
+    pub are : AreLines base lines
+    are = subst (IsRuledWrapping base) some ruled.wrapping
+
+    -- the groups of a line
+    abbrev groups : ℕ
+    groups = lines.column / group_symbols base.width
+
+    column-is : lines.column ≡ groups * group_symbols base.width
+    column-is = whole-parts lines.column (group_symbols base.width) are.whole
+
+    alignment-is : alignment base ≡ groups * group_bytes base.width
+    alignment-is =
+        ap (λ o. align_by o base.width) some
+        ∙ line-groups lines.column base.width ruled.is_width are.whole
+
+    groups-some : 0 < groups
+    groups-some =
+        ⊎_elim {C = 0 < groups}
+        (λ (more : 0 < groups). more)
+        (λ (none : groups ≤ 0).
+        let no_groups : groups ≡ 0 = omega (arith, none) in
+        absurd (omega (
+          arith,
+          are.some,
+          column-is,
+          ap (λ n. n * group_symbols base.width) no_groups,
+          zero-mul (group_symbols base.width),
+        )))
+        (cases_lt 0 groups)
+
+    pub alignment-some : 0 < alignment base
+    alignment-some =
+        omega (
+          arith,
+          alignment-is,
+          groups-some,
+          le-mul_of_pos_right groups (group_bytes-pos base.width ruled.is_width),
+        )
+
+    pub alignment-few : alignment base < 256
+    alignment-few =
+        omega (
+          arith,
+          alignment-is,
+          column-is,
+          are.short,
+          mul-le groups (group_bytes base.width) groups (group_symbols base.width) (omega arith)
+              (group_bytes-few base.width ruled.is_width),
+        )
+
+    text-lines : (bytes : List ℕ)
+        → text_of base bytes ≡ in_lines (Some lines) (padded_text base bytes)
+    text-lines bytes = ap (λ o. in_lines o (padded_text base bytes)) some
+
+    -- a separator for each line
+    pub length-lines : (bytes : List ℕ) → length (text_of base bytes)
+        ≡ length (padded_text base bytes)
+        + run_count lines.column (length (padded_text base bytes)) * length lines.separator
+    length-lines bytes =
+        ap length (text-lines bytes)
+        ∙ length-ended lines.column lines.separator (padded_text base bytes) are.some
+
+    lines-few : (bytes : List ℕ)
+        → run_count lines.column (length (padded_text base bytes)) ≤ length bytes
+    lines-few bytes =
+        let size = group_symbols base.width in
+        let count = run_count (group_bytes base.width) (length bytes) in
+        let long : size ≤ lines.column =
+        omega (arith, column-is, mul-le 1 size groups size groups-some (omega arith)) in
+        run_count-few lines.column (length (padded_text base bytes)) (length bytes) are.some
+        (omega (
+          arith,
+          padded-few base ruled.is_width bytes,
+          mul-le count size (length bytes) lines.column (groups-few base ruled.is_width bytes) long,
+        ))
+
+    lines-most : (bytes : List ℕ) → length (text_of base bytes) ≤ 263 * length bytes
+    lines-most bytes =
+        omega (
+          arith,
+          length-lines bytes,
+          padded-most base ruled.is_width bytes,
+          are.ends_short,
+          mul-le (run_count lines.column (length (padded_text base bytes)))
+              (length lines.separator) (length bytes) 255 (lines-few bytes)
+              (omega (arith, are.ends_short)),
+        )
+
+    -- data of at most a line
+    module _ (bytes : List ℕ) (few : length bytes ≤ alignment base) where
+      padded-line : length (padded_text base bytes) ≤ lines.column
+      padded-line =
+          let count : run_count (group_bytes base.width) (length bytes) ≤ groups =
+          run_count-few (group_bytes base.width) (length bytes) groups
+          (group_bytes-pos base.width ruled.is_width) (omega (arith, few, alignment-is)) in
+          omega (
+            arith,
+            padded-few base ruled.is_width bytes,
+            mul-le-mul_right (group_symbols base.width) count,
+            column-is,
+          )
+
+      module _ (any : 0 < length bytes) where
+        one-line : text_of base bytes ≡ padded_text base bytes ++ lines.separator
+        one-line =
+            let text = padded_text base bytes in
+            text-lines bytes
+            ∙ ap (flat_map (λ line. line ++ lines.separator))
+            (runs-short lines.column text (padded-some base ruled.is_width bytes any) padded-line)
+            ∙ append-nil (text ++ lines.separator)
+
+        length-line : length (text_of base bytes)
+            ≡ length (padded_text base bytes) + length lines.separator
+        length-line = ap length one-line ∙ length-append (padded_text base bytes) lines.separator
+
+        pub short-line : length (text_of base bytes) ≤ lines.column + length lines.separator
+        short-line = omega (arith, length-line, padded-line)
+
+    pub whole-line : (bytes : List ℕ) → length bytes ≡ alignment base
+        → length (text_of base bytes) ≡ lines.column + length lines.separator
+    whole-line bytes e =
+        length-line bytes (omega (arith, e)) (omega (arith, e, alignment-some))
+        ∙ ap (λ n. n + length lines.separator)
+        (length-padded_groups base ruled.is_width bytes groups (e ∙ alignment-is) ∙ sym column-is)
+
+-- a separator of 255 behind each line of eight symbols, of one byte, is the most
+pub text-most : (base : Base) → IsRuled base → (bytes : List ℕ)
+    → length (text_of base bytes) ≤ 263 * length bytes
+text-most base ruled bytes = by base.wrapping refl where
+  by : (o : Option Wrapping) → base.wrapping ≡ o → length (text_of base bytes) ≤ 263 * length bytes
+  by None is =
+      omega (
+        arith,
+        ap length (text_of-unwrapped base bytes is),
+        padded-most base ruled.is_width bytes,
+      )
+  by (Some lines) is = lines-most base ruled lines is bytes
+
+pub text_of-nil : (base : Base) → IsRuled base → text_of base [] ≡ []
+text_of-nil base ruled =
+    let few : length (text_of base []) ≤ 263 * 0 = text-most base ruled [] in
+    nil_from_length (text_of base []) (omega (arith, few))
+
+-- data of at most a line, or of any length where there are no lines
+pub text_of-line : (base : Base) → IsRuled base → (bytes : List ℕ) → 0 < length bytes
+    → length bytes ≤ alignment base
+    → text_of base bytes ≡ padded_text base bytes ++ separator_by base.wrapping
+text_of-line base ruled bytes any few = by base.wrapping refl where
+  by : (o : Option Wrapping) → base.wrapping ≡ o
+      → text_of base bytes ≡ padded_text base bytes ++ separator_by o
+  by None is = text_of-unwrapped base bytes is ∙ sym (append-nil (padded_text base bytes))
+  by (Some lines) is = one-line base ruled lines is bytes few any
+
+first-of-both : (P Q : ℕ → Type 0) (xs : List ℕ) → AllByRecursion (λ x. P x × Q x) xs
+    → AllByRecursion P xs
+first-of-both P Q [] h = tt
+first-of-both P Q (x ∷ xs) h = (h.0.0, first-of-both P Q xs h.1)
+
+-- a text is ASCII with its separators too
+ascii-text_of : (base : Base) → IsRuled base → (bytes : List ℕ)
+    → AllByRecursion (λ byte. byte < 128) (padded_text base bytes)
+    → AllByRecursion (λ byte. byte < 128) (text_of base bytes)
+ascii-text_of base ruled bytes ascii = by base.wrapping ruled.wrapping where
+  by : (o : Option Wrapping) → IsRuledWrapping base o
+      → AllByRecursion (λ byte. byte < 128) (in_lines o (padded_text base bytes))
+  by None rule = ascii
+  by (Some lines) rule =
+      all_ended (λ byte. byte < 128) lines.separator
+      (first-of-both (λ byte. byte < 128) (λ byte. meaning base byte ≡ Ignored) lines.separator
+      rule.ignored)
+      lines.column (run_count lines.column (length (padded_text base bytes)))
+      (padded_text base bytes) ascii
+
+-- what the tables of an encoding say of its lines
+module _ (e : Inside) (rules : KeepsRules e) (seen : Base) (is : base_of_tables e ≡ seen) where
+  pub IsRuled-seen : IsRuled seen
+  IsRuled-seen = subst IsRuled is (IsRuled-tables e rules)
+
+  pub separator-seen : separator_by seen.wrapping ≡ e.separator.items
+  separator-seen =
+      ap (λ b. separator_by b.wrapping) (sym is)
+      ∙ by e.column e.separator.items rules.wrapping where
+        by : (column : ℕ) (separator : List ℕ) → KeepsWrapping column separator e.width e.values
+            → separator_by (wrapping_by column separator) ≡ separator
+        by zero separator keeps = sym keeps
+        by (suc n) separator keeps = refl
+
+  pub wrapping-seen : e.column ≢ 0 → seen.wrapping
+      ≡ Some (record { column = e.column; separator = e.separator.items })
+  wrapping-seen h = ap (λ b. b.wrapping) (sym is) ∙ by e.column h where
+    by : (column : ℕ) → column ≢ 0 → wrapping_by column e.separator.items
+        ≡ Some (record { column = column; separator = e.separator.items })
+    by zero k = absurd (k refl)
+    by (suc n) k = refl
+
+  pub has-lines : e.column ≢ 0 → IsSome seen.wrapping
+  has-lines h = ap is_some (wrapping-seen h)
+
+  pub unwrapped-seen : e.column ≡ 0 → seen.wrapping ≡ None
+  unwrapped-seen h =
+      ap (λ b. b.wrapping) (sym is) ∙ ap (λ n. wrapping_by n e.separator.items) h
+
+  pub ascii-seen : (bytes : List ℕ) → AllByRecursion (λ byte. byte < 128) (text_of seen bytes)
+  ascii-seen bytes =
+      ascii-text_of seen IsRuled-seen bytes
+      (ascii-padded_text seen bytes (symbols-seen e rules seen is) (padding-seen e rules seen is))
+
+  pub column-some : IsSome seen.wrapping → e.column ≢ 0
+  column-some h none = false≢true (sym (ap is_some (unwrapped-seen none)) ∙ h)

@@ -1,0 +1,244 @@
+-- The text of bytes means the bytes.
+use Rattle.std.proofs.Common.{◌≡◌, ℕ, zero, suc, ◌+◌, ◌-◌, ◌*◌, ◌%◌, ◌<◌, ◌≤◌, true, List, [], ◌∷◌, ◌++◌, length, map, take, drop, replicate, Option, Some, None, is_some, refl, sym, ap, ◌∙◌, subst, arith, ⊎_elim, append_assoc, length-append, take-append-drop, length-take-le}
+use Rattle.std.proofs.Math.Nat.{add-mod_left, div-eq_of_lt-le, mod-eq_of_lt}
+use Rattle.std.proofs.lemmas.Bool.{cases_lt, false≢true}
+use Rattle.std.proofs.lemmas.List.{append-nil, length-drop, length-replicate, nil_from_length}
+use Rattle.std.proofs.lemmas.List.Elements.{All-take, All-drop}
+use Rattle.std.specs.Prelude.{All}
+use Rattle.data_encoding.specs.declared.encoding.Character.TheVariants.{Padding}
+use Rattle.data_encoding.specs.Base.{Base, IsWidth, meaning, is_padded, group_bytes, group_symbols}
+use Rattle.data_encoding.specs.Bits.{missing, runs}
+use Rattle.data_encoding.specs.Grammar.{GroupMeans, GroupsMean, Means, MeansBy, PlainMeans, Positioned, kept, positioned, positioned_from}
+use Rattle.data_encoding.specs.Text.{filled_with, plain_text, text_of, with_padding}
+use Rattle.data_encoding.proofs.digits.KernelLemmas.{filled_count}
+use Rattle.data_encoding.proofs.digits.WidthLemmas.{by_width, group_bytes-pos, group_symbols-pos}
+use Rattle.data_encoding.proofs.grammar.GroupLemmas.{bytes_in}
+use Rattle.data_encoding.proofs.grammar.PositionLemmas.{bytes-positioned_from, length-positioned_from, positioned_from-append}
+use Rattle.data_encoding.proofs.grammar.SameBytesLemmas.{GroupsMean-same}
+use Rattle.data_encoding.proofs.grammar.SoundLemmas.{symbols-not_final}
+use Rattle.data_encoding.proofs.lists.RunLemmas.{run_count, runs-append, runs-nil, runs-short}
+use Rattle.data_encoding.proofs.specification.RuleLemmas.{IsRuled, IsRuledPadding}
+use Rattle.data_encoding.proofs.text.KeptTextLemmas.{bytes-kept_text}
+use Rattle.data_encoding.proofs.text.PaddedTextLemmas.{length-filled_with}
+use Rattle.data_encoding.proofs.text.SymbolMeaningLemmas.{PlainMeans-plain_text}
+use Rattle.data_encoding.proofs.text.PlainTextLemmas.{length-plain_text, plain_text-join, plain_text-nil, missing-none}
+
+-- a symbol or more of a byte or more; a whole group of a whole group; one group of no more
+some_symbols : (width : ℕ) → IsWidth width → (n : ℕ) → 0 < n → 0 < run_count width (8 * n)
+some_symbols =
+    by_width (λ w. (n : ℕ) → 0 < n → 0 < run_count w (8 * n))
+    (λ n h. omega (arith, h)) (λ n h. omega (arith, h)) (λ n h. omega (arith, h))
+    (λ n h. omega (arith, h)) (λ n h. omega (arith, h)) (λ n h. omega (arith, h))
+
+whole_bits : (width : ℕ) → IsWidth width → 8 * group_bytes width % width ≡ 0
+whole_bits = by_width (λ w. 8 * group_bytes w % w ≡ 0) refl refl refl refl refl refl
+
+whole_symbols : (width : ℕ) → IsWidth width
+    → run_count width (8 * group_bytes width) ≡ group_symbols width
+whole_symbols =
+    by_width (λ w. run_count w (8 * group_bytes w) ≡ group_symbols w) refl refl refl refl refl refl
+
+few_symbols : (width : ℕ) → IsWidth width → (n : ℕ) → n ≤ group_bytes width
+    → run_count width (8 * n) ≤ group_symbols width
+few_symbols =
+    by_width (λ w. (n : ℕ) → n ≤ group_bytes w → run_count w (8 * n) ≤ group_symbols w)
+    (λ n h. omega (arith, h)) (λ n h. omega (arith, h)) (λ n h. omega (arith, h))
+    (λ n h. omega (arith, h)) (λ n h. omega (arith, h)) (λ n h. omega (arith, h))
+
+one_run : (size n : ℕ) → 0 < n → n ≤ size → run_count size n ≡ 1
+one_run size n h k = div-eq_of_lt-le size (omega (arith, h, k)) (omega (arith, h, k))
+
+-- what fills a list fills it behind a whole run
+filled-behind : (filler size : ℕ) (xs ys : List ℕ) → length xs ≡ size
+    → filled_with filler size (xs ++ ys) ≡ xs ++ filled_with filler size ys
+filled-behind filler size xs ys e =
+    let same : length (xs ++ ys) % size ≡ length ys % size =
+    ap (λ n. n % size) (length-append xs ys ∙ ap (λ n. n + length ys) e)
+    ∙ add-mod_left size (length ys) in
+    ap (λ n. (xs ++ ys) ++ replicate ((size - n) % size) filler) same
+    ∙ append_assoc xs ys (replicate (missing size (length ys)) filler)
+
+filled-nil : (filler size : ℕ) → 0 < size → filled_with filler size [] ≡ []
+filled-nil filler size h =
+    ap (λ n. replicate n filler) (missing-none size 0 (mod-eq_of_lt h))
+
+module _ (base : Base) (ruled : IsRuled base) where
+  width : IsWidth base.width
+  width = ruled.is_width
+
+  module _ (padded : is_padded base ≡ true) (character : ℕ)
+      (means_padding : meaning base character ≡ Padding) where
+    abbrev size : ℕ
+    size = group_symbols base.width
+
+    abbrev filled : List ℕ → List ℕ
+    filled bytes = filled_with character size (plain_text base bytes)
+
+    plain_means : (bytes : List ℕ) → All (λ byte. byte < 256) bytes
+        → PlainMeans base (positioned (plain_text base bytes)) bytes
+    plain_means bytes below =
+        PlainMeans-plain_text base ruled bytes below (positioned (plain_text base bytes))
+        (bytes-positioned_from 0 (plain_text base bytes))
+
+    -- a whole group of symbols, which another may follow
+    whole_group : (bytes : List ℕ) → All (λ byte. byte < 256) bytes
+        → length bytes ≡ group_bytes base.width
+        → GroupMeans base (positioned (plain_text base bytes)) bytes
+    whole_group bytes below e =
+        let group = positioned (plain_text base bytes) in
+        let len : length group ≡ size =
+        length-positioned_from 0 (plain_text base bytes)
+        ∙ length-plain_text base bytes width.some ∙ ap (λ n. run_count base.width (8 * n)) e
+        ∙ whole_symbols base.width width in
+        record {
+          symbols = group;
+          padding = [];
+          is_group = sym (append-nil group);
+          is_whole = len;
+          is_begun = subst (λ n. 0 < n) (sym len) (group_symbols-pos base.width width);
+          is_padding = refl;
+          means = plain_means bytes below;
+        }
+
+    padding_at : (start count : ℕ)
+        → map (λ (k : Positioned). meaning base k.byte)
+        (positioned_from start (replicate count character)) ≡ replicate count Padding
+    padding_at start zero = refl
+    padding_at start (suc count) =
+        (λ i. means_padding i ∷ padding_at (start + 1) count i)
+
+    -- the last group
+    last_group : (bytes : List ℕ) → All (λ byte. byte < 256) bytes → 0 < length bytes
+        → length bytes ≤ group_bytes base.width
+        → GroupMeans base (positioned (filled bytes)) bytes
+    last_group bytes below some few =
+        let text = plain_text base bytes in
+        let count = missing size (length text) in
+        let symbols = positioned text in
+        let padding = positioned_from (0 + length text) (replicate count character) in
+        let len = length-plain_text base bytes width.some in
+        let some_text : 0 < length text =
+        subst (λ n. 0 < n) (sym len) (some_symbols base.width width (length bytes) some) in
+        let few_text : length text ≤ size =
+        subst (λ n. n ≤ size) (sym len) (few_symbols base.width width (length bytes) few) in
+        let padding_len : length padding ≡ count =
+        length-positioned_from (0 + length text) (replicate count character)
+        ∙ length-replicate count character in
+        let whole : length (filled bytes) ≡ size * 1 =
+        length-filled_with character size text
+        ∙ filled_count size (length text) (group_symbols-pos base.width width)
+        ∙ ap (λ n. size * n) (one_run size (length text) some_text few_text) in
+        record {
+          symbols = symbols;
+          padding = padding;
+          is_group = positioned_from-append 0 text (replicate count character);
+          is_whole =
+              length-positioned_from 0 (filled bytes) ∙ whole ∙ omega arith;
+          is_begun =
+              subst (λ n. 0 < n) (sym (length-positioned_from 0 text)) some_text;
+          is_padding =
+              padding_at (0 + length text) count
+              ∙ ap (λ n. replicate n Padding) (sym padding_len);
+          means = plain_means bytes below;
+        }
+
+    abbrev AreMeant : List ℕ → Type 0
+    AreMeant bytes = GroupsMean base (runs size (positioned (filled bytes))) bytes
+
+    none_meant : (bytes : List ℕ) → length bytes ≤ 0 → AreMeant bytes
+    none_meant bytes few =
+        let none : bytes ≡ [] = nil_from_length bytes (omega (arith, few)) in
+        let positive = group_symbols-pos base.width width in
+        let empty : filled bytes ≡ [] =
+        ap filled none
+        ∙ ap (filled_with character size) (plain_text-nil base width.some)
+        ∙ filled-nil character size positive in
+        subst (λ gs. GroupsMean base gs bytes)
+        (sym (ap (λ l. runs size (positioned l)) empty ∙ runs-nil size positive)) none
+
+    last_meant : (bytes : List ℕ) → All (λ byte. byte < 256) bytes → 0 < length bytes
+        → length bytes ≤ group_bytes base.width → AreMeant bytes
+    last_meant bytes below some few =
+        let group = positioned (filled bytes) in
+        let means = last_group bytes below some few in
+        let positive = group_symbols-pos base.width width in
+        subst (λ gs. GroupsMean base gs bytes)
+        (sym (runs-short size group (subst (λ n. 0 < n) (sym means.is_whole) positive)
+        (omega (arith, means.is_whole))))
+        (bytes, [], sym (append-nil bytes), means, (λ final. refl), refl)
+
+    -- a whole group, and those of the others
+    next_meant : (bytes : List ℕ) → All (λ byte. byte < 256) bytes
+        → group_bytes base.width ≤ length bytes → AreMeant (drop (group_bytes base.width) bytes)
+        → AreMeant bytes
+    next_meant bytes below long others =
+        let count = group_bytes base.width in
+        let front = take count bytes in
+        let rest = drop count bytes in
+        let text = plain_text base front in
+        let front_len : length front ≡ count = length-take-le count bytes long in
+        let means = whole_group front (All-take (λ byte. byte < 256) count bytes below) front_len in
+        let text_len : length text ≡ size =
+        sym (length-positioned_from 0 text) ∙ means.is_whole in
+        let joined : plain_text base bytes ≡ text ++ plain_text base rest =
+        ap (plain_text base) (sym (take-append-drop count bytes))
+        ∙ plain_text-join base front rest width.some
+        (ap (λ n. 8 * n % base.width) front_len ∙ whole_bits base.width width) in
+        let symbols = plain_means front (All-take (λ byte. byte < 256) count bytes below) in
+        let behind = positioned_from (0 + length text) (filled rest) in
+        let parts : positioned (filled bytes) ≡ positioned text ++ behind =
+        ap (λ l. positioned (filled_with character size l)) joined
+        ∙ ap positioned (filled-behind character size text (plain_text base rest) text_len)
+        ∙ positioned_from-append 0 text (filled rest) in
+        subst (λ gs. GroupsMean base gs bytes)
+        (sym (ap (runs size) parts
+        ∙ runs-append size (positioned text) behind (group_symbols-pos base.width width)
+        means.is_whole)) (
+          front,
+          rest,
+          sym (take-append-drop count bytes),
+          means,
+          (λ final. absurd (false≢true
+              (sym (symbols-not_final base (positioned text) symbols.values symbols.are_symbols)
+              ∙ final))),
+          GroupsMean-same base width padded (positioned (filled rest)) behind rest
+              (bytes-positioned_from 0 (filled rest)
+              ∙ sym (bytes-positioned_from (0 + length text) (filled rest)))
+              others,
+        )
+
+    -- group after group
+    groups_meant : (fuel : ℕ) (bytes : List ℕ) → length bytes ≤ fuel
+        → All (λ byte. byte < 256) bytes → AreMeant bytes
+    groups_meant zero bytes few below = none_meant bytes few
+    groups_meant (suc fuel) bytes few below =
+        let count = group_bytes base.width in
+        let rest_len = length-drop count bytes in
+        let taken = group_bytes-pos base.width width in
+        ⊎_elim
+        (λ (long : count < length bytes).
+        next_meant bytes below (omega (arith, long))
+        (groups_meant fuel (drop count bytes) (omega (arith, few, rest_len, taken, long))
+        (All-drop (λ byte. byte < 256) count bytes below)))
+        (λ (short : length bytes ≤ count).
+        ⊎_elim (λ (some : 0 < length bytes). last_meant bytes below some short)
+        (λ (none : length bytes ≤ 0). none_meant bytes none)
+        (cases_lt 0 (length bytes)))
+        (cases_lt count (length bytes))
+
+  -- the text of bytes means the bytes
+  pub Means-text_of : (bytes : List ℕ) → All (λ byte. byte < 256) bytes
+      → Means base (text_of base bytes) bytes
+  Means-text_of bytes below =
+      by base.padding refl ruled.padding (bytes-kept_text base ruled bytes) where
+        by : (o : Option ℕ) → base.padding ≡ o → IsRuledPadding base o
+            → bytes_in (kept base (text_of base bytes))
+            ≡ with_padding o (group_symbols base.width) (plain_text base bytes)
+            → MeansBy o base (text_of base bytes) bytes
+        by None is h same =
+            PlainMeans-plain_text base ruled bytes below (kept base (text_of base bytes)) same
+        by (Some character) is h same =
+            let text = filled_with character (group_symbols base.width) (plain_text base bytes) in
+            GroupsMean-same base width (ap is_some is) (positioned text)
+            (kept base (text_of base bytes)) bytes (bytes-positioned_from 0 text ∙ sym same)
+            (groups_meant (ap is_some is) character h.1 (length bytes) bytes (omega arith) below)

@@ -1,0 +1,97 @@
+//! The next group of a text: the bytes that are not ignored.
+
+ghost use Rattle.std.specs.Prelude.{◌≡◌, ◌<◌, ◌≤◌, length, take};
+ghost use Rattle.data_encoding.specs.Base.{Base};
+ghost use Rattle.data_encoding.specs.Decoding.{IsGathered};
+ghost use Rattle.data_encoding.specs.Fault.{position_of};
+ghost use Rattle.data_encoding.specs.Grammar.{kept};
+ghost use Rattle.data_encoding.specs.Tables.{HoldsValues};
+
+use crate::encoding::{Encoding, IGNORED};
+
+// A group of a text: its bytes, and how far it goes with the ignored bytes among them.
+#[derive(Clone, Copy, Drop)]
+pub(crate) struct Group<'a> {
+    pub(crate) bytes: &'a [u8],
+    pub(crate) span: usize,
+}
+
+// How many bytes were gathered, and how far they go.
+#[derive(Clone, Copy, Drop)]
+struct Gathered {
+    count: usize,
+    span: usize,
+}
+
+impl Encoding {
+    /// The next group of what is left of a text, or the fewer bytes that are left and not ignored.
+    /// Where bytes are ignored it is gathered in the room.
+    #[inline(always)]
+    pub(crate) fn next_group<'a, const SYMBOLS: usize>(
+        &self,
+        rest: &'a [u8],
+        room: &'a mut [u8; 8],
+    ) -> Group<'a>
+        requires few { SYMBOLS ≤ 8 }
+        ensures { IsGathered self.now SYMBOLS rest.now result.bytes.now result.span }
+    {
+        if self.ignores {
+            let gathered = gather::<SYMBOLS>(&self.values, rest, room);
+            return Group {
+                bytes: &room[..gathered.count],
+                span: gathered.span,
+            };
+        }
+        let bytes = if rest.len() < SYMBOLS {
+            rest
+        } else {
+            &rest[..SYMBOLS]
+        };
+        Group {
+            bytes,
+            span: bytes.len(),
+        }
+    }
+
+    /// Where a byte stands, by its index among those that are not ignored; the length, where there
+    /// are no more than so many.
+    pub(crate) fn kept_position(&self, part: &[u8], index: usize) -> usize
+        ensures found { index < length (kept self.now part.now)
+            → result ≡ position_of (kept self.now part.now) index }
+        ensures within { result ≤ length part.now }
+    {
+        let mut left = index;
+        for position in 0..part.len() {
+            if self.values[part[position] as usize] != IGNORED {
+                if left == 0 {
+                    return position;
+                }
+                left -= 1;
+            }
+        }
+        part.len()
+    }
+}
+
+// Gathers the first bytes that are not ignored at the front of the room.
+fn gather<const SYMBOLS: usize>(values: &[u8; 256], rest: &[u8], room: &mut [u8; 8]) -> Gathered
+    requires few { SYMBOLS ≤ 8 }
+    ensures few { result.count ≤ SYMBOLS }
+    ensures first { (base : Base) → HoldsValues base values.now
+        → IsGathered base SYMBOLS rest.now (take result.count room.new) result.span }
+{
+    let mut count = 0;
+    let mut span = 0;
+    for index in 0..rest.len() {
+        if count == SYMBOLS {
+            break;
+        }
+        let byte = rest[index];
+        if values[byte as usize] != IGNORED {
+            room[count] = byte;
+            count += 1;
+            span = index + 1;
+        }
+    }
+    Gathered { count, span }
+}
