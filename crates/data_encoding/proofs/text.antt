@@ -3,8 +3,11 @@ pub mod PlainTextLemmas
 pub mod PlainGroupLemmas
 pub mod PaddedTextLemmas
 pub mod TextJoinLemmas
+pub mod FragmentLemmas
 pub mod LineLemmas
 pub mod LineLoopLemmas
+pub mod BlockLemmas
+pub mod WrittenLemmas
 pub mod PlainLoopLemmas
 pub mod SymbolMeaningLemmas
 pub mod KeptTextLemmas

@@ -4,6 +4,8 @@ pub mod Words
 pub mod Text
 pub mod Grammar
 pub mod Lengths
+pub mod Fragments
+pub mod Encoder
 pub mod Fault
 pub mod Partial
 pub mod Fields
@@ -16,4 +18,5 @@ pub mod Laws
 pub mod Tables
 pub mod Decoding
 pub mod Printed
+pub mod Shown
 pub mod Predefined

@@ -140,8 +140,8 @@ pub(crate) fn encode_group_at<const WIDTH: usize, const BYTES: usize, const SYMB
     symbols_of_word::<WIDTH, SYMBOLS>(symbols, order, word, output);
 }
 
-// What a table says of a byte.
-fn entry_of(values: &[u8; 256], byte: u8) -> u8
+/// What a table says of a byte.
+pub(crate) fn entry_of(values: &[u8; 256], byte: u8) -> u8
     ensures { result ≡ slice_index values.now byte }
 {
     values[byte as usize]
@@ -165,7 +165,10 @@ fn word_of_symbols<const WIDTH: usize, const SYMBOLS: usize>(
 {
     let mut word = 0;
     let mut entries = 0;
-    for index in 0..input.len() {
+    for index in 0..SYMBOLS {
+        if index == input.len() {
+            break;
+        }
         let entry = entry_of(values, input[index]);
         entries |= entry;
         word += (entry as u64) << weight_at(order, WIDTH, SYMBOLS, index);
@@ -179,7 +182,10 @@ fn bytes_of_word<const BYTES: usize>(order: BitOrder, word: u64, output: &mut [u
     requires few { length output.old ≤ BYTES }
     ensures { output.new ≡ map (digit order 8 BYTES word) (range_with_len 0 (length output.old)) }
 {
-    for index in 0..output.len() {
+    for index in 0..BYTES {
+        if index == output.len() {
+            break;
+        }
         output[index] = byte_at(word, weight_at(order, 8, BYTES, index));
     }
 }

@@ -1,17 +1,18 @@
 //! From data to text.
 
-ghost use Rattle.std.specs.Prelude.{◌≡◌, All, ℕ, ◌<◌, ◌+◌, ◌-◌, ◌*◌, ◌/◌, ◌≤◌, List, ◌++◌, length, drop, replicate, IfOk, IsOk, IsSome};
-ghost use Rattle.std.specs.String.{string_bytes};
+ghost use Rattle.std.specs.Prelude.{◌≡◌, All, ℕ, ◌<◌, ◌+◌, ◌-◌, ◌*◌, ◌/◌, ◌≤◌, List, ◌++◌, length, drop, replicate, IfOk, IsOk, IsSome, OnErr, OnOk};
+ghost use Rattle.std.specs.String.{string_bytes, string_capacity, string_len};
 ghost use Rattle.data_encoding.specs.Base.{Base, IsWidth, group_bytes, group_symbols};
 ghost use Rattle.data_encoding.specs.Fields.{IsSpecified};
 ghost use Rattle.data_encoding.specs.Lengths.{alignment};
 ghost use Rattle.data_encoding.specs.Tables.{IsGroup, Writes};
 ghost use Rattle.data_encoding.specs.Text.{padded_text, plain_text, text_of};
 
-use crate::bits::{encode_group, encode_group_at};
 use crate::encoding::{BitOrder, Encoding, group_bytes};
 use crate::memory::zeros;
+use crate::plain::encode_by_fours;
 use std::alloc::{AllocError, Global};
+use std::mem;
 
 /// The greatest length of data that is encoded in one call, in bytes.
 pub const ENCODE_LIMIT: usize = usize::MAX / 512;
@@ -51,9 +52,13 @@ impl Encoding {
 
     /// The bytes of data of a whole group of symbols, or of a whole line.
     ///
-    /// The texts of data may be joined where the length of all but the last is a multiple of it.
+    /// The texts of data may be joined where the length of all but the last is a multiple of it. It
+    /// is from 1 to 191.
     pub fn encode_align(&self) -> usize
-        ensures { result ≡ alignment self.now }
+        ensures value { result ≡ alignment self.now }
+        ensures some { 0 < result }
+        ensures most { result ≤ 191 }
+        ensures base { IsSpecified self.now }
     {
         if self.column != 0 {
             return self.column as usize * self.width as usize / 8;
@@ -103,6 +108,50 @@ impl Encoding {
         let mut output = zeros(alloc, self.encode_len(input.len()))?;
         self.encode_mut(input, &mut output);
         Ok(unsafe { String::from_utf8_unchecked(output) })
+    }
+
+    /// Appends the text of the data, of at most `ENCODE_LIMIT` bytes, to `output`.
+    ///
+    /// The only error is that memory ran out, which is never answered for no data. The bytes and the
+    /// capacity of `output` are then what they were.
+    pub fn encode_append(&self, input: &[u8], output: &mut String) -> Result<(), AllocError>
+        requires limit { length input.now ≤ ENCODE_LIMIT }
+        ensures text { OnOk result (string_bytes output.new
+            ≡ string_bytes output.old ++ text_of self.now input.now) }
+        ensures unchanged { OnErr result (string_bytes output.new ≡ string_bytes output.old) }
+        ensures capacity { OnErr result (string_capacity output.new
+            ≡ string_capacity output.old) }
+        ensures empty { length input.now ≡ 0 → IsOk result }
+        ensures base { IsSpecified self.now }
+    {
+        let len = self.encode_len(input.len());
+        if len == 0 {
+            return Ok(());
+        }
+        output.reserve(len)?;
+        self.append_within(input, output);
+        Ok(())
+    }
+
+    // Does so where there is room: the text is written where it stays.
+    pub(crate) fn append_within(&self, input: &[u8], output: &mut String)
+        requires limit { length input.now ≤ ENCODE_LIMIT }
+        requires room { string_len output.old + length (text_of self.now input.now)
+            ≤ string_capacity output.old }
+        ensures text { string_bytes output.new
+            ≡ string_bytes output.old ++ text_of self.now input.now }
+        ensures len { string_len output.new
+            ≡ string_len output.old + length (text_of self.now input.now) }
+        ensures capacity { string_capacity output.old ≤ string_capacity output.new }
+    {
+        let empty = String::new(*output.allocator());
+        let mut bytes = mem::replace(output, empty).into_bytes();
+        let start = bytes.len();
+        bytes
+            .resize(start + self.encode_len(input.len()), 0)
+            .unwrap();
+        self.encode_mut(input, &mut bytes[start..]);
+        *output = unsafe { String::from_utf8_unchecked(bytes) };
     }
 
     // With the order as a constant too: each digit then stands at a known bit of its word.
@@ -286,101 +335,4 @@ fn filled_count(width: u8, len: usize) -> usize
         6 => len.div_ceil(3) * 4,
         _ => symbol_count(width, len),
     }
-}
-
-// Four groups at a time, so that the loop's own steps cost less, and then what is left. Inlined, so
-// that the order is a constant.
-#[inline(always)]
-fn encode_by_fours<const WIDTH: usize, const BYTES: usize, const SYMBOLS: usize>(
-    symbols: &[u8; 256],
-    order: BitOrder,
-    input: &[u8],
-    output: &mut [u8],
-)
-    requires group { IsGroup WIDTH BYTES SYMBOLS }
-    requires limit { length input.now ≤ ENCODE_LIMIT }
-    requires exact { length output.old ≡ (8 * length input.now + (WIDTH - 1)) / WIDTH }
-    ensures { (base : Base) → Writes base symbols.now WIDTH order
-        → output.new ≡ plain_text base input.now }
-{
-    let read_len = 4 * BYTES;
-    let written_len = 4 * SYMBOLS;
-    let count = input.len() / read_len;
-    for index in 0..count {
-        let read = index * read_len;
-        let written = index * written_len;
-        encode_four_groups::<WIDTH, BYTES, SYMBOLS>(
-            symbols,
-            order,
-            &input[read..read + read_len],
-            &mut output[written..written + written_len],
-        );
-    }
-    encode_groups::<WIDTH, BYTES, SYMBOLS>(
-        symbols,
-        order,
-        &input[count * read_len..],
-        &mut output[count * written_len..],
-    );
-}
-
-// Four whole groups. Inlined, so that the lengths are constants, and with them which bytes are
-// loaded together.
-#[inline(always)]
-fn encode_four_groups<const WIDTH: usize, const BYTES: usize, const SYMBOLS: usize>(
-    symbols: &[u8; 256],
-    order: BitOrder,
-    input: &[u8],
-    output: &mut [u8],
-)
-    requires group { IsGroup WIDTH BYTES SYMBOLS }
-    requires bytes { length input.now ≡ 4 * BYTES }
-    requires exact { length output.old ≡ 4 * SYMBOLS }
-    ensures { (base : Base) → Writes base symbols.now WIDTH order
-        → output.new ≡ plain_text base input.now }
-{
-    for index in 0..4 {
-        let written = index * SYMBOLS;
-        encode_group_at::<WIDTH, BYTES, SYMBOLS>(
-            symbols,
-            order,
-            input,
-            index * BYTES,
-            &mut output[written..written + SYMBOLS],
-        );
-    }
-}
-
-// Group by group: at most three whole ones, and the last, perhaps shorter. Not inlined, so that the
-// loop over four groups, where the time goes, is small code.
-#[inline(never)]
-fn encode_groups<const WIDTH: usize, const BYTES: usize, const SYMBOLS: usize>(
-    symbols: &[u8; 256],
-    order: BitOrder,
-    input: &[u8],
-    output: &mut [u8],
-)
-    requires group { IsGroup WIDTH BYTES SYMBOLS }
-    requires limit { length input.now ≤ ENCODE_LIMIT }
-    requires exact { length output.old ≡ (8 * length input.now + (WIDTH - 1)) / WIDTH }
-    ensures { (base : Base) → Writes base symbols.now WIDTH order
-        → output.new ≡ plain_text base input.now }
-{
-    let count = input.len() / BYTES;
-    for index in 0..count {
-        let read = index * BYTES;
-        let written = index * SYMBOLS;
-        encode_group::<WIDTH, BYTES, SYMBOLS>(
-            symbols,
-            order,
-            &input[read..read + BYTES],
-            &mut output[written..written + SYMBOLS],
-        );
-    }
-    encode_group::<WIDTH, BYTES, SYMBOLS>(
-        symbols,
-        order,
-        &input[count * BYTES..],
-        &mut output[count * SYMBOLS..],
-    );
 }

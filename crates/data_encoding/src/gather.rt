@@ -60,6 +60,9 @@ impl Encoding {
             → result ≡ position_of (kept self.now part.now) index }
         ensures within { result ≤ length part.now }
     {
+        if !self.ignores {
+            return index.min(part.len());
+        }
         let mut left = index;
         for position in 0..part.len() {
             if self.values[part[position] as usize] != IGNORED {

@@ -5,7 +5,7 @@ ghost use Rattle.data_encoding.specs.Base.{Base};
 ghost use Rattle.data_encoding.specs.Decoding.{IsRun};
 ghost use Rattle.data_encoding.specs.Tables.{HoldsValues, IsGroup};
 
-use crate::bits::{decode_entries, decode_symbols};
+use crate::bits::{decode_entries, decode_symbols, entry_of};
 use crate::encoding::BitOrder;
 
 /// Decodes whole groups in a row, from the front of the input to the front of the output, up to the
@@ -88,6 +88,10 @@ fn decode_by_fours<const WIDTH: usize, const BYTES: usize, const SYMBOLS: usize>
     ensures within { result ≤ length input.now / SYMBOLS }
 {
     let count = input.len() / SYMBOLS / 4;
+    // Padded groups may follow one another: then the four are not decoded in vain.
+    if 8 % WIDTH != 0 && count != 0 && entry_of(values, input[4 * SYMBOLS - 1]) >= 128 {
+        return 0;
+    }
     for index in 0..count {
         let read = 4 * index * SYMBOLS;
         let written = 4 * index * BYTES;

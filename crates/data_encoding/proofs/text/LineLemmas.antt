@@ -27,7 +27,7 @@ separator_by (Some lines) = lines.separator
 
 module _ (base : Base) (width : IsWidth base.width) (bytes : List ℕ) where
   -- there are no more characters than whole groups have
-  padded-few : length (padded_text base bytes)
+  pub padded-few : length (padded_text base bytes)
       ≤ run_count (group_bytes base.width) (length bytes) * group_symbols base.width
   padded-few = by (is_padded base) refl where
     by : (b : Bool) → is_padded base ≡ b → length (padded_text base bytes)
@@ -76,13 +76,13 @@ module _ (base : Base) (ruled : IsRuled base) (lines : Wrapping) (some : base.wr
     are = subst (IsRuledWrapping base) some ruled.wrapping
 
     -- the groups of a line
-    abbrev groups : ℕ
+    abbrev pub groups : ℕ
     groups = lines.column / group_symbols base.width
 
-    column-is : lines.column ≡ groups * group_symbols base.width
+    pub column-is : lines.column ≡ groups * group_symbols base.width
     column-is = whole-parts lines.column (group_symbols base.width) are.whole
 
-    alignment-is : alignment base ≡ groups * group_bytes base.width
+    pub alignment-is : alignment base ≡ groups * group_bytes base.width
     alignment-is =
         ap (λ o. align_by o base.width) some
         ∙ line-groups lines.column base.width ruled.is_width are.whole

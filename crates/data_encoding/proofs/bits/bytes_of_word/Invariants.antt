@@ -1,4 +1,4 @@
-use Rattle.std.proofs.Common.{◌≡◌, length, map, take}
+use Rattle.std.proofs.Common.{◌≡◌, ◌≤◌, length, map, take}
 use Rattle.std.specs.List.{range_with_len}
 use Rattle.data_encoding.specs.Words.{digit}
 use Rattle.data_encoding.proofs.bits.bytes_of_word.Given as goal
@@ -8,4 +8,5 @@ invariant-loop-index g l = record {
   so_far : take l.index l.output
       ≡ map (digit l.fn.order 8 g.row.BYTES l.fn.word) (range_with_len 0 l.index);
   len : length l.output ≡ length l.fn.output;
+  within : l.index ≤ length l.output;
 }

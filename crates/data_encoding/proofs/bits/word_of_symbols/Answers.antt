@@ -11,6 +11,7 @@ loop-index-init g c = record {
   so_far = λ h. sym (word_of-nil c.args.order g.row.WIDTH g.row.SYMBOLS);
   only = λ h k below. absurd (omega (arith, below));
   all = λ h. omega arith;
+  within = omega arith;
   small = omega arith;
 }
 
@@ -27,11 +28,13 @@ loop-index-preserved g c =
     let input = c.args.input.now in
     let values = c.args.values.now in
     let entry = c.entry_of-entry.result in
+    let inside : index < length input =
+    omega (arith, c.loop-index.invariant.within, c.if-index-input.false) in
     let same : entry ≡ slice_index values (slice_index input index) = c.entry_of-entry.ensures in
     let added = term entry c.weight_at.result c.entry_of-entry.type_inv (omega arith) in
     let before = map (slice_index values) (take index input) in
     let digits : map (slice_index values) (take (index + 1) input) ≡ before ++ entry ∷ [] =
-    ap (map (slice_index values)) (take_more input index 0 (omega arith))
+    ap (map (slice_index values)) (take_more input index 0 inside)
     ∙ map-append (slice_index values) (take index input) (slice_index input index ∷ [])
     ∙ ap (λ d. before ++ d ∷ []) (sym same) in
     let len : length before ≡ index = length-map (take index input) (slice_index values)
@@ -50,5 +53,6 @@ loop-index-preserved g c =
       all = λ h. or_lt 7 c.loop-index.entries entry
           (c.loop-index.invariant.all (λ k less. h k (omega arith)))
           (omega (arith, h index (omega arith), same));
+      within = omega (arith, inside);
       small = omega (arith, added.small);
     }

@@ -1,4 +1,4 @@
-use Rattle.std.proofs.Common.{◌≡◌, ℕ, ◌*◌, ◌^◌, ◌<◌, ◌≤◌, map, take, slice_index}
+use Rattle.std.proofs.Common.{◌≡◌, ℕ, ◌*◌, ◌^◌, ◌<◌, ◌≤◌, length, map, take, slice_index}
 use Rattle.data_encoding.specs.Words.{word_of}
 use Rattle.data_encoding.proofs.bits.word_of_symbols.Given as goal
 
@@ -12,5 +12,6 @@ invariant-loop-index g l = record {
       → (k : ℕ) → k < l.index → slice_index l.fn.values (slice_index l.fn.input k) < 128;
   all : ((k : ℕ) → k < l.index → slice_index l.fn.values (slice_index l.fn.input k) < 128)
       → l.entries < 128;
+  within : l.index ≤ length l.fn.input;
   small : l.word ≤ l.index * 281474976710656;
 }

@@ -1,5 +1,6 @@
-use Rattle.std.proofs.Common.{◌≡◌, ◌+◌, ◌*◌, ◌/◌, ◌≤◌, length, refl, ◌∙◌, arith}
-use Rattle.data_encoding.proofs.decoding.SymbolRunLemmas.{run-none, run-next}
+use Rattle.std.proofs.Common.{◌≡◌, ◌+◌, ◌*◌, ◌/◌, ◌≤◌, length, refl, ◌∙◌, subst, arith}
+use Rattle.data_encoding.specs.Decoding.{IsRun}
+use Rattle.data_encoding.proofs.decoding.SymbolRunLemmas.{run-kept, run-none, run-next}
 use Rattle.data_encoding.proofs.lists.PartLemmas.{fours-before, groups-within, length-part}
 use Rattle.data_encoding.proofs.run.decode_by_fours.Goals as goal
 
@@ -48,3 +49,30 @@ loop-index-preserved g c =
           (omega (arith, room)) shown_len (c.loop-index.invariant.run base w o holds)
           (c.decode_four_groups.ensures c.if-not-decode_four_groups.false base w o holds);
     }
+
+pub returns-then-entry_of-ge128-clause-run : goal.returns-then-entry_of-ge128-clause-run
+returns-then-entry_of-ge128-clause-run g c = λ base w o holds.
+    run-none base holds.is_width c.args.input.now _ _
+
+pub returns-then-not-decode_four_groups-clause-run :
+    goal.returns-then-not-decode_four_groups-clause-run
+returns-then-not-decode_four_groups-clause-run g c = λ base w o holds.
+    let i = c.loop-index.index in
+    let room : 4 * i * g.row.BYTES + 4 * g.row.BYTES ≤ length c.loop-index.output =
+    omega (
+      arith,
+      fours-before (length c.args.input.now / g.row.SYMBOLS) g.row.BYTES i c.loop-index-test.true,
+      c.requires.room,
+      c.loop-index.auto.output,
+    ) in
+    run-kept base holds.is_width g.row.WIDTH g.row.BYTES g.row.SYMBOLS c.requires.group w
+    c.args.input.now _ c.loop-index.output c.decode_four_groups.new.output (4 * i) _
+    (omega (arith, room)) (c.loop-index.invariant.run base w o holds)
+
+pub returns-clause-run : goal.returns-clause-run
+returns-clause-run g c = λ base w o holds.
+    let all : c.loop-index.index ≡ length c.args.input.now / g.row.SYMBOLS / 4 =
+    omega (arith, c.loop-index-test.false, c.loop-index.auto.index-end) in
+    subst
+    (λ n. IsRun base c.args.input.now (4 * n) c.args.output.now c.loop-index.output) all
+    (c.loop-index.invariant.run base w o holds)

@@ -1,6 +1,10 @@
-use Rattle.std.proofs.Common.{◌≡◌, ◌≢◌, ℕ, zero, suc, ◌*◌, ◌/◌, List, refl}
+use Rattle.std.proofs.Common.{◌≡◌, ◌≢◌, ℕ, zero, suc, ◌*◌, ◌/◌, ◌<◌, List, refl, sym, subst, arith}
+use Rattle.std.proofs.lemmas.Nat.{mul-le}
 use Rattle.data_encoding.specs.Encoding.{wrapping_by}
 use Rattle.data_encoding.specs.Lengths.{align_by}
+use Rattle.data_encoding.proofs.digits.WidthLemmas.{group_bytes-pos}
+use Rattle.data_encoding.proofs.tables.TableRuleLemmas.{is_base_of}
+use Rattle.data_encoding.proofs.text.LineLemmas.{IsRuled-seen, alignment-some, wrapping-seen}
 use Rattle.data_encoding.proofs.encoding.Encoding.encode_align.Goals as goal
 
 by_column : (column width : ℕ) (separator : List ℕ) → column ≢ 0
@@ -8,8 +12,34 @@ by_column : (column width : ℕ) (separator : List ℕ) → column ≢ 0
 by_column zero width separator h = absurd (h refl)
 by_column (suc n) width separator h = refl
 
-pub returns-then-self-ne0 : goal.returns-then-self-ne0
-returns-then-self-ne0 c =
+pub returns-then-self-ne0-clause-value : goal.returns-then-self-ne0-clause-value
+returns-then-self-ne0-clause-value c =
     rw (← c.self.view_is)
     (by_column c.self.inside.column c.self.inside.width c.self.inside.separator.items
     c.if-self-ne0.true)
+
+pub returns-then-self-ne0-clause-some : goal.returns-then-self-ne0-clause-some
+returns-then-self-ne0-clause-some c =
+    let seen = c.args.self.now in
+    let ruled = IsRuled-seen c.self.inside c.self.invariant seen c.self.view_is in
+    let wrapping = wrapping-seen c.self.inside c.self.invariant seen c.self.view_is
+    c.if-self-ne0.true in
+    subst (λ n. 0 < n) (sym (returns-then-self-ne0-clause-value c))
+    (alignment-some seen ruled _ wrapping)
+
+pub returns-then-self-ne0-clause-most : goal.returns-then-self-ne0-clause-most
+returns-then-self-ne0-clause-most c =
+    let e = c.self.inside in
+    omega (arith, mul-le e.column e.width 255 6 (omega arith) c.self.invariant.is_width.few)
+
+pub returns-clause-some : goal.returns-clause-some
+returns-clause-some c =
+    subst (λ n. 0 < n) (sym c.group_bytes.ensures.value)
+    (group_bytes-pos c.self.inside.width c.self.invariant.is_width)
+
+pub returns-then-self-ne0-clause-base : goal.returns-then-self-ne0-clause-base
+returns-then-self-ne0-clause-base c =
+    rw (← c.self.view_is) (is_base_of c.self.inside c.self.invariant)
+
+pub returns-clause-base : goal.returns-clause-base
+returns-clause-base c = rw (← c.self.view_is) (is_base_of c.self.inside c.self.invariant)

@@ -1,9 +1,11 @@
 use Rattle.std.proofs.Common.{◌≡◌, ◌+◌, ◌<◌, ◌==◌, true, false, length, take, get_or, sym, ap, ◌∙◌, subst, arith}
 use Rattle.std.proofs.lemmas.Bool.Decides.{nat_tests}
 use Rattle.std.proofs.lemmas.List.{take_all}
+use Rattle.data_encoding.specs.Base.{ignores_some}
 use Rattle.data_encoding.specs.Fault.{position_of}
-use Rattle.data_encoding.specs.Grammar.{kept}
+use Rattle.data_encoding.specs.Grammar.{kept, positioned}
 use Rattle.data_encoding.proofs.decoding.GatherLemmas.{more-here, none-here, position-here}
+use Rattle.data_encoding.proofs.grammar.PositionLemmas.{filter-plain, length-kept, position_of-positioned_from}
 use Rattle.data_encoding.proofs.tables.TableLemmas.{HoldsValues-seen}
 use Rattle.data_encoding.proofs.encoding.Encoding.kept_position.Goals as goal
 use Rattle.data_encoding.proofs.encoding.Encoding.kept_position.Goals.{then-self-part+else-left-eq0, else-self-part}
@@ -62,3 +64,15 @@ returns-clause-found c h =
     ap (λ l. length (kept seen l)) (take_all at part
     (omega (arith, c.loop-position-test.false, c.loop-position.auto.position-end))) in
     absurd (omega (arith, so_far, all, h))
+
+pub returns-then-not-self-clause-found : goal.returns-then-not-self-clause-found
+returns-then-not-self-clause-found c h =
+    let seen = c.args.self.now in
+    let part = c.args.part.now in
+    let none : ignores_some seen ≡ false =
+    rw (← c.self.view_is) (sym c.self.invariant.ignores ∙ c.if-not-self.true) in
+    let below : c.args.index < length part = omega (arith, length-kept seen part, h) in
+    let same : position_of (kept seen part) c.args.index ≡ 0 + c.args.index =
+    ap (λ ks. position_of ks c.args.index) (filter-plain seen none (positioned part))
+    ∙ position_of-positioned_from 0 part c.args.index below in
+    omega (arith, below, same)

@@ -3,7 +3,7 @@ use Rattle.data_encoding.specs.Text.{plain_text}
 use Rattle.data_encoding.proofs.text.PlainGroupLemmas.{encoded-none}
 use Rattle.data_encoding.proofs.text.PlainLoopLemmas.{fits, written-next, written-last}
 use Rattle.data_encoding.proofs.lists.PartLemmas.{IsWhole-group, group-before, whole-group, length-part, length-rest, part-is}
-use Rattle.data_encoding.proofs.encode.encode_groups.Goals as goal
+use Rattle.data_encoding.proofs.plain.encode_groups.Goals as goal
 
 pub loop-index-init : goal.loop-index-init
 loop-index-init g c =

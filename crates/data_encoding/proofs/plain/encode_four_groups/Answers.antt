@@ -2,7 +2,7 @@ use Rattle.std.proofs.Common.{◌*◌, length, ◌∙◌}
 use Rattle.data_encoding.proofs.text.PlainGroupLemmas.{encoded-none}
 use Rattle.data_encoding.proofs.text.PlainLoopLemmas.{written-next}
 use Rattle.data_encoding.proofs.lists.PartLemmas.{IsWhole-group, length-part, part-of-four}
-use Rattle.data_encoding.proofs.encode.encode_four_groups.Goals as goal
+use Rattle.data_encoding.proofs.plain.encode_four_groups.Goals as goal
 
 pub loop-index-init : goal.loop-index-init
 loop-index-init g c =

@@ -4,7 +4,7 @@ use Rattle.data_encoding.specs.Text.{plain_text}
 use Rattle.data_encoding.proofs.text.PlainGroupLemmas.{encoded-none}
 use Rattle.data_encoding.proofs.text.PlainLoopLemmas.{IsWhole-four, fits, written-next, written-last}
 use Rattle.data_encoding.proofs.lists.PartLemmas.{group-before, length-rest, part-is}
-use Rattle.data_encoding.proofs.encode.encode_by_fours.Goals as goal
+use Rattle.data_encoding.proofs.plain.encode_by_fours.Goals as goal
 
 pub loop-index-init : goal.loop-index-init
 loop-index-init g c =

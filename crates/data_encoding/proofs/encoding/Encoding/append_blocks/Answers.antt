@@ -1,0 +1,59 @@
+use Rattle.std.proofs.Common.{◌≡◌, ◌<◌, ◌-◌, ◌*◌, ◌/◌, ◌%◌, ℕ, length, sym, ap, ◌∙◌, arith, rules, take-append-drop, ◌++◌, length-append}
+use Rattle.std.proofs.Math.Nat.{mul-mod_left}
+use Rattle.std.proofs.lemmas.Nat.{div-add-mod', mod_below}
+use Rattle.std.specs.String.{string_bytes}
+use Rattle.data_encoding.specs.Lengths.{alignment}
+use Rattle.data_encoding.specs.Text.{text_of}
+use Rattle.data_encoding.proofs.specification.RuleLemmas.{IsRuled-yield}
+use Rattle.data_encoding.proofs.text.FragmentLemmas.{HasEncoded-blocks}
+use Rattle.data_encoding.proofs.encoding.Encoding.append_blocks.Goals as goal
+
+-- what is left without the rest is a multiple
+whole-front : (n size : ℕ) → (n - n % size) % size ≡ 0
+whole-front n size =
+    let is : n - n % size ≡ n / size * size = omega (arith, div-add-mod' n size) in
+    ap (λ k. k % size) is ∙ mul-mod_left (n / size) size
+
+pub returns-clause-fragments : goal.returns-clause-fragments
+returns-clause-fragments c =
+    let seen = c.args.self.now in
+    let specified = c.encode_len.ensures.base in
+    let ruled = IsRuled-yield specified.fields seen specified.yields in
+    let first = c.split_at.result.0.now in
+    let rest = c.split_at.result.1.now in
+    let block = c.as_slice.result.now in
+    let blocks = c.split_at-2.result.0.now in
+    let left = c.split_at-2.result.1.now in
+    let old = string_bytes c.args.output.now in
+    let half = string_bytes c.append_within.new.output in
+    let whole = string_bytes c.append_within-2.new.output in
+    let cut : c.args.input.now ≡ first ++ rest =
+    rw (c.split_at.ensures.front, c.split_at.ensures.back)
+    (sym (take-append-drop _ c.args.input.now)) in
+    let parted : rest ≡ blocks ++ left =
+    rw (c.split_at-2.ensures.front, c.split_at-2.ensures.back)
+    (sym (take-append-drop _ rest)) in
+    let filled : block ≡ c.args.held.now.items ++ first = search rules in
+    let full : length block ≡ alignment seen =
+    ap length filled ∙ length-append c.args.held.now.items first
+    ∙ omega (arith, c.split_at.ensures.front_len, c.len.ensures.value, c.requires.short)
+    ∙ c.requires.block in
+    let aligned : length blocks % alignment seen ≡ 0 =
+    rw (← c.requires.block)
+    (ap (λ n. n % c.args.block_len) c.split_at-2.ensures.front_len
+    ∙ whole-front (length rest) c.args.block_len) in
+    let short : length left < alignment seen =
+    rw (← c.requires.block)
+    (omega (
+      arith,
+      c.split_at-2.ensures.back_len,
+      div-add-mod' (length rest) c.args.block_len,
+      mod_below (length rest) c.args.block_len (omega (arith, c.requires.short)),
+    )) in
+    let one : half ≡ old ++ text_of seen block = search rules in
+    let other : whole ≡ half ++ text_of seen blocks = search rules in
+    let end : c.try_extend_from_slice-3.new.self.items ≡ left = search rules in
+    λ before bytes has.
+    rw end (HasEncoded-blocks seen ruled before bytes old c.args.held.now.items has
+    c.args.input.now first rest block blocks left half whole cut parted filled full aligned short
+    one other)

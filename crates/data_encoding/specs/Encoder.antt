@@ -1,0 +1,57 @@
+-- What a contract sees of an `Encoder`.
+use Rattle.std.specs.Prelude.{◌≡◌, ℕ, List, ◌++◌, Result, Ok, Err, OnOk, OnErr}
+use Rattle.std.specs.String.{string_bytes}
+use Rattle.std.specs.Borrow.{Fml, GName, RattleType, follows_so}
+use Rattle.std.specs.contracts.alloc.Global as global
+use Rattle.std.specs.contracts.impls.GlobalAllocator.TheImpl.{ghosts}
+use Rattle.std.specs.contracts.string.String as string
+use mathlib.Core.Option as maybe
+use Rattle.data_encoding.specs.declared.encoder.Encoder.{Encoder}
+use Rattle.data_encoding.specs.Base.{Base}
+use Rattle.data_encoding.specs.Fragments.{HasEncoded}
+use Rattle.data_encoding.specs.Text.{text_of}
+
+-- the encoding
+abbrev pub base_of_encoder : Encoder → Base
+base_of_encoder encoder = encoder.encoding
+
+-- which text is appended to
+abbrev pub output_name : Encoder → GName
+output_name encoder = encoder.output.ghost_name
+
+-- that text so far
+abbrev pub written : Encoder → List ℕ
+written encoder = string_bytes encoder.output.now
+
+-- what fills no block yet
+abbrev pub held : Encoder → List ℕ
+held encoder = encoder.held.items
+
+-- Behind a text the encoder was handed these bytes.
+abbrev pub HasTaken : Encoder → List ℕ → List ℕ → Type 0
+HasTaken encoder before bytes =
+    HasEncoded (base_of_encoder encoder) before bytes (written encoder) (held encoder)
+
+-- The text, what is held and the encoding are as before.
+pub record IsUnchanged (old new : Encoder) : Type 0 where
+  pub written : written new ≡ written old
+  pub held : held new ≡ held old
+  pub base : base_of_encoder new ≡ base_of_encoder old
+  pub output : output_name new ≡ output_name old
+
+-- the text that an encoder appends to which was handed back
+abbrev pub name_handed_back : Result (Unit {0}) Encoder → maybe.Option GName
+name_handed_back (Ok _) = maybe.none
+name_handed_back (Err encoder) = maybe.some (output_name encoder)
+
+abbrev string_type : RattleType
+string_type = string.the_row global.the_row ghosts
+
+-- The text ends with the text of all that the encoder was handed; or it is what the encoder that is
+-- handed back leaves.
+abbrev pub Finalizes : Encoder → Result (Unit {0}) Encoder → Fml
+Finalizes encoder result =
+    follows_so string_type string_type (output_name encoder) (name_handed_back result)
+    (λ last now. OnErr result (now ≡ last))
+    (λ now. OnOk result ((before bytes : List ℕ) → HasTaken encoder before bytes
+    → string_bytes now ≡ before ++ text_of (base_of_encoder encoder) bytes))

@@ -1,0 +1,8 @@
+-- What a `Display` shows.
+use Rattle.std.specs.Prelude.{ℕ, List}
+use Rattle.data_encoding.specs.declared.write.Display.{Display}
+use Rattle.data_encoding.specs.Text.{text_of}
+
+-- the text of its data
+abbrev pub shown_text : Display → List ℕ
+shown_text shown = text_of shown.encoding.now shown.input.now

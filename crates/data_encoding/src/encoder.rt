@@ -1,0 +1,168 @@
+//! Data that comes in fragments, encoded as it comes.
+
+ghost use Rattle.std.specs.Prelude.{◌≡◌, ℕ, ◌+◌, ◌<◌, ◌≤◌, List, [], ◌++◌, length, IfErr, IsOk, OnErr, OnOk};
+ghost use Rattle.std.specs.Borrow.{sem};
+ghost use Rattle.std.specs.String.{string_bytes, string_capacity};
+ghost use Rattle.data_encoding.specs.Fragments.{HasEncoded};
+ghost use Rattle.data_encoding.specs.Lengths.{alignment};
+ghost use Rattle.data_encoding.specs.Text.{text_of};
+
+use crate::encode::ENCODE_LIMIT;
+use crate::encoding::Encoding;
+use arrayvec::ArrayVec;
+use std::alloc::AllocError;
+
+/// Appends the text of data that comes in fragments to a text.
+///
+/// A block is `encode_align` bytes of data: a group of symbols, or a line. The text of a block is
+/// appended once the block is whole, and the encoder holds the bytes that fill none yet. It must be
+/// spent, by `finalize` or `abandon`: a program that lets one fall does not compile.
+#[derive(Debug)]
+pub struct Encoder<'a> {
+    encoding: Encoding,
+    output: &'a mut String,
+    held: ArrayVec<u8, 191>,
+    block_len: usize,
+    ghost block: { block_len ≡ alignment encoding },
+    ghost most: { block_len ≤ 191 },
+    ghost short: { length held.items < block_len },
+}
+
+impl Encoding {
+    ghost use Rattle.data_encoding.specs.Encoder.{base_of_encoder, output_name, HasTaken};
+
+    /// An encoder that was handed nothing, and appends to `output`.
+    pub fn new_encoder<'a>(&'a self, output: &'a mut String) -> Encoder<'a>
+        ensures output { output_name result ≡ output.entry.ghost_name }
+        ensures base { base_of_encoder result ≡ self.now }
+        ensures fragments { HasTaken result (string_bytes output.old) [] }
+    {
+        let Ok(encoding) = self.clone() else {
+            unreachable!();
+        };
+        let block_len = self.encode_align();
+        Encoder {
+            encoding,
+            output,
+            held: ArrayVec::new(),
+            block_len,
+        }
+    }
+
+    // Appends the text of the blocks that are whole with the input, and holds the rest.
+    fn append_blocks(
+        &self,
+        input: &[u8],
+        held: &mut ArrayVec<u8, 191>,
+        block_len: usize,
+        output: &mut String,
+    ) -> Result<(), AllocError>
+        requires limit { length input.now ≤ ENCODE_LIMIT }
+        requires block { block_len ≡ alignment self.now }
+        requires most { block_len ≤ 191 }
+        requires short { length held.old.items < block_len }
+        ensures fragments { OnOk result ((before bytes : List ℕ)
+            → HasEncoded self.now before bytes (string_bytes output.old) held.old.items
+            → HasEncoded self.now before (bytes ++ input.now) (string_bytes output.new)
+            held.new.items) }
+        ensures short { length held.new.items < block_len }
+        ensures held { OnErr result (held.new ≡ held.old) }
+        ensures unchanged { OnErr result (string_bytes output.new ≡ string_bytes output.old) }
+        ensures no_block { length held.old.items + length input.now < block_len → IsOk result }
+    {
+        let missing = block_len - held.len();
+        if input.len() < missing {
+            held.try_extend_from_slice(input).unwrap();
+            return Ok(());
+        }
+        let (first, rest) = input.split_at(missing);
+        let (blocks, left) = rest.split_at(rest.len() - rest.len() % block_len);
+        output.reserve(self.encode_len(block_len) + self.encode_len(blocks.len()))?;
+        held.try_extend_from_slice(first).unwrap();
+        self.append_within(held.as_slice(), output);
+        self.append_within(blocks, output);
+        held.clear();
+        held.try_extend_from_slice(left).unwrap();
+        Ok(())
+    }
+
+    // Appends the text of what is held at the end.
+    fn append_last(&self, held: &[u8], output: &mut String) -> Result<(), AllocError>
+        requires limit { length held.now ≤ ENCODE_LIMIT }
+        ensures text { OnOk result ((before bytes : List ℕ)
+            → HasEncoded self.now before bytes (string_bytes output.old) held.now
+            → string_bytes output.new ≡ before ++ text_of self.now bytes) }
+        ensures unchanged { OnErr result (string_bytes output.new ≡ string_bytes output.old) }
+        ensures empty { length held.now ≡ 0 → IsOk result }
+    {
+        self.encode_append(held, output)
+    }
+}
+
+impl<'a> Encoder<'a> {
+    ghost use Rattle.data_encoding.specs.Encoder.{base_of_encoder, held, output_name, written, Finalizes, HasTaken, IsUnchanged};
+
+    /// Takes a fragment, of at most `ENCODE_LIMIT` bytes, and appends the text of the blocks that
+    /// are then whole.
+    ///
+    /// The only error is that memory ran out, which is never answered where no block is whole: the
+    /// text, and what is held, are then what they were.
+    pub fn append(&mut self, input: &[u8]) -> Result<(), AllocError>
+        requires limit { length input.now ≤ ENCODE_LIMIT }
+        ensures output { output_name self.new ≡ output_name self.old }
+        ensures base { base_of_encoder self.new ≡ base_of_encoder self.old }
+        ensures fragments { OnOk result ((before bytes : List ℕ)
+            → HasTaken self.old before bytes → HasTaken self.new before (bytes ++ input.now)) }
+        ensures unchanged { OnErr result (IsUnchanged self.old self.new) }
+        ensures no_block { length (held self.old) + length input.now
+            < alignment (base_of_encoder self.old) → IsOk result }
+    {
+        self.encoding
+            .append_blocks(input, &mut self.held, self.block_len, self.output)
+    }
+
+    /// Appends the text of what is held, with padding, and with the separator where there are lines.
+    ///
+    /// Where memory ran out, which is never answered where nothing is held, the encoder is handed
+    /// back, and it and the text are what they were.
+    pub fn finalize(self) -> Result<(), Encoder<'a>>
+        ensures* text { sem 𝓛 (Finalizes self.entry result) }
+        ensures unchanged { IfErr result (λ encoder. IsUnchanged self.entry encoder) }
+        ensures empty { length (held self.entry) ≡ 0 → IsOk result }
+    {
+        let Encoder {
+            encoding,
+            output,
+            held,
+            block_len,
+        } = self;
+        if encoding.append_last(held.as_slice(), output).is_err() {
+            return Err(Encoder {
+                encoding,
+                output,
+                held,
+                block_len,
+            });
+        }
+        Ok(())
+    }
+
+    /// Drops what is held, and leaves the text of the blocks that were whole.
+    pub fn abandon(self)
+        ensures { string_bytes self.exit.1.0.now ≡ written self.entry }
+    {
+        let Encoder {
+            encoding: _,
+            output: _,
+            held: _,
+            block_len: _,
+        } = self;
+    }
+}
+
+// A type that fits two of these impls is refused: the crate compiles while an encoder is not `Drop`.
+trait MustBeSpent {}
+
+impl<T: Drop> MustBeSpent for T {}
+
+impl MustBeSpent for Encoder<'_> {}

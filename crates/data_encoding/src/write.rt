@@ -1,0 +1,125 @@
+//! From data to text that is written or formatted.
+
+ghost use Rattle.std.specs.Prelude.{◌≡◌, ◌⊎◌, ◌%◌, ◌<◌, ◌≤◌, ℕ, List, length, Some, IsOk, OnOk};
+ghost use Rattle.std.specs.Fmt.{WritesInCalls};
+ghost use Rattle.data_encoding.specs.Fields.{IsSpecified};
+ghost use Rattle.data_encoding.specs.Lengths.{IsBlockLength, alignment};
+ghost use Rattle.data_encoding.specs.Shown.{shown_text};
+ghost use Rattle.data_encoding.specs.Text.{text_of};
+
+use crate::encode::ENCODE_LIMIT;
+use crate::encoding::{Encoding, group_symbols};
+use std::fmt;
+use std::fmt::Write;
+
+impl Encoding {
+    /// Writes the text of the data by way of a buffer, which has at least 510 bytes. The buffer or
+    /// the data have at most `ENCODE_LIMIT` bytes.
+    ///
+    /// Each call of the writer has the text of as many whole groups, or whole lines, as fit the
+    /// buffer, and the last call that of the rest. For no data there is no call.
+    ///
+    /// The only error is that a call failed. It is the last call then, and what the calls before it
+    /// wrote stays written. Nothing is promised of what the buffer holds afterwards.
+    pub fn encode_write_buffer<W: fmt::Write>(
+        &self,
+        input: &[u8],
+        output: &mut W,
+        buffer: &mut [u8],
+    ) -> fmt::Result
+        requires room { 510 ≤ length buffer.old }
+        requires limit { (length buffer.old ≤ ENCODE_LIMIT) ⊎ (length input.now ≤ ENCODE_LIMIT) }
+        ensures written { OnOk result
+            (WritesInCalls W.write_str_gives output.old (text_of self.now input.now) output.new) }
+        ensures empty { length input.now ≡ 0 → IsOk result × (output.new ≡ output.old) }
+    {
+        let most = self.piece_len(buffer.len());
+        if input.is_empty() {
+            return Ok(());
+        }
+        let mut rest = input;
+        while rest.len() > most {
+            let (piece, others) = rest.split_at(most);
+            self.write_piece(piece, output, buffer)?;
+            rest = others;
+        }
+        self.write_piece(rest, output, buffer)
+    }
+
+    /// Does what `encode_write_buffer` does with a buffer of 1,024 bytes of its own, for data of
+    /// any length.
+    pub fn encode_write<W: fmt::Write>(&self, input: &[u8], output: &mut W) -> fmt::Result
+        ensures written { OnOk result
+            (WritesInCalls W.write_str_gives output.old (text_of self.now input.now) output.new) }
+        ensures empty { length input.now ≡ 0 → IsOk result × (output.new ≡ output.old) }
+    {
+        let mut buffer = [0; 1024];
+        self.encode_write_buffer(input, output, &mut buffer)
+    }
+
+    /// The data as a value that prints their text, in the calls of `encode_write`.
+    pub fn encode_display<'a>(&'a self, input: &'a [u8]) -> Display<'a>
+        ensures { shown_text result ≡ text_of self.now input.now }
+    {
+        Display {
+            encoding: self,
+            input,
+        }
+    }
+
+    // As many bytes of data as have a text that surely fits a buffer of this length: whole groups,
+    // or whole lines.
+    fn piece_len(&self, buffer_len: usize) -> usize
+        requires room { 510 ≤ buffer_len }
+        ensures some { 0 < result }
+        ensures few { result ≤ buffer_len }
+        ensures whole { result % alignment self.now ≡ 0 }
+        ensures fits { (bytes : List ℕ) → length bytes ≤ result
+            → length (text_of self.now bytes) ≤ buffer_len }
+        ensures base { IsSpecified self.now }
+    {
+        buffer_len / self.block_len() * self.encode_align()
+    }
+
+    // The length of the text of a whole group, or of a whole line with its separator.
+    fn block_len(&self) -> usize
+        ensures length { IsBlockLength self.now result }
+        ensures base { IsSpecified self.now }
+    {
+        if self.column == 0 {
+            return group_symbols(self.width) as usize;
+        }
+        self.column as usize + self.separator.len()
+    }
+
+    // Writes the text of data in one call.
+    fn write_piece<W: fmt::Write>(
+        &self,
+        input: &[u8],
+        output: &mut W,
+        buffer: &mut [u8],
+    ) -> fmt::Result
+        requires limit { length input.now ≤ ENCODE_LIMIT }
+        requires fits { length (text_of self.now input.now) ≤ length buffer.old }
+        ensures { OnOk result
+            (W.write_str_gives output.old (text_of self.now input.now) output.new) }
+    {
+        let len = self.encode_len(input.len());
+        output.write_str(self.encode_mut_str(input, &mut buffer[..len]))
+    }
+}
+
+/// Data that print as their text, whatever width and fill are asked for.
+#[derive(Clone, Copy, Debug)]
+pub struct Display<'a> {
+    encoding: &'a Encoding,
+    input: &'a [u8],
+}
+
+impl fmt::Display for Display<'_> {
+    ghost output = { λ shown. Some (shown_text shown) };
+
+    fn fmt<W: fmt::Write>(&self, f: &mut fmt::Formatter<W>) -> fmt::Result {
+        self.encoding.encode_write(self.input, f)
+    }
+}
