@@ -112,8 +112,8 @@ impl Encoding {
 
     /// Appends the text of the data, of at most `ENCODE_LIMIT` bytes, to `output`.
     ///
-    /// The only error is that memory ran out, which is never answered for no data. The bytes and the
-    /// capacity of `output` are then what they were.
+    /// The only error is that memory ran out, which is never answered for no data. The bytes and
+    /// the capacity of `output` are then what they were.
     pub fn encode_append(&self, input: &[u8], output: &mut String) -> Result<(), AllocError>
         requires limit { length input.now ≤ ENCODE_LIMIT }
         ensures text { OnOk result (string_bytes output.new

@@ -121,7 +121,8 @@ impl<'a> Encoder<'a> {
             .append_blocks(input, &mut self.held, self.block_len, self.output)
     }
 
-    /// Appends the text of what is held, with padding, and with the separator where there are lines.
+    /// Appends the text of what is held, with padding, and with the separator where there are
+    /// lines.
     ///
     /// Where memory ran out, which is never answered where nothing is held, the encoder is handed
     /// back, and it and the text are what they were.
@@ -160,7 +161,8 @@ impl<'a> Encoder<'a> {
     }
 }
 
-// A type that fits two of these impls is refused: the crate compiles while an encoder is not `Drop`.
+// A type that fits two of these impls is refused: the crate compiles while an encoder is not
+// `Drop`.
 trait MustBeSpent {}
 
 impl<T: Drop> MustBeSpent for T {}

@@ -29,6 +29,10 @@ pub use encode::ENCODE_LIMIT;
 pub use encoder::Encoder;
 pub use encoding::{BitOrder, Character, Encoding};
 pub use error::{DecodeError, DecodeFault, DecodeKind, DecodePartial};
-pub use predefined::hexlower;
+pub use predefined::{
+    base32, base32_dnscurve, base32_dnssec, base32_nopad, base32_nopad_nocase, base32_nopad_visual,
+    base32hex, base32hex_nopad, base64, base64_mime, base64_mime_permissive, base64_nopad,
+    base64url, base64url_nopad, hexlower, hexlower_permissive, hexupper, hexupper_permissive,
+};
 pub use spec::{Specification, SpecificationError, Translate, Wrap};
 pub use write::Display;

@@ -1,13 +1,43 @@
 //! The predefined encodings.
 
-ghost use Rattle.std.specs.Prelude.{◌≡◌, Ok};
+ghost use Rattle.std.specs.Prelude.{◌≡◌};
 ghost use Rattle.data_encoding.specs.Encoding.{KeepsRules, base_of_tables};
-ghost use Rattle.data_encoding.specs.Fields.{base_of};
-ghost use Rattle.data_encoding.specs.Predefined.{hexlower_fields, tables_of};
+ghost use Rattle.data_encoding.specs.Predefined.{tables_of};
+
+// A table of the values of the bytes below 128, as an encoding keeps them: 128 for nothing, 129 for
+// ignored and 130 for padding. The bytes from 128 on are nothing.
+macro_rules! values {
+    ($($low:literal),*) => {
+        &[
+            $($low,)*
+            128, 128, 128, 128, 128, 128, 128, 128, 128, 128, 128, 128, 128, 128, 128, 128,
+            128, 128, 128, 128, 128, 128, 128, 128, 128, 128, 128, 128, 128, 128, 128, 128,
+            128, 128, 128, 128, 128, 128, 128, 128, 128, 128, 128, 128, 128, 128, 128, 128,
+            128, 128, 128, 128, 128, 128, 128, 128, 128, 128, 128, 128, 128, 128, 128, 128,
+            128, 128, 128, 128, 128, 128, 128, 128, 128, 128, 128, 128, 128, 128, 128, 128,
+            128, 128, 128, 128, 128, 128, 128, 128, 128, 128, 128, 128, 128, 128, 128, 128,
+            128, 128, 128, 128, 128, 128, 128, 128, 128, 128, 128, 128, 128, 128, 128, 128,
+            128, 128, 128, 128, 128, 128, 128, 128, 128, 128, 128, 128, 128, 128, 128, 128,
+        ]
+    };
+}
+
+mod hexadecimal;
+mod sixty_four;
+mod thirty_two;
 
 use crate::encoding::{BitOrder, Encoding, copied};
+pub use hexadecimal::{hexlower, hexlower_permissive, hexupper, hexupper_permissive};
+pub use sixty_four::{
+    base64, base64_mime, base64_mime_permissive, base64_nopad, base64url, base64url_nopad,
+};
+pub use thirty_two::{
+    base32, base32_dnscurve, base32_dnssec, base32_nopad, base32_nopad_nocase, base32_nopad_visual,
+    base32hex, base32hex_nopad,
+};
 
 // What an encoding keeps, as constants: an encoding is a copy of them, and nothing is judged.
+#[derive(Drop)]
 struct Predefined {
     symbols: &'static [u8; 256],
     values: &'static [u8; 256],
@@ -42,52 +72,4 @@ impl Predefined {
             separator: copied(separator),
         }
     }
-}
-
-// A table of the values of the bytes below 128; those from 128 on have none.
-macro_rules! values {
-    ($($low:literal),*) => {
-        &[
-            $($low,)*
-            128, 128, 128, 128, 128, 128, 128, 128, 128, 128, 128, 128, 128, 128, 128, 128,
-            128, 128, 128, 128, 128, 128, 128, 128, 128, 128, 128, 128, 128, 128, 128, 128,
-            128, 128, 128, 128, 128, 128, 128, 128, 128, 128, 128, 128, 128, 128, 128, 128,
-            128, 128, 128, 128, 128, 128, 128, 128, 128, 128, 128, 128, 128, 128, 128, 128,
-            128, 128, 128, 128, 128, 128, 128, 128, 128, 128, 128, 128, 128, 128, 128, 128,
-            128, 128, 128, 128, 128, 128, 128, 128, 128, 128, 128, 128, 128, 128, 128, 128,
-            128, 128, 128, 128, 128, 128, 128, 128, 128, 128, 128, 128, 128, 128, 128, 128,
-            128, 128, 128, 128, 128, 128, 128, 128, 128, 128, 128, 128, 128, 128, 128, 128,
-        ]
-    };
-}
-
-static HEXLOWER: Predefined = Predefined {
-    symbols: b"0123456789abcdef0123456789abcdef0123456789abcdef0123456789abcdef\
-        0123456789abcdef0123456789abcdef0123456789abcdef0123456789abcdef\
-        0123456789abcdef0123456789abcdef0123456789abcdef0123456789abcdef\
-        0123456789abcdef0123456789abcdef0123456789abcdef0123456789abcdef",
-    values: values![
-        128, 128, 128, 128, 128, 128, 128, 128, 128, 128, 128, 128, 128, 128, 128, 128, 128, 128,
-        128, 128, 128, 128, 128, 128, 128, 128, 128, 128, 128, 128, 128, 128, 128, 128, 128, 128,
-        128, 128, 128, 128, 128, 128, 128, 128, 128, 128, 128, 128, 0, 1, 2, 3, 4, 5, 6, 7, 8, 9,
-        128, 128, 128, 128, 128, 128, 128, 128, 128, 128, 128, 128, 128, 128, 128, 128, 128, 128,
-        128, 128, 128, 128, 128, 128, 128, 128, 128, 128, 128, 128, 128, 128, 128, 128, 128, 128,
-        128, 128, 128, 10, 11, 12, 13, 14, 15, 128, 128, 128, 128, 128, 128, 128, 128, 128, 128,
-        128, 128, 128, 128, 128, 128, 128, 128, 128, 128, 128, 128, 128, 128, 128
-    ],
-    width: 4,
-    order: BitOrder::MostSignificantFirst,
-    checks_trailing_bits: true,
-    concatenates: true,
-    padding: None,
-    ignores: false,
-    column: 0,
-    separator: b"",
-};
-
-/// Hexadecimal with the letters `a` to `f`: RFC 4648, section 8, in lower case.
-pub fn hexlower() -> Encoding
-    ensures { base_of hexlower_fields ≡ Ok result }
-{
-    HEXLOWER.encoding()
 }

@@ -300,7 +300,8 @@ module _ (base : Base) (width : IsWidth base.width) (text : List ℕ) (read : �
       (record { position = 0; byte = 0 }) index (omega (arith, length-next, inside))))
       ∙ ap (λ ks. position_of ks index) (sym all)
       ∙ ap (λ n. position_of (kept_in base n (drop read text)) index) (sym start)
-      ∙ position-shifted base read 0 (drop read text) index (gathered-some base (group_symbols base.width) (drop read text) group span is index inside)
+      ∙ position-shifted base read 0 (drop read text) index (gathered-some base (group_symbols
+      base.width) (drop read text) group span is index inside)
 
   -- nothing is left where none was found
   pub none-next : length group ≡ 0 → kept_from base read text ≡ []

@@ -320,7 +320,14 @@ module _ (base : Base) (text : List ℕ) (w bytes symbols size : ℕ)
             let room = room-group_of (length group) few_left
             (λ padded. whole padded ∙ s.symbols_is) in
             let same = ap (λ n. n * length group) (sym s.w_is) in
-            omega (arith, room, same, ap length (rest_is written output), length-drop written output)
+            omega (
+              arith,
+              room,
+              same,
+              ap length (rest_is written output),
+              length-drop written
+                  output,
+            )
 
         module _ (some : 0 < length group) where
           next : IsNext base text read (read + span) placed
@@ -335,7 +342,8 @@ module _ (base : Base) (text : List ℕ) (w bytes symbols size : ℕ)
           fault_here fault has =
               let zero_up : 0 + fault.index ≡ fault.index = omega arith in
               group_fault-same base s.width placed 0 group fault.kind fault.index
-              (bytes-next base s.width text read so_far.within group span found_here) has.inside found_here.few
+              (bytes-next base s.width text read so_far.within group span found_here) has.inside
+              found_here.few
               (has.is_fault ∙ sym (ap (λ n. Some (record { position = n; kind = fault.kind }))
               (position_of-positioned_from 0 group fault.index has.inside ∙ zero_up)))
               ∙ ap (λ n. Some (record { position = n; kind = fault.kind }))
@@ -517,8 +525,10 @@ module _ (base : Base) (text : List ℕ) (w bytes symbols size : ℕ)
                 (λ b. HasDecodedTo base text there (written + w * count / 8) b new) final
                 group_done in
                 let one : IsGathered base (group_symbols base.width) (drop there text) other reach =
-                subst (λ n. IsGathered base n (drop there text) other reach) s.symbols_is gathered in
-                let place = position-next base s.width text there ends.within other reach one 0 found
+                subst (λ n. IsGathered base n (drop there text) other reach) s.symbols_is gathered
+                in
+                let place = position-next base s.width text there ends.within other reach one 0
+                found
                 in
                 at-fault base s.width text there (written + w * count / 8) true new ends s.no_fault
                 (there + reach) (next_bytes base text there reach)

@@ -13,7 +13,8 @@ use Rattle.data_encoding.proofs.text.TextJoinLemmas.{text_of-join}
 -- two lengths of whole blocks together
 whole-both : (m n size : ℕ) → m % size ≡ 0 → n % size ≡ 0 → (m + n) % size ≡ 0
 whole-both m n size one other =
-    sym (mod-add-mod m size n) ∙ ap (λ k. (k + n) % size) one ∙ ap (λ k. k % size) (zero-add n) ∙ other
+    sym (mod-add-mod m size n) ∙ ap (λ k. (k + n) % size) one ∙ ap (λ k. k % size) (zero-add n) ∙
+    other
 
 -- the text of nothing is nothing
 text_of-empty : (base : Base) → IsRuled base → text_of base [] ≡ []

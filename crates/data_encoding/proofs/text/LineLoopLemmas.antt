@@ -27,7 +27,8 @@ pub record HasLines (base : Base) (size line_len : ℕ) : Type 0 where
   pub len_is : line_len ≡ lines.column + length lines.separator
 
 pub HasLines-tables : (e : Inside) → KeepsRules e → (seen : Base) → base_of_tables e ≡ seen
-    → IsSome seen.wrapping → (size count : ℕ) → size ≡ alignment seen → count ≡ length e.separator.items
+    → IsSome seen.wrapping → (size count : ℕ) → size ≡ alignment seen → count ≡ length
+    e.separator.items
     → HasLines seen size (e.column + count)
 HasLines-tables e rules seen is some size count size-is count-is = record {
   ruled = IsRuled-seen e rules seen is;
@@ -176,19 +177,20 @@ module _ (base : Base) (size line_len : ℕ) (has : HasLines base size line_len)
               (cases_lt (length rest) size)
 
         module _ (output : List ℕ) (exact : length output ≡ length (text_of base input))
-            (written_end : ℕ) (is : written_end ≡ min (length output) (i * line_len + line_len)) where
-          written_end-is : written_end ≡ i * line_len + length (text_of base line)
-          written_end-is = is ∙ ap (λ n. min n (i * line_len + line_len)) exact ∙ line-ends
+            (written_end : ℕ) (is : written_end ≡ min (length output) (i * line_len + line_len))
+          where
+            written_end-is : written_end ≡ i * line_len + length (text_of base line)
+            written_end-is = is ∙ ap (λ n. min n (i * line_len + line_len)) exact ∙ line-ends
 
-          pub piece-begins : i * line_len ≤ written_end
-          piece-begins = omega (arith, written_end-is)
+            pub piece-begins : i * line_len ≤ written_end
+            piece-begins = omega (arith, written_end-is)
 
-          pub length-piece : length (take (written_end - i * line_len) (drop (i * line_len) output))
-              ≡ length (text_of base line)
-          length-piece =
-              length-take-le (written_end - i * line_len) (drop (i * line_len) output)
-              (omega (arith, is, length-drop (i * line_len) output))
-              ∙ omega (arith, written_end-is)
+            pub length-piece : length (take (written_end - i * line_len) (drop (i * line_len) output))
+                ≡ length (text_of base line)
+            length-piece =
+                length-take-le (written_end - i * line_len) (drop (i * line_len) output)
+                (omega (arith, is, length-drop (i * line_len) output))
+                ∙ omega (arith, written_end-is)
 
         -- after lines that are written, one more
         pub line-next : (output shown : List ℕ) (part : ℕ)

@@ -183,7 +183,8 @@ overflow_add-written-in-Ok g c =
     let none : (length group == 0) ≡ false = sym c.is_empty.ensures ∙ c.if-is_empty.false in
     let some : 0 < length group = grind (arith, nat_tests) in
     let fits = fits-group seen text g.row.WIDTH g.row.BYTES g.row.SYMBOLS size s
-    read written output now.len now.so_far group span is some c.in-Ok.count c.decode_group.new.output
+    read written output now.len now.so_far group span is some c.in-Ok.count
+    c.decode_group.new.output
     c.decode_group.auto.output c.in-Ok.ensures.sound in
     let few = size-few seen text g.row.WIDTH g.row.BYTES g.row.SYMBOLS size s in
     record { fits = omega (arith, fits, few, c.requires.limit) }
@@ -430,7 +431,8 @@ returns-in-Err-clause-stopped g c =
     read written output now.len now.so_far
     group span is some c.in-Err.fault c.in-Err.ensures.fault c.decode_group.new.output
     c.stopped.new.output c.stopped.result
-    (omega (arith, same, now.so_far.fits, c.stopped.auto.output)) c.stopped.ensures.kept c.stopped.ensures.stop
+    (omega (arith, same, now.so_far.fits, c.stopped.auto.output)) c.stopped.ensures.kept
+    c.stopped.ensures.stop
 
 pub returns-clause-decoded : goal.returns-clause-decoded
 returns-clause-decoded g c =

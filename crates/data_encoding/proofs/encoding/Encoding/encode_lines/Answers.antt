@@ -12,7 +12,8 @@ div_ceil-index-end-requires g c =
     let size = c.encode_align-line_bytes.result in
     let line_len = c.self.inside.column + c.len.result in
     let has = HasLines-tables c.self.inside c.self.invariant seen c.self.view_is
-    c.requires.lines size c.len.result c.encode_align-line_bytes.ensures.value c.len.ensures.value in
+    c.requires.lines size c.len.result c.encode_align-line_bytes.ensures.value c.len.ensures.value
+    in
     size-some seen size line_len has c.args.input.now
 
 pub loop-index-init : goal.loop-index-init
@@ -21,7 +22,8 @@ loop-index-init g c =
     let size = c.encode_align-line_bytes.result in
     let line_len = c.self.inside.column + c.len.result in
     let has = HasLines-tables c.self.inside c.self.invariant seen c.self.view_is
-    c.requires.lines size c.len.result c.encode_align-line_bytes.ensures.value c.len.ensures.value in
+    c.requires.lines size c.len.result c.encode_align-line_bytes.ensures.value c.len.ensures.value
+    in
     record { written = line-first seen size line_len has c.args.input.now c.args.output.now }
 
 pub overflow_add-read : goal.overflow_add-read
@@ -30,7 +32,8 @@ overflow_add-read g c =
     let size = c.encode_align-line_bytes.result in
     let line_len = c.self.inside.column + c.len.result in
     let has = HasLines-tables c.self.inside c.self.invariant seen c.self.view_is
-    c.requires.lines size c.len.result c.encode_align-line_bytes.ensures.value c.len.ensures.value in
+    c.requires.lines size c.len.result c.encode_align-line_bytes.ensures.value c.len.ensures.value
+    in
     let i = c.loop-index.index in
     let lines = c.div_ceil-index-end.result in
     let counted = c.div_ceil-index-end.ensures in
@@ -50,7 +53,8 @@ overflow_mul-written g c =
     let size = c.encode_align-line_bytes.result in
     let line_len = c.self.inside.column + c.len.result in
     let has = HasLines-tables c.self.inside c.self.invariant seen c.self.view_is
-    c.requires.lines size c.len.result c.encode_align-line_bytes.ensures.value c.len.ensures.value in
+    c.requires.lines size c.len.result c.encode_align-line_bytes.ensures.value c.len.ensures.value
+    in
     let i = c.loop-index.index in
     let lines = c.div_ceil-index-end.result in
     let counted = c.div_ceil-index-end.ensures in
@@ -70,7 +74,8 @@ overflow_add-written g c =
     let size = c.encode_align-line_bytes.result in
     let line_len = c.self.inside.column + c.len.result in
     let has = HasLines-tables c.self.inside c.self.invariant seen c.self.view_is
-    c.requires.lines size c.len.result c.encode_align-line_bytes.ensures.value c.len.ensures.value in
+    c.requires.lines size c.len.result c.encode_align-line_bytes.ensures.value c.len.ensures.value
+    in
     let i = c.loop-index.index in
     let lines = c.div_ceil-index-end.result in
     let counted = c.div_ceil-index-end.ensures in
@@ -91,7 +96,8 @@ slice_bounds-encode_line-count-in-loop-index g c =
     let size = c.encode_align-line_bytes.result in
     let line_len = c.self.inside.column + c.len.result in
     let has = HasLines-tables c.self.inside c.self.invariant seen c.self.view_is
-    c.requires.lines size c.len.result c.encode_align-line_bytes.ensures.value c.len.ensures.value in
+    c.requires.lines size c.len.result c.encode_align-line_bytes.ensures.value c.len.ensures.value
+    in
     let i = c.loop-index.index in
     let lines = c.div_ceil-index-end.result in
     let counted = c.div_ceil-index-end.ensures in
@@ -110,7 +116,8 @@ encode_line-requires-clause-some g c =
     let size = c.encode_align-line_bytes.result in
     let line_len = c.self.inside.column + c.len.result in
     let has = HasLines-tables c.self.inside c.self.invariant seen c.self.view_is
-    c.requires.lines size c.len.result c.encode_align-line_bytes.ensures.value c.len.ensures.value in
+    c.requires.lines size c.len.result c.encode_align-line_bytes.ensures.value c.len.ensures.value
+    in
     let i = c.loop-index.index in
     let lines = c.div_ceil-index-end.result in
     let counted = c.div_ceil-index-end.ensures in
@@ -126,7 +133,8 @@ encode_line-requires-clause-line g c =
     let size = c.encode_align-line_bytes.result in
     let line_len = c.self.inside.column + c.len.result in
     let has = HasLines-tables c.self.inside c.self.invariant seen c.self.view_is
-    c.requires.lines size c.len.result c.encode_align-line_bytes.ensures.value c.len.ensures.value in
+    c.requires.lines size c.len.result c.encode_align-line_bytes.ensures.value c.len.ensures.value
+    in
     let i = c.loop-index.index in
     let lines = c.div_ceil-index-end.result in
     let counted = c.div_ceil-index-end.ensures in
@@ -142,7 +150,8 @@ encode_line-requires-clause-exact g c =
     let size = c.encode_align-line_bytes.result in
     let line_len = c.self.inside.column + c.len.result in
     let has = HasLines-tables c.self.inside c.self.invariant seen c.self.view_is
-    c.requires.lines size c.len.result c.encode_align-line_bytes.ensures.value c.len.ensures.value in
+    c.requires.lines size c.len.result c.encode_align-line_bytes.ensures.value c.len.ensures.value
+    in
     let i = c.loop-index.index in
     let lines = c.div_ceil-index-end.result in
     let counted = c.div_ceil-index-end.ensures in
@@ -161,7 +170,8 @@ loop-index-preserved g c =
     let size = c.encode_align-line_bytes.result in
     let line_len = c.self.inside.column + c.len.result in
     let has = HasLines-tables c.self.inside c.self.invariant seen c.self.view_is
-    c.requires.lines size c.len.result c.encode_align-line_bytes.ensures.value c.len.ensures.value in
+    c.requires.lines size c.len.result c.encode_align-line_bytes.ensures.value c.len.ensures.value
+    in
     let i = c.loop-index.index in
     let lines = c.div_ceil-index-end.result in
     let counted = c.div_ceil-index-end.ensures in
@@ -182,7 +192,8 @@ returns g c =
     let size = c.encode_align-line_bytes.result in
     let line_len = c.self.inside.column + c.len.result in
     let has = HasLines-tables c.self.inside c.self.invariant seen c.self.view_is
-    c.requires.lines size c.len.result c.encode_align-line_bytes.ensures.value c.len.ensures.value in
+    c.requires.lines size c.len.result c.encode_align-line_bytes.ensures.value c.len.ensures.value
+    in
     let at_end : c.loop-index.index ≡ div_ceil (length c.args.input.now) size =
     omega (arith, c.loop-index-test.false, c.loop-index.auto.index-end)
     ∙ c.div_ceil-index-end.ensures in

@@ -1,0 +1,98 @@
+//! The encodings of 16 symbols: hexadecimal.
+
+ghost use Rattle.std.specs.Prelude.{◌≡◌, Ok};
+ghost use Rattle.data_encoding.specs.Fields.{base_of};
+ghost use Rattle.data_encoding.specs.Predefined.{hexlower_fields, hexlower_permissive_fields, hexupper_fields, hexupper_permissive_fields};
+
+use super::Predefined;
+use crate::encoding::{BitOrder, Encoding};
+
+// The letters mean the same in either case.
+const EITHER_CASE: &[u8; 256] = values![
+    128, 128, 128, 128, 128, 128, 128, 128, 128, 128, 128, 128, 128, 128, 128, 128, 128, 128, 128,
+    128, 128, 128, 128, 128, 128, 128, 128, 128, 128, 128, 128, 128, 128, 128, 128, 128, 128, 128,
+    128, 128, 128, 128, 128, 128, 128, 128, 128, 128, 0, 1, 2, 3, 4, 5, 6, 7, 8, 9, 128, 128, 128,
+    128, 128, 128, 128, 10, 11, 12, 13, 14, 15, 128, 128, 128, 128, 128, 128, 128, 128, 128, 128,
+    128, 128, 128, 128, 128, 128, 128, 128, 128, 128, 128, 128, 128, 128, 128, 128, 10, 11, 12, 13,
+    14, 15, 128, 128, 128, 128, 128, 128, 128, 128, 128, 128, 128, 128, 128, 128, 128, 128, 128,
+    128, 128, 128, 128, 128, 128, 128, 128
+];
+
+const HEXLOWER: Predefined = Predefined {
+    symbols: b"0123456789abcdef0123456789abcdef0123456789abcdef0123456789abcdef\
+        0123456789abcdef0123456789abcdef0123456789abcdef0123456789abcdef\
+        0123456789abcdef0123456789abcdef0123456789abcdef0123456789abcdef\
+        0123456789abcdef0123456789abcdef0123456789abcdef0123456789abcdef",
+    values: values![
+        128, 128, 128, 128, 128, 128, 128, 128, 128, 128, 128, 128, 128, 128, 128, 128, 128, 128,
+        128, 128, 128, 128, 128, 128, 128, 128, 128, 128, 128, 128, 128, 128, 128, 128, 128, 128,
+        128, 128, 128, 128, 128, 128, 128, 128, 128, 128, 128, 128, 0, 1, 2, 3, 4, 5, 6, 7, 8, 9,
+        128, 128, 128, 128, 128, 128, 128, 128, 128, 128, 128, 128, 128, 128, 128, 128, 128, 128,
+        128, 128, 128, 128, 128, 128, 128, 128, 128, 128, 128, 128, 128, 128, 128, 128, 128, 128,
+        128, 128, 128, 10, 11, 12, 13, 14, 15, 128, 128, 128, 128, 128, 128, 128, 128, 128, 128,
+        128, 128, 128, 128, 128, 128, 128, 128, 128, 128, 128, 128, 128, 128, 128
+    ],
+    width: 4,
+    order: BitOrder::MostSignificantFirst,
+    checks_trailing_bits: true,
+    concatenates: true,
+    padding: None,
+    ignores: false,
+    column: 0,
+    separator: b"",
+};
+
+const HEXLOWER_PERMISSIVE: Predefined = Predefined {
+    values: EITHER_CASE,
+    ..HEXLOWER
+};
+
+const HEXUPPER: Predefined = Predefined {
+    symbols: b"0123456789ABCDEF0123456789ABCDEF0123456789ABCDEF0123456789ABCDEF\
+        0123456789ABCDEF0123456789ABCDEF0123456789ABCDEF0123456789ABCDEF\
+        0123456789ABCDEF0123456789ABCDEF0123456789ABCDEF0123456789ABCDEF\
+        0123456789ABCDEF0123456789ABCDEF0123456789ABCDEF0123456789ABCDEF",
+    values: values![
+        128, 128, 128, 128, 128, 128, 128, 128, 128, 128, 128, 128, 128, 128, 128, 128, 128, 128,
+        128, 128, 128, 128, 128, 128, 128, 128, 128, 128, 128, 128, 128, 128, 128, 128, 128, 128,
+        128, 128, 128, 128, 128, 128, 128, 128, 128, 128, 128, 128, 0, 1, 2, 3, 4, 5, 6, 7, 8, 9,
+        128, 128, 128, 128, 128, 128, 128, 10, 11, 12, 13, 14, 15, 128, 128, 128, 128, 128, 128,
+        128, 128, 128, 128, 128, 128, 128, 128, 128, 128, 128, 128, 128, 128, 128, 128, 128, 128,
+        128, 128, 128, 128, 128, 128, 128, 128, 128, 128, 128, 128, 128, 128, 128, 128, 128, 128,
+        128, 128, 128, 128, 128, 128, 128, 128, 128, 128, 128, 128, 128, 128, 128
+    ],
+    ..HEXLOWER
+};
+
+const HEXUPPER_PERMISSIVE: Predefined = Predefined {
+    values: EITHER_CASE,
+    ..HEXUPPER
+};
+
+/// Hexadecimal with the letters `a` to `f`: RFC 4648, section 8, in lower case.
+pub fn hexlower() -> Encoding
+    ensures { base_of hexlower_fields ≡ Ok result }
+{
+    HEXLOWER.encoding()
+}
+
+/// Hexadecimal with the letters `a` to `f`, which reads `A` to `F` as these.
+pub fn hexlower_permissive() -> Encoding
+    ensures { base_of hexlower_permissive_fields ≡ Ok result }
+{
+    HEXLOWER_PERMISSIVE.encoding()
+}
+
+/// Hexadecimal with the letters `A` to `F`: RFC 4648, section 8.
+pub fn hexupper() -> Encoding
+    ensures { base_of hexupper_fields ≡ Ok result }
+{
+    HEXUPPER.encoding()
+}
+
+/// Hexadecimal with the letters `A` to `F`, which reads `a` to `f` as these.
+pub fn hexupper_permissive() -> Encoding
+    ensures { base_of hexupper_permissive_fields ≡ Ok result }
+{
+    HEXUPPER_PERMISSIVE.encoding()
+}

@@ -1,0 +1,137 @@
+//! The encodings of 64 symbols.
+
+ghost use Rattle.std.specs.Prelude.{◌≡◌, Ok};
+ghost use Rattle.data_encoding.specs.Fields.{base_of};
+ghost use Rattle.data_encoding.specs.Predefined.{base64_fields, base64_mime_fields, base64_mime_permissive_fields, base64_nopad_fields, base64url_fields, base64url_nopad_fields};
+
+use super::Predefined;
+use crate::encoding::{BitOrder, Encoding};
+
+// The values of the symbols of RFC 4648, section 4, and the entries of a line's end and of `=`.
+macro_rules! base64_values {
+    ($line:literal, $padding:literal) => {
+        values![
+            128, 128, 128, 128, 128, 128, 128, 128, 128, 128, $line, 128, 128, $line, 128, 128,
+            128, 128, 128, 128, 128, 128, 128, 128, 128, 128, 128, 128, 128, 128, 128, 128,
+            128, 128, 128, 128, 128, 128, 128, 128, 128, 128, 128, 62, 128, 128, 128, 63,
+            52, 53, 54, 55, 56, 57, 58, 59, 60, 61, 128, 128, 128, $padding, 128, 128,
+            128, 0, 1, 2, 3, 4, 5, 6, 7, 8, 9, 10, 11, 12, 13, 14,
+            15, 16, 17, 18, 19, 20, 21, 22, 23, 24, 25, 128, 128, 128, 128, 128,
+            128, 26, 27, 28, 29, 30, 31, 32, 33, 34, 35, 36, 37, 38, 39, 40,
+            41, 42, 43, 44, 45, 46, 47, 48, 49, 50, 51, 128, 128, 128, 128, 128
+        ]
+    };
+}
+
+// The values of the symbols of RFC 4648, section 5, and the entry of `=`.
+macro_rules! base64url_values {
+    ($padding:literal) => {
+        values![
+            128, 128, 128, 128, 128, 128, 128, 128, 128, 128, 128, 128, 128, 128, 128, 128,
+            128, 128, 128, 128, 128, 128, 128, 128, 128, 128, 128, 128, 128, 128, 128, 128,
+            128, 128, 128, 128, 128, 128, 128, 128, 128, 128, 128, 128, 128, 62, 128, 128,
+            52, 53, 54, 55, 56, 57, 58, 59, 60, 61, 128, 128, 128, $padding, 128, 128,
+            128, 0, 1, 2, 3, 4, 5, 6, 7, 8, 9, 10, 11, 12, 13, 14,
+            15, 16, 17, 18, 19, 20, 21, 22, 23, 24, 25, 128, 128, 128, 128, 63,
+            128, 26, 27, 28, 29, 30, 31, 32, 33, 34, 35, 36, 37, 38, 39, 40,
+            41, 42, 43, 44, 45, 46, 47, 48, 49, 50, 51, 128, 128, 128, 128, 128
+        ]
+    };
+}
+
+const BASE64_NOPAD: Predefined = Predefined {
+    symbols: b"ABCDEFGHIJKLMNOPQRSTUVWXYZabcdefghijklmnopqrstuvwxyz0123456789+/\
+        ABCDEFGHIJKLMNOPQRSTUVWXYZabcdefghijklmnopqrstuvwxyz0123456789+/\
+        ABCDEFGHIJKLMNOPQRSTUVWXYZabcdefghijklmnopqrstuvwxyz0123456789+/\
+        ABCDEFGHIJKLMNOPQRSTUVWXYZabcdefghijklmnopqrstuvwxyz0123456789+/",
+    values: base64_values!(128, 128),
+    width: 6,
+    order: BitOrder::MostSignificantFirst,
+    checks_trailing_bits: true,
+    concatenates: true,
+    padding: None,
+    ignores: false,
+    column: 0,
+    separator: b"",
+};
+
+const BASE64: Predefined = Predefined {
+    values: base64_values!(128, 130),
+    padding: Some(b'='),
+    ..BASE64_NOPAD
+};
+
+const BASE64_MIME: Predefined = Predefined {
+    values: base64_values!(129, 130),
+    ignores: true,
+    column: 76,
+    separator: b"\r\n",
+    ..BASE64
+};
+
+const BASE64_MIME_PERMISSIVE: Predefined = Predefined {
+    checks_trailing_bits: false,
+    ..BASE64_MIME
+};
+
+const BASE64URL_NOPAD: Predefined = Predefined {
+    symbols: b"ABCDEFGHIJKLMNOPQRSTUVWXYZabcdefghijklmnopqrstuvwxyz0123456789-_\
+        ABCDEFGHIJKLMNOPQRSTUVWXYZabcdefghijklmnopqrstuvwxyz0123456789-_\
+        ABCDEFGHIJKLMNOPQRSTUVWXYZabcdefghijklmnopqrstuvwxyz0123456789-_\
+        ABCDEFGHIJKLMNOPQRSTUVWXYZabcdefghijklmnopqrstuvwxyz0123456789-_",
+    values: base64url_values!(128),
+    ..BASE64_NOPAD
+};
+
+const BASE64URL: Predefined = Predefined {
+    values: base64url_values!(130),
+    padding: Some(b'='),
+    ..BASE64URL_NOPAD
+};
+
+/// Base64 with the letters `A` to `Z` and `a` to `z`, the digits, `+` and `/`, padded with `=`: RFC
+/// 4648, section 4.
+pub fn base64() -> Encoding
+    ensures { base_of base64_fields ≡ Ok result }
+{
+    BASE64.encoding()
+}
+
+/// [`base64`] without padding.
+pub fn base64_nopad() -> Encoding
+    ensures { base_of base64_nopad_fields ≡ Ok result }
+{
+    BASE64_NOPAD.encoding()
+}
+
+/// [`base64`] in lines of 76 characters, each followed by CR LF, the last too: RFC 2045, section
+/// 6.8.
+///
+/// CR and LF are ignored wherever they stand. Any other byte that is no symbol is a fault, though
+/// the RFC ignores it.
+pub fn base64_mime() -> Encoding
+    ensures { base_of base64_mime_fields ≡ Ok result }
+{
+    BASE64_MIME.encoding()
+}
+
+/// [`base64_mime`], which does not check the trailing bits.
+pub fn base64_mime_permissive() -> Encoding
+    ensures { base_of base64_mime_permissive_fields ≡ Ok result }
+{
+    BASE64_MIME_PERMISSIVE.encoding()
+}
+
+/// [`base64`] with `-` and `_` in place of `+` and `/`: RFC 4648, section 5.
+pub fn base64url() -> Encoding
+    ensures { base_of base64url_fields ≡ Ok result }
+{
+    BASE64URL.encoding()
+}
+
+/// [`base64url`] without padding.
+pub fn base64url_nopad() -> Encoding
+    ensures { base_of base64url_nopad_fields ≡ Ok result }
+{
+    BASE64URL_NOPAD.encoding()
+}

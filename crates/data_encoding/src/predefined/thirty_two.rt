@@ -1,0 +1,198 @@
+//! The encodings of 32 symbols. Each checks the trailing bits.
+
+ghost use Rattle.std.specs.Prelude.{◌≡◌, Ok};
+ghost use Rattle.data_encoding.specs.Fields.{base_of};
+ghost use Rattle.data_encoding.specs.Predefined.{base32_dnscurve_fields, base32_dnssec_fields, base32_fields, base32_nopad_fields, base32_nopad_nocase_fields, base32_nopad_visual_fields, base32hex_fields, base32hex_nopad_fields};
+
+use super::Predefined;
+use crate::encoding::{BitOrder, Encoding};
+
+// The values of the symbols of RFC 4648, section 6, and the entry of `=`.
+macro_rules! base32_values {
+    ($padding:literal) => {
+        values![
+            128, 128, 128, 128, 128, 128, 128, 128, 128, 128, 128, 128, 128, 128, 128, 128,
+            128, 128, 128, 128, 128, 128, 128, 128, 128, 128, 128, 128, 128, 128, 128, 128,
+            128, 128, 128, 128, 128, 128, 128, 128, 128, 128, 128, 128, 128, 128, 128, 128,
+            128, 128, 26, 27, 28, 29, 30, 31, 128, 128, 128, 128, 128, $padding, 128, 128,
+            128, 0, 1, 2, 3, 4, 5, 6, 7, 8, 9, 10, 11, 12, 13, 14,
+            15, 16, 17, 18, 19, 20, 21, 22, 23, 24, 25, 128, 128, 128, 128, 128,
+            128, 128, 128, 128, 128, 128, 128, 128, 128, 128, 128, 128, 128, 128, 128, 128,
+            128, 128, 128, 128, 128, 128, 128, 128, 128, 128, 128, 128, 128, 128, 128, 128
+        ]
+    };
+}
+
+// The values of the symbols of RFC 4648, section 7, and the entry of `=`.
+macro_rules! base32hex_values {
+    ($padding:literal) => {
+        values![
+            128, 128, 128, 128, 128, 128, 128, 128, 128, 128, 128, 128, 128, 128, 128, 128,
+            128, 128, 128, 128, 128, 128, 128, 128, 128, 128, 128, 128, 128, 128, 128, 128,
+            128, 128, 128, 128, 128, 128, 128, 128, 128, 128, 128, 128, 128, 128, 128, 128,
+            0, 1, 2, 3, 4, 5, 6, 7, 8, 9, 128, 128, 128, $padding, 128, 128,
+            128, 10, 11, 12, 13, 14, 15, 16, 17, 18, 19, 20, 21, 22, 23, 24,
+            25, 26, 27, 28, 29, 30, 31, 128, 128, 128, 128, 128, 128, 128, 128, 128,
+            128, 128, 128, 128, 128, 128, 128, 128, 128, 128, 128, 128, 128, 128, 128, 128,
+            128, 128, 128, 128, 128, 128, 128, 128, 128, 128, 128, 128, 128, 128, 128, 128
+        ]
+    };
+}
+
+const BASE32_NOPAD: Predefined = Predefined {
+    symbols: b"ABCDEFGHIJKLMNOPQRSTUVWXYZ234567ABCDEFGHIJKLMNOPQRSTUVWXYZ234567\
+        ABCDEFGHIJKLMNOPQRSTUVWXYZ234567ABCDEFGHIJKLMNOPQRSTUVWXYZ234567\
+        ABCDEFGHIJKLMNOPQRSTUVWXYZ234567ABCDEFGHIJKLMNOPQRSTUVWXYZ234567\
+        ABCDEFGHIJKLMNOPQRSTUVWXYZ234567ABCDEFGHIJKLMNOPQRSTUVWXYZ234567",
+    values: base32_values!(128),
+    width: 5,
+    order: BitOrder::MostSignificantFirst,
+    checks_trailing_bits: true,
+    concatenates: true,
+    padding: None,
+    ignores: false,
+    column: 0,
+    separator: b"",
+};
+
+const BASE32: Predefined = Predefined {
+    values: base32_values!(130),
+    padding: Some(b'='),
+    ..BASE32_NOPAD
+};
+
+const BASE32_NOPAD_NOCASE: Predefined = Predefined {
+    values: values![
+        128, 128, 128, 128, 128, 128, 128, 128, 128, 128, 128, 128, 128, 128, 128, 128, 128, 128,
+        128, 128, 128, 128, 128, 128, 128, 128, 128, 128, 128, 128, 128, 128, 128, 128, 128, 128,
+        128, 128, 128, 128, 128, 128, 128, 128, 128, 128, 128, 128, 128, 128, 26, 27, 28, 29, 30,
+        31, 128, 128, 128, 128, 128, 128, 128, 128, 128, 0, 1, 2, 3, 4, 5, 6, 7, 8, 9, 10, 11, 12,
+        13, 14, 15, 16, 17, 18, 19, 20, 21, 22, 23, 24, 25, 128, 128, 128, 128, 128, 128, 0, 1, 2,
+        3, 4, 5, 6, 7, 8, 9, 10, 11, 12, 13, 14, 15, 16, 17, 18, 19, 20, 21, 22, 23, 24, 25, 128,
+        128, 128, 128, 128
+    ],
+    ..BASE32_NOPAD
+};
+
+const BASE32_NOPAD_VISUAL: Predefined = Predefined {
+    values: values![
+        128, 128, 128, 128, 128, 128, 128, 128, 128, 128, 128, 128, 128, 128, 128, 128, 128, 128,
+        128, 128, 128, 128, 128, 128, 128, 128, 128, 128, 128, 128, 128, 128, 128, 128, 128, 128,
+        128, 128, 128, 128, 128, 128, 128, 128, 128, 128, 128, 128, 14, 8, 26, 27, 28, 29, 30, 31,
+        1, 128, 128, 128, 128, 128, 128, 128, 128, 0, 1, 2, 3, 4, 5, 6, 7, 8, 9, 10, 11, 12, 13,
+        14, 15, 16, 17, 18, 19, 20, 21, 22, 23, 24, 25, 128, 128, 128, 128, 128, 128, 128, 128,
+        128, 128, 128, 128, 128, 128, 128, 128, 128, 8, 128, 128, 128, 128, 128, 128, 128, 128,
+        128, 128, 128, 128, 128, 128, 128, 128, 128, 128, 128
+    ],
+    ..BASE32_NOPAD
+};
+
+const BASE32HEX_NOPAD: Predefined = Predefined {
+    symbols: b"0123456789ABCDEFGHIJKLMNOPQRSTUV0123456789ABCDEFGHIJKLMNOPQRSTUV\
+        0123456789ABCDEFGHIJKLMNOPQRSTUV0123456789ABCDEFGHIJKLMNOPQRSTUV\
+        0123456789ABCDEFGHIJKLMNOPQRSTUV0123456789ABCDEFGHIJKLMNOPQRSTUV\
+        0123456789ABCDEFGHIJKLMNOPQRSTUV0123456789ABCDEFGHIJKLMNOPQRSTUV",
+    values: base32hex_values!(128),
+    ..BASE32_NOPAD
+};
+
+const BASE32HEX: Predefined = Predefined {
+    values: base32hex_values!(130),
+    padding: Some(b'='),
+    ..BASE32HEX_NOPAD
+};
+
+const BASE32_DNSSEC: Predefined = Predefined {
+    symbols: b"0123456789abcdefghijklmnopqrstuv0123456789abcdefghijklmnopqrstuv\
+        0123456789abcdefghijklmnopqrstuv0123456789abcdefghijklmnopqrstuv\
+        0123456789abcdefghijklmnopqrstuv0123456789abcdefghijklmnopqrstuv\
+        0123456789abcdefghijklmnopqrstuv0123456789abcdefghijklmnopqrstuv",
+    values: values![
+        128, 128, 128, 128, 128, 128, 128, 128, 128, 128, 128, 128, 128, 128, 128, 128, 128, 128,
+        128, 128, 128, 128, 128, 128, 128, 128, 128, 128, 128, 128, 128, 128, 128, 128, 128, 128,
+        128, 128, 128, 128, 128, 128, 128, 128, 128, 128, 128, 128, 0, 1, 2, 3, 4, 5, 6, 7, 8, 9,
+        128, 128, 128, 128, 128, 128, 128, 10, 11, 12, 13, 14, 15, 16, 17, 18, 19, 20, 21, 22, 23,
+        24, 25, 26, 27, 28, 29, 30, 31, 128, 128, 128, 128, 128, 128, 128, 128, 128, 128, 10, 11,
+        12, 13, 14, 15, 16, 17, 18, 19, 20, 21, 22, 23, 24, 25, 26, 27, 28, 29, 30, 31, 128, 128,
+        128, 128, 128, 128, 128, 128, 128
+    ],
+    ..BASE32_NOPAD
+};
+
+const BASE32_DNSCURVE: Predefined = Predefined {
+    symbols: b"0123456789bcdfghjklmnpqrstuvwxyz0123456789bcdfghjklmnpqrstuvwxyz\
+        0123456789bcdfghjklmnpqrstuvwxyz0123456789bcdfghjklmnpqrstuvwxyz\
+        0123456789bcdfghjklmnpqrstuvwxyz0123456789bcdfghjklmnpqrstuvwxyz\
+        0123456789bcdfghjklmnpqrstuvwxyz0123456789bcdfghjklmnpqrstuvwxyz",
+    values: values![
+        128, 128, 128, 128, 128, 128, 128, 128, 128, 128, 128, 128, 128, 128, 128, 128, 128, 128,
+        128, 128, 128, 128, 128, 128, 128, 128, 128, 128, 128, 128, 128, 128, 128, 128, 128, 128,
+        128, 128, 128, 128, 128, 128, 128, 128, 128, 128, 128, 128, 0, 1, 2, 3, 4, 5, 6, 7, 8, 9,
+        128, 128, 128, 128, 128, 128, 128, 128, 10, 11, 12, 128, 13, 14, 15, 128, 16, 17, 18, 19,
+        20, 128, 21, 22, 23, 24, 25, 26, 27, 28, 29, 30, 31, 128, 128, 128, 128, 128, 128, 128, 10,
+        11, 12, 128, 13, 14, 15, 128, 16, 17, 18, 19, 20, 128, 21, 22, 23, 24, 25, 26, 27, 28, 29,
+        30, 31, 128, 128, 128, 128, 128
+    ],
+    order: BitOrder::LeastSignificantFirst,
+    ..BASE32_NOPAD
+};
+
+/// Base32 with the letters `A` to `Z` and the digits `2` to `7`, padded with `=`: RFC 4648,
+/// section 6.
+pub fn base32() -> Encoding
+    ensures { base_of base32_fields ≡ Ok result }
+{
+    BASE32.encoding()
+}
+
+/// [`base32`] without padding.
+pub fn base32_nopad() -> Encoding
+    ensures { base_of base32_nopad_fields ≡ Ok result }
+{
+    BASE32_NOPAD.encoding()
+}
+
+/// [`base32_nopad`], which reads `a` to `z` as the letters of upper case.
+pub fn base32_nopad_nocase() -> Encoding
+    ensures { base_of base32_nopad_nocase_fields ≡ Ok result }
+{
+    BASE32_NOPAD_NOCASE.encoding()
+}
+
+/// [`base32_nopad`], which reads what looks like a symbol as that symbol: `0` as `O`, `1` and `l`
+/// as `I`, and `8` as `B`.
+pub fn base32_nopad_visual() -> Encoding
+    ensures { base_of base32_nopad_visual_fields ≡ Ok result }
+{
+    BASE32_NOPAD_VISUAL.encoding()
+}
+
+/// Base32 with the digits and then the letters `A` to `V`, padded with `=`: RFC 4648, section 7.
+pub fn base32hex() -> Encoding
+    ensures { base_of base32hex_fields ≡ Ok result }
+{
+    BASE32HEX.encoding()
+}
+
+/// [`base32hex`] without padding.
+pub fn base32hex_nopad() -> Encoding
+    ensures { base_of base32hex_nopad_fields ≡ Ok result }
+{
+    BASE32HEX_NOPAD.encoding()
+}
+
+/// [`base32hex_nopad`] with the letters `a` to `v`, which reads `A` to `V` as these: the base32 of
+/// RFC 5155 (DNSSEC), in lower case.
+pub fn base32_dnssec() -> Encoding
+    ensures { base_of base32_dnssec_fields ≡ Ok result }
+{
+    BASE32_DNSSEC.encoding()
+}
+
+/// The base32 of DNSCurve: the bit of weight 1 first, with the digits and then the letters of lower
+/// case but `a`, `e`, `i` and `o`; letters of upper case are read as these. There is no padding.
+pub fn base32_dnscurve() -> Encoding
+    ensures { base_of base32_dnscurve_fields ≡ Ok result }
+{
+    BASE32_DNSCURVE.encoding()
+}
