@@ -55,6 +55,11 @@ pub refused_len : (o : Option DecodeError) (len : ℕ) (error : DecodeError)
 refused_len None len error h = cc
 refused_len (Some fault) len error h = cc
 
+-- a fault is no lack of memory
+pub no_error : {A : Type 0} (result : Result A DecodeFault) (fault : DecodeFault)
+    (error : DecodeError) → fault ≡ Error error → result ≡ Err fault → result ≡ Err OutOfMemory → ⊥
+no_error result fault error is h k = cc
+
 module _ (base : Base) (text : List ℕ) (error : DecodeError) where
   -- which is that of each text of this length
   pub fault-length : length_fault base (length text) ≡ Some error → fault_of base text ≡ Some error

@@ -1,3 +1,2 @@
 pub mod FaultLemmas
-pub mod RoundTripLemmas
 pub mod YieldLemmas

@@ -2,9 +2,8 @@
 
 ghost use Rattle.std.specs.Prelude.{◌≡◌, ◌⊎◌, ◌≤◌, length, Err, IsTrue, IfOk, IfSome};
 ghost use Rattle.std.specs.String.{string_bytes};
-ghost use Rattle.data_encoding.specs.Plain.{IsPlain};
 
-use data_encoding::laws::specification_again;
+use data_encoding::laws::{one_meaning, round_trip, specification_again};
 use data_encoding::{
     DECODE_LIMIT, DecodeError, DecodeFault, DecodeKind, ENCODE_LIMIT, Encoding, Specification,
     SpecificationError, hexlower,
@@ -16,9 +15,6 @@ use std::alloc::{AllocError, Global};
 pub enum Trouble {
     /// No encoding is built from the specification.
     Refused(SpecificationError),
-
-    /// The encoding ignores a byte.
-    NotServed,
 
     /// The data, or their text, are too long for one call.
     TooLong,
@@ -41,18 +37,6 @@ impl From<AllocError> for Trouble {
     }
 }
 
-/// Whether the calls that encode or decode serve the encoding: no byte is ignored.
-pub fn is_served(encoding: &Encoding) -> bool
-    ensures { IsTrue result → IsPlain encoding.now }
-{
-    for byte in 0..256usize {
-        if encoding.interpret_byte(byte as u8).is_ignored() {
-            return false;
-        }
-    }
-    true
-}
-
 /// The data again, by way of their text.
 pub fn there_and_back(
     alloc: Global,
@@ -66,13 +50,12 @@ pub fn there_and_back(
         Ok(encoding) => encoding,
         Err(error) => return Err(Trouble::Refused(error)),
     };
-    if !is_served(&encoding) {
-        return Err(Trouble::NotServed);
-    }
     if input.len() > ENCODE_LIMIT {
         return Err(Trouble::TooLong);
     }
     let _width = encoding.bit_width();
+    round_trip();
+    one_meaning();
     let text = encoding.encode(alloc, input)?;
     if text.len() > DECODE_LIMIT {
         return Err(Trouble::TooLong);
@@ -116,7 +99,6 @@ pub fn symbols_of(
 /// Whether `decode` refuses the text for its length where `decode_len` refuses the length.
 pub fn is_refused_alike(alloc: Global, encoding: &Encoding, text: &[u8]) -> bool
     requires limit { length text.now ≤ DECODE_LIMIT }
-    requires plain { IsPlain encoding.now }
     ensures { IsTrue result }
 {
     match encoding.decode_len(text.len()) {

@@ -1,8 +1,8 @@
 //! Each other public call, with ample memory.
 
+use super::decoding::beginning;
 use super::rows::{bytes_of, described, row_of};
-use crate::callers::is_served;
-use data_encoding::laws::specification_again;
+use data_encoding::laws::{join_decode, join_encode, one_meaning, round_trip, specification_again};
 use data_encoding::{
     DECODE_LIMIT, DecodeError, DecodeFault, DecodeKind, ENCODE_LIMIT, Encoding, Specification,
     hexlower,
@@ -43,6 +43,9 @@ const UNPADDED: &str = "base64|most|single check|||0||||true";
 
 const PADDED: &str = "base64|most|single check|=||0||||false";
 
+// Lines of 76 symbols, each followed by CR LF, which are ignored.
+const MIME: &str = "base64|most|check|=||76|←↵|||";
+
 // Each field is another than that of a new specification.
 const FULL: &str = "base64|least|single|.|~|76|↵|!?|AB|";
 
@@ -64,7 +67,11 @@ fn prints_faults(rt: HostRuntime) -> Result<(), Fail> {
     Ok(())
 }
 
-fn interpreted(alloc: Global, encoding: &Encoding, byte: u8) -> Result<String, AllocError> {
+pub(super) fn interpreted(
+    alloc: Global,
+    encoding: &Encoding,
+    byte: u8,
+) -> Result<String, AllocError> {
     let character = encoding.interpret_byte(byte);
     let symbol = character.is_symbol();
     let padding = character.is_padding();
@@ -147,6 +154,10 @@ fn copies_specifications(rt: HostRuntime) -> Result<(), Fail> {
 #[test]
 fn calls_laws() {
     specification_again();
+    join_encode();
+    round_trip();
+    one_meaning();
+    join_decode();
 }
 
 // Whether so many bytes come back from their text.
@@ -156,7 +167,7 @@ fn come_back(alloc: Global, count: usize) -> Result<bool, Fail> {
         input.push((index % 251) as u8)?;
     }
     let encoding = encoding(alloc, "base64|most|check|||0||||")?;
-    if !is_served(&encoding) || input.len() > ENCODE_LIMIT {
+    if input.len() > ENCODE_LIMIT {
         return Ok(false);
     }
     let text = encoding.encode(alloc, &input)?;
@@ -169,5 +180,36 @@ fn come_back(alloc: Global, count: usize) -> Result<bool, Fail> {
 #[test]
 fn many_bytes_come_back(rt: HostRuntime) -> Result<(), Fail> {
     assert!(rt; come_back(rt.alloc(), 20_000)?);
+    Ok(())
+}
+
+// So many lines of so many zeros, as symbols.
+fn lines(alloc: Global, count: usize, len: usize) -> Result<Vec<u8>, AllocError> {
+    let mut text = Vec::new(alloc);
+    for _ in 0..count {
+        for _ in 0..len {
+            text.push(b'A')?;
+        }
+        text.extend_from_slice(b"\r\n")?;
+    }
+    Ok(text)
+}
+
+// What a text of many lines means, and how far one comes that has a fault in its last line.
+#[test]
+fn decodes_many_lines(rt: HostRuntime) -> Result<(), Fail> {
+    let encoding = encoding(rt.alloc(), MIME)?;
+    let mut text = lines(rt.alloc(), 1000, 76)?;
+    assert!(rt; text.len() == 78_000);
+    let zeros = encoding.decode(rt.alloc(), &text)?;
+    assert!(rt; zeros.len() == 57_000 && zeros.iter().all(|byte| *byte == 0));
+    text[77_997] = b'!';
+    assert_eq!(rt;
+        beginning(rt.alloc(), &encoding, &text)?.as_str(),
+        "77994 read, 56997 written, invalid symbol at 77997"
+    );
+    let ends = lines(rt.alloc(), 100_000, 0)?;
+    assert!(rt; ends.len() == 200_000);
+    assert!(rt; encoding.decode(rt.alloc(), &ends)?.is_empty());
     Ok(())
 }

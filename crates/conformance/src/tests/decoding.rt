@@ -1,12 +1,10 @@
 //! From text to data.
 
 ghost use Rattle.std.specs.Prelude.{◌≤◌, length};
-ghost use Rattle.data_encoding.specs.Plain.{IsPlain};
 
 use super::judge::Judge;
 use super::rows::{bytes_of, field_of, row_of};
-use super::sweeps::is_written_alike;
-use crate::callers::is_served;
+use super::sweeps::is_judged_alike;
 use data_encoding::{DECODE_LIMIT, Encoding};
 use std::alloc::Global;
 use std::test::Fail;
@@ -59,7 +57,15 @@ octal|most|check|=||0||||00======|invalid padding length at 2
 octal|most|check|=||0||||001=====|non-zero trailing bits at 2
 octal|most|check|=||0||~|=|204=~=~=|B
 base64|most|single check|=||0||||AA==A|invalid length at 4
-base64|most|single check|=||0||||AAAAAA==|\0\0\0\0";
+base64|most|single check|=||0||||AAAAAA==|\0\0\0\0
+base64|most|single check|=|↵|0||||AA==↵|\0
+base64|most|check|=||76|←↵|||←↵←↵|
+base64|most|check|=||76|←↵|||←↵bG8=←↵|lo
+base64|most|check||↵|0||||AA↵A|\0\0
+base64|most|check||others|0||||S.G-V:s|Hel
+binary|most|check||-|0||_|-|0-1_010011|S
+hex|most|check|| →|0||||42 69 74|Bit
+hex|most|check|||0||ABCDEFOIl|abcdef011|BOIl|\u{b0}\u{11}";
 
 // Of each text its length alone.
 const LENGTHS: &str = "\
@@ -69,7 +75,8 @@ binary|most|check|||0||||...............|invalid length at 8
 octal|most|check|||0||||.....|invalid length at 3
 base64|most|check|||0||||......|4
 base64|most|check|=||0||||.....|invalid length at 4
-octal|most|check|=||0||||.........|invalid length at 8";
+octal|most|check|=||0||||.........|invalid length at 8
+base64|most|check|=||76|←↵|||.....|3";
 
 const BEGINNINGS: &str = "\
 base64|most|check|||0||||AAAA!A|4 read, 3 written, invalid symbol at 4
@@ -78,12 +85,20 @@ base64|most|check|=||0||||AA==A===|4 read, 1 written, invalid padding length at 
 base64|most|check|=||0||||AA==AAB=|4 read, 1 written, non-zero trailing bits at 6
 base64|most|check|=||0||||Zm9v====|4 read, 3 written, invalid padding length at 4
 base64|most|single check|=||0||||AA==A===|4 read, 1 written, invalid padding length at 4
-base64|most|single check|=||0||||AA==AA==|4 read, 1 written, invalid padding length at 4";
+base64|most|single check|=||0||||AA==AA==|4 read, 1 written, invalid padding length at 4
+base64|most|single check|=|↵|0||||AA==↵A|4 read, 1 written, invalid padding length at 5
+octal|most|check|| |0||||00100|0 read, 0 written, invalid length at 3
+octal|most|check|| |0||||00000|3 read, 1 written, invalid length at 3
+octal|most|check|| |0||||000 0|4 read, 1 written, invalid length at 4
+octal|most|check|| |0|||| 00|0 read, 0 written, invalid length at 1
+base64|most|check|=||76|←↵|||AAAA↵A|5 read, 3 written, invalid length at 5
+base64|most|check||↵|0||||AAAA↵A|4 read, 3 written, invalid length at 5
+base64|most|check|=||76|←↵|||SGVs←↵bG|4 read, 3 written, invalid length at 6
+base64|most|check|=||76|←↵|||A↵===|0 read, 0 written, invalid padding length at 2";
 
 // What `decode` answers.
 pub(super) fn decoded(alloc: Global, encoding: &Encoding, text: &[u8]) -> Result<String, Fail>
     requires limit { length text.now ≤ DECODE_LIMIT }
-    requires plain { IsPlain encoding.now }
 {
     Ok(match encoding.decode(alloc, text) {
         Ok(bytes) => field_of(alloc, &bytes)?,
@@ -94,7 +109,6 @@ pub(super) fn decoded(alloc: Global, encoding: &Encoding, text: &[u8]) -> Result
 // What `decode_len` answers.
 fn most(alloc: Global, encoding: &Encoding, len: usize) -> Result<String, Fail>
     requires limit { len ≤ DECODE_LIMIT }
-    requires plain { IsPlain encoding.now }
 {
     Ok(match encoding.decode_len(len) {
         Ok(most) => format!(in alloc; "{most}")?,
@@ -102,25 +116,16 @@ fn most(alloc: Global, encoding: &Encoding, len: usize) -> Result<String, Fail>
     })
 }
 
-// How far `decode_mut` comes, where it writes what the judge does.
-fn beginning(
-    alloc: Global,
-    encoding: &Encoding,
-    judge: Judge<'_>,
-    text: &[u8],
-) -> Result<String, Fail>
+// How far `decode_mut` comes.
+pub(super) fn beginning(alloc: Global, encoding: &Encoding, text: &[u8]) -> Result<String, Fail>
     requires limit { length text.now ≤ DECODE_LIMIT }
-    requires plain { IsPlain encoding.now }
 {
-    let mut output = [1; 8];
-    let Ok(count) = encoding.decode_len(text.len()) else {
+    let Ok(most) = encoding.decode_len(text.len()) else {
         return Ok(String::new(alloc));
     };
-    if count > 8 || !is_written_alike(alloc, encoding, judge, text)? {
-        return Ok(String::new(alloc));
-    }
-    let decoded = encoding.decode_mut(text, &mut output[..count]);
-    Ok(match decoded {
+    let mut output = Vec::new(alloc);
+    output.resize(most, 0)?;
+    Ok(match encoding.decode_mut(text, &mut output) {
         Ok(count) => format!(in alloc; "{count} in all")?,
         Err(partial) => {
             let (read, written, error) = (partial.read, partial.written, partial.error);
@@ -142,13 +147,18 @@ fn answers(alloc: Global, call: Call, line: &str) -> Result<bool, Fail> {
     let row = row_of(alloc, line)?;
     let encoding = row.specification.encoding()?;
     let text = bytes_of(alloc, row.input)?;
-    if !is_served(&encoding) || text.len() > DECODE_LIMIT {
+    if text.len() > DECODE_LIMIT {
         return Ok(false);
     }
     let answer = match call {
         Call::Decode => decoded(alloc, &encoding, &text)?,
         Call::DecodeLen => most(alloc, &encoding, text.len())?,
-        Call::DecodeMut => beginning(alloc, &encoding, Judge::of(&row.specification), &text)?,
+        Call::DecodeMut => {
+            if !is_judged_alike(alloc, &encoding, Judge::of(&row.specification), &text)? {
+                return Ok(false);
+            }
+            beginning(alloc, &encoding, &text)?
+        }
     };
     Ok(answer.as_str() == row.want)
 }

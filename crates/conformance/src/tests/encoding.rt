@@ -1,10 +1,8 @@
 //! From data to text.
 
 ghost use Rattle.std.specs.Prelude.{◌≤◌, length};
-ghost use Rattle.data_encoding.specs.Plain.{IsPlain};
 
 use super::rows::{bytes_of, row_of};
-use crate::callers::is_served;
 use data_encoding::{ENCODE_LIMIT, Encoding, hexlower};
 use std::alloc::Global;
 use std::test::Fail;
@@ -22,22 +20,33 @@ binary|least|check|||0||||S|11001010
 dnscurve|least|check|||0||BCDFGHJKLMNPQRSTUVWXYZ|bcdfghjklmnpqrstuvwxyz|d\u{88}|4321
 base32hex|most|check|||0||||\0|00
 base32hex|most|check|||0||||\0\0|0000
-base32hex|most|check|||0||||\u{1}|04";
+base32hex|most|check|||0||||\u{1}|04
+base64|most|check|=||8| |||Hey you|SGV5IHlv dQ==\u{20}
+base64|most|check|||8| |||Hey you|SGV5IHlv dQ\u{20}
+binary|most|check|||8|-|||SS|01010011-01010011-
+base64|most|check|=||76|←↵||||
+base64|most|check|=||76|←↵|||\
+    \0\0\0\0\0\0\0\0\0\0\0\0\0\0\0\0\0\0\0\0\0\0\0\0\0\0\0\0\0\0\0\0\
+    \0\0\0\0\0\0\0\0\0\0\0\0\0\0\0\0\0\0\0\0\0\0\0\0\0|\
+    AAAAAAAAAAAAAAAAAAAAAAAAAAAAAAAAAAAAAAAAAAAAAAAAAAAAAAAAAAAAAAAAAAAAAAAAAAAA←↵";
 
-// Of each data its length alone.
+// The length of data, and that of their text.
 const LENGTHS: &str = "\
-base64|most|check|=||0|||||0
-base64|most|check|=||0||||.|4
-base64|most|check|=||0||||...|4
-base64|most|check|=||0||||....|8
-base32|most|check|=||0||||.|8";
+base64|most|check|=||0||||0|0
+base64|most|check|=||0||||1|4
+base64|most|check|=||0||||3|4
+base64|most|check|=||0||||4|8
+base32|most|check|=||0||||1|8
+base64|most|check|=||76|←↵|||0|0
+base64|most|check|=||76|←↵|||58|84
+binary|most|check|||8|dashes|||1|263
+binary|most|check|||8|dashes|||36028797018963967|9475573615987523321";
 
 // Whether the data have the text, as it is written into an output of its length.
 fn writes(encoding: &Encoding, input: &[u8], want: &[u8]) -> bool
     requires limit { length input.now ≤ ENCODE_LIMIT }
-    requires plain { IsPlain encoding.now }
 {
-    let mut output = [0; 32];
+    let mut output = [0; 80];
     let len = encoding.encode_len(input.len());
     if len > output.len() {
         return false;
@@ -50,11 +59,12 @@ pub(super) fn gives(alloc: Global, line: &str) -> Result<bool, Fail> {
     let row = row_of(alloc, line)?;
     let encoding = row.specification.encoding()?;
     let input = bytes_of(alloc, row.input)?;
-    if !is_served(&encoding) || input.len() > ENCODE_LIMIT {
+    if input.len() > ENCODE_LIMIT {
         return Ok(false);
     }
+    let want = bytes_of(alloc, row.want)?;
     let text = encoding.encode(alloc, &input)?;
-    Ok(text.as_str() == row.want && writes(&encoding, &input, row.want.as_bytes()))
+    Ok(text.as_bytes() == want.as_slice() && writes(&encoding, &input, &want))
 }
 
 #[test]
@@ -69,10 +79,11 @@ fn encodes(rt: HostRuntime) -> Result<(), Fail> {
 fn has_length(alloc: Global, line: &str) -> Result<bool, Fail> {
     let row = row_of(alloc, line)?;
     let encoding = row.specification.encoding()?;
-    if !is_served(&encoding) || row.input.len() > ENCODE_LIMIT {
+    let len: usize = row.input.parse()?;
+    if len > ENCODE_LIMIT {
         return Ok(false);
     }
-    Ok(encoding.encode_len(row.input.len()) == row.want.parse()?)
+    Ok(encoding.encode_len(len) == row.want.parse()?)
 }
 
 #[test]

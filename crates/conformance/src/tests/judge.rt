@@ -1,4 +1,5 @@
-//! A slow judge: what a text means, or its fault, by lists of characters and of bits.
+//! A slow judge: the text of data, and what a text means or its fault, by lists of characters and
+//! of bits.
 
 ghost use Rattle.std.specs.Prelude.{◌<◌};
 
@@ -15,12 +16,14 @@ pub(super) struct Judge<'a> {
     order: BitOrder,
     check: bool,
     concatenate: bool,
-    padding: Option<u8>,
+    pub(super) padding: Option<u8>,
     ignored: &'a [u8],
+    column: usize,
+    separator: &'a [u8],
 }
 
-// What is found in a text: the bytes of the groups before the first faulty one, the position after
-// these groups, and the fault.
+// What is found in a text: the bytes that are written before the first fault, how much of the text
+// they are of, and the fault.
 #[derive(Drop)]
 pub(super) struct Judgement {
     pub(super) bytes: Vec<u8>,
@@ -64,10 +67,21 @@ fn width_of(count: usize) -> u32 {
     0
 }
 
+// The characters of a line, and what follows it; none where there are no lines.
+fn lines_of(specification: &Specification) -> (usize, &[u8]) {
+    let column = specification.wrap.width;
+    let separator = specification.wrap.separator.as_bytes();
+    if column == 0 || separator.is_empty() {
+        return (0, &[]);
+    }
+    (column, separator)
+}
+
 impl Judge<'_> {
     // The judge of what is asked for by its symbols, its padding and its ignored bytes.
     pub(super) fn of(specification: &Specification) -> Judge<'_> {
         let symbols = specification.symbols.as_bytes();
+        let (column, separator) = lines_of(specification);
         Judge {
             symbols,
             width: width_of(symbols.len()),
@@ -78,11 +92,70 @@ impl Judge<'_> {
                 .padding
                 .and_then(|character| u8::try_from(character).ok()),
             ignored: specification.ignore.as_bytes(),
+            column,
+            separator,
         }
     }
 
-    // The data of a text.
+    // The text of data: its symbols and padding, in lines.
+    pub(super) fn encode(&self, alloc: Global, data: &[u8]) -> Result<Vec<u8>, AllocError> {
+        let characters = self.encode_padded(alloc, data)?;
+        if self.column == 0 {
+            return Ok(characters);
+        }
+        let mut text = Vec::new(alloc);
+        for line in characters.chunks(self.column) {
+            text.extend_from_slice(line)?;
+            text.extend_from_slice(self.separator)?;
+        }
+        Ok(text)
+    }
+
+    // The symbols of data, and the padding that fills their last group.
+    fn encode_padded(&self, alloc: Global, data: &[u8]) -> Result<Vec<u8>, AllocError> {
+        let mut bits = Vec::new(alloc);
+        for byte in data {
+            self.push_bits(&mut bits, 8, *byte as usize)?;
+        }
+        let mut characters = Vec::new(alloc);
+        for run in bits.chunks(self.width.max(1) as usize) {
+            let symbol = self.symbols.get(self.value_of(run));
+            characters.push(*symbol.unwrap_or(&b'?'))?;
+        }
+        if let Some(padding) = self.padding {
+            let size = self.group_len();
+            for _ in 0..(size - characters.len() % size) % size {
+                characters.push(padding)?;
+            }
+        }
+        Ok(characters)
+    }
+
+    // The data of a text. After a length fault, the greatest front of valid length of what was not
+    // read is read too, where it decodes as it stands.
     pub(super) fn decode(&self, alloc: Global, text: &[u8]) -> Result<Judgement, AllocError> {
+        let mut judgement = self.decode_sound(alloc, text)?;
+        let Some(error) = judgement.fault else {
+            return Ok(judgement);
+        };
+        if error.kind != DecodeKind::Length {
+            return Ok(judgement);
+        }
+        let rest = text.get(judgement.read..).unwrap_or(&[]);
+        let front = rest.get(..self.greatest_length(rest.len())).unwrap_or(&[]);
+        let mut strict = *self;
+        strict.ignored = &[];
+        strict.separator = &[];
+        let last = strict.decode_sound(alloc, front)?;
+        if last.fault.is_none() {
+            judgement.read = error.position;
+            judgement.bytes.extend_from_slice(&last.bytes)?;
+        }
+        Ok(judgement)
+    }
+
+    // The data of the groups of a text before the first faulty one.
+    fn decode_sound(&self, alloc: Global, text: &[u8]) -> Result<Judgement, AllocError> {
         let mut judgement = Judgement {
             bytes: Vec::new(alloc),
             read: 0,
@@ -103,9 +176,11 @@ impl Judge<'_> {
         text: &[u8],
         judgement: &mut Judgement,
     ) -> Result<(), DecodeFault> {
-        let greatest = self.greatest_length(text.len());
-        if self.ignored.is_empty() && greatest != text.len() {
-            return Err(fault(greatest, DecodeKind::Length));
+        if self.ignores_none() {
+            let greatest = self.greatest_length(text.len());
+            if greatest != text.len() {
+                return Err(fault(greatest, DecodeKind::Length));
+            }
         }
         let characters = self.kept(alloc, text)?;
         let mut is_ended = false;
@@ -150,9 +225,10 @@ impl Judge<'_> {
     // The greatest length up to this one that a text may have, where nothing is ignored.
     fn greatest_length(&self, len: usize) -> usize {
         let mut greatest = 0;
+        let size = self.group_len();
         for count in 0..=len {
             let fits = match self.padding {
-                Some(_) => count % self.group_len() == 0,
+                Some(_) => count % size == 0,
                 None => self.is_count(count),
             };
             if fits {
@@ -162,11 +238,16 @@ impl Judge<'_> {
         greatest
     }
 
+    // Whether no byte is ignored.
+    fn ignores_none(&self) -> bool {
+        self.ignored.is_empty() && self.separator.is_empty()
+    }
+
     // The characters that are not ignored.
     fn kept(&self, alloc: Global, text: &[u8]) -> Result<Vec<Character>, AllocError> {
-        let mut characters = Vec::new(alloc);
+        let mut characters = Vec::with_capacity(alloc, text.len())?;
         for (position, byte) in text.iter().enumerate() {
-            if !self.ignored.contains(byte) {
+            if !self.ignored.contains(byte) && !self.separator.contains(byte) {
                 characters.push(Character {
                     position,
                     byte: *byte,
@@ -184,10 +265,10 @@ impl Judge<'_> {
         bytes: &mut Vec<u8>,
     ) -> Result<(), DecodeFault> {
         let symbols = self.symbols_of(group)?;
-        let mut bits = Vec::new(alloc);
+        let mut bits = Vec::with_capacity(alloc, 64)?;
         for symbol in symbols {
             match self.symbols.iter().position(|own| *own == symbol.byte) {
-                Some(value) => self.push_bits(&mut bits, value)?,
+                Some(value) => self.push_bits(&mut bits, self.width, value)?,
                 None => return Err(fault(symbol.position, DecodeKind::Symbol)),
             }
         }
@@ -225,16 +306,34 @@ impl Judge<'_> {
         }
     }
 
-    // Appends the bits of a value, in their order.
-    fn push_bits(&self, bits: &mut Vec<bool>, value: usize) -> Result<(), AllocError> {
-        for index in 0..self.width {
-            let weight = match self.order {
-                BitOrder::MostSignificantFirst => self.width - 1 - index,
-                BitOrder::LeastSignificantFirst => index,
-            };
+    // Appends so many bits of a value, in their order.
+    fn push_bits(&self, bits: &mut Vec<bool>, count: u32, value: usize) -> Result<(), AllocError> {
+        for index in 0..count {
+            let weight = self.weight(count, index);
             bits.push(value.wrapping_shr(weight) % 2 == 1)?;
         }
         Ok(())
+    }
+
+    // The value of the bits of a symbol, with zeros after the last.
+    fn value_of(&self, bits: &[bool]) -> usize {
+        let mut value = 0usize;
+        for index in 0..self.width {
+            if bits.get(index as usize) == Some(&true) {
+                value |= 1usize.wrapping_shl(self.weight(self.width, index));
+            }
+        }
+        value
+    }
+
+    // How many of so many bits are of less weight than this one.
+    fn weight(&self, count: u32, index: u32) -> u32
+        requires inside { index < count }
+    {
+        match self.order {
+            BitOrder::MostSignificantFirst => count - 1 - index,
+            BitOrder::LeastSignificantFirst => index,
+        }
     }
 
     // Appends the bytes of bits.

@@ -12,6 +12,13 @@ const DNSCURVE: &str = "0123456789bcdfghjklmnpqrstuvwxyz";
 
 const BASE64: &str = "ABCDEFGHIJKLMNOPQRSTUVWXYZabcdefghijklmnopqrstuvwxyz0123456789+/";
 
+// The longest separator.
+const DASHES: &str = "\
+    ----------------------------------------------------------------\
+    ----------------------------------------------------------------\
+    ----------------------------------------------------------------\
+    ---------------------------------------------------------------";
+
 // What a row says: a specification, what is done with it, and what comes of it.
 #[derive(Drop)]
 pub(super) struct Row<'a> {
@@ -37,12 +44,9 @@ pub(super) fn row_of(alloc: Global, line: &str) -> Result<Row<'_>, Fail> {
     specification.concatenate = !rules.starts_with("single");
     specification.check_trailing_bits = rules.ends_with("check");
     specification.padding = fields.next().unwrap_or("").chars().next();
-    put(&mut specification.ignore, fields.next().unwrap_or(""))?;
+    put_ignored(&mut specification, fields.next().unwrap_or(""))?;
     specification.wrap.width = fields.next().unwrap_or("").parse()?;
-    put(
-        &mut specification.wrap.separator,
-        fields.next().unwrap_or(""),
-    )?;
+    put_separator(&mut specification, fields.next().unwrap_or(""))?;
     put(
         &mut specification.translate.from,
         fields.next().unwrap_or(""),
@@ -90,6 +94,29 @@ fn put(text: &mut String, field: &str) -> Result<(), AllocError> {
         text.push(meant(character))?;
     }
     Ok(())
+}
+
+// The ignored bytes of a field, which may stand for each ASCII character that is no symbol.
+fn put_ignored(specification: &mut Specification, field: &str) -> Result<(), AllocError> {
+    if field != "others" {
+        return put(&mut specification.ignore, field);
+    }
+    for byte in 0..128u8 {
+        if !specification.symbols.as_bytes().contains(&byte) {
+            specification.ignore.push(char::from(byte))?;
+        }
+    }
+    Ok(())
+}
+
+// The separator of a field, which may stand for the longest.
+pub(super) fn put_separator(
+    specification: &mut Specification,
+    field: &str,
+) -> Result<(), AllocError> {
+    specification.wrap.separator.clear();
+    let separator = if field == "dashes" { DASHES } else { field };
+    put(&mut specification.wrap.separator, separator)
 }
 
 // The bytes of a field, each written as the character of its code.

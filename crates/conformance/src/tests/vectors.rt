@@ -3,7 +3,7 @@
 use super::decoding::decoded;
 use super::encoding::gives;
 use super::rows::{bytes_of, row_of};
-use crate::callers::{is_served, there_and_back};
+use crate::callers::there_and_back;
 use data_encoding::DECODE_LIMIT;
 use std::alloc::Global;
 use std::test::Fail;
@@ -57,7 +57,7 @@ fn comes_back(alloc: Global, line: &str) -> Result<bool, Fail> {
 fn means(alloc: Global, line: &str) -> Result<bool, Fail> {
     let row = row_of(alloc, line)?;
     let encoding = row.specification.encoding()?;
-    if !is_served(&encoding) || row.want.len() > DECODE_LIMIT {
+    if row.want.len() > DECODE_LIMIT {
         return Ok(false);
     }
     Ok(decoded(alloc, &encoding, row.want.as_bytes())?.as_str() == row.input)

@@ -9,5 +9,5 @@ returns c =
     let base = c.hexlower.result in
     refused base (codes "4G") (at Symbol 1)
     (λ bytes. sound_bytes base (codes "4G") ≡ bytes.items) c.decode.result
-    (hexlower-symbol base c.hexlower.ensures.yields) c.decode.ensures.sound
+    (hexlower-symbol base c.hexlower.ensures) c.decode.ensures.sound
     c.decode.ensures.refusal

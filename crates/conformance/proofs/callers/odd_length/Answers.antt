@@ -9,5 +9,5 @@ returns c =
     let base = c.hexlower.result in
     refused-length base (codes "4G4") (at Length 2)
     (λ bytes. sound_bytes base (codes "4G4") ≡ bytes.items) c.decode.result
-    (hexlower-length base c.hexlower.ensures.yields) c.decode.ensures.sound
+    (hexlower-length base c.hexlower.ensures) c.decode.ensures.sound
     c.decode.ensures.refusal
