@@ -72,6 +72,8 @@ check 'encodes nothing' 0 '' '' '' encode HEXLOWER
 check 'decodes' 0 'Hello' '' 48656c6c6f decode HEXLOWER
 check 'decodes any byte' 0 '\x00\xff\n\xde\xad\xbe\xef' '' 00ff0adeadbeef decode HEXLOWER
 check 'decodes nothing' 0 '' '' '' decode HEXLOWER
+check 'encodes in base64' 0 Zg== '' f encode BASE64
+check 'decodes lines of base64' 0 foobar '' 'Zm9v\r\nYmFy\r\n' decode BASE64_MIME
 
 check 'an invalid symbol' 1 '' 'basecode: invalid symbol at 1' 4G decode HEXLOWER
 check 'an invalid length' 1 '' 'basecode: invalid length at 2' 4G4 decode HEXLOWER

@@ -1,7 +1,6 @@
 //! What the words of a command line ask for.
 
 ghost use Rattle.std.specs.Prelude.{◌≡◌, ◌↔◌, IfErr, IfOk, IsErr, None};
-ghost use Rattle.data_encoding.specs.Plain.{IsPlain};
 ghost use Rattle.basecode.specs.Words.{Asks, IsWrong, limit_of, task_of, texts, verb_of};
 
 use crate::fault::WordFault;
@@ -56,7 +55,6 @@ fn verb_named(word: &str) -> Option<Verb>
 /// Their number and the first of them are judged before the name.
 pub fn task_named(words: &[String]) -> Result<Task, WordFault<'_>>
     ensures asked { IfOk result (λ task. Asks (texts words.now) task.verb task.encoding) }
-    ensures plain { IfOk result (λ task. IsPlain task.encoding) }
     ensures wrong { IsErr result ↔ (task_of (texts words.now) ≡ None) }
     ensures fault { IfErr result (IsWrong (texts words.now)) }
 {

@@ -1,7 +1,8 @@
 //! `basecode`: standard input as text over an alphabet of symbols, and back.
 //!
 //! `basecode encode NAME` reads bytes and writes their text, and `basecode decode NAME` reads a
-//! text and writes the bytes that it means, by the encoding of that name. The exit status is 0
+//! text and writes the bytes that it means, by the encoding of that name: one of the eighteen
+//! predefined encodings of `data_encoding`, in upper case, as `BASE64_MIME`. The exit status is 0
 //! where that was done, 1 where the input has a fault or is too long, 2 where the words are wrong,
 //! 3 where a read, a write or a flush failed, and 4 where memory ran out.
 #![tactic(auto)]

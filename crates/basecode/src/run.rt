@@ -2,7 +2,6 @@
 
 ghost use Rattle.std.specs.Prelude.{◌≡◌, ◌≢◌, ◌≤◌, ◌↔◌, ◌⊎◌, length, false, IsTrue, IfOk, IfErr, IsErr, OnOk, Ok, Err, None};
 ghost use Rattle.std.specs.Io.KnownBytes.{Keeps};
-ghost use Rattle.data_encoding.specs.Plain.{IsPlain};
 ghost use Rattle.basecode.specs.Faults.{status_after};
 ghost use Rattle.basecode.specs.Run.{Begins, Begun, Converts, Done, Explains, IsAnswer, IsNoAnswer, Refused};
 ghost use Rattle.basecode.specs.Input.{ReadsSome};
@@ -92,7 +91,6 @@ fn convert<R: Read, W: Write>(
     writer: &mut Watch<W>,
 ) -> Result<(), Fault>
     requires fits { limit ≤ limit_of task.now.verb }
-    requires plain { IsPlain task.now.encoding }
     requires reader_works { has_failed reader.old ≡ false }
     requires writer_works { has_failed writer.old ≡ false }
     ensures done { OnOk result (Converts task.now.verb task.now.encoding
@@ -119,7 +117,6 @@ fn convert<R: Read, W: Write>(
 // The answer to an input.
 fn answer(alloc: Global, task: &Task, input: &[u8]) -> Result<Vec<u8>, Fault>
     requires limit { length input.now ≤ limit_of task.now.verb }
-    requires plain { IsPlain task.now.encoding }
     ensures answer { IfOk result (λ output.
         IsAnswer task.now.verb task.now.encoding input.now output.items) }
     ensures fault { IfErr result (IsNoAnswer task.now.verb task.now.encoding input.now) }
