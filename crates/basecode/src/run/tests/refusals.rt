@@ -29,7 +29,7 @@ fn prints_the_fault_of_wrong_words(rt: HostRuntime) -> Result<(), Fail> {
     let usage = "basecode: usage: basecode list OR encode NAME OR decode NAME OR canonical NAME\n";
     for (words, line) in [
         ("decode NOPE", "basecode: unknown encoding: NOPE\n"),
-        ("encode BASE64", "basecode: unknown encoding: BASE64\n"),
+        ("encode BASE65", "basecode: unknown encoding: BASE65\n"),
         ("encode hexlower", "basecode: unknown encoding: hexlower\n"),
         ("", usage),
         ("encode", usage),
