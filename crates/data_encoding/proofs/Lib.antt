@@ -3,6 +3,8 @@ pub mod digits
 pub mod tables
 pub mod specification
 pub mod text
+pub mod order
 pub mod grammar
 pub mod decoding
+pub mod canonicity
 mod Vectors

@@ -16,12 +16,14 @@ use Rattle.data_encoding.specs.declared.error.DecodeKind.{DecodeKind}
 use Rattle.data_encoding.specs.declared.error.DecodeKind.TheVariants.{Length, Symbol, Trailing, Padding}
 use Rattle.data_encoding.specs.declared.error.DecodePartial.{DecodePartial}
 use Rattle.data_encoding.specs.Base.{Base, is_ignored, is_invalid, is_padding, value_of, group_bytes, group_symbols}
+use Rattle.data_encoding.specs.Canonical.{has_one_text}
 use Rattle.data_encoding.specs.Fault.{fault_of, sound_bytes, IsRefusal}
 use Rattle.data_encoding.specs.Fields.{Fields, base_of}
 use Rattle.data_encoding.specs.Grammar.{Means, positioned_from}
 use Rattle.data_encoding.specs.Layout.{layout, fields_of}
 use Rattle.data_encoding.specs.Lengths.{alignment, decoded_len, greatest_valid_count}
 use Rattle.data_encoding.specs.Partial.{partial_of}
+use Rattle.data_encoding.specs.Pieces.{unfinished, whole_bytes}
 use Rattle.data_encoding.specs.Predefined.{unpadded_fields, padded_fields, translated_fields, hexlower_fields, hexlower_permissive_fields, hexupper_fields, hexupper_permissive_fields, base32_fields, base32_nopad_fields, base32_nopad_nocase_fields, base32_nopad_visual_fields, base32hex_fields, base32hex_nopad_fields, base32_dnssec_fields, base32_dnscurve_fields, base64_fields, base64_nopad_fields, base64_mime_fields, base64_mime_permissive_fields, base64url_fields, base64url_nopad_fields}
 use Rattle.data_encoding.specs.Printed.{printed_fault, printed_refusal}
 use Rattle.data_encoding.specs.Specification.{no_fields}
@@ -95,6 +97,16 @@ characters_by_test :
     × (map is_invalid (SymbolCharacter 5 ∷ PaddingCharacter ∷ Ignored ∷ Invalid ∷ [])
     ≡ false ∷ false ∷ false ∷ true ∷ [])
 characters_by_test = (refl, refl, refl, refl)
+
+-- of data in order, padded with a character before each symbol, and with one behind them
+texts_in_order : Hold (λ (row : ℕ × List ℕ).
+    encoded (record octal_fields { padding = Some row.0 }) row.1) (
+    ((33, 0 ∷ []), Some (codes "000!!!!!"))
+    ∷ ((33, 0 ∷ 0 ∷ []), Some (codes "000000!!"))
+    ∷ ((61, 0 ∷ []), Some (codes "000====="))
+    ∷ ((61, 0 ∷ 0 ∷ []), Some (codes "000000=="))
+    ∷ [])
+texts_in_order = refl
 
 -- the text of the same four bytes in each of the eighteen
 predefined_texts : Hold (λ fields. encoded fields (251 ∷ 239 ∷ 255 ∷ 1 ∷ [])) (
@@ -244,6 +256,16 @@ partials : Hold (λ (row : Fields × List ℕ). by (λ base. partial_of base row
     )
 partials = refl
 
+-- what was decoded of a text so far, and what is held
+abbrev so_far : List ℕ
+so_far = codes "SGVsbG" ++ 13 ∷ 10 ∷ []
+
+pieces :
+    (by (λ base. whole_bytes base so_far) base64_mime_fields ≡ Some (codes "Hel"))
+    × (by (λ base. unfinished base so_far) base64_mime_fields
+    ≡ Some (record { position = 4; byte = 98 } ∷ record { position = 5; byte = 71 } ∷ []))
+pieces = (refl, refl)
+
 -- the lengths below ten that symbols of a width may have, or the one before
 valid_lengths :
     (map (greatest_valid_count 1) (7 ∷ 8 ∷ 9 ∷ []) ≡ 0 ∷ 8 ∷ 8 ∷ [])
@@ -278,6 +300,24 @@ alignments : Hold (by alignment) (
     ∷ []
     )
 alignments = refl
+
+-- data has one text, unless padded texts may be concatenated, trailing bits are not checked, or a
+-- byte is ignored or translated
+one_text : Hold (by has_one_text) (
+    (hexlower_fields, Some true)
+    ∷ (base64_nopad_fields, Some true)
+    ∷ (base64_fields, Some false)
+    ∷ (record base64_fields { concatenates = false }, Some true)
+    ∷ (unchecked base64_nopad_fields, Some false)
+    ∷ (nopad_ignoring_lf_fields, Some false)
+    ∷ (hexlower_permissive_fields, Some false)
+    ∷ (
+      translated_fields (record base64_fields { concatenates = false }) (codes "~") (codes "="),
+      Some false,
+    )
+    ∷ []
+    )
+one_text = refl
 
 -- the length of a layout, its bytes times their positions in sum, and what follows the tables
 abbrev layout_digest : Base → List ℕ

@@ -12,3 +12,4 @@ pub mod UnpaddedMeaningLemmas
 pub mod PaddedMeaningLemmas
 pub mod MeaningLemmas
 pub mod JoinLemmas
+pub mod JoinFaultLemmas

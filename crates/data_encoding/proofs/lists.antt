@@ -6,3 +6,4 @@ pub mod EachLemmas
 pub mod EndLemmas
 pub mod RepeatLemmas
 pub mod WriteLemmas
+pub mod WholeRunLemmas

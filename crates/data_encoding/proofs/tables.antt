@@ -4,4 +4,5 @@ pub mod EntryLemmas
 pub mod TableRuleLemmas
 pub mod LayoutLemmas
 pub mod OneLayoutLemmas
+pub mod ReadingLemmas
 pub mod EqualityLemmas

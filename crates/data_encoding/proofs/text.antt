@@ -11,4 +11,5 @@ pub mod WrittenLemmas
 pub mod PlainLoopLemmas
 pub mod SymbolMeaningLemmas
 pub mod KeptTextLemmas
+pub mod LastGroupLemmas
 pub mod TextMeaningLemmas

@@ -1,15 +1,32 @@
 -- The laws of the definitions.
-use Rattle.std.specs.Prelude.{◌≡◌, ℕ, ◌<◌, ◌%◌, ◌⊎◌, true, false, List, ◌++◌, length, All, Ok}
-use Rattle.data_encoding.specs.Base.{Base, meaning, is_padded, is_padding}
+use Rattle.std.specs.Prelude.{◌≡◌, ℕ, ◌+◌, ◌<◌, ◌%◌, ◌/◌, ◌≤◌, ◌==◌, ◌⊎◌, true, false, List, slice_index, ◌++◌, length, take, drop, All, Option, Some, None, Ok}
+use Rattle.data_encoding.specs.declared.error.DecodeError.{DecodeError}
+use Rattle.data_encoding.specs.declared.error.DecodePartial.{DecodePartial}
+use Rattle.data_encoding.specs.Base.{Base, IsWidth, meaning, is_padded, is_padding}
+use Rattle.data_encoding.specs.Fault.{fault_of, sound_bytes}
 use Rattle.data_encoding.specs.Fields.{base_of, IsSpecified}
 use Rattle.data_encoding.specs.Grammar.{Means}
-use Rattle.data_encoding.specs.Layout.{fields_of}
-use Rattle.data_encoding.specs.Lengths.{alignment}
+use Rattle.data_encoding.specs.Layout.{fields_of, layout}
+use Rattle.data_encoding.specs.Lengths.{alignment, length_fault}
+use Rattle.data_encoding.specs.Order.{KeepsOrder, IsOrdered, IsBroken}
+use Rattle.data_encoding.specs.Partial.{partial_of}
 use Rattle.data_encoding.specs.Text.{text_of}
 
 -- The base is built from its specification.
 abbrev pub SpecificationAgain : Type 0
 SpecificationAgain = (base : Base) → IsSpecified base → base_of (fields_of base) ≡ Ok base
+
+-- What byte 513 of its layout tells of a base.
+pub record HasLayoutFlags (base : Base) (flags : ℕ) : Type 0 where
+  pub is_width : IsWidth base.width
+  pub width : flags % 8 ≡ base.width
+  pub concatenates : (flags / 32 % 2 == 0) ≡ base.concatenates
+
+-- The layout of a base tells its width, and whether its texts may be concatenated.
+abbrev pub LayoutFlags : Type 0
+LayoutFlags =
+    (base : Base) → IsSpecified base
+    → (514 ≤ length (layout base)) × HasLayoutFlags base (slice_index (layout base) 513)
 
 -- The text of bytes means the bytes.
 abbrev pub RoundTrip : Type 0
@@ -43,3 +60,48 @@ JoinDecode =
     (base : Base) → IsSpecified base → (text after bytes more : List ℕ)
     → MayBeFollowed base text → Means base text bytes → Means base after more
     → Means base (text ++ after) (bytes ++ more)
+
+-- Without lines, exactly an ordered base keeps the order of data.
+abbrev pub Order : Type 0
+Order =
+    (base : Base) → IsSpecified base → base.wrapping ≡ None
+    → (IsOrdered base → KeepsOrder base) × (KeepsOrder base → IsOrdered base)
+
+-- For any other there are data whose texts are not in order.
+abbrev pub NoOrder : Type 0
+NoOrder = (base : Base) → IsSpecified base → base.wrapping ≡ None → IsBroken base
+
+-- a fault so many bytes further on
+abbrev pub further : ℕ → Option DecodeError → Option DecodeError
+further count None = None
+further count (Some fault) =
+    Some (record { position = count + fault.position; kind = fault.kind })
+
+-- Behind a text that means bytes and may be followed, another text has the fault that it has alone,
+-- further on, and its bytes stand behind those.
+abbrev pub JoinFault : Type 0
+JoinFault =
+    (base : Base) → IsSpecified base → (text after bytes : List ℕ)
+    → MayBeFollowed base text → Means base text bytes
+    → (fault_of base (text ++ after) ≡ further (length text) (fault_of base after))
+    × (sound_bytes base (text ++ after) ≡ bytes ++ sound_bytes base after)
+
+-- So much of a piece means these bytes, and what is left of it, before what follows, has the
+-- meaning and the fault of the whole.
+pub record Resumes (base : Base) (piece next : List ℕ) (read : ℕ) (bytes : List ℕ) : Type 0 where
+  pub read_means : Means base (take read piece) bytes
+  pub rest_means : (more : List ℕ) → Means base (drop read piece ++ next) more
+      → Means base (piece ++ next) (bytes ++ more)
+  pub fault : fault_of base (piece ++ next)
+      ≡ further read (fault_of base (drop read piece ++ next))
+  pub sound : sound_bytes base (piece ++ next)
+      ≡ bytes ++ sound_bytes base (drop read piece ++ next)
+
+-- Where a decoding of a piece stops, it is resumed with what was not read, if what was read may be
+-- followed.
+abbrev pub Resume : Type 0
+Resume =
+    (base : Base) → IsSpecified base → (piece next : List ℕ) (partial : DecodePartial)
+    → length_fault base (length piece) ≡ None → partial_of base piece ≡ Some partial
+    → MayBeFollowed base (take partial.read piece)
+    → Resumes base piece next partial.read (sound_bytes base (take partial.read piece))

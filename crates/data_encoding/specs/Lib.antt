@@ -8,12 +8,15 @@ pub mod Fragments
 pub mod Encoder
 pub mod Fault
 pub mod Partial
+pub mod Pieces
 pub mod Fields
 pub mod Entries
 pub mod Meanings
 pub mod Encoding
 pub mod Layout
 pub mod Specification
+pub mod Order
+pub mod Canonical
 pub mod Laws
 pub mod Tables
 pub mod Decoding

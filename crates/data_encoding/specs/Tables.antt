@@ -1,8 +1,16 @@
 -- Tables that serve a base: what the loops over groups look up.
-use Rattle.std.specs.Prelude.{◌≡◌, ℕ, ◌%◌, ◌^◌, ◌<◌, ◌≤◌, ◌==◌, false, List, slice_index}
+use Rattle.std.specs.Prelude.{◌≡◌, ℕ, ◌%◌, ◌^◌, ◌<◌, ◌≤◌, ◌==◌, false, List, map, slice_index}
 use Rattle.data_encoding.specs.declared.encoding.Character.TheVariants.{Symbol}
 use Rattle.data_encoding.specs.declared.encoding.BitOrder.{BitOrder}
+use Rattle.data_encoding.specs.declared.entries.Tables.{Tables}
 use Rattle.data_encoding.specs.Base.{Base, IsWidth, meaning, symbol, group_bytes, group_symbols, is_symbol, is_padding, is_ignored}
+use Rattle.data_encoding.specs.Entries.{meaning_of_entry}
+
+-- They have the symbols, the meanings and the padding character of the base.
+pub record HasTables (base : Base) (tables : Tables) : Type 0 where
+  pub symbols : base.symbols ≡ tables.symbols.now
+  pub meanings : base.meanings ≡ map meaning_of_entry tables.values.now
+  pub padding : base.padding ≡ tables.padding
 
 -- At each byte stands the symbol of the value in its lowest bits.
 pub record HoldsSymbols (base : Base) (symbols : List ℕ) : Type 0 where

@@ -1,7 +1,7 @@
 //! From data to text.
 
-ghost use Rattle.std.specs.Prelude.{◌≡◌, All, ℕ, ◌<◌, ◌+◌, ◌-◌, ◌*◌, ◌/◌, ◌≤◌, List, ◌++◌, length, drop, replicate, IfOk, IsOk, IsSome, OnErr, OnOk};
-ghost use Rattle.std.specs.String.{string_bytes, string_capacity, string_len};
+ghost use Rattle.std.specs.Prelude.{◌≡◌, All, ℕ, ◌<◌, ◌+◌, ◌-◌, ◌*◌, ◌/◌, ◌≤◌, List, ◌++◌, length, drop, replicate, IfOk, IsOk, IsSome};
+ghost use Rattle.std.specs.String.{string_bytes};
 ghost use Rattle.data_encoding.specs.Base.{Base, IsWidth, group_bytes, group_symbols};
 ghost use Rattle.data_encoding.specs.Fields.{IsSpecified};
 ghost use Rattle.data_encoding.specs.Lengths.{alignment};
@@ -12,7 +12,6 @@ use crate::encoding::{BitOrder, Encoding, group_bytes};
 use crate::memory::zeros;
 use crate::plain::encode_by_fours;
 use std::alloc::{AllocError, Global};
-use std::mem;
 
 /// The greatest length of data that is encoded in one call, in bytes.
 pub const ENCODE_LIMIT: usize = usize::MAX / 512;
@@ -108,50 +107,6 @@ impl Encoding {
         let mut output = zeros(alloc, self.encode_len(input.len()))?;
         self.encode_mut(input, &mut output);
         Ok(unsafe { String::from_utf8_unchecked(output) })
-    }
-
-    /// Appends the text of the data, of at most `ENCODE_LIMIT` bytes, to `output`.
-    ///
-    /// The only error is that memory ran out, which is never answered for no data. The bytes and
-    /// the capacity of `output` are then what they were.
-    pub fn encode_append(&self, input: &[u8], output: &mut String) -> Result<(), AllocError>
-        requires limit { length input.now ≤ ENCODE_LIMIT }
-        ensures text { OnOk result (string_bytes output.new
-            ≡ string_bytes output.old ++ text_of self.now input.now) }
-        ensures unchanged { OnErr result (string_bytes output.new ≡ string_bytes output.old) }
-        ensures capacity { OnErr result (string_capacity output.new
-            ≡ string_capacity output.old) }
-        ensures empty { length input.now ≡ 0 → IsOk result }
-        ensures base { IsSpecified self.now }
-    {
-        let len = self.encode_len(input.len());
-        if len == 0 {
-            return Ok(());
-        }
-        output.reserve(len)?;
-        self.append_within(input, output);
-        Ok(())
-    }
-
-    // Does so where there is room: the text is written where it stays.
-    pub(crate) fn append_within(&self, input: &[u8], output: &mut String)
-        requires limit { length input.now ≤ ENCODE_LIMIT }
-        requires room { string_len output.old + length (text_of self.now input.now)
-            ≤ string_capacity output.old }
-        ensures text { string_bytes output.new
-            ≡ string_bytes output.old ++ text_of self.now input.now }
-        ensures len { string_len output.new
-            ≡ string_len output.old + length (text_of self.now input.now) }
-        ensures capacity { string_capacity output.old ≤ string_capacity output.new }
-    {
-        let empty = String::new(*output.allocator());
-        let mut bytes = mem::replace(output, empty).into_bytes();
-        let start = bytes.len();
-        bytes
-            .resize(start + self.encode_len(input.len()), 0)
-            .unwrap();
-        self.encode_mut(input, &mut bytes[start..]);
-        *output = unsafe { String::from_utf8_unchecked(bytes) };
     }
 
     // With the order as a constant too: each digit then stands at a known bit of its word.

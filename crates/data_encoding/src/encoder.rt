@@ -10,7 +10,10 @@ ghost use Rattle.data_encoding.specs.Text.{text_of};
 use crate::encode::ENCODE_LIMIT;
 use crate::encoding::Encoding;
 use arrayvec::ArrayVec;
-use std::alloc::AllocError;
+use std::alloc::{AllocError, Allocator};
+
+#[cfg(test)]
+mod tests;
 
 /// Appends the text of data that comes in fragments to a text.
 ///
@@ -50,12 +53,12 @@ impl Encoding {
     }
 
     // Appends the text of the blocks that are whole with the input, and holds the rest.
-    fn append_blocks(
+    fn append_blocks<A: Allocator + Copy>(
         &self,
         input: &[u8],
         held: &mut ArrayVec<u8, 191>,
         block_len: usize,
-        output: &mut String,
+        output: &mut String<A>,
     ) -> Result<(), AllocError>
         requires limit { length input.now ≤ ENCODE_LIMIT }
         requires block { block_len ≡ alignment self.now }
@@ -87,7 +90,11 @@ impl Encoding {
     }
 
     // Appends the text of what is held at the end.
-    fn append_last(&self, held: &[u8], output: &mut String) -> Result<(), AllocError>
+    fn append_last<A: Allocator + Copy>(
+        &self,
+        held: &[u8],
+        output: &mut String<A>,
+    ) -> Result<(), AllocError>
         requires limit { length held.now ≤ ENCODE_LIMIT }
         ensures text { OnOk result ((before bytes : List ℕ)
             → HasEncoded self.now before bytes (string_bytes output.old) held.now
@@ -95,7 +102,7 @@ impl Encoding {
         ensures unchanged { OnErr result (string_bytes output.new ≡ string_bytes output.old) }
         ensures empty { length held.now ≡ 0 → IsOk result }
     {
-        self.encode_append(held, output)
+        self.append_in(held, output)
     }
 }
 

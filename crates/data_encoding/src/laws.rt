@@ -1,6 +1,8 @@
 //! Laws of the definitions: each function's contract is a theorem, and calling it does nothing.
 
-ghost use Rattle.data_encoding.specs.Laws.{JoinDecode, JoinEncode, OneMeaning, RoundTrip, SpecificationAgain};
+ghost use Rattle.data_encoding.specs.Canonical.{Canonical, NotCanonical};
+ghost use Rattle.data_encoding.specs.Laws.{JoinDecode, JoinEncode, JoinFault, LayoutFlags, NoOrder, OneMeaning, Order, Resume, RoundTrip, SpecificationAgain};
+ghost use Rattle.data_encoding.specs.Pieces.{HoldsPiece, JudgesGroup, KeepsBytes, KeepsFault, ReadsGroup, ReadsNothing, TellsBytes, TellsFault};
 
 /// Each encoding is built from its own specification.
 pub fn specification_again()
@@ -28,4 +30,58 @@ pub fn one_meaning()
 /// has 1, 2 or 4 bits.
 pub fn join_decode()
     ensures { JoinDecode }
+{}
+
+/// Texts may be compared in place of data by exactly these of the encodings without lines: the most
+/// significant bit comes first, the symbols ascend, and padding comes before each symbol.
+pub fn order()
+    ensures kept { Order }
+    ensures broken { NoOrder }
+{}
+
+/// A text that means data is the text of the data, for each encoding that a specification yields
+/// and that is canonical.
+pub fn canonical()
+    ensures { Canonical }
+{}
+
+/// For each encoding that a specification yields and that is not canonical, and for each cause of
+/// that, two different texts that mean the same data.
+pub fn not_canonical()
+    ensures { NotCanonical }
+{}
+
+/// Behind a text that means data and may be followed, as at `join_decode`, another text has the
+/// fault that it has alone, if any, further on by the length of the first; and the data before it
+/// stands behind that of the first.
+pub fn join_fault()
+    ensures { JoinFault }
+{}
+
+/// Where a decoding of a piece stops at a fault, it is resumed: what was not read, put before what
+/// follows, has the meaning and the fault of the whole, if what was read may be followed, as at
+/// `join_decode`.
+pub fn resume()
+    ensures { Resume }
+{}
+
+/// A text may be decoded piece by piece, for each encoding that a specification yields: what is
+/// kept of it, and the data of its whole groups, follow from what was kept and the next piece; and
+/// at the end they tell its fault and its data. A group is judged, and decoded, as a text of its
+/// own.
+pub fn pieces()
+    ensures nothing { ReadsNothing }
+    ensures held { HoldsPiece }
+    ensures group { ReadsGroup }
+    ensures faulty { KeepsFault }
+    ensures grows { KeepsBytes }
+    ensures verdict { TellsFault }
+    ensures bytes { TellsBytes }
+    ensures alone { JudgesGroup }
+{}
+
+/// The layout of an encoding, as `internal_implementation` yields it, tells by its byte 513 the
+/// number of bits of a symbol, and whether texts may be concatenated.
+pub fn layout_flags()
+    ensures { LayoutFlags }
 {}

@@ -5,12 +5,15 @@
 //! contracts of the public calls compare with them.
 #![tactic(auto)]
 
+mod append;
 mod bits;
 mod builder;
+mod canonical;
 mod decode;
 mod encode;
 mod encoder;
 mod encoding;
+mod entries;
 mod error;
 mod gather;
 mod group;

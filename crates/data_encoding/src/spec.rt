@@ -1,16 +1,17 @@
 //! Specifications of encodings, and why one is refused.
 
-ghost use Rattle.std.specs.Prelude.{◌≡◌, ◌^◌, ◌<◌, ◌≤◌, ◌++◌, ◌∷◌, [], map, nat_lt, is_some, IsTrue, IfOk, IfErr, IfSome, OnOk, Ok, Err};
+ghost use Rattle.std.specs.Prelude.{◌≡◌, ◌^◌, ◌<◌, ◌≤◌, ◌++◌, ◌∷◌, [], length, map, nat_lt, is_some, IsTrue, IfOk, IfErr, IfSome, OnOk, Ok, Err};
 ghost use Rattle.std.specs.List.{list_all};
 ghost use Rattle.std.specs.String.{string_bytes};
-ghost use Rattle.data_encoding.specs.Base.{meaning};
 ghost use Rattle.data_encoding.specs.Fields.{base_of};
-ghost use Rattle.data_encoding.specs.Layout.{fields_of, ignored_bytes, is_translated, own_byte, own_character, translated_bytes};
+ghost use Rattle.data_encoding.specs.Layout.{fields_of};
 ghost use Rattle.data_encoding.specs.Printed.{printed_refusal};
+ghost use Rattle.data_encoding.specs.Tables.{HasTables};
 ghost use Rattle.data_encoding.specs.Specification.{specified, no_fields, refusal_of, SameTranslate, SameWrap};
 
 use crate::builder::{Parts, define};
-use crate::encoding::{BitOrder, Encoding, PADDING};
+use crate::encoding::{BitOrder, Encoding};
+use crate::entries::{Tables, character, symbol_count};
 use crate::meanings::Refusal;
 use std::alloc::{AllocError, Global};
 use std::error::Error;
@@ -150,99 +151,37 @@ impl Encoding {
     pub fn specification(&self, alloc: Global) -> Result<Specification, AllocError>
         ensures { IfOk result (λ specification. specified specification ≡ fields_of self.now) }
     {
-        let count = symbol_count(self.width);
+        let tables = self.tables();
+        let translations = tables.translations();
         Ok(Specification {
-            symbols: ascii_text(alloc, &self.symbols[..count])?,
+            symbols: ascii_text(alloc, tables.symbols)?,
             bit_order: self.order,
             check_trailing_bits: self.checks_trailing_bits,
             concatenate: self.concatenates,
             padding: character(self.padding),
-            ignore: self.ignored_text(alloc)?,
+            ignore: ascii_text(alloc, tables.ignored().as_slice())?,
             wrap: Wrap {
                 width: self.column as usize,
                 separator: ascii_text(alloc, self.separator.as_slice())?,
             },
-            translate: self.translations(alloc)?,
+            translate: Translate {
+                from: ascii_text(alloc, translations.from.as_slice())?,
+                to: ascii_text(alloc, translations.to.as_slice())?,
+            },
         })
     }
 
-    // The bytes that are ignored, in order.
-    fn ignored_text(&self, alloc: Global) -> Result<String, AllocError>
-        ensures { IfOk result (λ text. string_bytes text ≡ ignored_bytes self.now) }
+    // The tables, of which a symbol has one entry each.
+    pub(crate) fn tables(&self) -> Tables<'_>
+        ensures tables { HasTables self.now result }
+        ensures long { length result.values.now ≡ 128 }
+        ensures ascii { IsTrue (list_all (λ symbol. nat_lt symbol 128) result.symbols.now) }
     {
-        let mut text = String::new(alloc);
-        for byte in 0..128 {
-            if self.interpret_byte(byte).is_ignored() {
-                push_ascii(&mut text, byte)?;
-            }
+        Tables {
+            symbols: &self.symbols[..symbol_count(self.width)],
+            values: &self.values[..128],
+            padding: self.padding,
         }
-        Ok(text)
-    }
-
-    // Each byte that is translated, in order, and what it stands for.
-    fn translations(&self, alloc: Global) -> Result<Translate, AllocError>
-        ensures from { IfOk result
-            (λ translate. string_bytes translate.from ≡ translated_bytes self.now) }
-        ensures to { IfOk result
-            (λ translate. string_bytes translate.to
-            ≡ map (own_byte self.now) (translated_bytes self.now)) }
-    {
-        let mut from = String::new(alloc);
-        let mut to = String::new(alloc);
-        for byte in 0..128 {
-            if let Some(own) = self.translation_of(byte) {
-                push_ascii(&mut from, byte)?;
-                push_ascii(&mut to, own)?;
-            }
-        }
-        Ok(Translate { from, to })
-    }
-
-    // The symbol or the padding character that the byte stands for, where it is another byte.
-    fn translation_of(&self, byte: u8) -> Option<u8>
-        ensures some { IfSome result (λ own. own ≡ own_byte self.now byte) }
-        ensures ascii { IfSome result (λ own. own < 128) }
-        ensures variant { is_some result
-            ≡ is_translated self.now byte (own_character self.now (meaning self.now byte)) }
-    {
-        match self.own_character(byte) {
-            Some(own) if own != byte => Some(own),
-            _ => None,
-        }
-    }
-
-    // The symbol or the padding character of what the byte means.
-    fn own_character(&self, byte: u8) -> Option<u8>
-        ensures value { result ≡ own_character self.now (meaning self.now byte) }
-        ensures ascii { IfSome result (λ own. own < 128) }
-    {
-        let entry = self.values[byte as usize];
-        if entry < 64 {
-            return Some(self.symbols[entry as usize]);
-        }
-        if entry == PADDING {
-            return self.padding;
-        }
-        None
-    }
-}
-
-// The number of symbols.
-fn symbol_count(width: u8) -> usize
-    requires { width ≤ 6 }
-    ensures value { result ≡ 2 ^ width }
-    ensures few { result ≤ 64 }
-{
-    1 << width
-}
-
-// The byte as a character.
-fn character(byte: Option<u8>) -> Option<char>
-    ensures { result ≡ byte }
-{
-    match byte {
-        Some(byte) => Some(char::from(byte)),
-        None => None,
     }
 }
 

@@ -18,10 +18,10 @@ use Rattle.data_encoding.specs.Text.{plain_text}
 use Rattle.data_encoding.specs.Words.{digit, low_byte, weight, zeros_to, word_of}
 use Rattle.data_encoding.proofs.digits.BitLemmas.{AreBits, AreBits-flat_map, AreBits-bits_of}
 use Rattle.data_encoding.proofs.grammar.UnpaddedGroupLemmas.{length-bits_of_bytes, length-bits_of_values}
-use Rattle.data_encoding.proofs.lists.RunLemmas.{run_count}
+use Rattle.data_encoding.proofs.lists.RunLemmas.{first_chunks-append, run_count}
 use Rattle.data_encoding.proofs.text.PlainTextLemmas.{text_by, missing-none, run_count-missing}
 use Rattle.data_encoding.proofs.digits.WidthLemmas.{group_bits}
-use Rattle.data_encoding.proofs.digits.WordLemmas.{digits-runs, first_chunks-append, map-twice, map-range-same}
+use Rattle.data_encoding.proofs.digits.WordLemmas.{digits-runs, map-twice, map-range-same}
 
 -- with what is missing, a list is as long as its runs
 filled_some : (size n q r : ℕ) → n ≡ q * size + r → 0 < r → r < size

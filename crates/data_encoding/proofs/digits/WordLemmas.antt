@@ -1,10 +1,10 @@
 -- Words of digits: a digit more, and a digit of a word, in either order.
 use Rattle.std.proofs.Common.{◌≡◌, ℕ, zero, suc, ◌+◌, ◌-◌, ◌*◌, ◌/◌, ◌%◌, ◌^◌, ◌<◌, ◌≤◌, List, [], ◌∷◌, ◌++◌, length, map, take, drop, replicate, reverse, refl, sym, ap, ◌∙◌, subst, arith, length-append, append_assoc, take-append-drop, length-take-le}
-use Rattle.std.proofs.lemmas.List.{length-reverse, reverse-reverse, reverse-append, append-nil, length-replicate, length-drop, drop-drop, take-append-le, drop-append-le, replicate-append-replicate}
+use Rattle.std.proofs.lemmas.List.{length-reverse, reverse-reverse, reverse-append, append-nil, length-replicate, length-drop, drop-drop, replicate-append-replicate}
 use Rattle.std.proofs.lemmas.List.Concat.{flat_map-append}
 use Rattle.std.proofs.lemmas.Nat.{div-mul-add, mod-mul-add, pow-add, shl_whole, mul-le}
 use Rattle.std.proofs.Math.Pow.{pow_mono}
-use Rattle.std.proofs.Math.Nat.{pow-succ', mul_comm, mul_assoc, add_comm, mul-add, mul-suc, mul-zero, zero-add}
+use Rattle.std.proofs.Math.Nat.{pow-succ', mul_comm, mul_assoc, add_comm, mul-add, mul-zero, zero-add}
 use Rattle.std.specs.Prelude.{flat_map}
 use Rattle.std.specs.List.{range_with_len}
 use Rattle.std.specs.Simd.{first_chunks}
@@ -18,7 +18,7 @@ regroup : (b x m y : ℕ) → b + 2 * (x + m * y) ≡ b + 2 * x + 2 * m * y
 regroup b x m y = omega (arith, mul_assoc 2 m y)
 
 -- lower bits, and then higher ones
-number-append : (low high : List ℕ)
+pub number-append : (low high : List ℕ)
     → number_of_low_bits (low ++ high)
     ≡ number_of_low_bits low + 2 ^ length low * number_of_low_bits high
 number-append [] high = omega arith
@@ -28,11 +28,11 @@ number-append (bit ∷ low) high =
     ∙ ap (λ m. bit + 2 * number_of_low_bits low + m * number_of_low_bits high)
     (sym (pow-succ' 2 (length low)))
 
-number-zeros : (n : ℕ) → number_of_low_bits (replicate n 0) ≡ 0
+pub number-zeros : (n : ℕ) → number_of_low_bits (replicate n 0) ≡ 0
 number-zeros zero = refl
 number-zeros (suc n) = ap (λ k. 0 + 2 * k) (number-zeros n)
 
-reverse-zeros : (n : ℕ) → reverse {A = ℕ} (replicate n 0) ≡ replicate n 0
+pub reverse-zeros : (n : ℕ) → reverse {A = ℕ} (replicate n 0) ≡ replicate n 0
 reverse-zeros zero = refl
 reverse-zeros (suc n) =
     reverse-append (0 ∷ []) (replicate n 0) ∙ ap (λ l. l ++ 0 ∷ []) (reverse-zeros n)
@@ -247,18 +247,6 @@ first_chunks-places : (size n : ℕ) (xs : List ℕ)
     → map (λ k. take size (drop (size * k) xs)) (range_with_len 0 n) ≡ first_chunks size n xs
 first_chunks-places size n xs =
     runs_from size n 0 xs ∙ ap (λ m. first_chunks size n (drop m xs)) (mul-zero size)
-
--- whole runs do not depend on what follows them
-pub first_chunks-append : (size n : ℕ) (xs ys : List ℕ) → size * n ≤ length xs
-    → first_chunks size n (xs ++ ys) ≡ first_chunks size n xs
-first_chunks-append size zero xs ys h = refl
-first_chunks-append size (suc n) xs ys h =
-    let more : size * suc n ≡ size + size * n = mul-suc size n ∙ omega arith in
-    let first = take-append-le size xs ys (omega arith) in
-    let others = drop-append-le size xs ys (omega arith) in
-    let len = length-drop size xs in
-    (λ i. first i ∷ first_chunks size n (others i))
-    ∙ ap (λ l. take size xs ∷ l) (first_chunks-append size n (drop size xs) ys (omega arith))
 
 same_from : {X : Type 0} (f g : ℕ → X) (n a : ℕ) → ((k : ℕ) → k < a + n → f k ≡ g k)
     → map f (range_with_len a n) ≡ map g (range_with_len a n)

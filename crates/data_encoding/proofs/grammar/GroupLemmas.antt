@@ -15,8 +15,10 @@ use Rattle.data_encoding.specs.declared.error.DecodeKind.TheVariants.{Length as 
 use Rattle.data_encoding.specs.Base.{Base, meaning, is_symbol, is_padding, is_padded, value_of, group_symbols, IsWidth}
 use Rattle.data_encoding.specs.Bits.{bits_of, number_of, runs}
 use Rattle.data_encoding.specs.Grammar.{Positioned, positioned_from, PlainMeans, GroupMeans, is_final}
+use Rattle.data_encoding.specs.Laws.{further}
 use Rattle.data_encoding.specs.Lengths.{is_valid_count, greatest_valid_count}
 use Rattle.data_encoding.specs.Fault.{symbol_bits, trailing_bits, trailing_fault, bytes_of_group, position_of, fault_at, fault_at_first, invalid_symbol_fault, symbols_fault, plain_fault, padded_fault_at, group_fault, count_before_padding}
+use Rattle.data_encoding.specs.Pieces.{fault_in}
 use Rattle.data_encoding.proofs.digits.WidthLemmas.{by_width}
 use Rattle.data_encoding.proofs.grammar.PositionLemmas.{position_of-positioned_from, bytes-positioned_from, length-positioned_from}
 use Rattle.data_encoding.proofs.grammar.UnpaddedGroupLemmas.{PlainMeans-sound, PlainMeans-valid, PlainMeans-bytes, PlainMeans-no_fault}
@@ -381,6 +383,31 @@ none_placed : (group : List Positioned) (o : Option (DecodeKind × ℕ)) → pla
 none_placed group None h = refl
 none_placed group (Some found) h = cc
 
+-- a group has the fault of its bytes alone, at the position of that byte
+pub group_fault-in : (base : Base) → IsWidth base.width → (group : List Positioned)
+    → 0 < length group → length group ≤ group_symbols base.width
+    → group_fault base group
+    ≡ fault_in group (group_fault base (positioned_from 0 (bytes_in group)))
+group_fault-in base width group some few =
+    let bytes = bytes_in group in
+    let ks = positioned_from 0 bytes in
+    let same : bytes_in group ≡ bytes_in ks = sym (bytes-positioned_from 0 bytes) in
+    group_fault-placed base group
+    ∙ by (judged base group) (judged-inside base width group some few)
+    ∙ ap (fault_in group)
+    (ap (placed ks) (judged-same base group ks same) ∙ sym (group_fault-placed base ks)) where
+      by : (o : Option (DecodeKind × ℕ))
+          → ((found : DecodeKind × ℕ) → o ≡ Some found → found.1 < length group)
+          → placed group o ≡ fault_in group (placed (positioned_from 0 (bytes_in group)) o)
+      by None inside = refl
+      by (Some found) inside =
+          let len = length-map group (λ (k : Positioned). k.byte) in
+          let at : position_of (positioned_from 0 (bytes_in group)) found.1 ≡ 0 + found.1 =
+          position_of-positioned_from 0 (bytes_in group) found.1
+          (omega (arith, len, inside found refl)) in
+          let start : 0 + found.1 ≡ found.1 = omega arith in
+          ap (λ n. fault_at found.0 group n) (sym (at ∙ start))
+
 -- groups of the same bytes have no fault together
 pub group_fault-none_same : (base : Base) (ks js : List Positioned) → bytes_in ks ≡ bytes_in js
     → group_fault base js ≡ None → group_fault base ks ≡ None
@@ -388,6 +415,24 @@ group_fault-none_same base ks js same h =
     group_fault-placed base ks
     ∙ ap (placed ks) (judged-same base ks js same
     ∙ none_placed js (judged base js) (sym (group_fault-placed base js) ∙ h))
+
+-- or that fault further on, where each byte of one is so far behind that of the other
+pub group_fault-further : (base : Base) → IsWidth base.width → (ks js : List Positioned)
+    (count : ℕ) → bytes_in js ≡ bytes_in ks
+    → ((index : ℕ) → index < length ks → position_of js index ≡ count + position_of ks index)
+    → 0 < length ks → length ks ≤ group_symbols base.width
+    → group_fault base js ≡ further count (group_fault base ks)
+group_fault-further base width ks js count same behind some few =
+    group_fault-placed base js ∙ ap (placed js) (judged-same base js ks same)
+    ∙ by (judged base ks) (judged-inside base width ks some few)
+    ∙ ap (further count) (sym (group_fault-placed base ks)) where
+      by : (o : Option (DecodeKind × ℕ))
+          → ((found : DecodeKind × ℕ) → o ≡ Some found → found.1 < length ks)
+          → placed js o ≡ further count (placed ks o)
+      by None inside = refl
+      by (Some found) inside =
+          ap (λ n. Some (record { position = n; kind = found.0 }))
+          (behind found.1 (inside found refl))
 
 -- or the same fault, at the member of the same index
 pub group_fault-same : (base : Base) → IsWidth base.width → (ks : List Positioned) (start : ℕ)

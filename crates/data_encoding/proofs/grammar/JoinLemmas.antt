@@ -10,7 +10,7 @@ use Rattle.data_encoding.specs.Bits.{runs}
 use Rattle.data_encoding.specs.Grammar.{Positioned, kept, groups, PlainMeans, GroupsMean, Means, MeansBy, is_final}
 use Rattle.data_encoding.specs.Laws.{MayBeFollowed}
 use Rattle.data_encoding.proofs.digits.WidthLemmas.{by_width, group_symbols-pos}
-use Rattle.data_encoding.proofs.grammar.GroupLemmas.{bytes_in}
+use Rattle.data_encoding.proofs.grammar.GroupLemmas.{bytes_in, fail-meanings, symbols_alone}
 use Rattle.data_encoding.proofs.grammar.KeptLemmas.{kept_in, kept_in-append}
 use Rattle.data_encoding.proofs.grammar.PaddedMeaningLemmas.{length-groups}
 use Rattle.data_encoding.proofs.grammar.SameBytesLemmas.{bytes-kept_in, GroupsMean-same, PlainMeans-same}
@@ -31,6 +31,14 @@ none_left =
     (λ s b r e h k. omega (arith, h, k)) (λ s b r e h k. omega (arith, h, k))
     (λ s b r e h k. omega (arith, e)) (λ s b r e h k. omega (arith, h, k))
     (λ s b r e h k. omega (arith, e)) (λ s b r e h k. omega (arith, e))
+
+-- symbols of whole bytes are whole groups
+whole_symbols : (width : ℕ) → IsWidth width → (symbols bytes : ℕ) → width * symbols ≡ 8 * bytes
+    → symbols % group_symbols width ≡ 0
+whole_symbols =
+    by_width (λ w. (symbols bytes : ℕ) → w * symbols ≡ 8 * bytes → symbols % group_symbols w ≡ 0)
+    (λ s b h. omega (arith, h)) (λ s b h. omega (arith, h)) (λ s b h. omega (arith, h))
+    (λ s b h. omega (arith, h)) (λ s b h. omega (arith, h)) (λ s b h. omega (arith, h))
 
 module _ (base : Base) (ruled : IsRuled base) where
   width : IsWidth base.width
@@ -87,7 +95,7 @@ module _ (base : Base) (ruled : IsRuled base) where
     abbrev rest : List Positioned
     rest = kept_in base (0 + length text) after
 
-    joined : kept base (text ++ after) ≡ kept base text ++ rest
+    pub joined : kept base (text ++ after) ≡ kept base text ++ rest
     joined = kept_in-append base 0 text after
 
     same : bytes_in (kept base after) ≡ bytes_in rest
@@ -101,15 +109,18 @@ module _ (base : Base) (ruled : IsRuled base) where
         (recursion_from_All (λ byte. pads byte ≡ false) (filter keeps text)
         (All-filter keeps (λ byte. pads byte ≡ false) text h)))
 
+    none_final-kept : AllFail (λ k. pads k.byte) (kept base text)
+        → AllFail (is_final base) (groups base text)
+    none_final-kept h =
+        no_final (groups base text)
+        (subst (AllFail (λ k. pads k.byte))
+        (sym (flat_map-runs size (kept base text) (group_symbols-pos base.width width))) h)
+
     none_final : (base.concatenates ≡ true) ⊎ All (λ byte. pads byte ≡ false) text
         → AllFail (is_final base) (groups base text)
     none_final h =
         ⊎_elim (λ joins. never_final joins (groups base text))
-        (λ unpadded. no_final (groups base text)
-        (subst (AllFail (λ k. pads k.byte))
-        (sym (flat_map-runs size (kept base text) (group_symbols-pos base.width width)))
-        (none_kept unpadded)))
-        h
+        (λ unpadded. none_final-kept (none_kept unpadded)) h
 
     plain_join : 8 % base.width ≡ 0 → PlainMeans base (kept base text) bytes
         → PlainMeans base (kept base after) more
@@ -123,14 +134,46 @@ module _ (base : Base) (ruled : IsRuled base) where
         (omega (arith, count, none)) first
         (PlainMeans-same base (kept base after) rest more same second))
 
+    whole-padded : is_padded base ≡ true → GroupsMean base (groups base text) bytes
+        → length (kept base text) % size ≡ 0
+    whole-padded padded means =
+        ap (λ n. n % size) (length-groups base width padded text bytes means)
+        ∙ mul-mod_left (length (groups base text)) size
+
+    whole-plain : 8 % base.width ≡ 0 → PlainMeans base (kept base text) bytes
+        → length (kept base text) % size ≡ 0
+    whole-plain divides means =
+        let count = PlainMeans-count base width (kept base text) bytes means in
+        let none = none_left base.width width (length (kept base text)) (length bytes)
+        (length means.rest) divides count means.rest_is_short in
+        whole_symbols base.width width (length (kept base text)) (length bytes)
+        (omega (arith, count, none))
+
+    -- where another text may follow, the groups are whole and none is final
+    pub followed : MayBeFollowed base text → Means base text bytes
+        → (length (kept base text) % size ≡ 0) × AllFail (is_final base) (groups base text)
+    followed = by base.padding refl ruled.padding where
+      by : (o : Option ℕ) → base.padding ≡ o → IsRuledPadding base o → MayBeFollowed base text
+          → MeansBy o base text bytes
+          → (length (kept base text) % size ≡ 0) × AllFail (is_final base) (groups base text)
+      by None is h (inl follows) means =
+          absurd (false≢true (sym (ap is_some is) ∙ follows.0))
+      by None is h (inr divides) means = (
+        whole-plain divides means,
+        none_final-kept (fail-meanings base (kept base text)
+            (subst (AllFail is_padding) (sym means.are_symbols) (symbols_alone means.values))),
+      )
+      by (Some character) is h (inl follows) means =
+          (whole-padded (ap is_some is) means, none_final follows.1)
+      by (Some character) is h (inr divides) means =
+          absurd (false≢true (sym (ap (λ n. not (n == 0)) divides) ∙ h.2))
+
     padded_join : is_padded base ≡ true
         → (base.concatenates ≡ true) ⊎ All (λ byte. pads byte ≡ false) text
         → GroupsMean base (groups base text) bytes → GroupsMean base (groups base after) more
         → GroupsMean base (groups base (text ++ after)) (bytes ++ more)
     padded_join padded follows first second =
-        let exact : length (kept base text) % size ≡ 0 =
-        ap (λ n. n % size) (length-groups base width padded text bytes first)
-        ∙ mul-mod_left (length (groups base text)) size in
+        let exact = whole-padded padded first in
         subst (λ gs. GroupsMean base gs (bytes ++ more))
         (sym (ap (runs size) joined
         ∙ runs-join size (kept base text) rest (group_symbols-pos base.width width) exact))

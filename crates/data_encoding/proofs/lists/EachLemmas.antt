@@ -18,6 +18,11 @@ pub list_all-cons : {X : Type 0} (test : X → Bool) (x : X) (xs : List X) → t
     → list_all test xs ≡ true → list_all test (x ∷ xs) ≡ true
 list_all-cons test x xs h k = ap (λ b. b && list_all test xs) h ∙ k
 
+pub list_all-each : {X : Type 0} (test : X → Bool) (xs : List X)
+    → AllByRecursion (λ x. test x ≡ true) xs → list_all test xs ≡ true
+list_all-each test [] h = refl
+list_all-each test (x ∷ xs) h = list_all-cons test x xs h.0 (list_all-each test xs h.1)
+
 -- after a write
 pub list_all-set : {X : Type 0} (test : X → Bool) (xs : List X) (i : ℕ) (y : X) → test y ≡ true
     → list_all test xs ≡ true → list_all test (set xs i y) ≡ true

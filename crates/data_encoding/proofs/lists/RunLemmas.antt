@@ -1,7 +1,7 @@
 -- Lists cut into runs.
-use Rattle.std.proofs.Common.{◌≡◌, ℕ, zero, suc, ◌+◌, ◌-◌, ◌*◌, ◌/◌, ◌%◌, ◌<◌, ◌≤◌, List, [], ◌∷◌, ◌++◌, length, map, take, drop, refl, sym, ap, ◌∙◌, arith, length-append, append_assoc, take-append-drop, length-take-le, subst, ⊎_elim}
-use Rattle.std.proofs.Math.Nat.{add-div_left, add-mul, div-eq_of_lt, div-eq_of_lt-le, div-mul-le_self, lt-div-mul-add, mul-le-mul_right, zero-mul, suc-mul}
-use Rattle.std.proofs.lemmas.List.{take_at, drop_at, take_all, drop_all, length-map, take-map, drop-map, nil_from_length, length-drop}
+use Rattle.std.proofs.Common.{◌≡◌, ℕ, zero, suc, ◌+◌, ◌-◌, ◌*◌, ◌/◌, ◌%◌, ◌<◌, ◌≤◌, List, [], ◌∷◌, ◌++◌, length, map, take, drop, refl, sym, ap, ◌∙◌, arith, length-append, append_assoc, take-append-drop, length-take, length-take-le, subst, ⊎_elim}
+use Rattle.std.proofs.Math.Nat.{add-div_left, add-mul, div-eq_of_lt, div-eq_of_lt-le, div-mul-le_self, lt-div-mul-add, mul-le-mul_right, mul-suc, zero-mul, suc-mul}
+use Rattle.std.proofs.lemmas.List.{take_at, drop_at, take_all, drop_all, length-map, take-map, drop-map, nil_from_length, length-drop, take-append-le, drop-append-le}
 use Rattle.std.proofs.lemmas.Nat.{div-add-mod'}
 use Rattle.std.proofs.lemmas.Bool.{cases_lt}
 use Rattle.std.proofs.lemmas.Grind.{div_ceil_times}
@@ -69,6 +69,18 @@ run_count-some size n h some =
 pub runs-nil : {X : Type 0} (size : ℕ) → 0 < size → runs {X = X} size [] ≡ []
 runs-nil size h = ap (λ k. first_chunks size k []) (div-eq_of_lt (omega arith))
 
+-- whole runs do not depend on what follows them
+pub first_chunks-append : {X : Type 0} (size n : ℕ) (xs ys : List X) → size * n ≤ length xs
+    → first_chunks size n (xs ++ ys) ≡ first_chunks size n xs
+first_chunks-append size zero xs ys h = refl
+first_chunks-append size (suc n) xs ys h =
+    let more : size * suc n ≡ size + size * n = mul-suc size n ∙ omega arith in
+    let first = take-append-le size xs ys (omega arith) in
+    let others = drop-append-le size xs ys (omega arith) in
+    let len = length-drop size xs in
+    (λ i. first i ∷ first_chunks size n (others i))
+    ∙ ap (λ l. take size xs ∷ l) (first_chunks-append size n (drop size xs) ys (omega arith))
+
 -- a whole run, and the runs of the others
 pub runs-append : {X : Type 0} (size : ℕ) (xs ys : List X) → 0 < size → length xs ≡ size
     → runs size (xs ++ ys) ≡ xs ∷ runs size ys
@@ -102,6 +114,26 @@ runs-first {X} size xs h k =
     ap (runs size) (sym (take-append-drop size xs))
     ∙ runs-append size (take size xs) (drop size xs) h (length-take-le size xs long))
     (cases_lt (length xs) size)
+
+few_runs_within : {X : Type 0} (n size : ℕ) (xs : List X) → 0 < size → length xs ≤ n
+    → AllByRecursion (λ (run : List X). (0 < length run) × (length run ≤ size)) (runs size xs)
+few_runs_within {X} n size [] h e =
+    subst (AllByRecursion (λ (run : List X). (0 < length run) × (length run ≤ size)))
+    (sym (runs-nil {X = X} size h)) tt
+few_runs_within zero size (x ∷ xs) h e = absurd (omega (arith, e))
+few_runs_within {X} (suc n) size (x ∷ xs) h e =
+    let front = length-take size (x ∷ xs) in
+    let rest_len : length (drop size (x ∷ xs)) ≤ n = simp length-drop (omega (arith, e)) in
+    subst (AllByRecursion (λ (run : List X). (0 < length run) × (length run ≤ size)))
+    (sym (runs-first size (x ∷ xs) h (omega arith))) (
+      (omega (arith, front, h), omega (arith, front)),
+      few_runs_within n size (drop size (x ∷ xs)) h rest_len,
+    )
+
+-- no run is empty, nor longer than the size
+pub few_runs : {X : Type 0} (size : ℕ) (xs : List X) → 0 < size
+    → AllByRecursion (λ (run : List X). (0 < length run) × (length run ≤ size)) (runs size xs)
+few_runs size xs h = few_runs_within (length xs) size xs h (omega arith)
 
 runs-join_within : {X : Type 0} (size k : ℕ) (xs ys : List X) → 0 < size → length xs ≡ k * size
     → runs size (xs ++ ys) ≡ runs size xs ++ runs size ys

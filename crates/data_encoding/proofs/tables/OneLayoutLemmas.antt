@@ -17,7 +17,7 @@ use Rattle.data_encoding.proofs.specification.RuleLemmas.{IsRuled, IsRuledPaddin
 use Rattle.data_encoding.proofs.tables.TableRuleLemmas.{value-symbol}
 use Rattle.data_encoding.proofs.digits.WidthLemmas.{times_symbols, times-pos, symbols-few}
 
-length-table : (base : Base) → IsRuled base
+pub length-table : (base : Base) → IsRuled base
     → length (concat (replicate (256 / 2 ^ base.width) base.symbols)) ≡ 256
 length-table base ruled =
     let times = 256 / 2 ^ base.width in
@@ -40,11 +40,11 @@ meanings-back n (m ∷ ms) few h =
     λ i. here i ∷ rest i
 
 -- the flags as bits
-abbrev order_bit : BitOrder → ℕ
+abbrev pub order_bit : BitOrder → ℕ
 order_bit MostSignificantFirst = 1
 order_bit LeastSignificantFirst = 0
 
-abbrev check_bit : Bool → ℕ
+abbrev pub check_bit : Bool → ℕ
 check_bit true = 1
 check_bit false = 0
 
@@ -60,15 +60,15 @@ check-by_bit false false h = refl
 check-by_bit true false h = absurd (omega (arith, h))
 check-by_bit false true h = absurd (omega (arith, h))
 
-record AreBits (o : BitOrder) (c s : Bool) : Type 0 where
-  order_is : order_flag o ≡ 8 * order_bit o
-  order_few : order_bit o ≤ 1
-  check_is : (if c then 16 else 0) ≡ 16 * check_bit c
-  check_few : check_bit c ≤ 1
-  single_is : (if s then 0 else 32) + 32 * check_bit s ≡ 32
-  single_few : check_bit s ≤ 1
+pub record AreBits (o : BitOrder) (c s : Bool) : Type 0 where
+  pub order_is : order_flag o ≡ 8 * order_bit o
+  pub order_few : order_bit o ≤ 1
+  pub check_is : (if c then 16 else 0) ≡ 16 * check_bit c
+  pub check_few : check_bit c ≤ 1
+  pub single_is : (if s then 0 else 32) + 32 * check_bit s ≡ 32
+  pub single_few : check_bit s ≤ 1
 
-are_bits : (o : BitOrder) (c s : Bool) → AreBits o c s
+pub are_bits : (o : BitOrder) (c s : Bool) → AreBits o c s
 are_bits o c s = record {
   order_is = order o;
   order_few = one_order o;
@@ -97,7 +97,7 @@ are_bits o c s = record {
   one_check true = omega arith
   one_check false = omega arith
 
-abbrev flags : ℕ → BitOrder → Bool → Bool → ℕ
+abbrev pub flags : ℕ → BitOrder → Bool → Bool → ℕ
 flags w o c s = w + order_flag o + (if c then 16 else 0) + (if s then 0 else 32)
 
 flags_same : (v w : ℕ) (o p : BitOrder) (c d s t : Bool) → v ≤ 6 → w ≤ 6
@@ -131,10 +131,10 @@ wrapping_same a b c d (Some x) (Some y) h k e =
     λ i. Some (record { column = get_or (e i) 0 0; separator = drop 1 (e i) })
 
 -- the parts of a layout
-abbrev symbol_table : Base → List ℕ
+abbrev pub symbol_table : Base → List ℕ
 symbol_table base = concat (replicate (256 / 2 ^ base.width) base.symbols)
 
-abbrev ends : Base → List ℕ
+abbrev pub ends : Base → List ℕ
 ends base =
     unwrap_or base.padding 128
     ∷ flags base.width base.order base.checks_trailing_bits base.concatenates
@@ -152,7 +152,7 @@ length-front base ruled =
     ∙ (λ i. length-table base ruled i
     + (length-map base.meanings code_of ∙ ruled.long) i)
 
-length-tables : (base : Base) → IsRuled base
+pub length-tables : (base : Base) → IsRuled base
     → length (symbol_table base ++ map code_of base.meanings ++ replicate 128 128) ≡ 512
 length-tables base ruled =
     length-append (symbol_table base ++ map code_of base.meanings) (replicate 128 128)
@@ -169,12 +169,12 @@ have_same_parts a b ra rb e =
     (map code_of b.meanings) two.0 (length-table a ra ∙ sym (length-table b rb)) in
     record { symbols = one.0; codes = one.1; last = three.1 }
 
-symbols-of_table : (base : Base) → IsRuled base
+pub symbols-of_table : (base : Base) → IsRuled base
     → take (length base.symbols) (symbol_table base) ≡ base.symbols
 symbols-of_table base ruled =
     take-repeats (256 / 2 ^ base.width) base.symbols (times-pos base.width ruled.is_width)
 
-meanings-of_codes : (base : Base) → IsRuled base
+pub meanings-of_codes : (base : Base) → IsRuled base
     → map meaning_of_entry (map code_of base.meanings) ≡ base.meanings
 meanings-of_codes base ruled =
     meanings-back (length base.symbols) base.meanings

@@ -56,7 +56,7 @@ module _ (base : Base) (ruled : IsRuled base) where
         (runs lines.column text)
         ∙ ap (filter keeps) (flat_map-runs lines.column text h.some)
 
-  none_ignored : (bytes : List ℕ)
+  pub none_ignored : (bytes : List ℕ)
       → AllFail (λ byte. is_ignored (meaning base byte)) (padded_text base bytes)
   none_ignored bytes = by base.padding ruled.padding where
     by : (o : Option ℕ) → IsRuledPadding base o
@@ -71,7 +71,7 @@ module _ (base : Base) (ruled : IsRuled base) where
         (recursion_from_All Kept (replicate lack character)
         (All-replicate Kept lack character (ap is_ignored h.1)))
 
-  filter-kept : (text : List ℕ) → AllFail (λ byte. is_ignored (meaning base byte)) text
+  pub filter-kept : (text : List ℕ) → AllFail (λ byte. is_ignored (meaning base byte)) text
       → filter keeps text ≡ text
   filter-kept [] h = refl
   filter-kept (byte ∷ text) h =

@@ -185,10 +185,13 @@ module _ (base : Base) (size line_len : ℕ) (has : HasLines base size line_len)
             pub piece-begins : i * line_len ≤ written_end
             piece-begins = omega (arith, written_end-is)
 
-            pub length-piece : length (take (written_end - i * line_len) (drop (i * line_len) output))
+            abbrev pub from_line : List ℕ
+            from_line = drop (i * line_len) output
+
+            pub length-piece : length (take (written_end - i * line_len) from_line)
                 ≡ length (text_of base line)
             length-piece =
-                length-take-le (written_end - i * line_len) (drop (i * line_len) output)
+                length-take-le (written_end - i * line_len) from_line
                 (omega (arith, is, length-drop (i * line_len) output))
                 ∙ omega (arith, written_end-is)
 

@@ -25,7 +25,7 @@ missing-none size n e =
     ap (λ k. (size - k) % size) e
     ∙ (let whole : size - 0 ≡ size = omega arith in ap (λ k. k % size) whole) ∙ mod_self size
 
-missing-some : (size n : ℕ) → 0 < size → 0 < n % size → missing size n ≡ size - n % size
+pub missing-some : (size n : ℕ) → 0 < size → 0 < n % size → missing size n ≡ size - n % size
 missing-some size n h e =
     mod-eq_of_lt (let below = mod_below n size h in omega arith)
 

@@ -23,7 +23,7 @@ module _ (base : Base) (ruled : IsRuled base) where
   width : IsWidth base.width
   width = ruled.is_width
 
-  own_meaning : (value : ℕ) → value < 2 ^ base.width
+  pub own_meaning : (value : ℕ) → value < 2 ^ base.width
       → meaning base (symbol base value) ≡ Symbol value
   own_meaning value below = (ruled.own value (omega (arith, below, ruled.count))).1
 

@@ -1,16 +1,15 @@
 -- The text of bytes means the bytes.
-use Rattle.std.proofs.Common.{◌≡◌, ℕ, zero, suc, ◌+◌, ◌-◌, ◌*◌, ◌%◌, ◌<◌, ◌≤◌, true, List, [], ◌∷◌, ◌++◌, length, map, take, drop, replicate, Option, Some, None, is_some, refl, sym, ap, ◌∙◌, subst, arith, ⊎_elim, append_assoc, length-append, take-append-drop, length-take-le}
-use Rattle.std.proofs.Math.Nat.{add-mod_left, div-eq_of_lt-le, mod-eq_of_lt}
+use Rattle.std.proofs.Common.{◌≡◌, ℕ, zero, suc, ◌+◌, ◌-◌, ◌*◌, ◌%◌, ◌<◌, ◌≤◌, true, List, [], ◌++◌, length, take, drop, replicate, Option, Some, None, is_some, refl, sym, ap, ◌∙◌, subst, arith, ⊎_elim, append_assoc, length-append, take-append-drop, length-take-le}
+use Rattle.std.proofs.Math.Nat.{add-mod_left, mod-eq_of_lt}
 use Rattle.std.proofs.lemmas.Bool.{cases_lt, false≢true}
-use Rattle.std.proofs.lemmas.List.{append-nil, length-drop, length-replicate, nil_from_length}
+use Rattle.std.proofs.lemmas.List.{append-nil, length-drop, nil_from_length}
 use Rattle.std.proofs.lemmas.List.Elements.{All-take, All-drop}
 use Rattle.std.specs.Prelude.{All}
 use Rattle.data_encoding.specs.declared.encoding.Character.TheVariants.{Padding}
 use Rattle.data_encoding.specs.Base.{Base, IsWidth, meaning, is_padded, group_bytes, group_symbols}
 use Rattle.data_encoding.specs.Bits.{missing, runs}
-use Rattle.data_encoding.specs.Grammar.{GroupMeans, GroupsMean, Means, MeansBy, PlainMeans, Positioned, kept, positioned, positioned_from}
+use Rattle.data_encoding.specs.Grammar.{GroupMeans, GroupsMean, Means, MeansBy, PlainMeans, kept, positioned, positioned_from}
 use Rattle.data_encoding.specs.Text.{filled_with, plain_text, text_of, with_padding}
-use Rattle.data_encoding.proofs.digits.KernelLemmas.{filled_count}
 use Rattle.data_encoding.proofs.digits.WidthLemmas.{by_width, group_bytes-pos, group_symbols-pos}
 use Rattle.data_encoding.proofs.grammar.GroupLemmas.{bytes_in}
 use Rattle.data_encoding.proofs.grammar.PositionLemmas.{bytes-positioned_from, length-positioned_from, positioned_from-append}
@@ -18,13 +17,13 @@ use Rattle.data_encoding.proofs.grammar.SameBytesLemmas.{GroupsMean-same}
 use Rattle.data_encoding.proofs.grammar.SoundLemmas.{symbols-not_final}
 use Rattle.data_encoding.proofs.lists.RunLemmas.{run_count, runs-append, runs-nil, runs-short}
 use Rattle.data_encoding.proofs.specification.RuleLemmas.{IsRuled, IsRuledPadding}
+use Rattle.data_encoding.proofs.text.LastGroupLemmas.{AreFillers-replicate, GroupMeans-fillers, length-filled_once}
 use Rattle.data_encoding.proofs.text.KeptTextLemmas.{bytes-kept_text}
-use Rattle.data_encoding.proofs.text.PaddedTextLemmas.{length-filled_with}
 use Rattle.data_encoding.proofs.text.SymbolMeaningLemmas.{PlainMeans-plain_text}
 use Rattle.data_encoding.proofs.text.PlainTextLemmas.{length-plain_text, plain_text-join, plain_text-nil, missing-none}
 
 -- a symbol or more of a byte or more; a whole group of a whole group; one group of no more
-some_symbols : (width : ℕ) → IsWidth width → (n : ℕ) → 0 < n → 0 < run_count width (8 * n)
+pub some_symbols : (width : ℕ) → IsWidth width → (n : ℕ) → 0 < n → 0 < run_count width (8 * n)
 some_symbols =
     by_width (λ w. (n : ℕ) → 0 < n → 0 < run_count w (8 * n))
     (λ n h. omega (arith, h)) (λ n h. omega (arith, h)) (λ n h. omega (arith, h))
@@ -38,18 +37,15 @@ whole_symbols : (width : ℕ) → IsWidth width
 whole_symbols =
     by_width (λ w. run_count w (8 * group_bytes w) ≡ group_symbols w) refl refl refl refl refl refl
 
-few_symbols : (width : ℕ) → IsWidth width → (n : ℕ) → n ≤ group_bytes width
+pub few_symbols : (width : ℕ) → IsWidth width → (n : ℕ) → n ≤ group_bytes width
     → run_count width (8 * n) ≤ group_symbols width
 few_symbols =
     by_width (λ w. (n : ℕ) → n ≤ group_bytes w → run_count w (8 * n) ≤ group_symbols w)
     (λ n h. omega (arith, h)) (λ n h. omega (arith, h)) (λ n h. omega (arith, h))
     (λ n h. omega (arith, h)) (λ n h. omega (arith, h)) (λ n h. omega (arith, h))
 
-one_run : (size n : ℕ) → 0 < n → n ≤ size → run_count size n ≡ 1
-one_run size n h k = div-eq_of_lt-le size (omega (arith, h, k)) (omega (arith, h, k))
-
 -- what fills a list fills it behind a whole run
-filled-behind : (filler size : ℕ) (xs ys : List ℕ) → length xs ≡ size
+pub filled-behind : (filler size : ℕ) (xs ys : List ℕ) → length xs ≡ size
     → filled_with filler size (xs ++ ys) ≡ xs ++ filled_with filler size ys
 filled-behind filler size xs ys e =
     let same : length (xs ++ ys) % size ≡ length ys % size =
@@ -58,7 +54,7 @@ filled-behind filler size xs ys e =
     ap (λ n. (xs ++ ys) ++ replicate ((size - n) % size) filler) same
     ∙ append_assoc xs ys (replicate (missing size (length ys)) filler)
 
-filled-nil : (filler size : ℕ) → 0 < size → filled_with filler size [] ≡ []
+pub filled-nil : (filler size : ℕ) → 0 < size → filled_with filler size [] ≡ []
 filled-nil filler size h =
     ap (λ n. replicate n filler) (missing-none size 0 (mod-eq_of_lt h))
 
@@ -100,47 +96,21 @@ module _ (base : Base) (ruled : IsRuled base) where
           means = plain_means bytes below;
         }
 
-    padding_at : (start count : ℕ)
-        → map (λ (k : Positioned). meaning base k.byte)
-        (positioned_from start (replicate count character)) ≡ replicate count Padding
-    padding_at start zero = refl
-    padding_at start (suc count) =
-        (λ i. means_padding i ∷ padding_at (start + 1) count i)
-
     -- the last group
     last_group : (bytes : List ℕ) → All (λ byte. byte < 256) bytes → 0 < length bytes
         → length bytes ≤ group_bytes base.width
         → GroupMeans base (positioned (filled bytes)) bytes
     last_group bytes below some few =
         let text = plain_text base bytes in
-        let count = missing size (length text) in
-        let symbols = positioned text in
-        let padding = positioned_from (0 + length text) (replicate count character) in
         let len = length-plain_text base bytes width.some in
-        let some_text : 0 < length text =
-        subst (λ n. 0 < n) (sym len) (some_symbols base.width width (length bytes) some) in
-        let few_text : length text ≤ size =
-        subst (λ n. n ≤ size) (sym len) (few_symbols base.width width (length bytes) few) in
-        let padding_len : length padding ≡ count =
-        length-positioned_from (0 + length text) (replicate count character)
-        ∙ length-replicate count character in
-        let whole : length (filled bytes) ≡ size * 1 =
-        length-filled_with character size text
-        ∙ filled_count size (length text) (group_symbols-pos base.width width)
-        ∙ ap (λ n. size * n) (one_run size (length text) some_text few_text) in
-        record {
-          symbols = symbols;
-          padding = padding;
-          is_group = positioned_from-append 0 text (replicate count character);
-          is_whole =
-              length-positioned_from 0 (filled bytes) ∙ whole ∙ omega arith;
-          is_begun =
-              subst (λ n. 0 < n) (sym (length-positioned_from 0 text)) some_text;
-          is_padding =
-              padding_at (0 + length text) count
-              ∙ ap (λ n. replicate n Padding) (sym padding_len);
-          means = plain_means bytes below;
-        }
+        let count = missing size (length text) in
+        let begun = some_symbols base.width width (length bytes) some in
+        let within = few_symbols base.width width (length bytes) few in
+        GroupMeans-fillers base text (replicate count character) bytes (plain_means bytes below)
+        (omega (arith, len, begun))
+        (length-filled_once character size text (omega (arith, len, begun))
+        (omega (arith, len, within)))
+        (AreFillers-replicate base count character means_padding)
 
     abbrev AreMeant : List ℕ → Type 0
     AreMeant bytes = GroupsMean base (runs size (positioned (filled bytes))) bytes

@@ -15,7 +15,7 @@ whole-front n size =
     ap (λ k. k % size) is ∙ mul-mod_left (n / size) size
 
 pub returns-clause-fragments : goal.returns-clause-fragments
-returns-clause-fragments c =
+returns-clause-fragments g c =
     let seen = c.args.self.now in
     let specified = c.encode_len.ensures.base in
     let ruled = IsRuled-yield specified.fields seen specified.yields in

@@ -22,7 +22,7 @@ written old now text items start len front long total =
     ∙ whole
 
 pub returns-clause-text : goal.returns-clause-text
-returns-clause-text c =
+returns-clause-text g c =
     let old = string_bytes c.args.output.now in
     let text = c.encode_mut.new.output in
     let long = c.encode_len.ensures.length c.args.input.now refl in
@@ -37,7 +37,7 @@ returns-clause-text c =
     search (rules, is, c.encode_mut.ensures.text)
 
 pub from_utf8_unchecked-requires : goal.from_utf8_unchecked-requires
-from_utf8_unchecked-requires c =
+from_utf8_unchecked-requires g c =
     let old = string_bytes c.args.output.now in
     let text = c.encode_mut.new.output in
     let long = c.encode_len.ensures.length c.args.input.now refl in

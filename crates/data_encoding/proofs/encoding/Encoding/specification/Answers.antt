@@ -1,42 +1,77 @@
-use Rattle.std.proofs.Common.{map, take, ap, sym, ◌∙◌, refl}
+use Rattle.std.proofs.Common.{◌≡◌, true, map, nat_lt, ap, sym, ◌∙◌, refl, subst}
+use Rattle.std.specs.List.{list_all}
 use Rattle.data_encoding.specs.declared.spec.Specification.{Specification}
-use Rattle.data_encoding.specs.Base.{Base}
+use Rattle.data_encoding.specs.Base.{Base, is_ignored, meaning}
 use Rattle.data_encoding.specs.Layout.{ignored_bytes, own_byte, translated_bytes}
 use Rattle.data_encoding.proofs.specification.FieldLemmas.{specified-is}
+use Rattle.data_encoding.proofs.specification.TranslationLemmas.{is_translated_byte, owns-ascii, range-ascii}
+use Rattle.data_encoding.proofs.tables.TableLemmas.{padding-seen, symbols-seen}
 use Rattle.data_encoding.proofs.tables.TableRuleLemmas.{separator-ascii}
 use Rattle.data_encoding.proofs.encoding.Encoding.specification.Goals as goal
 
 pub ascii_text-requires-2 : goal.ascii_text-requires-2
 ascii_text-requires-2 c =
-    rw c.as_slice.ensures.value (separator-ascii c.self.inside c.self.invariant)
+    let base = c.args.self.now in
+    subst (λ l. list_all (λ byte. nat_lt byte 128) l ≡ true)
+    (sym (c.as_slice.ensures.value ∙ c.ignored.ensures base c.tables-tables.ensures.tables))
+    (range-ascii (λ byte. is_ignored (meaning base byte)))
+
+pub ascii_text-requires-3 : goal.ascii_text-requires-3
+ascii_text-requires-3 c =
+    rw c.as_slice-2.ensures.value (separator-ascii c.self.inside c.self.invariant)
+
+pub ascii_text-requires-4 : goal.ascii_text-requires-4
+ascii_text-requires-4 c =
+    let base = c.args.self.now in
+    subst (λ l. list_all (λ byte. nat_lt byte 128) l ≡ true)
+    (sym (c.as_slice-3.ensures.value
+    ∙ c.translations-translations.ensures.from base c.tables-tables.ensures.tables))
+    (range-ascii (is_translated_byte base))
+
+pub ascii_text-requires-5 : goal.ascii_text-requires-5
+ascii_text-requires-5 c =
+    let base = c.args.self.now in
+    subst (λ l. list_all (λ byte. nat_lt byte 128) l ≡ true)
+    (sym (c.as_slice-4.ensures.value
+    ∙ c.translations-translations.ensures.to base c.tables-tables.ensures.tables))
+    (owns-ascii base (symbols-seen c.self.inside c.self.invariant base c.self.view_is)
+    (padding-seen c.self.inside c.self.invariant base c.self.view_is) (translated_bytes base))
 
 pub returns : goal.returns
 returns c =
     let e = c.self.inside in
     let view = sym c.self.view_is in
+    let base = c.args.self.now in
+    let has = c.tables-tables.ensures.tables in
     let s : Specification = record {
       symbols = c.in_ok-ascii_text.field-0;
       bit_order = e.order;
       check_trailing_bits = e.checks_trailing_bits;
       concatenate = e.concatenates;
       padding = c.character.result;
-      ignore = c.in_ok-ignored_text.field-0;
-      wrap = record { width = e.column; separator = c.in_ok-ascii_text-2.field-0 };
-      translate = c.in_ok-translations.field-0;
+      ignore = c.in_ok-ascii_text-2.field-0;
+      wrap = record { width = e.column; separator = c.in_ok-ascii_text-3.field-0 };
+      translate = record {
+        from = c.in_ok-ascii_text-4.field-0;
+        to = c.in_ok-ascii_text-5.field-0;
+      };
     } in
     rw (← c.self.view_is) (specified-is s e c.self.invariant (record {
-      symbols =
-          c.in_ok-ascii_text.ensures
-          ∙ ap (λ n. take n e.symbols) c.symbol_count-count.ensures.value;
+      symbols = c.in_ok-ascii_text.ensures ∙ sym has.symbols ∙ ap (λ (b : Base). b.symbols) view;
       order = refl;
       checks = refl;
       concatenates = refl;
       padding = c.character.ensures;
-      ignored = c.in_ok-ignored_text.ensures ∙ ap ignored_bytes view;
+      ignored =
+          c.in_ok-ascii_text-2.ensures ∙ c.as_slice.ensures.value ∙ c.ignored.ensures base has
+          ∙ ap ignored_bytes view;
       column = refl;
-      separator = c.in_ok-ascii_text-2.ensures ∙ c.as_slice.ensures.value;
-      from = c.in_ok-translations.ensures.from ∙ ap translated_bytes view;
+      separator = c.in_ok-ascii_text-3.ensures ∙ c.as_slice-2.ensures.value;
+      from =
+          c.in_ok-ascii_text-4.ensures ∙ c.as_slice-3.ensures.value
+          ∙ c.translations-translations.ensures.from base has ∙ ap translated_bytes view;
       to =
-          c.in_ok-translations.ensures.to
+          c.in_ok-ascii_text-5.ensures ∙ c.as_slice-4.ensures.value
+          ∙ c.translations-translations.ensures.to base has
           ∙ ap (λ (b : Base). map (own_byte b) (translated_bytes b)) view;
     }))

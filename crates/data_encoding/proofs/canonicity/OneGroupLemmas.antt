@@ -1,0 +1,145 @@
+-- Texts of one group, and what they mean.
+use Rattle.std.proofs.Common.{◌≡◌, ℕ, ◌<◌, ◌≤◌, List, [], ◌∷◌, ◌++◌, length, map, replicate, false, true, Option, Some, None, is_some, refl, sym, ap, ◌∙◌, subst, arith, append-nil}
+use Rattle.std.proofs.lemmas.Bool.{false≢true}
+use Rattle.std.specs.Prelude.{All}
+use Rattle.data_encoding.specs.declared.encoding.Character.TheVariants.{Symbol}
+use Rattle.data_encoding.specs.Base.{Base, IsWidth, meaning, is_ignored, is_padded, group_symbols}
+use Rattle.data_encoding.specs.Bits.{missing, runs}
+use Rattle.data_encoding.specs.Grammar.{GroupsMean, Means, MeansBy, PlainMeans, Positioned, kept, positioned}
+use Rattle.data_encoding.specs.Text.{padded_text, plain_text, text_of, with_padding}
+use Rattle.data_encoding.proofs.digits.WidthLemmas.{group_bytes-pos, group_symbols-few}
+use Rattle.data_encoding.proofs.grammar.GroupLemmas.{bytes_in}
+use Rattle.data_encoding.proofs.grammar.PositionLemmas.{bytes-positioned_from, length-positioned_from}
+use Rattle.data_encoding.proofs.grammar.SameBytesLemmas.{bytes-kept_in, GroupsMean-same, Means-same, PlainMeans-same}
+use Rattle.data_encoding.proofs.lists.EachLemmas.{all_joined}
+use Rattle.data_encoding.proofs.lists.ListLemmas.{AllFail}
+use Rattle.data_encoding.proofs.lists.RunLemmas.{runs-short}
+use Rattle.data_encoding.proofs.specification.RuleLemmas.{IsRuled, IsRuledPadding}
+use Rattle.data_encoding.proofs.text.KeptTextLemmas.{bytes-kept_text, filter-kept, none_ignored}
+use Rattle.data_encoding.proofs.text.LastGroupLemmas.{AreFillers, AreFillers-replicate, GroupMeans-fillers, length-filled_once}
+use Rattle.data_encoding.proofs.text.PlainTextLemmas.{length-plain_text}
+use Rattle.data_encoding.proofs.text.TextMeaningLemmas.{Means-text_of, few_symbols, some_symbols}
+
+-- symbols are not ignored
+symbols_kept : (base : Base) (ks : List Positioned) (values : List ℕ)
+    → map (λ k. meaning base k.byte) ks ≡ map (λ value. Symbol value) values
+    → AllFail (λ byte. is_ignored (meaning base byte)) (bytes_in ks)
+symbols_kept base [] values h = tt
+symbols_kept base (k ∷ ks) [] h = cc
+symbols_kept base (k ∷ ks) (value ∷ values) h =
+    let here : meaning base k.byte ≡ Symbol value = cc in
+    let others : map (λ k. meaning base k.byte) ks ≡ map (λ value. Symbol value) values = cc in
+    (ap is_ignored here, symbols_kept base ks values others)
+
+-- nor is padding
+fillers_kept : (base : Base) (fillers : List ℕ) → AreFillers base fillers
+    → AllFail (λ byte. is_ignored (meaning base byte)) fillers
+fillers_kept base [] all = tt
+fillers_kept base (filler ∷ fillers) all =
+    (ap is_ignored all.0, fillers_kept base fillers all.1)
+
+module _ (base : Base) (ruled : IsRuled base) where
+  width : IsWidth base.width
+  width = ruled.is_width
+
+  abbrev size : ℕ
+  size = group_symbols base.width
+
+  abbrev keeps_all : List ℕ → Type 0
+  keeps_all text = AllFail (λ byte. is_ignored (meaning base byte)) text
+
+  -- a text of which no byte is ignored
+  all_kept : (text : List ℕ) → keeps_all text → bytes_in (kept base text) ≡ text
+  all_kept text all = bytes-kept_in base 0 text ∙ filter-kept base ruled text all
+
+  -- the text of bytes means them without lines too
+  pub Means-padded_text : (bytes : List ℕ) → All (λ byte. byte < 256) bytes
+      → Means base (padded_text base bytes) bytes
+  Means-padded_text bytes below =
+      Means-same base width (text_of base bytes) (padded_text base bytes) bytes
+      (bytes-kept_text base ruled bytes
+      ∙ sym (all_kept (padded_text base bytes) (none_ignored base ruled bytes)))
+      (Means-text_of base ruled bytes below)
+
+  -- symbols that mean bytes, few enough for a group
+  module _ (text bytes : List ℕ) (means : PlainMeans base (positioned text) bytes)
+      (some : 0 < length text) (few : length text ≤ group_symbols base.width) where
+    symbols : keeps_all text
+    symbols =
+        subst keeps_all (bytes-positioned_from 0 text)
+        (symbols_kept base (positioned text) means.values means.are_symbols)
+
+    -- with padding up to a whole group, of any bytes that mean it
+    pub Means-fillers : is_padded base ≡ true → (fillers : List ℕ) → AreFillers base fillers
+        → length (text ++ fillers) ≡ group_symbols base.width → Means base (text ++ fillers) bytes
+    Means-fillers padded fillers all whole =
+        by base.padding (λ none. false≢true (sym (ap is_some none) ∙ padded)) where
+          filled : List ℕ
+          filled = text ++ fillers
+
+          whole_group : length (positioned filled) ≡ size
+          whole_group = length-positioned_from 0 filled ∙ whole
+
+          keeps : keeps_all filled
+          keeps =
+              all_joined (λ byte. is_ignored (meaning base byte) ≡ false) text fillers symbols
+              (fillers_kept base fillers all)
+
+          one : GroupsMean base (runs size (positioned filled)) bytes
+          one =
+              subst (λ gs. GroupsMean base gs bytes)
+              (sym (runs-short size (positioned filled) (omega (arith, whole_group, some, few))
+              (omega (arith, whole_group)))) (
+                bytes,
+                [],
+                sym (append-nil bytes),
+                GroupMeans-fillers base text fillers bytes means some whole all,
+                (λ final. refl),
+                refl,
+              )
+
+          by : (o : Option ℕ) → (o ≡ None → ⊥) → MeansBy o base filled bytes
+          by None h = absurd (h refl)
+          by (Some own) h =
+              GroupsMean-same base width padded (positioned filled) (kept base filled) bytes
+              (bytes-positioned_from 0 filled ∙ sym (all_kept filled keeps)) one
+
+    -- with the padding character
+    pub Means-group : Means base (with_padding base.padding (group_symbols base.width) text) bytes
+    Means-group = by base.padding refl ruled.padding where
+      by : (o : Option ℕ) → base.padding ≡ o → IsRuledPadding base o
+          → Means base (with_padding o size text) bytes
+      by None is h =
+          subst (λ o. MeansBy o base text bytes) (sym is)
+          (PlainMeans-same base (positioned text) (kept base text) bytes
+          (bytes-positioned_from 0 text ∙ sym (all_kept text symbols)) means)
+      by (Some character) is h =
+          let count = missing size (length text) in
+          Means-fillers (ap is_some is) (replicate count character)
+          (AreFillers-replicate base count character h.1)
+          (length-filled_once character size text some few)
+
+  pub length-group : (o : Option ℕ) (text : List ℕ) → 0 < length text
+      → length text ≤ group_symbols base.width
+      → length (with_padding o (group_symbols base.width) text) ≤ 8
+  length-group None text some few = omega (arith, few, group_symbols-few base.width width)
+  length-group (Some character) text some few =
+      omega (
+        arith,
+        length-filled_once character size text some few,
+        group_symbols-few base.width width,
+      )
+
+  pub zero_some : 0 < length (plain_text base (0 ∷ []))
+  zero_some =
+      subst (λ n. 0 < n) (sym (length-plain_text base (0 ∷ []) width.some))
+      (some_symbols base.width width 1 (omega arith))
+
+  pub zero_few : length (plain_text base (0 ∷ [])) ≤ group_symbols base.width
+  zero_few =
+      subst (λ n. n ≤ size) (sym (length-plain_text base (0 ∷ []) width.some))
+      (few_symbols base.width width 1 (group_bytes-pos base.width width))
+
+  -- the text of a byte 0 is a group at most
+  pub length-zero : length (padded_text base (0 ∷ [])) ≤ 8
+  length-zero = length-group base.padding (plain_text base (0 ∷ [])) zero_some zero_few

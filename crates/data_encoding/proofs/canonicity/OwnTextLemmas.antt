@@ -1,0 +1,158 @@
+-- Where no byte is translated, a text is decided by what its bytes mean.
+use Rattle.std.proofs.Common.{◌≡◌, ℕ, ◌+◌, ◌-◌, ◌%◌, ◌^◌, ◌<◌, ◌≤◌, ◌==◌, true, not, List, [], ◌∷◌, ◌++◌, length, map, replicate, Some, refl, sym, ap, ◌∙◌, arith, ⊎_elim, length-append}
+use Rattle.std.proofs.lemmas.Bool.{cases_eq, cases_lt, ltb-true, ne_eqb}
+use Rattle.std.proofs.lemmas.Nat.{mod_below}
+use Rattle.std.proofs.lemmas.List.{get_or_past}
+use Rattle.std.proofs.Math.Nat.{add-mod, add-mod_left, mod-eq_of_lt, mul_comm, mul-mod_left}
+use Rattle.std.specs.Prelude.{flat_map}
+use Rattle.std.specs.List.{AllByRecursion}
+use Rattle.data_encoding.specs.declared.encoding.BitOrder.{BitOrder}
+use Rattle.data_encoding.specs.declared.encoding.Character.TheVariants.{Symbol, Padding, Invalid}
+use Rattle.data_encoding.specs.Base.{Base, IsWidth, meaning, symbol}
+use Rattle.data_encoding.specs.Bits.{bits_of, bits_of_bytes, missing, number_of, runs}
+use Rattle.data_encoding.specs.Grammar.{Positioned, PlainMeans}
+use Rattle.data_encoding.specs.Layout.{is_translated, own_character, translated_bytes}
+use Rattle.data_encoding.specs.Text.{filled_with, plain_text}
+use Rattle.data_encoding.proofs.canonicity.TranslatedLemmas.{not_translated}
+use Rattle.data_encoding.proofs.digits.BitLemmas.{length-bits_of, number_of-bits_of}
+use Rattle.data_encoding.proofs.digits.WordLemmas.{map-twice}
+use Rattle.data_encoding.proofs.grammar.GroupLemmas.{bytes_in}
+use Rattle.data_encoding.proofs.grammar.UnpaddedGroupLemmas.{length-bits_of_values}
+use Rattle.data_encoding.proofs.lists.EachLemmas.{passes_at}
+use Rattle.data_encoding.proofs.lists.RunLemmas.{runs-flat_map}
+use Rattle.data_encoding.proofs.specification.RuleLemmas.{IsRuled, is_within}
+use Rattle.data_encoding.proofs.text.PlainTextLemmas.{missing-none}
+
+-- what completes a length to a multiple is what is missing
+pub missing-is : (size count rest : ℕ) → rest < size → (count + rest) % size ≡ 0
+    → rest ≡ missing size count
+missing-is size count rest short whole =
+    ⊎_elim {C = rest ≡ missing size count}
+    (λ (low : count % size + rest < size).
+    let none : count % size + rest ≡ 0 = sym (mod-eq_of_lt low) ∙ both in
+    let nothing : rest ≡ 0 = omega (arith, none) in
+    nothing ∙ sym (missing-none size count (omega (arith, none))))
+    (λ (high : size ≤ count % size + rest).
+    let over = count % size + rest - size in
+    let same : size + over ≡ count % size + rest = omega (arith, high) in
+    let few : count % size < size = mod_below count size (omega (arith, short)) in
+    let none : over ≡ 0 =
+    sym (mod-eq_of_lt (omega (arith, few, short, high)))
+    ∙ sym (add-mod_left size over) ∙ ap (λ n. n % size) same ∙ both in
+    let is : rest ≡ size - count % size = omega (arith, none, high) in
+    let below : size - count % size < size = omega (arith, is, short) in
+    is ∙ sym (mod-eq_of_lt below))
+    (cases_lt (count % size + rest) size) where
+      both : (count % size + rest) % size ≡ 0
+      both =
+          sym (add-mod count rest size ∙ ap (λ n. (count % size + n) % size) (mod-eq_of_lt short))
+          ∙ whole
+
+equal_by : (a b : ℕ) → (not (a == b) ≡ true → ⊥) → a ≡ b
+equal_by a b h =
+    ⊎_elim {C = a ≡ b} (λ (same : a ≡ b). same)
+    (λ (apart : a ≡ b → ⊥). absurd (h (ap not (ne_eqb a b apart))))
+    (cases_eq a b)
+
+-- numbers of symbols are what their bits say
+numbers_again : (order : BitOrder) (width : ℕ) (values : List ℕ)
+    → AllByRecursion (λ value. value < 2 ^ width) values
+    → map (number_of order) (map (bits_of order width) values) ≡ values
+numbers_again order width [] h = refl
+numbers_again order width (value ∷ values) h =
+    (λ i. number_of-bits_of order width value h.0 i ∷ numbers_again order width values h.1 i)
+
+module _ (base : Base) (ruled : IsRuled base) where
+  width : IsWidth base.width
+  width = ruled.is_width
+
+  -- a byte that means something is ASCII
+  ascii : (byte : ℕ) → (meaning base byte ≡ Invalid → ⊥) → byte < 128
+  ascii byte h =
+      ⊎_elim {C = byte < 128} (λ (low : byte < 128). low)
+      (λ (high : 128 ≤ byte).
+      absurd (h (get_or_past base.meanings byte Invalid (omega (arith, high, ruled.long)))))
+      (cases_lt byte 128)
+
+  -- the value of a symbol is below their number
+  pub value_below : (byte value : ℕ) → meaning base byte ≡ Symbol value → value < 2 ^ base.width
+  value_below byte value is =
+      let low = ascii byte (λ none. cc) in
+      let test = passes_at (is_within (length base.symbols)) base.meanings byte Invalid ruled.within
+      (omega (arith, low, ruled.long)) in
+      let here = sym (ap (is_within (length base.symbols)) is) ∙ test in
+      omega (arith, ltb-true value (length base.symbols) here, ruled.count)
+
+  values_below : (ks : List Positioned) (values : List ℕ)
+      → map (λ k. meaning base k.byte) ks ≡ map (λ value. Symbol value) values
+      → AllByRecursion (λ value. value < 2 ^ base.width) values
+  values_below [] [] h = tt
+  values_below [] (value ∷ values) h = cc
+  values_below (k ∷ ks) [] h = tt
+  values_below (k ∷ ks) (value ∷ values) h =
+      let here : meaning base k.byte ≡ Symbol value = cc in
+      let others : map (λ k. meaning base k.byte) ks ≡ map (λ value. Symbol value) values = cc in
+      (value_below k.byte value here, values_below ks values others)
+
+  module _ (alone : translated_bytes base ≡ []) where
+    symbol_is : (byte value : ℕ) → meaning base byte ≡ Symbol value
+        → byte ≡ symbol base value
+    symbol_is byte value is =
+        sym (equal_by (symbol base value) byte
+        (λ apart. not_translated base alone byte (ascii byte (λ none. cc))
+        (ap (λ m. is_translated base byte (own_character base m)) is ∙ apart)))
+
+    padding_is : (byte character : ℕ) → base.padding ≡ Some character
+        → meaning base byte ≡ Padding → byte ≡ character
+    padding_is byte character some is =
+        sym (equal_by character byte
+        (λ apart. not_translated base alone byte (ascii byte (λ none. cc))
+        (ap (λ m. is_translated base byte (own_character base m)) is
+        ∙ ap (is_translated base byte) some ∙ apart)))
+
+    symbols_are : (ks : List Positioned) (values : List ℕ)
+        → map (λ k. meaning base k.byte) ks ≡ map (λ value. Symbol value) values
+        → bytes_in ks ≡ map (symbol base) values
+    symbols_are [] [] h = refl
+    symbols_are [] (value ∷ values) h = cc
+    symbols_are (k ∷ ks) [] h = cc
+    symbols_are (k ∷ ks) (value ∷ values) h =
+        let here : meaning base k.byte ≡ Symbol value = cc in
+        let others : map (λ k. meaning base k.byte) ks ≡ map (λ value. Symbol value) values = cc in
+        (λ i. symbol_is k.byte value here i ∷ symbols_are ks values others i)
+
+    pub paddings_are : (ks : List Positioned) (character : ℕ) → base.padding ≡ Some character
+        → map (λ k. meaning base k.byte) ks ≡ replicate (length ks) Padding
+        → bytes_in ks ≡ replicate (length ks) character
+    paddings_are [] character some h = refl
+    paddings_are (k ∷ ks) character some h =
+        let here : meaning base k.byte ≡ Padding = cc in
+        let others : map (λ k. meaning base k.byte) ks ≡ replicate (length ks) Padding = cc in
+        (λ i. padding_is k.byte character some here i ∷ paddings_are ks character some others i)
+
+    -- symbols that mean bytes are their text, where trailing bits are checked
+    pub plain_is : base.checks_trailing_bits ≡ true → (ks : List Positioned) (bytes : List ℕ)
+        → PlainMeans base ks bytes → bytes_in ks ≡ plain_text base bytes
+    plain_is checks ks bytes means =
+        let octets = bits_of_bytes base.order bytes in
+        let bits = flat_map (bits_of base.order base.width) means.values in
+        let show = map (λ run. symbol base (number_of base.order run)) in
+        let whole : (length octets + length means.rest) % base.width ≡ 0 =
+        ap (λ n. n % base.width)
+        (sym (ap length means.same_bits ∙ length-append octets means.rest)
+        ∙ length-bits_of_values base.order base.width means.values
+        ∙ mul_comm base.width (length means.values))
+        ∙ mul-mod_left (length means.values) base.width in
+        let lack =
+        missing-is base.width (length octets) (length means.rest) means.rest_is_short whole in
+        let filled : bits ≡ filled_with 0 base.width octets =
+        means.same_bits
+        ∙ ap (λ l. octets ++ l) (means.rest_is_zero checks ∙ ap (λ n. replicate n 0) lack) in
+        let below = values_below ks means.values means.are_symbols in
+        symbols_are ks means.values means.are_symbols
+        ∙ ap (map (symbol base)) (sym (numbers_again base.order base.width means.values below))
+        ∙ map-twice (symbol base) (number_of base.order)
+        (map (bits_of base.order base.width) means.values)
+        ∙ ap show (sym (runs-flat_map base.width (bits_of base.order base.width) means.values
+        width.some (length-bits_of base.order base.width)))
+        ∙ ap (λ l. show (runs base.width l)) filled

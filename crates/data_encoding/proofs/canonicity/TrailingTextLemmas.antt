@@ -1,0 +1,192 @@
+-- A trailing bit that is not checked gives a second text.
+use Rattle.std.proofs.Common.{◌≡◌, ℕ, zero, suc, ◌+◌, ◌/◌, ◌%◌, ◌^◌, ◌<◌, ◌≤◌, ◌==◌, nat_lt, true, false, ◌&&◌, ◌||◌, List, [], ◌∷◌, ◌++◌, length, map, drop, get_or, replicate, Option, Some, None, refl, sym, ap, ◌∙◌, arith, append_assoc, length-append, unwrap_or}
+use Rattle.std.proofs.lemmas.Bool.{and_parts, false≢true, ltb-true}
+use Rattle.std.proofs.lemmas.List.{length-replicate}
+use Rattle.std.specs.Prelude.{flat_map}
+use Rattle.data_encoding.specs.declared.encoding.BitOrder.{BitOrder}
+use Rattle.data_encoding.specs.declared.encoding.BitOrder.TheVariants.{MostSignificantFirst, LeastSignificantFirst}
+use Rattle.data_encoding.specs.declared.encoding.Character.TheVariants.{Symbol}
+use Rattle.data_encoding.specs.Base.{Base, IsWidth, meaning, symbol, group_symbols, value_of}
+use Rattle.data_encoding.specs.Bits.{bits_of, bits_of_bytes, missing}
+use Rattle.data_encoding.specs.Canonical.{AreTwoTexts, last_bit, trailing_text}
+use Rattle.data_encoding.specs.Grammar.{PlainMeans, Positioned, positioned}
+use Rattle.data_encoding.specs.Text.{padded_text, with_padding}
+use Rattle.data_encoding.proofs.canonicity.ConcatenatedTextLemmas.{zero_byte}
+use Rattle.data_encoding.proofs.canonicity.OneGroupLemmas.{Means-group, Means-padded_text, length-group, length-zero}
+use Rattle.data_encoding.proofs.digits.WidthLemmas.{by_width}
+use Rattle.data_encoding.proofs.digits.WordLemmas.{map-twice}
+use Rattle.data_encoding.proofs.grammar.PositionLemmas.{bytes-positioned_from}
+use Rattle.data_encoding.proofs.specification.RuleLemmas.{IsRuled}
+use Rattle.data_encoding.proofs.text.SymbolMeaningLemmas.{own_meaning}
+use Rattle.data_encoding.proofs.text.PlainTextLemmas.{text_by}
+
+-- the values of the symbols of a byte 0, the last of which is any
+abbrev values_with : ℕ → ℕ → List ℕ
+values_with width last = replicate (8 / width) 0 ++ last ∷ []
+
+abbrev trailing_bits : BitOrder → ℕ → List ℕ
+trailing_bits order width =
+    drop 8 (flat_map (bits_of order width) (values_with width (last_bit order width)))
+
+-- What the last bit of the last symbol is, where eight bits are no whole symbols.
+record TrailsAt (order : BitOrder) (width : ℕ) : Type 0 where
+  same_bits : flat_map (bits_of order width) (values_with width (last_bit order width))
+      ≡ bits_of_bytes order (0 ∷ []) ++ trailing_bits order width
+  short : length (trailing_bits order width) < width
+  below : last_bit order width < 2 ^ width
+  not_zero : 0 ≡ last_bit order width → ⊥
+  few : 8 / width + 1 ≤ group_symbols width
+
+trails : (order : BitOrder) (width : ℕ)
+    → flat_map (bits_of order width) (values_with width (last_bit order width))
+    ≡ bits_of_bytes order (0 ∷ []) ++ trailing_bits order width
+    → (nat_lt (length (trailing_bits order width)) width
+    && nat_lt (last_bit order width) (2 ^ width) && nat_lt 0 (last_bit order width)
+    && nat_lt (8 / width) (group_symbols width)) ≡ true
+    → TrailsAt order width
+trails order width same h =
+    let bits = trailing_bits order width in
+    let last = last_bit order width in
+    let short = nat_lt (length bits) width in
+    let below = nat_lt last (2 ^ width) in
+    let first = and_parts (short && below && nat_lt 0 last)
+    (nat_lt (8 / width) (group_symbols width)) h in
+    let second = and_parts (short && below) (nat_lt 0 last) first.0 in
+    let third = and_parts short below second.0 in
+    let some = ltb-true 0 last second.1 in
+    let few = ltb-true (8 / width) (group_symbols width) first.1 in
+    record {
+      same_bits = same;
+      short = ltb-true (length bits) width third.0;
+      below = ltb-true last (2 ^ width) third.1;
+      not_zero = λ none. omega (arith, none, some);
+      few = omega (arith, few);
+    }
+
+-- what holds of 3, 5 and 6
+partly : (P : ℕ → Type 0) → P 3 → P 5 → P 6 → (width : ℕ) → IsWidth width
+    → (8 % width ≡ 0 → ⊥) → P width
+partly P three five six =
+    by_width (λ w. (8 % w ≡ 0 → ⊥) → P w) (λ h. absurd (h refl)) (λ h. absurd (h refl))
+    (λ h. three) (λ h. absurd (h refl)) (λ h. five) (λ h. six)
+
+trails_at : (order : BitOrder) (width : ℕ) → IsWidth width → (8 % width ≡ 0 → ⊥)
+    → TrailsAt order width
+trails_at MostSignificantFirst =
+    partly (TrailsAt MostSignificantFirst) (trails MostSignificantFirst 3 refl refl)
+    (trails MostSignificantFirst 5 refl refl) (trails MostSignificantFirst 6 refl refl)
+trails_at LeastSignificantFirst =
+    partly (TrailsAt LeastSignificantFirst) (trails LeastSignificantFirst 3 refl refl)
+    (trails LeastSignificantFirst 5 refl refl) (trails LeastSignificantFirst 6 refl refl)
+
+-- so many symbols of the value 0, and another
+abbrev symbols_with : ℕ → ℕ → ℕ → List ℕ
+symbols_with count first last = replicate count first ++ last ∷ []
+
+-- the text of a byte 0
+abbrev IsZeroText : Base → BitOrder → ℕ → Type 0
+IsZeroText base order width =
+    text_by base width order (bits_of_bytes order (0 ∷ []))
+    ≡ symbols_with (8 / width) (symbol base 0) (symbol base 0)
+
+zero_text : (base : Base) (order : BitOrder) (width : ℕ) → IsWidth width
+    → (8 % width ≡ 0 → ⊥) → IsZeroText base order width
+zero_text base MostSignificantFirst = partly (IsZeroText base MostSignificantFirst) refl refl refl
+zero_text base LeastSignificantFirst =
+    partly (IsZeroText base LeastSignificantFirst) refl refl refl
+
+at_count : (count first last : ℕ) (more : List ℕ)
+    → get_or (replicate count first ++ last ∷ more) count 0 ≡ last
+at_count zero first last more = refl
+at_count (suc count) first last more = at_count count first last more
+
+last_same : (o : Option ℕ) (size count first last other : ℕ)
+    → with_padding o size (symbols_with count first last)
+    ≡ with_padding o size (symbols_with count first other)
+    → last ≡ other
+last_same o size count first last other same =
+    sym (read o last) ∙ ap (λ l. get_or l count 0) same ∙ read o other where
+      read : (p : Option ℕ) (x : ℕ)
+          → get_or (with_padding p size (symbols_with count first x)) count 0 ≡ x
+      read None x = at_count count first x []
+      read (Some character) x =
+          ap (λ l. get_or l count 0)
+          (append_assoc (replicate count first) (x ∷ [])
+          (replicate (missing size (length (symbols_with count first x))) character))
+          ∙ at_count count first x
+          (replicate (missing size (length (symbols_with count first x))) character)
+
+symbols_mean : (base : Base) (count first last : ℕ)
+    → meaning base (symbol base first) ≡ Symbol first
+    → meaning base (symbol base last) ≡ Symbol last
+    → map (meaning base) (symbols_with count (symbol base first) (symbol base last))
+    ≡ map (λ value. Symbol value) (replicate count first ++ last ∷ [])
+symbols_mean base zero first last h k = ap (λ m. m ∷ []) k
+symbols_mean base (suc count) first last h k =
+    (λ i. h i ∷ symbols_mean base count first last h k i)
+
+module _ (base : Base) (ruled : IsRuled base) (unchecked : base.checks_trailing_bits ≡ false) where
+  not_whole : 8 % base.width ≡ 0 → ⊥
+  not_whole whole =
+      false≢true (sym (ap (λ b. b || (8 % base.width == 0)) (sym unchecked) ∙ ruled.checked
+      ∙ unchecked) ∙ ap (λ n. n == 0) whole)
+
+  facts : TrailsAt base.order base.width
+  facts = trails_at base.order base.width ruled.is_width not_whole
+
+  abbrev last : ℕ
+  last = last_bit base.order base.width
+
+  abbrev text : List ℕ
+  text = symbols_with (8 / base.width) (symbol base 0) (symbol base last)
+
+  zero_meaning : meaning base (symbol base 0) ≡ Symbol 0
+  zero_meaning = own_meaning base ruled 0 (omega (arith, facts.below))
+
+  last_meaning : meaning base (symbol base last) ≡ Symbol last
+  last_meaning = own_meaning base ruled last facts.below
+
+  text_len : length text ≡ 8 / base.width + 1
+  text_len =
+      length-append (replicate (8 / base.width) (symbol base 0)) (symbol base last ∷ [])
+      ∙ ap (λ n. n + 1) (length-replicate (8 / base.width) (symbol base 0))
+
+  means : PlainMeans base (positioned text) (0 ∷ [])
+  means = record {
+    values = values_with base.width last;
+    rest = trailing_bits base.order base.width;
+    are_symbols =
+        sym (map-twice (meaning base) (λ (k : Positioned). k.byte) (positioned text))
+        ∙ ap (map (meaning base)) (bytes-positioned_from 0 text)
+        ∙ symbols_mean base (8 / base.width) 0 last zero_meaning last_meaning;
+    same_bits = facts.same_bits;
+    rest_is_short = facts.short;
+    rest_is_zero = λ checks. absurd (false≢true (sym unchecked ∙ checks));
+    are_bytes = zero_byte;
+  }
+
+  differ : padded_text base (0 ∷ []) ≡ trailing_text base → ⊥
+  differ same =
+      let size = group_symbols base.width in
+      let zero_is = zero_text base base.order base.width ruled.is_width not_whole in
+      let symbols = last_same base.padding size (8 / base.width) (symbol base 0) (symbol base 0)
+      (symbol base last)
+      (ap (with_padding base.padding size) (sym zero_is) ∙ same) in
+      let meanings : Symbol 0 ≡ Symbol last =
+      sym zero_meaning ∙ ap (meaning base) symbols ∙ last_meaning in
+      facts.not_zero (ap (λ m. unwrap_or (value_of m) 0) meanings)
+
+  some : 0 < length text
+  some = omega (arith, text_len)
+
+  few : length text ≤ group_symbols base.width
+  few = omega (arith, text_len, facts.few)
+
+  pub trailing-second : AreTwoTexts base (padded_text base (0 ∷ [])) (trailing_text base) (0 ∷ [])
+  trailing-second = record {
+    differ = differ;
+    one_is_short = omega (arith, length-zero base ruled);
+    other_is_short = omega (arith, length-group base ruled base.padding text some few);
+    one_means = Means-padded_text base ruled (0 ∷ []) zero_byte;
+    other_means = Means-group base ruled text (0 ∷ []) means some few;
+  }

@@ -1,0 +1,288 @@
+-- The fault of a text behind one that means bytes.
+use Rattle.std.proofs.Common.{◌≡◌, ℕ, zero, suc, ◌+◌, ◌*◌, ◌/◌, ◌%◌, ◌<◌, ◌≤◌, ◌==◌, nat_lt, Bool, true, false, not, cond, ◌&&◌, List, [], ◌∷◌, ◌++◌, map, length, Option, Some, None, is_some, refl, sym, ap, ◌∙◌, subst, arith, length-append}
+use Rattle.std.proofs.lemmas.List.Concat.{flat_map-append}
+use Rattle.std.specs.Prelude.{flat_map}
+use Rattle.std.specs.List.{AllByRecursion}
+use Rattle.data_encoding.specs.declared.error.DecodeError.{DecodeError}
+use Rattle.data_encoding.specs.declared.error.DecodeKind.TheVariants.{Length as LengthFault, Padding as PaddingFault}
+use Rattle.data_encoding.specs.Base.{Base, IsWidth, meaning, is_ignored, is_padded, ignores_some, group_symbols}
+use Rattle.data_encoding.specs.Bits.{runs}
+use Rattle.data_encoding.specs.Grammar.{Positioned, kept, groups, is_final, Means}
+use Rattle.data_encoding.specs.Lengths.{greatest_valid_count, greatest_valid_length, is_valid_count, is_valid_length, length_fault}
+use Rattle.data_encoding.specs.Fault.{bytes_of_group, fault_after, fault_of, first_after, first_fault, or_else, position_of, sound_after, sound_bytes}
+use Rattle.data_encoding.specs.Laws.{MayBeFollowed, further}
+use Rattle.data_encoding.proofs.digits.WidthLemmas.{by_width, group_symbols-pos}
+use Rattle.data_encoding.proofs.grammar.GroupLemmas.{bytes_in, bytes_of_group-same, group_fault-further, is_final-same}
+use Rattle.data_encoding.proofs.grammar.JoinLemmas.{followed, joined}
+use Rattle.data_encoding.proofs.grammar.KeptLemmas.{kept_in}
+use Rattle.data_encoding.proofs.grammar.LengthLemmas.{greatest_valid_length-by, is_valid_length-by}
+use Rattle.data_encoding.proofs.grammar.MeaningLemmas.{no_fault-Means, sound_bytes-Means}
+use Rattle.data_encoding.proofs.grammar.PositionLemmas.{length-kept_plain}
+use Rattle.data_encoding.proofs.grammar.SoundLemmas.{AreSound, AreSound-none, ends_after, first-AreSound, neither_fault, sound-AreSound, sound-all}
+use Rattle.data_encoding.proofs.lists.ListLemmas.{AllFail}
+use Rattle.data_encoding.proofs.lists.RunLemmas.{few_runs, runs-join, runs-map}
+use Rattle.data_encoding.proofs.specification.RuleLemmas.{IsRuled}
+
+-- the same bytes, so many positions further on
+abbrev moved : ℕ → List Positioned → List Positioned
+moved count ks = map (λ k. record { position = count + k.position; byte = k.byte }) ks
+
+bytes-moved : (count : ℕ) (ks : List Positioned) → bytes_in (moved count ks) ≡ bytes_in ks
+bytes-moved count [] = refl
+bytes-moved count (k ∷ ks) = ap (λ l. k.byte ∷ l) (bytes-moved count ks)
+
+position_of-moved : (count : ℕ) (ks : List Positioned) (index : ℕ) → index < length ks
+    → position_of (moved count ks) index ≡ count + position_of ks index
+position_of-moved count [] index h = absurd (omega (arith, h))
+position_of-moved count (k ∷ ks) zero h = refl
+position_of-moved count (k ∷ ks) (suc index) h =
+    position_of-moved count ks index (omega (arith, h))
+
+further-or_else : (count : ℕ) (o p : Option DecodeError)
+    → or_else (further count o) (further count p) ≡ further count (or_else o p)
+further-or_else count None p = refl
+further-or_else count (Some error) p = refl
+
+is_some-further : (count : ℕ) (o : Option DecodeError) → is_some (further count o) ≡ is_some o
+is_some-further count None = refl
+is_some-further count (Some error) = refl
+
+-- What stands behind whole groups is as valid as alone.
+
+count_behind : (width : ℕ) → IsWidth width → (m n : ℕ) → m % group_symbols width ≡ 0
+    → is_valid_count width (m + n) ≡ is_valid_count width n
+count_behind width is m n h = ap (λ r. nat_lt r width) (bits width is m n h) where
+  bits : (width : ℕ) → IsWidth width → (m n : ℕ) → m % group_symbols width ≡ 0
+      → width * (m + n) % 8 ≡ width * n % 8
+  bits =
+      by_width
+      (λ w. (m n : ℕ) → m % group_symbols w ≡ 0 → w * (m + n) % 8 ≡ w * n % 8)
+      (λ m n h. omega (arith, h)) (λ m n h. omega (arith, h)) (λ m n h. omega (arith, h))
+      (λ m n h. omega (arith, h)) (λ m n h. omega (arith, h)) (λ m n h. omega (arith, h))
+
+greatest_count_behind : (width : ℕ) → IsWidth width → (m n : ℕ) → m % group_symbols width ≡ 0
+    → greatest_valid_count width (m + n) ≡ m + greatest_valid_count width n
+greatest_count_behind =
+    by_width
+    (λ w. (m n : ℕ) → m % group_symbols w ≡ 0
+    → greatest_valid_count w (m + n) ≡ m + greatest_valid_count w n)
+    (λ m n h. omega (arith, h)) (λ m n h. omega (arith, h)) (λ m n h. omega (arith, h))
+    (λ m n h. omega (arith, h)) (λ m n h. omega (arith, h)) (λ m n h. omega (arith, h))
+
+whole_behind : (width : ℕ) → IsWidth width → (m n : ℕ) → m % group_symbols width ≡ 0
+    → ((m + n) % group_symbols width ≡ n % group_symbols width)
+    × ((m + n) / group_symbols width * group_symbols width
+    ≡ m + n / group_symbols width * group_symbols width)
+whole_behind =
+    by_width
+    (λ w. (m n : ℕ) → m % group_symbols w ≡ 0
+    → ((m + n) % group_symbols w ≡ n % group_symbols w)
+    × ((m + n) / group_symbols w * group_symbols w
+    ≡ m + n / group_symbols w * group_symbols w))
+    (λ m n h. (omega (arith, h), omega (arith, h))) (λ m n h. (omega (arith, h), omega (arith, h)))
+    (λ m n h. (omega (arith, h), omega (arith, h))) (λ m n h. (omega (arith, h), omega (arith, h)))
+    (λ m n h. (omega (arith, h), omega (arith, h))) (λ m n h. (omega (arith, h), omega (arith, h)))
+
+further_if : (count : ℕ) (ignores valid : Bool) (position : ℕ)
+    → cond (not ignores && not valid)
+    (Some (record { position = count + position; kind = LengthFault })) None
+    ≡ further count
+    (cond (not ignores && not valid) (Some (record { position = position; kind = LengthFault }))
+    None)
+further_if count true valid position = refl
+further_if count false true position = refl
+further_if count false false position = refl
+
+module _ (base : Base) (width : IsWidth base.width) where
+  abbrev size : ℕ
+  size = group_symbols base.width
+
+  valid_behind : (m n : ℕ) → m % size ≡ 0 → is_valid_length base (m + n) ≡ is_valid_length base n
+  valid_behind m n h = by (is_padded base) refl where
+    by : (b : Bool) → is_padded base ≡ b → is_valid_length base (m + n) ≡ is_valid_length base n
+    by true is =
+        is_valid_length-by base (m + n) true is
+        ∙ ap (λ r. r == 0) (whole_behind base.width width m n h).0
+        ∙ sym (is_valid_length-by base n true is)
+    by false is =
+        is_valid_length-by base (m + n) false is ∙ count_behind base.width width m n h
+        ∙ sym (is_valid_length-by base n false is)
+
+  greatest_behind : (m n : ℕ) → m % size ≡ 0
+      → greatest_valid_length base (m + n) ≡ m + greatest_valid_length base n
+  greatest_behind m n h = by (is_padded base) refl where
+    by : (b : Bool) → is_padded base ≡ b
+        → greatest_valid_length base (m + n) ≡ m + greatest_valid_length base n
+    by true is =
+        greatest_valid_length-by base (m + n) true is ∙ (whole_behind base.width width m n h).1
+        ∙ ap (λ k. m + k) (sym (greatest_valid_length-by base n true is))
+    by false is =
+        greatest_valid_length-by base (m + n) false is
+        ∙ greatest_count_behind base.width width m n h
+        ∙ ap (λ k. m + k) (sym (greatest_valid_length-by base n false is))
+
+  length_fault-behind : (m n : ℕ) → (ignores_some base ≡ false → m % size ≡ 0)
+      → length_fault base (m + n) ≡ further m (length_fault base n)
+  length_fault-behind m n whole = by (ignores_some base) refl where
+    by : (b : Bool) → ignores_some base ≡ b
+        → cond (not b && not (is_valid_length base (m + n)))
+        (Some (record { position = greatest_valid_length base (m + n); kind = LengthFault })) None
+        ≡ further m (cond (not b && not (is_valid_length base n))
+        (Some (record { position = greatest_valid_length base n; kind = LengthFault })) None)
+    by true is = refl
+    by false is =
+        let valid = valid_behind m n (whole is) in
+        let greatest = greatest_behind m n (whole is) in
+        (λ i. cond (not (valid i))
+        (Some (record { position = greatest i; kind = LengthFault })) None)
+        ∙ further_if m false (is_valid_length base n) (greatest_valid_length base n)
+
+  -- the kept bytes of a part that stands further on
+  kept_in-moved : (count start : ℕ) (part : List ℕ)
+      → kept_in base (count + start) part ≡ moved count (kept_in base start part)
+  kept_in-moved count start [] = refl
+  kept_in-moved count start (byte ∷ part) =
+      let others : kept_in base (count + start + 1) part
+      ≡ moved count (kept_in base (start + 1) part) =
+      ap (λ n. kept_in base n part) (omega arith) ∙ kept_in-moved count (start + 1) part in
+      ap (λ ks. cond (not (is_ignored (meaning base byte)))
+      (record { position = count + start; byte = byte } ∷ ks) ks) others
+      ∙ either (not (is_ignored (meaning base byte))) (kept_in base (start + 1) part) where
+        either : (b : Bool) (ks : List Positioned)
+            → cond b (record { position = count + start; byte = byte } ∷ moved count ks)
+            (moved count ks)
+            ≡ moved count (cond b (record { position = start; byte = byte } ∷ ks) ks)
+        either true ks = refl
+        either false ks = refl
+
+  abbrev AreFew : List (List Positioned) → Type 0
+  AreFew gs =
+      AllByRecursion (λ (g : List Positioned). (0 < length g) × (length g ≤ size)) gs
+
+  fault_after-moved : (count : ℕ) (ended : Bool) (group : List Positioned) → 0 < length group
+      → length group ≤ size
+      → fault_after ended base (moved count group) ≡ further count (fault_after ended base group)
+  fault_after-moved count true group some few =
+      ap (λ n. Some (record { position = n; kind = PaddingFault }))
+      (position_of-moved count group 0 some)
+  fault_after-moved count false group some few =
+      group_fault-further base width group (moved count group) count (bytes-moved count group)
+      (position_of-moved count group) some few
+
+  final-moved : (count : ℕ) (group : List Positioned)
+      → is_final base (moved count group) ≡ is_final base group
+  final-moved count group =
+      is_final-same base (moved count group) group (bytes-moved count group)
+
+  first-moved : (count : ℕ) (ended : Bool) (gs : List (List Positioned)) → AreFew gs
+      → first_after ended base (map (moved count) gs) ≡ further count (first_after ended base gs)
+  first-moved count ended [] few = refl
+  first-moved count ended (g ∷ gs) few =
+      (λ i. or_else (fault_after-moved count ended g few.0.0 few.0.1 i)
+      (first_after (final-moved count g i) base (map (moved count) gs)))
+      ∙ ap (or_else (further count (fault_after ended base g)))
+      (first-moved count (is_final base g) gs few.1)
+      ∙ further-or_else count (fault_after ended base g) (first_after (is_final base g) base gs)
+
+  abbrev bytes_before : Bool → List (List Positioned) → List ℕ
+  bytes_before ended gs = flat_map (bytes_of_group base) (sound_after ended base gs)
+
+  sound-moved : (count : ℕ) (ended : Bool) (gs : List (List Positioned)) → AreFew gs
+      → bytes_before ended (map (moved count) gs) ≡ bytes_before ended gs
+  sound-moved count ended [] few = refl
+  sound-moved count ended (g ∷ gs) few =
+      let faulty : is_some (fault_after ended base (moved count g))
+      ≡ is_some (fault_after ended base g) =
+      ap is_some (fault_after-moved count ended g few.0.0 few.0.1)
+      ∙ is_some-further count (fault_after ended base g) in
+      let here = bytes_of_group-same base (moved count g) g (bytes-moved count g) in
+      (λ i. flat_map (bytes_of_group base) (cond (faulty i) []
+      (moved count g ∷ sound_after (final-moved count g i) base (map (moved count) gs))))
+      ∙ by (is_some (fault_after ended base g)) here
+      (sound-moved count (is_final base g) gs few.1) where
+        by : (b : Bool) → bytes_of_group base (moved count g) ≡ bytes_of_group base g
+            → bytes_before (is_final base g) (map (moved count) gs)
+            ≡ bytes_before (is_final base g) gs
+            → flat_map (bytes_of_group base) (cond b []
+            (moved count g ∷ sound_after (is_final base g) base (map (moved count) gs)))
+            ≡ flat_map (bytes_of_group base) (cond b []
+            (g ∷ sound_after (is_final base g) base gs))
+        by true here others = refl
+        by false here others = λ i. here i ++ others i
+
+  not_ended : (begun : Bool) (gs : List (List Positioned)) → begun ≡ false
+      → AllFail (is_final base) gs → ends_after base begun gs ≡ false
+  not_ended begun [] h none = h
+  not_ended begun (g ∷ gs) h none = not_ended (is_final base g) gs none.0 none.1
+
+module _ (base : Base) (ruled : IsRuled base) (text after bytes : List ℕ)
+    (follows : MayBeFollowed base text) (means : Means base text bytes) where
+  is_width : IsWidth base.width
+  is_width = ruled.is_width
+
+  abbrev count : ℕ
+  count = length text
+
+  abbrev others : List (List Positioned)
+  others = map (moved count) (groups base after)
+
+  whole : (length (kept base text) % group_symbols base.width ≡ 0)
+      × AllFail (is_final base) (groups base text)
+  whole = followed base ruled text after bytes bytes follows means
+
+  few : AreFew base is_width (groups base after)
+  few =
+      few_runs (group_symbols base.width) (kept base after)
+      (group_symbols-pos base.width is_width)
+
+  groups_joined : groups base (text ++ after) ≡ groups base text ++ others
+  groups_joined =
+      let pos = group_symbols-pos base.width is_width in
+      let part : kept_in base (0 + length text) after ≡ moved count (kept base after) =
+      ap (λ n. kept_in base n after) (omega arith) ∙ kept_in-moved base is_width count 0 after in
+      ap (runs (group_symbols base.width)) (joined base ruled text after bytes bytes)
+      ∙ runs-join (group_symbols base.width) (kept base text) _ pos whole.0
+      ∙ ap (λ ks. groups base text ++ runs (group_symbols base.width) ks) part
+      ∙ ap (λ gs. groups base text ++ gs)
+      (runs-map (group_symbols base.width)
+      (λ (k : Positioned). record { position = count + k.position; byte = k.byte })
+      (kept base after) pos)
+
+  sound : AreSound base false (groups base text) false
+  sound =
+      let none = neither_fault (length_fault base (length text))
+      (first_fault base (groups base text)) (no_fault-Means base is_width text bytes means) in
+      subst (AreSound base false (groups base text))
+      (not_ended base is_width false (groups base text) refl whole.1)
+      (AreSound-none base false (groups base text) none.1)
+
+  -- the fault of what stands behind, as far on as the first text is long
+  pub fault-join : fault_of base (text ++ after) ≡ further count (fault_of base after)
+  fault-join =
+      let lengths : length_fault base (length (text ++ after))
+      ≡ further count (length_fault base (length after)) =
+      ap (length_fault base) (length-append text after)
+      ∙ length_fault-behind base is_width count (length after)
+      (λ none. ap (λ n. n % group_symbols base.width) (sym (length-kept_plain base text none))
+      ∙ whole.0) in
+      let firsts : first_fault base (groups base (text ++ after))
+      ≡ further count (first_fault base (groups base after)) =
+      ap (first_fault base) groups_joined
+      ∙ first-AreSound base false false (groups base text) others sound
+      ∙ first-moved base is_width count false (groups base after) few in
+      (λ i. or_else (lengths i) (firsts i))
+      ∙ further-or_else count (length_fault base (length after))
+      (first_fault base (groups base after))
+
+  -- and its bytes behind those of the first
+  pub sound_bytes-join : sound_bytes base (text ++ after) ≡ bytes ++ sound_bytes base after
+  sound_bytes-join =
+      let here : flat_map (bytes_of_group base) (groups base text) ≡ bytes =
+      ap (flat_map (bytes_of_group base))
+      (sym (sound-all base false false (groups base text) sound))
+      ∙ sound_bytes-Means base is_width text bytes means in
+      ap (λ gs. flat_map (bytes_of_group base) (sound_after false base gs)) groups_joined
+      ∙ ap (flat_map (bytes_of_group base))
+      (sound-AreSound base false false (groups base text) others sound)
+      ∙ flat_map-append (bytes_of_group base) (groups base text) (sound_after false base others)
+      ∙ (λ i. here i ++ sound-moved base is_width count false (groups base after) few i)

@@ -1,0 +1,4 @@
+-- Texts in the order of their data.
+pub mod FrontLemmas
+pub mod TextOrderLemmas
+pub mod OrderPairLemmas

@@ -1,0 +1,63 @@
+-- A group of symbols, and of padding behind them.
+use Rattle.std.proofs.Common.{◌≡◌, ℕ, ◌+◌, ◌*◌, ◌<◌, ◌≤◌, List, [], ◌∷◌, ◌++◌, length, map, replicate, refl, sym, ap, ◌∙◌, subst, arith}
+use Rattle.std.proofs.Math.Nat.{div-eq_of_lt-le}
+use Rattle.std.proofs.lemmas.List.Elements.{All-replicate, recursion_from_All}
+use Rattle.std.specs.List.{AllByRecursion}
+use Rattle.data_encoding.specs.declared.encoding.Character.TheVariants.{Padding}
+use Rattle.data_encoding.specs.Base.{Base, meaning, group_symbols}
+use Rattle.data_encoding.specs.Grammar.{GroupMeans, PlainMeans, Positioned, positioned, positioned_from}
+use Rattle.data_encoding.specs.Text.{filled_with}
+use Rattle.data_encoding.proofs.digits.KernelLemmas.{filled_count}
+use Rattle.data_encoding.proofs.grammar.PositionLemmas.{length-positioned_from, positioned_from-append}
+use Rattle.data_encoding.proofs.lists.RunLemmas.{run_count}
+use Rattle.data_encoding.proofs.text.PaddedTextLemmas.{length-filled_with}
+
+one_run : (size n : ℕ) → 0 < n → n ≤ size → run_count size n ≡ 1
+one_run size n h k = div-eq_of_lt-le size (omega (arith, h, k)) (omega (arith, h, k))
+
+-- a few, filled, are one whole
+pub length-filled_once : (character size : ℕ) (text : List ℕ) → 0 < length text
+    → length text ≤ size → length (filled_with character size text) ≡ size
+length-filled_once character size text some few =
+    length-filled_with character size text
+    ∙ filled_count size (length text) (omega (arith, some, few))
+    ∙ ap (λ n. size * n) (one_run size (length text) some few) ∙ omega arith
+
+module _ (base : Base) where
+  -- bytes that each mean padding
+  abbrev pub AreFillers : List ℕ → Type 0
+  AreFillers fillers = AllByRecursion (λ byte. meaning base byte ≡ Padding) fillers
+
+  padding_at : (start : ℕ) (fillers : List ℕ) → AreFillers fillers
+      → map (λ (k : Positioned). meaning base k.byte) (positioned_from start fillers)
+      ≡ replicate (length fillers) Padding
+  padding_at start [] all = refl
+  padding_at start (filler ∷ fillers) all =
+      (λ i. all.0 i ∷ padding_at (start + 1) fillers all.1 i)
+
+  pub AreFillers-replicate : (count character : ℕ) → meaning base character ≡ Padding
+      → AreFillers (replicate count character)
+  AreFillers-replicate count character is =
+      recursion_from_All (λ byte. meaning base byte ≡ Padding) (replicate count character)
+      (All-replicate (λ byte. meaning base byte ≡ Padding) count character is)
+
+  -- symbols that mean bytes, with padding up to a whole group, are a group that means them
+  pub GroupMeans-fillers : (text fillers bytes : List ℕ)
+      → PlainMeans base (positioned text) bytes → 0 < length text
+      → length (text ++ fillers) ≡ group_symbols base.width → AreFillers fillers
+      → GroupMeans base (positioned (text ++ fillers)) bytes
+  GroupMeans-fillers text fillers bytes means some whole all =
+      let padding = positioned_from (0 + length text) fillers in
+      let padding_len : length padding ≡ length fillers =
+      length-positioned_from (0 + length text) fillers in
+      record {
+        symbols = positioned text;
+        padding = padding;
+        is_group = positioned_from-append 0 text fillers;
+        is_whole = length-positioned_from 0 (text ++ fillers) ∙ whole;
+        is_begun = subst (λ n. 0 < n) (sym (length-positioned_from 0 text)) some;
+        is_padding =
+            padding_at (0 + length text) fillers all
+            ∙ ap (λ n. replicate n Padding) (sym padding_len);
+        means = means;
+      }

@@ -1,0 +1,75 @@
+//! Texts behind texts.
+
+ghost use Rattle.std.specs.Prelude.{◌≡◌, ◌+◌, ◌≤◌, ◌++◌, length, IsOk, OnErr, OnOk};
+ghost use Rattle.std.specs.String.{string_bytes, string_capacity, string_len};
+ghost use Rattle.data_encoding.specs.Fields.{IsSpecified};
+ghost use Rattle.data_encoding.specs.Text.{text_of};
+
+use crate::encode::ENCODE_LIMIT;
+use crate::encoding::Encoding;
+use std::alloc::{AllocError, Allocator};
+use std::mem;
+
+impl Encoding {
+    /// Appends the text of the data, of at most `ENCODE_LIMIT` bytes, to `output`.
+    ///
+    /// The only error is that memory ran out, which is never answered for no data. The bytes and
+    /// the capacity of `output` are then what they were.
+    pub fn encode_append(&self, input: &[u8], output: &mut String) -> Result<(), AllocError>
+        requires limit { length input.now ≤ ENCODE_LIMIT }
+        ensures text { OnOk result (string_bytes output.new
+            ≡ string_bytes output.old ++ text_of self.now input.now) }
+        ensures unchanged { OnErr result (string_bytes output.new ≡ string_bytes output.old) }
+        ensures capacity { OnErr result (string_capacity output.new
+            ≡ string_capacity output.old) }
+        ensures empty { length input.now ≡ 0 → IsOk result }
+        ensures base { IsSpecified self.now }
+    {
+        self.append_in(input, output)
+    }
+
+    // Does so to a text in any memory.
+    pub(crate) fn append_in<A: Allocator + Copy>(
+        &self,
+        input: &[u8],
+        output: &mut String<A>,
+    ) -> Result<(), AllocError>
+        requires limit { length input.now ≤ ENCODE_LIMIT }
+        ensures text { OnOk result (string_bytes output.new
+            ≡ string_bytes output.old ++ text_of self.now input.now) }
+        ensures unchanged { OnErr result (string_bytes output.new ≡ string_bytes output.old) }
+        ensures capacity { OnErr result (string_capacity output.new
+            ≡ string_capacity output.old) }
+        ensures empty { length input.now ≡ 0 → IsOk result }
+        ensures base { IsSpecified self.now }
+    {
+        let len = self.encode_len(input.len());
+        if len == 0 {
+            return Ok(());
+        }
+        output.reserve(len)?;
+        self.append_within(input, output);
+        Ok(())
+    }
+
+    // Does so where there is room: the text is written where it stays.
+    pub(crate) fn append_within<A: Allocator + Copy>(&self, input: &[u8], output: &mut String<A>)
+        requires limit { length input.now ≤ ENCODE_LIMIT }
+        requires room { string_len output.old + length (text_of self.now input.now)
+            ≤ string_capacity output.old }
+        ensures text { string_bytes output.new
+            ≡ string_bytes output.old ++ text_of self.now input.now }
+        ensures len { string_len output.new
+            ≡ string_len output.old + length (text_of self.now input.now) }
+        ensures capacity { string_capacity output.old ≤ string_capacity output.new }
+    {
+        let empty = String::new(*output.allocator());
+        let mut bytes = mem::replace(output, empty).into_bytes();
+        let start = bytes.len();
+        bytes
+            .resize(start + self.encode_len(input.len()), 0)
+            .unwrap();
+        self.encode_mut(input, &mut bytes[start..]);
+        *output = unsafe { String::from_utf8_unchecked(bytes) };
+    }
+}

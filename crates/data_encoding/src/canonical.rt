@@ -1,0 +1,38 @@
+//! Whether data has one text only.
+
+ghost use Rattle.std.specs.Prelude.{◌≡◌, ◌==◌, ◌&&◌, ◌↔◌, IsTrue, length, not};
+ghost use Rattle.data_encoding.specs.Base.{ignores_some, is_padded};
+ghost use Rattle.data_encoding.specs.Canonical.{IsCanonical, has_one_text};
+ghost use Rattle.data_encoding.specs.Fields.{IsSpecified};
+ghost use Rattle.data_encoding.specs.Layout.{translated_bytes};
+
+use crate::encoding::Encoding;
+
+impl Encoding {
+    /// Whether no two different texts decode to the same data.
+    ///
+    /// It is so where trailing bits are checked, no byte is ignored or translated, and padded texts
+    /// may not be concatenated.
+    pub fn is_canonical(&self) -> bool
+        ensures canonical { IsTrue result ↔ IsCanonical self.now }
+        ensures causes { result ≡ has_one_text self.now }
+    {
+        self.has_one_meaning() && !self.translates()
+    }
+
+    // Whether no two texts whose bytes mean different things decode to the same data.
+    fn has_one_meaning(&self) -> bool
+        ensures base { IsSpecified self.now }
+        ensures value { result ≡ (self.now.checks_trailing_bits
+            && not (is_padded self.now && self.now.concatenates) && not (ignores_some self.now)) }
+    {
+        self.checks_trailing_bits && !(self.padding.is_some() && self.concatenates) && !self.ignores
+    }
+
+    // Whether a byte means what another byte is for.
+    fn translates(&self) -> bool
+        ensures { result ≡ not (length (translated_bytes self.now) == 0) }
+    {
+        self.tables().translations().from.len() != 0
+    }
+}

@@ -1,0 +1,108 @@
+//! What the tables of an encoding say: which bytes are ignored, and which stand for others.
+
+ghost use Rattle.std.specs.Prelude.{◌≡◌, ◌^◌, ◌<◌, ◌≤◌, length, map, is_some, IfSome};
+ghost use Rattle.data_encoding.specs.Base.{Base, meaning};
+ghost use Rattle.data_encoding.specs.Layout.{ignored_bytes, is_translated, own_byte, own_character, translated_bytes};
+ghost use Rattle.data_encoding.specs.Tables.{HasTables};
+
+use crate::encoding::{IGNORED, PADDING};
+use arrayvec::ArrayVec;
+
+// The symbols in order of value, the entries of the bytes below 128, and the padding character.
+#[derive(Drop)]
+pub(crate) struct Tables<'a> {
+    pub(crate) symbols: &'a [u8],
+    pub(crate) values: &'a [u8],
+    pub(crate) padding: Option<u8>,
+}
+
+// The bytes that are translated, in order, and what each of them stands for.
+#[derive(Drop)]
+pub(crate) struct Translations {
+    pub(crate) from: ArrayVec<u8, 128>,
+    pub(crate) to: ArrayVec<u8, 128>,
+}
+
+impl Tables<'_> {
+    // The bytes that are ignored, in order.
+    pub(crate) fn ignored(&self) -> ArrayVec<u8, 128>
+        requires { length self.now.values.now ≡ 128 }
+        ensures { (base : Base) → HasTables base self.now → result.items ≡ ignored_bytes base }
+    {
+        let mut bytes = ArrayVec::new();
+        for byte in 0..128 {
+            if self.values[byte as usize] == IGNORED {
+                bytes.push(byte);
+            }
+        }
+        bytes
+    }
+
+    // Each byte that is translated, and what it stands for.
+    pub(crate) fn translations(&self) -> Translations
+        requires { length self.now.values.now ≡ 128 }
+        ensures from { (base : Base) → HasTables base self.now
+            → result.from.items ≡ translated_bytes base }
+        ensures to { (base : Base) → HasTables base self.now
+            → result.to.items ≡ map (own_byte base) (translated_bytes base) }
+    {
+        let mut from = ArrayVec::new();
+        let mut to = ArrayVec::new();
+        for byte in 0..128 {
+            if let Some(own) = self.translation_of(byte) {
+                from.push(byte);
+                to.push(own);
+            }
+        }
+        Translations { from, to }
+    }
+
+    // The symbol or the padding character that the byte stands for, where it is another byte.
+    fn translation_of(&self, byte: u8) -> Option<u8>
+        requires { byte < length self.now.values.now }
+        ensures some { (base : Base) → HasTables base self.now
+            → IfSome result (λ own. own ≡ own_byte base byte) }
+        ensures variant { (base : Base) → HasTables base self.now → is_some result
+            ≡ is_translated base byte (own_character base (meaning base byte)) }
+    {
+        match self.own_character(byte) {
+            Some(own) if own != byte => Some(own),
+            _ => None,
+        }
+    }
+
+    // The symbol or the padding character of what the byte means; 0 for a value that none has.
+    fn own_character(&self, byte: u8) -> Option<u8>
+        requires { byte < length self.now.values.now }
+        ensures { (base : Base) → HasTables base self.now
+            → result ≡ own_character base (meaning base byte) }
+    {
+        let entry = self.values[byte as usize];
+        if entry < 64 {
+            return Some(self.symbols.get(entry as usize).copied().unwrap_or(0));
+        }
+        if entry == PADDING {
+            return self.padding;
+        }
+        None
+    }
+}
+
+// The number of symbols.
+pub(crate) fn symbol_count(width: u8) -> usize
+    requires { width ≤ 6 }
+    ensures value { result ≡ 2 ^ width }
+    ensures few { result ≤ 64 }
+{
+    1 << width
+}
+
+// The byte as a character.
+pub(crate) fn character(byte: Option<u8>) -> Option<char>
+    ensures { result ≡ byte }
+{
+    match byte {
+        Some(byte) => Some(char::from(byte)),
+        None => None,
+    }
+}
