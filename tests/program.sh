@@ -73,6 +73,13 @@ check 'decodes' 0 'Hello' '' 48656c6c6f decode HEXLOWER
 check 'decodes any byte' 0 '\x00\xff\n\xde\xad\xbe\xef' '' 00ff0adeadbeef decode HEXLOWER
 check 'decodes nothing' 0 '' '' '' decode HEXLOWER
 check 'encodes in base64' 0 Zg== '' f encode BASE64
+names='HEXLOWER\nHEXLOWER_PERMISSIVE\nHEXUPPER\nHEXUPPER_PERMISSIVE\nBASE32\nBASE32_NOPAD\n'
+names+='BASE32_NOPAD_NOCASE\nBASE32_NOPAD_VISUAL\nBASE32HEX\nBASE32HEX_NOPAD\nBASE32_DNSSEC\n'
+names+='BASE32_DNSCURVE\nBASE64\nBASE64_NOPAD\nBASE64_MIME\nBASE64_MIME_PERMISSIVE\nBASE64URL\n'
+names+='BASE64URL_NOPAD\n'
+check 'lists the names' 0 "$names" '' 4G list
+check 'a canonical encoding' 0 'true\n' '' 4G canonical BASE32_NOPAD
+check 'an encoding that is not canonical' 0 'false\n' '' 4G canonical BASE64
 check 'decodes lines of base64' 0 foobar '' 'Zm9v\r\nYmFy\r\n' decode BASE64_MIME
 
 check 'an invalid symbol' 1 '' 'basecode: invalid symbol at 1' 4G decode HEXLOWER
@@ -84,6 +91,9 @@ check 'a fault behind sound groups' 1 '' 'basecode: invalid symbol at 7' 48656c6
 check 'an unknown name' 2 '' 'basecode: unknown encoding: NOPE' 4G decode NOPE
 check 'a name in lower case' 2 '' 'basecode: unknown encoding: hexlower' 4G encode hexlower
 check 'an empty name' 2 '' 'basecode: unknown encoding: ' 4G encode ''
+check 'an unknown name in a question' 2 '' 'basecode: unknown encoding: NOPE' 4G canonical NOPE
+check 'a question without a name' 2 '' "$usage" 4G canonical
+check 'a list of a name' 2 '' "$usage" 4G list x
 check 'no words' 2 '' "$usage" 4G
 check 'one word' 2 '' "$usage" 4G encode
 check 'three words' 2 '' "$usage" 4G encode HEXLOWER HEXLOWER
@@ -97,6 +107,12 @@ check 'a word that is not UTF-8' 4 '' 'basecode: out of memory' 4G encode $'\xff
 printf Hello >input
 { "$program" recode HEXLOWER 2>line; status=$?; cat; } <input >output
 count 'wrong words read nothing' is_run 2 Hello "$usage"
+
+# Neither does a list, nor a question.
+for words in list 'canonical BASE32_NOPAD'; do
+    { "$program" $words >answer 2>line; status=$?; cat; } <input >output
+    count "$words reads nothing" is_run 0 Hello ''
+done
 
 # An input that comes in pieces is one input.
 : >output
@@ -140,6 +156,10 @@ if [ -c /dev/full ]; then
     "$program" encode HEXLOWER <input >/dev/full 2>/dev/full
     status=$?
     count 'a full disk for the answer and the line' is_run 3 '' ''
+    : >output
+    "$program" list >/dev/full 2>line
+    status=$?
+    count 'a full disk for the names' is_run 3 '' 'basecode: write failed'
 else
     skip 'a full disk: no /dev/full'
 fi
@@ -175,11 +195,16 @@ status=$?
 count 'decodes 128 MiB' is_run 0 '' ''
 count '64 MiB come back' cmp input back
 
-# Where memory runs out, nothing is written.
-if (ulimit -v 98304 && "$program" encode HEXLOWER </dev/null >output 2>line); then
-    (ulimit -v 98304 && "$program" encode HEXLOWER <input >output 2>line)
+# Where memory runs out, nothing is written. Encoding takes none.
+if (ulimit -v 98304 && "$program" decode HEXLOWER </dev/null >output 2>line); then
+    (ulimit -v 98304 && "$program" decode HEXLOWER <text >output 2>line)
     status=$?
     count 'out of memory' is_run 4 '' 'basecode: out of memory'
+    (ulimit -v 98304 && "$program" encode HEXLOWER <input >again 2>line)
+    status=$?
+    : >output
+    count 'encodes 64 MiB in little memory' is_run 0 '' ''
+    count 'and the text is the same' cmp text again
 else
     skip 'out of memory: no limit on memory here'
 fi

@@ -1,5 +1,5 @@
 -- Lemmas on the words of a command line.
-use Rattle.std.proofs.Common.{◌≡◌, ℕ, ◌<◌, ◌≤◌, List, [], ◌∷◌, length, ◌++◌, codes, get_or, is_some, IsSome, Option, None, Some, ap, refl, sym, ◌∙◌, arith, string_bytes}
+use Rattle.std.proofs.Common.{◌≡◌, ℕ, ◌<◌, ◌≤◌, List, [], ◌∷◌, length, ◌++◌, codes, get_or, is_some, IsSome, Bool, true, false, Option, None, Some, option_map, ap, subst, refl, sym, ◌∙◌, arith, string_bytes}
 use Rattle.std.proofs.lemmas.Bool.{false≢true}
 use Rattle.std.proofs.lemmas.Option.{none-some, same_Some}
 use Rattle.std.specs.Result.{result_ok}
@@ -9,7 +9,13 @@ use Rattle.data_encoding.specs.Fields.{Fields, base_of}
 use Rattle.data_encoding.specs.Base.{Base}
 use Rattle.basecode.specs.Names.{fields_named, IsNamed}
 use Rattle.basecode.specs.Faults.{printed_word_fault}
-use Rattle.basecode.specs.Words.{Asks, IsWrong, Task, both, task_of, texts, verb_of}
+use Rattle.basecode.specs.Words.{AreRequest, Asks, IsWrong, Names, Of, Request, Task, ask_of, both, texts}
+use Rattle.basecode.specs.Run.{Answers, Fulfils, OfInput, OfNames, OfQuestion}
+use Rattle.basecode.specs.declared.command.Ask.{Ask}
+use Rattle.basecode.specs.declared.command.Ask.TheVariants.{Conversion, Question}
+use Rattle.basecode.specs.declared.command.Request.{Request as Requested}
+use Rattle.basecode.specs.declared.command.Request.TheVariants.{List as ListRequested, Of as OfRequested}
+use Rattle.basecode.specs.declared.command.Task.{Task as Asked}
 use Rattle.basecode.specs.declared.command.Verb.{Verb}
 use Rattle.basecode.specs.declared.fault.WordFault.{WordFault}
 use Rattle.basecode.specs.declared.fault.WordFault.TheVariants.{Usage, UnknownName}
@@ -29,52 +35,106 @@ pub texts_of_two : (words : List (String Global)) (x y : String Global)
 texts_of_two words x y least below first second =
     ap texts (two_is words x y least below first second)
 
--- a verb and a known name are a task
-pub task_of_two : (words : List (List ℕ)) (word name : List ℕ) (verb : Verb) (fields : Fields)
-    → words ≡ word ∷ name ∷ [] → verb_of word ≡ Some verb → fields_named name ≡ Some fields
-    → task_of words ≡ Some (record { verb = verb; fields = fields })
-task_of_two words word name verb fields are verb_is fields_is =
-    ap task_of are ∙ (λ i. both (verb_is i) (fields_is i))
+abbrev task_in : Option Request → Option Task
+task_in (Some (Of task)) = Some task
+task_in _ = None
 
-both_verb : (v : Option Verb) (f : Option Fields) (given : Verb) (task : Task)
-    → v ≡ Some given → both v f ≡ Some task → task.verb ≡ given
-both_verb (Some v) (Some f) given task is both_is =
-    sym (ap (λ (t : Task). t.verb) (same_Some _ _ both_is)) ∙ same_Some _ _ is
-both_verb (Some v) None given task is both_is = absurd (none-some _ both_is)
-both_verb None f given task is both_is = absurd (none-some _ is)
+task_in-Of : (t : Option Task) → task_in (option_map Of t) ≡ t
+task_in-Of (Some task) = refl
+task_in-Of None = refl
 
-both_fields : (v : Option Verb) (f : Option Fields) (given : Fields) (task : Task)
+both_ask : (v : Option Ask) (f : Option Fields) (given : Ask) (task : Task)
+    → v ≡ Some given → both v f ≡ Some task → task.ask ≡ given
+both_ask (Some v) (Some f) given task is both_is =
+    sym (ap (λ (t : Task). t.ask) (same_Some _ _ both_is)) ∙ same_Some _ _ is
+both_ask (Some v) None given task is both_is = absurd (none-some _ both_is)
+both_ask None f given task is both_is = absurd (none-some _ is)
+
+both_fields : (v : Option Ask) (f : Option Fields) (given : Fields) (task : Task)
     → f ≡ Some given → both v f ≡ Some task → task.fields ≡ given
 both_fields (Some v) (Some f) given task is both_is =
     sym (ap (λ (t : Task). t.fields) (same_Some _ _ both_is)) ∙ same_Some _ _ is
 both_fields (Some v) None given task is both_is = absurd (none-some _ both_is)
 both_fields None f given task is both_is = absurd (none-some _ both_is)
 
-no_fields : (v : Option Verb) (f : Option Fields) (task : Task)
+no_fields : (v : Option Ask) (f : Option Fields) (task : Task)
     → f ≡ None → both v f ≡ Some task → ⊥
 no_fields (Some v) (Some f) task none both_is = none-some _ (sym none)
 no_fields (Some v) None task none both_is = none-some _ both_is
 no_fields None f task none both_is = none-some _ both_is
 
-module _ (word name : List ℕ) (verb : Verb) (base : Base)
-    (asked : Asks (word ∷ name ∷ []) verb base) where
-  -- the verb that two words ask for
-  pub verb_asked : (given : Verb) → verb_of word ≡ Some given → verb ≡ given
-  verb_asked given is = both_verb _ _ given _ is asked.is_task
+-- the names are asked for by one word
+names_by_two : (t : Option Task) → option_map Of t ≡ Some Names → ⊥
+names_by_two (Some task) is = absurd (none-some _ (sym (ap task_in is)))
+names_by_two None is = absurd (none-some _ is)
 
-  -- the base that two words ask for
+-- A request that asks this of an encoding asks it of its base.
+pub Asks-request : (words : List (List ℕ)) (request : Requested) (task : Asked) (ask : Ask)
+    → request ≡ OfRequested task → task.ask ≡ ask → AreRequest words request
+    → Asks words ask task.encoding
+Asks-request words request task ask is asks are =
+    subst (λ a. Asks words a task.encoding) asks (subst (AreRequest words) is are)
+
+abbrev verb_in : Verb → Ask → Verb
+verb_in other (Conversion verb) = verb
+verb_in other Question = other
+
+abbrev is_question : Ask → Bool
+is_question (Conversion verb) = false
+is_question Question = true
+
+module _ (word name : List ℕ) (ask : Ask) (base : Base)
+    (asked : Asks (word ∷ name ∷ []) ask base) where
+  is_task : both (ask_of word) (fields_named name)
+      ≡ Some (record { ask = ask; fields = asked.fields })
+  is_task = sym (task_in-Of (both (ask_of word) (fields_named name))) ∙ ap task_in asked.is_request
+
+  -- what two words ask
+  ask_asked : (given : Ask) → ask_of word ≡ Some given → ask ≡ given
+  ask_asked given is = both_ask _ _ given _ is is_task
+
+  -- the base that two words ask about
   pub base_asked : (named : Base) → IsNamed name named → base ≡ named
   base_asked named known =
-      let same = both_fields _ _ known.fields _ known.is_known asked.is_task in
+      let same = both_fields _ _ known.fields _ known.is_known is_task in
       same_Some _ _ (ap result_ok (sym asked.is_built ∙ ap base_of same ∙ known.is_built))
 
   -- a name that is asked for is known
-  pub name_asked : fields_named name ≡ None → ⊥
-  name_asked unknown = no_fields _ _ _ unknown asked.is_task
+  name_asked : fields_named name ≡ None → ⊥
+  name_asked unknown = no_fields _ _ _ unknown is_task
+
+-- a name in a request is known
+pub name_requested : (word name : List ℕ) (request : Requested)
+    → AreRequest (word ∷ name ∷ []) request → fields_named name ≡ None → ⊥
+name_requested word name ListRequested are unknown =
+    names_by_two (both (ask_of word) (fields_named name)) are
+name_requested word name (OfRequested task) are unknown =
+    name_asked word name task.ask task.encoding are unknown
+
+-- the conversion that two words ask for
+pub verb_asked : (word name : List ℕ) (verb : Verb) (base : Base)
+    → Asks (word ∷ name ∷ []) (Conversion verb) base
+    → (given : Verb) → ask_of word ≡ Some (Conversion given) → verb ≡ given
+verb_asked word name verb base asked given is =
+    ap (verb_in given) (ask_asked word name (Conversion verb) base asked (Conversion given) is)
+
+-- the answer to an input, where two words ask for it
+pub converted : (word name : List ℕ) (verb : Verb) (old new : Option (List ℕ)) (output : List ℕ)
+    → ask_of word ≡ Some (Conversion verb) → Fulfils (word ∷ name ∷ []) old new output
+    → (base : Base) → IsNamed name base → Answers verb base old new output
+converted word name verb old new output asks (OfInput other its asked answers) base known =
+    subst (λ v. Answers v base old new output) (verb_asked word name other its asked verb asks)
+    (subst (λ b. Answers other b old new output)
+    (base_asked word name (Conversion other) its asked base known) answers)
+converted word name verb old new output asks (OfQuestion its asked keeps is) base known =
+    absurd (false≢true (sym (ap is_question
+    (ask_asked word name Question its asked (Conversion verb) asks))))
+converted word name verb old new output asks (OfNames is keeps listed) base known =
+    absurd (names_by_two (both (ask_of word) (fields_named name)) is)
 
 -- what is printed of a name that is not known
 pub printed_name : (word name : List ℕ) (fault : WordFault) → IsWrong (word ∷ name ∷ []) fault
-    → IsSome (verb_of word) → printed_word_fault fault ≡ codes "unknown encoding: " ++ name
+    → IsSome (ask_of word) → printed_word_fault fault ≡ codes "unknown encoding: " ++ name
 printed_name word name Usage wrong some =
     absurd (false≢true (sym (ap is_some (wrong word name refl)) ∙ some))
 printed_name word name (UnknownName given) wrong some =

@@ -3,6 +3,8 @@ use Rattle.std.specs.Prelude.{ℕ, List, ◌++◌, codes, Result, Ok, Err}
 use Rattle.data_encoding.specs.Printed.{printed_error}
 use Rattle.data_encoding.specs.declared.error.DecodeFault.{DecodeFault}
 use Rattle.data_encoding.specs.declared.error.DecodeFault.TheVariants.{Error, OutOfMemory as DecodingMemory}
+use Rattle.encoding_stream.specs.declared.error.StreamFault.{StreamFault}
+use Rattle.encoding_stream.specs.declared.error.StreamFault.TheVariants.{Read as StreamRead, Write as StreamWrite, Decode as StreamDecode, TooLong as StreamTooLong}
 use Rattle.basecode.specs.declared.input.InputFault.{InputFault}
 use Rattle.basecode.specs.declared.input.InputFault.TheVariants.{Read as InputRead, TooLong as InputTooLong, OutOfMemory as InputMemory}
 use Rattle.basecode.specs.declared.fault.Fault.{Fault}
@@ -47,3 +49,10 @@ fault_of_input InputMemory = OutOfMemory
 abbrev pub fault_of_decoding : DecodeFault → Fault
 fault_of_decoding (Error error) = Decode error
 fault_of_decoding DecodingMemory = OutOfMemory
+
+-- what a fault of a stream is to a conversion
+abbrev pub fault_of_stream : StreamFault → Fault
+fault_of_stream StreamRead = Read
+fault_of_stream StreamWrite = Write
+fault_of_stream (StreamDecode error) = Decode error
+fault_of_stream StreamTooLong = TooLong

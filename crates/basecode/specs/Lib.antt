@@ -1,4 +1,3 @@
-pub mod Watch
 pub mod Input
 pub mod Faults
 pub mod Names

@@ -1,5 +1,5 @@
 -- The names of the encodings.
-use Rattle.std.specs.Prelude.{◌≡◌, ℕ, List, [], ◌∷◌, codes, bytes_eq, find, Option, Some, option_map, Ok}
+use Rattle.std.specs.Prelude.{◌≡◌, ℕ, List, [], ◌∷◌, ◌++◌, codes, bytes_eq, find, flat_map, Option, Some, option_map, Ok}
 use Rattle.data_encoding.specs.Base.{Base}
 use Rattle.data_encoding.specs.Fields.{Fields, base_of}
 use Rattle.data_encoding.specs.Predefined.{hexlower_fields, hexlower_permissive_fields, hexupper_fields, hexupper_permissive_fields, base32_fields, base32_nopad_fields, base32_nopad_nocase_fields, base32_nopad_visual_fields, base32hex_fields, base32hex_nopad_fields, base32_dnssec_fields, base32_dnscurve_fields, base64_fields, base64_nopad_fields, base64_mime_fields, base64_mime_permissive_fields, base64url_fields, base64url_nopad_fields}
@@ -26,6 +26,10 @@ names =
     ∷ (codes "BASE64URL", base64url_fields)
     ∷ (codes "BASE64URL_NOPAD", base64url_nopad_fields)
     ∷ []
+
+-- the names, each followed by LF
+abbrev pub listing : List ℕ
+listing = flat_map (λ (entry : List ℕ × Fields). entry.0 ++ 10 ∷ []) names
 
 -- the specification of a name, where it is known
 abbrev pub fields_named : List ℕ → Option Fields

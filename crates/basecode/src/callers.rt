@@ -1,17 +1,17 @@
 //! Small callers, each proved from the clauses of what it calls: what these let a user conclude.
 
-ghost use Rattle.std.specs.Prelude.{◌≡◌, ◌≢◌, ◌+◌, ◌++◌, ◌<◌, ◌≤◌, ℕ, List, [], ◌∷◌, codes, drop, length, string_bytes, take, IfOk, IfSome, IsSome, None};
+ghost use Rattle.std.specs.Prelude.{◌≡◌, ◌≢◌, ◌-◌, ◌^◌, ◌+◌, ◌⊎◌, ◌++◌, ◌<◌, ◌≤◌, ℕ, List, [], ◌∷◌, codes, drop, length, string_bytes, take, IfOk, IfSome, IsSome, None};
 ghost use Rattle.data_encoding.specs.Base.{Base};
 ghost use Rattle.data_encoding.specs.Fault.{fault_of};
 ghost use Rattle.data_encoding.specs.Grammar.{Means};
 ghost use Rattle.data_encoding.specs.Text.{text_of};
 ghost use Rattle.basecode.specs.Names.{IsNamed, fields_named};
-ghost use Rattle.basecode.specs.Words.{texts, verb_of};
+ghost use Rattle.basecode.specs.Words.{ask_of, texts};
 
-use crate::command::task_named;
+use crate::command::request_named;
 use crate::run::run;
-use crate::watch::Watch;
-use data_encoding::{DECODE_LIMIT, ENCODE_LIMIT};
+use data_encoding::DECODE_LIMIT;
+use encoding_stream::Watch;
 use std::alloc::{AllocError, Global};
 
 /// A run over bytes in memory: its exit status, what it did not read, and what its output holds.
@@ -42,14 +42,12 @@ fn encode<'a>(
     ensures text { IfOk result (λ ended. ended.status ≡ 0 → (base : Base) → IsNamed name.now base
         → ended.output.items ≡ output.items ++ text_of base input.now) }
     ensures too_long { IfOk result (λ ended. ended.status ≡ 1
-        → (ENCODE_LIMIT < length input.now)
-        × (ended.rest.now ≡ drop (ENCODE_LIMIT + 1) input.now)) }
-    ensures memory { IfOk result (λ ended. ended.status ≡ 4 → input.now ≢ []) }
+        → 2 ^ 64 - 1 < length input.now) }
+    ensures memory { IfOk result (λ ended. ended.status ≢ 4) }
     ensures begun { IfOk result (λ ended. ended.status ≡ 3 → (base : Base) → IsNamed name.now base
         → (count : ℕ)
         × (ended.output.items ≡ output.items ++ take count (text_of base input.now))) }
-    ensures kept { IfOk result (λ ended. ended.status ≢ 0 → ended.status ≢ 3
-        → ended.output.items ≡ output.items) }
+    ensures kept { IfOk result (λ ended. ended.status ≡ 2 → ended.output.items ≡ output.items) }
 {
     let words = words_of(alloc, "encode", name)?;
     let mut reader = Watch::new(input);
@@ -76,6 +74,11 @@ fn decode<'a>(
         × (ended.output.items ≡ output.items ++ bytes)) }
     ensures sound { IfOk result (λ ended. (base : Base) → IsNamed name.now base
         → fault_of base input.now ≡ None → length input.now ≤ DECODE_LIMIT → ended.status ≢ 1) }
+    ensures rest { IfOk result (λ ended. ended.status ≡ 1 → (ended.rest.now ≡ [])
+        ⊎ (ended.rest.now ≡ drop (DECODE_LIMIT + 1) input.now)) }
+    ensures memory { IfOk result (λ ended. ended.status ≡ 4 → input.now ≢ []) }
+    ensures kept { IfOk result (λ ended. ended.status ≢ 0 → ended.status ≢ 3
+        → ended.output.items ≡ output.items) }
 {
     let words = words_of(alloc, "decode", name)?;
     let mut reader = Watch::new(input);
@@ -103,14 +106,14 @@ fn encode_hello(alloc: Global) -> Result<Option<Vec<u8>>, AllocError>
 
 // What is printed of two words, and nothing where they are right.
 fn told(alloc: Global, verb: &str, name: &str) -> Result<String, AllocError>
-    ensures no_verb { IfOk result (λ line. verb_of verb.now ≡ None → string_bytes line
+    ensures no_verb { IfOk result (λ line. ask_of verb.now ≡ None → string_bytes line
         ≡ codes "usage: basecode list OR encode NAME OR decode NAME OR canonical NAME") }
-    ensures no_name { IfOk result (λ line. IsSome (verb_of verb.now)
+    ensures no_name { IfOk result (λ line. IsSome (ask_of verb.now)
         → fields_named name.now ≡ None
         → string_bytes line ≡ codes "unknown encoding: " ++ name.now) }
 {
     let words = words_of(alloc, verb, name)?;
-    match task_named(&words) {
+    match request_named(&words) {
         Ok(_) => Ok(String::new(alloc)),
         Err(fault) => format!(in alloc; "{fault}"),
     }

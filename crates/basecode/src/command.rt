@@ -1,11 +1,11 @@
 //! What the words of a command line ask for.
 
-ghost use Rattle.std.specs.Prelude.{◌≡◌, ◌↔◌, IfErr, IfOk, IsErr, None};
-ghost use Rattle.basecode.specs.Words.{Asks, IsWrong, limit_of, task_of, texts, verb_of};
+ghost use Rattle.std.specs.Prelude.{◌≡◌, ◌↔◌, [], ◌∷◌, IfErr, IfOk, IsErr, None};
+ghost use Rattle.basecode.specs.Words.{AreRequest, Asks, IsWrong, ask_of, limit_of, request_of, texts};
 
 use crate::fault::WordFault;
 use crate::names::encoding_named;
-use data_encoding::{DECODE_LIMIT, ENCODE_LIMIT, Encoding};
+use data_encoding::{DECODE_LIMIT, Encoding};
 
 /// What is done with an input.
 #[derive(Clone, Copy, Debug, PartialEq, Eq)]
@@ -17,14 +17,34 @@ pub enum Verb {
     Decode,
 }
 
-/// What the words ask for.
+/// What a word asks of an encoding.
+#[derive(Clone, Copy, Debug, PartialEq, Eq)]
+pub enum Ask {
+    /// The answer to an input.
+    Conversion(Verb),
+
+    /// Whether data has one text only.
+    Question,
+}
+
+/// What is asked of an encoding.
 #[derive(Debug, Drop)]
 pub struct Task {
-    /// What is done with the input.
-    pub verb: Verb,
+    /// What is asked.
+    pub ask: Ask,
 
-    /// The encoding by which it is done.
+    /// The encoding of which it is asked.
     pub encoding: Encoding,
+}
+
+/// What the words ask for.
+#[derive(Debug, Drop)]
+pub enum Request {
+    /// The names of the encodings.
+    List,
+
+    /// Something of an encoding.
+    Of(Task),
 }
 
 impl Verb {
@@ -33,19 +53,20 @@ impl Verb {
         ensures { result ≡ limit_of self }
     {
         match self {
-            Verb::Encode => ENCODE_LIMIT,
+            Verb::Encode => usize::MAX,
             Verb::Decode => DECODE_LIMIT,
         }
     }
 }
 
-// The verb of a word.
-fn verb_named(word: &str) -> Option<Verb>
-    ensures { result ≡ verb_of word.now }
+// What a word asks of an encoding.
+fn ask_named(word: &str) -> Option<Ask>
+    ensures { result ≡ ask_of word.now }
 {
     match word {
-        "encode" => Some(Verb::Encode),
-        "decode" => Some(Verb::Decode),
+        "encode" => Some(Ask::Conversion(Verb::Encode)),
+        "decode" => Some(Ask::Conversion(Verb::Decode)),
+        "canonical" => Some(Ask::Question),
         _ => None,
     }
 }
@@ -53,19 +74,32 @@ fn verb_named(word: &str) -> Option<Verb>
 /// What the words ask for.
 ///
 /// Their number and the first of them are judged before the name.
-pub fn task_named(words: &[String]) -> Result<Task, WordFault<'_>>
-    ensures asked { IfOk result (λ task. Asks (texts words.now) task.verb task.encoding) }
-    ensures wrong { IsErr result ↔ (task_of (texts words.now) ≡ None) }
+pub fn request_named(words: &[String]) -> Result<Request, WordFault<'_>>
+    ensures asked { IfOk result (AreRequest (texts words.now)) }
+    ensures wrong { IsErr result ↔ (request_of (texts words.now) ≡ None) }
     ensures fault { IfErr result (IsWrong (texts words.now)) }
 {
-    let [word, name] = words else {
+    match words {
+        [word] if word.as_str() == "list" => Ok(Request::List),
+        [word, name] => match task_named(word.as_str(), name.as_str()) {
+            Ok(task) => Ok(Request::Of(task)),
+            Err(fault) => Err(fault),
+        },
+        _ => Err(WordFault::Usage),
+    }
+}
+
+// What two words ask for.
+fn task_named<'a>(word: &str, name: &'a str) -> Result<Task, WordFault<'a>>
+    ensures asked { IfOk result (λ task. Asks (word.now ∷ name.now ∷ []) task.ask task.encoding) }
+    ensures wrong { IsErr result ↔ (request_of (word.now ∷ name.now ∷ []) ≡ None) }
+    ensures fault { IfErr result (IsWrong (word.now ∷ name.now ∷ [])) }
+{
+    let Some(ask) = ask_named(word) else {
         return Err(WordFault::Usage);
     };
-    let Some(verb) = verb_named(word.as_str()) else {
-        return Err(WordFault::Usage);
-    };
-    match encoding_named(name.as_str()) {
-        Some(encoding) => Ok(Task { verb, encoding }),
-        None => Err(WordFault::UnknownName(name.as_str())),
+    match encoding_named(name) {
+        Some(encoding) => Ok(Task { ask, encoding }),
+        None => Err(WordFault::UnknownName(name)),
     }
 }

@@ -5,6 +5,7 @@ ghost use Rattle.basecode.specs.Faults.{printed_fault, printed_word_fault, statu
 
 use crate::input::InputFault;
 use data_encoding::{DecodeError, DecodeFault};
+use encoding_stream::StreamFault;
 use std::alloc::AllocError;
 use std::fmt;
 use std::io::Write;
@@ -90,6 +91,22 @@ impl From<InputFault> for Fault {
             InputFault::Read => Fault::Read,
             InputFault::TooLong => Fault::TooLong,
             InputFault::OutOfMemory => Fault::OutOfMemory,
+        }
+    }
+}
+
+impl From<StreamFault> for Fault {
+    ghost use Rattle.std.specs.Prelude.{◌≡◌};
+    ghost use Rattle.basecode.specs.Faults.{fault_of_stream};
+
+    ghost from_gives = { λ fault made. made ≡ fault_of_stream fault };
+
+    fn from(fault: StreamFault) -> Fault {
+        match fault {
+            StreamFault::Read => Fault::Read,
+            StreamFault::Write => Fault::Write,
+            StreamFault::Decode(error) => Fault::Decode(error),
+            StreamFault::TooLong => Fault::TooLong,
         }
     }
 }

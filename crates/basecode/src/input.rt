@@ -2,9 +2,9 @@
 
 ghost use Rattle.std.specs.Prelude.{◌≡◌, ◌+◌, ◌^◌, ◌<◌, ◌≤◌, ◌↔◌, length, false, IsTrue, IfOk, Err};
 ghost use Rattle.basecode.specs.Input.{ReadsPast, ReadsSome, ReadsWhole};
-ghost use Rattle.basecode.specs.Watch.{has_failed, inner_of};
+ghost use Rattle.encoding_stream.specs.Watch.{has_failed, inner_of};
 
-use crate::watch::Watch;
+use encoding_stream::Watch;
 use std::alloc::Global;
 use std::io::Read;
 

@@ -2,7 +2,9 @@
 //!
 //! `basecode encode NAME` reads bytes and writes their text, and `basecode decode NAME` reads a
 //! text and writes the bytes that it means, by the encoding of that name: one of the eighteen
-//! predefined encodings of `data_encoding`, in upper case, as `BASE64_MIME`. The exit status is 0
+//! predefined encodings of `data_encoding`, in upper case, as `BASE64_MIME`. `basecode list` writes
+//! these names, each as a line, and `basecode canonical NAME` writes `true` where data has one text
+//! only, and else `false`. The exit status is 0
 //! where that was done, 1 where the input has a fault or is too long, 2 where the words are wrong,
 //! 3 where a read, a write or a flush failed, and 4 where memory ran out.
 #![tactic(auto)]
@@ -13,13 +15,12 @@ mod fault;
 mod input;
 mod names;
 mod run;
-mod watch;
 
+pub use encoding_stream::Watch;
 use fault::{Fault, tell};
 pub use run::run;
 use std::process::ExitCode;
 use std::{env, io};
-pub use watch::Watch;
 
 // The words of the command line, without the name of the program.
 fn words_of(rt: &HostRuntime) -> io::Result<Vec<String>> {

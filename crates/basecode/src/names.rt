@@ -1,7 +1,7 @@
 //! The names of the encodings.
 
 ghost use Rattle.std.specs.Prelude.{◌≡◌, ◌↔◌, IfSome, IsNone, None};
-ghost use Rattle.basecode.specs.Names.{fields_named, IsNamed};
+ghost use Rattle.basecode.specs.Names.{fields_named, listing, IsNamed};
 
 use data_encoding::{
     Encoding, base32, base32_dnscurve, base32_dnssec, base32_nopad, base32_nopad_nocase,
@@ -36,4 +36,28 @@ pub fn encoding_named(name: &str) -> Option<Encoding>
         "BASE64URL_NOPAD" => Some(base64url_nopad()),
         _ => None,
     }
+}
+
+/// The names, each followed by LF.
+pub fn names_listed() -> &'static str
+    ensures { result.now ≡ listing }
+{
+    "HEXLOWER\n\
+     HEXLOWER_PERMISSIVE\n\
+     HEXUPPER\n\
+     HEXUPPER_PERMISSIVE\n\
+     BASE32\n\
+     BASE32_NOPAD\n\
+     BASE32_NOPAD_NOCASE\n\
+     BASE32_NOPAD_VISUAL\n\
+     BASE32HEX\n\
+     BASE32HEX_NOPAD\n\
+     BASE32_DNSSEC\n\
+     BASE32_DNSCURVE\n\
+     BASE64\n\
+     BASE64_NOPAD\n\
+     BASE64_MIME\n\
+     BASE64_MIME_PERMISSIVE\n\
+     BASE64URL\n\
+     BASE64URL_NOPAD\n"
 }

@@ -1,6 +1,6 @@
 use Rattle.std.proofs.Common.{◌≡◌, ◌≤◌, ◌-◌, length, false}
 use Rattle.std.specs.Io.KnownBytes.{Consumes}
-use Rattle.basecode.specs.Watch.{has_failed, inner_of}
+use Rattle.encoding_stream.specs.Watch.{has_failed, inner_of}
 use Rattle.basecode.proofs.input.read_whole.Given as goal
 
 abbrev pub invariant-loop-count : goal.invariant-loop-count

@@ -59,3 +59,13 @@ fn an_interrupted_write_fails(rt: HostRuntime) -> Result<(), Fail> {
     assert!(rt; is_end(rt.alloc(), Failure::Flush, 4, 1, "48656c6c6f")?);
     Ok(())
 }
+
+#[test]
+fn an_interrupted_list_fails(rt: HostRuntime) -> Result<(), Fail> {
+    let writer = FakeWriter::new(rt.alloc(), Failure::Write, 2)?;
+    let got = outcome_of(rt.alloc(), "list", FakeReader::new(b"Hello", 2), writer)?;
+    assert!(rt; got.status == 3 && got.reads == 0);
+    assert!(rt; got.writer.bytes.as_slice() == b"HEXLOW".as_slice());
+    assert!(rt; got.writer.writes == 3 && got.writer.flushes == 0);
+    Ok(())
+}

@@ -35,8 +35,10 @@ fn prints_the_fault_of_wrong_words(rt: HostRuntime) -> Result<(), Fail> {
         ("encode", usage),
         ("encode HEXLOWER HEXLOWER", usage),
         ("recode NOPE", usage),
-        ("list", usage),
-        ("canonical BASE64", usage),
+        ("list x", usage),
+        ("canonical", usage),
+        ("canonical BASE64 BASE64", usage),
+        ("canonical NOPE", "basecode: unknown encoding: NOPE\n"),
     ] {
         let got = done(rt.alloc(), words, b"4G")?;
         assert!(rt; got.is_fault(2, line) && got.reads == 0, "at {words}");
@@ -44,23 +46,21 @@ fn prints_the_fault_of_wrong_words(rt: HostRuntime) -> Result<(), Fail> {
     Ok(())
 }
 
-// The fault of four bytes under a limit, and how many reads there were by then.
-fn limited(alloc: Global, verb: Verb, limit: usize) -> Result<(Option<Fault>, usize), AllocError> {
+// The fault of a text of four bytes under a limit, and how many reads there were by then.
+fn limited(alloc: Global, limit: usize) -> Result<(Option<Fault>, usize), AllocError> {
+    let verb = Verb::Decode;
     let encoding = hexlower();
-    let task = Task { verb, encoding };
     let mut reader = Watch::new(FakeReader::new(b"4a4a", 1));
     let mut writer = Watch::new(FakeWriter::new(alloc, Failure::Nothing, 0)?);
     let limit = limit.min(verb.limit());
-    let result = convert(alloc, &task, limit, &mut reader, &mut writer);
+    let result = convert(alloc, verb, &encoding, limit, &mut reader, &mut writer);
     Ok((result.err(), reader.into_inner().calls))
 }
 
 #[test]
-fn refuses_an_input_past_the_limit(rt: HostRuntime) -> Result<(), Fail> {
-    for verb in [Verb::Encode, Verb::Decode] {
-        assert_eq!(rt; limited(rt.alloc(), verb, 4)?, (None, 5));
-        assert_eq!(rt; limited(rt.alloc(), verb, 3)?, (Some(Fault::TooLong), 4));
-        assert_eq!(rt; limited(rt.alloc(), verb, 0)?, (Some(Fault::TooLong), 1));
-    }
+fn refuses_a_text_past_the_limit(rt: HostRuntime) -> Result<(), Fail> {
+    assert_eq!(rt; limited(rt.alloc(), 4)?, (None, 5));
+    assert_eq!(rt; limited(rt.alloc(), 3)?, (Some(Fault::TooLong), 4));
+    assert_eq!(rt; limited(rt.alloc(), 0)?, (Some(Fault::TooLong), 1));
     Ok(())
 }

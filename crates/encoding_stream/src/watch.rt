@@ -3,7 +3,7 @@
 ghost use Rattle.std.specs.Prelude.{◌≡◌, ◌||◌, false, is_err, OnOk};
 ghost use Rattle.std.specs.Io.{ReadsAtMost, WritesAtMost};
 ghost use Rattle.std.specs.Io.KnownBytes.{Appends, Keeps, ReadConsumes, WriteAppends};
-ghost use Rattle.basecode.specs.Watch.{AppendsFront, has_failed, inner_of, is_refused};
+ghost use Rattle.encoding_stream.specs.Watch.{AppendsFront, has_failed, inner_of, is_refused};
 
 use std::io;
 use std::io::{Read, Write};

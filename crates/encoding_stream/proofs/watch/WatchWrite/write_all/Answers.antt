@@ -1,7 +1,7 @@
 use Rattle.std.proofs.Common.{arith}
 use Rattle.std.proofs.lemmas.Grind.{common_steps}
-use Rattle.basecode.proofs.StreamLemmas.{Appends-more}
-use Rattle.basecode.proofs.watch.WatchWrite.write_all.Goals as goal
+use Rattle.encoding_stream.proofs.WriteLemmas.{Appends-more}
+use Rattle.encoding_stream.proofs.watch.WatchWrite.write_all.Goals as goal
 
 pub loop-done-preserved : goal.loop-done-preserved
 loop-done-preserved g c = record {

@@ -1,7 +1,7 @@
 -- What a contract sees of a `Watch`.
 use Rattle.std.specs.Prelude.{ℕ, Bool, true, ◌==◌, ◌&&◌, nat_lt, List, length, take, Option, Result, Ok, Err}
 use Rattle.std.specs.Io.KnownBytes.{Appends}
-use Rattle.basecode.specs.declared.watch.Watch.{Watch}
+use Rattle.encoding_stream.specs.declared.watch.Watch.{Watch}
 
 -- the reader or the writer that is watched
 abbrev pub inner_of : {T : Type 0} → Watch T → T

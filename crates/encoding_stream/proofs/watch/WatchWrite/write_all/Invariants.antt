@@ -1,7 +1,7 @@
 use Rattle.std.proofs.Common.{◌≡◌, ◌≤◌, ◌-◌, length, take}
 use Rattle.std.specs.Io.KnownBytes.{Appends}
-use Rattle.basecode.specs.Watch.{has_failed, inner_of}
-use Rattle.basecode.proofs.watch.WatchWrite.write_all.Given as goal
+use Rattle.encoding_stream.specs.Watch.{has_failed, inner_of}
+use Rattle.encoding_stream.proofs.watch.WatchWrite.write_all.Given as goal
 
 abbrev pub invariant-loop-done : goal.invariant-loop-done
 invariant-loop-done g l = record {

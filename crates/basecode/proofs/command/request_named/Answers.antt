@@ -1,0 +1,15 @@
+use Rattle.std.proofs.Common.{◌≡◌, [], ◌∷◌, ◌∙◌, subst, sym}
+use Rattle.basecode.specs.Words.{IsWrong, texts}
+use Rattle.basecode.proofs.WordLemmas.{texts_of_two}
+use Rattle.basecode.proofs.command.request_named.Goals as goal
+
+pub returns-in-Err-clause-fault : goal.returns-in-Err-clause-fault
+returns-in-Err-clause-fault c =
+    let word = c.word-item-then-words-lt3.result in
+    let name = c.name-item.result in
+    let are : texts c.args.words.now
+    ≡ c.as_str-in-len2.result.now ∷ c.as_str-in-len2-2.result.now ∷ [] =
+    texts_of_two c.args.words.now word name c.in-len2.len_at_least c.in-len2.len_below
+    c.word-item-then-words-lt3.is c.name-item.is
+    ∙ (λ i. sym c.as_str-in-len2.ensures.value i ∷ sym c.as_str-in-len2-2.ensures.value i ∷ []) in
+    subst (λ words. IsWrong words c.in-Err.fault) (sym are) c.in-Err.ensures.fault

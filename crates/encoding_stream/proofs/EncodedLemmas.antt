@@ -1,0 +1,247 @@
+-- Data that is read and encoded piece by piece.
+use Rattle.std.proofs.Common.{◌≡◌, ℕ, ◌+◌, ◌*◌, ◌/◌, ◌%◌, ◌<◌, ◌≤◌, List, [], ◌++◌, Option, None, Some, IfSome, ◌⊎◌, inl, inr, length, take, drop, refl, sym, ap, ◌∙◌, subst, arith, append_assoc, length-append, take-append-drop, length-take-le}
+use Rattle.std.proofs.Math.Nat.{div-mul-le_self, le-div_iff_mul-le, mod-add-mod, mul-mod_left, zero-add, zero-mul}
+use Rattle.std.proofs.lemmas.List.{length-drop, nil_from_length}
+use Rattle.std.proofs.lemmas.Nat.{mul-le}
+use Rattle.std.specs.Io.KnownBytes.{Appends, Consumes, IsAtEnd}
+use Rattle.std.proofs.KnownBytes.{Appends-nil, Appends-trans, Consumes-nil, Consumes-trans, Consumes-whole}
+use Rattle.data_encoding.specs.Base.{Base}
+use Rattle.data_encoding.specs.Fields.{IsSpecified}
+use Rattle.data_encoding.specs.Laws.{JoinEncode}
+use Rattle.data_encoding.specs.Lengths.{alignment}
+use Rattle.data_encoding.specs.Text.{text_of}
+use Rattle.encoding_stream.specs.Encoded.{EncodesAll, EncodesFront, ReadsMore}
+use Rattle.encoding_stream.specs.Watch.{AppendsFront}
+use Rattle.encoding_stream.proofs.WriteLemmas.{AppendsFront-all, AppendsFront-more, AppendsFront-nothing, AppendsFront-within}
+
+-- no bytes are whole blocks
+none-whole : (size : ℕ) → 0 % size ≡ 0
+none-whole size = subst (λ n. n % size ≡ 0) (zero-mul size) (mul-mod_left 0 size)
+
+-- the whole blocks that fit so much room
+module _ (room size : ℕ) where
+  pub blocks-few : room / size * size ≤ room
+  blocks-few = div-mul-le_self room size
+
+  pub blocks-some : 0 < size → size ≤ room → 0 < room / size * size
+  blocks-some some fits =
+      let one : 1 ≤ room / size = (le-div_iff_mul-le some).1 (omega (arith, fits)) in
+      omega (arith, mul-le 1 1 (room / size) size one some)
+
+  pub blocks-whole : room / size * size % size ≡ 0
+  blocks-whole = mul-mod_left (room / size) size
+
+-- the lengths of whole blocks, one behind the other
+whole-both : (m n size : ℕ) → m % size ≡ 0 → n % size ≡ 0 → (m + n) % size ≡ 0
+whole-both m n size one other =
+    sym (mod-add-mod m size n) ∙ ap (λ k. (k + n) % size) one ∙ ap (λ k. k % size) (zero-add n) ∙
+    other
+
+module _ (base : Base) (specified : IsSpecified base) (join : JoinEncode) where
+  -- the text of nothing is nothing
+  text_of-nil : text_of base [] ≡ []
+  text_of-nil =
+      let twice = join base specified [] [] (none-whole (alignment base)) in
+      nil_from_length (text_of base [])
+      (omega (arith, ap length twice, length-append (text_of base []) (text_of base [])))
+
+  -- the text of whole blocks, and then that of the others
+  text_of-split : (input : List ℕ) (n : ℕ) → n ≤ length input → n % alignment base ≡ 0
+      → text_of base input ≡ text_of base (take n input) ++ text_of base (drop n input)
+  text_of-split input n within whole =
+      ap (text_of base) (sym (take-append-drop n input))
+      ∙ join base specified (take n input) (drop n input)
+      (ap (λ k. k % alignment base) (length-take-le n input within) ∙ whole)
+
+-- Some text was written: that of the data without the rest.
+pub record IsWrittenBefore (base : Base) (input rest : List ℕ) (old new : Option (List ℕ))
+    : Type 0 where
+  pub text : List ℕ
+  pub written : Appends old new text
+  pub whole : text ++ text_of base rest ≡ text_of base input
+  pub within : length rest ≤ length input
+
+pub written-none : (base : Base) (input : List ℕ) (old : Option (List ℕ))
+    → IsWrittenBefore base input input old old
+written-none base input old = record {
+  text = [];
+  written = Appends-nil old;
+  whole = refl;
+  within = omega arith;
+}
+
+module _ (base : Base) (input rest : List ℕ) (old now : Option (List ℕ))
+    (before : IsWrittenBefore base input rest old now) where
+  -- a piece of whole blocks more
+  pub written-more : IsSpecified base → JoinEncode → (n : ℕ) → n ≤ length rest
+      → n % alignment base ≡ 0
+      → (next : Option (List ℕ)) → Appends now next (text_of base (take n rest))
+      → IsWrittenBefore base input (drop n rest) old next
+  written-more specified join n within whole next more =
+      let piece = text_of base (take n rest) in
+      let others = text_of base (drop n rest) in
+      record {
+        text = before.text ++ piece;
+        written = Appends-trans old now next before.text piece before.written more;
+        whole =
+            append_assoc before.text piece others
+            ∙ ap (λ l. before.text ++ l)
+            (sym (text_of-split base specified join rest n within whole)) ∙ before.whole;
+        within = omega (arith, length-drop n rest, before.within);
+      }
+
+  -- a beginning of the text of the rest more
+  pub written-front : (next : Option (List ℕ)) → AppendsFront now next (text_of base rest)
+      → AppendsFront old next (text_of base input)
+  written-front next more =
+      subst (AppendsFront old next) before.whole
+      (AppendsFront-more old now next before.text (text_of base rest) before.written more)
+
+  -- a beginning of the text of a piece of whole blocks more
+  pub written-piece : IsSpecified base → JoinEncode → (n : ℕ) → n ≤ length rest
+      → n % alignment base ≡ 0
+      → (next : Option (List ℕ)) → AppendsFront now next (text_of base (take n rest))
+      → AppendsFront old next (text_of base input)
+  written-piece specified join n within whole next more =
+      let piece = text_of base (take n rest) in
+      let others = text_of base (drop n rest) in
+      let few = AppendsFront-more old now next before.text piece before.written more in
+      let is : (before.text ++ piece) ++ others ≡ text_of base input =
+      append_assoc before.text piece others
+      ∙ ap (λ l. before.text ++ l) (sym (text_of-split base specified join rest n within whole))
+      ∙ before.whole in
+      subst (AppendsFront old next) is
+      (AppendsFront-within old next (before.text ++ piece) others few)
+
+  -- the text of the rest more
+  pub written-all : (next : Option (List ℕ)) → Appends now next (text_of base rest)
+      → Appends old next (text_of base input)
+  written-all next more =
+      subst (Appends old next) before.whole
+      (Appends-trans old now next before.text (text_of base rest) before.written more)
+
+-- Whole blocks of data were read and counted, and their text was written.
+pub record Encoded (base : Base) (read_old read_new written_old written_new : Option (List ℕ))
+    (count : ℕ) : Type 0 where
+  pub bytes : List ℕ
+  pub read : Consumes read_old read_new bytes
+  pub written : Appends written_old written_new (text_of base bytes)
+  pub counted : length bytes ≡ count
+  pub whole : length bytes % alignment base ≡ 0
+
+module _ (base : Base) (specified : IsSpecified base) (join : JoinEncode) where
+  pub encoded-nothing : (r v : Option (List ℕ)) → Encoded base r r v v 0
+  encoded-nothing r v = record {
+    bytes = [];
+    read = Consumes-nil r;
+    written =
+        subst (Appends v v) (sym (text_of-nil base specified join)) (Appends-nil v);
+    counted = refl;
+    whole = none-whole (alignment base);
+  }
+
+  -- a beginning of the text of what was left follows that of whole blocks
+  front-of_all : (r s v w x : Option (List ℕ)) (bytes : List ℕ) → Consumes r s bytes
+      → length bytes % alignment base ≡ 0 → Appends v w (text_of base bytes)
+      → IfSome s (λ others. AppendsFront w x (text_of base others))
+      → IfSome r (λ all. AppendsFront v x (text_of base all))
+  front-of_all None s v w x bytes read whole written rest = tt
+  front-of_all (Some all) None v w x bytes read whole written rest = absurd read
+  front-of_all (Some all) (Some others) v w x bytes read whole written rest =
+      subst (λ l. AppendsFront v x (text_of base l)) (sym read)
+      (subst (AppendsFront v x) (sym (join base specified bytes others whole))
+      (AppendsFront-more v w x (text_of base bytes) (text_of base others) written rest))
+
+  -- a beginning of the text of whole blocks, or of all that was left
+  pub front-of_rest : (s t w x : Option (List ℕ)) (more : List ℕ) → Consumes s t more
+      → IsAtEnd t ⊎ (length more % alignment base ≡ 0) → AppendsFront w x (text_of base more)
+      → IfSome s (λ others. AppendsFront w x (text_of base others))
+  front-of_rest s t w x more read (inl at_end) front =
+      Consumes-whole s t more (λ l. AppendsFront w x (text_of base l)) read at_end front
+  front-of_rest None t w x more read (inr whole) front = tt
+  front-of_rest (Some all) None w x more read (inr whole) front = absurd read
+  front-of_rest (Some all) (Some others) w x more read (inr whole) front =
+      subst (λ l. AppendsFront w x (text_of base l)) (sym read)
+      (subst (AppendsFront w x) (sym (join base specified more others whole))
+      (AppendsFront-within w x (text_of base more) (text_of base others) front))
+
+  module _ (r s t v w : Option (List ℕ)) (n : ℕ) (so_far : Encoded base r s v w n)
+      (more : List ℕ) (read : Consumes s t more) where
+    joined : text_of base so_far.bytes ++ text_of base more
+        ≡ text_of base (so_far.bytes ++ more)
+    joined = sym (join base specified so_far.bytes more so_far.whole)
+
+    length-joined : length (so_far.bytes ++ more) ≡ n + length more
+    length-joined =
+        length-append so_far.bytes more ∙ ap (λ k. k + length more) so_far.counted
+
+    -- whole blocks more
+    pub encoded-more : (x : Option (List ℕ)) → length more % alignment base ≡ 0
+        → Appends w x (text_of base more) → Encoded base r t v x (n + length more)
+    encoded-more x whole written = record {
+      bytes = so_far.bytes ++ more;
+      read = Consumes-trans r s t so_far.bytes more so_far.read read;
+      written = subst (Appends v x) joined (Appends-trans v w x _ _ so_far.written written);
+      counted = length-joined;
+      whole =
+          ap (λ k. k % alignment base) (length-append so_far.bytes more)
+          ∙ whole-both (length so_far.bytes) (length more) (alignment base) so_far.whole whole;
+    }
+
+    -- the end, after the rest
+    pub encoded-all : (x : Option (List ℕ)) → IsAtEnd t → Appends w x (text_of base more)
+        → EncodesAll base r t v x
+    encoded-all x at_end written = record {
+      bytes = so_far.bytes ++ more;
+      read = Consumes-trans r s t so_far.bytes more so_far.read read;
+      at_end = at_end;
+      written = subst (Appends v x) joined (Appends-trans v w x _ _ so_far.written written);
+    }
+
+    -- some bytes more, and a beginning of their text and of that of all the others
+    pub encoded-front : (x : Option (List ℕ)) → AppendsFront w x (text_of base more)
+        → IfSome s (λ others. AppendsFront w x (text_of base others))
+        → EncodesFront base r t v x
+    encoded-front x written others = record {
+      bytes = so_far.bytes ++ more;
+      read = Consumes-trans r s t so_far.bytes more so_far.read read;
+      written =
+          subst (AppendsFront v x) joined (AppendsFront-more v w x _ _ so_far.written written);
+      of_all =
+          front-of_all r s v w x so_far.bytes so_far.read so_far.whole so_far.written others;
+    }
+
+    -- more bytes than are counted
+    pub encoded-past : (limit : ℕ) → limit < n + length more → ReadsMore limit r t
+    encoded-past limit past = record {
+      bytes = so_far.bytes ++ more;
+      read = Consumes-trans r s t so_far.bytes more so_far.read read;
+      more = omega (arith, length-joined, past);
+    }
+
+-- nothing is a beginning of any text
+pub front-nothing : (base : Base) (s w : Option (List ℕ))
+    → IfSome s (λ others. AppendsFront w w (text_of base others))
+front-nothing base None w = tt
+front-nothing base (Some others) w = AppendsFront-nothing w (text_of base others)
+
+-- what all that a reader had is, where that is known
+pub all-known : (base : Base) (r t v x : Option (List ℕ)) → EncodesAll base r t v x
+    → IfSome r (λ bytes. Appends v x (text_of base bytes))
+all-known base r t v x all =
+    Consumes-whole r t all.bytes (λ bytes. Appends v x (text_of base bytes)) all.read all.at_end
+    all.written
+
+-- all is a beginning
+pub all-front : (base : Base) (r t v x : Option (List ℕ)) → EncodesAll base r t v x
+    → EncodesFront base r t v x
+all-front base r t v x all =
+    let front = AppendsFront-all v x (text_of base all.bytes) all.written in
+    record {
+      bytes = all.bytes;
+      read = all.read;
+      written = front;
+      of_all =
+          Consumes-whole r t all.bytes (λ l. AppendsFront v x (text_of base l)) all.read all.at_end
+          front;
+    }

@@ -1,0 +1,142 @@
+//! From a reader of data to a writer of text.
+
+ghost use Rattle.std.specs.Prelude.{◌≡◌, ◌≢◌, ◌^◌, ◌-◌, ◌<◌, ◌≤◌, ◌↔◌, length, false, is_err, Err, IfSome, IsOk, IsTrue, OnOk};
+ghost use Rattle.std.specs.Io.KnownBytes.{Appends, IsAtEnd};
+ghost use Rattle.data_encoding.specs.Text.{text_of};
+ghost use Rattle.encoding_stream.specs.Encoded.{EncodesAll, EncodesFront, ReadsMore};
+ghost use Rattle.encoding_stream.specs.Watch.{AppendsFront, has_failed, inner_of};
+
+use crate::error::StreamFault;
+use crate::fill::fill;
+use crate::watch::Watch;
+use data_encoding::laws::join_encode;
+use data_encoding::{DecodeError, ENCODE_LIMIT, Encoding};
+use std::io;
+use std::io::{Read, Write};
+
+// The bytes of data that are asked for at a time, less what fills no block.
+const CHUNK: usize = 8192;
+
+// The room for text: as much as `CHUNK` bytes have where a symbol has one bit and there are no
+// lines, and enough for a block of any encoding.
+const ROOM: usize = 8 * CHUNK;
+
+// No byte of data has a longer text.
+const MOST_PER_BYTE: usize = 263;
+
+/// Reads data to the end, writes its text, and then flushes once. It takes no memory.
+///
+/// The first call of the reader or the writer that fails ends it, an interrupted one too. More than
+/// `u64::MAX` bytes are too long. Where it ends early, a beginning of the text of what was read is
+/// written, and where a read failed or the input is too long, nothing is flushed.
+pub fn encode_stream<R: Read, W: Write>(
+    encoding: &Encoding,
+    reader: &mut Watch<R>,
+    writer: &mut Watch<W>,
+) -> Result<(), StreamFault>
+    requires reader_works { has_failed reader.old ≡ false }
+    requires writer_works { has_failed writer.old ≡ false }
+
+    // After Ok all was read, and its text written.
+    ensures all_read { OnOk result (IsAtEnd (R.remaining (inner_of reader.new))) }
+    ensures all_written { OnOk result (IfSome (R.remaining (inner_of reader.old)) (λ bytes.
+        Appends (W.contents (inner_of writer.old)) (W.contents (inner_of writer.new))
+        (text_of encoding.now bytes))) }
+    ensures whole { OnOk result (EncodesAll encoding.now
+        (R.remaining (inner_of reader.old)) (R.remaining (inner_of reader.new))
+        (W.contents (inner_of writer.old)) (W.contents (inner_of writer.new))) }
+
+    // In every case a beginning of the text is written.
+    ensures begun { EncodesFront encoding.now
+        (R.remaining (inner_of reader.old)) (R.remaining (inner_of reader.new))
+        (W.contents (inner_of writer.old)) (W.contents (inner_of writer.new)) }
+
+    // Each fault is answered exactly for its cause.
+    ensures succeeds { IfSome (R.remaining (inner_of reader.old)) (λ bytes.
+        length bytes < 2 ^ 64 → has_failed reader.new ≡ false → has_failed writer.new ≡ false
+        → IsOk result) }
+    ensures read { (result ≡ Err StreamFault.Read) ↔ IsTrue (has_failed reader.new) }
+    ensures write { (result ≡ Err StreamFault.Write) ↔ IsTrue (has_failed writer.new) }
+    ensures too_long { result ≡ Err StreamFault.TooLong
+        → ReadsMore (2 ^ 64 - 1) (R.remaining (inner_of reader.old))
+        (R.remaining (inner_of reader.new)) }
+    ensures no_text { (error : DecodeError) → result ≢ Err (StreamFault.Decode error) }
+{
+    let align = encoding.encode_align();
+    let asked = CHUNK / align * align;
+    let mut buffer = [0; CHUNK];
+    let mut output = [0; ROOM];
+    let mut total: u64 = 0;
+    join_encode();
+    loop {
+        let count = match fill(reader, &mut buffer[..asked]) {
+            Ok(count) => count,
+            Err(_) => return Err(StreamFault::Read),
+        };
+        let Some(sum) = total.checked_add(count as u64) else {
+            return Err(StreamFault::TooLong);
+        };
+        total = sum;
+        let Ok(()) = write_text(encoding, &buffer[..count], &mut output, writer) else {
+            return Err(StreamFault::Write);
+        };
+        if count < asked {
+            return match writer.flush() {
+                Ok(()) => Ok(()),
+                Err(_) => Err(StreamFault::Write),
+            };
+        }
+    }
+}
+
+// Writes the text of the data: at once where it fits the room, and else piece by piece.
+fn write_text<W: Write>(
+    encoding: &Encoding,
+    input: &[u8],
+    output: &mut [u8],
+    writer: &mut Watch<W>,
+) -> io::Result<()>
+    requires limit { length input.now ≤ ENCODE_LIMIT }
+    requires room { length output.old ≡ ROOM }
+    requires works { has_failed writer.old ≡ false }
+    ensures text { OnOk result (Appends (W.contents (inner_of writer.old))
+        (W.contents (inner_of writer.new)) (text_of encoding.now input.now)) }
+    ensures begun { AppendsFront (W.contents (inner_of writer.old))
+        (W.contents (inner_of writer.new)) (text_of encoding.now input.now) }
+    ensures failed { has_failed writer.new ≡ is_err result }
+{
+    let align = encoding.encode_align();
+    let most = ROOM / MOST_PER_BYTE / align * align;
+    let most_len = encoding.encode_len(most);
+    join_encode();
+    let mut rest = input;
+    loop {
+        let len = encoding.encode_len(rest.len());
+        if len <= output.len() {
+            return write_piece(encoding, rest, &mut output[..len], writer);
+        }
+        let (piece, others) = rest.split_at(most);
+        write_piece(encoding, piece, &mut output[..most_len], writer)?;
+        rest = others;
+    }
+}
+
+// Writes the text of data, which `output` has the room for exactly, in one call of `write_all`.
+fn write_piece<W: Write>(
+    encoding: &Encoding,
+    input: &[u8],
+    output: &mut [u8],
+    writer: &mut Watch<W>,
+) -> io::Result<()>
+    requires limit { length input.now ≤ ENCODE_LIMIT }
+    requires exact { length output.old ≡ length (text_of encoding.now input.now) }
+    requires works { has_failed writer.old ≡ false }
+    ensures text { OnOk result (Appends (W.contents (inner_of writer.old))
+        (W.contents (inner_of writer.new)) (text_of encoding.now input.now)) }
+    ensures begun { AppendsFront (W.contents (inner_of writer.old))
+        (W.contents (inner_of writer.new)) (text_of encoding.now input.now) }
+    ensures failed { has_failed writer.new ≡ is_err result }
+{
+    encoding.encode_mut(input, output);
+    writer.write_all(output)
+}

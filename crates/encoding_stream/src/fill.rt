@@ -1,0 +1,33 @@
+//! Reading as many bytes as a buffer holds.
+
+ghost use Rattle.std.specs.Prelude.{◌≡◌, ℕ, ◌<◌, ◌≤◌, List, length, take, false, is_err, IfOk, OnErr};
+ghost use Rattle.std.specs.Io.KnownBytes.{Consumes, IsAtEnd};
+ghost use Rattle.encoding_stream.specs.Watch.{has_failed, inner_of};
+
+use crate::watch::Watch;
+use std::io;
+use std::io::Read;
+
+/// Reads until the buffer is full or the reader is at its end, and answers how many bytes were
+/// read. The first call that fails ends it, an interrupted one too.
+pub(crate) fn fill<R: Read>(reader: &mut Watch<R>, buffer: &mut [u8]) -> io::Result<usize>
+    requires works { has_failed reader.old ≡ false }
+    ensures bound { IfOk result (λ count. count ≤ length buffer.new) }
+    ensures bytes { IfOk result (λ count. Consumes (R.remaining (inner_of reader.old))
+        (R.remaining (inner_of reader.new)) (take count buffer.new)) }
+    ensures at_end { IfOk result (λ count. count < length buffer.new
+        → IsAtEnd (R.remaining (inner_of reader.new))) }
+    ensures begun { OnErr result ((bytes : List ℕ)
+        × Consumes (R.remaining (inner_of reader.old)) (R.remaining (inner_of reader.new)) bytes) }
+    ensures failed { has_failed reader.new ≡ is_err result }
+{
+    let mut filled = 0;
+    while filled < buffer.len() {
+        let count = reader.read(&mut buffer[filled..])?;
+        if count == 0 {
+            break;
+        }
+        filled += count;
+    }
+    Ok(filled)
+}

@@ -1,0 +1,14 @@
+//! Base encodings over readers and writers: data is read to its end, and its text is written.
+//!
+//! A stream takes no memory, whatever its length. The reader and the writer are watched, so that
+//! contracts and callers can tell whether a call of them failed.
+#![tactic(auto)]
+
+mod encode;
+mod error;
+mod fill;
+mod watch;
+
+pub use encode::encode_stream;
+pub use error::StreamFault;
+pub use watch::Watch;
