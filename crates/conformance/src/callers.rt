@@ -1,7 +1,8 @@
 //! Small functions of a user, each proved from the contracts of the calls that it makes.
 
-ghost use Rattle.std.specs.Prelude.{◌≡◌, ◌⊎◌, ◌≤◌, length, Err, IsTrue, IfOk, IfSome};
+ghost use Rattle.std.specs.Prelude.{◌≡◌, ◌⊎◌, ◌≤◌, ◌++◌, length, Err, IsTrue, IfOk, IfSome, OnOk};
 ghost use Rattle.std.specs.String.{string_bytes};
+ghost use Rattle.data_encoding.specs.Text.{text_of};
 
 use data_encoding::laws::{one_meaning, round_trip, specification_again};
 use data_encoding::{
@@ -121,5 +122,53 @@ pub fn is_yielded_again(alloc: Global, encoding: &Encoding) -> Result<bool, Allo
     match specification.encoding() {
         Ok(other) => Ok(other == *encoding),
         Err(_) => Ok(false),
+    }
+}
+
+/// Whether an encoding is canonical, and two texts decode to the same bytes: then they are the same
+/// text.
+pub fn is_one_text(
+    alloc: Global,
+    encoding: &Encoding,
+    text: &[u8],
+    other: &[u8],
+) -> Result<bool, DecodeFault>
+    requires limit { length text.now ≤ DECODE_LIMIT }
+    requires other_limit { length other.now ≤ DECODE_LIMIT }
+    ensures { IfOk result (λ same. IsTrue same → text.now ≡ other.now) }
+{
+    if !encoding.is_canonical() {
+        return Ok(false);
+    }
+    let bytes = encoding.decode(alloc, text)?;
+    let others = encoding.decode(alloc, other)?;
+    Ok(bytes.as_slice() == others.as_slice())
+}
+
+/// Appends the text of data that come in two fragments: that of the fragments joined.
+///
+/// Where memory ran out, the text of some blocks may have been appended.
+pub fn encoded_in_two(
+    encoding: &Encoding,
+    one: &[u8],
+    other: &[u8],
+    output: &mut String,
+) -> Result<(), AllocError>
+    requires one { length one.now ≤ ENCODE_LIMIT }
+    requires other { length other.now ≤ ENCODE_LIMIT }
+    ensures { OnOk result (string_bytes output.new
+        ≡ string_bytes output.old ++ text_of encoding.now (one.now ++ other.now)) }
+{
+    let mut encoder = encoding.new_encoder(output);
+    if encoder.append(one).is_err() || encoder.append(other).is_err() {
+        encoder.abandon();
+        return Err(AllocError);
+    }
+    match encoder.finalize() {
+        Ok(()) => Ok(()),
+        Err(encoder) => {
+            encoder.abandon();
+            Err(AllocError)
+        }
     }
 }

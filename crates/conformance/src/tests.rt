@@ -2,12 +2,17 @@
 
 mod appending;
 mod calls;
+mod canonical;
 mod decoding;
 mod encoding;
 mod judge;
+mod layouts;
+mod order;
 mod predefined;
+mod resuming;
 mod rows;
 mod specifications;
+mod streams;
 mod sweeps;
 mod table;
 mod vectors;

@@ -3,7 +3,8 @@
 ghost use Rattle.std.specs.Prelude.{◌≤◌, length};
 
 use super::rows::row_of;
-use data_encoding::{ENCODE_LIMIT, Encoding};
+use crate::callers::encoded_in_two;
+use data_encoding::{ENCODE_LIMIT, Encoding, base64};
 use std::alloc::{AllocError, Global};
 use std::test::Fail;
 
@@ -25,19 +26,42 @@ base64|most|check|=||0||||h/e|";
 
 const MIME: &str = "base64|most|check|=||76|←↵|||";
 
+// Each width in both orders, padded where a group may lack symbols; then with an ignored byte, and
+// in lines of a group up to the most, with separators of 1, 2 and 255 bytes.
 const ENCODINGS: &str = "\
 binary|most|check|||0||||
+binary|least|check|||0||||
+quaternary|most|check|||0||||
 quaternary|least|check|||0||||
 octal|most|check|||0||||
-octal|most|check|=||8|-|||
+octal|least|check|||0||||
+octal|most|check|=||0||||
+octal|least|check|=||0||||
+hex|most|check|||0||||
 hex|least|check|||0||||
-hex|most|check|||2|←↵|||
+base32|most|check|||0||||
+base32|least|check|||0||||
 base32|most|check|=||0||||
-base32|most|check|||248|dashes|||
+base32|least|check|=||0||||
+base64|most|check|||0||||
 base64|least|check|||0||||
 base64|most|check|=||0||||
+base64|least|check|=||0||||
+base64|most|check|=|~|0||||
+binary|most|check|||8|-|||
+binary|least|check|||248|dashes|||
+quaternary|most|check|||4|←↵|||
+quaternary|least|check|||252|-|||
+octal|most|check|||8|dashes|||
+octal|least|check|=||16|←↵|||
+hex|least|check|||2|-|||
+hex|most|check|||254|dashes|||
+base32|most|check|=||8|←↵|||
+base32|least|check|||248|dashes|||
 base64|most|check|=||76|←↵|||
-base64|most|check|||252|-|||";
+base64|least|check|||4|dashes|||
+base64|most|check|||252|-|||
+base64|least|check|=|~|8|←↵|||";
 
 // Spends an encoder. No function of its own, since it would take what is lent to it.
 macro_rules! finish {
@@ -96,6 +120,9 @@ fn appends_texts(rt: HostRuntime) -> Result<(), Fail> {
     for line in ABANDONED.split('\n') {
         assert!(rt; is_encoded(rt.alloc(), line, false)?, "{line}");
     }
+    let mut output = String::from_str(rt.alloc(), "Result: ")?;
+    encoded_in_two(&base64(), b"he", b"llo", &mut output)?;
+    assert_eq!(rt; output.as_str(), "Result: aGVsbG8=");
     Ok(())
 }
 
@@ -138,16 +165,16 @@ fn appends_whole_lines(rt: HostRuntime) -> Result<(), Fail> {
 // Encodes data that are cut in two.
 fn encode_halves(
     encoding: &Encoding,
-    data: &[u8],
+    input: &[u8],
     position: usize,
     output: &mut String,
 ) -> Result<(), AllocError>
-    requires limit { length data.now ≤ ENCODE_LIMIT }
-    requires inside { position ≤ length data.now }
+    requires limit { length input.now ≤ ENCODE_LIMIT }
+    requires inside { position ≤ length input.now }
 {
     output.clear();
     let mut encoder = encoding.new_encoder(output);
-    let (first, second) = data.split_at(position);
+    let (first, second) = input.split_at(position);
     let one = encoder.append(first);
     let other = encoder.append(second);
     let ended = finish!(encoder);
@@ -199,7 +226,7 @@ fn fragments_have_the_text_of_the_whole(rt: HostRuntime) -> Result<(), Fail> {
     }
     for line in ENCODINGS.split('\n') {
         let encoding = row_of(rt.alloc(), line)?.specification.encoding()?;
-        for len in [0, 1, 2, 3, 4, 5, 6, 57, 58, 114, 189, 200] {
+        for len in 0..=200 {
             let data = data.get(..len).unwrap_or(&[]);
             assert!(rt; is_alike(rt.alloc(), &encoding, data)?, "{line} {len}");
         }

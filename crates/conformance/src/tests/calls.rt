@@ -2,7 +2,10 @@
 
 use super::decoding::beginning;
 use super::rows::{bytes_of, described, row_of};
-use data_encoding::laws::{join_decode, join_encode, one_meaning, round_trip, specification_again};
+use data_encoding::laws::{
+    canonical, join_decode, join_encode, join_fault, layout_flags, not_canonical, one_meaning,
+    pieces, resume, round_trip, specification_again,
+};
 use data_encoding::{
     DECODE_LIMIT, DecodeError, DecodeFault, DecodeKind, ENCODE_LIMIT, Encoding, Specification,
     hexlower,
@@ -158,6 +161,12 @@ fn calls_laws() {
     round_trip();
     one_meaning();
     join_decode();
+    canonical();
+    not_canonical();
+    join_fault();
+    resume();
+    pieces();
+    layout_flags();
 }
 
 // Whether so many bytes come back from their text.

@@ -88,7 +88,7 @@ BASE64_MIME|meaning|!|Invalid None false false true
 BASE64_MIME|meaning|\u{c8}|Invalid None false false true";
 
 // The encoding of a name.
-fn named(name: &str) -> Option<Encoding> {
+pub(super) fn named(name: &str) -> Option<Encoding> {
     Some(match name {
         "HEXLOWER" => hexlower(),
         "HEXLOWER_PERMISSIVE" => hexlower_permissive(),

@@ -1,0 +1,309 @@
+//! Streams over readers and writers that give little, take little, or fail once.
+
+use super::rows::row_of;
+use data_encoding::{DecodeError, DecodeKind, ENCODE_LIMIT, Encoding, base64_mime, hexlower};
+use encoding_stream::{StreamFault, Watch, encode_stream};
+use std::alloc::{AllocError, Global};
+use std::io;
+use std::io::{ErrorKind, Read, Write};
+use std::test::Fail;
+
+// Of widths from one bit to six, with padding and lines; the last has 263 characters for a byte.
+const ROWS: &str = "\
+hex|most|check|||0||||
+octal|least|check|=||0||||
+base32|most|check|=||0||||
+base64|most|check|=||76|←↵|||
+binary|most|check|||0||||
+binary|most|check|||8|dashes|||";
+
+// Gives at most so many bytes a call. The call after so many good ones is interrupted, and those
+// after it are good again.
+#[derive(Drop)]
+struct Slow<'a> {
+    bytes: &'a [u8],
+    most: usize,
+    good: usize,
+    calls: usize,
+}
+
+impl Read for Slow<'_> {
+    fn read(&mut self, buf: &mut [u8]) -> io::Result<usize> {
+        let call = self.calls;
+        self.calls = call.saturating_add(1);
+        if call == self.good {
+            return Err(io::Error::from(ErrorKind::Interrupted));
+        }
+        let count = self.most.min(buf.len()).min(self.bytes.len());
+        let (front, rest) = self.bytes.split_at(count);
+        buf[..count].copy_from_slice(front);
+        self.bytes = rest;
+        Ok(count)
+    }
+}
+
+// What a writer does not do, once.
+#[derive(Clone, Copy, Debug, PartialEq, Eq)]
+enum Failure {
+    Nothing,
+    Write,
+    Take,
+    Flush,
+}
+
+// Takes at most so many bytes a call, and fails once after so many good writes.
+#[derive(Drop)]
+struct Narrow {
+    bytes: Vec<u8>,
+    most: usize,
+    failure: Failure,
+    good: usize,
+    writes: usize,
+    flushes: usize,
+    writes_when_flushed: usize,
+}
+
+impl Narrow {
+    fn new(alloc: Global, most: usize, failure: Failure, good: usize) -> Narrow {
+        Narrow {
+            bytes: Vec::new(alloc),
+            most,
+            failure,
+            good,
+            writes: 0,
+            flushes: 0,
+            writes_when_flushed: 0,
+        }
+    }
+}
+
+impl Write for Narrow {
+    fn write(&mut self, buf: &[u8]) -> io::Result<usize> {
+        let write = self.writes;
+        self.writes = write.saturating_add(1);
+        if write == self.good {
+            match self.failure {
+                Failure::Write => return Err(io::Error::from(ErrorKind::Interrupted)),
+                Failure::Take => return Ok(0),
+                Failure::Nothing | Failure::Flush => {}
+            }
+        }
+        let count = self.most.min(buf.len());
+        self.bytes.extend_from_slice(&buf[..count])?;
+        Ok(count)
+    }
+
+    fn flush(&mut self) -> io::Result<()> {
+        self.flushes = self.flushes.saturating_add(1);
+        self.writes_when_flushed = self.writes;
+        if self.failure == Failure::Flush {
+            return Err(io::Error::from(ErrorKind::Interrupted));
+        }
+        Ok(())
+    }
+}
+
+// What a stream has done.
+#[derive(Drop)]
+struct Outcome {
+    result: Result<(), StreamFault>,
+    reads: usize,
+    read_failed: bool,
+    write_failed: bool,
+    writer: Narrow,
+}
+
+impl Outcome {
+    // The text was written, and flushed once, after the last write.
+    fn is_whole(&self, text: &str) -> bool {
+        self.result == Ok(())
+            && self.writer.bytes.as_slice() == text.as_bytes()
+            && self.writer.flushes == 1
+            && self.writer.writes_when_flushed == self.writer.writes
+    }
+
+    // The fault was answered, its watch has failed, and a beginning of the text was written.
+    fn is_fault(&self, fault: StreamFault, text: &str) -> bool {
+        self.result == Err(fault)
+            && self.read_failed == (fault == StreamFault::Read)
+            && self.write_failed == (fault == StreamFault::Write)
+            && text.as_bytes().starts_with(self.writer.bytes.as_slice())
+    }
+}
+
+fn stream(encoding: &Encoding, reader: Slow<'_>, writer: Narrow) -> Outcome {
+    let mut reader = Watch::new(reader);
+    let mut writer = Watch::new(writer);
+    let result = encode_stream(encoding, &mut reader, &mut writer);
+    Outcome {
+        result,
+        read_failed: reader.failed(),
+        write_failed: writer.failed(),
+        reads: reader.into_inner().calls,
+        writer: writer.into_inner(),
+    }
+}
+
+fn reader_of(bytes: &[u8], most: usize) -> Slow<'_> {
+    Slow {
+        bytes,
+        most,
+        good: usize::MAX,
+        calls: 0,
+    }
+}
+
+// So many bytes, not all the same.
+fn bytes_of_length(alloc: Global, len: usize) -> Result<Vec<u8>, AllocError> {
+    let mut bytes = Vec::new(alloc);
+    for index in 0..len {
+        bytes.push((index % 251) as u8)?;
+    }
+    Ok(bytes)
+}
+
+fn text_of(alloc: Global, encoding: &Encoding, bytes: &[u8]) -> Result<String, AllocError> {
+    if bytes.len() > ENCODE_LIMIT {
+        return Ok(String::new(alloc));
+    }
+    encoding.encode(alloc, bytes)
+}
+
+#[test]
+fn streams_what_encode_answers(rt: HostRuntime) -> Result<(), Fail> {
+    for line in ROWS.split('\n') {
+        let encoding = row_of(rt.alloc(), line)?.specification.encoding()?;
+        for len in [
+            0usize, 1, 2, 5, 250, 251, 8150, 8151, 8190, 8191, 8192, 8193, 16384,
+        ] {
+            let bytes = bytes_of_length(rt.alloc(), len)?;
+            let text = text_of(rt.alloc(), &encoding, &bytes)?;
+            let writer = Narrow::new(rt.alloc(), usize::MAX, Failure::Nothing, 0);
+            let got = stream(&encoding, reader_of(&bytes, 1000), writer);
+            assert!(rt; got.is_whole(text.as_str()), "{len} by {line}");
+        }
+    }
+    Ok(())
+}
+
+#[test]
+fn streams_byte_by_byte(rt: HostRuntime) -> Result<(), Fail> {
+    for line in ROWS.split('\n') {
+        let encoding = row_of(rt.alloc(), line)?.specification.encoding()?;
+        let bytes = bytes_of_length(rt.alloc(), 300)?;
+        let text = text_of(rt.alloc(), &encoding, &bytes)?;
+        let writer = Narrow::new(rt.alloc(), 1, Failure::Nothing, 0);
+        let got = stream(&encoding, reader_of(&bytes, 1), writer);
+        assert!(rt; got.is_whole(text.as_str()), "{line}");
+    }
+    Ok(())
+}
+
+#[test]
+fn streams_lines(rt: HostRuntime) -> Result<(), Fail> {
+    let mut line = "A".repeat(rt.alloc(), 76)?;
+    line.push_str("\r\n")?;
+    let text = line.repeat(rt.alloc(), 1000)?;
+    assert_eq!(rt; text.len(), 78_000);
+    let writer = Narrow::new(rt.alloc(), usize::MAX, Failure::Nothing, 0);
+    let zeros = "\0".repeat(rt.alloc(), 57_000)?;
+    let got = stream(
+        &base64_mime(),
+        reader_of(zeros.as_bytes(), usize::MAX),
+        writer,
+    );
+    assert!(rt; got.is_whole(text.as_str()));
+    Ok(())
+}
+
+// The reads and writes of so many bytes where each call takes all that it is handed.
+fn calls_of(alloc: Global, line: &str, len: usize) -> Result<(usize, usize), Fail> {
+    let encoding = row_of(alloc, line)?.specification.encoding()?;
+    let bytes = bytes_of_length(alloc, len)?;
+    let writer = Narrow::new(alloc, usize::MAX, Failure::Nothing, 0);
+    let got = stream(&encoding, reader_of(&bytes, usize::MAX), writer);
+    Ok((got.reads, got.writer.writes))
+}
+
+#[test]
+fn streams_in_large_pieces(rt: HostRuntime) -> Result<(), Fail> {
+    // Where the last piece is not full, one read more finds the end.
+    let hex = "hex|most|check|||0||||";
+    assert_eq!(rt; calls_of(rt.alloc(), hex, 0)?, (1, 0));
+    assert_eq!(rt; calls_of(rt.alloc(), hex, 8191)?, (2, 1));
+    assert_eq!(rt; calls_of(rt.alloc(), hex, 8192)?, (2, 1));
+    assert_eq!(rt; calls_of(rt.alloc(), hex, 81_920)?, (11, 10));
+    let mime = "base64|most|check|=||76|←↵|||";
+    assert_eq!(rt; calls_of(rt.alloc(), mime, 8151)?, (2, 1));
+    assert_eq!(rt; calls_of(rt.alloc(), mime, 8152)?, (3, 2));
+    let dashes = "binary|most|check|||8|dashes|||";
+    assert_eq!(rt; calls_of(rt.alloc(), dashes, 249)?, (2, 1));
+    assert_eq!(rt; calls_of(rt.alloc(), dashes, 500)?, (2, 3));
+    Ok(())
+}
+
+#[test]
+fn ends_at_a_failed_read(rt: HostRuntime) -> Result<(), Fail> {
+    let bytes = bytes_of_length(rt.alloc(), 20_000)?;
+    let text = text_of(rt.alloc(), &hexlower(), &bytes)?;
+    for good in 0..23usize {
+        let mut reader = reader_of(&bytes, 1000);
+        reader.good = good;
+        let writer = Narrow::new(rt.alloc(), usize::MAX, Failure::Nothing, 0);
+        let got = stream(&hexlower(), reader, writer);
+        assert!(rt;
+            got.is_fault(StreamFault::Read, text.as_str()),
+            "after {good}"
+        );
+        assert!(rt;
+            got.reads == good + 1 && got.writer.flushes == 0,
+            "after {good}"
+        );
+    }
+    Ok(())
+}
+
+#[test]
+fn ends_at_a_failed_write(rt: HostRuntime) -> Result<(), Fail> {
+    let bytes = bytes_of_length(rt.alloc(), 20_000)?;
+    let text = text_of(rt.alloc(), &hexlower(), &bytes)?;
+    for failure in [Failure::Write, Failure::Take] {
+        for good in 0..42usize {
+            let writer = Narrow::new(rt.alloc(), 1000, failure, good);
+            let got = stream(&hexlower(), reader_of(&bytes, usize::MAX), writer);
+            let is_end = got.is_fault(StreamFault::Write, text.as_str())
+                && got.writer.writes == good + 1
+                && got.writer.flushes == 0;
+            assert!(rt; is_end, "{failure:?} after {good}");
+        }
+    }
+    Ok(())
+}
+
+#[test]
+fn ends_at_a_failed_flush(rt: HostRuntime) -> Result<(), Fail> {
+    let writer = Narrow::new(rt.alloc(), 3, Failure::Flush, 0);
+    let got = stream(&hexlower(), reader_of(b"Hello", 2), writer);
+    assert!(rt; got.is_fault(StreamFault::Write, "48656c6c6f"));
+    assert_eq!(rt; got.writer.bytes.as_slice(), b"48656c6c6f".as_slice());
+    assert_eq!(rt; got.writer.flushes, 1);
+    Ok(())
+}
+
+#[test]
+fn prints_each_fault(rt: HostRuntime) -> Result<(), Fail> {
+    let error = DecodeError {
+        position: 4,
+        kind: DecodeKind::Padding,
+    };
+    for (fault, line) in [
+        (StreamFault::Read, "read failed"),
+        (StreamFault::Write, "write failed"),
+        (StreamFault::Decode(error), "invalid padding length at 4"),
+        (StreamFault::TooLong, "input too long"),
+    ] {
+        let text = format!(in rt.alloc(); "{fault}")?;
+        assert_eq!(rt; text.as_str(), line);
+    }
+    Ok(())
+}
