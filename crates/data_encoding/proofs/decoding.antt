@@ -15,4 +15,7 @@ pub mod LoopLemmas
 pub mod ReadLemmas
 pub mod ResumeLemmas
 pub mod PieceLemmas
+pub mod WholePieceLemmas
+pub mod WholeLengthLemmas
+pub mod FinalGroupLemmas
 pub mod LoneGroupLemmas

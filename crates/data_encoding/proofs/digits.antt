@@ -5,3 +5,7 @@ pub mod WidthLemmas
 pub mod WordLemmas
 pub mod KernelLemmas
 pub mod LoadLemmas
+pub mod LaneLemmas
+pub mod SpreadLemmas
+pub mod LaneWordLemmas
+pub mod LookUpLemmas

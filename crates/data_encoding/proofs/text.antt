@@ -9,6 +9,8 @@ pub mod LineLoopLemmas
 pub mod BlockLemmas
 pub mod WrittenLemmas
 pub mod PlainLoopLemmas
+pub mod PlainRestLemmas
+pub mod FourGroupLemmas
 pub mod SymbolMeaningLemmas
 pub mod KeptTextLemmas
 pub mod LastGroupLemmas

@@ -40,6 +40,12 @@ OneMeaning =
     (base : Base) → IsSpecified base → (text one other : List ℕ)
     → Means base text one → Means base text other → one ≡ other
 
+-- A text without a fault means its sound bytes.
+abbrev pub SoundMeans : Type 0
+SoundMeans =
+    (base : Base) → IsSpecified base → (text : List ℕ) → fault_of base text ≡ None
+    → Means base text (sound_bytes base text)
+
 -- The text of data in parts, all but the last of whole lines or of whole groups, is that of the
 -- parts.
 abbrev pub JoinEncode : Type 0

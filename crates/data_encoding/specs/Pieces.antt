@@ -1,13 +1,13 @@
 -- A text that is decoded piece by piece.
-use Rattle.std.specs.Prelude.{◌≡◌, ℕ, ◌+◌, ◌<◌, ◌*◌, ◌/◌, Bool, false, not, if◌then◌else◌, ◌≤◌, List, [], ◌∷◌, ◌++◌, length, map, drop, filter, flat_map, All, Option, Some, None, is_some}
+use Rattle.std.specs.Prelude.{◌≡◌, ℕ, ◌+◌, ◌<◌, ◌*◌, ◌/◌, ◌%◌, ◌==◌, ◌&&◌, ◌⊎◌, Bool, true, false, not, if◌then◌else◌, ◌≤◌, List, [], ◌∷◌, ◌++◌, length, map, drop, filter, flat_map, All, Option, Some, None, is_some, Ok, is_ok}
 use Rattle.std.specs.List.{list_any}
 use Rattle.std.specs.Simd.{first_chunks}
 use Rattle.data_encoding.specs.declared.error.DecodeError.{DecodeError}
-use Rattle.data_encoding.specs.Base.{Base, meaning, is_ignored, group_symbols}
+use Rattle.data_encoding.specs.Base.{Base, meaning, is_ignored, is_padded, ignores_some, group_bytes, group_symbols}
 use Rattle.data_encoding.specs.Fault.{bytes_of_group, fault_after, fault_at, fault_of, first_fault, group_fault, or_else, sound_bytes, sound_groups}
 use Rattle.data_encoding.specs.Fields.{IsSpecified}
-use Rattle.data_encoding.specs.Grammar.{Positioned, positioned_from, kept, is_final}
-use Rattle.data_encoding.specs.Lengths.{length_fault}
+use Rattle.data_encoding.specs.Grammar.{Means, Positioned, positioned, positioned_from, groups, kept, is_final}
+use Rattle.data_encoding.specs.Lengths.{decoded_len, length_fault, most_bytes}
 
 -- the whole groups of a text so far, and the bytes after the last of them
 abbrev pub whole_groups : Base → List ℕ → List (List Positioned)
@@ -124,3 +124,71 @@ JudgesGroup =
     → (group_fault base group ≡ fault_in group (fault_of base (map (λ k. k.byte) group)))
     × (fault_of base (map (λ k. k.byte) group) ≡ None
     → bytes_of_group base group ≡ sound_bytes base (map (λ k. k.byte) group))
+
+-- A piece that means data and is whole groups, behind whole groups of which none was final, has its
+-- data appended.
+abbrev pub ReadsSound : Type 0
+ReadsSound =
+    (base : Base) → IsSpecified base → (text piece bytes : List ℕ) (len : ℕ)
+    → HasRead base text len None [] false → Means base piece bytes
+    → length (kept base piece) % group_symbols base.width ≡ 0
+    → HasRead base (text ++ piece) (len + length piece) None []
+    (list_any (is_final base) (groups base piece))
+    × (whole_bytes base (text ++ piece) ≡ whole_bytes base text ++ bytes)
+
+-- A text that means data is whole groups where it is padded, or where eight bits are whole symbols;
+-- and any text is, where nothing is ignored, if its length is that of whole groups.
+abbrev pub AreWhole : Type 0
+AreWhole =
+    (base : Base) → IsSpecified base → (piece bytes : List ℕ) → Means base piece bytes
+    → (is_padded base ≡ true) ⊎ (8 % base.width ≡ 0)
+    ⊎ ((ignores_some base ≡ false) × (length piece % group_symbols base.width ≡ 0))
+    → length (kept base piece) % group_symbols base.width ≡ 0
+
+-- Texts without padding may always be concatenated.
+abbrev pub JoinsUnpadded : Type 0
+JoinsUnpadded =
+    (base : Base) → IsSpecified base → base.padding ≡ None → base.concatenates ≡ true
+
+-- Where texts may be concatenated, no group is final.
+abbrev pub EndsNowhere : Type 0
+EndsNowhere =
+    (base : Base) → base.concatenates ≡ true → (parts : List (List Positioned))
+    → list_any (is_final base) parts ≡ false
+
+-- A text that means data has a final group exactly where texts may not be concatenated and the data
+-- are no whole groups of bytes.
+abbrev pub TellsEnd : Type 0
+TellsEnd =
+    (base : Base) → IsSpecified base → (text bytes : List ℕ) → Means base text bytes
+    → list_any (is_final base) (groups base text)
+    ≡ (not base.concatenates && not (length bytes % group_bytes base.width == 0))
+
+-- A text that means whole groups of bytes is whole groups.
+abbrev pub MeansWhole : Type 0
+MeansWhole =
+    (base : Base) → IsSpecified base → (text bytes : List ℕ) → Means base text bytes
+    → length bytes % group_bytes base.width ≡ 0
+    → length (kept base text) % group_symbols base.width ≡ 0
+
+-- For so many whole groups of symbols, as many whole groups of bytes are due.
+abbrev pub CountsGroups : Type 0
+CountsGroups =
+    (base : Base) → IsSpecified base → (count : ℕ)
+    → decoded_len base (count * group_symbols base.width) ≡ Ok (count * group_bytes base.width)
+
+-- No more bytes are due than the text is long.
+abbrev pub IsNoLonger : Type 0
+IsNoLonger = (base : Base) → IsSpecified base → (len : ℕ) → most_bytes base len ≤ len
+
+-- A text of one byte has a length fault exactly where nothing is ignored.
+abbrev pub TellsIgnoring : Type 0
+TellsIgnoring =
+    (base : Base) → IsSpecified base → is_ok (decoded_len base 1) ≡ ignores_some base
+
+-- Where nothing is ignored, each byte of a text is kept.
+abbrev pub KeepsEach : Type 0
+KeepsEach =
+    (base : Base) → ignores_some base ≡ false
+    → ((byte : ℕ) → is_ignored (meaning base byte) ≡ false)
+    × ((text : List ℕ) → kept base text ≡ positioned text)

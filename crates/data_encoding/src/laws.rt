@@ -1,8 +1,8 @@
 //! Laws of the definitions: each function's contract is a theorem, and calling it does nothing.
 
 ghost use Rattle.data_encoding.specs.Canonical.{Canonical, NotCanonical};
-ghost use Rattle.data_encoding.specs.Laws.{JoinDecode, JoinEncode, JoinFault, LayoutFlags, NoOrder, OneMeaning, Order, Resume, RoundTrip, SpecificationAgain};
-ghost use Rattle.data_encoding.specs.Pieces.{HoldsPiece, JudgesGroup, KeepsBytes, KeepsFault, ReadsGroup, ReadsNothing, TellsBytes, TellsFault};
+ghost use Rattle.data_encoding.specs.Laws.{JoinDecode, JoinEncode, JoinFault, LayoutFlags, NoOrder, OneMeaning, Order, Resume, RoundTrip, SoundMeans, SpecificationAgain};
+ghost use Rattle.data_encoding.specs.Pieces.{AreWhole, CountsGroups, EndsNowhere, HoldsPiece, IsNoLonger, JoinsUnpadded, JudgesGroup, KeepsBytes, KeepsEach, KeepsFault, MeansWhole, ReadsGroup, ReadsNothing, ReadsSound, TellsBytes, TellsEnd, TellsFault, TellsIgnoring};
 
 /// Each encoding is built from its own specification.
 pub fn specification_again()
@@ -23,6 +23,11 @@ pub fn round_trip()
 /// A text means one list of bytes at most, for each encoding that a specification yields.
 pub fn one_meaning()
     ensures { OneMeaning }
+{}
+
+/// A text without a fault means its sound bytes, for each encoding that a specification yields.
+pub fn sound_text()
+    ensures { SoundMeans }
 {}
 
 /// Two texts joined mean their data joined, for each encoding that a specification yields: where it
@@ -68,7 +73,9 @@ pub fn resume()
 /// A text may be decoded piece by piece, for each encoding that a specification yields: what is
 /// kept of it, and the data of its whole groups, follow from what was kept and the next piece; and
 /// at the end they tell its fault and its data. A group is judged, and decoded, as a text of its
-/// own.
+/// own. A piece of whole groups that means data is read at once where no group before it is final;
+/// it is whole groups where it is padded, where eight bits are whole symbols, or, where nothing is
+/// ignored, by its length.
 pub fn pieces()
     ensures nothing { ReadsNothing }
     ensures held { HoldsPiece }
@@ -78,6 +85,25 @@ pub fn pieces()
     ensures verdict { TellsFault }
     ensures bytes { TellsBytes }
     ensures alone { JudgesGroup }
+    ensures sound { ReadsSound }
+    ensures whole { AreWhole }
+{}
+
+/// What lengths tell of a text, for each encoding that a specification yields. As `decode_len`
+/// counts them, as many groups of bytes are due as there are whole groups of symbols, and never
+/// more bytes than the text is long; a text of one byte is refused exactly where nothing is
+/// ignored, and there each byte is kept. A text that means whole groups of bytes is whole groups.
+/// Whether one of its groups is final, so that none may follow, is told by the number of bytes and
+/// by whether texts may be concatenated, as they may be wherever there is no padding.
+pub fn whole_groups()
+    ensures bytes { CountsGroups }
+    ensures most { IsNoLonger }
+    ensures ignores { TellsIgnoring }
+    ensures kept { KeepsEach }
+    ensures joins { JoinsUnpadded }
+    ensures ends_nowhere { EndsNowhere }
+    ensures ends { TellsEnd }
+    ensures whole { MeansWhole }
 {}
 
 /// The layout of an encoding, as `internal_implementation` yields it, tells by its byte 513 the

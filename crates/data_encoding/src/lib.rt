@@ -17,6 +17,7 @@ mod entries;
 mod error;
 mod gather;
 mod group;
+mod lanes;
 pub mod laws;
 mod layout;
 mod meanings;

@@ -1,6 +1,6 @@
 //! The symbols of data, group after group.
 
-ghost use Rattle.std.specs.Prelude.{◌≡◌, ◌+◌, ◌-◌, ◌*◌, ◌/◌, ◌≤◌, length};
+ghost use Rattle.std.specs.Prelude.{◌≡◌, ◌+◌, ◌-◌, ◌*◌, ◌/◌, ◌<◌, ◌≤◌, length, take};
 ghost use Rattle.data_encoding.specs.Base.{Base};
 ghost use Rattle.data_encoding.specs.Tables.{IsGroup, Writes};
 ghost use Rattle.data_encoding.specs.Text.{plain_text};
@@ -8,11 +8,68 @@ ghost use Rattle.data_encoding.specs.Text.{plain_text};
 use crate::bits::{encode_group, encode_group_at};
 use crate::encode::ENCODE_LIMIT;
 use crate::encoding::BitOrder;
+use crate::lanes::encode_twelve;
 
-// Four groups at a time, so that the loop's own steps cost less, and then what is left. Inlined, so
-// that the order is a constant.
+// By lanes as far as they reach, and then what is left. Inlined, so that the order is a constant.
 #[inline(always)]
 pub(crate) fn encode_by_fours<const WIDTH: usize, const BYTES: usize, const SYMBOLS: usize>(
+    symbols: &[u8; 256],
+    order: BitOrder,
+    input: &[u8],
+    output: &mut [u8],
+)
+    requires group { IsGroup WIDTH BYTES SYMBOLS }
+    requires limit { length input.now ≤ ENCODE_LIMIT }
+    requires exact { length output.old ≡ (8 * length input.now + (WIDTH - 1)) / WIDTH }
+    ensures { (base : Base) → Writes base symbols.now WIDTH order
+        → output.new ≡ plain_text base input.now }
+{
+    let count = encode_by_lanes::<WIDTH, BYTES, SYMBOLS>(symbols, order, input, output);
+    encode_without_lanes::<WIDTH, BYTES, SYMBOLS>(
+        symbols,
+        order,
+        &input[count * (4 * BYTES)..],
+        &mut output[count * (4 * SYMBOLS)..],
+    );
+}
+
+// Where the width is 6, four groups at a time as often as four bytes are left behind them, since
+// sixteen are loaded for twelve. Answers how often.
+#[inline(always)]
+fn encode_by_lanes<const WIDTH: usize, const BYTES: usize, const SYMBOLS: usize>(
+    symbols: &[u8; 256],
+    order: BitOrder,
+    input: &[u8],
+    output: &mut [u8],
+) -> usize
+    requires group { IsGroup WIDTH BYTES SYMBOLS }
+    requires exact { length output.old ≡ (8 * length input.now + (WIDTH - 1)) / WIDTH }
+    ensures within { result * (4 * BYTES) ≤ length input.now }
+    ensures reach { WIDTH ≡ 6 → length input.now < result * 12 + 16 }
+    ensures text { (base : Base) → Writes base symbols.now WIDTH order
+        → take (result * (4 * SYMBOLS)) output.new
+        ≡ plain_text base (take (result * (4 * BYTES)) input.now) }
+{
+    if WIDTH != 6 {
+        return 0;
+    }
+    let count = input.len().saturating_sub(4) / 12;
+    for index in 0..count {
+        let read = index * 12;
+        let written = index * 16;
+        encode_twelve(
+            symbols,
+            order,
+            &input[read..read + 16],
+            &mut output[written..written + 16],
+        );
+    }
+    count
+}
+
+// Four groups at a time, so that the loop's own steps cost less, and then what is left.
+#[inline(always)]
+fn encode_without_lanes<const WIDTH: usize, const BYTES: usize, const SYMBOLS: usize>(
     symbols: &[u8; 256],
     order: BitOrder,
     input: &[u8],

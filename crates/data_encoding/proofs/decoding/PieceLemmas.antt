@@ -53,7 +53,7 @@ module _ (base : Base) where
         by (Some fault) others h = refl
 
   -- where none has a fault, none but the last can be final
-  any_final : (begun ended : Bool) (gs : List (List Positioned)) → AreSound base begun gs ended
+  pub any_final : (begun ended : Bool) (gs : List (List Positioned)) → AreSound base begun gs ended
       → (begun || list_any (is_final base) gs) ≡ ended
   any_final true ended [] h = h
   any_final false ended [] h = h
@@ -95,12 +95,12 @@ module _ (base : Base) (width : IsWidth base.width) where
         kept_in-append base 0 text piece
         ∙ ap (λ n. kept base text ++ kept_in base n piece) start
 
-    whole_groups-more : whole_groups base (text ++ piece)
+    pub whole_groups-more : whole_groups base (text ++ piece)
         ≡ whole_groups base text ++ whole_runs size (unfinished base text ++ more)
     whole_groups-more =
         ap (whole_runs size) kept_more ∙ (whole_runs-join size pos (kept base text) more).0
 
-    unfinished-more : unfinished base (text ++ piece) ≡ left size (unfinished base text ++ more)
+    pub unfinished-more : unfinished base (text ++ piece) ≡ left size (unfinished base text ++ more)
     unfinished-more =
         ap (left size) kept_more ∙ (whole_runs-join size pos (kept base text) more).1
 
@@ -161,7 +161,7 @@ module _ (base : Base) (width : IsWidth base.width) where
         held_is : held ≡ unfinished base text
         held_is = read.holds refl
 
-        sound : AreSound base false (whole_groups base text) ended
+        pub sound : AreSound base false (whole_groups base text) ended
         sound =
             let gs = whole_groups base text in
             let none = AreSound-none base false gs (sym read.first) in

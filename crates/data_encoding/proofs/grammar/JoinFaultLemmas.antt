@@ -24,7 +24,7 @@ use Rattle.data_encoding.proofs.lists.RunLemmas.{few_runs, runs-join, runs-map}
 use Rattle.data_encoding.proofs.specification.RuleLemmas.{IsRuled}
 
 -- the same bytes, so many positions further on
-abbrev moved : ℕ → List Positioned → List Positioned
+abbrev pub moved : ℕ → List Positioned → List Positioned
 moved count ks = map (λ k. record { position = count + k.position; byte = k.byte }) ks
 
 bytes-moved : (count : ℕ) (ks : List Positioned) → bytes_in (moved count ks) ≡ bytes_in ks
@@ -138,7 +138,7 @@ module _ (base : Base) (width : IsWidth base.width) where
         ∙ further_if m false (is_valid_length base n) (greatest_valid_length base n)
 
   -- the kept bytes of a part that stands further on
-  kept_in-moved : (count start : ℕ) (part : List ℕ)
+  pub kept_in-moved : (count start : ℕ) (part : List ℕ)
       → kept_in base (count + start) part ≡ moved count (kept_in base start part)
   kept_in-moved count start [] = refl
   kept_in-moved count start (byte ∷ part) =
@@ -155,7 +155,7 @@ module _ (base : Base) (width : IsWidth base.width) where
         either true ks = refl
         either false ks = refl
 
-  abbrev AreFew : List (List Positioned) → Type 0
+  abbrev pub AreFew : List (List Positioned) → Type 0
   AreFew gs =
       AllByRecursion (λ (g : List Positioned). (0 < length g) × (length g ≤ size)) gs
 
@@ -169,12 +169,12 @@ module _ (base : Base) (width : IsWidth base.width) where
       group_fault-further base width group (moved count group) count (bytes-moved count group)
       (position_of-moved count group) some few
 
-  final-moved : (count : ℕ) (group : List Positioned)
+  pub final-moved : (count : ℕ) (group : List Positioned)
       → is_final base (moved count group) ≡ is_final base group
   final-moved count group =
       is_final-same base (moved count group) group (bytes-moved count group)
 
-  first-moved : (count : ℕ) (ended : Bool) (gs : List (List Positioned)) → AreFew gs
+  pub first-moved : (count : ℕ) (ended : Bool) (gs : List (List Positioned)) → AreFew gs
       → first_after ended base (map (moved count) gs) ≡ further count (first_after ended base gs)
   first-moved count ended [] few = refl
   first-moved count ended (g ∷ gs) few =
@@ -184,10 +184,10 @@ module _ (base : Base) (width : IsWidth base.width) where
       (first-moved count (is_final base g) gs few.1)
       ∙ further-or_else count (fault_after ended base g) (first_after (is_final base g) base gs)
 
-  abbrev bytes_before : Bool → List (List Positioned) → List ℕ
+  abbrev pub bytes_before : Bool → List (List Positioned) → List ℕ
   bytes_before ended gs = flat_map (bytes_of_group base) (sound_after ended base gs)
 
-  sound-moved : (count : ℕ) (ended : Bool) (gs : List (List Positioned)) → AreFew gs
+  pub sound-moved : (count : ℕ) (ended : Bool) (gs : List (List Positioned)) → AreFew gs
       → bytes_before ended (map (moved count) gs) ≡ bytes_before ended gs
   sound-moved count ended [] few = refl
   sound-moved count ended (g ∷ gs) few =

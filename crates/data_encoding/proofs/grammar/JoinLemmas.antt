@@ -134,13 +134,13 @@ module _ (base : Base) (ruled : IsRuled base) where
         (omega (arith, count, none)) first
         (PlainMeans-same base (kept base after) rest more same second))
 
-    whole-padded : is_padded base ≡ true → GroupsMean base (groups base text) bytes
+    pub whole-padded : is_padded base ≡ true → GroupsMean base (groups base text) bytes
         → length (kept base text) % size ≡ 0
     whole-padded padded means =
         ap (λ n. n % size) (length-groups base width padded text bytes means)
         ∙ mul-mod_left (length (groups base text)) size
 
-    whole-plain : 8 % base.width ≡ 0 → PlainMeans base (kept base text) bytes
+    pub whole-plain : 8 % base.width ≡ 0 → PlainMeans base (kept base text) bytes
         → length (kept base text) % size ≡ 0
     whole-plain divides means =
         let count = PlainMeans-count base width (kept base text) bytes means in

@@ -1,7 +1,7 @@
 -- The whole runs of a list, and what is left of it.
 use Rattle.std.proofs.Common.{◌≡◌, ℕ, ◌+◌, ◌*◌, ◌/◌, ◌%◌, ◌<◌, List, [], ◌∷◌, ◌++◌, length, take, drop, sym, ap, ◌∙◌, arith, length-append, append_assoc, take-append-drop, length-take-le}
 use Rattle.std.proofs.lemmas.List.{append-nil, drop_at, length-drop}
-use Rattle.std.proofs.Math.Nat.{add-mul, div-eq_of_lt-le, div-mul-le_self, lt-div-mul-add, mul_comm, mul-mod_left, zero-mul}
+use Rattle.std.proofs.Math.Nat.{add-mul, div-add-mod', div-eq_of_lt-le, div-mul-le_self, lt-div-mul-add, mul_comm, mul-mod_left, zero-mul}
 use Rattle.std.specs.Simd.{first_chunks}
 use Rattle.data_encoding.specs.Bits.{runs}
 use Rattle.data_encoding.proofs.lists.RunLemmas.{first_chunks-append, run_count, runs-join, runs-nil, runs-short}
@@ -96,7 +96,19 @@ module _ {X : Type 0} (size : ℕ) (some : 0 < size) where
       let is = whole_runs-is 0 [] xs (sym (zero-mul size)) short in
       (is.0 ∙ runs-nil {X = X} size some, is.1)
 
-  -- and of one run none
+  -- none are left of whole runs
+  pub whole_runs-all : (xs : List X) → length xs % size ≡ 0
+      → (whole_runs size xs ≡ runs size xs) × (left size xs ≡ [])
+  whole_runs-all xs whole =
+      let count = length xs / size in
+      let len : length xs ≡ count * size =
+      sym (div-add-mod' (length xs) size) ∙ ap (λ r. count * size + r) whole ∙ omega arith in
+      let is = whole_runs-is count xs [] len some in (
+        ap (whole_runs size) (sym (append-nil xs)) ∙ is.0,
+        ap (left size) (sym (append-nil xs)) ∙ is.1,
+      )
+
+  -- nor of one
   pub whole_runs-one : (xs : List X) → length xs ≡ size
       → (whole_runs size xs ≡ xs ∷ []) × (left size xs ≡ [])
   whole_runs-one xs whole =

@@ -2,7 +2,7 @@ use Rattle.std.proofs.Common.{◌≡◌, ◌*◌, take}
 use Rattle.data_encoding.specs.Base.{Base}
 use Rattle.data_encoding.specs.Tables.{Writes}
 use Rattle.data_encoding.specs.Text.{plain_text}
-use Rattle.data_encoding.proofs.plain.encode_by_fours.Given as goal
+use Rattle.data_encoding.proofs.plain.encode_by_lanes.Given as goal
 
 abbrev pub invariant-loop-index : goal.invariant-loop-index
 invariant-loop-index g l = record {

@@ -1,0 +1,128 @@
+-- The lengths of whole groups, and what the length of one byte tells.
+use Rattle.std.proofs.Common.{◌≡◌, ℕ, ◌*◌, ◌/◌, ◌%◌, ◌≤◌, ◌==◌, nat_lt, Bool, true, false, not, cond, ◌&&◌, ◌||◌, List, [], ◌∷◌, Some, None, is_none, Ok, is_ok, refl, sym, ap, ◌∙◌, subst, arith}
+use Rattle.std.proofs.Math.Nat.{mul-mod_left}
+use Rattle.std.specs.List.{list_any}
+use Rattle.data_encoding.specs.declared.error.DecodeError.{DecodeError}
+use Rattle.data_encoding.specs.declared.error.DecodeKind.TheVariants.{Length as LengthFault}
+use Rattle.data_encoding.specs.Base.{Base, IsWidth, group_bytes, group_symbols, ignores_some, is_padded, is_padding, meaning}
+use Rattle.data_encoding.specs.Grammar.{Positioned, is_final}
+use Rattle.data_encoding.specs.Lengths.{decoded_len, greatest_valid_length, is_valid_count, is_valid_length, most_bytes, unless_fault}
+use Rattle.data_encoding.proofs.digits.WidthLemmas.{by_width}
+use Rattle.data_encoding.proofs.grammar.LengthLemmas.{decoded_len-valid, is_valid_length-by, most_bytes-by}
+use Rattle.data_encoding.proofs.specification.RuleLemmas.{IsRuled}
+
+-- So many whole groups.
+
+padded_bytes : (width : ℕ) → IsWidth width → (count : ℕ)
+    → count * group_symbols width / group_symbols width * group_bytes width
+    ≡ count * group_bytes width
+padded_bytes =
+    by_width
+    (λ w. (count : ℕ)
+    → count * group_symbols w / group_symbols w * group_bytes w ≡ count * group_bytes w)
+    (λ n. omega arith) (λ n. omega arith) (λ n. omega arith) (λ n. omega arith) (λ n. omega arith)
+    (λ n. omega arith)
+
+plain_bytes : (width : ℕ) → IsWidth width → (count : ℕ)
+    → (width * (count * group_symbols width) % 8 ≡ 0)
+    × (width * (count * group_symbols width) / 8 ≡ count * group_bytes width)
+plain_bytes =
+    by_width
+    (λ w. (count : ℕ) → (w * (count * group_symbols w) % 8 ≡ 0)
+    × (w * (count * group_symbols w) / 8 ≡ count * group_bytes w))
+    (λ n. (omega arith, omega arith)) (λ n. (omega arith, omega arith))
+    (λ n. (omega arith, omega arith)) (λ n. (omega arith, omega arith))
+    (λ n. (omega arith, omega arith)) (λ n. (omega arith, omega arith))
+
+none_is_short : (width : ℕ) → IsWidth width → nat_lt 0 width ≡ true
+none_is_short = by_width (λ w. nat_lt 0 w ≡ true) refl refl refl refl refl refl
+
+-- No more bytes than symbols.
+
+padded_most : (width : ℕ) → IsWidth width → (len : ℕ)
+    → len / group_symbols width * group_bytes width ≤ len
+padded_most =
+    by_width (λ w. (len : ℕ) → len / group_symbols w * group_bytes w ≤ len) (λ n. omega arith)
+    (λ n. omega arith) (λ n. omega arith) (λ n. omega arith) (λ n. omega arith) (λ n. omega arith)
+
+plain_most : (width : ℕ) → IsWidth width → (len : ℕ) → width * len / 8 ≤ len
+plain_most =
+    by_width (λ w. (len : ℕ) → w * len / 8 ≤ len) (λ n. omega arith)
+    (λ n. omega arith) (λ n. omega arith) (λ n. omega arith) (λ n. omega arith) (λ n. omega arith)
+
+-- one symbol is neither a whole byte nor a whole group
+one_is_invalid : (width : ℕ) → IsWidth width
+    → ((1 % group_symbols width == 0) ≡ false) × (is_valid_count width 1 ≡ false)
+one_is_invalid =
+    by_width (λ w. ((1 % group_symbols w == 0) ≡ false) × (is_valid_count w 1 ≡ false))
+    (refl, refl) (refl, refl) (refl, refl) (refl, refl) (refl, refl) (refl, refl)
+
+module _ (base : Base) (width : IsWidth base.width) where
+  abbrev size : ℕ
+  size = group_symbols base.width
+
+  pub decoded_len-whole : (count : ℕ)
+      → decoded_len base (count * size) ≡ Ok (count * group_bytes base.width)
+  decoded_len-whole count = by (is_padded base) refl where
+    by : (b : Bool) → is_padded base ≡ b
+        → decoded_len base (count * size) ≡ Ok (count * group_bytes base.width)
+    by true is =
+        let valid = is_valid_length-by base (count * size) true is
+        ∙ ap (λ r. r == 0) (mul-mod_left count size) in
+        decoded_len-valid base (count * size) valid
+        ∙ ap (λ n. Ok n) (most_bytes-by base (count * size) true is
+        ∙ padded_bytes base.width width count)
+    by false is =
+        let bits = plain_bytes base.width width count in
+        let valid = is_valid_length-by base (count * size) false is
+        ∙ ap (λ r. nat_lt r base.width) bits.0 ∙ none_is_short base.width width in
+        decoded_len-valid base (count * size) valid
+        ∙ ap (λ n. Ok n) (most_bytes-by base (count * size) false is ∙ bits.1)
+
+  pub most_bytes-few : (len : ℕ) → most_bytes base len ≤ len
+  most_bytes-few len = by (is_padded base) refl where
+    by : (b : Bool) → is_padded base ≡ b → most_bytes base len ≤ len
+    by true is =
+        subst (λ n. n ≤ len) (sym (most_bytes-by base len true is))
+        (padded_most base.width width len)
+    by false is =
+        subst (λ n. n ≤ len) (sym (most_bytes-by base len false is))
+        (plain_most base.width width len)
+
+  one_invalid : is_valid_length base 1 ≡ false
+  one_invalid = by (is_padded base) refl where
+    by : (b : Bool) → is_padded base ≡ b → is_valid_length base 1 ≡ false
+    by true is = is_valid_length-by base 1 true is ∙ (one_is_invalid base.width width).0
+    by false is = is_valid_length-by base 1 false is ∙ (one_is_invalid base.width width).1
+
+  -- so a byte of a text is due where some are ignored
+  pub decoded_len-one : is_ok (decoded_len base 1) ≡ ignores_some base
+  decoded_len-one =
+      let fault : DecodeError =
+      record { position = greatest_valid_length base 1; kind = LengthFault } in
+      ap (λ valid. is_ok (unless_fault
+      (cond (not (ignores_some base) && not valid) (Some fault) None) (most_bytes base 1)))
+      one_invalid
+      ∙ by (ignores_some base) fault where
+        by : (b : Bool) (fault : DecodeError)
+            → is_ok (unless_fault (cond (not b && not false) (Some fault) None)
+            (most_bytes base 1)) ≡ b
+        by true fault = refl
+        by false fault = refl
+
+-- where texts may be concatenated, no group is final
+pub none_final-joined : (base : Base) → base.concatenates ≡ true → (gs : List (List Positioned))
+    → list_any (is_final base) gs ≡ false
+none_final-joined base joins [] = refl
+none_final-joined base joins (g ∷ gs) = λ i.
+    (not (joins i) && list_any (λ k. is_padding (meaning base k.byte)) g)
+    || none_final-joined base joins gs i
+
+-- and texts without padding may be
+pub joins-unpadded : (base : Base) → IsRuled base → base.padding ≡ None → base.concatenates ≡ true
+joins-unpadded base ruled unpadded =
+    sym ruled.concatenated ∙ ap (λ o. base.concatenates || is_none o) unpadded
+    ∙ always base.concatenates where
+      always : (b : Bool) → (b || true) ≡ true
+      always true = refl
+      always false = refl

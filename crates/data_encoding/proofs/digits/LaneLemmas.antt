@@ -1,0 +1,95 @@
+-- Lanes: digits that make a wider lane, and what is computed lane by lane.
+use Rattle.std.proofs.Common.{◌≡◌, ℕ, zero, suc, ◌+◌, ◌*◌, ◌/◌, ◌%◌, ◌^◌, ◌<◌, ◌≤◌, Bool, cond, List, [], ◌∷◌, ◌++◌, length, map, refl, sym, ap, ◌∙◌, arith}
+use Rattle.std.proofs.Math.Nat.{pow-zero, pow-succ', mul_comm, mul-add, mul_assoc, mod-lt}
+use Rattle.std.proofs.lemmas.Nat.{div-mul-add, mod-mul-add, pow_pos}
+use Rattle.std.specs.Prelude.{flat_map}
+use Rattle.std.specs.List.{AllByRecursion, range_with_len}
+use Rattle.std.specs.Simd.Lanes.{number_l, digits_l, sel_l}
+use Rattle.data_encoding.specs.declared.encoding.BitOrder.{BitOrder}
+use Rattle.data_encoding.specs.Words.{digit, weight}
+use Rattle.data_encoding.proofs.digits.BitLemmas.{length-pieces}
+use Rattle.data_encoding.proofs.lists.EachLemmas.{all_joined}
+
+-- a number of lower digits, and then higher ones
+number-joined : (p : ℕ) (xs ys : List ℕ)
+    → number_l p (xs ++ ys) ≡ number_l p xs + p ^ length xs * number_l p ys
+number-joined p [] ys =
+    let high = number_l p ys in
+    let one : p ^ 0 * high ≡ 1 * high = ap (λ n. n * high) (pow-zero p) in
+    omega (arith, one)
+number-joined p (x ∷ xs) ys =
+    let low = number_l p xs in
+    let high = number_l p ys in
+    let times = p ^ length xs in
+    ap (λ n. x + p * n) (number-joined p xs ys)
+    ∙ ap (λ n. x + n) (mul-add p low (times * high)
+    ∙ ap (λ n. p * low + n) (sym (mul_assoc p times high)
+    ∙ ap (λ n. n * high) (sym (pow-succ' p (length xs)))))
+    ∙ omega arith
+
+-- a wide digit made of k others each is their number
+pub number-of-wide : (p k q : ℕ) → q ≡ p ^ k → (f : ℕ → List ℕ) (ws : List ℕ)
+    → ((w : ℕ) → length (f w) ≡ k)
+    → number_l q (map (λ w. number_l p (f w)) ws) ≡ number_l p (flat_map f ws)
+number-of-wide p k q e f [] long = refl
+number-of-wide p k q e f (w ∷ ws) long =
+    (λ i. number_l p (f w) + (e ∙ sym (ap (λ n. p ^ n) (long w))) i
+    * number-of-wide p k q e f ws long i)
+    ∙ sym (number-joined p (f w) (flat_map f ws))
+
+pub digits-of-number : (p : ℕ) (xs : List ℕ) → AllByRecursion (λ x. x < p) xs
+    → digits_l p (length xs) (number_l p xs) ≡ xs
+digits-of-number p [] h = refl
+digits-of-number p (x ∷ xs) h =
+    let turned : x + p * number_l p xs ≡ number_l p xs * p + x =
+    ap (λ n. x + n) (mul_comm p (number_l p xs)) ∙ omega arith in
+    let low : (x + p * number_l p xs) % p ≡ x =
+    ap (λ n. n % p) turned ∙ mod-mul-add (number_l p xs) p x h.0 in
+    let high : (x + p * number_l p xs) / p ≡ number_l p xs =
+    ap (λ n. n / p) turned ∙ div-mul-add (number_l p xs) p x h.0 in
+    λ i. low i ∷ (ap (digits_l p (length xs)) high ∙ digits-of-number p xs h.1) i
+
+pub all_pieces : {X Y : Type 0} (P : Y → Type 0) (f : X → List Y) (xs : List X)
+    → ((x : X) → AllByRecursion P (f x)) → AllByRecursion P (flat_map f xs)
+all_pieces P f [] h = tt
+all_pieces P f (x ∷ xs) h = all_joined P (f x) (flat_map f xs) (h x) (all_pieces P f xs h)
+
+-- wide lanes, each of four bytes, as bytes
+pub bytes-of-wide : (f : ℕ → List ℕ) (ws : List ℕ) → length ws ≡ 4
+    → ((w : ℕ) → length (f w) ≡ 4) → ((w : ℕ) → AllByRecursion (λ x. x < 256) (f w))
+    → digits_l 256 16 (number_l 4294967296 (map (λ w. number_l 256 (f w)) ws)) ≡ flat_map f ws
+bytes-of-wide f ws four long small =
+    let sixteen : 16 ≡ length (flat_map f ws) =
+    sym (length-pieces 4 f ws long ∙ ap (λ n. 4 * n) four) in
+    (λ i. digits_l 256 (sixteen i) (number-of-wide 256 4 4294967296 refl f ws long i))
+    ∙ digits-of-number 256 (flat_map f ws) (all_pieces (λ x. x < 256) f ws small)
+
+-- what is selected lane by lane
+pub selected : {V X : Type 0} (test : V → Bool) (f g : V → X) (vs : List V)
+    → sel_l (map test vs) (map f vs) (map g vs) ≡ map (λ v. cond (test v) (f v) (g v)) vs
+selected test f g [] = refl
+selected test f g (v ∷ vs) = ap (λ l. cond (test v) (f v) (g v) ∷ l) (selected test f g vs)
+
+-- functions that agree where P holds
+pub map-same : {V X : Type 0} (P : V → Type 0) (f g : V → X) → ((v : V) → P v → f v ≡ g v)
+    → (vs : List V) → AllByRecursion P vs → map f vs ≡ map g vs
+map-same P f g same [] h = refl
+map-same P f g same (v ∷ vs) h = λ i. same v h.0 i ∷ map-same P f g same vs h.1 i
+
+-- what holds of any four lanes
+pub by_four : (P : List ℕ → Type 0) → ((a b c d : ℕ) → P (a ∷ b ∷ c ∷ d ∷ []))
+    → (ws : List ℕ) → length ws ≡ 4 → P ws
+by_four P h [] e = absurd (omega (arith, e))
+by_four P h (a ∷ []) e = absurd (omega (arith, e))
+by_four P h (a ∷ b ∷ []) e = absurd (omega (arith, e))
+by_four P h (a ∷ b ∷ c ∷ []) e = absurd (omega (arith, e))
+by_four P h (a ∷ b ∷ c ∷ d ∷ []) e = h a b c d
+by_four P h (a ∷ b ∷ c ∷ d ∷ x ∷ xs) e = absurd (omega (arith, e))
+
+-- the digits of a word, four of six bits
+pub four_digits-below : (order : BitOrder) (bound word : ℕ) → 64 ≤ bound
+    → AllByRecursion (λ x. x < bound) (map (digit order 6 4 word) (range_with_len 0 4))
+four_digits-below order bound word h =
+    let below : (k : ℕ) → digit order 6 4 word k < bound =
+    λ k. omega (arith, h, mod-lt (word / 2 ^ weight order 6 4 k) (pow_pos 6)) in
+    (below 0, (below 1, (below 2, (below 3, tt))))
