@@ -1,3 +1,10 @@
 pub mod WriteLemmas
 pub mod ReadLemmas
 pub mod EncodedLemmas
+pub mod ReadPieceLemmas
+pub mod ReadRunLemmas
+pub mod PieceLemmas
+pub mod JudgedLemmas
+pub mod DecoderLemmas
+pub mod DecodedLemmas
+pub mod FinishLemmas

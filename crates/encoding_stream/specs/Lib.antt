@@ -1,3 +1,7 @@
 pub mod Watch
 pub mod Printed
 pub mod Encoded
+pub mod Pieces
+pub mod Reading
+pub mod Decoder
+pub mod Decoded

@@ -19,7 +19,7 @@ pub enum StreamFault {
     /// The text that was read has a fault.
     Decode(DecodeError),
 
-    /// More than `u64::MAX` bytes were read.
+    /// More was read than `encode_stream` or `decode_stream` takes.
     TooLong,
 }
 

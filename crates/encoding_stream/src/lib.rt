@@ -4,11 +4,16 @@
 //! contracts and callers can tell whether a call of them failed.
 #![tactic(auto)]
 
+mod decode;
+mod decoder;
 mod encode;
 mod error;
 mod fill;
+mod pieces;
 mod watch;
 
+pub use decode::decode_stream;
+pub use decoder::{Decoder, Finished};
 pub use encode::encode_stream;
 pub use error::StreamFault;
 pub use watch::Watch;

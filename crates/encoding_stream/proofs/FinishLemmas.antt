@@ -1,0 +1,71 @@
+-- The end of a text that is decoded by pieces.
+use Rattle.std.proofs.Common.{◌≡◌, ℕ, ◌<◌, ◌≤◌, ◌++◌, Bool, List, [], ◌∷◌, length, take, Option, None, Some, Result, Ok, Err, IfOk, IfErr, refl, sym, ap, ◌∙◌, subst, arith}
+use Rattle.std.specs.Result.{result_unwrap_or}
+use Rattle.data_encoding.specs.declared.error.DecodeError.{DecodeError}
+use Rattle.data_encoding.specs.Base.{Base}
+use Rattle.data_encoding.specs.Fault.{bytes_of_group, fault_after, fault_of, or_else, sound_bytes}
+use Rattle.data_encoding.specs.Fields.{IsSpecified}
+use Rattle.data_encoding.specs.Grammar.{Positioned}
+use Rattle.data_encoding.specs.Lengths.{decoded_len, length_fault, most_bytes, unless_fault}
+use Rattle.data_encoding.specs.Pieces.{bytes_unless, held_fault, whole_bytes, HasRead, TellsBytes, TellsFault}
+use Rattle.encoding_stream.specs.Pieces.{at_positions, verdict_of, NoneIgnored}
+use Rattle.encoding_stream.proofs.PieceLemmas.{positions-length, unfinished-kept}
+
+-- what is held is judged as a group, where it is not nothing
+held_fault-some : (ended : Bool) (base : Base) (held : List Positioned) → 0 < length held
+    → held_fault ended base held ≡ fault_after ended base held
+held_fault-some ended base [] h = absurd (omega (arith, h))
+held_fault-some ended base (k ∷ ks) h = refl
+
+-- A last group that is held, behind groups without a fault.
+module _ (base : Base) (fault : Option DecodeError) (positions bytes : List ℕ) (count : ℕ)
+    (ended : Bool) (none : fault ≡ None) where
+  abbrev held : List Positioned
+  held = at_positions count positions bytes
+
+  first : or_else fault (held_fault ended base (at_positions count positions bytes))
+      ≡ held_fault ended base (at_positions count positions bytes)
+  first = ap (λ f. or_else f (held_fault ended base held)) none
+
+  module _ (some : 0 < count) (h : count ≤ length positions) (k : count ≤ length bytes)
+      (text : List ℕ) (len : ℕ)
+      (read : HasRead base text len fault (at_positions count positions bytes) ended) where
+    pub last-kept : NoneIgnored base (at_positions count positions bytes)
+    last-kept = subst (NoneIgnored base) (sym (read.holds none)) (unfinished-kept base text)
+
+    pub last-judged : (verdict : Option DecodeError)
+        → fault_after ended base (at_positions count positions bytes) ≡ verdict
+        → or_else fault (held_fault ended base (at_positions count positions bytes)) ≡ verdict
+    last-judged verdict is =
+        first
+        ∙ held_fault-some ended base held
+        (subst (λ n. 0 < n) (sym (positions-length count positions bytes h k)) some)
+        ∙ is
+
+-- What is told of the whole text.
+module _ (base : Base) (is : IsSpecified base) (text : List ℕ) (len : ℕ)
+    (fault : Option DecodeError) (held : List Positioned) (ended : Bool)
+    (read : HasRead base text len fault held ended) where
+  pub verdict-groups : TellsFault → (due : ℕ) → decoded_len base len ≡ Ok due
+      → (verdict : Option DecodeError) → or_else fault (held_fault ended base held) ≡ verdict
+      → verdict_of verdict ≡ verdict_of (fault_of base text)
+  verdict-groups tells due valid verdict judged =
+      sym (ap verdict_of (tells base is text len fault held ended read
+      ∙ ap (λ o. or_else o (or_else fault (held_fault ended base held)))
+      (no-fault (length_fault base len) (most_bytes base len) due valid) ∙ judged)) where
+        no-fault : (o : Option DecodeError) (m n : ℕ) → unless_fault o m ≡ Ok n → o ≡ None
+        no-fault None m n h = refl
+        no-fault (Some e) m n h = absurd (cc h)
+
+  pub bytes-judged : TellsBytes → (judged : Result ℕ DecodeError) (output : List ℕ)
+      → IfOk judged (λ written. (or_else fault (held_fault ended base held) ≡ None)
+      × (bytes_of_group base held ≡ take written output))
+      → IfErr judged (λ error. or_else fault (held_fault ended base held) ≡ Some error)
+      → sound_bytes base text ≡ whole_bytes base text ++ take (result_unwrap_or judged 0) output
+  bytes-judged tells (Ok written) output sound faulty =
+      tells base is text len fault held ended read
+      ∙ ap (λ o. whole_bytes base text ++ bytes_unless o base held) sound.0
+      ∙ ap (λ bs. whole_bytes base text ++ bs) sound.1
+  bytes-judged tells (Err error) output sound faulty =
+      tells base is text len fault held ended read
+      ∙ ap (λ o. whole_bytes base text ++ bytes_unless o base held) faulty

@@ -1,0 +1,194 @@
+-- Lemmas on whole groups that are decoded where they lie.
+use Rattle.std.proofs.Common.{◌≡◌, inr, ℕ, ◌+◌, ◌*◌, ◌/◌, ◌%◌, ◌<◌, ◌≤◌, ◌==◌, Bool, true, false, not, ◌&&◌, if◌then◌else◌, List, [], ◌++◌, Option, None, Some, Ok, is_some, length, take, drop, refl, sym, subst, ap, ◌∙◌, arith, length-take-le, IsOkAnd}
+use Rattle.std.proofs.Math.Nat.{div-mul-le_self, le-div_iff_mul-le, le_of_mul-le-mul_left, mul-le-mul_left, mul-le-mul_right}
+use Rattle.std.proofs.lemmas.List.{take-append-le, take-take}
+use Rattle.data_encoding.specs.declared.error.DecodeError.{DecodeError}
+use Rattle.data_encoding.specs.Base.{Base, IsWidth, group_bytes, group_symbols, ignores_some, is_padded}
+use Rattle.data_encoding.specs.Fields.{IsSpecified}
+use Rattle.data_encoding.specs.Grammar.{Means, Positioned}
+use Rattle.data_encoding.specs.Lengths.{decoded_len, length_fault, most_bytes, unless_fault}
+use Rattle.data_encoding.specs.Pieces.{whole_bytes, AreWhole, CountsGroups, EndsNowhere, HasRead, MeansWhole, ReadsSound, TellsEnd}
+use Rattle.encoding_stream.specs.declared.pieces.Kept.{Kept}
+use Rattle.encoding_stream.specs.Pieces.{at_positions, held, FillsGroups, Keeps}
+use Rattle.encoding_stream.specs.Reading.{AreWholeGroups, ReadsOn}
+
+-- nothing is held
+nothing-held : (count : ℕ) (positions bytes : List ℕ) → count ≡ 0
+    → at_positions count positions bytes ≡ []
+nothing-held count positions bytes none = ap (λ n. at_positions n positions bytes) none
+
+no-fault : (fault : Option DecodeError) → is_some fault ≡ false → fault ≡ None
+no-fault None is = refl
+no-fault (Some error) is = absurd (cc)
+
+-- whole groups that mean bytes, behind whole groups
+run-read : (base : Base) → IsSpecified base → ReadsSound → (text piece bytes : List ℕ) (len : ℕ)
+    (fault : Option DecodeError) (held : List Positioned) (ended : Bool) → fault ≡ None
+    → held ≡ [] → ended ≡ false → Means base piece bytes → AreWholeGroups base piece
+    → HasRead base text len fault held ended
+    → HasRead base (text ++ piece) (len + length piece) fault held ended
+    × (whole_bytes base (text ++ piece) ≡ whole_bytes base text ++ bytes)
+run-read base is law text piece bytes len fault held ended f h e means whole reads =
+    let start = rw (f, h, e) at reads in
+    let next = law base is text piece bytes len start means whole.whole in
+    (rw (f, h, e) (rw whole.not_final at next.0), next.1)
+
+pub reads-run : (base : Base) → IsSpecified base → ReadsSound → (old : Kept)
+    → old.count ≡ 0 → is_some old.fault ≡ false → old.ended ≡ false → (piece bytes : List ℕ)
+    → Means base piece bytes → AreWholeGroups base piece
+    → FillsGroups base 0 (length piece) 0 (length bytes)
+    → ReadsOn base old (record old { len = old.len + length piece }) piece bytes
+reads-run base is law old count fault ended piece bytes means whole few =
+    let next = λ (text : List ℕ) (keeps : Keeps base old text).
+    run-read base is law text piece bytes old.len old.fault (held old) old.ended
+    (no-fault old.fault fault) (nothing-held old.count old.positions old.bytes count) ended
+    means whole keeps in
+    record {
+      keeps = λ text keeps. (next text keeps).0;
+      decodes = λ text keeps. (next text keeps).1;
+      counted = refl;
+      few = subst (λ n. FillsGroups base n (length piece) n (length bytes)) (sym count) few;
+    }
+
+-- the number of bytes that is due
+unless-ok : (fault : Option DecodeError) (most bytes : ℕ) → unless_fault fault most ≡ Ok bytes
+    → most ≡ bytes
+unless-ok None most bytes is = cc
+unless-ok (Some error) most bytes is = absurd (cc)
+
+pub due-group : (base : Base) → IsSpecified base → CountsGroups → (size : ℕ)
+    → size ≡ group_symbols base.width → decoded_len base size ≡ Ok (group_bytes base.width)
+due-group base is law size same =
+    let symbols : 1 * group_symbols base.width ≡ size = omega (arith, same) in
+    let bytes : 1 * group_bytes base.width ≡ group_bytes base.width = omega arith in
+    subst (λ n. decoded_len base n ≡ Ok (group_bytes base.width)) symbols
+    (subst (λ n. decoded_len base (1 * group_symbols base.width) ≡ Ok n) bytes (law base is 1))
+
+some-by : (five three : Bool) → 0 < (if five then 5 else if three then 3 else 1)
+some-by true three = omega arith
+some-by false true = omega arith
+some-by false false = omega arith
+
+pub bytes-some : (width : ℕ) → 0 < group_bytes width
+bytes-some width = some-by (width == 5) (width % 3 == 0)
+
+-- no group is final where the bytes are whole groups
+not-both : (a b : Bool) → b ≡ true → (a && not b) ≡ false
+not-both true b is = ap not is
+not-both false b is = refl
+
+pub whole-by_bytes : (base : Base) → IsSpecified base → MeansWhole → TellsEnd
+    → (text bytes : List ℕ) → length bytes % group_bytes base.width ≡ 0 → Means base text bytes
+    → AreWholeGroups base text
+whole-by_bytes base is whole ends text bytes divides means = record {
+  whole = whole base is text bytes means divides;
+  not_final =
+      ends base is text bytes means
+      ∙ not-both (not base.concatenates) (length bytes % group_bytes base.width == 0)
+      (ap (λ n. n == 0) divides);
+}
+
+pub whole-by_length : (base : Base) → IsSpecified base → AreWhole → EndsNowhere
+    → base.concatenates ≡ true → ignores_some base ≡ false → (text bytes : List ℕ)
+    → length text % group_symbols base.width ≡ 0 → Means base text bytes
+    → AreWholeGroups base text
+whole-by_length base is whole nowhere joins none text bytes divides means = record {
+  whole = whole base is text bytes means (inr (inr (none, divides)));
+  not_final = nowhere base joins _;
+}
+
+-- whole groups by their length
+pub fills-by_length : (base : Base) → IsSpecified base → CountsGroups → (read written : ℕ)
+    → read % group_symbols base.width ≡ 0 → 0 < group_symbols base.width
+    → written ≤ most_bytes base read → FillsGroups base 0 read 0 written
+fills-by_length base is law read written divides some most =
+    let count = read / group_symbols base.width in
+    let all : count * group_symbols base.width ≡ read = omega (arith, divides, some) in
+    let due : most_bytes base read ≡ count * group_bytes base.width =
+    unless-ok (length_fault base read) _ _
+    (subst (λ n. decoded_len base n ≡ Ok (count * group_bytes base.width)) all (law base is count))
+    in
+    record {
+      groups = count;
+      symbols = omega (arith, all);
+      bytes = omega (arith, due, most);
+    }
+
+-- groups of that many symbols within what was read, whose bytes are those written or more
+fills-by : (padded : Bool) (width symbols bytes read written : ℕ) → 0 < width → 0 < bytes
+    → symbols * width ≤ bytes * 8 → written % bytes ≡ 0
+    → written ≤ (if padded then read / symbols * bytes else width * read / 8)
+    → (count : ℕ) × (count * symbols ≤ read) × (written ≤ count * bytes)
+fills-by true width symbols bytes read written some more few divides most =
+    (read / symbols, div-mul-le_self read symbols, most)
+fills-by false width symbols bytes read written some more few divides most =
+    let count = written / bytes in
+    let all : count * bytes ≡ written = omega (arith, divides, more) in
+    let bits : count * (symbols * width) ≤ count * (bytes * 8) = mul-le-mul_left count few in
+    let less : width * (count * symbols) ≤ width * read = omega (arith, bits, all, most) in
+    (count, le_of_mul-le-mul_left less some, omega (arith, all))
+
+-- whole groups by their bytes
+pub fills-by_bytes : (base : Base) → IsWidth base.width → (read written : ℕ)
+    → written % group_bytes base.width ≡ 0 → written ≤ most_bytes base read
+    → FillsGroups base 0 read 0 written
+fills-by_bytes base width read written divides most =
+    let found =
+    fills-by (is_padded base) base.width (group_symbols base.width) (group_bytes base.width) read
+    written width.some (bytes-some base.width)
+    (div-mul-le_self (group_bytes base.width * 8) base.width) divides most in
+    record { groups = found.0; symbols = omega (arith, found.1); bytes = found.2 }
+
+-- what is due of a text, and of a front of it
+pub due-most : (base : Base) (len most : ℕ) → decoded_len base len ≡ Ok most
+    → most ≡ most_bytes base len
+due-most base len most is = sym (unless-ok (length_fault base len) (most_bytes base len) most is)
+
+pub due-exact : (base : Base) (len most : ℕ) (piece output : List ℕ) → len ≤ length piece
+    → most ≤ length output → decoded_len base len ≡ Ok most
+    → decoded_len base (length (take len piece)) ≡ Ok (length (take most output))
+due-exact base len most piece output few room is =
+    rw (length-take-le len piece few, length-take-le most output room) is
+
+due-within : (fault : Option DecodeError) (most written : ℕ)
+    → IsOkAnd (unless_fault fault most) (λ n. written ≤ n) → written ≤ most
+due-within None most written is = is
+due-within (Some error) most written is = absurd is
+
+div-grows : (k m n : ℕ) → 0 < k → m ≤ n → m / k ≤ n / k
+div-grows k m n some few =
+    let less = div-mul-le_self m k in
+    (le-div_iff_mul-le some).1 (omega (arith, less, few))
+
+grows-by : (padded : Bool) (width symbols bytes read len : ℕ) → 0 < symbols → read ≤ len
+    → (if padded then read / symbols * bytes else width * read / 8)
+    ≤ (if padded then len / symbols * bytes else width * len / 8)
+grows-by true width symbols bytes read len some few =
+    mul-le-mul_right bytes (div-grows symbols read len some few)
+grows-by false width symbols bytes read len some few =
+    div-grows 8 (width * read) (width * len) (omega arith) (mul-le-mul_left width few)
+
+pub stopped-most : (base : Base) (read written : ℕ)
+    → IsOkAnd (decoded_len base read) (λ n. written ≤ n) → written ≤ most_bytes base read
+stopped-most base read written is =
+    due-within (length_fault base read) (most_bytes base read) written is
+
+pub stopped-within : (base : Base) (read written len most : ℕ) → 0 < group_symbols base.width
+    → read ≤ len
+    → decoded_len base len ≡ Ok most → IsOkAnd (decoded_len base read) (λ n. written ≤ n)
+    → written ≤ most
+stopped-within base read written len most some few due is =
+    let here = stopped-most base read written is in
+    let grows =
+    grows-by (is_padded base) base.width (group_symbols base.width) (group_bytes base.width) read
+    len some few in
+    let all = due-most base len most due in
+    omega (arith, here, grows, all)
+
+pub stopped-means : (base : Base) (piece output new : List ℕ) (read written len most : ℕ)
+    → read ≤ len → written ≤ length new
+    → Means base (take read (take len piece)) (take written new)
+    → Means base (take read piece) (take written (new ++ drop most output))
+stopped-means base piece output new read written len most few fits means =
+    let front = rw (take-take read len piece few) at means in
+    rw (take-append-le written new (drop most output) fits) front

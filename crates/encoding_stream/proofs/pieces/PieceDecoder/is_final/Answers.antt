@@ -1,0 +1,21 @@
+use Rattle.std.proofs.Common.{ℕ, take, sym, ◌∙◌, arith, rules, tests}
+use Rattle.std.proofs.lemmas.Iterator.{YieldsList-from_slice}
+use Rattle.std.proofs.lemmas.Iterator.Search.{any_from_yields_List}
+use Rattle.data_encoding.specs.Base.{is_padding, meaning}
+use Rattle.encoding_stream.proofs.PieceLemmas.{any-final, symbols-few}
+use Rattle.encoding_stream.proofs.pieces.PieceDecoder.is_final.Goals as goal
+
+pub returns-then-not-self : goal.returns-then-not-self
+returns-then-not-self c =
+    let s = c.args.self.now in
+    let k = s.kept in
+    let few = symbols-few s.encoding.now.width s.width in
+    let found =
+    any_from_yields_List (λ (b : ℕ). is_padding (meaning s.encoding.now b)) _ _
+    c.any-is_padded.result c.any-is_padded.ensures.ran
+    (YieldsList-from_slice (take s.size k.bytes) cc)
+    (λ x b q h. search (rules, tests)) in
+    found
+    ∙ any-final s.encoding.now s.size k.positions k.bytes
+    (omega (arith, few, s.group)) (omega (arith, few, s.group))
+    (sym s.single ∙ c.if-not-self.true)

@@ -1,0 +1,139 @@
+use Rattle.std.proofs.Common.{◌≡◌, None, Some, Ok, slice_index, drop, refl, sym, ap, ◌∙◌, subst, arith, length-take-le}
+use Rattle.std.proofs.lemmas.List.{take-append-le}
+use Rattle.data_encoding.specs.declared.error.DecodeError.{DecodeError}
+use Rattle.data_encoding.specs.declared.error.DecodeKind.TheVariants.{Padding}
+use Rattle.data_encoding.specs.Fault.{fault_after}
+use Rattle.data_encoding.specs.Lengths.{decoded_len}
+use Rattle.encoding_stream.specs.Pieces.{at_positions}
+use Rattle.encoding_stream.proofs.PieceLemmas.{symbols-few}
+use Rattle.encoding_stream.proofs.JudgedLemmas.{due-few, fault-refused, fault-stopped, judged-ended, judged-fault, judged-sound}
+use Rattle.encoding_stream.proofs.pieces.PieceDecoder.judge.Goals as goal
+
+pub returns-then-self-clause-fault : goal.returns-then-self-clause-fault
+returns-then-self-clause-fault c = λ none.
+    let s = c.args.self.now in
+    let k = s.kept in
+    let error : DecodeError =
+    record { position = slice_index k.positions 0; kind = Padding } in
+    let few = symbols-few s.encoding.now.width s.width in
+    subst
+    (λ e. fault_after e s.encoding.now (at_positions c.args.count k.positions k.bytes) ≡ Some error)
+    (sym c.if-self.true)
+    (judged-ended s.encoding.now c.args.count k.positions k.bytes c.requires.some
+    (omega (arith, few, c.requires.few)) (omega (arith, few, c.requires.few)) error refl refl)
+
+pub shared_ref_as_front-decode_mut : goal.shared_ref_as_front-decode_mut
+shared_ref_as_front-decode_mut c =
+    omega (
+      arith,
+      symbols-few c.args.self.now.encoding.now.width c.args.self.now.width,
+      c.requires.few,
+    )
+
+pub slice_bounds-decode_mut-end-in-Ok : goal.slice_bounds-decode_mut-end-in-Ok
+slice_bounds-decode_mut-end-in-Ok c =
+    let s = c.args.self.now in
+    let due =
+    due-few s.encoding.now s.width c.args.count c.in-Ok.most c.requires.few
+    (sym c.decode_len.ensures.value ∙ c.in-Ok.is) in
+    omega (arith, due, c.requires.room)
+
+pub slice_bounds-decode_mut-end-in-Ok-2 : goal.slice_bounds-decode_mut-end-in-Ok-2
+slice_bounds-decode_mut-end-in-Ok-2 c =
+    let s = c.args.self.now in
+    let due =
+    due-few s.encoding.now s.width c.args.count c.in-Ok.most c.requires.few
+    (sym c.decode_len.ensures.value ∙ c.in-Ok.is) in
+    sym (length-take-le c.in-Ok.most c.args.output.now (omega (arith, due, c.requires.room)))
+
+pub decode_mut-requires-clause-exact : goal.decode_mut-requires-clause-exact
+decode_mut-requires-clause-exact c =
+    let s = c.args.self.now in
+    let few = symbols-few s.encoding.now.width s.width in
+    ap (λ n. decoded_len s.encoding.now n)
+    (length-take-le c.args.count s.kept.bytes (omega (arith, few, c.requires.few)))
+    ∙ sym c.decode_len.ensures.value ∙ c.in-Ok.is
+    ∙ ap (λ n. Ok n) (slice_bounds-decode_mut-end-in-Ok-2 c)
+
+pub at-requires-in-Err : goal.at-requires-in-Err
+at-requires-in-Err c =
+    omega (
+      arith,
+      symbols-few c.args.self.now.encoding.now.width c.args.self.now.width,
+      c.requires.few,
+      c.in-Err.ensures.position,
+    )
+
+pub returns-in-Ok-decode_mut-clause-sound : goal.returns-in-Ok-decode_mut-clause-sound
+returns-in-Ok-decode_mut-clause-sound c = λ none.
+    let s = c.args.self.now in
+    let k = s.kept in
+    let few = symbols-few s.encoding.now.width s.width in
+    let sound = c.in-Ok-decode_mut.ensures.sound in
+    let part =
+    take-append-le c.in-Ok-decode_mut.written c.decode_mut.new.output
+    (drop c.in-Ok.most c.args.output.now) c.in-Ok-decode_mut.ensures.decoded.0 in
+    let judged =
+    judged-sound s.encoding.now c.args.count k.positions k.bytes c.requires.some
+    (omega (arith, few, c.requires.few)) (omega (arith, few, c.requires.few))
+    c.decode_len.ensures.base c.pieces.ensures.alone c.requires.few none _ sound.0
+    (sound.1 ∙ sym part) in (
+      subst
+          (λ e. fault_after e s.encoding.now (at_positions c.args.count k.positions k.bytes) ≡ None)
+          (sym c.if-self.false) judged.0,
+      judged.1,
+    )
+
+pub returns-in-Ok-decode_mut-clause-few : goal.returns-in-Ok-decode_mut-clause-few
+returns-in-Ok-decode_mut-clause-few c =
+    let s = c.args.self.now in
+    let due =
+    due-few s.encoding.now s.width c.args.count c.in-Ok.most c.requires.few
+    (sym c.decode_len.ensures.value ∙ c.in-Ok.is) in
+    let part =
+    length-take-le c.in-Ok.most c.args.output.now (omega (arith, due, c.requires.room)) in
+    omega (
+      arith,
+      due,
+      part,
+      c.decode_mut.ensures.len,
+      c.in-Ok-decode_mut.ensures.decoded.0,
+    )
+
+pub returns-in-Err-decode_mut-clause-fault : goal.returns-in-Err-decode_mut-clause-fault
+returns-in-Err-decode_mut-clause-fault c = λ none.
+    let s = c.args.self.now in
+    let k = s.kept in
+    let few = symbols-few s.encoding.now.width s.width in
+    let size =
+    length-take-le c.args.count k.bytes (omega (arith, few, c.requires.few)) in
+    subst
+    (λ e. fault_after e s.encoding.now (at_positions c.args.count k.positions k.bytes)
+    ≡ Some c.at.result)
+    (sym c.if-self.false)
+    (judged-fault s.encoding.now c.args.count k.positions k.bytes c.requires.some
+    (omega (arith, few, c.requires.few)) (omega (arith, few, c.requires.few))
+    c.decode_len.ensures.base c.pieces.ensures.alone c.requires.few none
+    c.in-Err-decode_mut.partial.error c.at.result
+    (fault-stopped s.encoding.now _ _ c.in-Err-decode_mut.ensures.fault)
+    (omega (arith, size, c.in-Err-decode_mut.ensures.bounds.1))
+    c.at.ensures.position c.at.ensures.kind)
+
+pub returns-in-Err-clause-fault : goal.returns-in-Err-clause-fault
+returns-in-Err-clause-fault c = λ none.
+    let s = c.args.self.now in
+    let k = s.kept in
+    let few = symbols-few s.encoding.now.width s.width in
+    let size =
+    length-take-le c.args.count k.bytes (omega (arith, few, c.requires.few)) in
+    subst
+    (λ e. fault_after e s.encoding.now (at_positions c.args.count k.positions k.bytes)
+    ≡ Some c.at-in-Err.result)
+    (sym c.if-self.false)
+    (judged-fault s.encoding.now c.args.count k.positions k.bytes c.requires.some
+    (omega (arith, few, c.requires.few)) (omega (arith, few, c.requires.few))
+    c.decode_len.ensures.base c.pieces.ensures.alone c.requires.few none
+    c.in-Err.error c.at-in-Err.result
+    (fault-refused s.encoding.now _ c.args.count c.in-Err.error size
+    (sym c.decode_len.ensures.value ∙ c.in-Err.is))
+    c.in-Err.ensures.position c.at-in-Err.ensures.position c.at-in-Err.ensures.kind)

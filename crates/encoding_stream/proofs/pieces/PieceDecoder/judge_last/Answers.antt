@@ -1,0 +1,41 @@
+use Rattle.std.proofs.Common.{None, Some, arith}
+use Rattle.std.proofs.lemmas.Result.{IfErr-weaker, IfOk-weaker}
+use Rattle.encoding_stream.proofs.PieceLemmas.{symbols-few}
+use Rattle.encoding_stream.proofs.FinishLemmas.{last-judged, last-kept}
+use Rattle.encoding_stream.proofs.pieces.PieceDecoder.judge_last.Goals as goal
+
+pub returns-clause-sound : goal.returns-clause-sound
+returns-clause-sound c =
+    let s = c.args.self.now in
+    let k = s.kept in
+    let none = c.in_default.is in
+    let few = symbols-few s.encoding.now.width s.width in
+    IfOk-weaker c.judge.result _ _
+    (λ written judged text keeps.
+    let verdict = judged
+    (last-kept s.encoding.now k.fault k.positions k.bytes k.count k.ended none
+    (omega (arith, c.if-self-eq0.false)) (omega (arith, few, s.group, s.short))
+    (omega (arith, few, s.group, s.short)) text k.len keeps) in (
+      last-judged s.encoding.now k.fault k.positions k.bytes k.count k.ended none
+          (omega (arith, c.if-self-eq0.false)) (omega (arith, few, s.group, s.short))
+          (omega (arith, few, s.group, s.short)) text k.len keeps None verdict.0,
+      verdict.1,
+    ))
+    c.judge.ensures.sound
+
+pub returns-clause-fault : goal.returns-clause-fault
+returns-clause-fault c =
+    let s = c.args.self.now in
+    let k = s.kept in
+    let none = c.in_default.is in
+    let few = symbols-few s.encoding.now.width s.width in
+    IfErr-weaker c.judge.result _ _
+    (λ error judged text keeps.
+    last-judged s.encoding.now k.fault k.positions k.bytes k.count k.ended none
+    (omega (arith, c.if-self-eq0.false)) (omega (arith, few, s.group, s.short))
+    (omega (arith, few, s.group, s.short)) text k.len keeps (Some error)
+    (judged
+    (last-kept s.encoding.now k.fault k.positions k.bytes k.count k.ended none
+    (omega (arith, c.if-self-eq0.false)) (omega (arith, few, s.group, s.short))
+    (omega (arith, few, s.group, s.short)) text k.len keeps)))
+    c.judge.ensures.fault

@@ -1,0 +1,26 @@
+use Rattle.std.proofs.Common.{◌≡◌, ◌+◌, take, length, rules, subst, length-take-le}
+use Rattle.encoding_stream.specs.Pieces.{base_of_pieces, FillsGroups}
+use Rattle.encoding_stream.specs.Reading.{ReadsOn}
+use Rattle.encoding_stream.proofs.ReadRunLemmas.{reads-run}
+use Rattle.encoding_stream.proofs.pieces.PieceDecoder.read_run.Goals as goal
+
+pub returns-clause-reads : goal.returns-clause-reads
+returns-clause-reads c =
+    let base = base_of_pieces c.args.self.now in
+    let old = c.args.self.now.kept in
+    let run = c.decode_run-read in
+    let read = run.result.0 in
+    let written = run.result.1 in
+    let piece = take read c.args.piece.now in
+    let bytes = take written run.new.output in
+    let piece-is : length piece ≡ read = length-take-le read c.args.piece.now run.ensures.read in
+    let bytes-is : length bytes ≡ written =
+    length-take-le written run.new.output run.ensures.within in
+    let few : FillsGroups base 0 (length piece) 0 (length bytes) =
+    rw (piece-is, bytes-is) (c.are_whole.ensures.few c.if-not-are_whole.false run.ensures.most) in
+    let whole =
+    c.are_whole.ensures.whole c.if-not-are_whole.false piece bytes piece-is bytes-is
+    run.ensures.means in
+    subst (λ n. ReadsOn base old (record old { len = old.len + n }) piece bytes) piece-is
+    (reads-run base c.are_whole.ensures.specified c.pieces.ensures.sound old (search rules)
+    (search rules) (search rules) piece bytes run.ensures.means whole few)

@@ -1,0 +1,55 @@
+-- What decoding a reader into a writer has done.
+use Rattle.std.specs.Prelude.{◌≡◌, ℕ, ◌+◌, Bool, false, List, ◌++◌, length, Option, Some, None, Result, Ok, Err, IfSome}
+use Rattle.std.specs.Io.KnownBytes.{Appends, Consumes, IsAtEnd}
+use Rattle.data_encoding.specs.declared.error.DecodeError.{DecodeError}
+use Rattle.data_encoding.specs.Base.{Base}
+use Rattle.data_encoding.specs.Fault.{fault_of, sound_bytes}
+use Rattle.data_encoding.specs.Pieces.{whole_bytes}
+use Rattle.encoding_stream.specs.declared.error.StreamFault.{StreamFault}
+use Rattle.encoding_stream.specs.declared.error.StreamFault.TheVariants.{Decode}
+use Rattle.encoding_stream.specs.declared.pieces.Kept.{Kept}
+use Rattle.encoding_stream.specs.Pieces.{Keeps}
+use Rattle.encoding_stream.specs.Watch.{AppendsFront}
+
+-- All that a reader had was read; its bytes before the first faulty group were written, and that is
+-- its fault, or it has none.
+pub record DecodesAll (base : Base) (fault : Option DecodeError)
+    (read_old read_new written_old written_new : Option (List ℕ)) : Type 0 where
+  pub text : List ℕ
+  pub read : Consumes read_old read_new text
+  pub at_end : IsAtEnd read_new
+  pub fault_is : fault_of base text ≡ fault
+  pub written : Appends written_old written_new (sound_bytes base text)
+
+-- Some of a text was read, and a beginning of what it decodes to was written, which also begins
+-- what all decodes to that the reader had.
+pub record DecodesFront (base : Base)
+    (read_old read_new written_old written_new : Option (List ℕ)) : Type 0 where
+  pub text : List ℕ
+  pub read : Consumes read_old read_new text
+  pub written : AppendsFront written_old written_new (sound_bytes base text)
+  pub of_all : IfSome read_old (λ all. AppendsFront written_old written_new
+      (sound_bytes base all))
+
+-- what a stream answers of a text with this fault, or none
+abbrev pub answer_of : Option DecodeError → Result (Unit {0}) StreamFault
+answer_of None = Ok _
+answer_of (Some error) = Err (Decode error)
+
+-- Of each text of which the first is kept, the second is kept with this piece behind it, and the
+-- groups that are then whole have these bytes.
+pub record ReadsPiece (base : Base) (old new : Kept) (piece bytes : List ℕ) : Type 0 where
+  pub keeps : (text : List ℕ) → Keeps base old text → Keeps base new (text ++ piece)
+  pub decodes : (text : List ℕ) → Keeps base old text
+      → whole_bytes base (text ++ piece) ≡ whole_bytes base text ++ bytes
+  pub counted : new.len ≡ old.len + length piece
+
+-- A beginning of these bytes was written, and all of them unless that failed: the last of each text
+-- of which this is kept.
+pub record EndsText (base : Base) (kept : Kept) (failed : Bool)
+    (written_old written_new : Option (List ℕ)) : Type 0 where
+  pub bytes : List ℕ
+  pub sound : (text : List ℕ) → Keeps base kept text
+      → sound_bytes base text ≡ whole_bytes base text ++ bytes
+  pub begun : AppendsFront written_old written_new bytes
+  pub all : failed ≡ false → Appends written_old written_new bytes

@@ -1,0 +1,46 @@
+-- What is kept of a text that is decoded piece by piece.
+use Rattle.std.specs.Prelude.{◌≡◌, ℕ, ◌+◌, ◌*◌, ◌≤◌, false, List, [], ◌∷◌, take, All, Option, Some, None, Result, Ok, Err}
+use Rattle.data_encoding.specs.declared.error.DecodeError.{DecodeError}
+use Rattle.data_encoding.specs.Base.{Base, group_bytes, group_symbols, is_ignored, meaning}
+use Rattle.data_encoding.specs.Grammar.{Positioned}
+use Rattle.data_encoding.specs.Pieces.{HasRead}
+use Rattle.encoding_stream.specs.declared.pieces.Kept.{Kept}
+use Rattle.encoding_stream.specs.declared.pieces.PieceDecoder.{PieceDecoder}
+
+-- the encoding
+abbrev pub base_of_pieces : PieceDecoder → Base
+base_of_pieces pieces = pieces.encoding.now
+
+-- bytes at their positions
+abbrev pub paired : List ℕ → List ℕ → List Positioned
+paired [] bytes = []
+paired (p ∷ ps) [] = []
+paired (p ∷ ps) (b ∷ bs) = record { position = p; byte = b } ∷ paired ps bs
+
+-- the first so many of them
+abbrev pub at_positions : ℕ → List ℕ → List ℕ → List Positioned
+at_positions count positions bytes = paired (take count positions) (take count bytes)
+
+-- the bytes of the unfinished group
+abbrev pub held : Kept → List Positioned
+held kept = at_positions kept.count kept.positions kept.bytes
+
+-- None of them is ignored.
+abbrev pub NoneIgnored : Base → List Positioned → Type 0
+NoneIgnored base group = All (λ k. is_ignored (meaning base k.byte) ≡ false) group
+
+-- This is kept of the text.
+abbrev pub Keeps : Base → Kept → List ℕ → Type 0
+Keeps base kept text = HasRead base text kept.len kept.fault (held kept) kept.ended
+
+-- So many bytes of a text, behind some that are held, fill some groups and leave others held; the
+-- groups have at most so many bytes.
+pub record FillsGroups (base : Base) (old len new written : ℕ) : Type 0 where
+  pub groups : ℕ
+  pub symbols : groups * group_symbols base.width + new ≤ old + len
+  pub bytes : written ≤ groups * group_bytes base.width
+
+-- the verdict on a text with this fault, or none
+abbrev pub verdict_of : Option DecodeError → Result (Unit {0}) DecodeError
+verdict_of None = Ok _
+verdict_of (Some error) = Err error

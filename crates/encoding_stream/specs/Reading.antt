@@ -1,0 +1,22 @@
+-- How a decoder by pieces reads on.
+use Rattle.std.specs.Prelude.{◌≡◌, ℕ, ◌+◌, ◌%◌, false, List, ◌++◌, length}
+use Rattle.std.specs.List.{list_any}
+use Rattle.data_encoding.specs.Base.{Base, group_symbols}
+use Rattle.data_encoding.specs.Grammar.{groups, is_final, kept}
+use Rattle.data_encoding.specs.Pieces.{whole_bytes}
+use Rattle.encoding_stream.specs.declared.pieces.Kept.{Kept}
+use Rattle.encoding_stream.specs.Pieces.{FillsGroups, Keeps}
+
+-- Of each text of which the first is kept, the second is kept with this piece behind it, and the
+-- groups that are then whole append these bytes.
+pub record ReadsOn (base : Base) (old new : Kept) (piece bytes : List ℕ) : Type 0 where
+  pub keeps : (text : List ℕ) → Keeps base old text → Keeps base new (text ++ piece)
+  pub decodes : (text : List ℕ) → Keeps base old text
+      → whole_bytes base (text ++ piece) ≡ whole_bytes base text ++ bytes
+  pub counted : new.len ≡ old.len + length piece
+  pub few : FillsGroups base old.count (length piece) new.count (length bytes)
+
+-- The text is whole groups, of which none is final.
+pub record AreWholeGroups (base : Base) (text : List ℕ) : Type 0 where
+  pub whole : length (kept base text) % group_symbols base.width ≡ 0
+  pub not_final : list_any (is_final base) (groups base text) ≡ false

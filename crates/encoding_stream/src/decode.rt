@@ -1,0 +1,117 @@
+//! From a reader of text to a writer of data.
+
+ghost use Rattle.std.specs.Prelude.{◌≡◌, ℕ, ◌≤◌, ◌↔◌, List, length, false, Err, IfSome, IsTrue, None, OnOk, Some};
+ghost use Rattle.std.specs.Io.KnownBytes.{Appends, IsAtEnd};
+ghost use Rattle.data_encoding.specs.Fault.{fault_of};
+ghost use Rattle.encoding_stream.specs.Decoded.{answer_of, DecodesAll, DecodesFront, EndsText};
+ghost use Rattle.encoding_stream.specs.Encoded.{ReadsMore};
+ghost use Rattle.encoding_stream.specs.Pieces.{base_of_pieces, Keeps};
+ghost use Rattle.encoding_stream.specs.Watch.{has_failed, inner_of};
+
+use crate::error::StreamFault;
+use crate::fill::fill;
+use crate::pieces::PieceDecoder;
+use crate::watch::Watch;
+use data_encoding::{DECODE_LIMIT, DecodeError, Encoding, laws};
+use std::io;
+use std::io::{Read, Write};
+
+// The bytes of text that are asked for at a time.
+const CHUNK: usize = 8192;
+
+// The room for what they decode to.
+const ROOM: usize = CHUNK + 8;
+
+/// Reads a text to the end, writes what it decodes to, and then flushes once. It takes no memory.
+///
+/// The text is read to its end also where it has a fault: the bytes of the groups before the first
+/// faulty one are written, the writer is flushed, and the fault of the whole text is answered. The
+/// first call of the reader or the writer that fails ends it, an interrupted one too. More than
+/// `DECODE_LIMIT` bytes are too long. Where it ends early, a beginning of what the text decodes to
+/// is written, and where a read failed or the input is too long, nothing is flushed.
+pub fn decode_stream<R: Read, W: Write>(
+    encoding: &Encoding,
+    reader: &mut Watch<R>,
+    writer: &mut Watch<W>,
+) -> Result<(), StreamFault>
+    requires reader_works { has_failed reader.old ≡ false }
+    requires writer_works { has_failed writer.old ≡ false }
+
+    // Where it answers Ok, or the fault of the text, all was read, and what it decodes to written.
+    ensures all_read { OnOk result (IsAtEnd (R.remaining (inner_of reader.new))) }
+    ensures whole { OnOk result (DecodesAll encoding.now None
+        (R.remaining (inner_of reader.old)) (R.remaining (inner_of reader.new))
+        (W.contents (inner_of writer.old)) (W.contents (inner_of writer.new))) }
+    ensures faulty { (error : DecodeError) → result ≡ Err (StreamFault.Decode error)
+        → DecodesAll encoding.now (Some error)
+        (R.remaining (inner_of reader.old)) (R.remaining (inner_of reader.new))
+        (W.contents (inner_of writer.old)) (W.contents (inner_of writer.new)) }
+
+    // In every case a beginning of it is written.
+    ensures begun { DecodesFront encoding.now
+        (R.remaining (inner_of reader.old)) (R.remaining (inner_of reader.new))
+        (W.contents (inner_of writer.old)) (W.contents (inner_of writer.new)) }
+
+    // Each answer is given exactly for its cause.
+    ensures judges { IfSome (R.remaining (inner_of reader.old)) (λ text.
+        length text ≤ DECODE_LIMIT → has_failed reader.new ≡ false
+        → has_failed writer.new ≡ false
+        → result ≡ answer_of (fault_of encoding.now text)) }
+    ensures read { (result ≡ Err StreamFault.Read) ↔ IsTrue (has_failed reader.new) }
+    ensures write { (result ≡ Err StreamFault.Write) ↔ IsTrue (has_failed writer.new) }
+    ensures too_long { result ≡ Err StreamFault.TooLong
+        → ReadsMore DECODE_LIMIT (R.remaining (inner_of reader.old))
+        (R.remaining (inner_of reader.new)) }
+{
+    // It tells that the base is built from a specification.
+    encoding.bit_width();
+    laws::pieces();
+    let mut pieces = PieceDecoder::new(encoding);
+    let mut buffer = [0; CHUNK];
+    let mut output = [0; ROOM];
+    loop {
+        let left = DECODE_LIMIT - pieces.kept.len;
+        let asked = CHUNK.min(left + 1);
+        let count = match fill(reader, &mut buffer[..asked]) {
+            Ok(count) => count,
+            Err(_) => return Err(StreamFault::Read),
+        };
+        if count > left {
+            return Err(StreamFault::TooLong);
+        }
+        let written = pieces.read(&buffer[..count], &mut output);
+        if writer.write_all(&output[..written]).is_err() {
+            return Err(StreamFault::Write);
+        }
+        if count < asked {
+            return end(&pieces, &mut output, writer);
+        }
+    }
+}
+
+// Writes what the last group decodes to, flushes, and answers the verdict.
+fn end<W: Write>(
+    pieces: &PieceDecoder<'_>,
+    output: &mut [u8],
+    writer: &mut Watch<W>,
+) -> Result<(), StreamFault>
+    requires limit { pieces.now.kept.len ≤ DECODE_LIMIT }
+    requires room { 8 ≤ length output.old }
+    requires works { has_failed writer.old ≡ false }
+    ensures last { EndsText (base_of_pieces pieces.now) pieces.now.kept
+        (has_failed writer.new) (W.contents (inner_of writer.old))
+        (W.contents (inner_of writer.new)) }
+    ensures verdict { (text : List ℕ) → Keeps (base_of_pieces pieces.now) pieces.now.kept text
+        → has_failed writer.new ≡ false
+        → result ≡ answer_of (fault_of (base_of_pieces pieces.now) text) }
+    ensures write { IsTrue (has_failed writer.new) → result ≡ Err StreamFault.Write }
+{
+    let (written, verdict) = pieces.finish(output);
+    if writer.write_all(&output[..written]).is_err() || writer.flush().is_err() {
+        return Err(StreamFault::Write);
+    }
+    match verdict {
+        Ok(()) => Ok(()),
+        Err(error) => Err(StreamFault::Decode(error)),
+    }
+}

@@ -1,0 +1,239 @@
+//! Text that comes in pieces, decoded as it comes.
+
+ghost use Rattle.std.specs.Prelude.{◌≡◌, ℕ, ◌+◌, ◌*◌, ◌/◌, ◌≤◌, List, ◌++◌, length, take, vec_capacity, vec_len, IfOk, IsOk, OnErr, OnOk};
+ghost use Rattle.data_encoding.specs.declared.decode.TheConstants.{DECODE_LIMIT};
+ghost use Rattle.data_encoding.specs.Base.{group_bytes, group_symbols};
+ghost use Rattle.data_encoding.specs.Fields.{IsSpecified};
+ghost use Rattle.data_encoding.specs.Fault.{fault_of, sound_bytes};
+ghost use Rattle.data_encoding.specs.Pieces.{whole_bytes, HasDecoded};
+ghost use Rattle.encoding_stream.specs.Pieces.{base_of_pieces, verdict_of, Keeps};
+ghost use Rattle.encoding_stream.specs.Decoded.{ReadsPiece};
+
+use crate::pieces::PieceDecoder;
+use data_encoding::{DECODE_LIMIT, DecodeError, Encoding, laws};
+use std::alloc::{AllocError, Allocator};
+
+#[cfg(test)]
+mod tests;
+
+// The bytes of a piece that are read at a time.
+const CHUNK: usize = 1024;
+
+// The room for what they decode to.
+const ROOM: usize = CHUNK + 8;
+
+/// Decodes a text that comes in pieces, cut anywhere.
+///
+/// The bytes of a group are appended once the group is whole. The decoder keeps the length of the
+/// text, its first fault, and at most seven bytes of an unfinished group with their positions: it
+/// takes no memory of its own.
+#[derive(Debug, Drop)]
+pub struct Decoder<'a> {
+    pieces: PieceDecoder<'a>,
+    ghost specified: { ∥ IsSpecified (base_of_pieces pieces) ∥₁ },
+    ghost limit: { pieces.kept.len ≤ DECODE_LIMIT },
+}
+
+/// What `Decoder::finish` tells of the whole text.
+#[derive(Clone, Copy, Debug, PartialEq, Eq)]
+pub struct Finished {
+    /// What `Encoding::decode` tells of it: its fault, if it has one.
+    pub verdict: Result<(), DecodeError>,
+}
+
+impl<'a> Decoder<'a> {
+    ghost use Rattle.std.specs.Prelude.{◌≡◌, ℕ, ◌+◌, ◌≤◌, List, [], ◌++◌, length, IfErr, IfOk, IsOk, OnErr, OnOk};
+    ghost use Rattle.data_encoding.specs.Fault.{fault_of, sound_bytes};
+    ghost use Rattle.data_encoding.specs.Pieces.{whole_bytes, HasDecoded};
+    ghost use Rattle.encoding_stream.specs.Decoder.{base_of_decoder, decoder_len, StandsAfter};
+    ghost use Rattle.encoding_stream.specs.Pieces.{verdict_of};
+
+    /// A decoder that was pushed nothing.
+    pub fn new(encoding: &'a Encoding) -> Decoder<'a>
+        ensures base { base_of_decoder result ≡ encoding.now }
+        ensures nothing { StandsAfter result [] }
+    {
+        // It tells that the base is built from a specification.
+        encoding.bit_width();
+        Decoder {
+            pieces: PieceDecoder::new(encoding),
+        }
+    }
+
+    /// How many bytes were pushed.
+    pub fn len(&self) -> usize
+        ensures value { result ≡ decoder_len self.now }
+        ensures pushed { (text : List ℕ) → StandsAfter self.now text → result ≡ length text }
+    {
+        self.pieces.kept.len
+    }
+
+    /// Takes a piece of the text, and appends the bytes of the groups that are then whole, up to
+    /// the first faulty one. The text has at most `DECODE_LIMIT` bytes with it.
+    ///
+    /// The only error is that memory ran out, which is never answered where no byte is to be
+    /// appended: the decoder and the output are then what they were.
+    pub fn push(&mut self, piece: &[u8], output: &mut Vec<u8>) -> Result<(), AllocError>
+        requires limit { decoder_len self.old + length piece.now ≤ DECODE_LIMIT }
+        ensures base { base_of_decoder self.new ≡ base_of_decoder self.old }
+        ensures len { OnOk result (decoder_len self.new
+            ≡ decoder_len self.old + length piece.now) }
+        ensures stands { OnOk result ((text : List ℕ) → StandsAfter self.old text
+            → StandsAfter self.new (text ++ piece.now)) }
+        ensures decoded { OnOk result ((before text : List ℕ) → StandsAfter self.old text
+            → HasDecoded (base_of_decoder self.old) before text output.old.items
+            → HasDecoded (base_of_decoder self.old) before (text ++ piece.now)
+            output.new.items) }
+        ensures unchanged { OnErr result ((self.new ≡ self.old)
+            × (output.new.items ≡ output.old.items)) }
+        ensures no_group { (text : List ℕ) → StandsAfter self.old text
+            → whole_bytes (base_of_decoder self.old) (text ++ piece.now)
+            ≡ whole_bytes (base_of_decoder self.old) text → IsOk result }
+    {
+        let mut pieces = self.pieces;
+        append_piece(&mut pieces, piece, output)?;
+        self.pieces = pieces;
+        Ok(())
+    }
+
+    /// Ends the text: appends the bytes of a last group, where neither it nor one before has a
+    /// fault, and tells the verdict on the whole text.
+    ///
+    /// Where memory ran out, which is never answered where no byte is to be appended, the decoder
+    /// is handed back, and it and the output are what they were.
+    pub fn finish(self, output: &mut Vec<u8>) -> Result<Finished, Decoder<'a>>
+        ensures verdict { IfOk result (λ finished. (text : List ℕ) → StandsAfter self.entry text
+            → finished.verdict ≡ verdict_of (fault_of (base_of_decoder self.entry) text)) }
+        ensures decoded { OnOk result ((before text : List ℕ) → StandsAfter self.entry text
+            → HasDecoded (base_of_decoder self.entry) before text output.old.items
+            → output.new.items ≡ before ++ sound_bytes (base_of_decoder self.entry) text) }
+        ensures unchanged { IfErr result (λ decoder. (decoder ≡ self.entry)
+            × (output.new.items ≡ output.old.items)) }
+        ensures no_bytes { (text : List ℕ) → StandsAfter self.entry text
+            → sound_bytes (base_of_decoder self.entry) text
+            ≡ whole_bytes (base_of_decoder self.entry) text → IsOk result }
+    {
+        match append_last(&self.pieces, output) {
+            Ok(verdict) => Ok(Finished { verdict }),
+            Err(_) => Err(self),
+        }
+    }
+}
+
+// Reads a piece, and appends the bytes of the groups that are then whole, in any memory. All growth
+// comes first; where it is refused, the decoder is of no more use.
+fn append_piece<A: Allocator + Copy>(
+    pieces: &mut PieceDecoder<'_>,
+    piece: &[u8],
+    output: &mut Vec<u8, A>,
+) -> Result<(), AllocError>
+    requires specified { ∥ IsSpecified (base_of_pieces pieces.old) ∥₁ }
+    requires limit { pieces.old.kept.len + length piece.now ≤ DECODE_LIMIT }
+    ensures base { base_of_pieces pieces.new ≡ base_of_pieces pieces.old }
+    ensures len { OnOk result (pieces.new.kept.len
+        ≡ pieces.old.kept.len + length piece.now) }
+    ensures keeps { OnOk result ((text : List ℕ)
+        → Keeps (base_of_pieces pieces.old) pieces.old.kept text
+        → Keeps (base_of_pieces pieces.old) pieces.new.kept (text ++ piece.now)) }
+    ensures decoded { OnOk result ((before text : List ℕ)
+        → Keeps (base_of_pieces pieces.old) pieces.old.kept text
+        → HasDecoded (base_of_pieces pieces.old) before text output.old.items
+        → HasDecoded (base_of_pieces pieces.old) before (text ++ piece.now)
+        output.new.items) }
+    ensures unchanged { OnErr result (output.new.items ≡ output.old.items) }
+    ensures no_group { (text : List ℕ)
+        → Keeps (base_of_pieces pieces.old) pieces.old.kept text
+        → whole_bytes (base_of_pieces pieces.old) (text ++ piece.now)
+        ≡ whole_bytes (base_of_pieces pieces.old) text → IsOk result }
+{
+    let mut buffer = [0; ROOM];
+    let (read, written) = read_first(pieces, piece, &mut buffer);
+    laws::pieces();
+    if written > 0 {
+        let rest = &piece[read..];
+        output.reserve(written + pieces.most(rest.len()))?;
+        output.extend_from_slice(&buffer[..written]).unwrap();
+        append_rest(pieces, rest, &mut buffer, output);
+    }
+    Ok(())
+}
+
+// What `Decoder::finish` does, into any memory.
+fn append_last<A: Allocator + Copy>(
+    pieces: &PieceDecoder<'_>,
+    output: &mut Vec<u8, A>,
+) -> Result<Result<(), DecodeError>, AllocError>
+    requires limit { pieces.now.kept.len ≤ DECODE_LIMIT }
+    ensures verdict { IfOk result (λ verdict. (text : List ℕ)
+        → Keeps (base_of_pieces pieces.now) pieces.now.kept text
+        → verdict ≡ verdict_of (fault_of (base_of_pieces pieces.now) text)) }
+    ensures decoded { OnOk result ((before text : List ℕ)
+        → Keeps (base_of_pieces pieces.now) pieces.now.kept text
+        → HasDecoded (base_of_pieces pieces.now) before text output.old.items
+        → output.new.items ≡ before ++ sound_bytes (base_of_pieces pieces.now) text) }
+    ensures unchanged { OnErr result (output.new.items ≡ output.old.items) }
+    ensures no_bytes { (text : List ℕ)
+        → Keeps (base_of_pieces pieces.now) pieces.now.kept text
+        → sound_bytes (base_of_pieces pieces.now) text
+        ≡ whole_bytes (base_of_pieces pieces.now) text → IsOk result }
+{
+    let mut bytes = [0; 8];
+    let (count, verdict) = pieces.finish(&mut bytes);
+    if count > 0 {
+        output.extend_from_slice(&bytes[..count])?;
+    }
+    Ok(verdict)
+}
+
+// Reads until bytes are decoded, which stand at the front of the buffer, or to the end; answers how
+// many bytes were read, and how many decoded.
+fn read_first(pieces: &mut PieceDecoder<'_>, piece: &[u8], buffer: &mut [u8]) -> (usize, usize)
+    requires limit { pieces.old.kept.len + length piece.now ≤ DECODE_LIMIT }
+    requires room { length buffer.old ≡ ROOM }
+    ensures base { base_of_pieces pieces.new ≡ base_of_pieces pieces.old }
+    ensures reads { ReadsPiece (base_of_pieces pieces.old) pieces.old.kept pieces.new.kept
+        (take result.0 piece.now) (take result.1 buffer.new) }
+    ensures read { result.0 ≤ length piece.now }
+    ensures written { result.1 ≤ length buffer.new }
+    ensures all { result.1 ≡ 0 → result.0 ≡ length piece.now }
+    ensures len { length buffer.new ≡ length buffer.old }
+{
+    let mut read = 0;
+    let mut written = 0;
+    while read < piece.len() && written == 0 {
+        let end = piece.len().min(read + CHUNK);
+        written = pieces.read(&piece[read..end], buffer);
+        read = end;
+    }
+    (read, written)
+}
+
+// Reads to the end, and appends what is decoded, for which the output has room.
+fn append_rest<A: Allocator + Copy>(
+    pieces: &mut PieceDecoder<'_>,
+    piece: &[u8],
+    buffer: &mut [u8],
+    output: &mut Vec<u8, A>,
+)
+    requires limit { pieces.old.kept.len + length piece.now ≤ DECODE_LIMIT }
+    requires room { length buffer.old ≡ ROOM }
+    requires capacity { vec_len output.old + (pieces.old.kept.count + length piece.now)
+        / group_symbols (base_of_pieces pieces.old).width
+        * group_bytes (base_of_pieces pieces.old).width ≤ vec_capacity output.old }
+    ensures base { base_of_pieces pieces.new ≡ base_of_pieces pieces.old }
+    ensures counted { pieces.new.kept.len ≡ pieces.old.kept.len + length piece.now }
+    ensures keeps { (text : List ℕ) → Keeps (base_of_pieces pieces.old) pieces.old.kept text
+        → Keeps (base_of_pieces pieces.old) pieces.new.kept (text ++ piece.now) }
+    ensures decoded { (before text : List ℕ)
+        → Keeps (base_of_pieces pieces.old) pieces.old.kept text
+        → HasDecoded (base_of_pieces pieces.old) before text output.old.items
+        → HasDecoded (base_of_pieces pieces.old) before (text ++ piece.now) output.new.items }
+{
+    let mut read = 0;
+    while read < piece.len() {
+        let end = piece.len().min(read + CHUNK);
+        let written = pieces.read(&piece[read..end], buffer);
+        output.extend_from_slice(&buffer[..written]).unwrap();
+        read = end;
+    }
+}
