@@ -1,7 +1,8 @@
 -- Lemmas on the words of a command line.
-use Rattle.std.proofs.Common.{◌≡◌, ℕ, ◌<◌, ◌≤◌, List, [], ◌∷◌, length, ◌++◌, codes, get_or, is_some, IsSome, Bool, true, false, Option, None, Some, option_map, ap, subst, refl, sym, ◌∙◌, arith, string_bytes}
+use Rattle.std.proofs.Common.{◌≡◌, ℕ, ◌<◌, ◌≤◌, List, [], ◌∷◌, length, ◌++◌, codes, get_or, is_some, IsSome, Bool, true, false, Option, None, Some, option_map, ap, subst, refl, sym, ◌∙◌, arith, string_bytes, inl, inr}
 use Rattle.std.proofs.lemmas.Bool.{false≢true}
 use Rattle.std.proofs.lemmas.Option.{none-some, same_Some}
+use Rattle.std.specs.Io.KnownBytes.{IsAtEnd}
 use Rattle.std.specs.Result.{result_ok}
 use Rattle.std.specs.declared.string.String.{String}
 use Rattle.std.specs.declared.alloc.Global.{Global}
@@ -10,7 +11,7 @@ use Rattle.data_encoding.specs.Base.{Base}
 use Rattle.basecode.specs.Names.{fields_named, IsNamed}
 use Rattle.basecode.specs.Faults.{printed_word_fault}
 use Rattle.basecode.specs.Words.{AreRequest, Asks, IsWrong, Names, Of, Request, Task, ask_of, both, texts}
-use Rattle.basecode.specs.Run.{Answers, Fulfils, OfInput, OfNames, OfQuestion}
+use Rattle.basecode.specs.Run.{Answers, Begins, Begun, ByAnswer, ByReply, Fulfils, OfNames, OfQuestion, Replies}
 use Rattle.basecode.specs.declared.command.Ask.{Ask}
 use Rattle.basecode.specs.declared.command.Ask.TheVariants.{Conversion, Question}
 use Rattle.basecode.specs.declared.command.Request.{Request as Requested}
@@ -118,19 +119,56 @@ pub verb_asked : (word name : List ℕ) (verb : Verb) (base : Base)
 verb_asked word name verb base asked given is =
     ap (verb_in given) (ask_asked word name (Conversion verb) base asked (Conversion given) is)
 
--- the answer to an input, where two words ask for it
-pub converted : (word name : List ℕ) (verb : Verb) (old new : Option (List ℕ)) (output : List ℕ)
-    → ask_of word ≡ Some (Conversion verb) → Fulfils (word ∷ name ∷ []) old new output
-    → (base : Base) → IsNamed name base → Answers verb base old new output
-converted word name verb old new output asks (OfInput other its asked answers) base known =
-    subst (λ v. Answers v base old new output) (verb_asked word name other its asked verb asks)
-    (subst (λ b. Answers other b old new output)
-    (base_asked word name (Conversion other) its asked base known) answers)
-converted word name verb old new output asks (OfQuestion its asked keeps is) base known =
-    absurd (false≢true (sym (ap is_question
-    (ask_asked word name Question its asked (Conversion verb) asks))))
-converted word name verb old new output asks (OfNames is keeps listed) base known =
-    absurd (names_by_two (both (ask_of word) (fields_named name)) is)
+-- two words that ask for a conversion
+module _ (word name : List ℕ) (given : Verb) (asks : ask_of word ≡ Some (Conversion given)) where
+  -- no reply is asked for
+  no_reply : (old new : Option (List ℕ)) (output : List ℕ)
+      → Replies (word ∷ name ∷ []) old new output → ⊥
+  no_reply old new output (OfQuestion its asked keeps is) =
+      false≢true (sym (ap is_question
+      (ask_asked word name Question its asked (Conversion given) asks)))
+  no_reply old new output (OfNames is keeps listed) =
+      names_by_two (both (ask_of word) (fields_named name)) is
+
+  -- what holds of the verb that is asked for holds of this one
+  pub same_verb : (P : Verb → Type 0) (verb : Verb) (base : Base)
+      → Asks (word ∷ name ∷ []) (Conversion verb) base → P verb → P given
+  same_verb P verb base asked = subst P (verb_asked word name verb base asked given asks)
+
+  -- and what holds of the base too, of the base of that name
+  pub same_task : (P : Verb → Base → Type 0) (verb : Verb) (other : Base)
+      → Asks (word ∷ name ∷ []) (Conversion verb) other → P verb other
+      → (base : Base) → IsNamed name base → P given base
+  same_task P verb other asked holds base known =
+      same_verb (λ v. P v base) verb other asked
+      (subst (P verb) (base_asked word name (Conversion verb) other asked base known) holds)
+
+  -- what fulfils the words was read to its end
+  pub fulfilled_whole : (old new : Option (List ℕ)) (output : List ℕ)
+      → Fulfils (word ∷ name ∷ []) old new output → IsAtEnd new
+  fulfilled_whole old new output (ByAnswer verb other asked answers) = answers.at_end
+  fulfilled_whole old new output (ByReply replies) = absurd (no_reply old new output replies)
+
+  -- and is its answer
+  pub fulfilled : (old new : Option (List ℕ)) (output : List ℕ)
+      → Fulfils (word ∷ name ∷ []) old new output
+      → (base : Base) → IsNamed name base → Answers given base old new output
+  fulfilled old new output (ByAnswer verb other asked answers) =
+      same_task (λ v b. Answers v b old new output) verb other asked answers
+  fulfilled old new output (ByReply replies) = absurd (no_reply old new output replies)
+
+  -- what has begun is that conversion
+  pub begun : (read_old read_new written_old written_new : Option (List ℕ))
+      → Begun (word ∷ name ∷ []) read_old read_new written_old written_new
+      → (base : Base) → IsNamed name base
+      → Begins given base read_old read_new written_old written_new
+  begun read_old read_new written_old written_new has =
+      elim has.is_begun [
+        | inl answer ↦
+            same_task (λ v b. Begins v b read_old read_new written_old written_new) answer.verb
+            answer.base answer.asked answer.begins
+        | inr reply ↦ absurd (no_reply read_old read_new reply.output reply.replies)
+      ]
 
 -- what is printed of a name that is not known
 pub printed_name : (word name : List ℕ) (fault : WordFault) → IsWrong (word ∷ name ∷ []) fault

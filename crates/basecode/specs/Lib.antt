@@ -1,4 +1,3 @@
-pub mod Input
 pub mod Faults
 pub mod Names
 pub mod Words

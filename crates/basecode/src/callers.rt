@@ -1,8 +1,8 @@
 //! Small callers, each proved from the clauses of what it calls: what these let a user conclude.
 
-ghost use Rattle.std.specs.Prelude.{◌≡◌, ◌≢◌, ◌-◌, ◌^◌, ◌+◌, ◌⊎◌, ◌++◌, ◌<◌, ◌≤◌, ℕ, List, [], ◌∷◌, codes, drop, length, string_bytes, take, IfOk, IfSome, IsSome, None};
+ghost use Rattle.std.specs.Prelude.{◌≡◌, ◌≢◌, ◌-◌, ◌^◌, ◌+◌, ◌++◌, ◌<◌, ◌≤◌, ℕ, List, [], ◌∷◌, codes, length, string_bytes, take, IfOk, IfSome, IsSome, None};
 ghost use Rattle.data_encoding.specs.Base.{Base};
-ghost use Rattle.data_encoding.specs.Fault.{fault_of};
+ghost use Rattle.data_encoding.specs.Fault.{fault_of, sound_bytes};
 ghost use Rattle.data_encoding.specs.Grammar.{Means};
 ghost use Rattle.data_encoding.specs.Text.{text_of};
 ghost use Rattle.basecode.specs.Names.{IsNamed, fields_named};
@@ -38,13 +38,13 @@ fn encode<'a>(
     input: &'a [u8],
     output: Vec<u8>,
 ) -> Result<Outcome<'a>, AllocError>
+    ensures status { IfOk result (λ ended. ended.status ≤ 3) }
     ensures whole { IfOk result (λ ended. ended.status ≡ 0 → ended.rest.now ≡ []) }
     ensures text { IfOk result (λ ended. ended.status ≡ 0 → (base : Base) → IsNamed name.now base
         → ended.output.items ≡ output.items ++ text_of base input.now) }
     ensures too_long { IfOk result (λ ended. ended.status ≡ 1
         → 2 ^ 64 - 1 < length input.now) }
-    ensures memory { IfOk result (λ ended. ended.status ≢ 4) }
-    ensures begun { IfOk result (λ ended. ended.status ≡ 3 → (base : Base) → IsNamed name.now base
+    ensures begun { IfOk result (λ ended. ended.status ≢ 2 → (base : Base) → IsNamed name.now base
         → (count : ℕ)
         × (ended.output.items ≡ output.items ++ take count (text_of base input.now))) }
     ensures kept { IfOk result (λ ended. ended.status ≡ 2 → ended.output.items ≡ output.items) }
@@ -53,7 +53,7 @@ fn encode<'a>(
     let mut reader = Watch::new(input);
     let mut writer = Watch::new(output);
     let mut faults = Vec::new(alloc);
-    let status = run(alloc, &words, &mut reader, &mut writer, &mut faults);
+    let status = run(&words, &mut reader, &mut writer, &mut faults);
     Ok(Outcome {
         status,
         rest: reader.into_inner(),
@@ -68,23 +68,26 @@ fn decode<'a>(
     input: &'a [u8],
     output: Vec<u8>,
 ) -> Result<Outcome<'a>, AllocError>
+    ensures status { IfOk result (λ ended. ended.status ≤ 3) }
     ensures whole { IfOk result (λ ended. ended.status ≡ 0 → ended.rest.now ≡ []) }
     ensures means { IfOk result (λ ended. ended.status ≡ 0 → (base : Base) → IsNamed name.now base
         → (bytes : List ℕ) × Means base input.now bytes
         × (ended.output.items ≡ output.items ++ bytes)) }
     ensures sound { IfOk result (λ ended. (base : Base) → IsNamed name.now base
         → fault_of base input.now ≡ None → length input.now ≤ DECODE_LIMIT → ended.status ≢ 1) }
-    ensures rest { IfOk result (λ ended. ended.status ≡ 1 → (ended.rest.now ≡ [])
-        ⊎ (ended.rest.now ≡ drop (DECODE_LIMIT + 1) input.now)) }
-    ensures memory { IfOk result (λ ended. ended.status ≡ 4 → input.now ≢ []) }
-    ensures kept { IfOk result (λ ended. ended.status ≢ 0 → ended.status ≢ 3
-        → ended.output.items ≡ output.items) }
+    ensures faulty { IfOk result (λ ended. ended.status ≡ 1 → length input.now ≤ DECODE_LIMIT
+        → (ended.rest.now ≡ []) × ((base : Base) → IsNamed name.now base
+        → ended.output.items ≡ output.items ++ sound_bytes base input.now)) }
+    ensures begun { IfOk result (λ ended. ended.status ≢ 2 → (base : Base) → IsNamed name.now base
+        → (count : ℕ)
+        × (ended.output.items ≡ output.items ++ take count (sound_bytes base input.now))) }
+    ensures kept { IfOk result (λ ended. ended.status ≡ 2 → ended.output.items ≡ output.items) }
 {
     let words = words_of(alloc, "decode", name)?;
     let mut reader = Watch::new(input);
     let mut writer = Watch::new(output);
     let mut faults = Vec::new(alloc);
-    let status = run(alloc, &words, &mut reader, &mut writer, &mut faults);
+    let status = run(&words, &mut reader, &mut writer, &mut faults);
     Ok(Outcome {
         status,
         rest: reader.into_inner(),

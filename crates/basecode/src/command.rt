@@ -1,11 +1,11 @@
 //! What the words of a command line ask for.
 
 ghost use Rattle.std.specs.Prelude.{◌≡◌, ◌↔◌, [], ◌∷◌, IfErr, IfOk, IsErr, None};
-ghost use Rattle.basecode.specs.Words.{AreRequest, Asks, IsWrong, ask_of, limit_of, request_of, texts};
+ghost use Rattle.basecode.specs.Words.{AreRequest, Asks, IsWrong, ask_of, request_of, texts};
 
 use crate::fault::WordFault;
 use crate::names::encoding_named;
-use data_encoding::{DECODE_LIMIT, Encoding};
+use data_encoding::Encoding;
 
 /// What is done with an input.
 #[derive(Clone, Copy, Debug, PartialEq, Eq)]
@@ -45,18 +45,6 @@ pub enum Request {
 
     /// Something of an encoding.
     Of(Task),
-}
-
-impl Verb {
-    /// The greatest length of an input, in bytes.
-    pub fn limit(self) -> usize
-        ensures { result ≡ limit_of self }
-    {
-        match self {
-            Verb::Encode => usize::MAX,
-            Verb::Decode => DECODE_LIMIT,
-        }
-    }
 }
 
 // What a word asks of an encoding.

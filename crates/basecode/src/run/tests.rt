@@ -5,7 +5,7 @@ mod failures;
 mod refusals;
 
 use super::*;
-use std::alloc::AllocError;
+use std::alloc::{AllocError, Global};
 use std::io;
 use std::io::ErrorKind;
 use std::test::Fail;
@@ -134,7 +134,7 @@ fn outcome_of(
     let mut reader = Watch::new(reader);
     let mut writer = Watch::new(writer);
     let mut faults = FakeWriter::new(alloc, Failure::Nothing, 0)?;
-    let status = run(alloc, &words, &mut reader, &mut writer, &mut faults);
+    let status = run(&words, &mut reader, &mut writer, &mut faults);
     Ok(Outcome {
         status,
         read_failed: reader.failed(),
@@ -158,6 +158,14 @@ impl Outcome {
             && self.writer.bytes.as_slice() == answer
             && self.writer.flushes == 1
             && self.line.is_empty()
+    }
+
+    // The line was printed, and what stands before the fault was written and flushed once.
+    fn is_refusal(&self, line: &str, written: &[u8]) -> bool {
+        self.status == 1
+            && self.line.as_slice() == line.as_bytes()
+            && self.writer.bytes.as_slice() == written
+            && self.writer.flushes == 1
     }
 
     // The line was printed, and nothing written or flushed.

@@ -1,47 +1,43 @@
-use Rattle.std.proofs.Common.{rules, ◌≡◌, [], ◌∷◌, codes, Some, inl, inr}
-use Rattle.std.proofs.lemmas.Bool.{cases_eq}
-use Rattle.basecode.specs.Run.{DecodesSome, Done, Left, Refused}
-use Rattle.basecode.proofs.ConversionLemmas.{decoded, refused_rest, some_read, sound, unwritten}
+use Rattle.std.proofs.Common.{rules, refl, [], ◌∷◌, codes, Some}
+use Rattle.basecode.specs.Run.{Begun, Done, Refused}
+use Rattle.basecode.proofs.ConversionLemmas.{decoded, decoded_front, not_decoded, refused_whole, sound}
+use Rattle.basecode.specs.declared.command.Verb.TheVariants.{Decode}
+use Rattle.basecode.proofs.WordLemmas.{fulfilled_whole}
 use Rattle.basecode.proofs.callers.decode.Goals as goal
 
-pub returns-clause-means : goal.returns-clause-means
-returns-clause-means c = λ ends.
+pub returns-clause-whole : goal.returns-clause-whole
+returns-clause-whole c = λ ends.
     let done : Done (codes "decode" ∷ c.args.name.now ∷ []) (Some c.args.input.now)
     (Some c.into_inner.result.now) (Some c.args.output.items) (Some c.into_inner-2.result.items) =
     search rules in
-    decoded _ _ _ _ _ done
+    fulfilled_whole _ _ Decode refl _ _ _ done.fulfils
+
+pub returns-clause-means : goal.returns-clause-means
+returns-clause-means c = λ ends base known.
+    let done : Done (codes "decode" ∷ c.args.name.now ∷ []) (Some c.args.input.now)
+    (Some c.into_inner.result.now) (Some c.args.output.items) (Some c.into_inner-2.result.items) =
+    search rules in
+    decoded _ _ _ _ _ base known done
 
 pub returns-clause-sound : goal.returns-clause-sound
 returns-clause-sound c = λ base known none fits ends.
     let refused : Refused (codes "decode" ∷ c.args.name.now ∷ []) (Some c.args.input.now)
-    (Some c.into_inner.result.now) =
+    (Some c.into_inner.result.now) (Some c.args.output.items) (Some c.into_inner-2.result.items) =
     search rules in
-    sound _ _ _ refused base known none fits
+    sound _ _ _ _ _ base known refused none fits
 
-pub returns-clause-rest : goal.returns-clause-rest
-returns-clause-rest c = λ ends.
+pub returns-clause-faulty : goal.returns-clause-faulty
+returns-clause-faulty c = λ ends fits.
     let refused : Refused (codes "decode" ∷ c.args.name.now ∷ []) (Some c.args.input.now)
-    (Some c.into_inner.result.now) =
-    search rules in
-    refused_rest _ _ _ refused
+    (Some c.into_inner.result.now) (Some c.args.output.items) (Some c.into_inner-2.result.items) =
+    search rules in (
+      refused_whole _ _ _ _ _ refused fits,
+      λ base known. (not_decoded _ _ _ _ _ base known refused fits).1,
+    )
 
-pub returns-clause-memory : goal.returns-clause-memory
-returns-clause-memory c = λ ends.
-    let some : DecodesSome (codes "decode" ∷ c.args.name.now ∷ []) (Some c.args.input.now)
-    (Some c.into_inner.result.now) =
+pub returns-clause-begun : goal.returns-clause-begun
+returns-clause-begun c = λ not_2 base known.
+    let begun : Begun (codes "decode" ∷ c.args.name.now ∷ []) (Some c.args.input.now)
+    (Some c.into_inner.result.now) (Some c.args.output.items) (Some c.into_inner-2.result.items) =
     search rules in
-    some_read _ _ _ some
-
-pub returns-clause-kept : goal.returns-clause-kept
-returns-clause-kept c = λ not_0 not_3.
-    elim (cases_eq c.run-status.result 2) [
-      | inl wrong ↦
-          let same : c.into_inner-2.result ≡ c.new-writer.result.inner = search rules in
-          search rules
-      | inr not_2 ↦
-          let leaves : Left (codes "decode" ∷ c.args.name.now ∷ []) (Some c.args.input.now)
-          (Some c.into_inner.result.now) (Some c.args.output.items)
-          (Some c.into_inner-2.result.items) =
-          search rules in
-          unwritten _ _ _ _ _ leaves
-    ]
+    decoded_front _ _ _ _ _ base known begun

@@ -1,49 +1,34 @@
-use Rattle.std.proofs.Common.{rules, ◌≡◌, [], ◌∷◌, codes, Some, inl, inr}
-use Rattle.basecode.specs.Run.{DecodesSome, Done, Left, Refused}
-use Rattle.basecode.specs.Words.{texts}
-use Rattle.basecode.proofs.ConversionLemmas.{Begun-same, begun, encoded, left, no_decoding, not_encoded}
+use Rattle.std.proofs.Common.{rules, refl, [], ◌∷◌, codes, Some}
+use Rattle.basecode.specs.Run.{Begun, Done, Refused}
+use Rattle.basecode.proofs.ConversionLemmas.{encoded, encoded_front, not_encoded}
+use Rattle.basecode.specs.declared.command.Verb.TheVariants.{Encode}
+use Rattle.basecode.proofs.WordLemmas.{fulfilled_whole}
 use Rattle.basecode.proofs.callers.encode.Goals as goal
 
-pub returns-clause-text : goal.returns-clause-text
-returns-clause-text c = λ ends.
+pub returns-clause-whole : goal.returns-clause-whole
+returns-clause-whole c = λ ends.
     let done : Done (codes "encode" ∷ c.args.name.now ∷ []) (Some c.args.input.now)
     (Some c.into_inner.result.now) (Some c.args.output.items) (Some c.into_inner-2.result.items) =
     search rules in
-    encoded _ _ _ _ _ done
+    fulfilled_whole _ _ Encode refl _ _ _ done.fulfils
+
+pub returns-clause-text : goal.returns-clause-text
+returns-clause-text c = λ ends base known.
+    let done : Done (codes "encode" ∷ c.args.name.now ∷ []) (Some c.args.input.now)
+    (Some c.into_inner.result.now) (Some c.args.output.items) (Some c.into_inner-2.result.items) =
+    search rules in
+    encoded _ _ _ _ _ base known done
 
 pub returns-clause-too_long : goal.returns-clause-too_long
 returns-clause-too_long c = λ ends.
     let refused : Refused (codes "encode" ∷ c.args.name.now ∷ []) (Some c.args.input.now)
-    (Some c.into_inner.result.now) =
+    (Some c.into_inner.result.now) (Some c.args.output.items) (Some c.into_inner-2.result.items) =
     search rules in
-    not_encoded _ _ _ refused
-
-pub returns-clause-memory : goal.returns-clause-memory
-returns-clause-memory c = λ ends.
-    let some : DecodesSome (codes "encode" ∷ c.args.name.now ∷ []) (Some c.args.input.now)
-    (Some c.into_inner.result.now) =
-    search rules in
-    no_decoding _ _ _ some
+    not_encoded _ _ _ _ _ refused
 
 pub returns-clause-begun : goal.returns-clause-begun
-returns-clause-begun c = λ ends base known.
-    elim (c.run-status.ensures.failed.0 ends) [
-      | inl failed ↦
-          let front : Left (codes "encode" ∷ c.args.name.now ∷ []) (Some c.args.input.now)
-          (Some c.into_inner.result.now) (Some c.args.output.items)
-          (Some c.into_inner-2.result.items) =
-          search rules in
-          left _ _ _ _ _ front base known
-      | inr failed ↦
-          let words_are : texts c.deref.result.now ≡ codes "encode" ∷ c.args.name.now ∷ [] =
-          search rules in
-          let input_is : c.new-reader.result.inner.now ≡ c.args.input.now = search rules in
-          let rest_is : c.run-status.new.reader.inner.now ≡ c.into_inner.result.now =
-          search rules in
-          let held_is : c.new-writer.result.inner.items ≡ c.args.output.items = search rules in
-          let output_is : c.run-status.new.writer.inner.items ≡ c.into_inner-2.result.items =
-          search rules in
-          let front = Begun-same _ _ _ _ _ _ _ _ _ _ words_are input_is rest_is held_is output_is
-          (c.run-status.ensures.begun failed) in
-          begun _ _ _ _ _ front base known
-    ]
+returns-clause-begun c = λ not_2 base known.
+    let begun : Begun (codes "encode" ∷ c.args.name.now ∷ []) (Some c.args.input.now)
+    (Some c.into_inner.result.now) (Some c.args.output.items) (Some c.into_inner-2.result.items) =
+    search rules in
+    encoded_front _ _ _ _ _ base known begun

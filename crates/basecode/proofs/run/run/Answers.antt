@@ -1,30 +1,53 @@
-use Rattle.std.proofs.Common.{rules, ◌≡◌, ◌∙◌, sym, Some, IfErr}
+use Rattle.std.proofs.Common.{rules, ◌≡◌, ◌∙◌, sym, Some, IfErr, inl, inr}
 use Rattle.std.specs.Io.KnownBytes.{Appends, Keeps}
 use Rattle.data_encoding.specs.Canonical.{has_one_text}
 use Rattle.basecode.specs.Names.{listing}
-use Rattle.basecode.specs.Run.{Begins, Converts, Explains, OfInput, OfNames, OfOutput, OfQuestion, truth}
+use Rattle.basecode.specs.Run.{Begins, ByReply, Converts, Explains, OfNames, OfQuestion, truth}
 use Rattle.encoding_stream.specs.Watch.{inner_of}
 use Rattle.basecode.specs.Words.{Asks, Names, request_of, texts}
 use Rattle.basecode.specs.declared.command.Ask.TheVariants.{Conversion, Question}
-use Rattle.basecode.proofs.ConversionLemmas.{begun_conversion, decodes_some}
+use Rattle.basecode.proofs.ConversionLemmas.{done_conversion, refused_conversion}
 use Rattle.basecode.proofs.WordLemmas.{Asks-request}
 use Rattle.basecode.proofs.run.run.Goals as goal
 
-pub returns-in-Ok-List-clause-begun : goal.returns-in-Ok-List-clause-begun
-returns-in-Ok-List-clause-begun g c = λ failed.
+pub returns-in-Ok-List-clause-done : goal.returns-in-Ok-List-clause-done
+returns-in-Ok-List-clause-done g c = λ ends.
     let asked : request_of (texts c.args.words.now) ≡ Some Names = search rules in
     let kept : Keeps (g.R.Read.remaining (inner_of c.args.reader.now))
     (g.R.Read.remaining (inner_of c.args.reader.now)) =
     search rules in
     let listed : c.as_bytes.result.now ≡ listing = search rules in
-    OfOutput c.as_bytes.result.now (OfNames asked kept listed) c.send.ensures.begun
+    let written : Appends (g.W.Write.contents (inner_of c.args.writer.now))
+    (g.W.Write.contents (inner_of c.send.new.writer)) c.as_bytes.result.now =
+    search rules in
+    record {
+      output = c.as_bytes.result.now;
+      fulfils = ByReply (OfNames asked kept listed);
+      written = written;
+    }
+
+pub returns-in-Ok-List-clause-begun : goal.returns-in-Ok-List-clause-begun
+returns-in-Ok-List-clause-begun g c = λ not_2.
+    let asked : request_of (texts c.args.words.now) ≡ Some Names = search rules in
+    let kept : Keeps (g.R.Read.remaining (inner_of c.args.reader.now))
+    (g.R.Read.remaining (inner_of c.args.reader.now)) =
+    search rules in
+    let listed : c.as_bytes.result.now ≡ listing = search rules in
+    record {
+      is_begun = inr (record {
+        output = c.as_bytes.result.now;
+        replies = OfNames asked kept listed;
+        written = c.send.ensures.begun;
+      });
+    }
 
 pub returns-in-Question-clause-done : goal.returns-in-Question-clause-done
 returns-in-Question-clause-done g c = λ ends.
     let asks : c.in-Ok-Of.task.ask ≡ Question = search rules in
-    let asked : Asks (texts c.args.words.now) Question c.in-Ok-Of.task.encoding =
-    Asks-request _ c.in-Ok-Of.field-0 c.in-Ok-Of.task Question c.in-Ok-Of.field-0-is asks
-    c.in-Ok-Of.ensures.asked in
+    let asked : Asks (texts c.args.words.now) Question
+    c.in-Ok-Of.task.encoding =
+    Asks-request _ c.in-Ok-Of.field-0 c.in-Ok-Of.task Question
+    c.in-Ok-Of.field-0-is asks c.in-Ok-Of.ensures.asked in
     let shown : c.truth_of.result.now ≡ truth (has_one_text c.in-Ok-Of.task.encoding) =
     (rw c.in-Ok-Of.field-0-is at c.truth_of.ensures) in
     let kept : Keeps (g.R.Read.remaining (inner_of c.args.reader.now))
@@ -35,23 +58,29 @@ returns-in-Question-clause-done g c = λ ends.
     search rules in
     record {
       output = c.truth_of.result.now;
-      fulfils = OfQuestion c.in-Ok-Of.task.encoding asked kept shown;
+      fulfils = ByReply (OfQuestion c.in-Ok-Of.task.encoding asked kept shown);
       written = written;
     }
 
 pub returns-in-Question-clause-begun : goal.returns-in-Question-clause-begun
-returns-in-Question-clause-begun g c = λ failed.
+returns-in-Question-clause-begun g c = λ not_2.
     let asks : c.in-Ok-Of.task.ask ≡ Question = search rules in
-    let asked : Asks (texts c.args.words.now) Question c.in-Ok-Of.task.encoding =
-    Asks-request _ c.in-Ok-Of.field-0 c.in-Ok-Of.task Question c.in-Ok-Of.field-0-is asks
-    c.in-Ok-Of.ensures.asked in
+    let asked : Asks (texts c.args.words.now) Question
+    c.in-Ok-Of.task.encoding =
+    Asks-request _ c.in-Ok-Of.field-0 c.in-Ok-Of.task Question
+    c.in-Ok-Of.field-0-is asks c.in-Ok-Of.ensures.asked in
     let shown : c.truth_of.result.now ≡ truth (has_one_text c.in-Ok-Of.task.encoding) =
     (rw c.in-Ok-Of.field-0-is at c.truth_of.ensures) in
     let kept : Keeps (g.R.Read.remaining (inner_of c.args.reader.now))
     (g.R.Read.remaining (inner_of c.args.reader.now)) =
     search rules in
-    OfOutput c.truth_of.result.now (OfQuestion c.in-Ok-Of.task.encoding asked kept shown)
-    c.send-in-Question.ensures.begun
+    record {
+      is_begun = inr (record {
+        output = c.truth_of.result.now;
+        replies = OfQuestion c.in-Ok-Of.task.encoding asked kept shown;
+        written = c.send-in-Question.ensures.begun;
+      });
+    }
 
 pub returns-in-Conversion-clause-done : goal.returns-in-Conversion-clause-done
 returns-in-Conversion-clause-done g c = λ ends.
@@ -62,32 +91,31 @@ returns-in-Conversion-clause-done g c = λ ends.
     c.in-Ok-Of.field-0-is asks c.in-Ok-Of.ensures.asked in
     let converts : Converts c.in-Conversion.verb c.in-Ok-Of.task.encoding
     (g.R.Read.remaining (inner_of c.args.reader.now))
-    (g.R.Read.remaining (inner_of c.convert-outcome.new.reader))
+    (g.R.Read.remaining (inner_of c.convert.new.reader))
     (g.W.Write.contents (inner_of c.args.writer.now))
-    (g.W.Write.contents (inner_of c.convert-outcome.new.writer)) =
+    (g.W.Write.contents (inner_of c.convert.new.writer)) =
     search rules in
-    record {
-      output = converts.output;
-      fulfils = OfInput c.in-Conversion.verb c.in-Ok-Of.task.encoding asked converts.answers;
-      written = converts.written;
-    }
+    done_conversion _ _ _ _ _ c.sound_text.ensures c.in-Conversion.verb
+    c.in-Ok-Of.task.encoding asked converts
 
-pub returns-in-Conversion-clause-memory : goal.returns-in-Conversion-clause-memory
-returns-in-Conversion-clause-memory g c = λ ends.
+pub returns-in-Conversion-clause-refused : goal.returns-in-Conversion-clause-refused
+returns-in-Conversion-clause-refused g c = λ ends.
     let asks : c.in-Ok-Of.task.ask ≡ Conversion c.in-Conversion.verb = search rules in
     let asked : Asks (texts c.args.words.now) (Conversion c.in-Conversion.verb)
     c.in-Ok-Of.task.encoding =
     Asks-request _ c.in-Ok-Of.field-0 c.in-Ok-Of.task (Conversion c.in-Conversion.verb)
     c.in-Ok-Of.field-0-is asks c.in-Ok-Of.ensures.asked in
-    let explains : IfErr c.convert-outcome.result (Explains c.in-Conversion.verb
-    c.in-Ok-Of.task.encoding c.limit-limit.result
+    let explains : IfErr c.convert.result (Explains c.in-Conversion.verb c.in-Ok-Of.task.encoding
     (g.R.Read.remaining (inner_of c.args.reader.now))
-    (g.R.Read.remaining (inner_of c.convert-outcome.new.reader))) =
+    (g.R.Read.remaining (inner_of c.convert.new.reader))
+    (g.W.Write.contents (inner_of c.args.writer.now))
+    (g.W.Write.contents (inner_of c.convert.new.writer))) =
     search rules in
-    decodes_some _ _ _ _ _ _ _ asked explains (sym c.settle-in-Conversion.ensures ∙ ends)
+    refused_conversion _ _ _ _ _ c.in-Conversion.verb c.in-Ok-Of.task.encoding c.convert.result
+    asked explains (sym c.settle-in-Conversion.ensures ∙ ends)
 
 pub returns-in-Conversion-clause-begun : goal.returns-in-Conversion-clause-begun
-returns-in-Conversion-clause-begun g c = λ failed.
+returns-in-Conversion-clause-begun g c = λ not_2.
     let asks : c.in-Ok-Of.task.ask ≡ Conversion c.in-Conversion.verb = search rules in
     let asked : Asks (texts c.args.words.now) (Conversion c.in-Conversion.verb)
     c.in-Ok-Of.task.encoding =
@@ -95,8 +123,15 @@ returns-in-Conversion-clause-begun g c = λ failed.
     c.in-Ok-Of.field-0-is asks c.in-Ok-Of.ensures.asked in
     let begins : Begins c.in-Conversion.verb c.in-Ok-Of.task.encoding
     (g.R.Read.remaining (inner_of c.args.reader.now))
-    (g.R.Read.remaining (inner_of c.convert-outcome.new.reader))
+    (g.R.Read.remaining (inner_of c.convert.new.reader))
     (g.W.Write.contents (inner_of c.args.writer.now))
-    (g.W.Write.contents (inner_of c.convert-outcome.new.writer)) =
+    (g.W.Write.contents (inner_of c.convert.new.writer)) =
     search rules in
-    begun_conversion _ _ _ _ _ _ _ asked begins
+    record {
+      is_begun = inl (record {
+        verb = c.in-Conversion.verb;
+        base = c.in-Ok-Of.task.encoding;
+        asked = asked;
+        begins = begins;
+      });
+    }

@@ -4,38 +4,39 @@ use super::*;
 
 #[test]
 fn an_interrupted_read_fails(rt: HostRuntime) -> Result<(), Fail> {
-    // Of the four reads of `Hello` the last finds its end.
-    for good_calls in 0..4usize {
-        let mut reader = FakeReader::new(b"Hello", 2);
-        reader.good_calls = good_calls;
-        let writer = FakeWriter::new(rt.alloc(), Failure::Nothing, 0)?;
-        let got = outcome_of(rt.alloc(), "encode HEXLOWER", reader, writer)?;
-        assert!(rt;
-            got.is_fault(3, "basecode: read failed\n"),
-            "after {good_calls}"
-        );
-        assert!(rt; got.read_failed && !got.write_failed, "after {good_calls}");
-        assert_eq!(rt; got.reads, good_calls + 1);
+    for (words, input) in [("encode HEXLOWER", "Hello"), ("decode HEXLOWER", "48656")] {
+        // Of the four reads of five bytes the last finds their end.
+        for good_calls in 0..4usize {
+            let mut reader = FakeReader::new(input.as_bytes(), 2);
+            reader.good_calls = good_calls;
+            let writer = FakeWriter::new(rt.alloc(), Failure::Nothing, 0)?;
+            let got = outcome_of(rt.alloc(), words, reader, writer)?;
+            assert!(rt;
+                got.is_fault(3, "basecode: read failed\n"),
+                "{words}, after {good_calls}"
+            );
+            assert!(rt;
+                got.read_failed && !got.write_failed,
+                "{words}, after {good_calls}"
+            );
+            assert_eq!(rt; got.reads, good_calls + 1);
+        }
     }
     Ok(())
 }
 
-// Whether a run over `Hello` ends with the call of its writer that fails, as soon as so many
+// Whether a run over five bytes ends with the call of its writer that fails, as soon as so many
 // writes and flushes were asked for and this is written.
 fn is_end(
     alloc: Global,
+    (words, input): (&str, &str),
     failure: Failure,
-    writes: usize,
-    flushes: usize,
+    (writes, flushes): (usize, usize),
     written: &str,
 ) -> Result<bool, AllocError> {
     let writer = FakeWriter::new(alloc, failure, writes.saturating_sub(1))?;
-    let got = outcome_of(
-        alloc,
-        "encode HEXLOWER",
-        FakeReader::new(b"Hello", 2),
-        writer,
-    )?;
+    let reader = FakeReader::new(input.as_bytes(), 2);
+    let got = outcome_of(alloc, words, reader, writer)?;
     Ok(
         got.status == 3
             && got.line.as_slice() == b"basecode: write failed\n".as_slice()
@@ -49,14 +50,24 @@ fn is_end(
 
 #[test]
 fn an_interrupted_write_fails(rt: HostRuntime) -> Result<(), Fail> {
+    let encode = ("encode HEXLOWER", "Hello");
+    let decode = ("decode HEXLOWER", "48656c6c6f");
     for failure in [Failure::Write, Failure::Take] {
-        assert!(rt; is_end(rt.alloc(), failure, 1, 0, "")?, "at {failure:?}");
         assert!(rt;
-            is_end(rt.alloc(), failure, 3, 0, "48656c")?,
+            is_end(rt.alloc(), encode, failure, (1, 0), "")?,
+            "at {failure:?}"
+        );
+        assert!(rt;
+            is_end(rt.alloc(), encode, failure, (3, 0), "48656c")?,
+            "at {failure:?}"
+        );
+        assert!(rt;
+            is_end(rt.alloc(), decode, failure, (2, 0), "Hel")?,
             "at {failure:?}"
         );
     }
-    assert!(rt; is_end(rt.alloc(), Failure::Flush, 4, 1, "48656c6c6f")?);
+    assert!(rt; is_end(rt.alloc(), encode, Failure::Flush, (4, 1), "48656c6c6f")?);
+    assert!(rt; is_end(rt.alloc(), decode, Failure::Flush, (2, 1), "Hello")?);
     Ok(())
 }
 

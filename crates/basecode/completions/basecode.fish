@@ -1,0 +1,18 @@
+# Completes the words of basecode(1) in fish.
+
+function __basecode_takes_verb
+    test (count (commandline -opc)) -eq 1
+end
+
+function __basecode_takes_name
+    set -l words (commandline -opc)
+    test (count $words) -eq 2
+    and contains -- $words[2] encode decode canonical
+end
+
+complete -c basecode -f
+complete -c basecode -n __basecode_takes_verb -a list -d 'Write the names of the encodings'
+complete -c basecode -n __basecode_takes_verb -a encode -d 'Write the text of standard input'
+complete -c basecode -n __basecode_takes_verb -a decode -d 'Write the data that standard input means'
+complete -c basecode -n __basecode_takes_verb -a canonical -d 'Write whether data has one text only'
+complete -c basecode -n __basecode_takes_name -a '(basecode list 2>/dev/null)'
