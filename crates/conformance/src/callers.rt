@@ -1,10 +1,14 @@
 //! Small functions of a user, each proved from the contracts of the calls that it makes.
 
-ghost use Rattle.std.specs.Prelude.{◌≡◌, ◌⊎◌, ◌≤◌, ◌++◌, length, Err, IsTrue, IfOk, IfSome, OnOk};
+ghost use Rattle.std.specs.Prelude.{◌≡◌, ◌⊎◌, ◌↔◌, ◌≤◌, ◌++◌, length, is_some, is_ok, Err, IsTrue, IfOk, IfSome, OnOk};
 ghost use Rattle.std.specs.String.{string_bytes};
+ghost use Rattle.data_encoding.specs.Canonical.{IsCanonical};
+ghost use Rattle.data_encoding.specs.Fields.{base_of};
+ghost use Rattle.data_encoding.specs.Lengths.{length_fault};
+ghost use Rattle.data_encoding.specs.Specification.{specified};
 ghost use Rattle.data_encoding.specs.Text.{text_of};
 
-use data_encoding::laws::{one_meaning, round_trip, specification_again};
+use data_encoding::laws::{canonical, one_meaning, round_trip, specification_again};
 use data_encoding::{
     DECODE_LIMIT, DecodeError, DecodeFault, DecodeKind, ENCODE_LIMIT, Encoding, Specification,
     SpecificationError, hexlower,
@@ -88,8 +92,10 @@ pub fn symbols_of(
     alloc: Global,
     specification: &Specification,
 ) -> Result<Option<String>, AllocError>
-    ensures { IfOk result (λ found. IfSome found
+    ensures same { IfOk result (λ found. IfSome found
         (λ symbols. string_bytes symbols ≡ string_bytes specification.now.symbols)) }
+    ensures some { IfOk result
+        (λ found. is_some found ≡ is_ok (base_of (specified specification.now))) }
 {
     match specification.encoding() {
         Ok(encoding) => Ok(Some(encoding.specification(alloc)?.symbols)),
@@ -97,13 +103,14 @@ pub fn symbols_of(
     }
 }
 
-/// Whether `decode` refuses the text for its length where `decode_len` refuses the length.
+/// Whether `decode_len` refuses the length of the text, and `decode` the text, with the same fault:
+/// wherever the length has one.
 pub fn is_refused_alike(alloc: Global, encoding: &Encoding, text: &[u8]) -> bool
     requires limit { length text.now ≤ DECODE_LIMIT }
-    ensures { IsTrue result }
+    ensures { result ≡ is_some (length_fault encoding.now (length text.now)) }
 {
     match encoding.decode_len(text.len()) {
-        Ok(_) => true,
+        Ok(_) => false,
         Err(error) => match encoding.decode(alloc, text) {
             Ok(_) => false,
             Err(DecodeFault::Error(other)) => other == error,
@@ -112,21 +119,26 @@ pub fn is_refused_alike(alloc: Global, encoding: &Encoding, text: &[u8]) -> bool
     }
 }
 
-/// Whether an equal encoding is built from the specification of the encoding.
-pub fn is_yielded_again(alloc: Global, encoding: &Encoding) -> Result<bool, AllocError>
-    ensures { IfOk result IsTrue }
+/// Whether what is built from the specification of the encoding is the other: where the two are
+/// equal.
+pub fn is_yielded_again(
+    alloc: Global,
+    encoding: &Encoding,
+    other: &Encoding,
+) -> Result<bool, AllocError>
+    ensures { IfOk result (λ is. IsTrue is ↔ (encoding.now ≡ other.now)) }
 {
     let _width = encoding.bit_width();
     specification_again();
     let specification = encoding.specification(alloc)?;
     match specification.encoding() {
-        Ok(other) => Ok(other == *encoding),
+        Ok(yielded) => Ok(yielded == *other),
         Err(_) => Ok(false),
     }
 }
 
-/// Whether an encoding is canonical, and two texts decode to the same bytes: then they are the same
-/// text.
+/// Whether an encoding is canonical, and two texts decode to the same bytes: where it is, and they
+/// are the same text.
 pub fn is_one_text(
     alloc: Global,
     encoding: &Encoding,
@@ -135,14 +147,34 @@ pub fn is_one_text(
 ) -> Result<bool, DecodeFault>
     requires limit { length text.now ≤ DECODE_LIMIT }
     requires other_limit { length other.now ≤ DECODE_LIMIT }
-    ensures { IfOk result (λ same. IsTrue same → text.now ≡ other.now) }
+    ensures { IfOk result
+        (λ same. IsTrue same ↔ (IsCanonical encoding.now × (text.now ≡ other.now))) }
 {
+    let _width = encoding.bit_width();
+    one_meaning();
     if !encoding.is_canonical() {
         return Ok(false);
     }
     let bytes = encoding.decode(alloc, text)?;
     let others = encoding.decode(alloc, other)?;
     Ok(bytes.as_slice() == others.as_slice())
+}
+
+/// The data of a text that may stand for them, as a token or a name does: no other text has the
+/// same data.
+pub fn data_of_token(alloc: Global, encoding: &Encoding, token: &[u8]) -> Option<Vec<u8>>
+    requires limit { length token.now ≤ DECODE_LIMIT }
+    ensures only { IfSome result (λ bytes. token.now ≡ text_of encoding.now bytes.items) }
+{
+    let _width = encoding.bit_width();
+    canonical();
+    if !encoding.is_canonical() {
+        return None;
+    }
+    match encoding.decode(alloc, token) {
+        Ok(bytes) => Some(bytes),
+        Err(_) => None,
+    }
 }
 
 /// Appends the text of data that come in two fragments: that of the fragments joined.

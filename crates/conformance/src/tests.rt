@@ -1,8 +1,11 @@
 //! Rows from outside, sweeps over short texts, and each public call with ample memory.
 
 mod appending;
+mod callers;
 mod calls;
 mod canonical;
+mod decode_streams;
+mod decoders;
 mod decoding;
 mod encoding;
 mod judge;
@@ -11,6 +14,7 @@ mod order;
 mod predefined;
 mod resuming;
 mod rows;
+mod slow;
 mod specifications;
 mod streams;
 mod sweeps;

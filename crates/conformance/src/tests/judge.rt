@@ -20,6 +20,8 @@ pub(super) struct Judge<'a> {
     ignored: &'a [u8],
     column: usize,
     separator: &'a [u8],
+    // Whether texts are also judged that come in pieces.
+    pub(super) in_pieces: bool,
 }
 
 // What is found in a text: the bytes that are written before the first fault, how much of the text
@@ -94,6 +96,7 @@ impl Judge<'_> {
             ignored: specification.ignore.as_bytes(),
             column,
             separator,
+            in_pieces: false,
         }
     }
 
@@ -169,6 +172,24 @@ impl Judge<'_> {
         Ok(judgement)
     }
 
+    // The data of a text that is decoded as it comes, and its fault: those of the groups before the
+    // first faulty one, also where the length of the text is a fault.
+    pub(super) fn decode_pieces(
+        &self,
+        alloc: Global,
+        text: &[u8],
+    ) -> Result<Judgement, AllocError> {
+        let mut judgement = Judgement {
+            bytes: Vec::new(alloc),
+            read: 0,
+            fault: self.decode_sound(alloc, text)?.fault,
+        };
+        match self.decode_each(alloc, text, &mut judgement) {
+            Err(DecodeFault::OutOfMemory) => Err(AllocError),
+            _ => Ok(judgement),
+        }
+    }
+
     // Decodes group after group, to the end or the first fault.
     fn decode_groups(
         &self,
@@ -182,6 +203,16 @@ impl Judge<'_> {
                 return Err(fault(greatest, DecodeKind::Length));
             }
         }
+        self.decode_each(alloc, text, judgement)
+    }
+
+    // Decodes group after group, whatever the length of the text.
+    fn decode_each(
+        &self,
+        alloc: Global,
+        text: &[u8],
+        judgement: &mut Judgement,
+    ) -> Result<(), DecodeFault> {
         let characters = self.kept(alloc, text)?;
         let mut is_ended = false;
         for group in characters.chunks(self.group_len()) {

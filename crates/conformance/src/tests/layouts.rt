@@ -13,7 +13,7 @@ const SINGLE_BASE64: &str = "base64|most|single check|=||0||||";
 
 const OTHERS_IGNORED: &str = "base64|most|check||others|0||||";
 
-const LONGEST: &str = "base64|most|check|||252|dashes|||";
+const LONGEST: &str = "base64|most|check|||252|feeds|||";
 
 // An encoding, what is changed in its layout, and the encoding that then has it, by its name or by
 // the length of its layout with bytes 512 and 513 and the next three.
@@ -40,7 +40,7 @@ BASE64_MIME|514=75|none
 BASE64_MIME|514=0|none
 BASE64_MIME|len=515|none
 BASE64_MIME|len=515 514=0|515: [61, 30] [0]
-LONGEST||770: [128, 30] [252, 45, 45]";
+LONGEST||770: [128, 30] [252, 10, 10]";
 
 // The encodings whose layouts are damaged in each way.
 const DAMAGED: &str = "HEXLOWER BASE64 BASE64_MIME BASE32_NOPAD_VISUAL";

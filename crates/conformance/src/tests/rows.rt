@@ -12,13 +12,6 @@ const DNSCURVE: &str = "0123456789bcdfghjklmnpqrstuvwxyz";
 
 const BASE64: &str = "ABCDEFGHIJKLMNOPQRSTUVWXYZabcdefghijklmnopqrstuvwxyz0123456789+/";
 
-// The longest separator.
-const DASHES: &str = "\
-    ----------------------------------------------------------------\
-    ----------------------------------------------------------------\
-    ----------------------------------------------------------------\
-    ---------------------------------------------------------------";
-
 // What a row says: a specification, what is done with it, and what comes of it.
 #[derive(Drop)]
 pub(super) struct Row<'a> {
@@ -109,14 +102,22 @@ fn put_ignored(specification: &mut Specification, field: &str) -> Result<(), All
     Ok(())
 }
 
-// The separator of a field, which may stand for the longest.
+// The separator of a field, which may stand for the longest: 255 dashes, or as many line feeds.
 pub(super) fn put_separator(
     specification: &mut Specification,
     field: &str,
 ) -> Result<(), AllocError> {
-    specification.wrap.separator.clear();
-    let separator = if field == "dashes" { DASHES } else { field };
-    put(&mut specification.wrap.separator, separator)
+    let separator = &mut specification.wrap.separator;
+    separator.clear();
+    let character = match field {
+        "dashes" => '-',
+        "feeds" => '\n',
+        _ => return put(separator, field),
+    };
+    for _ in 0..255u8 {
+        separator.push(character)?;
+    }
+    Ok(())
 }
 
 // The bytes of a field, each written as the character of its code.

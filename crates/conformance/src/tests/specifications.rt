@@ -2,7 +2,6 @@
 
 use super::rows::{Row, described, row_of};
 use super::table;
-use data_encoding::{BitOrder, Character, Encoding, Specification};
 use std::alloc::{AllocError, Global};
 use std::test::Fail;
 
@@ -95,56 +94,6 @@ fn describes_encodings(rt: HostRuntime) -> Result<(), Fail> {
     Ok(())
 }
 
-// What a byte means, as the layout has it.
-fn entry(character: Character) -> u8 {
-    match character {
-        Character::Symbol { value } => (value % 64) as u8,
-        Character::Invalid => 128,
-        Character::Ignored => 129,
-        Character::Padding => 130,
-    }
-}
-
-// What the layout has after the tables.
-fn push_rest(
-    layout: &mut Vec<u8>,
-    specification: &Specification,
-    width: usize,
-) -> Result<(), Fail> {
-    layout.push(match specification.padding {
-        Some(padding) => u8::try_from(u32::from(padding))?,
-        None => 128,
-    })?;
-    let order = match specification.bit_order {
-        BitOrder::MostSignificantFirst => 8,
-        BitOrder::LeastSignificantFirst => 0,
-    };
-    let check = u8::from(specification.check_trailing_bits).wrapping_mul(16);
-    layout.push(u8::try_from(width)? | order | check)?;
-    if specification.wrap.width != 0 {
-        layout.push(u8::try_from(specification.wrap.width)?)?;
-    } else if !specification.ignore.is_empty() {
-        layout.push(0)?;
-    }
-    layout.extend_from_slice(specification.wrap.separator.as_bytes())?;
-    Ok(())
-}
-
-// The layout of the original crate: the symbols again and again, what each byte means, the rest.
-fn layout(alloc: Global, encoding: &Encoding) -> Result<Vec<u8>, Fail> {
-    let specification = encoding.specification(alloc)?;
-    let symbols = specification.symbols.as_bytes();
-    let mut layout = Vec::new(alloc);
-    for symbol in symbols.iter().cycle().take(256) {
-        layout.push(*symbol)?;
-    }
-    for byte in 0..=255u8 {
-        layout.push(entry(encoding.interpret_byte(byte)))?;
-    }
-    push_rest(&mut layout, &specification, encoding.bit_width())?;
-    Ok(layout)
-}
-
 // The length of a layout, and the sum of its bytes, each times its position.
 fn summed(alloc: Global, layout: &[u8]) -> Result<String, AllocError> {
     let mut sum: u64 = 0;
@@ -162,7 +111,8 @@ fn agrees(alloc: Global, line: &str) -> Result<bool, Fail> {
     let row = row_of(alloc, line)?;
     match row.specification.encoding() {
         Ok(encoding) => {
-            let answer = summed(alloc, &layout(alloc, &encoding)?)?;
+            let layout = encoding.internal_implementation();
+            let answer = summed(alloc, layout.as_slice())?;
             let again = encoding.specification(alloc)?.encoding()?;
             Ok(answer.as_str() == row.want && encoding == again)
         }

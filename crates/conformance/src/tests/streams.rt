@@ -1,11 +1,10 @@
-//! Streams over readers and writers that give little, take little, or fail once.
+//! Data that is encoded from a reader to a writer.
 
 use super::rows::row_of;
+use super::slow::{Failure, Narrow, Outcome, Slow, bytes_of_length, reader_of};
 use data_encoding::{DecodeError, DecodeKind, ENCODE_LIMIT, Encoding, base64_mime, hexlower};
 use encoding_stream::{StreamFault, Watch, encode_stream};
 use std::alloc::{AllocError, Global};
-use std::io;
-use std::io::{ErrorKind, Read, Write};
 use std::test::Fail;
 
 // Of widths from one bit to six, with padding and lines; the last has 263 characters for a byte.
@@ -17,149 +16,11 @@ base64|most|check|=||76|←↵|||
 binary|most|check|||0||||
 binary|most|check|||8|dashes|||";
 
-// Gives at most so many bytes a call. The call after so many good ones is interrupted, and those
-// after it are good again.
-#[derive(Drop)]
-struct Slow<'a> {
-    bytes: &'a [u8],
-    most: usize,
-    good: usize,
-    calls: usize,
-}
-
-impl Read for Slow<'_> {
-    fn read(&mut self, buf: &mut [u8]) -> io::Result<usize> {
-        let call = self.calls;
-        self.calls = call.saturating_add(1);
-        if call == self.good {
-            return Err(io::Error::from(ErrorKind::Interrupted));
-        }
-        let count = self.most.min(buf.len()).min(self.bytes.len());
-        let (front, rest) = self.bytes.split_at(count);
-        buf[..count].copy_from_slice(front);
-        self.bytes = rest;
-        Ok(count)
-    }
-}
-
-// What a writer does not do, once.
-#[derive(Clone, Copy, Debug, PartialEq, Eq)]
-enum Failure {
-    Nothing,
-    Write,
-    Take,
-    Flush,
-}
-
-// Takes at most so many bytes a call, and fails once after so many good writes.
-#[derive(Drop)]
-struct Narrow {
-    bytes: Vec<u8>,
-    most: usize,
-    failure: Failure,
-    good: usize,
-    writes: usize,
-    flushes: usize,
-    writes_when_flushed: usize,
-}
-
-impl Narrow {
-    fn new(alloc: Global, most: usize, failure: Failure, good: usize) -> Narrow {
-        Narrow {
-            bytes: Vec::new(alloc),
-            most,
-            failure,
-            good,
-            writes: 0,
-            flushes: 0,
-            writes_when_flushed: 0,
-        }
-    }
-}
-
-impl Write for Narrow {
-    fn write(&mut self, buf: &[u8]) -> io::Result<usize> {
-        let write = self.writes;
-        self.writes = write.saturating_add(1);
-        if write == self.good {
-            match self.failure {
-                Failure::Write => return Err(io::Error::from(ErrorKind::Interrupted)),
-                Failure::Take => return Ok(0),
-                Failure::Nothing | Failure::Flush => {}
-            }
-        }
-        let count = self.most.min(buf.len());
-        self.bytes.extend_from_slice(&buf[..count])?;
-        Ok(count)
-    }
-
-    fn flush(&mut self) -> io::Result<()> {
-        self.flushes = self.flushes.saturating_add(1);
-        self.writes_when_flushed = self.writes;
-        if self.failure == Failure::Flush {
-            return Err(io::Error::from(ErrorKind::Interrupted));
-        }
-        Ok(())
-    }
-}
-
-// What a stream has done.
-#[derive(Drop)]
-struct Outcome {
-    result: Result<(), StreamFault>,
-    reads: usize,
-    read_failed: bool,
-    write_failed: bool,
-    writer: Narrow,
-}
-
-impl Outcome {
-    // The text was written, and flushed once, after the last write.
-    fn is_whole(&self, text: &str) -> bool {
-        self.result == Ok(())
-            && self.writer.bytes.as_slice() == text.as_bytes()
-            && self.writer.flushes == 1
-            && self.writer.writes_when_flushed == self.writer.writes
-    }
-
-    // The fault was answered, its watch has failed, and a beginning of the text was written.
-    fn is_fault(&self, fault: StreamFault, text: &str) -> bool {
-        self.result == Err(fault)
-            && self.read_failed == (fault == StreamFault::Read)
-            && self.write_failed == (fault == StreamFault::Write)
-            && text.as_bytes().starts_with(self.writer.bytes.as_slice())
-    }
-}
-
 fn stream(encoding: &Encoding, reader: Slow<'_>, writer: Narrow) -> Outcome {
     let mut reader = Watch::new(reader);
     let mut writer = Watch::new(writer);
     let result = encode_stream(encoding, &mut reader, &mut writer);
-    Outcome {
-        result,
-        read_failed: reader.failed(),
-        write_failed: writer.failed(),
-        reads: reader.into_inner().calls,
-        writer: writer.into_inner(),
-    }
-}
-
-fn reader_of(bytes: &[u8], most: usize) -> Slow<'_> {
-    Slow {
-        bytes,
-        most,
-        good: usize::MAX,
-        calls: 0,
-    }
-}
-
-// So many bytes, not all the same.
-fn bytes_of_length(alloc: Global, len: usize) -> Result<Vec<u8>, AllocError> {
-    let mut bytes = Vec::new(alloc);
-    for index in 0..len {
-        bytes.push((index % 251) as u8)?;
-    }
-    Ok(bytes)
+    Outcome::of(result, reader, writer)
 }
 
 fn text_of(alloc: Global, encoding: &Encoding, bytes: &[u8]) -> Result<String, AllocError> {
@@ -180,7 +41,7 @@ fn streams_what_encode_answers(rt: HostRuntime) -> Result<(), Fail> {
             let text = text_of(rt.alloc(), &encoding, &bytes)?;
             let writer = Narrow::new(rt.alloc(), usize::MAX, Failure::Nothing, 0);
             let got = stream(&encoding, reader_of(&bytes, 1000), writer);
-            assert!(rt; got.is_whole(text.as_str()), "{len} by {line}");
+            assert!(rt; got.is_whole(None, text.as_bytes()), "{len} by {line}");
         }
     }
     Ok(())
@@ -194,7 +55,7 @@ fn streams_byte_by_byte(rt: HostRuntime) -> Result<(), Fail> {
         let text = text_of(rt.alloc(), &encoding, &bytes)?;
         let writer = Narrow::new(rt.alloc(), 1, Failure::Nothing, 0);
         let got = stream(&encoding, reader_of(&bytes, 1), writer);
-        assert!(rt; got.is_whole(text.as_str()), "{line}");
+        assert!(rt; got.is_whole(None, text.as_bytes()), "{line}");
     }
     Ok(())
 }
@@ -212,7 +73,7 @@ fn streams_lines(rt: HostRuntime) -> Result<(), Fail> {
         reader_of(zeros.as_bytes(), usize::MAX),
         writer,
     );
-    assert!(rt; got.is_whole(text.as_str()));
+    assert!(rt; got.is_whole(None, text.as_bytes()));
     Ok(())
 }
 
@@ -252,7 +113,7 @@ fn ends_at_a_failed_read(rt: HostRuntime) -> Result<(), Fail> {
         let writer = Narrow::new(rt.alloc(), usize::MAX, Failure::Nothing, 0);
         let got = stream(&hexlower(), reader, writer);
         assert!(rt;
-            got.is_fault(StreamFault::Read, text.as_str()),
+            got.is_fault(StreamFault::Read, text.as_bytes()),
             "after {good}"
         );
         assert!(rt;
@@ -271,7 +132,7 @@ fn ends_at_a_failed_write(rt: HostRuntime) -> Result<(), Fail> {
         for good in 0..42usize {
             let writer = Narrow::new(rt.alloc(), 1000, failure, good);
             let got = stream(&hexlower(), reader_of(&bytes, usize::MAX), writer);
-            let is_end = got.is_fault(StreamFault::Write, text.as_str())
+            let is_end = got.is_fault(StreamFault::Write, text.as_bytes())
                 && got.writer.writes == good + 1
                 && got.writer.flushes == 0;
             assert!(rt; is_end, "{failure:?} after {good}");
@@ -284,7 +145,7 @@ fn ends_at_a_failed_write(rt: HostRuntime) -> Result<(), Fail> {
 fn ends_at_a_failed_flush(rt: HostRuntime) -> Result<(), Fail> {
     let writer = Narrow::new(rt.alloc(), 3, Failure::Flush, 0);
     let got = stream(&hexlower(), reader_of(b"Hello", 2), writer);
-    assert!(rt; got.is_fault(StreamFault::Write, "48656c6c6f"));
+    assert!(rt; got.is_fault(StreamFault::Write, b"48656c6c6f"));
     assert_eq!(rt; got.writer.bytes.as_slice(), b"48656c6c6f".as_slice());
     assert_eq!(rt; got.writer.flushes, 1);
     Ok(())

@@ -3,6 +3,7 @@
 
 ghost use Rattle.std.specs.Prelude.{◌<◌, ◌≤◌, length};
 
+use super::decoders::is_judged_alike_in_pieces;
 use super::judge::{Judge, Judgement};
 use super::rows::{put_separator, row_of};
 use data_encoding::{DECODE_LIMIT, DecodeFault, ENCODE_LIMIT, Encoding};
@@ -71,7 +72,11 @@ pub(super) fn is_judged_alike(
         return Ok(false);
     }
     let want = judge.decode(alloc, text)?;
-    Ok(is_decoded_alike(alloc, encoding, &want, text) && is_written_alike(encoding, &want, text))
+    Ok(
+        is_decoded_alike(alloc, encoding, &want, text)
+            && is_written_alike(encoding, &want, text)
+            && (!judge.in_pieces || is_judged_alike_in_pieces(alloc, encoding, judge, text)?),
+    )
 }
 
 // Whether `decode` answers what the judge does.
@@ -210,7 +215,7 @@ fn pad(group: &mut [u8], count: usize) {
 }
 
 // Whether two groups are judged alike that have any two lengths of padding.
-fn pairs_are_judged_alike(
+pub(super) fn pairs_are_judged_alike(
     alloc: Global,
     encoding: &Encoding,
     judge: Judge<'_>,
@@ -234,7 +239,7 @@ fn pairs_are_judged_alike(
 }
 
 // Whether texts of a symbol alone are judged alike, up to two groups and one.
-fn lengths_are_judged_alike(
+pub(super) fn lengths_are_judged_alike(
     alloc: Global,
     encoding: &Encoding,
     judge: Judge<'_>,
@@ -323,7 +328,7 @@ fn are_judged_alike_ignoring(
 
 // Whether texts of a symbol are judged alike that have an ignored byte or two, and where there is
 // padding, so many bytes of it after one or more groups.
-fn symbols_are_judged_alike_ignoring(
+pub(super) fn symbols_are_judged_alike_ignoring(
     alloc: Global,
     encoding: &Encoding,
     judge: Judge<'_>,

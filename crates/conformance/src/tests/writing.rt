@@ -9,7 +9,7 @@ use std::test::Fail;
 
 // The length of data; whether they are written, and the length of the text of each call.
 const BY_BUFFER: &str = "\
-hex|most|check|||254|dashes|||128|Ok 509 257
+hex|most|check|||254|feeds|||128|Ok 509 257
 base64|most|check|=||76|←↵|||400|Ok 468 84
 base64|most|check|=||76|←↵|||0|Ok";
 

@@ -1,16 +1,31 @@
-use Rattle.std.proofs.Common.{◌≡◌, List, ℕ, subst, sym, true, rules, ◌∙◌}
+use Rattle.std.proofs.Common.{◌≡◌, IsTrue, subst, sym, true, rules, ◌∙◌}
 use Rattle.std.proofs.lemmas.Slice.Eq.{bytes_eq-Decides}
 use Rattle.data_encoding.specs.Grammar.{Means}
 use Rattle.conformance.proofs.callers.is_one_text.Goals as goal
 
 pub returns : goal.returns
-returns c = λ equal.
+returns c =
     let base = c.args.encoding.now in
+    let text = c.args.text.now in
+    let other = c.args.other.now in
+    let bytes = c.in_ok-bytes.bytes.items in
+    let others = c.in_ok-others.others.items in
+    let means = c.in_ok-bytes.ensures.means in
+    let other_means = c.in_ok-others.ensures.means in
+    let first = c.as_slice.ensures.value in
+    let second = c.as_slice-2.ensures.value in
+    let decides = bytes_eq-Decides c.as_slice.result.now c.as_slice-2.result.now in
     let is : c.is_canonical.result ≡ true = search rules in
-    let same : c.in_ok-others.others.items ≡ c.in_ok-bytes.bytes.items =
-    sym (sym c.as_slice.ensures.value
-    ∙ (bytes_eq-Decides c.as_slice.result.now c.as_slice-2.result.now).0 (sym c.eq.ensures ∙ equal)
-    ∙ c.as_slice-2.ensures.value) in
-    c.is_canonical.ensures.canonical.0 is c.args.text.now c.args.other.now
-    c.in_ok-bytes.bytes.items c.requires.limit c.requires.other_limit c.in_ok-bytes.ensures.means
-    (subst (Means base c.args.other.now) same c.in_ok-others.ensures.means)
+    let canonical = c.is_canonical.ensures.canonical.0 is in
+    let same_text : IsTrue c.eq.result → text ≡ other =
+    λ equal.
+    canonical text other bytes c.requires.limit c.requires.other_limit means
+    (subst (Means base other) (sym (sym first ∙ decides.0 (sym c.eq.ensures ∙ equal) ∙ second))
+    other_means) in
+    let same_bytes : text ≡ other → bytes ≡ others =
+    λ same.
+    c.one_meaning.ensures base c.bit_width-width.ensures.base text bytes others means
+    (subst (λ t. Means base t others) (sym same) other_means) in (
+      λ equal. (canonical, same_text equal),
+      λ one. c.eq.ensures ∙ decides.1 (first ∙ same_bytes one.1 ∙ sym second),
+    )

@@ -1,4 +1,4 @@
-use Rattle.std.proofs.Common.{◌≡◌, ◌∙◌, ◌&&◌, length, Err, ap, sym, eq-eqb}
+use Rattle.std.proofs.Common.{◌≡◌, ◌∙◌, ◌&&◌, length, is_some, Some, Err, ap, sym, eq-eqb}
 use denote.Enum.Bare.{true_same}
 use Rattle.data_encoding.specs.contracts.error.DecodeKind.{the_type}
 use Rattle.data_encoding.specs.declared.error.DecodeError.{DecodeError}
@@ -14,11 +14,12 @@ returns-after-decode c =
     let base = c.args.encoding.now in
     let text = c.args.text.now in
     let error = c.in-Err.error in
+    let fault : length_fault base (length text) ≡ Some error =
+    refused_len (length_fault base (length text)) (most_bytes base (length text)) error
+    (sym c.in-Err.ensures.value) in
     let answer : c.decode.result ≡ Err (Error error) =
     refused-length base text error (λ bytes. sound_bytes base text ≡ bytes.items) c.decode.result
-    (refused_len (length_fault base (length text)) (most_bytes base (length text)) error
-    (sym c.in-Err.ensures.value))
-    c.decode.ensures.sound c.decode.ensures.refusal in
+    fault c.decode.ensures.sound c.decode.ensures.refusal in
     elim c.match-decode.branch [
       | in-Ok-decode w ↦ absurd (cc)
       | in-Err-Error w ↦
@@ -29,5 +30,6 @@ returns-after-decode c =
           let kind = true_same the_type other.kind error.kind
           (ap (λ (e : DecodeError). e.kind) same) in
           w.result-is ∙ w.eq.ensures ∙ (λ i. position i && kind i)
+          ∙ sym (ap is_some fault)
       | in-Err-OutOfMemory w ↦ absurd (cc)
     ]

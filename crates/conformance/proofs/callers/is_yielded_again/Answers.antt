@@ -1,4 +1,4 @@
-use Rattle.std.proofs.Common.{ap, ◌∙◌}
+use Rattle.std.proofs.Common.{◌≡◌, ap, sym, ◌∙◌}
 use Rattle.data_encoding.specs.Fields.{base_of}
 use Rattle.conformance.proofs.YieldLemmas.{same_yield, no_refusal}
 use Rattle.conformance.proofs.callers.is_yielded_again.Goals as goal
@@ -8,7 +8,9 @@ returns-in-Ok c =
     let yields =
     ap base_of c.in_ok-specification.ensures
     ∙ c.specification_again.ensures c.args.encoding.now c.bit_width-width.ensures.base in
-    c.eq.ensures.base.1 (same_yield _ _ _ c.in-Ok.ensures.yields yields)
+    let same : c.in-Ok.yielded ≡ c.args.encoding.now =
+    same_yield _ _ _ c.in-Ok.ensures.yields yields in
+    (λ equal. sym same ∙ c.eq.ensures.base.0 equal, λ is. c.eq.ensures.base.1 (same ∙ is))
 
 pub returns : goal.returns
 returns c =

@@ -4,7 +4,8 @@ use Rattle.data_encoding.specs.Specification.{specified}
 use Rattle.conformance.proofs.YieldLemmas.{symbols-yield}
 use Rattle.conformance.proofs.callers.symbols_of.Goals as goal
 
-pub returns-in_ok-specification-in-Ok : goal.returns-in_ok-specification-in-Ok
-returns-in_ok-specification-in-Ok c =
+pub returns-in_ok-specification-in-Ok-clause-same :
+    goal.returns-in_ok-specification-in-Ok-clause-same
+returns-in_ok-specification-in-Ok-clause-same c =
     ap (λ (fields : Fields). fields.symbols) c.in_ok-specification-in-Ok.ensures
     ∙ symbols-yield (specified c.args.specification.now) c.in-Ok.encoding c.in-Ok.ensures.yields

@@ -1,0 +1,267 @@
+//! Texts that come in pieces, cut anywhere.
+
+ghost use Rattle.std.specs.Prelude.{◌<◌, ◌≤◌, length};
+
+use super::decode_streams::is_streamed_alike;
+use super::decoding::beginning;
+use super::judge::{Judge, Judgement};
+use super::rows::{bytes_of, field_of, row_of};
+use super::slow::bytes_of_length;
+use super::sweeps::{
+    lengths_are_judged_alike, pairs_are_judged_alike, symbols_are_judged_alike_ignoring,
+};
+use data_encoding::{DECODE_LIMIT, DecodeError, Encoding, base64_nopad};
+use encoding_stream::Decoder;
+use std::alloc::{AllocError, Global};
+use std::test::Fail;
+
+// Pieces, between bars that lean; then what each of them and the end appends, and the fault,
+// between such bars.
+const ROWS: &str = "\
+base64|most|check|||0||||AA/AA|/\0\0\0//
+base64|most|check|||0||||A/A|//\0/
+base64|most|check|||0||||!/AAAA|///invalid length at 4
+base64|most|check|=||76|←↵|||SGVs←/↵bG/8=|Hel//lo//
+octal|most|check|| |0||||00/1/00|////invalid length at 3
+base64|most|single check|=||0||||AA=/=/AA==|/\0///invalid padding length at 4";
+
+// Each width, then padded, with ignored bytes, unpadded with ignored bytes, and single.
+const LONG: &str = "\
+binary|most|check|||0||||
+quaternary|least|check|||0||||
+octal|most|check|||0||||
+hex|most|check|||0||||
+base32|least|check|||0||||
+base64|most|check|||0||||
+octal|least|check|=||0||||
+base32|most||=||0||||
+base64|most|check|=||0||||
+octal|most|check|=||8|-|||
+base32|most|check|=||40|-|||
+base64|most|check|=||76|←↵|||
+binary|least|check|||8|-|||
+quaternary|most|check|||76|-|||
+hex|most|check|||64|-|||
+octal|most|check|||64|-|||
+base32|most|check|||40|-|||
+base64|least|check|||76|-|||
+base64|most|single check|=||0||||
+base64|most|single check|=||76|-|||
+octal|most|single|=|-|0||||";
+
+// Each width, padded where a group may lack symbols, and single.
+const SHORT: &str = "\
+binary|least|check|||0||||
+quaternary|most|check|||0||||
+octal|most|check|||0||||
+hex|least|check|||0||||
+base32|most||||0||||
+base64|most|check|||0||||
+octal|least|check|=||0||||
+base32|most||=||0||||
+base64|most|check|=||0||||
+base64|most|single check|=||0||||
+octal|most|single|=||0||||";
+
+// Pushes a piece of a text that is not too long.
+fn push(decoder: &mut Decoder<'_>, piece: &[u8], output: &mut Vec<u8>) -> Result<(), AllocError> {
+    let len = decoder.len();
+    if len > DECODE_LIMIT || piece.len() > DECODE_LIMIT - len {
+        return Err(AllocError);
+    }
+    decoder.push(piece, output)
+}
+
+// The fault of the whole text.
+fn finish(decoder: Decoder<'_>, output: &mut Vec<u8>) -> Result<Option<DecodeError>, AllocError> {
+    match decoder.finish(output) {
+        Ok(finished) => Ok(finished.verdict.err()),
+        Err(_) => Err(AllocError),
+    }
+}
+
+// Whether a decoder appends and tells what the judge does, which is pushed the text up to a
+// position, and then pieces of so many bytes.
+fn is_cut_alike(
+    encoding: &Encoding,
+    want: &Judgement,
+    text: &[u8],
+    position: usize,
+    size: usize,
+    output: &mut Vec<u8>,
+) -> Result<bool, AllocError>
+    requires inside { position ≤ length text.now }
+    requires some { 0 < size }
+{
+    output.clear();
+    let (front, rest) = text.split_at(position);
+    let mut decoder = Decoder::new(encoding);
+    push(&mut decoder, front, output)?;
+    for piece in rest.chunks(size) {
+        push(&mut decoder, piece, output)?;
+    }
+    let is_counted = decoder.len() == text.len();
+    let fault = finish(decoder, output)?;
+    Ok(is_counted && fault == want.fault && *output == want.bytes)
+}
+
+// Whether a text is judged alike that comes byte by byte, from a reader and in pieces, and that is
+// cut in two at each position.
+pub(super) fn is_judged_alike_in_pieces(
+    alloc: Global,
+    encoding: &Encoding,
+    judge: Judge<'_>,
+    text: &[u8],
+) -> Result<bool, AllocError> {
+    let want = judge.decode_pieces(alloc, text)?;
+    let mut output = Vec::new(alloc);
+    for position in 0..=text.len() {
+        if !is_cut_alike(encoding, &want, text, position, usize::MAX, &mut output)? {
+            return Ok(false);
+        }
+    }
+    Ok(
+        is_cut_alike(encoding, &want, text, 0, 1, &mut output)?
+            && is_streamed_alike(alloc, encoding, &want, text, 1),
+    )
+}
+
+// The same of a long text, in pieces of a few lengths.
+fn is_long_alike(
+    alloc: Global,
+    encoding: &Encoding,
+    judge: Judge<'_>,
+    text: &[u8],
+) -> Result<bool, AllocError> {
+    let want = judge.decode_pieces(alloc, text)?;
+    let mut output = Vec::new(alloc);
+    for (position, size) in [
+        (0, 1),
+        (0, usize::MAX),
+        (9, 7),
+        (700, usize::MAX),
+        (1025, 1024),
+    ] {
+        let position = position.min(text.len());
+        if !is_cut_alike(encoding, &want, text, position, size, &mut output)? {
+            return Ok(false);
+        }
+    }
+    Ok(
+        is_streamed_alike(alloc, encoding, &want, text, 1)
+            && is_streamed_alike(alloc, encoding, &want, text, usize::MAX),
+    )
+}
+
+// A text of some hundred bytes, as it stands and with another byte at some positions.
+fn is_alike_throughout(alloc: Global, line: &str) -> Result<bool, Fail> {
+    let specification = row_of(alloc, line)?.specification;
+    let encoding = specification.encoding()?;
+    let judge = Judge::of(&specification);
+    let mut text = judge.encode(alloc, &bytes_of_length(alloc, 800)?)?;
+    if text.len() < 1030 {
+        return Ok(false);
+    }
+    for position in [0, 6, 700, 1024, text.len() - 4] {
+        if position >= text.len() {
+            return Ok(false);
+        }
+        let own = text[position];
+        for byte in [b'!', b'=', b'-'] {
+            text[position] = byte;
+            if !is_long_alike(alloc, &encoding, judge, &text)? {
+                return Ok(false);
+            }
+        }
+        text[position] = own;
+    }
+    Ok(is_long_alike(alloc, &encoding, judge, &text)?)
+}
+
+// Texts of a symbol, and where a group is short, two groups with padding: as they stand and with
+// another byte at any position.
+fn is_short_alike(alloc: Global, line: &str) -> Result<bool, Fail> {
+    let specification = row_of(alloc, line)?.specification;
+    let encoding = specification.encoding()?;
+    let mut judge = Judge::of(&specification);
+    judge.in_pieces = true;
+    let symbol = *judge.symbols.get(1).unwrap_or(&b'?');
+    let has_pairs = judge.padding.is_some() && judge.group_len() <= 4;
+    Ok(
+        lengths_are_judged_alike(alloc, &encoding, judge, symbol)?
+            && (!has_pairs || pairs_are_judged_alike(alloc, &encoding, judge, symbol)?),
+    )
+}
+
+// Texts of a group and a byte, of which one or two are ignored.
+fn is_alike_ignoring(alloc: Global, line: &str) -> Result<bool, Fail> {
+    let mut specification = row_of(alloc, line)?.specification;
+    specification.ignore.push('-')?;
+    let encoding = specification.encoding()?;
+    let mut judge = Judge::of(&specification);
+    judge.in_pieces = true;
+    let symbol = *judge.symbols.first().unwrap_or(&b'?');
+    let len = judge.group_len().min(8) + 1;
+    Ok(symbols_are_judged_alike_ignoring(alloc, &encoding, judge, symbol, len)?)
+}
+
+// Appends to an answer what a call has appended, and a bar that leans.
+fn put_bytes(alloc: Global, answer: &mut String, bytes: &[u8]) -> Result<(), AllocError> {
+    answer.push_str(field_of(alloc, bytes)?.as_str())?;
+    answer.push('/')
+}
+
+fn is_decoded(alloc: Global, line: &str) -> Result<bool, Fail> {
+    let row = row_of(alloc, line)?;
+    let encoding = row.specification.encoding()?;
+    let mut decoder = Decoder::new(&encoding);
+    let mut answer = String::new(alloc);
+    let mut output = Vec::new(alloc);
+    for piece in row.input.split('/') {
+        output.clear();
+        push(&mut decoder, &bytes_of(alloc, piece)?, &mut output)?;
+        put_bytes(alloc, &mut answer, &output)?;
+    }
+    output.clear();
+    let fault = finish(decoder, &mut output)?;
+    put_bytes(alloc, &mut answer, &output)?;
+    if let Some(error) = fault {
+        answer.push_str(error.to_string(alloc)?.as_str())?;
+    }
+    Ok(answer.as_str() == row.want)
+}
+
+#[test]
+fn appends_whole_groups(rt: HostRuntime) -> Result<(), Fail> {
+    for line in ROWS.split('\n') {
+        assert!(rt; is_decoded(rt.alloc(), line)?, "{line}");
+    }
+    // Pieces that are decoded alone mean other bytes.
+    let alone = beginning(rt.alloc(), &base64_nopad(), b"AA")?;
+    assert_eq!(rt; alone.as_str(), "1 in all");
+    Ok(())
+}
+
+#[test]
+fn long_texts_are_judged_alike_in_pieces(rt: HostRuntime) -> Result<(), Fail> {
+    for line in LONG.split('\n') {
+        assert!(rt; is_alike_throughout(rt.alloc(), line)?, "{line}");
+    }
+    Ok(())
+}
+
+#[test]
+fn short_texts_are_judged_alike_in_pieces(rt: HostRuntime) -> Result<(), Fail> {
+    for line in SHORT.split('\n') {
+        assert!(rt; is_short_alike(rt.alloc(), line)?, "{line}");
+    }
+    Ok(())
+}
+
+#[test]
+fn ignored_bytes_are_judged_alike_in_pieces(rt: HostRuntime) -> Result<(), Fail> {
+    for line in SHORT.split('\n') {
+        assert!(rt; is_alike_ignoring(rt.alloc(), line)?, "{line}");
+    }
+    Ok(())
+}
