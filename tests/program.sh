@@ -80,13 +80,17 @@ names+='BASE64URL_NOPAD\n'
 check 'lists the names' 0 "$names" '' 4G list
 check 'a canonical encoding' 0 'true\n' '' 4G canonical BASE32_NOPAD
 check 'an encoding that is not canonical' 0 'false\n' '' 4G canonical BASE64
+check 'decodes base64 without padding' 0 '\x00\x00\x00' '' AAAA decode BASE64_NOPAD
 check 'decodes lines of base64' 0 foobar '' 'Zm9v\r\nYmFy\r\n' decode BASE64_MIME
 
 check 'an invalid symbol' 1 '' 'basecode: invalid symbol at 1' 4G decode HEXLOWER
 check 'an invalid length' 1 '' 'basecode: invalid length at 2' 4G4 decode HEXLOWER
 check 'an upper case symbol' 1 '' 'basecode: invalid symbol at 0' DE decode HEXLOWER
-check 'a line feed' 1 '' 'basecode: invalid length at 4' '6869\n' decode HEXLOWER
-check 'a fault behind sound groups' 1 '' 'basecode: invalid symbol at 7' 48656c6g decode HEXLOWER
+check 'a line feed' 1 hi 'basecode: invalid length at 4' '6869\n' decode HEXLOWER
+check 'a fault behind sound groups' 1 Hel 'basecode: invalid symbol at 7' 48656c6g decode HEXLOWER
+zeros='\x00\x00\x00'
+check 'a symbol too many' 1 "$zeros" 'basecode: invalid length at 4' AAAAA decode BASE64_NOPAD
+check 'a byte behind a group' 1 "$zeros" 'basecode: invalid length at 4' 'AAAA!' decode BASE64
 
 check 'an unknown name' 2 '' 'basecode: unknown encoding: NOPE' 4G decode NOPE
 check 'a name in lower case' 2 '' 'basecode: unknown encoding: hexlower' 4G encode hexlower
@@ -195,18 +199,25 @@ status=$?
 count 'decodes 128 MiB' is_run 0 '' ''
 count '64 MiB come back' cmp input back
 
-# Where memory runs out, nothing is written. Encoding takes none.
+# What stands before a fault is written, however long.
+{ cat text; printf 4G; } | { "$program" decode HEXLOWER >back 2>line; echo $? >status; }
+status=$(cat status)
+: >output
+count 'a fault behind 128 MiB' is_run 1 '' 'basecode: invalid symbol at 134217729'
+count 'and 64 MiB before it' cmp input back
+
+# Neither encoding nor decoding takes memory.
 if (ulimit -v 98304 && "$program" decode HEXLOWER </dev/null >output 2>line); then
-    (ulimit -v 98304 && "$program" decode HEXLOWER <text >output 2>line)
-    status=$?
-    count 'out of memory' is_run 4 '' 'basecode: out of memory'
-    (ulimit -v 98304 && "$program" encode HEXLOWER <input >again 2>line)
-    status=$?
-    : >output
-    count 'encodes 64 MiB in little memory' is_run 0 '' ''
-    count 'and the text is the same' cmp text again
+    for verb in encode decode; do
+        if [ "$verb" = encode ]; then given=input wanted=text; else given=text wanted=input; fi
+        (ulimit -v 98304 && "$program" "$verb" HEXLOWER <"$given" >again 2>line)
+        status=$?
+        : >output
+        count "$verb of a long input in little memory" is_run 0 '' ''
+        count "the whole output of $verb" cmp "$wanted" again
+    done
 else
-    skip 'out of memory: no limit on memory here'
+    skip 'little memory: no limit on memory here'
 fi
 
 echo "$passed passed, $failed failed"

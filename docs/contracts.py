@@ -1,0 +1,341 @@
+#!/usr/bin/env python3
+"""Makes docs/CONTRACTS.md from the sources: each public call with its clauses.
+
+usage: docs/contracts.py           writes the file anew
+       docs/contracts.py --check   writes nothing; status 1 where the file isn't what would be
+                                   written, or a clause has no words
+
+The words on a clause are written in docs/CONTRACTS.md itself, by hand, and are kept as long as the
+clause reads the same, and the definitions that are shown with it. A new clause has the words of one
+that reads the same at another call. A clause that is one name of specs/, as those of the laws are,
+has the words of the comment above that definition. What stands above the first call of a crate is
+kept, and so is the order of the calls.
+"""
+import re
+import sys
+import textwrap
+from pathlib import Path
+
+TOP = Path(__file__).resolve().parent.parent
+PAGE = TOP / "docs/CONTRACTS.md"
+MISSING = "(no words yet)"
+COLUMNS = 110
+
+# The functions of these modules are told together.
+TOGETHER = {"predefined": "The predefined encodings"}
+
+# The definitions of these crates are shown with the first call whose clauses name them; those of
+# data_encoding are in docs/DEFINITIONS.md.
+SHOWN = {"encoding_stream", "basecode"}
+
+# The first line of a definition.
+DEFINITION = r"(?:abbrev pub|pub record|pub data) (\w+)"
+
+# Items of an `impl` that promise nothing to a caller.
+SILENT = {"laws", "is_infallible"}
+
+
+class Call:
+    """A public call, or several that are told together."""
+
+    def __init__(self, title, summary, block):
+        self.title = title
+        self.summary = summary
+        self.block = block
+        # The definitions that its file imports: crate, module and name of each.
+        self.imports = set()
+
+
+def indent_of(line):
+    return len(line) - len(line.lstrip())
+
+
+def is_end(line, indent, in_contract):
+    """Whether the header of a function ends with this line."""
+    if in_contract:
+        return line in (" " * indent + "{", " " * indent + "{}")
+    return line.endswith(("{", "{}", ";"))
+
+
+def header(lines, start):
+    """The lines of a function up to its body."""
+    indent = indent_of(lines[start])
+    in_contract = False
+    for at in range(start, len(lines)):
+        in_contract = in_contract or bool(re.match(r"\s*(requires|ensures)\b", lines[at]))
+        if is_end(lines[at], indent, in_contract):
+            end = at if in_contract else at + 1
+            return [re.sub(r" \{\}?$", "", line) for line in lines[start:end]]
+    raise ValueError(f"no body: {lines[start]}")
+
+
+def item(lines, start):
+    """The lines of a `ghost NAME = { .. };`."""
+    end = start
+    while not lines[end].endswith("};"):
+        end += 1
+    return lines[start:end + 1]
+
+
+def summary(lines, start):
+    """The first paragraph of the documentation above a line."""
+    at = start
+    while at and re.match(r"\s*(///|#\[)", lines[at - 1]):
+        at -= 1
+    texts = [line.strip()[3:].strip() for line in lines[at:start] if line.strip().startswith("///")]
+    return " ".join(texts[:texts.index("")] if "" in texts else texts)
+
+
+def dedented(lines):
+    return textwrap.dedent("\n".join(lines)).split("\n")
+
+
+def clauses(block):
+    """The clauses of a block by their labels, each as one line; those of one label together.
+
+    In an `impl` of several methods, the method's name comes before the label."""
+    found, method = {}, ""
+    text = "\n".join(line for line in block if not line.lstrip().startswith(("//", "--")))
+    several = text.startswith("impl") and len(re.findall(r"^ +fn ", text, re.MULTILINE)) > 1
+    heads = r"^\s*(?:(requires|ensures)\*? ?(\w*)|ghost (\w+) =) \{|^ +fn (\w+)"
+    for head in re.finditer(heads, text, re.MULTILINE):
+        if head[4]:
+            method = f"{head[4]} " if several else ""
+            continue
+        depth, end = 1, head.end()
+        while depth:
+            depth += {"{": 1, "}": -1}.get(text[end], 0)
+            end += 1
+        label = method + (head[2] or head[3] or head[1])
+        one = " ".join(text[head.end():end - 1].split())
+        found[label] = f"{found[label]} ; {one}" if label in found else one
+    return found
+
+
+def public_names(root):
+    """What the root file of a crate hands out: names, and modules."""
+    text = re.sub(r"//.*", "", root.read_text())
+    names = set()
+    for used in re.findall(r"^pub use (.*?);", text, re.MULTILINE | re.DOTALL):
+        names.update(re.findall(r"\w+", used.rpartition("::")[2]))
+    return names, set(re.findall(r"^pub mod (\w+);", text, re.MULTILINE))
+
+
+def of_impl(lines, at, names):
+    """The calls of an `impl`: methods one by one, and those of a trait together."""
+    head = re.match(r"impl(?:<.*?>)? (?:([\w:<>]+) for )?(\w+)", lines[at])
+    end = lines.index("}", at) if not lines[at].endswith("{}") else at
+    if not head or head[2] not in names or head[1] == "Model":
+        return []
+    inside = range(at + 1, end)
+    if not head[1]:
+        return [Call(f"`{head[2]}::{name_of(lines[it])}`", summary(lines, it),
+                     dedented(header(lines, it)))
+                for it in inside if lines[it].startswith("    pub fn ")]
+    block = []
+    for it in inside:
+        ghost = re.match(r"    ghost (\w+) =", lines[it])
+        if ghost and ghost[1] not in SILENT:
+            block += item(lines, it)
+        elif lines[it].startswith("    fn ") and clauses(header(lines, it)):
+            block += header(lines, it)
+    return [Call(f"`{head[1]}` for `{head[2]}`", "", [lines[at]] + block + ["}"])] if block else []
+
+
+def name_of(line):
+    return re.search(r"fn (\w+)", line)[1]
+
+
+def imports_of(text):
+    """The definitions that a file imports: crate, module and name of each."""
+    used = re.findall(r"ghost use Rattle\.(\w+)\.specs\.(\w+)\.\{(.*?)\};", text, re.DOTALL)
+    return {(crate, module, name) for crate, module, all_names in used
+            for name in re.findall(r"[^\s,]+", all_names)}
+
+
+def of_file(path, names, modules):
+    """The public calls of a file."""
+    text = path.read_text()
+    lines = text.split("\n")
+    module = path.stem
+    calls = []
+    for at, line in enumerate(lines):
+        if line.startswith("impl"):
+            calls += of_impl(lines, at, names)
+        elif line.startswith("pub fn ") and (module in modules or name_of(line) in names):
+            prefix = f"{module}::" if module in modules else ""
+            calls.append(Call(f"`{prefix}{name_of(line)}`", summary(lines, at), header(lines, at)))
+    for call in calls:
+        call.imports = imports_of(text)
+    return calls
+
+
+def together(calls, title):
+    """Several calls as one, each of which has its documentation above it."""
+    block = []
+    for call in calls:
+        block += [f"// {line}" for line in textwrap.wrap(call.summary, 96)] + call.block + [""]
+    return [Call(title, "", block[:-1])] if calls else []
+
+
+def of_crate(crate):
+    """The public calls of a crate, in the order of its files."""
+    root = next(path for path in (crate / "src/lib.rt", crate / "src/main.rt") if path.exists())
+    names, modules = public_names(root)
+    names |= {name for module in modules for name in types_of(crate / f"src/{module}.rt")}
+    calls = []
+    gathered = {module: [] for module in TOGETHER}
+    for path in sorted((crate / "src").rglob("*.rt")):
+        parts = path.relative_to(crate / "src").with_suffix("").parts
+        if "tests" in parts:
+            continue
+        target = gathered.get(parts[0], calls)
+        target += of_file(path, names, modules)
+    for module, title in TOGETHER.items():
+        calls += together(gathered[module], title)
+    return calls
+
+
+def types_of(path):
+    return re.findall(r"^pub (?:struct|enum) (\w+)", path.read_text(), re.MULTILINE)
+
+
+def definitions():
+    """Each definition of specs/ by crate, module and name: the comment above it, and its lines."""
+    found = {}
+    for path in sorted(TOP.glob("crates/*/specs/*.antt")):
+        for part in path.read_text().split("\n\n"):
+            lines = part.strip("\n").split("\n")
+            comment = [line for line in lines if line.startswith("--")]
+            rest = [line for line in lines if not line.startswith("--")]
+            head = re.match(DEFINITION, rest[0]) if rest else None
+            if head:
+                found[path.parts[-3], path.stem, head[1]] = comment, rest
+    return found
+
+
+def names_in(text):
+    return set(re.findall(r"(?<![\w.])[A-Za-z]\w*", text))
+
+
+def complete(call, known, told_of):
+    """Adds definitions to the block: those that are whole clauses, of which the words are
+    answered, and those of the crates in `SHOWN` that are named and were not told of before."""
+    words = {}
+    texts = clauses(call.block)
+    named = names_in(" ".join(texts.values()))
+    for key in [key for key in known if key in call.imports and key[2] in named]:
+        comment, lines = known[key]
+        labels = [label for label, text in texts.items() if text == key[2]]
+        if labels:
+            call.block += [""] + lines
+            words.update((label, " ".join(line[2:].strip() for line in comment))
+                         for label in labels if comment)
+        elif key[0] in SHOWN and key not in told_of:
+            call.block += [""] + comment + lines
+            told_of.add(key)
+    return words
+
+
+def claims(block):
+    """The clauses of a block, each with the definitions of the block that it names."""
+    shown = {}
+    for part in "\n".join(block).split("\n\n"):
+        lines = [line for line in part.split("\n") if not line.startswith("--")]
+        head = re.match(DEFINITION, lines[0]) if lines else None
+        if head:
+            shown[head[1]] = " ".join(" ".join(lines).split())
+    return {label: " ; ".join([text] + [shown[it] for it in sorted(names_in(text) & set(shown))])
+            for label, text in clauses(block).items()}
+
+
+class Page:
+    """The page as it is: its words, and the order of its calls."""
+
+    def __init__(self, text):
+        self.text = text
+        self.words = {}
+        self.shared = {}
+        self.places = {}
+        for section in re.split(r"^## ", text, flags=re.MULTILINE)[1:]:
+            for entry in re.split(r"^### ", section, flags=re.MULTILINE)[1:]:
+                self.read(section.split("`")[1], entry)
+
+    def read(self, crate, entry):
+        """Reads what is told of a call."""
+        title = entry.split("\n")[0]
+        self.places[crate, title] = len(self.places)
+        block, _, rest = entry.partition("```rust\n")[2].partition("\n```\n")
+        block = block.split("\n")
+        texts, told = clauses(block), claims(block)
+        for label, words in re.findall(r"^- \*([\w ]+)\*: ((?:.|\n  )*)", rest, re.MULTILINE):
+            words = " ".join(words.split())
+            self.words[crate, title, label] = told.get(label), words
+            if words != MISSING:
+                self.shared.setdefault((label, texts.get(label)), words)
+
+    def words_on(self, crate, title, label, text, claim):
+        """The words on a clause, if it reads as it did, or is new and reads as another."""
+        if (crate, title, label) not in self.words:
+            return self.shared.get((label, text), MISSING)
+        was, words = self.words[crate, title, label]
+        return words if was == claim else MISSING
+
+    def intro(self, crate):
+        """What stands above the first call of a crate."""
+        section = self.text.partition(f"\n## `{crate}`\n")[2]
+        return re.split(r"^##", section, flags=re.MULTILINE)[0].strip("\n")
+
+    def place(self, crate, call):
+        return self.places.get((crate, call.title), len(self.places))
+
+
+def told(crate, call, words, old, missing):
+    """A call as the page tells it."""
+    lines = [f"### {call.title}", ""]
+    if call.summary:
+        lines += textwrap.wrap(call.summary, COLUMNS) + [""]
+    lines += ["```rust"] + call.block + ["```", ""]
+    claimed = claims(call.block)
+    for label, text in clauses(call.block).items():
+        said = words.get(label) or old.words_on(crate, call.title, label, text, claimed[label])
+        if said == MISSING:
+            missing.append(f"{crate}: {call.title}, {label}")
+        lines += textwrap.wrap(f"- *{label}*: {said}", COLUMNS, subsequent_indent="  ",
+                               break_long_words=False, break_on_hyphens=False)
+    return lines + [""]
+
+
+def page(old, missing):
+    """The page anew."""
+    known = definitions()
+    told_of = set()
+    lines = [old.text.partition("\n## ")[0].strip("\n"), ""]
+    for line in (TOP / "crates.txt").read_text().split("\n"):
+        crate = line.split(":")[0].split(" ")[0].strip()
+        if not crate or crate.startswith("#"):
+            continue
+        lines += [f"## `{crate}`", "", old.intro(crate), ""]
+        calls = of_crate(TOP / "crates" / crate)
+        calls.sort(key=lambda call: old.place(crate, call))
+        for call in calls:
+            lines += told(crate, call, complete(call, known, told_of), old, missing)
+    return re.sub(r"\n{3,}", "\n\n", "\n".join(lines)).rstrip("\n") + "\n"
+
+
+def main():
+    old = Page(PAGE.read_text())
+    missing = []
+    new = page(old, missing)
+    for line in missing:
+        print(f"no words: {line}")
+    if "--check" not in sys.argv[1:]:
+        PAGE.write_text(new)
+        return 0
+    if new != old.text:
+        print("docs/CONTRACTS.md is stale: docs/contracts.py writes it anew")
+    return 1 if missing or new != old.text else 0
+
+
+if __name__ == "__main__":
+    sys.exit(main())

@@ -1,0 +1,75 @@
+#!/usr/bin/env bash
+# Fails where docs/CONTRACTS.md is not what docs/contracts.py makes of the sources, and where that
+# would not see a change of them. Other pages have to agree: docs/COMING_FROM.md names no call that
+# is not there, docs/ARCHITECTURE.md names each file, and docs/DEFINITIONS.md each module.
+#
+# The last line is `N passed, M failed`.
+set -u
+cd "$(dirname "$0")/.." || exit 1
+
+room=$(mktemp -d)
+trap 'rm -rf "$room"' EXIT
+passed=0
+failed=0
+
+count() {
+    if [ "$2" = "$3" ]; then
+        passed=$((passed + 1))
+    else
+        failed=$((failed + 1))
+        echo "FAILED: $1"
+    fi
+}
+
+docs/contracts.py --check
+count 'the page is what the sources say' $? 0
+
+# sees NAME FILE OLD NEW: a copy in which OLD, a line of FILE, became NEW is found out.
+sees() {
+    rm -rf "$room/copy"
+    mkdir -p "$room/copy/docs"
+    cp docs/contracts.py docs/CONTRACTS.md "$room/copy/docs"
+    cp crates.txt "$room/copy"
+    find crates -path '*/out' -prune -o \( -path '*/src/*' -o -path '*/specs/*' \) -type f -print0 |
+        xargs -0 cp --parents -t "$room/copy"
+    sed -i "s|$3|$4|" "$room/copy/$2"
+    ! cmp -s "$2" "$room/copy/$2"
+    count "$1: an edit" $? 0
+    "$room/copy/docs/contracts.py" --check >/dev/null
+    count "$1" $? 1
+}
+
+encode=crates/data_encoding/src/encode.rt
+sees 'a clause that changed' $encode '263 \* len }' '264 * len }'
+sees 'a clause that is gone' $encode '^        ensures ascii .*' ''
+sees 'a call that is new' $encode '    fn padded_len' '    pub fn padded_len'
+sees 'a call that is gone' $encode 'pub fn encode_align' 'fn encode_align'
+sees 'a definition that changed' crates/encoding_stream/specs/Encoded.antt \
+    'pub at_end : IsAtEnd read_new' 'pub at_end : IsAtEnd read_old'
+sees 'a law that changed' crates/data_encoding/specs/Laws.antt '→ one ≡ other' '→ other ≡ one'
+
+# Calls of the last column are named as the page names them.
+unknown=$(sed -n '/^## The Rust crate/,$ s/^| .* | //p' docs/COMING_FROM.md |
+    grep -oE '\b[A-Z][A-Za-z]+::[a-z_]+\(' | tr -d '(' | sort -u |
+    while read -r call; do grep -qF "### \`$call\`" docs/CONTRACTS.md || echo "$call"; done)
+count "calls that are unknown: $unknown" "$unknown" ''
+
+# unnamed PAGE FILE..: the files that the page does not name, without their suffix where it names
+# modules so.
+unnamed() {
+    local page=$1 file name
+    shift
+    for file in "$@"; do
+        name=${file##*/}
+        grep -qE "\`($name|${name%.antt})\`" "$page" || echo "$file"
+    done
+}
+
+missing=$(unnamed docs/ARCHITECTURE.md crates/{data_encoding,encoding_stream}/src/*.rt)
+count "files that docs/ARCHITECTURE.md does not name: $missing" "$missing" ''
+missing=$(unnamed docs/DEFINITIONS.md $(ls crates/{data_encoding,encoding_stream}/specs/*.antt |
+    grep -v /Lib.antt))
+count "modules that docs/DEFINITIONS.md does not name: $missing" "$missing" ''
+
+echo "$passed passed, $failed failed"
+[ "$failed" = 0 ]

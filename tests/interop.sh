@@ -1,0 +1,173 @@
+#!/usr/bin/env bash
+# Compares the built program with the tools of docs/COMING_FROM.md, line by line, and with itself in
+# parts, as docs/SCALE.md cuts them.
+#
+# usage: tests/interop.sh [PROGRAM]
+#
+# Prints what failed and what was skipped. The last line is `N passed, M skipped`.
+set -u
+cd "$(dirname "$0")/.." || exit 1
+export LC_ALL=C
+
+program=$(tests/find-program "$@") || exit 1
+tables=$(realpath docs/COMING_FROM.md)
+scale=$(realpath docs/SCALE.md)
+room=$(mktemp -d)
+trap 'rm -rf "$room"' EXIT
+cd "$room" || exit 1
+mkdir bin inputs parts
+ln -s "$program" bin/basecode
+PATH=$room/bin:$PATH
+passed=0
+skipped=0
+failed=0
+
+fail() {
+    failed=$((failed + 1))
+    echo "FAILED: $1"
+}
+
+skip() {
+    skipped=$((skipped + 1))
+    echo "skipped: $1"
+}
+
+# same NAME ONE OTHER: counts a test, which passes where the two files are the same.
+same() {
+    if cmp "$2" "$3" >&2; then passed=$((passed + 1)); else fail "$1"; fi
+}
+
+for size in 0 1 2 3 57 58 10240; do
+    head -c "$size" /dev/urandom >"inputs/$size"
+done
+
+# try_line LINE INPUT OUTPUT: runs a line of a table; it has to end with status 0.
+try_line() {
+    bash -o pipefail -c "$1" <"$2" >"$3" || fail "$1: status $?, of $(basename "$2") bytes"
+}
+
+# encodes THERE HERE: both write the same text of each input, which is kept.
+encodes() {
+    local input
+    for input in inputs/*; do
+        try_line "$1" "$input" "text.$(basename "$input")"
+        try_line "$2" "$input" output
+        same "$2, of $(basename "$input") bytes" "text.$(basename "$input")" output
+    done
+}
+
+# decodes THERE HERE: both give each input again from the text that is kept.
+decodes() {
+    local input text
+    for input in inputs/*; do
+        text=text.$(basename "$input")
+        # What is to be passed over is put into the text.
+        case $1 in *-di) sed 's/./& !/3' "$text" >dirty && text=dirty ;; esac
+        try_line "$1" "$text" output
+        same "$1, of $(basename "$input") bytes" "$input" output
+        try_line "$2" "$text" output
+        same "$2, of the text of $(basename "$input") bytes" "$input" output
+    done
+}
+
+# rows: the rows of the tables that have commands, as `there` and `here` with a tab between.
+rows() {
+    sed -n 's/^| `\(.*\)` | `\(.*basecode .*\)` |$/\1\t\2/p' "$tables" | sed 's/\\|/|/g'
+}
+
+while IFS=$'\t' read -r there here; do
+    tool=${there%% *}
+    if ! command -v "$tool" >/dev/null; then
+        skip "$there: no $tool"
+    elif [[ $here == *'basecode decode '* ]]; then
+        decodes "$there" "$here"
+    else
+        encodes "$there" "$here"
+    fi
+done < <(rows)
+[ "$(rows | wc -l)" -ge 30 ] || fail 'the tables have fewer than 30 lines'
+
+# statuses ROW ENCODE DECODE FAULTY WRONG: the commands end as the row of the table says.
+statuses() {
+    local command given='|'
+    if ! command -v "${2%% *}" >/dev/null || [ ! -c /dev/full ]; then
+        skip "the statuses of $1"
+        return
+    fi
+    for command in "printf Hello | $2" "printf '$4' | $3" "$5" "$2 <." \
+        "printf Hello | $2 >/dev/full"; do
+        bash -c "$command" >output 2>line
+        given+=" $? |"
+    done
+    echo "| $1 $given" >output
+    grep -F "| $1 |" "$tables" | tail -n 1 >wanted
+    same "the statuses of $1" output wanted
+}
+
+statuses '`basecode`' 'basecode encode BASE64' 'basecode decode BASE64' 'Zg=!' 'basecode encode'
+statuses '`base64` and the other GNU coreutils' base64 'base64 -d' 'Zg=!' 'base64 --nope'
+statuses '`openssl base64`' 'openssl base64' 'openssl base64 -d -A' 'Zg=!' 'openssl base64 -nope'
+statuses '`xxd`' 'xxd -p' 'xxd -r -p' 4G 'xxd -Z'
+
+# block NUMBER: a block of docs/SCALE.md, from 1.
+block() {
+    awk -v number="$1" '
+        /^```/ { if (inside) inside = 0; else if (/^```sh$/) inside = ++count; next }
+        inside == number' "$scale"
+}
+
+# in_parts NUMBER MADE WANTED: runs the block, which makes a file that is wanted so.
+in_parts() {
+    (cd parts && bash -e -c "$(block "$1")") || fail "the block $1: status $?"
+    same "the block $1" "parts/$2" "$3"
+}
+
+[ "$(grep -c '^```sh$' "$scale")" = 4 ] || fail 'docs/SCALE.md has other than 4 blocks'
+head -c 67108864 /dev/urandom >parts/input
+basecode encode BASE64 <parts/input >whole
+in_parts 1 text whole
+in_parts 4 back parts/input
+if command -v parallel >/dev/null; then
+    rm parts/text
+    in_parts 2 text whole
+else
+    skip 'the block 2: no parallel'
+fi
+tail -c +8360001 whole | head -c 8360000 >second
+in_parts 3 second second
+
+# A fault of a part is that of the whole, so much further on.
+printf '!' | dd of=parts/text bs=1 seek=10000000 conv=notrunc status=none
+basecode decode BASE64 <parts/text 2>&1 >back | tail -n 1 >line
+echo 'basecode: invalid symbol at 10000000' >wanted
+same 'a fault of the whole' line wanted
+(cd parts && bash -e -c "$(block 4)") 2>&1 | tail -n 1 >line
+[ "${PIPESTATUS[0]}" = 123 ] || fail "a fault of a part: status ${PIPESTATUS[0]}"
+echo 'basecode: invalid symbol at 2200000' >wanted
+same 'a fault of a part' line wanted
+
+# parts_of LENGTH VERB NAME: a file in parts of that length, converted one by one.
+parts_of() {
+    rm -f cut.*
+    split -b "$1" - cut.
+    for part in cut.*; do
+        basecode "$2" "$3" <"$part"
+    done
+}
+
+# Every encoding in parts of these lengths, and the text in parts where it may be cut so.
+head -c 13000000 parts/input >input
+for name in $(basecode list); do
+    basecode encode "$name" <input >whole
+    parts_of 6270000 encode "$name" <input >joined
+    same "$name in parts" whole joined
+    case $name in HEX* | BASE32 | BASE32HEX | BASE64 | BASE64URL | BASE64_MIME*)
+        parts_of 7800000 decode "$name" <whole >joined
+        same "the text of $name in parts" input joined
+        ;;
+    esac
+done
+
+if [ "$failed" != 0 ]; then echo "$failed failed"; fi
+echo "$passed passed, $skipped skipped"
+[ "$failed" = 0 ]
