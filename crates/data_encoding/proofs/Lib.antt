@@ -7,4 +7,4 @@ pub mod order
 pub mod grammar
 pub mod decoding
 pub mod canonicity
-mod Vectors
+mod vectors

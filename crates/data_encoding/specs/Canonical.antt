@@ -23,7 +23,7 @@ has_one_text base =
     base.checks_trailing_bits && not (is_padded base && base.concatenates)
     && not (ignores_some base) && (length (translated_bytes base) == 0)
 
--- Where there is no such cause, a text that means data is the text of the data.
+-- Where data has one text only, each text that means data is the text of the data.
 abbrev pub Canonical : Type 0
 Canonical =
     (base : Base) → IsSpecified base → has_one_text base ≡ true

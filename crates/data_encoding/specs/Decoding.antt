@@ -1,13 +1,14 @@
 -- What the parts of a decoding promise: a run of whole groups, the next group, and its judgement.
 use Rattle.std.specs.Prelude.{◌≡◌, ℕ, ◌+◌, ◌-◌, ◌*◌, ◌/◌, ◌<◌, ◌≤◌, ◌⊎◌, ◌&&◌, not, nat_lt, true, false, List, length, map, take, drop, flat_map, if◌then◌else◌, Some, None, is_some, slice_index}
 use Rattle.data_encoding.specs.declared.error.DecodePartial.{DecodePartial}
+use Rattle.data_encoding.specs.declared.decode.Stop.{Stop}
 use Rattle.data_encoding.specs.declared.group.GroupFault.{GroupFault}
 use Rattle.data_encoding.specs.Base.{Base, meaning, is_symbol, is_ignored, is_padded, group_bytes, group_symbols}
 use Rattle.data_encoding.specs.Bits.{runs}
 use Rattle.data_encoding.specs.Grammar.{Positioned, Means, kept, positioned, is_final}
 use Rattle.data_encoding.specs.Lengths.{greatest_valid_length, is_valid_count}
 use Rattle.data_encoding.specs.Fault.{bytes_of_group, count_before_padding, fault_of, group_fault, position_of, sound_bytes, symbols_fault}
-use Rattle.data_encoding.specs.Partial.{is_length_fault}
+use Rattle.data_encoding.specs.Partial.{StopsAt, is_length_fault}
 
 -- So many whole groups in a row, from the front of a part of a text, are symbols alone; their bytes
 -- stand at the front of the output, which keeps its length.
@@ -89,6 +90,29 @@ pub record IsStop (base : Base) (rest : List ℕ) (read written : ℕ) (fault : 
       ⊎ ((is_length_fault fault.kind ≡ true) × (partial.read ≡ partial.error.position)
       × (more : ℕ) × (partial.written ≡ written + more)
       × (written + more ≤ length new) × IsLastRun base rest more (drop written new))
+
+-- There is room for the front of valid length, where it is no more than a group.
+abbrev pub HasRoom : Base → List ℕ → ℕ → Type 0
+HasRoom base rest room =
+    length (valid_front base rest) ≤ group_symbols base.width
+    → base.width * length (valid_front base rest) / 8 ≤ room
+
+abbrev pub fault_of_stop : Stop → GroupFault
+fault_of_stop stop = record { index = stop.index; kind = stop.kind }
+
+-- A decoding stopped before a faulty group: what is told of that group says how the decoding of the
+-- text stopped.
+pub record HasStopped (base : Base) (text output : List ℕ) (stop : Stop) : Type 0 where
+  pub within : stop.read ≤ length text
+  pub fits : stop.written ≤ length output
+  pub inside : stop.index < length (kept base (drop stop.read text))
+  pub room : is_length_fault stop.kind ≡ true
+      → HasRoom base (drop stop.read text) (length output - stop.written)
+  pub stops : (new : List ℕ) (partial : DecodePartial) → stop.written ≤ length new
+      → take stop.written new ≡ take stop.written output
+      → IsStop base (drop stop.read text) stop.read stop.written (fault_of_stop stop)
+      new partial
+      → StopsAt base text new partial
 
 -- A text without a fault: the bytes that were written are those that it means.
 pub record IsDecoded (base : Base) (text : List ℕ) (written : ℕ) (output : List ℕ) : Type 0 where

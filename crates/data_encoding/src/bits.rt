@@ -251,7 +251,7 @@ pub(crate) fn decode_symbols<const WIDTH: usize, const BYTES: usize, const SYMBO
 }
 
 /// The position of the first byte that is no symbol, or the length.
-#[cold]
+#[inline(always)]
 pub(crate) fn symbol_position(values: &[u8; 256], input: &[u8]) -> usize
     ensures before { (k : ℕ) → k < result
         → slice_index values.now (slice_index input.now k) < 128 }

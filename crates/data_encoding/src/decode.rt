@@ -1,16 +1,15 @@
 //! From text to data.
 
-ghost use Rattle.std.specs.Prelude.{◌≡◌, ℕ, List, false, ◌+◌, ◌-◌, ◌*◌, ◌/◌, ◌<◌, ◌≤◌, ◌⊎◌, length, take, drop, None, Some, Ok, Err, IfOk, IfErr, IfSome, IsOk, IsOkAnd};
+ghost use Rattle.std.specs.Prelude.{◌≡◌, ℕ, List, true, false, ◌+◌, ◌-◌, ◌*◌, ◌/◌, ◌<◌, ◌≤◌, ◌⊎◌, length, take, drop, None, Some, Ok, Err, IfOk, IfErr, IfSome, IsOk, IsOkAnd, IsTrue};
 ghost use Rattle.data_encoding.specs.Base.{IsWidth};
-ghost use Rattle.data_encoding.specs.Decoding.{HasNoLastRun, IsDecoded, IsGathered, IsLastRun, IsStop, valid_front};
+ghost use Rattle.data_encoding.specs.Decoding.{HasNoLastRun, HasRoom, HasStopped, IsDecoded, IsGathered, IsLastRun, IsRun, IsStop, fault_of_stop};
 ghost use Rattle.data_encoding.specs.Fault.{IsRefusal, fault_of, position_of, sound_bytes};
 ghost use Rattle.data_encoding.specs.Grammar.{Means, kept};
-ghost use Rattle.data_encoding.specs.Fields.{IsSpecified};
-ghost use Rattle.data_encoding.specs.Lengths.{decoded_len, greatest_valid_length, is_valid_length, most_bytes};
-ghost use Rattle.data_encoding.specs.Partial.{StopsAt, partial_of};
+ghost use Rattle.data_encoding.specs.Lengths.{decoded_len};
+ghost use Rattle.data_encoding.specs.Partial.{is_length_fault, partial_of};
 ghost use Rattle.data_encoding.specs.Tables.{IsGroup};
 
-use crate::encoding::{Encoding, group_bytes, group_symbols};
+use crate::encoding::Encoding;
 use crate::error::{DecodeError, DecodeFault, DecodeKind, DecodePartial};
 use crate::group::GroupFault;
 use crate::memory::zeros;
@@ -22,67 +21,31 @@ pub const DECODE_LIMIT: usize = usize::MAX / 8;
 
 const _: () = prove!(DECODE_LIMIT == 2305843009213693951);
 
+// Where a decoding stopped: how far it had read and written, and what is wrong with which byte of
+// the next group. Single fields go by registers.
+#[derive(Clone, Copy, Drop)]
+pub(crate) struct Stop {
+    read: usize,
+    written: usize,
+    index: usize,
+    kind: DecodeKind,
+}
+
+impl Stop {
+    #[inline(always)]
+    fn new(read: usize, written: usize, index: usize, kind: DecodeKind) -> Stop
+        ensures { result ≡ record { read = read; written = written; index = index; kind = kind } }
+    {
+        Stop {
+            read,
+            written,
+            index,
+            kind,
+        }
+    }
+}
+
 impl Encoding {
-    /// The greatest number of bytes that a text of `len` bytes, at most `DECODE_LIMIT`, may mean.
-    ///
-    /// Where no byte is ignored, a length that no text has is a `Length` fault, at the greatest
-    /// length below it that a text may have: where texts are padded, that is a number of whole
-    /// groups.
-    pub fn decode_len(&self, len: usize) -> Result<usize, DecodeError>
-        requires limit { len ≤ DECODE_LIMIT }
-        ensures value { result ≡ decoded_len self.now len }
-        ensures position { IfErr result (λ error. error.position < len) }
-        ensures most { (text bytes : List ℕ) → length text ≡ len → Means self.now text bytes
-            → IsOkAnd result (λ most. length bytes ≤ most) }
-        ensures base { IsSpecified self.now }
-    {
-        if !self.ignores && !self.is_valid_length(len) {
-            return Err(DecodeError {
-                position: self.greatest_valid_length(len),
-                kind: DecodeKind::Length,
-            });
-        }
-        Ok(self.most_bytes(len))
-    }
-
-    // Whether a text of so many bytes, none of them ignored, may mean something.
-    fn is_valid_length(&self, len: usize) -> bool
-        requires limit { len ≤ DECODE_LIMIT }
-        ensures { result ≡ is_valid_length self.now len }
-    {
-        if self.padding.is_some() {
-            return len % group_symbols(self.width) as usize == 0;
-        }
-        let width = self.width as usize;
-        width * len % 8 < width
-    }
-
-    // The greatest length of such a text that is not longer.
-    fn greatest_valid_length(&self, len: usize) -> usize
-        requires limit { len ≤ DECODE_LIMIT }
-        ensures value { result ≡ greatest_valid_length self.now len }
-        ensures most { result ≤ len }
-        ensures less { is_valid_length self.now len ≡ false → result < len }
-    {
-        if self.padding.is_some() {
-            let symbols = group_symbols(self.width) as usize;
-            return len / symbols * symbols;
-        }
-        let width = self.width as usize;
-        len - width * len % 8 / width
-    }
-
-    // As many bytes as a text of this length may mean.
-    fn most_bytes(&self, len: usize) -> usize
-        requires limit { len ≤ DECODE_LIMIT }
-        ensures { result ≡ most_bytes self.now len }
-    {
-        if self.padding.is_some() {
-            return len / group_symbols(self.width) as usize * group_bytes(self.width) as usize;
-        }
-        self.width as usize * len / 8
-    }
-
     /// Writes the data that the text means to the front of `output`, which has exactly
     /// `decode_len` of the text's length, and answers how many bytes they are. The text has at most
     /// `DECODE_LIMIT` bytes.
@@ -109,57 +72,66 @@ impl Encoding {
             (λ most. partial.written ≤ most)) }
         ensures len { length output.new ≡ length output.old }
     {
-        self.decode_by_width(input, output)
+        let mut stop = Stop::new(0, 0, 0, DecodeKind::Length);
+        if self.decode_by_width(input, output, &mut stop) {
+            return Ok(stop.written);
+        }
+        Err(self.stopped(input, output, stop))
     }
 
     // With the width as a constant, and the sizes of a group.
     #[inline(always)]
-    fn decode_by_width(&self, input: &[u8], output: &mut [u8]) -> Result<usize, DecodePartial>
+    fn decode_by_width(&self, input: &[u8], output: &mut [u8], stop: &mut Stop) -> bool
         requires limit { length input.now ≤ DECODE_LIMIT }
         requires exact { decoded_len self.now (length input.now) ≡ Ok (length output.old) }
-        ensures decoded { IfOk result (λ n. IsDecoded self.now input.now n output.new) }
-        ensures stopped { IfErr result (StopsAt self.now input.now output.new) }
+        ensures decoded { IsTrue result
+            → IsDecoded self.now input.now stop.new.written output.new }
+        ensures stopped { result ≡ false → HasStopped self.now input.now output.new stop.new }
         ensures width { IsWidth self.now.width }
     {
         match self.width {
-            1 => self.decode_groups::<1, 1, 8>(input, output),
-            2 => self.decode_groups::<2, 1, 4>(input, output),
-            3 => self.decode_groups::<3, 3, 8>(input, output),
-            4 => self.decode_groups::<4, 1, 2>(input, output),
-            5 => self.decode_groups::<5, 5, 8>(input, output),
-            _ => self.decode_groups::<6, 3, 4>(input, output),
+            1 => self.decode_groups::<1, 1, 8>(input, output, stop),
+            2 => self.decode_groups::<2, 1, 4>(input, output, stop),
+            3 => self.decode_groups::<3, 3, 8>(input, output, stop),
+            4 => self.decode_groups::<4, 1, 2>(input, output, stop),
+            5 => self.decode_groups::<5, 5, 8>(input, output, stop),
+            _ => self.decode_groups::<6, 3, 4>(input, output, stop),
         }
     }
 
-    // Run after run of whole groups of symbols, each followed by a group that is judged alone.
+    // Run after run of whole groups of symbols, each followed by a group that is judged alone:
+    // whether none is faulty, and how far they go. What is told of a fault is made by the caller,
+    // since a result with room for it makes short texts slower.
     #[inline(always)]
     fn decode_groups<const WIDTH: usize, const BYTES: usize, const SYMBOLS: usize>(
         &self,
         input: &[u8],
         output: &mut [u8],
-    ) -> Result<usize, DecodePartial>
+        stop: &mut Stop,
+    ) -> bool
         requires group { IsGroup WIDTH BYTES SYMBOLS }
         requires width { self.now.width ≡ WIDTH }
         requires limit { length input.now ≤ DECODE_LIMIT }
         requires exact { decoded_len self.now (length input.now) ≡ Ok (length output.old) }
-        ensures decoded { IfOk result (λ n. IsDecoded self.now input.now n output.new) }
-        ensures stopped { IfErr result (StopsAt self.now input.now output.new) }
+        ensures decoded { IsTrue result
+            → IsDecoded self.now input.now stop.new.written output.new }
+        ensures stopped { result ≡ false → HasStopped self.now input.now output.new stop.new }
     {
         let mut read = 0;
         let mut written = 0;
         while read < input.len() {
-            let count = decode_run::<WIDTH, BYTES, SYMBOLS>(
-                &self.values,
-                self.order,
-                &input[read..],
-                &mut output[written..],
-            );
+            let count = self.run::<WIDTH, BYTES, SYMBOLS>(&input[read..], &mut output[written..]);
             read += count * SYMBOLS;
             written += count * BYTES;
+            if read == input.len() {
+                stop.written = written;
+                return true;
+            }
             let mut room = [0; 8];
             let group = self.next_group::<SYMBOLS>(&input[read..], &mut room);
             if group.bytes.is_empty() {
-                return Ok(written);
+                stop.written = written;
+                return true;
             }
             let rest = &mut output[written..];
             match self.decode_group::<WIDTH, BYTES, SYMBOLS>(group.bytes, rest) {
@@ -167,110 +139,108 @@ impl Encoding {
                     read += group.span;
                     written += WIDTH * count / 8;
                     if count < group.bytes.len() && !self.concatenates {
-                        return self.ended::<SYMBOLS>(input, read, written);
+                        if self.is_end::<SYMBOLS>(&input[read..]) {
+                            stop.written = written;
+                            return true;
+                        }
+                        *stop = Stop::new(read, written, 0, DecodeKind::Padding);
+                        return false;
                     }
                 }
                 Err(fault) => {
-                    return Err(self.stopped::<WIDTH, BYTES, SYMBOLS>(
-                        input, read, output, written, fault,
-                    ));
+                    *stop = Stop::new(read, written, fault.index, fault.kind);
+                    return false;
                 }
             }
         }
-        Ok(written)
+        stop.written = written;
+        true
     }
 
-    // After a group that no other may follow: the text ends there, or the next group is a fault.
-    #[inline(never)]
-    fn ended<const SYMBOLS: usize>(
+    // The next run, by the tables of the encoding.
+    #[inline(always)]
+    fn run<const WIDTH: usize, const BYTES: usize, const SYMBOLS: usize>(
         &self,
         input: &[u8],
-        read: usize,
-        written: usize,
-    ) -> Result<usize, DecodePartial>
+        output: &mut [u8],
+    ) -> usize
+        requires group { IsGroup WIDTH BYTES SYMBOLS }
+        requires width { self.now.width ≡ WIDTH }
+        requires room { length input.now / SYMBOLS * BYTES ≤ length output.old }
+        ensures run { IsRun self.now input.now result output.old output.new }
+        ensures within { result * SYMBOLS ≤ length input.now }
+    {
+        decode_run::<WIDTH, BYTES, SYMBOLS>(&self.values, self.order, input, output)
+    }
+
+    // Whether no byte is left that is not ignored.
+    #[inline(never)]
+    fn is_end<const SYMBOLS: usize>(&self, rest: &[u8]) -> bool
         requires some { 0 < SYMBOLS }
         requires few { SYMBOLS ≤ 8 }
-        requires limit { length input.now ≤ DECODE_LIMIT }
-        requires within { read ≤ length input.now }
-        ensures end { IfOk result (λ n. (n ≡ written)
-            × (length (kept self.now (drop read input.now)) ≡ 0)) }
-        ensures fault { IfErr result (λ partial.
-            ((group : List ℕ) × (span : ℕ) × (0 < length group)
-            × IsGathered self.now SYMBOLS (drop read input.now) group span)
-            × (partial ≡ record {
-              read = read;
-              written = written;
-              error = record {
-                position = read + position_of (kept self.now (drop read input.now)) 0;
-                kind = DecodeKind.Padding;
-              };
-            })) }
+        ensures end { IsTrue result → length (kept self.now rest.now) ≡ 0 }
+        ensures more { result ≡ false → (group : List ℕ) × (span : ℕ) × (0 < length group)
+            × IsGathered self.now SYMBOLS rest.now group span }
     {
-        let rest = &input[read..];
         let mut room = [0; 8];
-        if self.next_group::<SYMBOLS>(rest, &mut room).bytes.is_empty() {
-            return Ok(written);
-        }
-        Err(DecodePartial {
-            read,
-            written,
-            error: DecodeError {
-                position: read + self.kept_position(rest, 0),
-                kind: DecodeKind::Padding,
-            },
-        })
+        self.next_group::<SYMBOLS>(rest, &mut room).bytes.is_empty()
     }
 
     // What is told of a faulty group: only after a group that is too short may more be read.
-    #[cold]
-    fn stopped<const WIDTH: usize, const BYTES: usize, const SYMBOLS: usize>(
-        &self,
-        input: &[u8],
-        read: usize,
-        output: &mut [u8],
-        written: usize,
-        fault: GroupFault,
-    ) -> DecodePartial
-        requires group { IsGroup WIDTH BYTES SYMBOLS }
-        requires width { self.now.width ≡ WIDTH }
+    #[inline(always)]
+    fn stopped(&self, input: &[u8], output: &mut [u8], stop: Stop) -> DecodePartial
         requires limit { length input.now ≤ DECODE_LIMIT }
-        requires within { read ≤ length input.now }
-        requires fits { written ≤ length output.old }
-        requires inside { fault.index < length (kept self.now (drop read input.now)) }
-        requires room { length (valid_front self.now (drop read input.now)) ≤ SYMBOLS
-            → WIDTH * length (valid_front self.now (drop read input.now)) / 8
-            ≤ length output.old - written }
-        ensures stop { IsStop self.now (drop read input.now) read written fault output.new result }
-        ensures kept { take written output.new ≡ take written output.old }
+        requires within { stop.read ≤ length input.now }
+        requires fits { stop.written ≤ length output.old }
+        requires inside { stop.index < length (kept self.now (drop stop.read input.now)) }
+        requires room { is_length_fault stop.kind ≡ true
+            → HasRoom self.now (drop stop.read input.now) (length output.old - stop.written) }
+        ensures stop { IsStop self.now (drop stop.read input.now) stop.read stop.written
+            (fault_of_stop stop) output.new result }
+        ensures kept { take stop.written output.new ≡ take stop.written output.old }
     {
-        let rest = &input[read..];
-        let error = DecodeError {
-            position: read + self.kept_position(rest, fault.index),
-            kind: fault.kind,
-        };
-        if !matches!(fault.kind, DecodeKind::Length) {
-            return DecodePartial {
-                read,
-                written,
-                error,
-            };
+        let rest = &input[stop.read..];
+        let mut read = stop.read;
+        let mut written = stop.written;
+        let position = read + self.kept_position(rest, stop.index);
+        if matches!(stop.kind, DecodeKind::Length) {
+            if let Some(count) = self.decode_front(rest, &mut output[written..]) {
+                read = position;
+                written += count;
+            }
         }
-        match self.decode_last_run::<WIDTH, BYTES, SYMBOLS>(rest, &mut output[written..]) {
-            Some(count) => DecodePartial {
-                read: error.position,
-                written: written + count,
-                error,
-            },
-            None => DecodePartial {
-                read,
-                written,
-                error,
+        DecodePartial {
+            read,
+            written,
+            error: DecodeError {
+                position,
+                kind: stop.kind,
             },
         }
     }
 
     // Decodes the greatest front of valid length of the rest of a text as it stands, and answers
     // how many bytes it means; nothing where it has a fault.
+    #[cold]
+    #[inline(never)]
+    fn decode_front(&self, rest: &[u8], output: &mut [u8]) -> Option<usize>
+        requires limit { length rest.now ≤ DECODE_LIMIT }
+        requires room { HasRoom self.now rest.now (length output.old) }
+        ensures run { IfSome result (λ written. (written ≤ length output.new)
+            × IsLastRun self.now rest.now written output.new) }
+        ensures none { result ≡ None → HasNoLastRun self.now rest.now }
+    {
+        match self.width {
+            1 => self.decode_last_run::<1, 1, 8>(rest, output),
+            2 => self.decode_last_run::<2, 1, 4>(rest, output),
+            3 => self.decode_last_run::<3, 3, 8>(rest, output),
+            4 => self.decode_last_run::<4, 1, 2>(rest, output),
+            5 => self.decode_last_run::<5, 5, 8>(rest, output),
+            _ => self.decode_last_run::<6, 3, 4>(rest, output),
+        }
+    }
+
+    // With the width as a constant.
     fn decode_last_run<const WIDTH: usize, const BYTES: usize, const SYMBOLS: usize>(
         &self,
         rest: &[u8],
@@ -279,8 +249,7 @@ impl Encoding {
         requires group { IsGroup WIDTH BYTES SYMBOLS }
         requires width { self.now.width ≡ WIDTH }
         requires limit { length rest.now ≤ DECODE_LIMIT }
-        requires room { length (valid_front self.now rest.now) ≤ SYMBOLS
-            → WIDTH * length (valid_front self.now rest.now) / 8 ≤ length output.old }
+        requires room { HasRoom self.now rest.now (length output.old) }
         ensures run { IfSome result (λ written. (written ≤ length output.new)
             × IsLastRun self.now rest.now written output.new) }
         ensures none { result ≡ None → HasNoLastRun self.now rest.now }

@@ -55,6 +55,7 @@ impl Encoding {
 
     /// Where a byte stands, by its index among those that are not ignored; the length, where there
     /// are no more than so many.
+    #[inline(never)]
     pub(crate) fn kept_position(&self, part: &[u8], index: usize) -> usize
         ensures found { index < length (kept self.now part.now)
             → result ≡ position_of (kept self.now part.now) index }

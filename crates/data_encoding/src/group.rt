@@ -44,6 +44,13 @@ impl Encoding {
             Err(fault) => return Err(fault),
         };
         let symbols = &group[..count];
+        // A run that stopped at a whole group has seen a byte that is no symbol.
+        if count == SYMBOLS {
+            let index = symbol_position(&self.values, symbols);
+            if index < count {
+                return Err(faulty(index, DecodeKind::Symbol));
+            }
+        }
         let room = &mut output[..WIDTH * count / 8];
         if !decode_symbols::<WIDTH, BYTES, SYMBOLS>(&self.values, self.order, symbols, room) {
             return Err(faulty(symbol_position(&self.values, symbols), DecodeKind::Symbol));
@@ -87,7 +94,6 @@ impl Encoding {
     }
 }
 
-#[cold]
 fn faulty(index: usize, kind: DecodeKind) -> GroupFault
     ensures { result ≡ record { index = index; kind = kind } }
 {

@@ -20,6 +20,7 @@ mod group;
 mod lanes;
 pub mod laws;
 mod layout;
+mod length;
 mod meanings;
 mod memory;
 mod plain;

@@ -1,8 +1,8 @@
 -- A decoding under way: what a run, a group and the end do to it.
-use Rattle.std.proofs.Common.{◌≡◌, ℕ, ◌+◌, ◌-◌, ◌*◌, ◌/◌, ◌%◌, ◌<◌, ◌≤◌, Bool, true, false, not, nat_lt, ◌&&◌, [], List, ◌++◌, length, take, drop, Result, Ok, Err, IfOk, IfErr, IsOk, IsOkAnd, Some, None, refl, sym, ap, ◌∙◌, subst, arith, length-append, length-take-le, ⊎_elim}
+use Rattle.std.proofs.Common.{◌≡◌, ℕ, ◌+◌, ◌-◌, ◌*◌, ◌/◌, ◌%◌, ◌<◌, ◌≤◌, Bool, true, false, not, nat_lt, ◌&&◌, [], List, ◌++◌, length, take, drop, Ok, IsOkAnd, Some, None, refl, sym, ap, ◌∙◌, subst, arith, length-append, length-take-le, ⊎_elim}
 use Rattle.std.proofs.Math.Nat.{mul-le-mul_left, mul-le-mul_right, mul-zero, zero-mod}
 use Rattle.std.proofs.Math.Seq.{take-add, take-append-add}
-use Rattle.std.proofs.lemmas.Bool.{cases_lt, eqb-true}
+use Rattle.std.proofs.lemmas.Bool.{cases_lt, eqb-true, false≢true}
 use Rattle.std.proofs.lemmas.Bool.Decides.{nat_tests}
 use Rattle.std.proofs.lemmas.List.{length-drop, take-append-le, take_all}
 use Rattle.std.proofs.lemmas.Nat.{div-add-mod'}
@@ -11,11 +11,12 @@ use borrow.Rule.Slice.PartMut.{put_mid}
 use Rattle.data_encoding.specs.declared.error.DecodeKind.TheVariants.{Padding as PaddingFault}
 use Rattle.data_encoding.specs.declared.error.DecodeError.{DecodeError}
 use Rattle.data_encoding.specs.declared.error.DecodePartial.{DecodePartial}
+use Rattle.data_encoding.specs.declared.decode.Stop.{Stop}
 use Rattle.data_encoding.specs.declared.group.GroupFault.{GroupFault}
 use Rattle.data_encoding.specs.declared.encoding.Encoding.TheInside.{Inside}
 use Rattle.data_encoding.specs.Encoding.{KeepsRules, base_of_tables}
 use Rattle.data_encoding.specs.Base.{Base, IsWidth, group_bytes, group_symbols, is_padded}
-use Rattle.data_encoding.specs.Decoding.{HasFault, HasNoLastRun, IsDecoded, IsDecodedGroup, IsGathered, IsLastRun, IsRun, IsStop, valid_front}
+use Rattle.data_encoding.specs.Decoding.{HasFault, HasNoLastRun, IsDecoded, IsDecodedGroup, IsGathered, IsLastRun, IsRun, IsStop, HasStopped, fault_of_stop, valid_front}
 use Rattle.data_encoding.specs.Fault.{group_fault, position_of}
 use Rattle.data_encoding.specs.Grammar.{Means, Positioned, kept, positioned}
 use Rattle.data_encoding.specs.Lengths.{decoded_len, greatest_valid_length, length_fault, most_bytes}
@@ -29,7 +30,7 @@ use Rattle.data_encoding.proofs.grammar.GroupLemmas.{GroupMeans-sound, bytes_of_
 use Rattle.data_encoding.proofs.grammar.KeptLemmas.{kept_from, nothing-left}
 use Rattle.data_encoding.proofs.grammar.PositionLemmas.{bytes-positioned_from, length-positioned_from, position_of-positioned_from}
 use Rattle.data_encoding.proofs.lists.WriteLemmas.{length-put_mid}
-use Rattle.data_encoding.proofs.decoding.GatherLemmas.{bytes-next, gathered-few, is-next, next_bytes, none-next, nothing-kept, position-next, within-next}
+use Rattle.data_encoding.proofs.decoding.GatherLemmas.{bytes-next, gathered-few, gathered-some, is-next, next_bytes, none-next, nothing-kept, position-next, within-next}
 use Rattle.data_encoding.proofs.decoding.GreatestLengthLemmas.{greatest-least, greatest-valid}
 use Rattle.data_encoding.proofs.decoding.LastRunLemmas.{last-none, last-sound, last-unsound}
 use Rattle.data_encoding.proofs.decoding.RoomLemmas.{multiples}
@@ -127,6 +128,18 @@ same-partial : (partial : DecodePartial) (read written : ℕ) (error : DecodeErr
     → record { read = read; written = written; error = error } ≡ partial
 same-partial partial read written error h k l =
     λ i. record { read = sym h i; written = sym k i; error = sym l i }
+
+-- a decoding stopped there, whatever stands behind what was written
+stops-same : (base : Base) (text old new : List ℕ) (partial : DecodePartial)
+    → StopsAt base text old partial
+    → take partial.written new ≡ take partial.written old → StopsAt base text new partial
+stops-same base text old new partial stops same =
+    record {
+      is_partial = stops.is_partial;
+      means = subst (Means base (take partial.read text)) (sym same) stops.means;
+      read_before = stops.read_before;
+      within = stops.within;
+    }
 
 module _ (base : Base) (text : List ℕ) (w bytes symbols size : ℕ)
     (s : IsDecoding base text w bytes symbols size) where
@@ -439,6 +452,28 @@ module _ (base : Base) (text : List ℕ) (w bytes symbols size : ℕ)
               stop.error_is) stops)
               stop.how
 
+          pub group-stopped : (fault : GroupFault) → HasFault base group fault → (rest : List ℕ)
+              → length rest ≡ length (take (length output - written) (drop written output))
+              → HasStopped base text (rewritten written output rest)
+              (record { read = read; written = written; index = fault.index; kind = fault.kind })
+          group-stopped fault has rest rest_len =
+              let same = length-same written output rest so_far.fits rest_len in
+              record {
+                within = so_far.within;
+                fits = omega (arith, same, so_far.fits);
+                inside =
+                    gathered-some base (group_symbols base.width) (drop read text) group span
+                    found_here fault.index has.inside;
+                room = λ _ few. subst (λ n. base.width * length (valid_front base (drop read text))
+                    / 8 ≤ n - written) (sym same)
+                    (subst (λ n. n * length (valid_front base (drop read text)) / 8
+                    ≤ length output - written) (sym s.w_is)
+                    (room-last (subst (λ n. length (valid_front base (drop read text)) ≤ n)
+                    (sym s.symbols_is) few)));
+                stops = λ new partial fits front stop.
+                    group-stops fault has rest new partial fits front stop;
+              }
+
           -- what a group does
           module _ (count : ℕ) (rest : List ℕ)
               (rest_len : length rest
@@ -539,6 +574,42 @@ module _ (base : Base) (text : List ℕ) (w bytes symbols size : ℕ)
                 (is-next base s.width text there ends.within other reach one found)
                 (ap (λ n. Some (record { position = n; kind = PaddingFault })) place) refl
 
+            pub final-stopped : (not base.concatenates && nat_lt count (length group)) ≡ true
+                → (other : List ℕ) (reach : ℕ) → 0 < length other
+                → IsGathered base symbols (drop (read + span) text) other reach
+                → HasStopped base text (rewritten written output rest) (record {
+                  read = read + span;
+                  written = written + w * count / 8;
+                  index = 0;
+                  kind = PaddingFault;
+                })
+            final-stopped final other reach found gathered =
+                let there = read + span in
+                let after = written + w * count / 8 in
+                let old = rewritten written output rest in
+                let ends : HasDecodedTo base text there after true old =
+                subst (λ b. HasDecodedTo base text there after b old) final group_done in
+                let error : DecodeError = record {
+                  position = there + position_of (kept base (drop there text)) 0;
+                  kind = PaddingFault;
+                } in
+                let stopped = final-stops final other reach found gathered in
+                record {
+                  within = ends.within;
+                  fits = ends.fits;
+                  inside =
+                      gathered-some base symbols (drop there text) other reach gathered 0 found;
+                  room = λ is. absurd (false≢true is);
+                  stops = λ new partial fits front stop.
+                      ⊎_elim {C = StopsAt base text new partial}
+                      (λ how. subst (StopsAt base text new)
+                      (same-partial partial there after error how.0 how.1 stop.error_is)
+                      (stops-same base text old new
+                      (record { read = there; written = after; error = error }) stopped front))
+                      (λ how. absurd (false≢true how.0))
+                      stop.how;
+                }
+
 -- What a run leaves: an output of the same size, and so much more decoded.
 pub record IsAfterRun (base : Base) (text : List ℕ) (size read written : ℕ) (output : List ℕ)
     : Type 0 where
@@ -573,42 +644,28 @@ no_padding b count len h =
       either true = refl
       either false = refl
 
--- What is answered after a final group.
-module _ (base : Base) (text : List ℕ) (read written : ℕ) (output : List ℕ) where
-  pub ended-decoded : (kept_from base read text ≡ [] → IsDecoded base text written output)
-      → (result : Result ℕ DecodePartial)
-      → IfOk result (λ n. (n ≡ written) × (length (kept base (drop read text)) ≡ 0))
-      → IfOk result (λ n. IsDecoded base text n output)
-  ended-decoded ends (Ok n) is =
-      subst (λ k. IsDecoded base text k output) (sym is.0)
-      (ends (nothing-kept base text read is.1))
-  ended-decoded ends (Err partial) is = tt
-
-  pub ended-stops : (symbols : ℕ) (stop : DecodePartial)
-      → ((group : List ℕ) (span : ℕ) → 0 < length group
-      → IsGathered base symbols (drop read text) group span → StopsAt base text output stop)
-      → (result : Result ℕ DecodePartial)
-      → IfErr result (λ partial. ((group : List ℕ) × (span : ℕ) × (0 < length group)
-      × IsGathered base symbols (drop read text) group span) × (partial ≡ stop))
-      → IfErr result (StopsAt base text output)
-  ended-stops symbols stop stops (Ok n) is = tt
-  ended-stops symbols stop stops (Err partial) is =
-      subst (StopsAt base text output) (sym is.1) (stops is.0.0 is.0.1 is.0.2 is.0.3)
+-- after a final group the text ends where no byte is left that is not ignored
+pub ended-decoded : (base : Base) (text : List ℕ) (read written : ℕ) (output : List ℕ)
+    → (kept_from base read text ≡ [] → IsDecoded base text written output)
+    → length (kept base (drop read text)) ≡ 0 → IsDecoded base text written output
+ended-decoded base text read written output ends none = ends (nothing-kept base text read none)
 
 -- What a decoding that stopped says of its text.
-module _ (base : Base) (width : IsWidth base.width) (text output : List ℕ) where
-  pub accepted-or_stopped : (result : Result ℕ DecodePartial)
-      → IfErr result (StopsAt base text output)
-      → (bytes : List ℕ) → Means base text bytes → IsOk result
-  accepted-or_stopped (Ok count) stops bytes means = refl
-  accepted-or_stopped (Err partial) stops bytes means =
+pub stopped-stops : (base : Base) (text old : List ℕ) (stop : Stop) → HasStopped base text old stop
+    → (new : List ℕ) (partial : DecodePartial) → length new ≡ length old
+    → take stop.written new ≡ take stop.written old
+    → IsStop base (drop stop.read text) stop.read stop.written (fault_of_stop stop) new partial
+    → StopsAt base text new partial
+stopped-stops base text old stop stopped new partial len =
+    stopped.stops new partial (omega (arith, len, stopped.fits))
+
+module _ (base : Base) (width : IsWidth base.width) (text output : List ℕ)
+    (partial : DecodePartial) (stops : StopsAt base text output partial) where
+  pub stopped-means : (bytes : List ℕ) → Means base text bytes → false ≡ true
+  stopped-means bytes means =
       let fault = fault-partial base text partial stops.is_partial in
       let none = no_fault-Means base width text bytes means in
       cc
 
-  pub most-or_stopped : (result : Result ℕ DecodePartial)
-      → IfErr result (StopsAt base text output)
-      → IfErr result (λ partial. IsOkAnd (decoded_len base partial.read)
-      (λ most. partial.written ≤ most))
-  most-or_stopped (Ok count) stops = tt
-  most-or_stopped (Err partial) stops = most-partial base width text output partial stops
+  pub stopped-most : IsOkAnd (decoded_len base partial.read) (λ most. partial.written ≤ most)
+  stopped-most = most-partial base width text output partial stops

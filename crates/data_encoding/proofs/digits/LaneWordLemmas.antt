@@ -36,7 +36,7 @@ word_of-below order size count digits h =
 abbrev pub group_word : BitOrder → List ℕ → ℕ → ℕ
 group_word order input group = word_of order 8 3 (take 3 (drop (3 * group) input))
 
-pub group_word-below : (order : BitOrder) (input : List ℕ) (group : ℕ)
+group_word-below : (order : BitOrder) (input : List ℕ) (group : ℕ)
     → group_word order input group < 2 ^ 24
 group_word-below order input group =
     word_of-below order 8 3 (take 3 (drop (3 * group) input))
@@ -96,12 +96,12 @@ take-three i xs h =
     (ap (λ n. drop n xs) next ∙ drop_more xs (i + 2) 0 (omega (arith, h)))
 
 -- the bytes of the lane of a group, the lowest first, where so many bytes are loaded
-abbrev pub lane_most : List ℕ → ℕ → List ℕ
+abbrev lane_most : List ℕ → ℕ → List ℕ
 lane_most loaded group =
     get_or loaded (3 * group + 2) 0 ∷ get_or loaded (3 * group + 1) 0
     ∷ get_or loaded (3 * group) 0 ∷ 0 ∷ []
 
-abbrev pub lane_least : List ℕ → ℕ → List ℕ
+abbrev lane_least : List ℕ → ℕ → List ℕ
 lane_least loaded group =
     get_or loaded (3 * group) 0 ∷ get_or loaded (3 * group + 1) 0
     ∷ get_or loaded (3 * group + 2) 0 ∷ 0 ∷ []

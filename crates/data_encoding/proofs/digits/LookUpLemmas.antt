@@ -1,5 +1,5 @@
 -- The symbols of values below 64, from four tables of sixteen.
-use Rattle.std.proofs.Common.{◌≡◌, ℕ, ◌+◌, ◌*◌, ◌/◌, ◌%◌, ◌<◌, ◌≤◌, Bool, true, false, not, cond, eqb, leb, List, length, map, take, drop, get_or, slice_index, replicate, bit_and, w8, refl, sym, ap, ◌∙◌, arith, eqb-true, leb-false}
+use Rattle.std.proofs.Common.{◌≡◌, ℕ, ◌+◌, ◌*◌, ◌/◌, ◌%◌, ◌<◌, Bool, true, false, not, cond, eqb, leb, List, length, map, take, drop, get_or, slice_index, replicate, bit_and, w8, refl, sym, ap, ◌∙◌, arith, eqb-true, leb-false}
 use Rattle.std.proofs.lemmas.Bool.{eqb-false, leb-true}
 use Rattle.std.proofs.lemmas.Nat.{and_mask, and_le_r}
 use Rattle.std.proofs.lemmas.Nat.Bits.{and_high}
@@ -35,7 +35,7 @@ places-ok values long =
     (Each2-splat (λ a b. bit_and a b < 16) values 16 15 below))
 
 -- what stands in a table at the places of values
-abbrev pub from_table : List ℕ → List ℕ → List ℕ
+abbrev from_table : List ℕ → List ℕ → List ℕ
 from_table table values = swz_l w8 16 table 0 (places values)
 
 from_table-is : (table values : List ℕ) → length values ≡ 16
@@ -63,13 +63,13 @@ from_table-is table values long =
 abbrev pub differs : ℕ → ℕ → ℕ
 differs a b = cond (not (eqb a b)) 255 0
 
-abbrev pub at_most : ℕ → ℕ → ℕ
+abbrev at_most : ℕ → ℕ → ℕ
 at_most a b = cond (leb a b) 255 0
 
 abbrev is_odd : ℕ → Bool
 is_odd value = not (eqb (bit_and value 16) 0)
 
-abbrev pub odd_lanes : List ℕ → List Bool
+abbrev odd_lanes : List ℕ → List Bool
 odd_lanes values =
     map (top 7) (zip2 differs (zip2 bit_and values (replicate 16 16)) (replicate 16 0))
 
@@ -84,7 +84,7 @@ odd_lanes-are values long =
     ∙ zip2_splat test (map bit values) 16 0 (length-map values bit ∙ long)
     ∙ map-map (λ b. test b 0) bit values
 
-abbrev pub high_lanes : List ℕ → List Bool
+abbrev high_lanes : List ℕ → List Bool
 high_lanes values = map (top 7) (zip2 at_most (replicate 16 32) values)
 
 high_lanes-are : (values : List ℕ) → length values ≡ 16 → high_lanes values ≡ map (leb 32) values
@@ -92,7 +92,7 @@ high_lanes-are values long =
     tops_compared w8 leb (replicate 16 32) values ∙ zip2_splat_left leb 32 16 values long
 
 -- a quarter of the symbols of a base of 64, as it is loaded
-abbrev pub quarter : ℕ → List ℕ → List ℕ
+abbrev quarter : ℕ → List ℕ → List ℕ
 quarter start symbols = take 16 (take 16 (drop start symbols))
 
 abbrev entry : List ℕ → ℕ → ℕ → ℕ

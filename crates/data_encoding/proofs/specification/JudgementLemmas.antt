@@ -30,7 +30,7 @@ pub after-ok : (r : Judged) (meanings : List Character) (js : List Judgement) �
 after-ok r meanings js h = ap (λ s. meanings_after s js) h
 
 -- What a definition that is not refused does: it writes the meaning, or it was there.
-pub record IsDefined (before : List Character) (byte : ℕ) (m : Character) (after : List Character)
+record IsDefined (before : List Character) (byte : ℕ) (m : Character) (after : List Character)
     : Type 0 where
   pub ascii : byte < 128
   pub written : ((get_or before byte Invalid ≡ m) × (after ≡ before))
@@ -131,7 +131,7 @@ IsDefined-passes test before after byte m passes all is =
     is.written
 
 -- What a translation that is not refused does.
-pub record IsTranslated (before : List Character) (from to : ℕ) (after : List Character)
+record IsTranslated (before : List Character) (from to : ℕ) (after : List Character)
     : Type 0 where
   pub ascii : to < 128
   pub means : get_or before to Invalid ≢ Invalid

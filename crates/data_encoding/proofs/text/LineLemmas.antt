@@ -21,7 +21,7 @@ use Rattle.data_encoding.proofs.text.TextJoinLemmas.{length-padded_groups, line-
 use Rattle.data_encoding.proofs.text.PaddedTextLemmas.{ascii-padded_text, groups-same, length-padded, length-unpadded, symbols-first, text_of-unwrapped}
 
 -- what follows each line
-abbrev pub separator_by : Option Wrapping → List ℕ
+abbrev separator_by : Option Wrapping → List ℕ
 separator_by None = []
 separator_by (Some lines) = lines.separator
 

@@ -1,10 +1,10 @@
-use Rattle.std.proofs.Common.{◌≡◌, ℕ, ◌<◌, ◌^◌, List, length, map, replicate, bit_and, refl, ◌∙◌}
+use Rattle.std.proofs.Common.{◌≡◌, ℕ, ◌<◌, ◌^◌, List, map, replicate, bit_and, refl, ◌∙◌}
 use Rattle.std.specs.List.{range_with_len}
 use Rattle.std.specs.Simd.Lanes.{zip2, number_l}
 use Rattle.data_encoding.specs.declared.encoding.BitOrder.TheVariants.{LeastSignificantFirst}
 use Rattle.data_encoding.specs.Words.{digit}
 use Rattle.data_encoding.proofs.digits.LaneLemmas.{by_four, map-same}
-use Rattle.data_encoding.proofs.digits.SpreadLemmas.{added, up, down, spread_least, spread_least-digits}
+use Rattle.data_encoding.proofs.digits.SpreadLemmas.{added, up, spread_least, spread_least-digits}
 use Rattle.data_encoding.proofs.lanes.spread_from_lowest.Goals as goal
 
 -- what the code computes

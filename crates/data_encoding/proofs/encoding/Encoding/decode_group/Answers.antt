@@ -34,6 +34,20 @@ decode_symbols-requires-clause-exact g c =
     length-take-le (g.row.WIDTH * count / 8) c.args.output.now (omega (arith, most, room))
     ∙ ap (λ n. g.row.WIDTH * n / 8) (sym (length-take-le count group few))
 
+pub returns-then-index-count-clause-fault : goal.returns-then-index-count-clause-fault
+returns-then-index-count-clause-fault g c =
+    let seen = c.args.self.now in
+    let group = c.args.group.now in
+    let count = c.in-Ok.count in
+    let found = c.symbol_position-index.result in
+    let few = length-take-le count group c.in-Ok.ensures.symbols.within in
+    let inside : found < length (take count group) = omega (arith, few, c.if-index-count.true) in
+    subst (HasFault seen group) (sym c.faulty.ensures)
+    (symbol-fault seen c.self.inside.values
+    (HoldsValues-seen c.self.inside c.self.invariant seen c.self.view_is) group
+    (λ k. (c.type_inv.group k).fits) count c.in-Ok.ensures.symbols found inside
+    c.symbol_position-index.ensures.before (c.symbol_position-index.ensures.there inside))
+
 pub returns-then-not-decode_symbols-clause-fault :
     goal.returns-then-not-decode_symbols-clause-fault
 returns-then-not-decode_symbols-clause-fault g c =
@@ -49,7 +63,7 @@ returns-then-not-decode_symbols-clause-fault g c =
     absurd (false≢true (c.if-not-decode_symbols.ensures.symbols.1
     (λ k below. c.symbol_position.ensures.before k (omega (arith, past, below))))))
     (cases_lt found (length symbols)) in
-    subst (HasFault seen group) (sym c.faulty.ensures)
+    subst (HasFault seen group) (sym c.faulty-then-not-decode_symbols.ensures)
     (symbol-fault seen c.self.inside.values
     (HoldsValues-seen c.self.inside c.self.invariant seen c.self.view_is) group
     (λ k. (c.type_inv.group k).fits) count c.in-Ok.ensures.symbols found inside

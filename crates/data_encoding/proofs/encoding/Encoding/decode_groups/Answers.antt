@@ -1,15 +1,15 @@
-use Rattle.std.proofs.Common.{◌≡◌, ◌+◌, ◌*◌, ◌/◌, ◌<◌, ◌&&◌, ◌==◌, true, false, not, nat_lt, length, sym, ap, ◌∙◌, subst, arith}
+use Rattle.std.proofs.Common.{◌≡◌, ◌+◌, ◌*◌, ◌/◌, ◌<◌, ◌&&◌, ◌==◌, true, false, not, nat_lt, length, refl, sym, ap, ◌∙◌, subst, arith}
 use Rattle.std.proofs.lemmas.Bool.{eqb-true}
 use Rattle.std.proofs.lemmas.Bool.Decides.{nat_tests}
 use Rattle.std.proofs.lemmas.List.{take_rest}
 use Rattle.std.proofs.lemmas.Nat.{mul-le}
 use Rattle.data_encoding.specs.Base.{Base}
+use Rattle.data_encoding.specs.Decoding.{HasStopped, IsGathered}
 use Rattle.data_encoding.specs.Grammar.{kept}
-use Rattle.data_encoding.proofs.decoding.LoopLemmas.{after_run, decoded-all, decoded-none, decoding, ended-decoded, ended-stops, final-ends, final-stops, fits-group, fits-run, group-done, group-stops, length-same, no_padding, rewritten, room-last, room-next_group, room-next_run, size-few, within-span}
-use Rattle.data_encoding.proofs.decoding.GatherLemmas.{gathered-few, gathered-some}
+use Rattle.data_encoding.proofs.decoding.LoopLemmas.{after_run, decoded-all, decoded-none, decoding, ended-decoded, final-ends, final-stopped, fits-group, fits-run, group-done, group-stopped, no_padding, rewritten, room-next_group, room-next_run, size-few, within-span}
+use Rattle.data_encoding.proofs.decoding.GatherLemmas.{gathered-few}
 use Rattle.data_encoding.proofs.decoding.ProgressLemmas.{begin}
 use Rattle.data_encoding.proofs.digits.WidthLemmas.{group_symbols-few}
-use Rattle.data_encoding.proofs.tables.TableLemmas.{HoldsValues-seen}
 use Rattle.data_encoding.proofs.encoding.Encoding.decode_groups.Goals as goal
 use Rattle.data_encoding.proofs.encoding.Encoding.decode_groups.Goals.{else-count-group-via-then-count-group+else-not-self, else-count-group-via-else-count-group}
 
@@ -23,8 +23,8 @@ loop-read-init g c =
     size c.requires.exact in
     begin seen s.width text c.args.output.now
 
-pub decode_run-count-requires-clause-room : goal.decode_run-count-requires-clause-room
-decode_run-count-requires-clause-room g c =
+pub run-count-requires-clause-room : goal.run-count-requires-clause-room
+run-count-requires-clause-room g c =
     let seen = c.args.self.now in
     let text = c.args.input.now in
     let size = length c.args.output.now in
@@ -43,13 +43,11 @@ overflow_mul-written g c =
     let s = decoding c.self.inside c.self.invariant seen c.self.view_is text
     g.row.WIDTH g.row.BYTES g.row.SYMBOLS c.requires.group c.requires.width
     size c.requires.exact in
-    let run = c.decode_run-count.ensures.run seen c.requires.width
-    (ap (λ (b : Base). b.order) (sym c.self.view_is))
-    (HoldsValues-seen c.self.inside c.self.invariant seen c.self.view_is) in
+    let run = c.run-count.ensures.run in
     let fits = fits-run seen text g.row.WIDTH g.row.BYTES g.row.SYMBOLS size s
     c.loop-read.read c.loop-read.written c.loop-read.output c.loop-read.auto.output
-    c.loop-read.invariant c.decode_run-count.result c.decode_run-count.new.output _
-    c.decode_run-count.auto.output run in
+    c.loop-read.invariant c.run-count.result c.run-count.new.output _
+    c.run-count.auto.output run in
     let few = size-few seen text g.row.WIDTH g.row.BYTES g.row.SYMBOLS size s in
     record { fits = omega (arith, fits, few, c.requires.limit) }
 
@@ -61,13 +59,11 @@ overflow_add-written g c =
     let s = decoding c.self.inside c.self.invariant seen c.self.view_is text
     g.row.WIDTH g.row.BYTES g.row.SYMBOLS c.requires.group c.requires.width
     size c.requires.exact in
-    let run = c.decode_run-count.ensures.run seen c.requires.width
-    (ap (λ (b : Base). b.order) (sym c.self.view_is))
-    (HoldsValues-seen c.self.inside c.self.invariant seen c.self.view_is) in
+    let run = c.run-count.ensures.run in
     let fits = fits-run seen text g.row.WIDTH g.row.BYTES g.row.SYMBOLS size s
     c.loop-read.read c.loop-read.written c.loop-read.output c.loop-read.auto.output
-    c.loop-read.invariant c.decode_run-count.result c.decode_run-count.new.output _
-    c.decode_run-count.auto.output run in
+    c.loop-read.invariant c.run-count.result c.run-count.new.output _
+    c.run-count.auto.output run in
     let few = size-few seen text g.row.WIDTH g.row.BYTES g.row.SYMBOLS size s in
     record { fits = omega (arith, fits, few, c.requires.limit) }
 
@@ -75,6 +71,25 @@ pub next_group-group-requires : goal.next_group-group-requires
 next_group-group-requires g c =
     let few = group_symbols-few g.row.WIDTH c.requires.group.is_width in
     omega (arith, few, c.requires.group.has_symbols)
+
+pub returns-then-read-input-clause-decoded : goal.returns-then-read-input-clause-decoded
+returns-then-read-input-clause-decoded g c =
+    let seen = c.args.self.now in
+    let text = c.args.input.now in
+    let size = length c.args.output.now in
+    let s = decoding c.self.inside c.self.invariant seen c.self.view_is text
+    g.row.WIDTH g.row.BYTES g.row.SYMBOLS c.requires.group c.requires.width
+    size c.requires.exact in
+    let run = c.run-count.ensures.run in
+    let read = c.loop-read.read + c.run-count.result * g.row.SYMBOLS in
+    let written = c.loop-read.written + c.run-count.result * g.row.BYTES in
+    let output = rewritten c.loop-read.written c.loop-read.output c.run-count.new.output in
+    let now = after_run seen text g.row.WIDTH g.row.BYTES g.row.SYMBOLS size s c.loop-read.read
+    c.loop-read.written c.loop-read.output c.loop-read.auto.output c.loop-read.invariant
+    c.run-count.result c.run-count.new.output _ c.run-count.auto.output run
+    in
+    λ _. decoded-all seen text g.row.WIDTH g.row.BYTES g.row.SYMBOLS size s
+    read written output now.so_far (omega (arith, c.if-read-input.true))
 
 pub returns-then-is_empty-clause-decoded : goal.returns-then-is_empty-clause-decoded
 returns-then-is_empty-clause-decoded g c =
@@ -84,20 +99,18 @@ returns-then-is_empty-clause-decoded g c =
     let s = decoding c.self.inside c.self.invariant seen c.self.view_is text
     g.row.WIDTH g.row.BYTES g.row.SYMBOLS c.requires.group c.requires.width
     size c.requires.exact in
-    let run = c.decode_run-count.ensures.run seen c.requires.width
-    (ap (λ (b : Base). b.order) (sym c.self.view_is))
-    (HoldsValues-seen c.self.inside c.self.invariant seen c.self.view_is) in
-    let read = c.loop-read.read + c.decode_run-count.result * g.row.SYMBOLS in
-    let written = c.loop-read.written + c.decode_run-count.result * g.row.BYTES in
-    let output = rewritten c.loop-read.written c.loop-read.output c.decode_run-count.new.output in
+    let run = c.run-count.ensures.run in
+    let read = c.loop-read.read + c.run-count.result * g.row.SYMBOLS in
+    let written = c.loop-read.written + c.run-count.result * g.row.BYTES in
+    let output = rewritten c.loop-read.written c.loop-read.output c.run-count.new.output in
     let now = after_run seen text g.row.WIDTH g.row.BYTES g.row.SYMBOLS size s c.loop-read.read
     c.loop-read.written c.loop-read.output c.loop-read.auto.output c.loop-read.invariant
-    c.decode_run-count.result c.decode_run-count.new.output _ c.decode_run-count.auto.output run
+    c.run-count.result c.run-count.new.output _ c.run-count.auto.output run
     in
     let group = c.next_group-group.result.bytes.now in
     let span = c.next_group-group.result.span in
     let is = c.next_group-group.ensures in
-    decoded-none seen text g.row.WIDTH g.row.BYTES g.row.SYMBOLS size s
+    λ _. decoded-none seen text g.row.WIDTH g.row.BYTES g.row.SYMBOLS size s
     read written output now.len now.so_far group span is
     (eqb-true (length group) 0 (sym c.is_empty.ensures ∙ c.if-is_empty.true))
 
@@ -109,15 +122,13 @@ slice_bounds-rest-count g c =
     let s = decoding c.self.inside c.self.invariant seen c.self.view_is text
     g.row.WIDTH g.row.BYTES g.row.SYMBOLS c.requires.group c.requires.width
     size c.requires.exact in
-    let run = c.decode_run-count.ensures.run seen c.requires.width
-    (ap (λ (b : Base). b.order) (sym c.self.view_is))
-    (HoldsValues-seen c.self.inside c.self.invariant seen c.self.view_is) in
-    let read = c.loop-read.read + c.decode_run-count.result * g.row.SYMBOLS in
-    let written = c.loop-read.written + c.decode_run-count.result * g.row.BYTES in
-    let output = rewritten c.loop-read.written c.loop-read.output c.decode_run-count.new.output in
+    let run = c.run-count.ensures.run in
+    let read = c.loop-read.read + c.run-count.result * g.row.SYMBOLS in
+    let written = c.loop-read.written + c.run-count.result * g.row.BYTES in
+    let output = rewritten c.loop-read.written c.loop-read.output c.run-count.new.output in
     let now = after_run seen text g.row.WIDTH g.row.BYTES g.row.SYMBOLS size s c.loop-read.read
     c.loop-read.written c.loop-read.output c.loop-read.auto.output c.loop-read.invariant
-    c.decode_run-count.result c.decode_run-count.new.output _ c.decode_run-count.auto.output run
+    c.run-count.result c.run-count.new.output _ c.run-count.auto.output run
     in
     omega (arith, now.so_far.fits)
 
@@ -132,15 +143,13 @@ decode_group-requires-clause-room g c =
     let s = decoding c.self.inside c.self.invariant seen c.self.view_is text
     g.row.WIDTH g.row.BYTES g.row.SYMBOLS c.requires.group c.requires.width
     size c.requires.exact in
-    let run = c.decode_run-count.ensures.run seen c.requires.width
-    (ap (λ (b : Base). b.order) (sym c.self.view_is))
-    (HoldsValues-seen c.self.inside c.self.invariant seen c.self.view_is) in
-    let read = c.loop-read.read + c.decode_run-count.result * g.row.SYMBOLS in
-    let written = c.loop-read.written + c.decode_run-count.result * g.row.BYTES in
-    let output = rewritten c.loop-read.written c.loop-read.output c.decode_run-count.new.output in
+    let run = c.run-count.ensures.run in
+    let read = c.loop-read.read + c.run-count.result * g.row.SYMBOLS in
+    let written = c.loop-read.written + c.run-count.result * g.row.BYTES in
+    let output = rewritten c.loop-read.written c.loop-read.output c.run-count.new.output in
     let now = after_run seen text g.row.WIDTH g.row.BYTES g.row.SYMBOLS size s c.loop-read.read
     c.loop-read.written c.loop-read.output c.loop-read.auto.output c.loop-read.invariant
-    c.decode_run-count.result c.decode_run-count.new.output _ c.decode_run-count.auto.output run
+    c.run-count.result c.run-count.new.output _ c.run-count.auto.output run
     in
     let group = c.next_group-group.result.bytes.now in
     let span = c.next_group-group.result.span in
@@ -167,15 +176,13 @@ overflow_add-written-in-Ok g c =
     let s = decoding c.self.inside c.self.invariant seen c.self.view_is text
     g.row.WIDTH g.row.BYTES g.row.SYMBOLS c.requires.group c.requires.width
     size c.requires.exact in
-    let run = c.decode_run-count.ensures.run seen c.requires.width
-    (ap (λ (b : Base). b.order) (sym c.self.view_is))
-    (HoldsValues-seen c.self.inside c.self.invariant seen c.self.view_is) in
-    let read = c.loop-read.read + c.decode_run-count.result * g.row.SYMBOLS in
-    let written = c.loop-read.written + c.decode_run-count.result * g.row.BYTES in
-    let output = rewritten c.loop-read.written c.loop-read.output c.decode_run-count.new.output in
+    let run = c.run-count.ensures.run in
+    let read = c.loop-read.read + c.run-count.result * g.row.SYMBOLS in
+    let written = c.loop-read.written + c.run-count.result * g.row.BYTES in
+    let output = rewritten c.loop-read.written c.loop-read.output c.run-count.new.output in
     let now = after_run seen text g.row.WIDTH g.row.BYTES g.row.SYMBOLS size s c.loop-read.read
     c.loop-read.written c.loop-read.output c.loop-read.auto.output c.loop-read.invariant
-    c.decode_run-count.result c.decode_run-count.new.output _ c.decode_run-count.auto.output run
+    c.run-count.result c.run-count.new.output _ c.run-count.auto.output run
     in
     let group = c.next_group-group.result.bytes.now in
     let span = c.next_group-group.result.span in
@@ -189,28 +196,26 @@ overflow_add-written-in-Ok g c =
     let few = size-few seen text g.row.WIDTH g.row.BYTES g.row.SYMBOLS size s in
     record { fits = omega (arith, fits, few, c.requires.limit) }
 
-pub ended-requires-clause-few : goal.ended-requires-clause-few
-ended-requires-clause-few g c =
+pub is_end-requires-clause-few : goal.is_end-requires-clause-few
+is_end-requires-clause-few g c =
     let few = group_symbols-few g.row.WIDTH c.requires.group.is_width in
     omega (arith, few, c.requires.group.has_symbols)
 
-pub returns-then-not-self-clause-decoded : goal.returns-then-not-self-clause-decoded
-returns-then-not-self-clause-decoded g c =
+pub returns-then-is_end-clause-decoded : goal.returns-then-is_end-clause-decoded
+returns-then-is_end-clause-decoded g c =
     let seen = c.args.self.now in
     let text = c.args.input.now in
     let size = length c.args.output.now in
     let s = decoding c.self.inside c.self.invariant seen c.self.view_is text
     g.row.WIDTH g.row.BYTES g.row.SYMBOLS c.requires.group c.requires.width
     size c.requires.exact in
-    let run = c.decode_run-count.ensures.run seen c.requires.width
-    (ap (λ (b : Base). b.order) (sym c.self.view_is))
-    (HoldsValues-seen c.self.inside c.self.invariant seen c.self.view_is) in
-    let read = c.loop-read.read + c.decode_run-count.result * g.row.SYMBOLS in
-    let written = c.loop-read.written + c.decode_run-count.result * g.row.BYTES in
-    let output = rewritten c.loop-read.written c.loop-read.output c.decode_run-count.new.output in
+    let run = c.run-count.ensures.run in
+    let read = c.loop-read.read + c.run-count.result * g.row.SYMBOLS in
+    let written = c.loop-read.written + c.run-count.result * g.row.BYTES in
+    let output = rewritten c.loop-read.written c.loop-read.output c.run-count.new.output in
     let now = after_run seen text g.row.WIDTH g.row.BYTES g.row.SYMBOLS size s c.loop-read.read
     c.loop-read.written c.loop-read.output c.loop-read.auto.output c.loop-read.invariant
-    c.decode_run-count.result c.decode_run-count.new.output _ c.decode_run-count.auto.output run
+    c.run-count.result c.run-count.new.output _ c.run-count.auto.output run
     in
     let group = c.next_group-group.result.bytes.now in
     let span = c.next_group-group.result.span in
@@ -221,8 +226,10 @@ returns-then-not-self-clause-decoded g c =
     read written output now.len now.so_far
     group span is some c.in-Ok.count c.decode_group.new.output c.decode_group.auto.output
     c.in-Ok.ensures.sound in
-    ended-decoded seen text (read + span) (written + g.row.WIDTH * c.in-Ok.count / 8)
-    (rewritten written output c.decode_group.new.output) ends c.ended.result c.ended.ensures.end
+    λ _. ended-decoded seen text (read + span) (written + g.row.WIDTH * c.in-Ok.count / 8)
+    (rewritten written output c.decode_group.new.output) ends
+    (subst (λ l. length (kept seen l) ≡ 0) (take_rest text (read + span))
+    (c.if-is_end.ensures.end refl))
 
 pub returns-then-not-self-clause-stopped : goal.returns-then-not-self-clause-stopped
 returns-then-not-self-clause-stopped g c =
@@ -232,15 +239,13 @@ returns-then-not-self-clause-stopped g c =
     let s = decoding c.self.inside c.self.invariant seen c.self.view_is text
     g.row.WIDTH g.row.BYTES g.row.SYMBOLS c.requires.group c.requires.width
     size c.requires.exact in
-    let run = c.decode_run-count.ensures.run seen c.requires.width
-    (ap (λ (b : Base). b.order) (sym c.self.view_is))
-    (HoldsValues-seen c.self.inside c.self.invariant seen c.self.view_is) in
-    let read = c.loop-read.read + c.decode_run-count.result * g.row.SYMBOLS in
-    let written = c.loop-read.written + c.decode_run-count.result * g.row.BYTES in
-    let output = rewritten c.loop-read.written c.loop-read.output c.decode_run-count.new.output in
+    let run = c.run-count.ensures.run in
+    let read = c.loop-read.read + c.run-count.result * g.row.SYMBOLS in
+    let written = c.loop-read.written + c.run-count.result * g.row.BYTES in
+    let output = rewritten c.loop-read.written c.loop-read.output c.run-count.new.output in
     let now = after_run seen text g.row.WIDTH g.row.BYTES g.row.SYMBOLS size s c.loop-read.read
     c.loop-read.written c.loop-read.output c.loop-read.auto.output c.loop-read.invariant
-    c.decode_run-count.result c.decode_run-count.new.output _ c.decode_run-count.auto.output run
+    c.run-count.result c.run-count.new.output _ c.run-count.auto.output run
     in
     let group = c.next_group-group.result.bytes.now in
     let span = c.next_group-group.result.span in
@@ -252,13 +257,15 @@ returns-then-not-self-clause-stopped g c =
     let apart = ap (λ (b : Base). b.concatenates) (sym c.self.view_is) ∙ c.if-not-self.true in
     let final : (not seen.concatenates && nat_lt c.in-Ok.count (length group)) ≡ true =
     λ i. not (apart i) && short i in
-    let stops = final-stops seen text g.row.WIDTH g.row.BYTES g.row.SYMBOLS size s
+    let more = c.if-is_end.ensures.more refl in
+    let new = rewritten written output c.decode_group.new.output in
+    λ _. subst (HasStopped seen text new) (sym c.new.ensures)
+    (final-stopped seen text g.row.WIDTH g.row.BYTES g.row.SYMBOLS size s
     read written output now.len now.so_far
     group span is some c.in-Ok.count c.decode_group.new.output c.decode_group.auto.output
-    c.in-Ok.ensures.sound final in
-    ended-stops seen text (read + span) (written + g.row.WIDTH * c.in-Ok.count / 8)
-    (rewritten written output c.decode_group.new.output) g.row.SYMBOLS _ stops c.ended.result
-    c.ended.ensures.fault
+    c.in-Ok.ensures.sound final more.0 more.1 more.2
+    (subst (λ l. IsGathered seen g.row.SYMBOLS l more.0 more.1) (take_rest text (read + span))
+    more.3))
 
 pub loop-read-smaller : goal.loop-read-smaller
 loop-read-smaller g c =
@@ -268,15 +275,13 @@ loop-read-smaller g c =
     let s = decoding c.self.inside c.self.invariant seen c.self.view_is text
     g.row.WIDTH g.row.BYTES g.row.SYMBOLS c.requires.group c.requires.width
     size c.requires.exact in
-    let run = c.decode_run-count.ensures.run seen c.requires.width
-    (ap (λ (b : Base). b.order) (sym c.self.view_is))
-    (HoldsValues-seen c.self.inside c.self.invariant seen c.self.view_is) in
-    let read = c.loop-read.read + c.decode_run-count.result * g.row.SYMBOLS in
-    let written = c.loop-read.written + c.decode_run-count.result * g.row.BYTES in
-    let output = rewritten c.loop-read.written c.loop-read.output c.decode_run-count.new.output in
+    let run = c.run-count.ensures.run in
+    let read = c.loop-read.read + c.run-count.result * g.row.SYMBOLS in
+    let written = c.loop-read.written + c.run-count.result * g.row.BYTES in
+    let output = rewritten c.loop-read.written c.loop-read.output c.run-count.new.output in
     let now = after_run seen text g.row.WIDTH g.row.BYTES g.row.SYMBOLS size s c.loop-read.read
     c.loop-read.written c.loop-read.output c.loop-read.auto.output c.loop-read.invariant
-    c.decode_run-count.result c.decode_run-count.new.output _ c.decode_run-count.auto.output run
+    c.run-count.result c.run-count.new.output _ c.run-count.auto.output run
     in
     let group = c.next_group-group.result.bytes.now in
     let span = c.next_group-group.result.span in
@@ -296,15 +301,13 @@ loop-read-preserved g c =
     let s = decoding c.self.inside c.self.invariant seen c.self.view_is text
     g.row.WIDTH g.row.BYTES g.row.SYMBOLS c.requires.group c.requires.width
     size c.requires.exact in
-    let run = c.decode_run-count.ensures.run seen c.requires.width
-    (ap (λ (b : Base). b.order) (sym c.self.view_is))
-    (HoldsValues-seen c.self.inside c.self.invariant seen c.self.view_is) in
-    let read = c.loop-read.read + c.decode_run-count.result * g.row.SYMBOLS in
-    let written = c.loop-read.written + c.decode_run-count.result * g.row.BYTES in
-    let output = rewritten c.loop-read.written c.loop-read.output c.decode_run-count.new.output in
+    let run = c.run-count.ensures.run in
+    let read = c.loop-read.read + c.run-count.result * g.row.SYMBOLS in
+    let written = c.loop-read.written + c.run-count.result * g.row.BYTES in
+    let output = rewritten c.loop-read.written c.loop-read.output c.run-count.new.output in
     let now = after_run seen text g.row.WIDTH g.row.BYTES g.row.SYMBOLS size s c.loop-read.read
     c.loop-read.written c.loop-read.output c.loop-read.auto.output c.loop-read.invariant
-    c.decode_run-count.result c.decode_run-count.new.output _ c.decode_run-count.auto.output run
+    c.run-count.result c.run-count.new.output _ c.run-count.auto.output run
     in
     let group = c.next_group-group.result.bytes.now in
     let span = c.next_group-group.result.span in
@@ -324,84 +327,6 @@ loop-read-preserved g c =
     group span is some c.in-Ok.count c.decode_group.new.output c.decode_group.auto.output
     c.in-Ok.ensures.sound goes_on
 
-pub stopped-requires-clause-fits : goal.stopped-requires-clause-fits
-stopped-requires-clause-fits g c =
-    let seen = c.args.self.now in
-    let text = c.args.input.now in
-    let size = length c.args.output.now in
-    let s = decoding c.self.inside c.self.invariant seen c.self.view_is text
-    g.row.WIDTH g.row.BYTES g.row.SYMBOLS c.requires.group c.requires.width
-    size c.requires.exact in
-    let run = c.decode_run-count.ensures.run seen c.requires.width
-    (ap (λ (b : Base). b.order) (sym c.self.view_is))
-    (HoldsValues-seen c.self.inside c.self.invariant seen c.self.view_is) in
-    let read = c.loop-read.read + c.decode_run-count.result * g.row.SYMBOLS in
-    let written = c.loop-read.written + c.decode_run-count.result * g.row.BYTES in
-    let output = rewritten c.loop-read.written c.loop-read.output c.decode_run-count.new.output in
-    let now = after_run seen text g.row.WIDTH g.row.BYTES g.row.SYMBOLS size s c.loop-read.read
-    c.loop-read.written c.loop-read.output c.loop-read.auto.output c.loop-read.invariant
-    c.decode_run-count.result c.decode_run-count.new.output _ c.decode_run-count.auto.output run
-    in
-    let group = c.next_group-group.result.bytes.now in
-    let span = c.next_group-group.result.span in
-    let is = c.next_group-group.ensures in
-    let same = length-same written output c.decode_group.new.output now.so_far.fits
-    c.decode_group.auto.output in
-    omega (arith, same, now.so_far.fits)
-
-pub stopped-requires-clause-inside : goal.stopped-requires-clause-inside
-stopped-requires-clause-inside g c =
-    let seen = c.args.self.now in
-    let text = c.args.input.now in
-    let size = length c.args.output.now in
-    let s = decoding c.self.inside c.self.invariant seen c.self.view_is text
-    g.row.WIDTH g.row.BYTES g.row.SYMBOLS c.requires.group c.requires.width
-    size c.requires.exact in
-    let run = c.decode_run-count.ensures.run seen c.requires.width
-    (ap (λ (b : Base). b.order) (sym c.self.view_is))
-    (HoldsValues-seen c.self.inside c.self.invariant seen c.self.view_is) in
-    let read = c.loop-read.read + c.decode_run-count.result * g.row.SYMBOLS in
-    let written = c.loop-read.written + c.decode_run-count.result * g.row.BYTES in
-    let output = rewritten c.loop-read.written c.loop-read.output c.decode_run-count.new.output in
-    let now = after_run seen text g.row.WIDTH g.row.BYTES g.row.SYMBOLS size s c.loop-read.read
-    c.loop-read.written c.loop-read.output c.loop-read.auto.output c.loop-read.invariant
-    c.decode_run-count.result c.decode_run-count.new.output _ c.decode_run-count.auto.output run
-    in
-    let group = c.next_group-group.result.bytes.now in
-    let span = c.next_group-group.result.span in
-    let is = c.next_group-group.ensures in
-    let whole = take_rest text read in
-    subst (λ l. c.in-Err.fault.index < length (kept seen l)) whole
-    (gathered-some seen g.row.SYMBOLS _ group span is c.in-Err.fault.index
-    c.in-Err.ensures.fault.inside)
-
-pub stopped-requires-clause-room : goal.stopped-requires-clause-room
-stopped-requires-clause-room g c =
-    let seen = c.args.self.now in
-    let text = c.args.input.now in
-    let size = length c.args.output.now in
-    let s = decoding c.self.inside c.self.invariant seen c.self.view_is text
-    g.row.WIDTH g.row.BYTES g.row.SYMBOLS c.requires.group c.requires.width
-    size c.requires.exact in
-    let run = c.decode_run-count.ensures.run seen c.requires.width
-    (ap (λ (b : Base). b.order) (sym c.self.view_is))
-    (HoldsValues-seen c.self.inside c.self.invariant seen c.self.view_is) in
-    let read = c.loop-read.read + c.decode_run-count.result * g.row.SYMBOLS in
-    let written = c.loop-read.written + c.decode_run-count.result * g.row.BYTES in
-    let output = rewritten c.loop-read.written c.loop-read.output c.decode_run-count.new.output in
-    let now = after_run seen text g.row.WIDTH g.row.BYTES g.row.SYMBOLS size s c.loop-read.read
-    c.loop-read.written c.loop-read.output c.loop-read.auto.output c.loop-read.invariant
-    c.decode_run-count.result c.decode_run-count.new.output _ c.decode_run-count.auto.output run
-    in
-    let group = c.next_group-group.result.bytes.now in
-    let span = c.next_group-group.result.span in
-    let is = c.next_group-group.ensures in
-    let room = room-last seen text g.row.WIDTH g.row.BYTES g.row.SYMBOLS size s
-    read written output now.len now.so_far in
-    let same = length-same written output c.decode_group.new.output now.so_far.fits
-    c.decode_group.auto.output in
-    λ few. omega (arith, room few, same)
-
 pub returns-in-Err-clause-stopped : goal.returns-in-Err-clause-stopped
 returns-in-Err-clause-stopped g c =
     let seen = c.args.self.now in
@@ -410,29 +335,25 @@ returns-in-Err-clause-stopped g c =
     let s = decoding c.self.inside c.self.invariant seen c.self.view_is text
     g.row.WIDTH g.row.BYTES g.row.SYMBOLS c.requires.group c.requires.width
     size c.requires.exact in
-    let run = c.decode_run-count.ensures.run seen c.requires.width
-    (ap (λ (b : Base). b.order) (sym c.self.view_is))
-    (HoldsValues-seen c.self.inside c.self.invariant seen c.self.view_is) in
-    let read = c.loop-read.read + c.decode_run-count.result * g.row.SYMBOLS in
-    let written = c.loop-read.written + c.decode_run-count.result * g.row.BYTES in
-    let output = rewritten c.loop-read.written c.loop-read.output c.decode_run-count.new.output in
+    let run = c.run-count.ensures.run in
+    let read = c.loop-read.read + c.run-count.result * g.row.SYMBOLS in
+    let written = c.loop-read.written + c.run-count.result * g.row.BYTES in
+    let output = rewritten c.loop-read.written c.loop-read.output c.run-count.new.output in
     let now = after_run seen text g.row.WIDTH g.row.BYTES g.row.SYMBOLS size s c.loop-read.read
     c.loop-read.written c.loop-read.output c.loop-read.auto.output c.loop-read.invariant
-    c.decode_run-count.result c.decode_run-count.new.output _ c.decode_run-count.auto.output run
+    c.run-count.result c.run-count.new.output _ c.run-count.auto.output run
     in
     let group = c.next_group-group.result.bytes.now in
     let span = c.next_group-group.result.span in
     let is = c.next_group-group.ensures in
     let none : (length group == 0) ≡ false = sym c.is_empty.ensures ∙ c.if-is_empty.false in
     let some : 0 < length group = grind (arith, nat_tests) in
-    let same = length-same written output c.decode_group.new.output now.so_far.fits
-    c.decode_group.auto.output in
-    group-stops seen text g.row.WIDTH g.row.BYTES g.row.SYMBOLS size s
+    let new = rewritten written output c.decode_group.new.output in
+    λ _. subst (HasStopped seen text new) (sym c.new-in-Err.ensures)
+    (group-stopped seen text g.row.WIDTH g.row.BYTES g.row.SYMBOLS size s
     read written output now.len now.so_far
     group span is some c.in-Err.fault c.in-Err.ensures.fault c.decode_group.new.output
-    c.stopped.new.output c.stopped.result
-    (omega (arith, same, now.so_far.fits, c.stopped.auto.output)) c.stopped.ensures.kept
-    c.stopped.ensures.stop
+    c.decode_group.auto.output)
 
 pub returns-clause-decoded : goal.returns-clause-decoded
 returns-clause-decoded g c =
@@ -442,6 +363,6 @@ returns-clause-decoded g c =
     let s = decoding c.self.inside c.self.invariant seen c.self.view_is text
     g.row.WIDTH g.row.BYTES g.row.SYMBOLS c.requires.group c.requires.width
     size c.requires.exact in
-    decoded-all seen text g.row.WIDTH g.row.BYTES g.row.SYMBOLS size s
+    λ _. decoded-all seen text g.row.WIDTH g.row.BYTES g.row.SYMBOLS size s
     c.loop-read.read c.loop-read.written c.loop-read.output c.loop-read.invariant
     c.loop-read-test.false

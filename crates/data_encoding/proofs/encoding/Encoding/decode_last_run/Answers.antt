@@ -24,7 +24,9 @@ returns-in-Ok-clause-run g c =
     let most = mul-le-mul_left g.row.WIDTH sound.within in
     let taken = length-take-le len rest c.greatest_valid_length-len.ensures.most in
     let all = ap (λ n. g.row.WIDTH * n) taken in
-    let room = c.requires.room (omega (arith, front_len, c.if-len.false)) in
+    let room : g.row.WIDTH * length (valid_front seen rest) / 8 ≤ length c.args.output.now =
+    subst (λ w. w * length (valid_front seen rest) / 8 ≤ length c.args.output.now)
+    c.requires.width (c.requires.room few) in
     let same_room = ap (λ n. g.row.WIDTH * n) front_len in (
       omega (arith, most, all, room, same_room, c.decode_group.auto.output),
       inr (

@@ -1,0 +1,6 @@
+pub mod Examples
+mod Texts
+mod Readings
+mod Layouts
+mod Meanings
+mod Steps

@@ -1,0 +1,72 @@
+//! The lengths of texts, and how many bytes they may mean.
+
+ghost use Rattle.std.specs.Prelude.{◌≡◌, ℕ, List, false, ◌<◌, ◌≤◌, length, IfErr, IsOkAnd};
+ghost use Rattle.data_encoding.specs.Fields.{IsSpecified};
+ghost use Rattle.data_encoding.specs.Grammar.{Means};
+ghost use Rattle.data_encoding.specs.Lengths.{decoded_len, greatest_valid_length, is_valid_length, most_bytes};
+
+use crate::decode::DECODE_LIMIT;
+use crate::encoding::{Encoding, group_bytes, group_symbols};
+use crate::error::{DecodeError, DecodeKind};
+
+impl Encoding {
+    /// The greatest number of bytes that a text of `len` bytes, at most `DECODE_LIMIT`, may mean.
+    ///
+    /// Where no byte is ignored, a length that no text has is a `Length` fault, at the greatest
+    /// length below it that a text may have: where texts are padded, that is a number of whole
+    /// groups.
+    pub fn decode_len(&self, len: usize) -> Result<usize, DecodeError>
+        requires limit { len ≤ DECODE_LIMIT }
+        ensures value { result ≡ decoded_len self.now len }
+        ensures position { IfErr result (λ error. error.position < len) }
+        ensures most { (text bytes : List ℕ) → length text ≡ len → Means self.now text bytes
+            → IsOkAnd result (λ most. length bytes ≤ most) }
+        ensures base { IsSpecified self.now }
+    {
+        if !self.ignores && !self.is_valid_length(len) {
+            return Err(DecodeError {
+                position: self.greatest_valid_length(len),
+                kind: DecodeKind::Length,
+            });
+        }
+        Ok(self.most_bytes(len))
+    }
+
+    // Whether a text of so many bytes, none of them ignored, may mean something.
+    fn is_valid_length(&self, len: usize) -> bool
+        requires limit { len ≤ DECODE_LIMIT }
+        ensures { result ≡ is_valid_length self.now len }
+    {
+        if self.padding.is_some() {
+            return len % group_symbols(self.width) as usize == 0;
+        }
+        let width = self.width as usize;
+        width * len % 8 < width
+    }
+
+    // The greatest length of such a text that is not longer.
+    pub(crate) fn greatest_valid_length(&self, len: usize) -> usize
+        requires limit { len ≤ DECODE_LIMIT }
+        ensures value { result ≡ greatest_valid_length self.now len }
+        ensures most { result ≤ len }
+        ensures less { is_valid_length self.now len ≡ false → result < len }
+    {
+        if self.padding.is_some() {
+            let symbols = group_symbols(self.width) as usize;
+            return len / symbols * symbols;
+        }
+        let width = self.width as usize;
+        len - width * len % 8 / width
+    }
+
+    // As many bytes as a text of this length may mean.
+    fn most_bytes(&self, len: usize) -> usize
+        requires limit { len ≤ DECODE_LIMIT }
+        ensures { result ≡ most_bytes self.now len }
+    {
+        if self.padding.is_some() {
+            return len / group_symbols(self.width) as usize * group_bytes(self.width) as usize;
+        }
+        self.width as usize * len / 8
+    }
+}
