@@ -13,9 +13,10 @@ use Rattle.data_encoding.specs.declared.error.DecodeError.{DecodeError}
 use Rattle.encoding_stream.specs.declared.error.StreamFault.{StreamFault}
 use Rattle.encoding_stream.specs.declared.error.StreamFault.TheVariants.{Decode, Read, TooLong, Write}
 use Rattle.encoding_stream.specs.declared.pieces.Kept.{Kept}
-use Rattle.encoding_stream.specs.Decoded.{answer_of, DecodesFront, EndsText, ReadsPiece}
+use Rattle.encoding_stream.specs.Decoded.{answer_of, DecodesFront, EndsText}
 use Rattle.encoding_stream.specs.Encoded.{ReadsMore}
 use Rattle.encoding_stream.specs.Pieces.{verdict_of, Keeps}
+use Rattle.encoding_stream.specs.Reading.{ReadsOn}
 use Rattle.encoding_stream.specs.Watch.{AppendsFront}
 use Rattle.encoding_stream.proofs.WriteLemmas.{AppendsFront-all, AppendsFront-more, AppendsFront-within}
 
@@ -94,7 +95,7 @@ module _ (base : Base) (specified : IsSpecified base) where
 
   module _ (old new : Kept) (r s t v w : Option (List ℕ))
       (so_far : Decoded base old r s v w) (more bytes : List ℕ) (read : Consumes s t more)
-      (reads : ReadsPiece base old new more bytes) where
+      (reads : ReadsOn base old new more bytes) where
     -- a piece more
     pub decoded-more : (x : Option (List ℕ)) → Appends w x bytes → Decoded base new r t v x
     decoded-more x written = record {
@@ -141,6 +142,19 @@ module _ (base : Base) (kept : Kept) (failed : Bool) (r s v w x : Option (List �
       (AppendsFront-more v w x (whole_bytes base so_far.text) ends.bytes so_far.written
       ends.begun)
 
+-- all of the last group was written
+pub ends-all : (base : Base) (kept : Kept) (failed : Bool) (v w : Option (List ℕ))
+    (bytes : List ℕ)
+    → ((text : List ℕ) → Keeps base kept text
+    → sound_bytes base text ≡ whole_bytes base text ++ bytes)
+    → Appends v w bytes → EndsText base kept failed v w
+ends-all base kept failed v w bytes sound written = record {
+  bytes = bytes;
+  sound = sound;
+  begun = AppendsFront-all v w bytes written;
+  all = λ works. written;
+}
+
 -- more than the limit was read
 pub decoded-past : (base : Base) (kept : Kept) (r s t v w : Option (List ℕ))
     → Decoded base kept r s v w → (more : List ℕ) → Consumes s t more
@@ -164,16 +178,11 @@ past-few limit (Some all) (Some rest) P past = λ few.
 -- what reading a part of a buffer has done
 pub reads-buffer : (base here : Base) → here ≡ base → (old new : Kept) (buffer rest : List ℕ)
     (count : ℕ) (bytes : List ℕ) → count ≤ length buffer
-    → ((text : List ℕ) → Keeps here old text
-    → Keeps here new (text ++ take count (buffer ++ rest)))
-    → ((text : List ℕ) → Keeps here old text
-    → whole_bytes here (text ++ take count (buffer ++ rest)) ≡ whole_bytes here text ++ bytes)
-    → new.len ≡ old.len + length (take count (buffer ++ rest))
-    → ReadsPiece base old new (take count buffer) bytes
-reads-buffer base here is old new buffer rest count bytes few keeps decodes counted =
-    subst (λ b. ReadsPiece b old new (take count buffer) bytes) is
-    (subst (λ p. ReadsPiece here old new p bytes) (take-append-le count buffer rest few)
-    (record { keeps = keeps; decodes = decodes; counted = counted }))
+    → ReadsOn here old new (take count (buffer ++ rest)) bytes
+    → ReadsOn base old new (take count buffer) bytes
+reads-buffer base here is old new buffer rest count bytes few reads =
+    subst (λ b. ReadsOn b old new (take count buffer) bytes) is
+    (subst (λ p. ReadsOn here old new p bytes) (take-append-le count buffer rest few) reads)
 
 -- a call that did not fail, and one that did
 pub on-works : {A E P : Type 0} (result : Result A E) → false ≡ is_err result → OnOk result P → P

@@ -8,7 +8,8 @@ use Rattle.data_encoding.specs.Fields.{IsSpecified}
 use Rattle.data_encoding.specs.Grammar.{Positioned}
 use Rattle.data_encoding.specs.Lengths.{decoded_len, length_fault, most_bytes, unless_fault}
 use Rattle.data_encoding.specs.Pieces.{bytes_unless, held_fault, whole_bytes, HasRead, TellsBytes, TellsFault}
-use Rattle.encoding_stream.specs.Pieces.{at_positions, verdict_of, NoneIgnored}
+use Rattle.encoding_stream.specs.declared.pieces.Kept.{Kept}
+use Rattle.encoding_stream.specs.Pieces.{at_positions, held, verdict_of, Keeps, NoneIgnored}
 use Rattle.encoding_stream.proofs.PieceLemmas.{positions-length, unfinished-kept}
 
 -- what is held is judged as a group, where it is not nothing
@@ -20,12 +21,12 @@ held_fault-some ended base (k ∷ ks) h = refl
 -- A last group that is held, behind groups without a fault.
 module _ (base : Base) (fault : Option DecodeError) (positions bytes : List ℕ) (count : ℕ)
     (ended : Bool) (none : fault ≡ None) where
-  abbrev held : List Positioned
-  held = at_positions count positions bytes
+  abbrev group : List Positioned
+  group = at_positions count positions bytes
 
   first : or_else fault (held_fault ended base (at_positions count positions bytes))
       ≡ held_fault ended base (at_positions count positions bytes)
-  first = ap (λ f. or_else f (held_fault ended base held)) none
+  first = ap (λ f. or_else f (held_fault ended base group)) none
 
   module _ (some : 0 < count) (h : count ≤ length positions) (k : count ≤ length bytes)
       (text : List ℕ) (len : ℕ)
@@ -38,7 +39,7 @@ module _ (base : Base) (fault : Option DecodeError) (positions bytes : List ℕ)
         → or_else fault (held_fault ended base (at_positions count positions bytes)) ≡ verdict
     last-judged verdict is =
         first
-        ∙ held_fault-some ended base held
+        ∙ held_fault-some ended base group
         (subst (λ n. 0 < n) (sym (positions-length count positions bytes h k)) some)
         ∙ is
 
@@ -57,15 +58,22 @@ module _ (base : Base) (is : IsSpecified base) (text : List ℕ) (len : ℕ)
         no-fault None m n h = refl
         no-fault (Some e) m n h = absurd (cc h)
 
-  pub bytes-judged : TellsBytes → (judged : Result ℕ DecodeError) (output : List ℕ)
-      → IfOk judged (λ written. (or_else fault (held_fault ended base held) ≡ None)
-      × (bytes_of_group base held ≡ take written output))
-      → IfErr judged (λ error. or_else fault (held_fault ended base held) ≡ Some error)
-      → sound_bytes base text ≡ whole_bytes base text ++ take (result_unwrap_or judged 0) output
-  bytes-judged tells (Ok written) output sound faulty =
-      tells base is text len fault held ended read
-      ∙ ap (λ o. whole_bytes base text ++ bytes_unless o base held) sound.0
-      ∙ ap (λ bs. whole_bytes base text ++ bs) sound.1
-  bytes-judged tells (Err error) output sound faulty =
-      tells base is text len fault held ended read
-      ∙ ap (λ o. whole_bytes base text ++ bytes_unless o base held) faulty
+-- The bytes of the whole text, with those of a last group where it has no fault.
+pub bytes-judged : (base : Base) → IsSpecified base → TellsBytes → (k : Kept)
+    (judged : Result ℕ DecodeError) (output : List ℕ) (written : ℕ)
+    → IfOk judged (λ count. (text : List ℕ) → Keeps base k text
+    → (or_else k.fault (held_fault k.ended base (held k)) ≡ None)
+    × (bytes_of_group base (held k) ≡ take count output))
+    → IfErr judged (λ error. (text : List ℕ) → Keeps base k text
+    → or_else k.fault (held_fault k.ended base (held k)) ≡ Some error)
+    → written ≡ result_unwrap_or judged 0 → (text : List ℕ) → Keeps base k text
+    → sound_bytes base text ≡ whole_bytes base text ++ take written output
+bytes-judged base is tells k (Ok count) output written sound faulty same text keeps =
+    tells base is text k.len k.fault (held k) k.ended keeps
+    ∙ ap (λ o. whole_bytes base text ++ bytes_unless o base (held k)) (sound text keeps).0
+    ∙ ap (λ bs. whole_bytes base text ++ bs) (sound text keeps).1
+    ∙ ap (λ n. whole_bytes base text ++ take n output) (sym same)
+bytes-judged base is tells k (Err error) output written sound faulty same text keeps =
+    tells base is text k.len k.fault (held k) k.ended keeps
+    ∙ ap (λ o. whole_bytes base text ++ bytes_unless o base (held k)) (faulty text keeps)
+    ∙ ap (λ n. whole_bytes base text ++ take n output) (sym same)

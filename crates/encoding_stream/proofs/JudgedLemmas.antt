@@ -11,7 +11,8 @@ use Rattle.data_encoding.specs.Lengths.{decoded_len, length_fault, most_bytes, u
 use Rattle.data_encoding.specs.Partial.{partial_by, partial_of}
 use Rattle.data_encoding.specs.Pieces.{fault_in, JudgesGroup}
 use Rattle.encoding_stream.specs.Pieces.{at_positions, NoneIgnored}
-use Rattle.encoding_stream.proofs.PieceLemmas.{by_width, positions-at, positions-bytes, positions-length}
+use Rattle.encoding_stream.proofs.SizeLemmas.{by_width, due-most}
+use Rattle.encoding_stream.proofs.PieceLemmas.{positions-at, positions-bytes, positions-length}
 
 -- As many bytes as a part of a group may mean are no more than those of a group.
 
@@ -30,16 +31,12 @@ either-few : (b : Bool) (x y z : ℕ) → x ≤ z → y ≤ z → cond b x y ≤
 either-few true x y z h k = h
 either-few false x y z h k = k
 
-due-most : (o : Option DecodeError) (m n : ℕ) → unless_fault o m ≡ Ok n → m ≡ n
-due-most None m n h = cc
-due-most (Some e) m n h = absurd (cc h)
-
 pub due-few : (base : Base) → IsWidth base.width → (n due : ℕ) → n ≤ group_symbols base.width
     → decoded_len base n ≡ Ok due → due ≤ group_bytes base.width
 due-few base width n due few is =
     let parts = most-parts base.width width n few in
     subst (λ k. k ≤ group_bytes base.width)
-    (due-most (length_fault base n) (most_bytes base n) due is)
+    (sym (due-most base n due is))
     (either-few (is_padded base) _ _ _ parts.0 parts.1)
 
 -- What a length, and a decoding that stopped, tell of the fault of a text.

@@ -1,6 +1,7 @@
 pub mod WriteLemmas
 pub mod ReadLemmas
 pub mod EncodedLemmas
+pub mod SizeLemmas
 pub mod ReadPieceLemmas
 pub mod ReadRunLemmas
 pub mod PieceLemmas
@@ -8,3 +9,4 @@ pub mod JudgedLemmas
 pub mod DecoderLemmas
 pub mod DecodedLemmas
 pub mod FinishLemmas
+mod Vectors

@@ -4,40 +4,13 @@ use Rattle.std.specs.List.{list_any}
 use Rattle.std.proofs.lemmas.List.{append-nil, take_more_set}
 use Rattle.std.proofs.lemmas.List.Elements.{All-append, All-cons, All-drop, All-nil, All-weaker, filter_passes}
 use Rattle.data_encoding.specs.declared.error.DecodeError.{DecodeError}
-use Rattle.data_encoding.specs.Base.{Base, IsWidth, group_bytes, group_symbols, is_ignored, is_padding, meaning}
+use Rattle.data_encoding.specs.Base.{Base, IsWidth, group_symbols, is_ignored, is_padding, meaning}
 use Rattle.data_encoding.specs.Fault.{bytes_of_group, fault_after, position_of}
 use Rattle.data_encoding.specs.Fields.{IsSpecified}
 use Rattle.data_encoding.specs.Grammar.{Positioned, is_final, kept, positioned}
 use Rattle.data_encoding.specs.Pieces.{bytes_unless, held_with, unfinished, whole_bytes, HasRead, HoldsPiece, KeepsFault, ReadsGroup}
 use Rattle.encoding_stream.specs.Pieces.{at_positions, paired, NoneIgnored}
-
--- what holds of each of the six widths
-pub by_width : (P : ℕ → Type 0) → P 1 → P 2 → P 3 → P 4 → P 5 → P 6
-    → (width : ℕ) → IsWidth width → P width
-by_width P a b c d e f zero h = absurd (omega (arith, h.some))
-by_width P a b c d e f (suc zero) h = a
-by_width P a b c d e f (suc (suc zero)) h = b
-by_width P a b c d e f (suc (suc (suc zero))) h = c
-by_width P a b c d e f (suc (suc (suc (suc zero)))) h = d
-by_width P a b c d e f (suc (suc (suc (suc (suc zero))))) h = e
-by_width P a b c d e f (suc (suc (suc (suc (suc (suc zero)))))) h = f
-by_width P a b c d e f (suc (suc (suc (suc (suc (suc (suc more))))))) h =
-    absurd (omega (arith, h.few))
-
-pub symbols-some : (width : ℕ) → IsWidth width → 0 < group_symbols width
-symbols-some =
-    by_width (λ w. 0 < group_symbols w) (omega arith) (omega arith) (omega arith) (omega arith)
-    (omega arith) (omega arith)
-
-pub symbols-few : (width : ℕ) → IsWidth width → group_symbols width ≤ 8
-symbols-few =
-    by_width (λ w. group_symbols w ≤ 8) (omega arith) (omega arith) (omega arith) (omega arith)
-    (omega arith) (omega arith)
-
-pub bytes-fewer : (width : ℕ) → IsWidth width → group_bytes width ≤ group_symbols width
-bytes-fewer =
-    by_width (λ w. group_bytes w ≤ group_symbols w) (omega arith) (omega arith) (omega arith)
-    (omega arith) (omega arith) (omega arith)
+use Rattle.encoding_stream.proofs.SizeLemmas.{symbols-few}
 
 -- Bytes at their positions.
 
@@ -50,7 +23,7 @@ paired-append (p ∷ ps) qs (b ∷ bs) cs h =
     ap (λ ks. record { position = p; byte = b } ∷ ks)
     (paired-append ps qs bs cs (omega (arith, h)))
 
-pub positions-more : (n : ℕ) (ps bs : List ℕ) (p b : ℕ) → n < length ps → n < length bs
+positions-more : (n : ℕ) (ps bs : List ℕ) (p b : ℕ) → n < length ps → n < length bs
     → at_positions (n + 1) (set ps n p) (set bs n b)
     ≡ at_positions n ps bs ++ record { position = p; byte = b } ∷ []
 positions-more n ps bs p b h k =
@@ -181,7 +154,7 @@ module _ (base : Base) (is : IsSpecified base) (text : List ℕ) (len byte : ℕ
       reads base is text (byte ∷ []) len held group ended read more (size ∙ whole)
 
 -- After a fault it is not said what is held.
-pub faulty-any : (base : Base) (text : List ℕ) (len : ℕ) (error : DecodeError)
+faulty-any : (base : Base) (text : List ℕ) (len : ℕ) (error : DecodeError)
     (held other : List Positioned) (ended end : Bool)
     → HasRead base text len (Some error) held ended → HasRead base text len (Some error) other end
 faulty-any base text len error held other ended end read = record {
@@ -191,7 +164,7 @@ faulty-any base text len error held other ended end read = record {
   ends = λ none. absurd (cc none);
 }
 
-no-fault : (fault : Option DecodeError) → is_some fault ≡ false → fault ≡ None
+pub no-fault : (fault : Option DecodeError) → is_some fault ≡ false → fault ≡ None
 no-fault None h = refl
 no-fault (Some error) h = absurd (cc h)
 

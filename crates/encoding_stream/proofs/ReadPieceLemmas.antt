@@ -1,22 +1,18 @@
 -- Lemmas on a piece of a text that is read part after part.
-use Rattle.std.proofs.Common.{Bool, true, Option, None, Some, is_some, ◌≡◌, ℕ, ◌+◌, ◌-◌, ◌*◌, ◌<◌, ◌≤◌, List, [], ◌∷◌, ◌++◌, length, get_or, take, drop, sym, subst, ap, ◌∙◌, append_assoc, arith, length-append, length-take-le}
+use Rattle.std.proofs.Common.{Bool, true, Option, None, Some, is_some, ◌≡◌, ℕ, ◌+◌, ◌-◌, ◌*◌, ◌<◌, ◌≤◌, List, [], ◌∷◌, ◌++◌, length, get_or, take, drop, refl, sym, subst, ap, ◌∙◌, append_assoc, arith, length-append, length-take-le}
 use Rattle.std.proofs.lemmas.List.{append-nil, length-drop, take-append-drop, take-append-le, take_more, take_rest}
 use borrow.Rule.Slice.PartMut.{put_mid}
 use Rattle.std.proofs.Math.Seq.{take-add, take-append-add}
-use Rattle.std.proofs.Math.Nat.{mul-le-mul_left, le-div_iff_mul-le}
+use Rattle.std.proofs.Math.Nat.{mul-le-mul_left}
 use Rattle.data_encoding.specs.Base.{Base, IsWidth, group_bytes, group_symbols}
 use Rattle.data_encoding.specs.declared.error.DecodeError.{DecodeError}
 use Rattle.data_encoding.specs.Fields.{IsSpecified}
 use Rattle.data_encoding.specs.Grammar.{Positioned}
 use Rattle.data_encoding.specs.Pieces.{whole_bytes, HasRead, KeepsFault}
 use Rattle.encoding_stream.specs.declared.pieces.Kept.{Kept}
-use Rattle.encoding_stream.specs.Pieces.{FillsGroups, Keeps}
+use Rattle.encoding_stream.specs.Pieces.{held, FillsGroups, Keeps}
 use Rattle.encoding_stream.specs.Reading.{ReadsOn}
-
--- a group has fewer bytes than symbols
-bytes-few : (width : ℕ) → IsWidth width → group_bytes width ≤ group_symbols width
-bytes-few width is =
-    (le-div_iff_mul-le is.some).1 (mul-le-mul_left (group_bytes width) (omega (arith, is.few)))
+use Rattle.encoding_stream.proofs.SizeLemmas.{bytes-fewer}
 
 fills-join : (base : Base) (a x b w y c v : ℕ) → FillsGroups base a x b w
     → FillsGroups base b y c v → FillsGroups base a (x + y) c (w + v)
@@ -31,15 +27,24 @@ fills-room : (base : Base) (a x b w : ℕ) → IsWidth base.width → FillsGroup
     → w + b ≤ a + x
 fills-room base a x b w width fills =
     let less : fills.groups * group_bytes base.width ≤ fills.groups * group_symbols base.width =
-    mul-le-mul_left fills.groups (bytes-few base.width width) in
+    mul-le-mul_left fills.groups (bytes-fewer base.width width) in
     omega (arith, fills.symbols, fills.bytes, less)
+
+-- where no group is completed
+pub fills-none : (base : Base) (old len new : ℕ) → new ≤ old + len
+    → FillsGroups base old len new 0
+fills-none base old len new few = record {
+  groups = 0;
+  symbols = omega (arith, few);
+  bytes = omega arith;
+}
 
 pub reads-nothing : (base : Base) (kept : Kept) → ReadsOn base kept kept [] []
 reads-nothing base kept = record {
   keeps = λ text keeps. subst (Keeps base kept) (sym (append-nil text)) keeps;
   decodes = λ text keeps. ap (whole_bytes base) (append-nil text) ∙ sym (append-nil _);
   counted = omega arith;
-  few = record { groups = 0; symbols = omega arith; bytes = omega arith };
+  few = fills-none base kept.count 0 kept.count (omega arith);
 }
 
 pub reads-join : (base : Base) (a b c : Kept) (one other bytes more : List ℕ)
@@ -61,7 +66,7 @@ reads-join base a b c one other bytes more first second = record {
 }
 
 -- the output has room for what is left
-pub reads-room : (base : Base) (a b : Kept) (piece output : List ℕ) (read written : ℕ)
+reads-room : (base : Base) (a b : Kept) (piece output : List ℕ) (read written : ℕ)
     → IsWidth base.width → ReadsOn base a b (take read piece) (take written output)
     → read ≤ length piece → written ≤ length output → a.count + length piece ≤ length output
     → b.count + (length piece - read) ≤ length output - written
@@ -105,15 +110,28 @@ within-left i n xs within few =
     let left = length-left i xs in
     omega (arith, left)
 
--- after a fault the length alone changes
-pub fault-keeps : (base : Base) → IsSpecified base → KeepsFault → (fault : Option DecodeError)
-    → is_some fault ≡ true → (text piece : List ℕ) (len : ℕ) (held other : List Positioned)
-    (ended end : Bool) → HasRead base text len fault held ended
-    → HasRead base (text ++ piece) (len + length piece) fault other end
+fault-keeps : (base : Base) → IsSpecified base → KeepsFault → (fault : Option DecodeError)
+    → is_some fault ≡ true → (text piece : List ℕ) (len : ℕ) (held : List Positioned)
+    (ended : Bool) → HasRead base text len fault held ended
+    → HasRead base (text ++ piece) (len + length piece) fault held ended
     × (whole_bytes base (text ++ piece) ≡ whole_bytes base text)
-fault-keeps base is law None some text piece len held other ended end reads = absurd (cc)
-fault-keeps base is law (Some error) some text piece len held other ended end reads =
-    law base is text piece len error held other ended end reads
+fault-keeps base is law None some text piece len held ended reads = absurd (cc)
+fault-keeps base is law (Some error) some text piece len held ended reads =
+    law base is text piece len error held held ended ended reads
+
+-- after a fault the length alone changes
+pub reads-fault : (base : Base) → IsSpecified base → KeepsFault → (old : Kept)
+    → is_some old.fault ≡ true → (piece : List ℕ)
+    → ReadsOn base old (record old { len = old.len + length piece }) piece []
+reads-fault base is law old some piece =
+    let next = λ (text : List ℕ) (keeps : Keeps base old text).
+    fault-keeps base is law old.fault some text piece old.len (held old) old.ended keeps in
+    record {
+      keeps = λ text keeps. (next text keeps).0;
+      decodes = λ text keeps. (next text keeps).1 ∙ sym (append-nil _);
+      counted = refl;
+      few = fills-none base old.count (length piece) old.count (omega arith);
+    }
 
 -- what follows is written behind what was
 pub length-written : (written : ℕ) (output part : List ℕ) → written ≤ length output
@@ -145,29 +163,29 @@ take-written written more output part fits few =
     ∙ ap (λ bs. take written output ++ bs) (take-append-le more part post few)
 
 -- one byte, as it is taken
-pub reads-byte : (base : Base) (a b : Kept) (byte : ℕ) (part : List ℕ) (more : ℕ)
-    → ((text : List ℕ) → Keeps base a text → Keeps base b (text ++ byte ∷ []))
-    → ((text : List ℕ) → Keeps base a text
-    → whole_bytes base (text ++ byte ∷ []) ≡ whole_bytes base text ++ take more part)
-    → b.len ≡ a.len + 1 → FillsGroups base a.count 1 b.count more → more ≤ length part
-    → ReadsOn base a b (byte ∷ []) (take more part)
-reads-byte base a b byte part more keeps decodes counted few fits = record {
-  keeps = keeps;
-  decodes = decodes;
+pub reads-byte : (base : Base) (a b : Kept) (byte : ℕ) (bytes : List ℕ)
+    → ((text : List ℕ) → Keeps base a text → Keeps base b (text ++ byte ∷ [])
+    × (whole_bytes base (text ++ byte ∷ []) ≡ whole_bytes base text ++ bytes))
+    → b.len ≡ a.len + 1 → FillsGroups base a.count 1 b.count (length bytes)
+    → ReadsOn base a b (byte ∷ []) bytes
+reads-byte base a b byte bytes takes counted few = record {
+  keeps = λ text keeps. (takes text keeps).0;
+  decodes = λ text keeps. (takes text keeps).1;
   counted = counted;
-  few = subst (FillsGroups base a.count 1 b.count) (sym (length-take-le more part fits)) few;
+  few = few;
 }
 
 -- a byte that follows
-pub reads-next : (base : Base) (a b c : Kept) (piece output part : List ℕ)
+pub reads-next : (base other : Base) → other ≡ base → (a b c : Kept) (piece output part : List ℕ)
     (read written more : ℕ) → ReadsOn base a b (take read piece) (take written output)
-    → ReadsOn base b c (get_or piece read 0 ∷ []) (take more part)
+    → ReadsOn other b c (get_or piece read 0 ∷ []) (take more part)
     → read < length piece → written ≤ length output → more ≤ length part
     → ReadsOn base a c (take (read + 1) piece)
     (take (written + more) (put_mid written (length output - written) output part))
-reads-next base a b c piece output part read written more first second within fits few =
+reads-next base other same a b c piece output part read written more first second within fits few =
+    let here = subst (λ k. ReadsOn k b c (get_or piece read 0 ∷ []) (take more part)) same second in
     rw (take-written written more output part fits few, take_more piece read 0 within)
-    (reads-join base a b c _ _ _ _ first second)
+    (reads-join base a b c _ _ _ _ first here)
 
 -- a part that follows
 pub reads-part : (base other : Base) → other ≡ base → (a b c : Kept) (piece output part : List ℕ)

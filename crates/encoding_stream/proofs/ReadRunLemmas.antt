@@ -11,15 +11,13 @@ use Rattle.data_encoding.specs.Pieces.{whole_bytes, AreWhole, CountsGroups, Ends
 use Rattle.encoding_stream.specs.declared.pieces.Kept.{Kept}
 use Rattle.encoding_stream.specs.Pieces.{at_positions, held, FillsGroups, Keeps}
 use Rattle.encoding_stream.specs.Reading.{AreWholeGroups, ReadsOn}
+use Rattle.encoding_stream.proofs.PieceLemmas.{no-fault}
+use Rattle.encoding_stream.proofs.SizeLemmas.{bytes-some, due-most}
 
 -- nothing is held
 nothing-held : (count : ℕ) (positions bytes : List ℕ) → count ≡ 0
     → at_positions count positions bytes ≡ []
 nothing-held count positions bytes none = ap (λ n. at_positions n positions bytes) none
-
-no-fault : (fault : Option DecodeError) → is_some fault ≡ false → fault ≡ None
-no-fault None is = refl
-no-fault (Some error) is = absurd (cc)
 
 -- whole groups that mean bytes, behind whole groups
 run-read : (base : Base) → IsSpecified base → ReadsSound → (text piece bytes : List ℕ) (len : ℕ)
@@ -50,12 +48,6 @@ reads-run base is law old count fault ended piece bytes means whole few =
       few = subst (λ n. FillsGroups base n (length piece) n (length bytes)) (sym count) few;
     }
 
--- the number of bytes that is due
-unless-ok : (fault : Option DecodeError) (most bytes : ℕ) → unless_fault fault most ≡ Ok bytes
-    → most ≡ bytes
-unless-ok None most bytes is = cc
-unless-ok (Some error) most bytes is = absurd (cc)
-
 pub due-group : (base : Base) → IsSpecified base → CountsGroups → (size : ℕ)
     → size ≡ group_symbols base.width → decoded_len base size ≡ Ok (group_bytes base.width)
 due-group base is law size same =
@@ -63,14 +55,6 @@ due-group base is law size same =
     let bytes : 1 * group_bytes base.width ≡ group_bytes base.width = omega arith in
     subst (λ n. decoded_len base n ≡ Ok (group_bytes base.width)) symbols
     (subst (λ n. decoded_len base (1 * group_symbols base.width) ≡ Ok n) bytes (law base is 1))
-
-some-by : (five three : Bool) → 0 < (if five then 5 else if three then 3 else 1)
-some-by true three = omega arith
-some-by false true = omega arith
-some-by false false = omega arith
-
-pub bytes-some : (width : ℕ) → 0 < group_bytes width
-bytes-some width = some-by (width == 5) (width % 3 == 0)
 
 -- no group is final where the bytes are whole groups
 not-both : (a b : Bool) → b ≡ true → (a && not b) ≡ false
@@ -104,8 +88,8 @@ pub fills-by_length : (base : Base) → IsSpecified base → CountsGroups → (r
 fills-by_length base is law read written divides some most =
     let count = read / group_symbols base.width in
     let all : count * group_symbols base.width ≡ read = omega (arith, divides, some) in
-    let due : most_bytes base read ≡ count * group_bytes base.width =
-    unless-ok (length_fault base read) _ _
+    let due : count * group_bytes base.width ≡ most_bytes base read =
+    due-most base read (count * group_bytes base.width)
     (subst (λ n. decoded_len base n ≡ Ok (count * group_bytes base.width)) all (law base is count))
     in
     record {
@@ -139,17 +123,6 @@ fills-by_bytes base width read written divides most =
     (div-mul-le_self (group_bytes base.width * 8) base.width) divides most in
     record { groups = found.0; symbols = omega (arith, found.1); bytes = found.2 }
 
--- what is due of a text, and of a front of it
-pub due-most : (base : Base) (len most : ℕ) → decoded_len base len ≡ Ok most
-    → most ≡ most_bytes base len
-due-most base len most is = sym (unless-ok (length_fault base len) (most_bytes base len) most is)
-
-pub due-exact : (base : Base) (len most : ℕ) (piece output : List ℕ) → len ≤ length piece
-    → most ≤ length output → decoded_len base len ≡ Ok most
-    → decoded_len base (length (take len piece)) ≡ Ok (length (take most output))
-due-exact base len most piece output few room is =
-    rw (length-take-le len piece few, length-take-le most output room) is
-
 due-within : (fault : Option DecodeError) (most written : ℕ)
     → IsOkAnd (unless_fault fault most) (λ n. written ≤ n) → written ≤ most
 due-within None most written is = is
@@ -173,7 +146,7 @@ pub stopped-most : (base : Base) (read written : ℕ)
 stopped-most base read written is =
     due-within (length_fault base read) (most_bytes base read) written is
 
-pub stopped-within : (base : Base) (read written len most : ℕ) → 0 < group_symbols base.width
+stopped-within : (base : Base) (read written len most : ℕ) → 0 < group_symbols base.width
     → read ≤ len
     → decoded_len base len ≡ Ok most → IsOkAnd (decoded_len base read) (λ n. written ≤ n)
     → written ≤ most
@@ -185,10 +158,33 @@ stopped-within base read written len most some few due is =
     let all = due-most base len most due in
     omega (arith, here, grows, all)
 
-pub stopped-means : (base : Base) (piece output new : List ℕ) (read written len most : ℕ)
-    → read ≤ len → written ≤ length new
-    → Means base (take read (take len piece)) (take written new)
-    → Means base (take read piece) (take written (new ++ drop most output))
-stopped-means base piece output new read written len most few fits means =
-    let front = rw (take-take read len piece few) at means in
-    rw (take-append-le written new (drop most output) fits) front
+-- A front of a piece, decoded as a text of its own into as much of the output as is due for it.
+module _ (base : Base) (len most : ℕ) (piece output : List ℕ) (few : len ≤ length piece)
+    (room : length piece ≤ length output) (due : decoded_len base len ≡ Ok most)
+    (less : most_bytes base len ≤ len) where
+  pub run-room : most ≤ length output
+  run-room = omega (arith, due-most base len most due, less, few, room)
+
+  pub run-part : length (take most output) ≡ most
+  run-part = length-take-le most output run-room
+
+  pub run-exact : decoded_len base (length (take len piece)) ≡ Ok (length (take most output))
+  run-exact = rw (length-take-le len piece few, run-part) due
+
+  -- where it stops
+  module _ (new : List ℕ) (same : length new ≡ length (take most output)) (read at written : ℕ)
+      (some : 0 < group_symbols base.width) (before : read ≤ at)
+      (inside : at < length (take len piece))
+      (is : IsOkAnd (decoded_len base read) (λ n. written ≤ n)) where
+    begun : read ≤ len
+    begun = omega (arith, before, inside, length-take-le len piece few)
+
+    pub stopped-fits : written ≤ length new
+    stopped-fits =
+        omega (arith, same, run-part, stopped-within base read written len most some begun due is)
+
+    pub stopped-means : Means base (take read (take len piece)) (take written new)
+        → Means base (take read piece) (take written (new ++ drop most output))
+    stopped-means means =
+        let front = rw (take-take read len piece begun) at means in
+        rw (take-append-le written new (drop most output) stopped-fits) front

@@ -1,5 +1,5 @@
 -- What decoding a reader into a writer has done.
-use Rattle.std.specs.Prelude.{◌≡◌, ℕ, ◌+◌, Bool, false, List, ◌++◌, length, Option, Some, None, Result, Ok, Err, IfSome}
+use Rattle.std.specs.Prelude.{◌≡◌, ℕ, Bool, false, List, ◌++◌, Option, Some, None, Result, Ok, Err, IfSome}
 use Rattle.std.specs.Io.KnownBytes.{Appends, Consumes, IsAtEnd}
 use Rattle.data_encoding.specs.declared.error.DecodeError.{DecodeError}
 use Rattle.data_encoding.specs.Base.{Base}
@@ -35,14 +35,6 @@ pub record DecodesFront (base : Base)
 abbrev pub answer_of : Option DecodeError → Result (Unit {0}) StreamFault
 answer_of None = Ok _
 answer_of (Some error) = Err (Decode error)
-
--- Of each text of which the first is kept, the second is kept with this piece behind it, and the
--- groups that are then whole have these bytes.
-pub record ReadsPiece (base : Base) (old new : Kept) (piece bytes : List ℕ) : Type 0 where
-  pub keeps : (text : List ℕ) → Keeps base old text → Keeps base new (text ++ piece)
-  pub decodes : (text : List ℕ) → Keeps base old text
-      → whole_bytes base (text ++ piece) ≡ whole_bytes base text ++ bytes
-  pub counted : new.len ≡ old.len + length piece
 
 -- A beginning of these bytes was written, and all of them unless that failed: the last of each text
 -- of which this is kept.

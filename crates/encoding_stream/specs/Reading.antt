@@ -16,6 +16,13 @@ pub record ReadsOn (base : Base) (old new : Kept) (piece bytes : List ℕ) : Typ
   pub counted : new.len ≡ old.len + length piece
   pub few : FillsGroups base old.count (length piece) new.count (length bytes)
 
+-- A piece was read on, and the bytes of the groups that are then whole were appended.
+pub record AppendsPiece (base : Base) (old new : Kept) (piece output_old output_new : List ℕ)
+    : Type 0 where
+  pub bytes : List ℕ
+  pub reads : ReadsOn base old new piece bytes
+  pub appended : output_new ≡ output_old ++ bytes
+
 -- The text is whole groups, of which none is final.
 pub record AreWholeGroups (base : Base) (text : List ℕ) : Type 0 where
   pub whole : length (kept base text) % group_symbols base.width ≡ 0

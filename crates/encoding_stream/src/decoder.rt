@@ -7,7 +7,7 @@ ghost use Rattle.data_encoding.specs.Fields.{IsSpecified};
 ghost use Rattle.data_encoding.specs.Fault.{fault_of, sound_bytes};
 ghost use Rattle.data_encoding.specs.Pieces.{whole_bytes, HasDecoded};
 ghost use Rattle.encoding_stream.specs.Pieces.{base_of_pieces, verdict_of, Keeps};
-ghost use Rattle.encoding_stream.specs.Decoded.{ReadsPiece};
+ghost use Rattle.encoding_stream.specs.Reading.{AppendsPiece, ReadsOn};
 
 use crate::pieces::PieceDecoder;
 use data_encoding::{DECODE_LIMIT, DecodeError, Encoding, laws};
@@ -130,16 +130,8 @@ fn append_piece<A: Allocator + Copy>(
     requires specified { ∥ IsSpecified (base_of_pieces pieces.old) ∥₁ }
     requires limit { pieces.old.kept.len + length piece.now ≤ DECODE_LIMIT }
     ensures base { base_of_pieces pieces.new ≡ base_of_pieces pieces.old }
-    ensures len { OnOk result (pieces.new.kept.len
-        ≡ pieces.old.kept.len + length piece.now) }
-    ensures keeps { OnOk result ((text : List ℕ)
-        → Keeps (base_of_pieces pieces.old) pieces.old.kept text
-        → Keeps (base_of_pieces pieces.old) pieces.new.kept (text ++ piece.now)) }
-    ensures decoded { OnOk result ((before text : List ℕ)
-        → Keeps (base_of_pieces pieces.old) pieces.old.kept text
-        → HasDecoded (base_of_pieces pieces.old) before text output.old.items
-        → HasDecoded (base_of_pieces pieces.old) before (text ++ piece.now)
-        output.new.items) }
+    ensures appends { OnOk result (AppendsPiece (base_of_pieces pieces.old) pieces.old.kept
+        pieces.new.kept piece.now output.old.items output.new.items) }
     ensures unchanged { OnErr result (output.new.items ≡ output.old.items) }
     ensures no_group { (text : List ℕ)
         → Keeps (base_of_pieces pieces.old) pieces.old.kept text
@@ -191,7 +183,7 @@ fn read_first(pieces: &mut PieceDecoder<'_>, piece: &[u8], buffer: &mut [u8]) ->
     requires limit { pieces.old.kept.len + length piece.now ≤ DECODE_LIMIT }
     requires room { length buffer.old ≡ ROOM }
     ensures base { base_of_pieces pieces.new ≡ base_of_pieces pieces.old }
-    ensures reads { ReadsPiece (base_of_pieces pieces.old) pieces.old.kept pieces.new.kept
+    ensures reads { ReadsOn (base_of_pieces pieces.old) pieces.old.kept pieces.new.kept
         (take result.0 piece.now) (take result.1 buffer.new) }
     ensures read { result.0 ≤ length piece.now }
     ensures written { result.1 ≤ length buffer.new }
@@ -221,13 +213,8 @@ fn append_rest<A: Allocator + Copy>(
         / group_symbols (base_of_pieces pieces.old).width
         * group_bytes (base_of_pieces pieces.old).width ≤ vec_capacity output.old }
     ensures base { base_of_pieces pieces.new ≡ base_of_pieces pieces.old }
-    ensures counted { pieces.new.kept.len ≡ pieces.old.kept.len + length piece.now }
-    ensures keeps { (text : List ℕ) → Keeps (base_of_pieces pieces.old) pieces.old.kept text
-        → Keeps (base_of_pieces pieces.old) pieces.new.kept (text ++ piece.now) }
-    ensures decoded { (before text : List ℕ)
-        → Keeps (base_of_pieces pieces.old) pieces.old.kept text
-        → HasDecoded (base_of_pieces pieces.old) before text output.old.items
-        → HasDecoded (base_of_pieces pieces.old) before (text ++ piece.now) output.new.items }
+    ensures appends { AppendsPiece (base_of_pieces pieces.old) pieces.old.kept pieces.new.kept
+        piece.now output.old.items output.new.items }
 {
     let mut read = 0;
     while read < piece.len() {

@@ -9,6 +9,7 @@ mod decoder;
 mod encode;
 mod error;
 mod fill;
+mod group;
 mod pieces;
 mod watch;
 

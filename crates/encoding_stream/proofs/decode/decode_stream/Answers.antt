@@ -33,7 +33,7 @@ loop-count-preserved g c =
     reads-buffer base (base_of_pieces c.loop-count.pieces) now.base c.loop-count.pieces.kept
     c.read-written.new.self.kept c.fill.new.buffer (drop asked c.loop-count.buffer) count
     (take c.read-written.result c.read-written.new.output) c.in-Ok.ensures.bound
-    c.read-written.ensures.keeps c.read-written.ensures.bytes c.read-written.ensures.read in
+    c.read-written.ensures.reads in
     let taken : length more ≡ count =
     length-take-le count c.fill.new.buffer c.in-Ok.ensures.bound in
     let few : asked ≤ length c.loop-count.buffer = omega (arith, c.min-asked.ensures, now.chunk) in
@@ -90,8 +90,7 @@ returns-then-is_err-clause-begun g c =
     let reads =
     reads-buffer base (base_of_pieces c.loop-count.pieces) now.base c.loop-count.pieces.kept
     c.read-written.new.self.kept c.fill.new.buffer (drop c.min-asked.result c.loop-count.buffer)
-    count bytes c.in-Ok.ensures.bound c.read-written.ensures.keeps c.read-written.ensures.bytes
-    c.read-written.ensures.read in
+    count bytes c.in-Ok.ensures.bound c.read-written.ensures.reads in
     decoded-front base c.bit_width.ensures.base c.loop-count.pieces.kept
     c.read-written.new.self.kept _ _ _ _ _ now.decoded (take count c.fill.new.buffer) bytes
     c.in-Ok.ensures.bytes reads c.pieces.ensures.grows c.pieces.ensures.bytes _
@@ -110,7 +109,7 @@ returns-then-count-asked g c =
     reads-buffer base (base_of_pieces c.loop-count.pieces) now.base c.loop-count.pieces.kept
     next.kept c.fill.new.buffer (drop asked c.loop-count.buffer) count
     (take c.read-written.result c.read-written.new.output) c.in-Ok.ensures.bound
-    c.read-written.ensures.keeps c.read-written.ensures.bytes c.read-written.ensures.read in
+    c.read-written.ensures.reads in
     let few : asked ≤ length c.loop-count.buffer = omega (arith, c.min-asked.ensures, now.chunk) in
     let filled : length c.fill.new.buffer ≡ asked =
     c.fill.auto.buffer ∙ length-take-le asked c.loop-count.buffer few in

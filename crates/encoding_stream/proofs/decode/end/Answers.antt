@@ -4,8 +4,7 @@ use Rattle.data_encoding.specs.Fault.{fault_of}
 use Rattle.encoding_stream.specs.Decoded.{EndsText}
 use Rattle.encoding_stream.specs.Pieces.{base_of_pieces}
 use Rattle.encoding_stream.specs.Watch.{has_failed, inner_of}
-use Rattle.encoding_stream.proofs.DecodedLemmas.{answers-error, answers-ok, has-failed, not-both, on-works}
-use Rattle.encoding_stream.proofs.WriteLemmas.{AppendsFront-all}
+use Rattle.encoding_stream.proofs.DecodedLemmas.{answers-error, answers-ok, ends-all, has-failed, not-both, on-works}
 use Rattle.encoding_stream.proofs.decode.end.Goals.{then-is_err-via-then-is_err, then-is_err-via-else-is_err+then-is_err-2}
 use Rattle.encoding_stream.proofs.decode.end.Goals as goal
 
@@ -34,27 +33,16 @@ returns-then-is_err-clause-last g c =
           w.flush.ensures.bytes in
           subst (λ writer. EndsText base kept (has_failed writer) old
           (g.W.Write.contents (inner_of writer))) (sym w.writer-is)
-          (record {
-            bytes = bytes;
-            sound = c.finish-written.ensures.bytes;
-            begun = AppendsFront-all _ _ bytes written;
-            all = λ works. written;
-          })
+          (ends-all base kept _ _ _ bytes c.finish-written.ensures.bytes written)
     ]
 
 pub returns-in-Ok-clause-last : goal.returns-in-Ok-clause-last
 returns-in-Ok-clause-last g c =
-    let bytes = take c.finish-written.result.0 c.finish-written.new.output in
-    let written =
-    Appends-kept _ _ _ _
+    ends-all (base_of_pieces c.args.pieces.now) c.args.pieces.now.kept _ _ _
+    (take c.finish-written.result.0 c.finish-written.new.output) c.finish-written.ensures.bytes
+    (Appends-kept _ _ _ _
     (on-works c.write_all.result c.if-is_err.ensures.value c.write_all.ensures.bytes)
-    c.flush.ensures.bytes in
-    record {
-      bytes = bytes;
-      sound = c.finish-written.ensures.bytes;
-      begun = AppendsFront-all _ _ bytes written;
-      all = λ works. written;
-    }
+    c.flush.ensures.bytes)
 
 pub returns-in-Ok-clause-verdict : goal.returns-in-Ok-clause-verdict
 returns-in-Ok-clause-verdict g c = λ text is works.
@@ -63,17 +51,11 @@ returns-in-Ok-clause-verdict g c = λ text is works.
 
 pub returns-in-Err-clause-last : goal.returns-in-Err-clause-last
 returns-in-Err-clause-last g c =
-    let bytes = take c.finish-written.result.0 c.finish-written.new.output in
-    let written =
-    Appends-kept _ _ _ _
+    ends-all (base_of_pieces c.args.pieces.now) c.args.pieces.now.kept _ _ _
+    (take c.finish-written.result.0 c.finish-written.new.output) c.finish-written.ensures.bytes
+    (Appends-kept _ _ _ _
     (on-works c.write_all.result c.if-is_err.ensures.value c.write_all.ensures.bytes)
-    c.flush.ensures.bytes in
-    record {
-      bytes = bytes;
-      sound = c.finish-written.ensures.bytes;
-      begun = AppendsFront-all _ _ bytes written;
-      all = λ works. written;
-    }
+    c.flush.ensures.bytes)
 
 pub returns-in-Err-clause-verdict : goal.returns-in-Err-clause-verdict
 returns-in-Err-clause-verdict g c = λ text is works.

@@ -1,10 +1,11 @@
-use Rattle.std.proofs.Common.{◌≡◌, ℕ, ◌+◌, ◌-◌, ◌<◌, ◌≤◌, [], ◌++◌, length, take, drop, refl, sym, ap, subst, ◌∙◌, arith, length-take-le}
+use Rattle.std.proofs.Common.{◌≡◌, ℕ, ◌+◌, ◌-◌, ◌≤◌, [], ◌++◌, length, take, drop, refl, sym, ap, subst, ◌∙◌, arith, length-take-le, take_all}
 use Rattle.std.proofs.lemmas.List.{length-drop, take-append-drop}
 use Rattle.std.proofs.lemmas.Slice.{pushed}
-use Rattle.data_encoding.specs.Base.{group_symbols}
 use Rattle.data_encoding.specs.Pieces.{whole_bytes}
 use Rattle.encoding_stream.specs.Pieces.{base_of_pieces}
-use Rattle.encoding_stream.proofs.DecoderLemmas.{front-adds-none, most-few, only-decoded, only-keeps, rest-decoded, rest-keeps}
+use Rattle.encoding_stream.specs.Reading.{ReadsOn}
+use Rattle.encoding_stream.proofs.DecoderLemmas.{appends-none, appends-rest, front-adds-none}
+use Rattle.encoding_stream.proofs.SizeLemmas.{most-few}
 use Rattle.encoding_stream.proofs.decoder.append_piece.Goals as goal
 
 pub overflow_add-written : goal.overflow_add-written
@@ -20,8 +21,6 @@ overflow_add-written g c =
     let length-front : length (take read piece) ≡ read = length-take-le read piece within in
     let limit : c.args.pieces.now.kept.len + length piece ≤ 2305843009213693951 =
     c.requires.limit in
-    let some : 0 < group_symbols (base_of_pieces first.new.pieces).width =
-    omega (arith, first.new.pieces.short, first.new.pieces.group) in
     let all : first.new.pieces.kept.count + length rest ≤ 2305843009213693951 =
     omega (
       arith,
@@ -35,7 +34,8 @@ overflow_add-written g c =
     omega (
       arith,
       c.most.ensures,
-      most-few (base_of_pieces first.new.pieces) (first.new.pieces.kept.count + length rest) some,
+      most-few (base_of_pieces first.new.pieces).width first.new.pieces.width
+          (first.new.pieces.kept.count + length rest),
       all,
       first.ensures.written,
       first.ensures.len,
@@ -61,51 +61,29 @@ returns-in_err-reserve-clause-no_group g c = λ text is none.
     ) in
     absurd no
 
-pub returns-in_ok-reserve-clause-keeps : goal.returns-in_ok-reserve-clause-keeps
-returns-in_ok-reserve-clause-keeps g c = λ text is.
+pub returns-in_ok-reserve-clause-appends : goal.returns-in_ok-reserve-clause-appends
+returns-in_ok-reserve-clause-appends g c =
     let base = base_of_pieces c.args.pieces.now in
-    let piece = c.args.piece.now in
+    let old = c.args.output.now.items in
     let first = c.read_first-read in
-    let read : ℕ = first.result.0 in
     let bytes = take first.result.1 first.new.buffer in
-    rest-keeps base c.args.pieces.now.kept first.new.pieces.kept piece read bytes
-    first.ensures.read first.ensures.reads c.append_rest.new.pieces.kept
-    (rw first.ensures.base at c.append_rest.ensures.keeps) text is
-
-pub returns-else-written-gt0-clause-keeps : goal.returns-else-written-gt0-clause-keeps
-returns-else-written-gt0-clause-keeps g c = λ text is.
-    let base = base_of_pieces c.args.pieces.now in
-    let piece = c.args.piece.now in
-    let first = c.read_first-read in
-    let read : ℕ = first.result.0 in
-    let bytes = take first.result.1 first.new.buffer in
-    let none : first.result.1 ≡ 0 = omega (arith, c.if-written-gt0.false) in
-    only-keeps base c.args.pieces.now.kept first.new.pieces.kept piece read bytes
-    first.ensures.read first.ensures.reads (first.ensures.all none) text is
-
-pub returns-in_ok-reserve-clause-decoded : goal.returns-in_ok-reserve-clause-decoded
-returns-in_ok-reserve-clause-decoded g c = λ before text is decoded.
-    let base = base_of_pieces c.args.pieces.now in
-    let piece = c.args.piece.now in
-    let first = c.read_first-read in
-    let read : ℕ = first.result.0 in
-    let bytes = take first.result.1 first.new.buffer in
-    let items : c.extend_from_slice.new.self.items ≡ c.args.output.now.items ++ bytes =
+    let items : c.extend_from_slice.new.self.items ≡ old ++ bytes =
     pushed bytes c.reserve.ensures.items c.unwrap.ensures c.extend_from_slice.ensures.items in
-    rest-decoded base c.args.pieces.now.kept first.new.pieces.kept piece read bytes
-    first.ensures.read first.ensures.reads c.args.output.now.items
-    c.append_rest.new.output.items
-    (rw (first.ensures.base, items) at c.append_rest.ensures.decoded) before text is decoded
+    appends-rest base c.args.pieces.now.kept first.new.pieces.kept c.append_rest.new.pieces.kept
+    c.args.piece.now first.result.0 old (old ++ bytes) c.append_rest.new.output.items
+    (record { bytes = bytes; reads = first.ensures.reads; appended = refl })
+    (rw (first.ensures.base, items) at c.append_rest.ensures.appends)
 
-pub returns-else-written-gt0-clause-decoded : goal.returns-else-written-gt0-clause-decoded
-returns-else-written-gt0-clause-decoded g c = λ before text is decoded.
+pub returns-else-written-gt0-clause-appends : goal.returns-else-written-gt0-clause-appends
+returns-else-written-gt0-clause-appends g c =
     let base = base_of_pieces c.args.pieces.now in
+    let old = c.args.pieces.now.kept in
     let piece = c.args.piece.now in
     let first = c.read_first-read in
-    let read : ℕ = first.result.0 in
     let bytes = take first.result.1 first.new.buffer in
     let none : first.result.1 ≡ 0 = omega (arith, c.if-written-gt0.false) in
-    only-decoded base c.args.pieces.now.kept first.new.pieces.kept piece read bytes
-    first.ensures.read first.ensures.reads (first.ensures.all none)
-    (subst (λ n. take n first.new.buffer ≡ []) (sym none) refl) c.args.output.now.items
-    before text is decoded
+    let all : take first.result.0 piece ≡ piece =
+    take_all first.result.0 piece (omega (arith, first.ensures.all none)) in
+    appends-none base old first.new.pieces.kept piece bytes c.args.output.now.items
+    (subst (λ n. take n first.new.buffer ≡ []) (sym none) refl)
+    (subst (λ p. ReadsOn base old first.new.pieces.kept p bytes) all first.ensures.reads)

@@ -1,11 +1,9 @@
-use Rattle.std.proofs.Common.{◌≡◌, ◌+◌, ◌*◌, ◌/◌, ◌-◌, ◌≤◌, ◌++◌, length, take, drop, refl, sym, subst, ◌∙◌, append-nil, vec_capacity, vec_len, arith, rules, length-take-le, take_all}
-use Rattle.std.proofs.lemmas.List.{length-drop}
+use Rattle.std.proofs.Common.{◌≡◌, ◌+◌, ◌*◌, ◌/◌, ◌-◌, ◌≤◌, ◌++◌, length, take, drop, refl, subst, ◌∙◌, vec_capacity, vec_len, arith, rules, length-take-le, take_all}
 use Rattle.std.proofs.lemmas.Slice.{pushed}
 use Rattle.data_encoding.specs.Base.{group_bytes, group_symbols}
-use Rattle.data_encoding.specs.Pieces.{HasDecoded}
-use Rattle.encoding_stream.specs.Decoded.{ReadsPiece}
-use Rattle.encoding_stream.specs.Pieces.{base_of_pieces, Keeps}
-use Rattle.encoding_stream.proofs.DecoderLemmas.{decoded-more, room-left, room-part, text-next}
+use Rattle.encoding_stream.specs.Pieces.{base_of_pieces}
+use Rattle.encoding_stream.specs.Reading.{ReadsOn}
+use Rattle.encoding_stream.proofs.DecoderLemmas.{appends-next, appends-nothing, room-left, room-part}
 use Rattle.encoding_stream.proofs.decoder.append_rest.Goals as goal
 
 pub loop-read-init : goal.loop-read-init
@@ -14,13 +12,7 @@ loop-read-init g c =
     let whole : length c.args.piece.now ≡ length c.args.piece.now - 0 = omega arith in
     record {
       base = refl;
-      counted = omega arith;
-      keeps =
-          λ text is. subst (Keeps base c.args.pieces.now.kept) (sym (append-nil text)) is;
-      decoded =
-          λ before text is decoded.
-          subst (λ t. HasDecoded base before t c.args.output.now.items) (sym (append-nil text))
-          decoded;
+      appends = appends-nothing base c.args.pieces.now.kept c.args.output.now.items;
       within = omega arith;
       capacity =
           subst (λ n. vec_len c.args.output.now + (c.args.pieces.now.kept.count + n)
@@ -42,37 +34,20 @@ loop-read-preserved g c =
     let bytes = take c.read-written.result c.read-written.new.output in
     let within : read ≤ end = omega (arith, c.min-end.ensures, now.within) in
     let inside : end ≤ length piece = omega (arith, c.min-end.ensures) in
-    let here : ReadsPiece (base_of_pieces c.loop-read.pieces) old new part bytes =
-    record {
-      keeps = c.read-written.ensures.keeps;
-      decodes = c.read-written.ensures.bytes;
-      counted = c.read-written.ensures.read;
-    } in
-    let step : ReadsPiece base old new part bytes =
-    subst (λ b. ReadsPiece b old new part bytes) now.base here in
-    let length-part : length part ≡ end - read =
-    length-take-le (end - read) (drop read piece)
-    (omega (arith, length-drop read piece, within, inside)) in
+    let step : ReadsOn base old new part bytes = rw now.base at c.read-written.ensures.reads in
     let items : c.extend_from_slice.new.self.items ≡ c.loop-read.output.items ++ bytes =
     pushed bytes refl c.unwrap.ensures c.extend_from_slice.ensures.items in
     let len : vec_len c.extend_from_slice.new.self ≡ vec_len c.loop-read.output + length bytes =
     search rules in
     let fewer =
-    room-left base c.loop-read.pieces now.base piece read end new.count c.read-written.result
-    within inside c.read-written.ensures.few in
+    room-left base c.loop-read.pieces now.base piece read end new.count (length bytes)
+    within inside c.read-written.ensures.reads.few in
     record {
       base = c.read-written.ensures.base ∙ now.base;
-      counted = omega (arith, now.counted, step.counted, length-part, within);
-      keeps =
-          λ text is. subst (Keeps base new) (text-next text piece read end within)
-          (step.keeps (text ++ take read piece) (now.keeps text is));
-      decoded =
-          λ before text is decoded.
-          subst (λ out. HasDecoded base before (text ++ take end piece) out) (sym items)
-          (subst (λ t. HasDecoded base before t (c.loop-read.output.items ++ bytes))
-          (text-next text piece read end within)
-          (decoded-more base old new part bytes before (text ++ take read piece)
-          c.loop-read.output.items step (now.keeps text is) (now.decoded before text is decoded)));
+      appends =
+          appends-next base c.args.pieces.now.kept old new piece read end
+          c.args.output.now.items c.loop-read.output.items c.extend_from_slice.new.self.items
+          within now.appends (record { bytes = bytes; reads = step; appended = items });
       within = inside;
       capacity =
           omega (
@@ -98,9 +73,10 @@ unwrap-requires g c =
     let now = c.loop-read.invariant in
     let fewer =
     room-left (base_of_pieces c.args.pieces.now) c.loop-read.pieces now.base c.args.piece.now
-    c.loop-read.read c.min-end.result c.read-written.new.self.kept.count c.read-written.result
+    c.loop-read.read c.min-end.result c.read-written.new.self.kept.count
+    (length (take c.read-written.result c.read-written.new.output))
     (omega (arith, c.min-end.ensures, now.within)) (omega (arith, c.min-end.ensures))
-    c.read-written.ensures.few in
+    c.read-written.ensures.reads.few in
     c.extend_from_slice.ensures.succeeds
     (omega (
       arith,
@@ -110,8 +86,8 @@ unwrap-requires g c =
           c.read-written.ensures.within,
     ))
 
-pub returns-clause-keeps : goal.returns-clause-keeps
-returns-clause-keeps g c = λ text is.
+pub returns-clause-appends : goal.returns-clause-appends
+returns-clause-appends g c =
     let all : take c.loop-read.read c.args.piece.now ≡ c.args.piece.now =
     take_all c.loop-read.read c.args.piece.now (omega (arith, c.loop-read-test.false)) in
-    rw all at c.loop-read.invariant.keeps text is
+    rw all at c.loop-read.invariant.appends

@@ -1,13 +1,13 @@
-use Rattle.std.proofs.Common.{◌-◌, length, take, drop, refl, subst, ◌∙◌, arith}
-use Rattle.encoding_stream.specs.Decoded.{ReadsPiece}
+use Rattle.std.proofs.Common.{length, take, refl, ◌∙◌, arith}
 use Rattle.encoding_stream.specs.Pieces.{base_of_pieces}
-use Rattle.encoding_stream.proofs.DecoderLemmas.{reads-next, reads-none, room-part}
+use Rattle.encoding_stream.proofs.DecoderLemmas.{reads-further, room-part}
+use Rattle.encoding_stream.proofs.ReadPieceLemmas.{reads-nothing}
 use Rattle.encoding_stream.proofs.decoder.read_first.Goals as goal
 
 pub loop-read-init : goal.loop-read-init
 loop-read-init c = record {
   base = refl;
-  reads = reads-none (base_of_pieces c.args.pieces.now) c.args.pieces.now.kept;
+  reads = reads-nothing (base_of_pieces c.args.pieces.now) c.args.pieces.now.kept;
   within = omega arith;
   few = omega arith;
   room = c.requires.room;
@@ -20,26 +20,14 @@ loop-read-preserved c =
     let read = c.loop-read.read in
     let end = c.min-end.result in
     let now = c.loop-read.invariant in
-    let step : ReadsPiece (base_of_pieces c.loop-read.pieces) c.loop-read.pieces.kept
-    c.read-written.new.self.kept (take (end - read) (drop read piece))
-    (take c.read-written.result c.read-written.new.output) =
-    record {
-      keeps = c.read-written.ensures.keeps;
-      decodes = c.read-written.ensures.bytes;
-      counted = c.read-written.ensures.read;
-    } in
     record {
       base = c.read-written.ensures.base ∙ now.base;
       reads =
-          reads-next base c.args.pieces.now.kept c.loop-read.pieces.kept
+          reads-further base c.args.pieces.now.kept c.loop-read.pieces.kept
           c.read-written.new.self.kept piece read end c.loop-read.written c.loop-read.buffer
           (take c.read-written.result c.read-written.new.output)
           (omega (arith, c.min-end.ensures, now.within)) c.if-written-eq0.true now.reads
-          (subst
-          (λ b. ReadsPiece b c.loop-read.pieces.kept c.read-written.new.self.kept
-          (take (end - read) (drop read piece))
-          (take c.read-written.result c.read-written.new.output))
-          now.base step);
+          (rw now.base at c.read-written.ensures.reads);
       within = omega (arith, c.min-end.ensures);
       few = c.read-written.ensures.within;
       room = c.read-written.ensures.len ∙ now.room;

@@ -20,6 +20,14 @@ full-whole base size size-is buffer filled count few full =
     ap (λ n. n % alignment base) all
     ∙ subst (λ n. 8192 / size * size % n ≡ 0) size-is (blocks-whole 8192 size)
 
+-- as many bytes are asked for as are whole blocks of a buffer
+asked-filled : (size : ℕ) (buffer filled : List ℕ) → length buffer ≡ 8192
+    → length filled ≡ length (take (8192 / size * size) buffer)
+    → length filled ≡ 8192 / size * size
+asked-filled size buffer filled chunk same =
+    same
+    ∙ length-take-le (8192 / size * size) buffer (omega (arith, blocks-few 8192 size, chunk))
+
 pub loop-count-init : goal.loop-count-init
 loop-count-init g c = record {
   encoded =
@@ -63,10 +71,9 @@ returns-in_default-write_text-clause-begun g c =
     let piece =
     take-append-le count c.fill.new.buffer (drop asked c.loop-count.buffer)
     c.in-Ok.ensures.bound in
-    let filled : length c.fill.new.buffer ≡ asked =
-    c.fill.auto.buffer
-    ∙ length-take-le asked c.loop-count.buffer
-    (omega (arith, blocks-few 8192 size, c.loop-count.invariant.chunk)) in
+    let filled =
+    asked-filled size c.loop-count.buffer c.fill.new.buffer c.loop-count.invariant.chunk
+    c.fill.auto.buffer in
     let ends : IsAtEnd (g.R.Read.remaining (inner_of c.fill.new.reader))
     ⊎ (length more % alignment base ≡ 0) =
     ⊎_elim
@@ -88,10 +95,9 @@ returns-in-Ok-flush-clause-whole g c =
     let piece =
     take-append-le count c.fill.new.buffer (drop asked c.loop-count.buffer)
     c.in-Ok.ensures.bound in
-    let filled : length c.fill.new.buffer ≡ asked =
-    c.fill.auto.buffer
-    ∙ length-take-le asked c.loop-count.buffer
-    (omega (arith, blocks-few 8192 size, c.loop-count.invariant.chunk)) in
+    let filled =
+    asked-filled size c.loop-count.buffer c.fill.new.buffer c.loop-count.invariant.chunk
+    c.fill.auto.buffer in
     encoded-all c.args.encoding.now c.encode_align-align.ensures.base c.join_encode.ensures
     _ _ _ _ _ c.loop-count.total c.loop-count.invariant.encoded _ c.in-Ok.ensures.bytes _
     (c.in-Ok.ensures.at_end (omega (arith, filled, c.if-count-asked.true)))
@@ -114,10 +120,9 @@ returns-in-Err-flush-clause-begun g c =
     let piece =
     take-append-le count c.fill.new.buffer (drop asked c.loop-count.buffer)
     c.in-Ok.ensures.bound in
-    let filled : length c.fill.new.buffer ≡ asked =
-    c.fill.auto.buffer
-    ∙ length-take-le asked c.loop-count.buffer
-    (omega (arith, blocks-few 8192 size, c.loop-count.invariant.chunk)) in
+    let filled =
+    asked-filled size c.loop-count.buffer c.fill.new.buffer c.loop-count.invariant.chunk
+    c.fill.auto.buffer in
     all-front c.args.encoding.now _ _ _ _
     (encoded-all c.args.encoding.now c.encode_align-align.ensures.base c.join_encode.ensures
     _ _ _ _ _ c.loop-count.total c.loop-count.invariant.encoded _ c.in-Ok.ensures.bytes _
@@ -133,10 +138,9 @@ loop-count-preserved g c =
     let piece =
     take-append-le count c.fill.new.buffer (drop asked c.loop-count.buffer)
     c.in-Ok.ensures.bound in
-    let filled : length c.fill.new.buffer ≡ asked =
-    c.fill.auto.buffer
-    ∙ length-take-le asked c.loop-count.buffer
-    (omega (arith, blocks-few 8192 size, c.loop-count.invariant.chunk)) in
+    let filled =
+    asked-filled size c.loop-count.buffer c.fill.new.buffer c.loop-count.invariant.chunk
+    c.fill.auto.buffer in
     let more = take count c.fill.new.buffer in
     let taken : length more ≡ count =
     length-take-le count c.fill.new.buffer c.in-Ok.ensures.bound in

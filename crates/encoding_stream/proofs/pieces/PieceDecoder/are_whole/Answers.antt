@@ -1,7 +1,8 @@
 use Rattle.std.proofs.Common.{◌≡◌, ◌<◌, arith, eqb-true, sym, ◌∙◌}
 use Rattle.data_encoding.specs.Base.{group_bytes, group_symbols}
 use Rattle.encoding_stream.specs.Pieces.{base_of_pieces}
-use Rattle.encoding_stream.proofs.ReadRunLemmas.{bytes-some, due-group, fills-by_bytes, fills-by_length, whole-by_bytes, whole-by_length}
+use Rattle.encoding_stream.proofs.ReadRunLemmas.{due-group, fills-by_bytes, fills-by_length, whole-by_bytes, whole-by_length}
+use Rattle.encoding_stream.proofs.SizeLemmas.{bytes-some}
 use Rattle.encoding_stream.proofs.pieces.PieceDecoder.are_whole.Goals as goal
 
 pub unreachable-requires : goal.unreachable-requires

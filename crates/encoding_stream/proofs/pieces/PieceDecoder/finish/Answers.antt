@@ -1,22 +1,14 @@
-use Rattle.std.proofs.Common.{◌++◌, None, Some, take, sym, ap, ◌∙◌}
-use Rattle.std.proofs.lemmas.Result.{IfErr-weaker, IfOk-weaker}
-use Rattle.data_encoding.specs.Pieces.{whole_bytes}
+use Rattle.std.proofs.Common.{None, Some, sym, ◌∙◌}
 use Rattle.encoding_stream.specs.Pieces.{held}
 use Rattle.encoding_stream.proofs.FinishLemmas.{bytes-judged, verdict-groups}
 use Rattle.encoding_stream.proofs.pieces.PieceDecoder.finish.Goals as goal
 
 pub returns-in-Err-clause-bytes : goal.returns-in-Err-clause-bytes
-returns-in-Err-clause-bytes c = λ text keeps.
-    let s = c.args.self.now in
-    let k = s.kept in
-    let output = c.judge_last-judged.new.output in
-    bytes-judged s.encoding.now c.decode_len.ensures.base text k.len k.fault (held k) k.ended keeps
-    c.pieces.ensures.bytes c.judge_last-judged.result output
-    (IfOk-weaker c.judge_last-judged.result _ _ (λ written judged. judged text keeps)
-    c.judge_last-judged.ensures.sound)
-    (IfErr-weaker c.judge_last-judged.result _ _ (λ error judged. judged text keeps)
-    c.judge_last-judged.ensures.fault)
-    ∙ ap (λ n. whole_bytes s.encoding.now text ++ take n output) (sym c.unwrap_or-written.ensures)
+returns-in-Err-clause-bytes c =
+    bytes-judged c.args.self.now.encoding.now c.decode_len.ensures.base c.pieces.ensures.bytes
+    c.args.self.now.kept c.judge_last-judged.result c.judge_last-judged.new.output
+    c.unwrap_or-written.result c.judge_last-judged.ensures.sound
+    c.judge_last-judged.ensures.fault c.unwrap_or-written.ensures
 
 pub returns-in-Ok-clause-verdict : goal.returns-in-Ok-clause-verdict
 returns-in-Ok-clause-verdict c = λ text keeps.
@@ -27,17 +19,11 @@ returns-in-Ok-clause-verdict c = λ text keeps.
     (sym c.decode_len.ensures.value ∙ c.in_default.is) None (c.in-Ok.ensures.sound text keeps).0
 
 pub returns-in-Ok-clause-bytes : goal.returns-in-Ok-clause-bytes
-returns-in-Ok-clause-bytes c = λ text keeps.
-    let s = c.args.self.now in
-    let k = s.kept in
-    let output = c.judge_last-judged.new.output in
-    bytes-judged s.encoding.now c.decode_len.ensures.base text k.len k.fault (held k) k.ended keeps
-    c.pieces.ensures.bytes c.judge_last-judged.result output
-    (IfOk-weaker c.judge_last-judged.result _ _ (λ written judged. judged text keeps)
-    c.judge_last-judged.ensures.sound)
-    (IfErr-weaker c.judge_last-judged.result _ _ (λ error judged. judged text keeps)
-    c.judge_last-judged.ensures.fault)
-    ∙ ap (λ n. whole_bytes s.encoding.now text ++ take n output) (sym c.unwrap_or-written.ensures)
+returns-in-Ok-clause-bytes c =
+    bytes-judged c.args.self.now.encoding.now c.decode_len.ensures.base c.pieces.ensures.bytes
+    c.args.self.now.kept c.judge_last-judged.result c.judge_last-judged.new.output
+    c.unwrap_or-written.result c.judge_last-judged.ensures.sound
+    c.judge_last-judged.ensures.fault c.unwrap_or-written.ensures
 
 pub returns-in-Err-judged-clause-verdict : goal.returns-in-Err-judged-clause-verdict
 returns-in-Err-judged-clause-verdict c = λ text keeps.
@@ -49,14 +35,8 @@ returns-in-Err-judged-clause-verdict c = λ text keeps.
     (c.in-Err-judged.ensures.fault text keeps)
 
 pub returns-in-Err-judged-clause-bytes : goal.returns-in-Err-judged-clause-bytes
-returns-in-Err-judged-clause-bytes c = λ text keeps.
-    let s = c.args.self.now in
-    let k = s.kept in
-    let output = c.judge_last-judged.new.output in
-    bytes-judged s.encoding.now c.decode_len.ensures.base text k.len k.fault (held k) k.ended keeps
-    c.pieces.ensures.bytes c.judge_last-judged.result output
-    (IfOk-weaker c.judge_last-judged.result _ _ (λ written judged. judged text keeps)
-    c.judge_last-judged.ensures.sound)
-    (IfErr-weaker c.judge_last-judged.result _ _ (λ error judged. judged text keeps)
-    c.judge_last-judged.ensures.fault)
-    ∙ ap (λ n. whole_bytes s.encoding.now text ++ take n output) (sym c.unwrap_or-written.ensures)
+returns-in-Err-judged-clause-bytes c =
+    bytes-judged c.args.self.now.encoding.now c.decode_len.ensures.base c.pieces.ensures.bytes
+    c.args.self.now.kept c.judge_last-judged.result c.judge_last-judged.new.output
+    c.unwrap_or-written.result c.judge_last-judged.ensures.sound
+    c.judge_last-judged.ensures.fault c.unwrap_or-written.ensures

@@ -2,7 +2,8 @@ use Rattle.std.proofs.Common.{ℕ, take, sym, ◌∙◌, arith, rules, tests}
 use Rattle.std.proofs.lemmas.Iterator.{YieldsList-from_slice}
 use Rattle.std.proofs.lemmas.Iterator.Search.{any_from_yields_List}
 use Rattle.data_encoding.specs.Base.{is_padding, meaning}
-use Rattle.encoding_stream.proofs.PieceLemmas.{any-final, symbols-few}
+use Rattle.encoding_stream.proofs.PieceLemmas.{any-final}
+use Rattle.encoding_stream.proofs.SizeLemmas.{symbols-few}
 use Rattle.encoding_stream.proofs.pieces.PieceDecoder.is_final.Goals as goal
 
 pub returns-then-not-self : goal.returns-then-not-self

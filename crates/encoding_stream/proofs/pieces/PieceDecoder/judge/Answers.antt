@@ -5,7 +5,7 @@ use Rattle.data_encoding.specs.declared.error.DecodeKind.TheVariants.{Padding}
 use Rattle.data_encoding.specs.Fault.{fault_after}
 use Rattle.data_encoding.specs.Lengths.{decoded_len}
 use Rattle.encoding_stream.specs.Pieces.{at_positions}
-use Rattle.encoding_stream.proofs.PieceLemmas.{symbols-few}
+use Rattle.encoding_stream.proofs.SizeLemmas.{symbols-few}
 use Rattle.encoding_stream.proofs.JudgedLemmas.{due-few, fault-refused, fault-stopped, judged-ended, judged-fault, judged-sound}
 use Rattle.encoding_stream.proofs.pieces.PieceDecoder.judge.Goals as goal
 

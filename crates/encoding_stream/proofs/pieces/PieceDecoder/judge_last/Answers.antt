@@ -1,6 +1,6 @@
 use Rattle.std.proofs.Common.{None, Some, arith}
 use Rattle.std.proofs.lemmas.Result.{IfErr-weaker, IfOk-weaker}
-use Rattle.encoding_stream.proofs.PieceLemmas.{symbols-few}
+use Rattle.encoding_stream.proofs.SizeLemmas.{symbols-few}
 use Rattle.encoding_stream.proofs.FinishLemmas.{last-judged, last-kept}
 use Rattle.encoding_stream.proofs.pieces.PieceDecoder.judge_last.Goals as goal
 

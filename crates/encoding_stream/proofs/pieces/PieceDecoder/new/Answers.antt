@@ -3,7 +3,7 @@ use Rattle.std.specs.Result.{is_ok}
 use Rattle.data_encoding.specs.Base.{group_symbols, ignores_some}
 use Rattle.data_encoding.specs.Layout.{layout}
 use Rattle.data_encoding.specs.Lengths.{decoded_len}
-use Rattle.encoding_stream.proofs.PieceLemmas.{symbols-some}
+use Rattle.encoding_stream.proofs.SizeLemmas.{symbols-some}
 use Rattle.encoding_stream.proofs.pieces.PieceDecoder.new.Goals as goal
 
 pub invariant_of-result-clause-width : goal.invariant_of-result-clause-width

@@ -1,23 +1,13 @@
-use Rattle.std.proofs.Common.{◌≡◌, [], ◌+◌, ◌-◌, length, true, is_some, rules, sym, ◌∙◌, length-take-le}
-use Rattle.std.proofs.lemmas.List.{append-nil}
+use Rattle.std.proofs.Common.{◌+◌, ◌-◌, length, rules, ◌∙◌}
 use borrow.Rule.Slice.PartMut.{put_mid}
 use Rattle.encoding_stream.specs.Pieces.{base_of_pieces}
-use Rattle.encoding_stream.proofs.ReadPieceLemmas.{fault-keeps, length-written, reads-part, reads-rest, rest-room, within-left, within-written}
+use Rattle.encoding_stream.proofs.ReadPieceLemmas.{length-written, reads-fault, reads-part, reads-rest, rest-room, within-left, within-written}
 use Rattle.encoding_stream.proofs.pieces.PieceDecoder.read.Goals as goal
 
-pub returns-then-is_some-clause-keeps : goal.returns-then-is_some-clause-keeps
-returns-then-is_some-clause-keeps c =
-    let some : is_some c.args.self.now.kept.fault ≡ true = search rules in
-    λ text keeps. (fault-keeps (base_of_pieces c.args.self.now) c.bit_width.ensures.base
-    c.pieces.ensures.faulty c.args.self.now.kept.fault some text c.args.piece.now _ _ _ _ _
-    keeps).0
-
-pub returns-then-is_some-clause-bytes : goal.returns-then-is_some-clause-bytes
-returns-then-is_some-clause-bytes c =
-    let some : is_some c.args.self.now.kept.fault ≡ true = search rules in
-    λ text keeps. (fault-keeps (base_of_pieces c.args.self.now) c.bit_width.ensures.base
-    c.pieces.ensures.faulty c.args.self.now.kept.fault some text c.args.piece.now _ _ [] _ true
-    keeps).1 ∙ sym (append-nil _)
+pub returns-then-is_some-clause-reads : goal.returns-then-is_some-clause-reads
+returns-then-is_some-clause-reads c =
+    reads-fault (base_of_pieces c.args.self.now) c.bit_width.ensures.base c.pieces.ensures.faulty
+    c.args.self.now.kept (search rules) c.args.piece.now
 
 pub read_run-run_read-requires-clause-room : goal.read_run-run_read-requires-clause-room
 read_run-run_read-requires-clause-room c =
@@ -82,10 +72,7 @@ returns c =
     each.ensures.within in
     record {
       base = each.ensures.base ∙ bases;
-      keeps = all.keeps;
-      bytes = all.decodes;
-      read = all.counted;
-      few = rw (length-take-le _ _ within) at all.few;
+      reads = all;
       within = within;
       len = length-written written next each.new.output fits each.ensures.len ∙ same;
     }

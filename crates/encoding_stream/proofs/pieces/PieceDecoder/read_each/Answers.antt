@@ -1,7 +1,6 @@
-use Rattle.std.proofs.Common.{◌∷◌, [], take, get_or, subst, ◌∙◌}
+use Rattle.std.proofs.Common.{◌∙◌}
 use Rattle.encoding_stream.specs.Pieces.{base_of_pieces}
-use Rattle.encoding_stream.specs.Reading.{ReadsOn}
-use Rattle.encoding_stream.proofs.ReadPieceLemmas.{length-written, next-room, reads-byte, reads-next, within-written}
+use Rattle.encoding_stream.proofs.ReadPieceLemmas.{length-written, next-room, reads-next, within-written}
 use Rattle.encoding_stream.proofs.pieces.PieceDecoder.read_each.Goals as goal
 
 pub take-written-requires-clause-room : goal.take-written-requires-clause-room
@@ -16,24 +15,16 @@ pub loop-byte-preserved : goal.loop-byte-preserved
 loop-byte-preserved c =
     let loop = c.loop-byte in
     let taken = c.take-written in
-    let old = c.args.self.now.kept in
-    let new = taken.new.self.kept in
-    let byte = get_or c.args.piece.now loop.byte-index 0 in
     let length-is =
     length-written loop.written loop.output taken.new.output loop.invariant.within
     taken.ensures.len in
-    let next =
-    subst (λ base. ReadsOn base loop.self.kept new (byte ∷ []) (take taken.result taken.new.output))
-    loop.invariant.base
-    (reads-byte (base_of_pieces loop.self) loop.self.kept new byte taken.new.output taken.result
-    taken.ensures.keeps taken.ensures.bytes taken.ensures.read taken.ensures.few
-    taken.ensures.within) in
     record {
       base = taken.ensures.base ∙ loop.invariant.base;
       reads =
-          reads-next (base_of_pieces c.args.self.now) old loop.self.kept new c.args.piece.now
-          loop.output taken.new.output loop.byte-index loop.written taken.result
-          loop.invariant.reads next c.loop-byte-test.true loop.invariant.within
+          reads-next (base_of_pieces c.args.self.now) (base_of_pieces loop.self)
+          loop.invariant.base c.args.self.now.kept loop.self.kept taken.new.self.kept
+          c.args.piece.now loop.output taken.new.output loop.byte-index loop.written taken.result
+          loop.invariant.reads taken.ensures.reads c.loop-byte-test.true loop.invariant.within
           taken.ensures.within;
       within =
           within-written loop.written taken.result loop.output taken.new.output

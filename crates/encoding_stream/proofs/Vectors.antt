@@ -1,0 +1,172 @@
+-- Worked rows of what streams and decoders have done.
+use Rattle.std.proofs.Common.{◌∙◌, ◌≡◌, ℕ, true, false, List, [], ◌∷◌, ◌++◌, map, codes, replicate, Some, None, Result, Ok, Err, refl, zero, suc, sym, ap, subst, lit<, lit≤, arith}
+use Rattle.std.proofs.lemmas.Fmt.{decimal_digit}
+use Rattle.data_encoding.specs.declared.error.DecodeError.{DecodeError}
+use Rattle.data_encoding.specs.declared.error.DecodeKind.TheVariants.{Symbol}
+use Rattle.data_encoding.specs.declared.meanings.Refusal.{Refusal}
+use Rattle.data_encoding.specs.Base.{Base}
+use Rattle.data_encoding.specs.Fields.{Fields, base_of}
+use Rattle.data_encoding.specs.Grammar.{positioned_from}
+use Rattle.data_encoding.specs.Predefined.{base64_fields, base64_mime_fields}
+use Rattle.data_encoding.specs.Pieces.{whole_bytes}
+use Rattle.std.proofs.lemmas.List.{append-nil}
+use Rattle.encoding_stream.specs.Decoded.{DecodesAll, DecodesFront, answer_of}
+use Rattle.encoding_stream.specs.Reading.{AppendsPiece, ReadsOn, AreWholeGroups}
+use Rattle.encoding_stream.specs.Pieces.{base_of_pieces, paired, at_positions, held, NoneIgnored, Keeps, FillsGroups, verdict_of}
+use Rattle.encoding_stream.specs.declared.pieces.PieceDecoder.{PieceDecoder}
+use Rattle.encoding_stream.specs.declared.decoder.Decoder.{Decoder}
+use Rattle.encoding_stream.specs.declared.error.StreamFault.TheVariants.{Read, Write, Decode, TooLong}
+use Rattle.encoding_stream.specs.declared.pieces.Kept.{Kept}
+use Rattle.encoding_stream.specs.declared.watch.Watch.{Watch}
+use Rattle.encoding_stream.specs.Decoder.{base_of_decoder, decoder_len, StandsAfter}
+use Rattle.encoding_stream.specs.Encoded.{EncodesAll, EncodesFront, ReadsMore}
+use Rattle.encoding_stream.specs.Printed.{printed_stream_fault}
+use Rattle.encoding_stream.specs.Watch.{inner_of, has_failed, is_refused, AppendsFront}
+
+abbrev Holds : (Base → Type 0) → Result Base Refusal → Type 0
+Holds P (Ok base) = P base
+Holds P (Err refusal) = ⊥
+
+-- The fields have a base, and it is so.
+abbrev Has : Fields → (Base → Type 0) → Type 0
+Has fields P = Holds P (base_of fields)
+
+-- `Hello` was read to its end, and its text written
+encoded_all :
+    Has base64_fields (λ base.
+    EncodesAll base (Some (codes "Hello")) (Some []) (Some (codes "> "))
+    (Some (codes "> SGVsbG8=")))
+encoded_all = record { bytes = codes "Hello"; read = refl; at_end = refl; written = refl }
+
+-- `Hel` was read, and two characters were written
+encoded_front :
+    Has base64_fields (λ base.
+    EncodesFront base (Some (codes "Hello")) (Some (codes "lo")) (Some []) (Some (codes "SG")))
+encoded_front = record { bytes = codes "Hel"; read = refl; written = (2, refl); of_all = (2, refl) }
+
+read_more : ReadsMore 4 (Some (codes "Hello")) (Some [])
+read_more = record { bytes = codes "Hello"; read = refl; more = lit< tt }
+
+abbrev symbol_at_4 : DecodeError
+symbol_at_4 = record { position = 4; kind = Symbol }
+
+-- a text with a fault was read to its end, and the bytes of the group before it were written
+decoded_all :
+    Has base64_fields (λ base.
+    DecodesAll base (Some symbol_at_4) (Some (codes "SGVs!G8=")) (Some []) (Some [])
+    (Some (codes "Hel")))
+decoded_all = record {
+  text = codes "SGVs!G8=";
+  read = refl;
+  at_end = refl;
+  fault_is = refl;
+  written = refl;
+}
+
+-- a whole group of a text was read, and one byte was written
+decoded_front :
+    Has base64_fields (λ base.
+    DecodesFront base (Some (codes "SGVsbG8=")) (Some (codes "bG8=")) (Some []) (Some (codes "H")))
+decoded_front = record {
+  text = codes "SGVs";
+  read = refl;
+  written = (1, refl);
+  of_all = (1, refl);
+}
+
+answers :
+    (answer_of None ≡ Ok _) × (answer_of (Some symbol_at_4) ≡ Err (Decode symbol_at_4))
+    × (verdict_of None ≡ Ok _) × (verdict_of (Some symbol_at_4) ≡ Err symbol_at_4)
+answers = (refl, refl, refl, refl)
+
+-- a beginning was written; a write that takes nothing of one byte was refused
+written_in_part :
+    AppendsFront (Some (codes "> ")) (Some (codes "> SG")) (codes "SGVs")
+    × (is_refused {E = Refusal} (Ok 0) (codes "S") ≡ true)
+    × (is_refused {E = Refusal} (Ok 0) [] ≡ false)
+    × (is_refused {E = Refusal} (Ok 1) (codes "SG") ≡ false)
+    × ((error : Refusal) → is_refused (Err error) [] ≡ true)
+written_in_part = ((2, refl), refl, refl, refl, λ error. refl)
+
+-- a reader that is watched, a call of which has failed
+watched : (w : Watch ℕ) → w.inner ≡ 7 → w.has_failed ≡ true
+    → (inner_of w ≡ 7) × (has_failed w ≡ true)
+watched w inner failed = (inner, failed)
+
+-- what is kept of `SGVsbG` CR LF: `bG` at 4 and 5
+abbrev kept_so_far : Kept
+kept_so_far = record {
+  len = 8;
+  fault = None;
+  positions = 4 ∷ 5 ∷ replicate 6 0;
+  bytes = codes "bG" ++ replicate 6 0;
+  count = 2;
+  ended = false;
+}
+
+kept_of_text :
+    Has base64_mime_fields (λ base. Keeps base kept_so_far (codes "SGVsbG" ++ 13 ∷ 10 ∷ []))
+    × (held kept_so_far ≡ positioned_from 4 (codes "bG"))
+    × (at_positions 1 (4 ∷ 5 ∷ []) (codes "bG") ≡ positioned_from 4 (codes "b"))
+    × (paired (4 ∷ 5 ∷ []) (codes "bG") ≡ positioned_from 4 (codes "bG"))
+kept_of_text = (
+  record { counted = refl; first = refl; holds = λ h. refl; ends = λ h. refl },
+  refl,
+  refl,
+  refl,
+)
+
+none_ignored : Has base64_mime_fields (λ base. NoneIgnored base (positioned_from 4 (codes "bG")))
+none_ignored zero k h = refl
+none_ignored (suc zero) k h = refl
+none_ignored (suc (suc index)) k h = absurd (omega (arith, h))
+
+-- four bytes behind two that are held fill a group, and two are held
+groups_filled : Has base64_fields (λ base. FillsGroups base 2 4 2 3)
+groups_filled = record { groups = 1; symbols = lit≤ tt; bytes = lit≤ tt }
+
+whole_groups_alone : Has base64_fields (λ base. AreWholeGroups base (codes "SGVsbG8="))
+whole_groups_alone = record { whole = refl; not_final = refl }
+
+pushed_by : (base : Base) (text : List ℕ) → Keeps base kept_so_far text
+    → (decoder : Decoder) → base_of_decoder decoder ≡ base → decoder.pieces.kept ≡ kept_so_far
+    → StandsAfter decoder text × (decoder_len decoder ≡ 8)
+pushed_by base text keeps decoder is kept_is = (
+  subst (λ kept. Keeps (base_of_decoder decoder) kept text) (sym kept_is)
+      (subst (λ those. Keeps those kept_so_far text) (sym is) keeps),
+  ap (λ kept. kept.len) kept_is,
+)
+
+-- the encoding of a decoder by pieces
+base_of_decoding : (base : Base) (pieces : PieceDecoder) → pieces.encoding.now ≡ base
+    → base_of_pieces pieces ≡ base
+base_of_decoding base pieces is = is
+
+-- a piece of no bytes leaves all as it was
+no_piece : (base : Base) → ReadsOn base kept_so_far kept_so_far [] []
+    × AppendsPiece base kept_so_far kept_so_far [] (codes "> ") (codes "> ")
+no_piece base =
+    let reads : ReadsOn base kept_so_far kept_so_far [] [] = record {
+      keeps =
+          λ text keeps. subst (λ those. Keeps base kept_so_far those) (sym (append-nil text)) keeps;
+      decodes = λ text keeps.
+          ap (λ those. whole_bytes base those) (append-nil text)
+          ∙ sym (append-nil (whole_bytes base text));
+      counted = refl;
+      few = record { groups = 0; symbols = omega arith; bytes = omega arith };
+    } in
+    (reads, record { bytes = []; reads = reads; appended = refl })
+
+-- a decoder that was pushed that text
+pushed_so_far :
+    Has base64_mime_fields (λ base. (decoder : Decoder) → base_of_decoder decoder ≡ base
+    → decoder.pieces.kept ≡ kept_so_far
+    → StandsAfter decoder (codes "SGVsbG" ++ 13 ∷ 10 ∷ []) × (decoder_len decoder ≡ 8))
+pushed_so_far = pushed_by _ _ kept_of_text.0
+
+stream_faults_printed :
+    (map printed_stream_fault (Read ∷ Write ∷ TooLong ∷ [])
+    ≡ codes "read failed" ∷ codes "write failed" ∷ codes "input too long" ∷ [])
+    × (printed_stream_fault (Decode symbol_at_4) ≡ codes "invalid symbol at 4")
+stream_faults_printed =
+    (refl, ap (λ four. codes "invalid symbol at " ++ four) (decimal_digit 4 (lit< tt)))
