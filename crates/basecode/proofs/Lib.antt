@@ -1,2 +1,4 @@
 pub mod WordLemmas
 pub mod ConversionLemmas
+mod Vectors
+pub mod LineLemmas

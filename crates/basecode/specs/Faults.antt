@@ -1,5 +1,5 @@
 -- What faults in the words print, and the exit statuses.
-use Rattle.std.specs.Prelude.{ℕ, List, ◌++◌, codes, Result, Ok, Err}
+use Rattle.std.specs.Prelude.{ℕ, List, [], ◌∷◌, ◌++◌, codes, Result, Ok, Err}
 use Rattle.encoding_stream.specs.declared.error.StreamFault.{StreamFault}
 use Rattle.encoding_stream.specs.declared.error.StreamFault.TheVariants.{Decode, TooLong, Read, Write}
 use Rattle.basecode.specs.declared.fault.WordFault.{WordFault}
@@ -10,6 +10,10 @@ abbrev pub printed_word_fault : WordFault → List ℕ
 printed_word_fault Usage =
     codes "usage: basecode list OR encode NAME OR decode NAME OR canonical NAME"
 printed_word_fault (UnknownName name) = codes "unknown encoding: " ++ name.now
+
+-- the line that is printed of a fault
+abbrev pub line_of : List ℕ → List ℕ
+line_of text = codes "basecode: " ++ text ++ 10 ∷ []
 
 -- the exit status of a fault
 abbrev pub status_of : StreamFault → ℕ

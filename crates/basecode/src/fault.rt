@@ -1,11 +1,17 @@
 //! What goes wrong, what is printed of it, and the exit status.
 
-ghost use Rattle.std.specs.Prelude.{◌≡◌, Some};
-ghost use Rattle.basecode.specs.Faults.{printed_word_fault, status_of};
+ghost use Rattle.std.specs.Prelude.{◌≡◌, IfSome, OnOk, Some};
+ghost use Rattle.std.specs.Io.KnownBytes.{Appends};
+ghost use Rattle.basecode.specs.Faults.{line_of, printed_word_fault, status_of};
 
+use arrayvec::ArrayString;
 use encoding_stream::StreamFault;
-use std::fmt;
+use std::fmt::Write as _;
 use std::io::Write;
+use std::{fmt, io};
+
+// The most bytes of a line that goes out in one write: a pipe keeps as many together.
+const LINE_LIMIT: usize = 4096;
 
 /// What is wrong with the words of a command line.
 #[derive(Clone, Copy, Debug)]
@@ -41,7 +47,15 @@ pub fn exit_status(fault: StreamFault) -> u8
     }
 }
 
-/// Prints a line on what went wrong. A failure to print it changes nothing.
-pub fn tell<F: Write, D: fmt::Display>(faults: &mut F, fault: &D) {
-    let _ = writeln!(faults, "basecode: {fault}");
+/// Prints a line on what went wrong: in one write where it has at most 4096 bytes, and else in
+/// pieces. It takes no memory. After an error a part of the line may be printed.
+pub fn tell<F: Write, D: fmt::Display>(faults: &mut F, fault: &D) -> io::Result<()>
+    ensures { OnOk result (IfSome (D.output fault.now) (λ text.
+        Appends (F.contents faults.old) (F.contents faults.new) (line_of text))) }
+{
+    let mut line = ArrayString::<LINE_LIMIT>::new();
+    match writeln!(line, "basecode: {fault}") {
+        Ok(()) => faults.write_all(line.as_str().as_bytes()),
+        Err(_) => writeln!(faults, "basecode: {fault}"),
+    }
 }

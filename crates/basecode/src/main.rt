@@ -33,7 +33,7 @@ fn main(rt: HostRuntime) -> ExitCode {
     let mut faults = rt.stderr();
     let Ok(words) = words_of(&rt) else {
         // A word that is not UTF-8 ends here too.
-        tell(&mut faults, &"out of memory");
+        let _ = tell(&mut faults, &"out of memory");
         return ExitCode::from(OUT_OF_MEMORY);
     };
     let mut reader = Watch::new(rt.reader());

@@ -66,7 +66,7 @@ pub fn run<R: Read, W: Write, F: Write>(
             }
         },
         Err(fault) => {
-            tell(faults, &fault);
+            let _ = tell(faults, &fault);
             2
         }
     }
@@ -90,7 +90,7 @@ fn settle<F: Write>(outcome: Result<(), StreamFault>, faults: &mut F) -> u8
     match outcome {
         Ok(()) => 0,
         Err(fault) => {
-            tell(faults, &fault);
+            let _ = tell(faults, &fault);
             exit_status(fault)
         }
     }

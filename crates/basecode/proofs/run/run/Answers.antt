@@ -2,12 +2,13 @@ use Rattle.std.proofs.Common.{rules, ◌≡◌, ◌∙◌, sym, Some, IfErr, inl
 use Rattle.std.specs.Io.KnownBytes.{Appends, Keeps}
 use Rattle.data_encoding.specs.Canonical.{has_one_text}
 use Rattle.basecode.specs.Names.{listing}
-use Rattle.basecode.specs.Run.{Begins, ByReply, Converts, Explains, OfNames, OfQuestion, truth}
+use Rattle.basecode.specs.Run.{Begins, ByReply, Converts, Explains, OfNames, OfQuestion, Replies, truth}
 use Rattle.encoding_stream.specs.Watch.{inner_of}
 use Rattle.basecode.specs.Words.{Asks, Names, request_of, texts}
 use Rattle.basecode.specs.declared.command.Ask.TheVariants.{Conversion, Question}
 use Rattle.basecode.proofs.ConversionLemmas.{done_conversion, refused_conversion}
 use Rattle.basecode.proofs.WordLemmas.{Asks-request}
+use Rattle.basecode.proofs.run.run.Given.{Over}
 use Rattle.basecode.proofs.run.run.Goals as goal
 
 pub returns-in-Ok-List-clause-done : goal.returns-in-Ok-List-clause-done
@@ -41,11 +42,13 @@ returns-in-Ok-List-clause-begun g c = λ not_2.
       });
     }
 
-pub returns-in-Question-clause-done : goal.returns-in-Question-clause-done
-returns-in-Question-clause-done g c = λ ends.
+-- what is sent is the reply to the question
+reply : (g : Over) (c : goal.After-settle-in-Question g)
+    → Replies (texts c.args.words.now) (g.R.Read.remaining (inner_of c.args.reader.now))
+    (g.R.Read.remaining (inner_of c.args.reader.now)) c.truth_of.result.now
+reply g c =
     let asks : c.in-Ok-Of.task.ask ≡ Question = search rules in
-    let asked : Asks (texts c.args.words.now) Question
-    c.in-Ok-Of.task.encoding =
+    let asked : Asks (texts c.args.words.now) Question c.in-Ok-Of.task.encoding =
     Asks-request _ c.in-Ok-Of.field-0 c.in-Ok-Of.task Question
     c.in-Ok-Of.field-0-is asks c.in-Ok-Of.ensures.asked in
     let shown : c.truth_of.result.now ≡ truth (has_one_text c.in-Ok-Of.task.encoding) =
@@ -53,42 +56,35 @@ returns-in-Question-clause-done g c = λ ends.
     let kept : Keeps (g.R.Read.remaining (inner_of c.args.reader.now))
     (g.R.Read.remaining (inner_of c.args.reader.now)) =
     search rules in
+    OfQuestion c.in-Ok-Of.task.encoding asked kept shown
+
+pub returns-in-Question-clause-done : goal.returns-in-Question-clause-done
+returns-in-Question-clause-done g c = λ ends.
     let written : Appends (g.W.Write.contents (inner_of c.args.writer.now))
     (g.W.Write.contents (inner_of c.send-in-Question.new.writer)) c.truth_of.result.now =
     search rules in
-    record {
-      output = c.truth_of.result.now;
-      fulfils = ByReply (OfQuestion c.in-Ok-Of.task.encoding asked kept shown);
-      written = written;
-    }
+    record { output = c.truth_of.result.now; fulfils = ByReply (reply g c); written = written }
 
 pub returns-in-Question-clause-begun : goal.returns-in-Question-clause-begun
 returns-in-Question-clause-begun g c = λ not_2.
-    let asks : c.in-Ok-Of.task.ask ≡ Question = search rules in
-    let asked : Asks (texts c.args.words.now) Question
-    c.in-Ok-Of.task.encoding =
-    Asks-request _ c.in-Ok-Of.field-0 c.in-Ok-Of.task Question
-    c.in-Ok-Of.field-0-is asks c.in-Ok-Of.ensures.asked in
-    let shown : c.truth_of.result.now ≡ truth (has_one_text c.in-Ok-Of.task.encoding) =
-    (rw c.in-Ok-Of.field-0-is at c.truth_of.ensures) in
-    let kept : Keeps (g.R.Read.remaining (inner_of c.args.reader.now))
-    (g.R.Read.remaining (inner_of c.args.reader.now)) =
-    search rules in
     record {
       is_begun = inr (record {
         output = c.truth_of.result.now;
-        replies = OfQuestion c.in-Ok-Of.task.encoding asked kept shown;
+        replies = reply g c;
         written = c.send-in-Question.ensures.begun;
       });
     }
 
+-- the words ask for the conversion
+conversion : (g : Over) (c : goal.After-settle-in-Conversion g)
+    → Asks (texts c.args.words.now) (Conversion c.in-Conversion.verb) c.in-Ok-Of.task.encoding
+conversion g c =
+    let asks : c.in-Ok-Of.task.ask ≡ Conversion c.in-Conversion.verb = search rules in
+    Asks-request _ c.in-Ok-Of.field-0 c.in-Ok-Of.task (Conversion c.in-Conversion.verb)
+    c.in-Ok-Of.field-0-is asks c.in-Ok-Of.ensures.asked
+
 pub returns-in-Conversion-clause-done : goal.returns-in-Conversion-clause-done
 returns-in-Conversion-clause-done g c = λ ends.
-    let asks : c.in-Ok-Of.task.ask ≡ Conversion c.in-Conversion.verb = search rules in
-    let asked : Asks (texts c.args.words.now) (Conversion c.in-Conversion.verb)
-    c.in-Ok-Of.task.encoding =
-    Asks-request _ c.in-Ok-Of.field-0 c.in-Ok-Of.task (Conversion c.in-Conversion.verb)
-    c.in-Ok-Of.field-0-is asks c.in-Ok-Of.ensures.asked in
     let converts : Converts c.in-Conversion.verb c.in-Ok-Of.task.encoding
     (g.R.Read.remaining (inner_of c.args.reader.now))
     (g.R.Read.remaining (inner_of c.convert.new.reader))
@@ -96,15 +92,10 @@ returns-in-Conversion-clause-done g c = λ ends.
     (g.W.Write.contents (inner_of c.convert.new.writer)) =
     search rules in
     done_conversion _ _ _ _ _ c.sound_text.ensures c.in-Conversion.verb
-    c.in-Ok-Of.task.encoding asked converts
+    c.in-Ok-Of.task.encoding (conversion g c) converts
 
 pub returns-in-Conversion-clause-refused : goal.returns-in-Conversion-clause-refused
 returns-in-Conversion-clause-refused g c = λ ends.
-    let asks : c.in-Ok-Of.task.ask ≡ Conversion c.in-Conversion.verb = search rules in
-    let asked : Asks (texts c.args.words.now) (Conversion c.in-Conversion.verb)
-    c.in-Ok-Of.task.encoding =
-    Asks-request _ c.in-Ok-Of.field-0 c.in-Ok-Of.task (Conversion c.in-Conversion.verb)
-    c.in-Ok-Of.field-0-is asks c.in-Ok-Of.ensures.asked in
     let explains : IfErr c.convert.result (Explains c.in-Conversion.verb c.in-Ok-Of.task.encoding
     (g.R.Read.remaining (inner_of c.args.reader.now))
     (g.R.Read.remaining (inner_of c.convert.new.reader))
@@ -112,15 +103,10 @@ returns-in-Conversion-clause-refused g c = λ ends.
     (g.W.Write.contents (inner_of c.convert.new.writer))) =
     search rules in
     refused_conversion _ _ _ _ _ c.in-Conversion.verb c.in-Ok-Of.task.encoding c.convert.result
-    asked explains (sym c.settle-in-Conversion.ensures ∙ ends)
+    (conversion g c) explains (sym c.settle-in-Conversion.ensures ∙ ends)
 
 pub returns-in-Conversion-clause-begun : goal.returns-in-Conversion-clause-begun
 returns-in-Conversion-clause-begun g c = λ not_2.
-    let asks : c.in-Ok-Of.task.ask ≡ Conversion c.in-Conversion.verb = search rules in
-    let asked : Asks (texts c.args.words.now) (Conversion c.in-Conversion.verb)
-    c.in-Ok-Of.task.encoding =
-    Asks-request _ c.in-Ok-Of.field-0 c.in-Ok-Of.task (Conversion c.in-Conversion.verb)
-    c.in-Ok-Of.field-0-is asks c.in-Ok-Of.ensures.asked in
     let begins : Begins c.in-Conversion.verb c.in-Ok-Of.task.encoding
     (g.R.Read.remaining (inner_of c.args.reader.now))
     (g.R.Read.remaining (inner_of c.convert.new.reader))
@@ -131,7 +117,7 @@ returns-in-Conversion-clause-begun g c = λ not_2.
       is_begun = inl (record {
         verb = c.in-Conversion.verb;
         base = c.in-Ok-Of.task.encoding;
-        asked = asked;
+        asked = conversion g c;
         begins = begins;
       });
     }

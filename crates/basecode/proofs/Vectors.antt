@@ -1,0 +1,215 @@
+-- Worked rows of the program: its names, its words, and what a run has done.
+use Rattle.std.proofs.Common.{◌≡◌, ℕ, true, false, take, sym, Result, List, [], ◌∷◌, ◌++◌, map, codes, length, Option, Some, None, Ok, Err, refl, inl, inr}
+use Rattle.std.specs.Borrow.{Bor}
+use Rattle.data_encoding.specs.declared.error.DecodeError.{DecodeError}
+use Rattle.data_encoding.specs.declared.error.DecodeKind.TheVariants.{Symbol}
+use Rattle.data_encoding.specs.declared.meanings.Refusal.{Refusal}
+use Rattle.data_encoding.specs.Base.{Base}
+use Rattle.data_encoding.specs.Fields.{Fields, base_of}
+use Rattle.data_encoding.specs.Fault.{fault_of, sound_bytes}
+use Rattle.data_encoding.specs.Text.{text_of}
+use Rattle.encoding_stream.specs.Decoded.{DecodesAll}
+use Rattle.data_encoding.specs.Predefined.{hexlower_fields, base64_fields}
+use Rattle.encoding_stream.specs.declared.error.StreamFault.TheVariants.{Decode as DecodeFault, TooLong, Read, Write}
+use Rattle.basecode.specs.declared.command.Ask.TheVariants.{Conversion, Question}
+use Rattle.basecode.specs.declared.command.Request.TheVariants.{List as ListRequested}
+use Rattle.basecode.specs.declared.command.Verb.TheVariants.{Encode, Decode}
+use Rattle.basecode.specs.declared.fault.WordFault.TheVariants.{Usage, UnknownName}
+use Rattle.basecode.specs.Faults.{line_of, printed_word_fault, status_of, status_after}
+use Rattle.basecode.specs.Names.{IsNamed, fields_named, listing, names}
+use Rattle.basecode.specs.Run.{DecodesFaulty, AskConversion, Answers, Begins, BeginsAnswer, BeginsReply, Begun, Converts, Done, Explains, Fulfils, ByAnswer, ByReply, IsAnswer, Refused, Replies, OfNames, OfQuestion, truth}
+use Rattle.basecode.specs.Words.{Task, Request, AreRequest, Asks, IsWrong, Names, Of, ask_of, both, limit_of, request_of, texts}
+
+abbrev words : List (List ℕ)
+words = codes "encode" ∷ codes "BASE64" ∷ []
+
+abbrev words_back : List (List ℕ)
+words_back = codes "decode" ∷ codes "BASE64" ∷ []
+
+abbrev question : List (List ℕ)
+question = codes "canonical" ∷ codes "HEXLOWER" ∷ []
+
+names_known :
+    (length names ≡ 18)
+    × (fields_named (codes "BASE64") ≡ Some base64_fields)
+    × (fields_named (codes "base64") ≡ None)
+names_known = (refl, refl, refl)
+
+abbrev encode_base64 : Task
+encode_base64 = record { ask = Conversion Encode; fields = base64_fields }
+
+abbrev the_names : Request
+the_names = Names
+
+words_asked :
+    (texts [] ≡ [])
+    × (map ask_of (codes "encode" ∷ codes "decode" ∷ codes "canonical" ∷ codes "list" ∷ [])
+    ≡ Some (Conversion Encode) ∷ Some (Conversion Decode) ∷ Some Question ∷ None ∷ [])
+    × (both (Some Question) None ≡ None)
+    × (both (Some (Conversion Encode)) (Some base64_fields) ≡ Some encode_base64)
+    × (request_of words ≡ Some (Of encode_base64))
+    × (request_of (codes "list" ∷ []) ≡ Some the_names)
+    × (request_of (codes "recode" ∷ codes "BASE64" ∷ []) ≡ None)
+    × (request_of (codes "encode" ∷ codes "base64" ∷ []) ≡ None)
+    × AreRequest (codes "list" ∷ []) ListRequested
+words_asked = (refl, refl, refl, refl, refl, refl, refl, refl, refl)
+
+limits : (limit_of Encode ≡ 18446744073709551615) × (limit_of Decode ≡ 2305843009213693951)
+limits = (refl, refl)
+
+abbrev Holds : (Base → Type 0) → Result Base Refusal → Type 0
+Holds P (Ok base) = P base
+Holds P (Err refusal) = ⊥
+
+-- The fields have a base, and it is so.
+abbrev Has : Fields → (Base → Type 0) → Type 0
+Has fields P = Holds P (base_of fields)
+
+named : Has base64_fields (λ base. IsNamed (codes "BASE64") base)
+named = record { fields = base64_fields; is_known = refl; is_built = refl }
+
+asked : Has base64_fields (λ base. Asks words (Conversion Encode) base)
+asked = record { fields = base64_fields; is_request = refl; is_built = refl }
+
+asked_whether : Has hexlower_fields (λ base. Asks question Question base)
+asked_whether = record { fields = hexlower_fields; is_request = refl; is_built = refl }
+
+asked_back : Has base64_fields (λ base. Asks words_back (Conversion Decode) base)
+asked_back = record { fields = base64_fields; is_request = refl; is_built = refl }
+
+abbrev hello : Option (List ℕ)
+hello = Some (codes "Hello")
+
+abbrev nothing : Option (List ℕ)
+nothing = Some []
+
+encoded_in : (base : Base) → Asks words (Conversion Encode) base
+    → text_of base (codes "Hello") ≡ codes "SGVsbG8="
+    → IsAnswer Encode base (codes "Hello") (codes "SGVsbG8=")
+    × Answers Encode base hello nothing (codes "SGVsbG8=")
+    × Converts Encode base hello nothing nothing (Some (codes "SGVsbG8="))
+    × Done words hello nothing nothing (Some (codes "SGVsbG8="))
+encoded_in base asks h =
+    let answers : Answers Encode base hello nothing (codes "SGVsbG8=") =
+    record { input = codes "Hello"; read = refl; at_end = refl; is_answer = sym h } in (
+      sym h,
+      answers,
+      record { bytes = codes "Hello"; read = refl; at_end = refl; written = sym h },
+      record {
+        output = codes "SGVsbG8=";
+        fulfils = ByAnswer Encode base asks answers;
+        written = refl;
+      },
+    )
+
+-- `Hello` was read, and its text was written
+encoded_hello :
+    Has base64_fields (λ base.
+    IsAnswer Encode base (codes "Hello") (codes "SGVsbG8=")
+    × Answers Encode base hello nothing (codes "SGVsbG8=")
+    × Converts Encode base hello nothing nothing (Some (codes "SGVsbG8="))
+    × Done words hello nothing nothing (Some (codes "SGVsbG8=")))
+encoded_hello = encoded_in _ asked refl
+
+-- what a question and the list are answered, with nothing read
+replied :
+    (truth true ≡ codes "true" ++ 10 ∷ []) × (truth false ≡ codes "false" ++ 10 ∷ [])
+    × Replies question hello hello (codes "true" ++ 10 ∷ [])
+    × Replies (codes "list" ∷ []) hello hello listing
+    × (take 9 listing ≡ codes "HEXLOWER" ++ 10 ∷ [])
+    × Fulfils (codes "list" ∷ []) hello hello listing
+replied =
+    let names_listed : Replies (codes "list" ∷ []) hello hello listing = OfNames refl refl refl in
+    (refl, refl, OfQuestion _ asked_whether refl refl, names_listed, refl, ByReply names_listed)
+
+begun_in : (base : Base) → Asks words (Conversion Encode) base
+    → take 2 (text_of base (codes "Hel")) ≡ codes "SG"
+    → take 2 (text_of base (codes "Hello")) ≡ codes "SG"
+    → Begins Encode base hello (Some (codes "lo")) nothing (Some (codes "SG"))
+    × BeginsAnswer words hello (Some (codes "lo")) nothing (Some (codes "SG"))
+    × Begun words hello (Some (codes "lo")) nothing (Some (codes "SG"))
+begun_in base asks front whole =
+    let begins : Begins Encode base hello (Some (codes "lo")) nothing (Some (codes "SG")) =
+    record {
+      bytes = codes "Hel";
+      read = refl;
+      written = (2, sym front);
+      of_all = (2, sym whole);
+    } in
+    let answer : BeginsAnswer words hello (Some (codes "lo")) nothing (Some (codes "SG")) =
+    record { verb = Encode; base = base; asked = asks; begins = begins } in
+    (begins, answer, record { is_begun = inl answer })
+
+-- a beginning of a text, and of a reply
+begun :
+    Has base64_fields (λ base.
+    Begins Encode base hello (Some (codes "lo")) nothing (Some (codes "SG"))
+    × BeginsAnswer words hello (Some (codes "lo")) nothing (Some (codes "SG"))
+    × Begun words hello (Some (codes "lo")) nothing (Some (codes "SG")))
+begun = begun_in _ asked refl refl
+
+reply_begun : BeginsReply (codes "list" ∷ []) hello hello nothing (Some (codes "HEX"))
+reply_begun = record { output = listing; replies = OfNames refl refl refl; written = (3, refl) }
+
+abbrev symbol_at_4 : DecodeError
+symbol_at_4 = record { position = 4; kind = Symbol }
+
+refused_in : (base : Base) → Asks words_back (Conversion Decode) base
+    → fault_of base (codes "SGVs!G8=") ≡ Some symbol_at_4
+    → sound_bytes base (codes "SGVs!G8=") ≡ codes "Hel"
+    → DecodesFaulty Decode base (Some (codes "SGVs!G8=")) nothing nothing (Some (codes "Hel"))
+    × Explains Decode base (Some (codes "SGVs!G8=")) nothing nothing (Some (codes "Hel"))
+    (DecodeFault symbol_at_4)
+    × Refused words_back (Some (codes "SGVs!G8=")) nothing nothing (Some (codes "Hel"))
+    × AskConversion words_back
+refused_in base asks is_fault are_bytes =
+    let decodes : DecodesAll base (Some symbol_at_4) (Some (codes "SGVs!G8=")) nothing nothing
+    (Some (codes "Hel")) = record {
+      text = codes "SGVs!G8=";
+      read = refl;
+      at_end = refl;
+      fault_is = is_fault;
+      written = sym are_bytes;
+    } in
+    let faulty : DecodesFaulty Decode base (Some (codes "SGVs!G8=")) nothing nothing
+    (Some (codes "Hel")) =
+    record { error = symbol_at_4; is_decoding = refl; decodes = decodes } in (
+      faulty,
+      (refl, decodes),
+      record { verb = Decode; base = base; asked = asks; reason = inr faulty },
+      record { verb = Decode; base = base; asked = asks },
+    )
+
+-- a text with a fault, and the bytes before it
+refused :
+    Has base64_fields (λ base.
+    DecodesFaulty Decode base (Some (codes "SGVs!G8=")) nothing nothing (Some (codes "Hel"))
+    × Explains Decode base (Some (codes "SGVs!G8=")) nothing nothing (Some (codes "Hel"))
+    (DecodeFault symbol_at_4)
+    × Refused words_back (Some (codes "SGVs!G8=")) nothing nothing (Some (codes "Hel"))
+    × AskConversion words_back)
+refused = refused_in _ asked_back refl refl
+
+-- no words are wrong as a whole, and of these two the name alone
+wrong_words : IsWrong [] Usage
+wrong_words = λ word name h. let e = h in cc
+
+abbrev unknown : Bor (List ℕ)
+unknown = record { ref_ptr = (0, 0); now = codes "base64" }
+
+wrong_name :
+    IsWrong (codes "encode" ∷ codes "base64" ∷ []) (UnknownName unknown)
+    × (printed_word_fault (UnknownName unknown) ≡ codes "unknown encoding: base64")
+wrong_name = ((codes "encode", refl, refl, refl), refl)
+
+usage_printed : printed_word_fault Usage
+    ≡ codes "usage: basecode list OR encode NAME OR decode NAME OR canonical NAME"
+usage_printed = refl
+
+line_printed : line_of (codes "out of memory") ≡ codes "basecode: out of memory" ++ 10 ∷ []
+line_printed = refl
+
+statuses :
+    (map status_of (DecodeFault symbol_at_4 ∷ TooLong ∷ Read ∷ Write ∷ []) ≡ 1 ∷ 1 ∷ 3 ∷ 3 ∷ [])
+    × (status_after (Ok _) ≡ 0) × (status_after (Err Write) ≡ 3)
+statuses = (refl, refl, refl)

@@ -1,0 +1,12 @@
+use Rattle.std.proofs.Common.{rules, ◌≡◌}
+use Rattle.std.proofs.lemmas.Result.{on_ok_weaker}
+use Rattle.basecode.proofs.LineLemmas.{line_sent}
+use Rattle.basecode.proofs.fault.tell.Goals as goal
+
+pub returns-in-Ok : goal.returns-in-Ok
+returns-in-Ok g c =
+    let is : c.as_bytes.result.now ≡ c.writeln.new.self.bytes = search rules in
+    on_ok_weaker _
+    (line_sent _ (λ line. line.bytes) (λ before bytes after took. took) _ _
+    c.new-line.ensures _ c.in-Ok.ensures.writes _ is _ _)
+    c.write_all.ensures.bytes
