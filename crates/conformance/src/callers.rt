@@ -1,8 +1,10 @@
 //! Small functions of a user, each proved from the contracts of the calls that it makes.
 
-ghost use Rattle.std.specs.Prelude.{◌≡◌, ◌⊎◌, ◌↔◌, ◌≤◌, ◌++◌, length, is_some, is_ok, Err, IsTrue, IfOk, IfSome, OnOk};
+ghost use Rattle.std.specs.Prelude.{◌≡◌, ◌⊎◌, ◌↔◌, ◌<◌, ◌≤◌, ◌++◌, length, is_some, is_ok, Err, Ok, IsTrue, IfErr, IfOk, IfSome, OnOk};
 ghost use Rattle.std.specs.String.{string_bytes};
+ghost use Rattle.data_encoding.specs.Base.{Base};
 ghost use Rattle.data_encoding.specs.Canonical.{IsCanonical};
+ghost use Rattle.data_encoding.specs.Fault.{IsRefusal};
 ghost use Rattle.data_encoding.specs.Fields.{base_of};
 ghost use Rattle.data_encoding.specs.Lengths.{length_fault};
 ghost use Rattle.data_encoding.specs.Specification.{specified};
@@ -50,6 +52,9 @@ pub fn there_and_back(
 ) -> Result<Vec<u8>, Trouble>
     ensures same { IfOk result (λ bytes. bytes.items ≡ input.now) }
     ensures no_fault { (error : DecodeError) → result ≡ Err (Trouble.Fault error) → ⊥ }
+    ensures too_long { result ≡ Err Trouble.TooLong → (ENCODE_LIMIT < length input.now)
+        ⊎ ((base : Base) × (base_of (specified specification.now) ≡ Ok base)
+        × (DECODE_LIMIT < length (text_of base input.now))) }
 {
     let encoding = match specification.encoding() {
         Ok(encoding) => encoding,
@@ -138,7 +143,7 @@ pub fn is_yielded_again(
 }
 
 /// Whether an encoding is canonical, and two texts decode to the same bytes: where it is, and they
-/// are the same text.
+/// are the same text. An error is that of decoding one of them.
 pub fn is_one_text(
     alloc: Global,
     encoding: &Encoding,
@@ -147,8 +152,10 @@ pub fn is_one_text(
 ) -> Result<bool, DecodeFault>
     requires limit { length text.now ≤ DECODE_LIMIT }
     requires other_limit { length other.now ≤ DECODE_LIMIT }
-    ensures { IfOk result
+    ensures same { IfOk result
         (λ same. IsTrue same ↔ (IsCanonical encoding.now × (text.now ≡ other.now))) }
+    ensures fault { IfErr result (λ fault. IsRefusal encoding.now text.now fault
+        ⊎ IsRefusal encoding.now other.now fault) }
 {
     let _width = encoding.bit_width();
     one_meaning();

@@ -2,29 +2,29 @@
 
 ghost use Rattle.std.specs.Prelude.{◌≤◌, length};
 
-use super::rows::row_of;
+use super::rows::{bytes_of_length, case_of};
 use crate::callers::encoded_in_two;
 use data_encoding::{ENCODE_LIMIT, Encoding, base64};
 use std::alloc::{AllocError, Global};
 use std::test::Fail;
 
-// Data, and what stands behind `Result: ` then.
+// What is done with data, and what stands behind `Result: ` then. An encoder takes fragments,
+// between bars that lean; what it holds at the end is encoded too, or dropped.
 const APPENDED: &str = "\
-base64|most|check|=||0||||Hello world|Result: SGVsbG8gd29ybGQ=
-base64|most|check|=||0|||||Result: ";
-
-// Fragments, between bars that lean, and the text at the end.
-const FINALIZED: &str = "\
-base64|most|check|=||0||||he//llo|aGVsbG8=
-base64|most|check|=||0||||hello/world|aGVsbG93b3JsZA==
-base64|most|check|=||0|||||";
-
-// The same, and the text where what is held is dropped.
-const ABANDONED: &str = "\
-base64|most|check|=||0||||he//llo|aGVs
-base64|most|check|=||0||||h/e|";
+append base64|most|check|=||0||||Hello world|SGVsbG8gd29ybGQ=
+append base64|most|check|=||0|||||
+finalize base64|most|check|=||0||||he//llo|aGVsbG8=
+finalize base64|most|check|=||0||||hello/world|aGVsbG93b3JsZA==
+finalize base64|most|check|=||0|||||
+abandon base64|most|check|=||0||||he//llo|aGVs
+abandon base64|most|check|=||0||||h/e|";
 
 const MIME: &str = "base64|most|check|=||76|←↵|||";
+
+// A byte less than a line, and that byte.
+const LINE_BUT_ONE: &str = "00000000000000000000000000000000000000000000000000000000";
+
+const LINE: &str = "00000000000000000000000000000000000000000000000000000000/0";
 
 // Each width in both orders, padded where a group may lack symbols; then with an ignored byte, and
 // in lines of a group up to the most, with separators of 1, 2 and 255 bytes.
@@ -76,24 +76,24 @@ macro_rules! finish {
     };
 }
 
-fn is_appended(alloc: Global, line: &str) -> Result<bool, Fail> {
-    let row = row_of(alloc, line)?;
-    let encoding = row.specification.encoding()?;
-    let mut output = String::from_str(alloc, "Result: ")?;
-    if row.input.len() > ENCODE_LIMIT {
-        return Ok(false);
+// Appends the text of the data.
+fn append(encoding: &Encoding, data: &[u8], output: &mut String) -> Result<(), AllocError> {
+    if data.len() > ENCODE_LIMIT {
+        return Ok(());
     }
-    encoding.encode_append(row.input.as_bytes(), &mut output)?;
-    Ok(output.as_str() == row.want)
+    encoding.encode_append(data, output)
 }
 
-fn is_encoded(alloc: Global, line: &str, is_finalized: bool) -> Result<bool, Fail> {
-    let row = row_of(alloc, line)?;
-    let encoding = row.specification.encoding()?;
-    let mut output = String::new(alloc);
-    let mut encoder = encoding.new_encoder(&mut output);
+// Appends the text of the fragments; where memory ran out, that of those before.
+fn append_fragments(
+    encoding: &Encoding,
+    fragments: &str,
+    output: &mut String,
+    is_finalized: bool,
+) -> Result<(), AllocError> {
+    let mut encoder = encoding.new_encoder(output);
     let mut appended = Ok(());
-    for fragment in row.input.split('/') {
+    for fragment in fragments.split('/') {
         if appended.is_ok() && fragment.len() <= ENCODE_LIMIT {
             appended = encoder.append(fragment.as_bytes());
         }
@@ -105,8 +105,26 @@ fn is_encoded(alloc: Global, line: &str, is_finalized: bool) -> Result<bool, Fai
         Ok(())
     };
     appended?;
-    ended?;
-    Ok(output.as_str() == row.want)
+    ended
+}
+
+// Whether what stands behind `Result: ` is what the row wants.
+fn is_appended(alloc: Global, line: &str) -> Result<bool, Fail> {
+    let (act, line) = line.split_once(' ').unwrap_or(("", line));
+    let case = case_of(alloc, line)?;
+    let mut output = String::from_str(alloc, "Result: ")?;
+    match act {
+        "append" => append(&case.encoding, case.input.as_bytes(), &mut output)?,
+        _ => append_fragments(&case.encoding, case.input, &mut output, act == "finalize")?,
+    }
+    Ok(output.as_str().strip_prefix("Result: ") == Some(case.want))
+}
+
+// Whether two fragments have the text of the joined data.
+fn is_encoded_in_two(alloc: Global) -> Result<bool, Fail> {
+    let mut output = String::from_str(alloc, "Result: ")?;
+    encoded_in_two(&base64(), b"he", b"llo", &mut output)?;
+    Ok(output.as_str() == "Result: aGVsbG8=")
 }
 
 #[test]
@@ -114,51 +132,28 @@ fn appends_texts(rt: HostRuntime) -> Result<(), Fail> {
     for line in APPENDED.split('\n') {
         assert!(rt; is_appended(rt.alloc(), line)?, "{line}");
     }
-    for line in FINALIZED.split('\n') {
-        assert!(rt; is_encoded(rt.alloc(), line, true)?, "{line}");
-    }
-    for line in ABANDONED.split('\n') {
-        assert!(rt; is_encoded(rt.alloc(), line, false)?, "{line}");
-    }
-    let mut output = String::from_str(rt.alloc(), "Result: ")?;
-    encoded_in_two(&base64(), b"he", b"llo", &mut output)?;
-    assert_eq!(rt; output.as_str(), "Result: aGVsbG8=");
+    assert!(rt; is_encoded_in_two(rt.alloc())?);
     Ok(())
 }
 
-// The length of the text of so many zeros, where what is held is encoded too, or dropped.
-fn length_of(
-    encoding: &Encoding,
-    output: &mut String,
-    count: usize,
+// Whether the fragments have a text of such a length, in lines.
+fn has_length(
+    alloc: Global,
+    fragments: &str,
     is_finalized: bool,
-) -> Result<usize, AllocError> {
-    output.clear();
-    let mut encoder = encoding.new_encoder(output);
-    let mut appended = encoder.append(&[0; 56]);
-    for _ in 56..count {
-        if appended.is_ok() {
-            appended = encoder.append(&[0]);
-        }
-    }
-    let ended = if is_finalized {
-        finish!(encoder)
-    } else {
-        encoder.abandon();
-        Ok(())
-    };
-    appended?;
-    ended?;
-    Ok(output.len())
+    len: usize,
+) -> Result<bool, Fail> {
+    let encoding = case_of(alloc, MIME)?.encoding;
+    let mut output = String::new(alloc);
+    append_fragments(&encoding, fragments, &mut output, is_finalized)?;
+    Ok(output.len() == len)
 }
 
 #[test]
 fn appends_whole_lines(rt: HostRuntime) -> Result<(), Fail> {
-    let encoding = row_of(rt.alloc(), MIME)?.specification.encoding()?;
-    let mut output = String::new(rt.alloc());
-    assert_eq!(rt; length_of(&encoding, &mut output, 56, false)?, 0);
-    assert_eq!(rt; length_of(&encoding, &mut output, 57, false)?, 78);
-    assert_eq!(rt; length_of(&encoding, &mut output, 57, true)?, 78);
+    assert!(rt; has_length(rt.alloc(), LINE_BUT_ONE, false, 0)?);
+    assert!(rt; has_length(rt.alloc(), LINE, false, 78)?);
+    assert!(rt; has_length(rt.alloc(), LINE, true, 78)?);
     Ok(())
 }
 
@@ -218,18 +213,22 @@ fn is_alike(alloc: Global, encoding: &Encoding, data: &[u8]) -> Result<bool, All
     Ok(true)
 }
 
+// Whether each front of some data has the same text however it is cut.
+fn fronts_are_alike(alloc: Global, line: &str) -> Result<bool, Fail> {
+    let encoding = case_of(alloc, line)?.encoding;
+    let data = bytes_of_length(alloc, 200)?;
+    for len in 0..=200 {
+        if !is_alike(alloc, &encoding, data.get(..len).unwrap_or(&[]))? {
+            return Ok(false);
+        }
+    }
+    Ok(true)
+}
+
 #[test]
 fn fragments_have_the_text_of_the_whole(rt: HostRuntime) -> Result<(), Fail> {
-    let mut data = Vec::new(rt.alloc());
-    for index in 0..200usize {
-        data.push((index.wrapping_mul(37) % 256) as u8)?;
-    }
     for line in ENCODINGS.split('\n') {
-        let encoding = row_of(rt.alloc(), line)?.specification.encoding()?;
-        for len in 0..=200 {
-            let data = data.get(..len).unwrap_or(&[]);
-            assert!(rt; is_alike(rt.alloc(), &encoding, data)?, "{line} {len}");
-        }
+        assert!(rt; fronts_are_alike(rt.alloc(), line)?, "{line}");
     }
     Ok(())
 }

@@ -1,14 +1,14 @@
 //! Each other public call, with ample memory.
 
-use super::decoding::beginning;
-use super::rows::{bytes_of, described, row_of};
+use super::decoding::begins;
+use super::rows::{bytes_of, bytes_of_length, case_of, described, row_of};
+use super::vectors::is_there_and_back;
 use data_encoding::laws::{
     canonical, join_decode, join_encode, join_fault, layout_flags, not_canonical, one_meaning,
     pieces, resume, round_trip, specification_again,
 };
 use data_encoding::{
-    DECODE_LIMIT, DecodeError, DecodeFault, DecodeKind, ENCODE_LIMIT, Encoding, Specification,
-    hexlower,
+    DECODE_LIMIT, DecodeError, DecodeFault, DecodeKind, Encoding, Specification, hexlower,
 };
 use std::alloc::{AllocError, Global};
 use std::test::Fail;
@@ -32,19 +32,17 @@ base32|most|check|||0||||5, 5
 base64|most|check|||0||||6, 3
 base64|most|check|=||76|←↵|||6, 57";
 
-// Whether the encoding is that of two symbols alone.
+// Two rows, and whether their encodings are equal. Concatenation tells two apart where there is
+// padding.
 const COMPARISONS: &str = "\
-binary|most||||0||0|0|true
-10|most|check|||0||||false
-binary|least|check|||0||||false
-binary|most|check||~|0||||false
-binary|most|check|||8|~|||false
-binary|most|check|||0||a|0|false";
-
-// Whether concatenation tells the encoding from that of 64 symbols without padding, or with it.
-const UNPADDED: &str = "base64|most|single check|||0||||true";
-
-const PADDED: &str = "base64|most|single check|=||0||||false";
+binary|most|check|||0||||&binary|most||||0||0|0|true
+binary|most|check|||0||||&10|most|check|||0||||false
+binary|most|check|||0||||&binary|least|check|||0||||false
+binary|most|check|||0||||&binary|most|check||~|0||||false
+binary|most|check|||0||||&binary|most|check|||8|~|||false
+binary|most|check|||0||||&binary|most|check|||0||a|0|false
+base64|most|check|||0||||&base64|most|single check|||0||||true
+base64|most|check|=||0||||&base64|most|single check|=||0||||false";
 
 // Lines of 76 symbols, each followed by CR LF, which are ignored.
 const MIME: &str = "base64|most|check|=||76|←↵|||";
@@ -52,9 +50,9 @@ const MIME: &str = "base64|most|check|=||76|←↵|||";
 // Each field is another than that of a new specification.
 const FULL: &str = "base64|least|single|.|~|76|↵|!?|AB|";
 
-fn encoding(alloc: Global, line: &str) -> Result<Encoding, Fail> {
-    let row = row_of(alloc, line)?;
-    Ok(row.specification.encoding()?)
+// Whether the fault is printed so.
+fn is_printed(alloc: Global, fault: DecodeFault, want: &str) -> Result<bool, Fail> {
+    Ok(fault.to_string(alloc)?.as_str() == want)
 }
 
 #[test]
@@ -63,10 +61,14 @@ fn prints_faults(rt: HostRuntime) -> Result<(), Fail> {
         position: 7,
         kind: DecodeKind::Padding,
     };
-    let fault = DecodeFault::from(error).to_string(rt.alloc())?;
-    assert_eq!(rt; fault.as_str(), "invalid padding length at 7");
-    let fault = DecodeFault::OutOfMemory.to_string(rt.alloc())?;
-    assert_eq!(rt; fault.as_str(), "out of memory");
+    assert!(rt;
+        is_printed(
+            rt.alloc(),
+            DecodeFault::from(error),
+            "invalid padding length at 7"
+        )?
+    );
+    assert!(rt; is_printed(rt.alloc(), DecodeFault::OutOfMemory, "out of memory")?);
     Ok(())
 }
 
@@ -83,52 +85,53 @@ pub(super) fn interpreted(
     format!(in alloc; "{character:?} {symbol:?} {padding} {ignored} {invalid}")
 }
 
+// Whether the one byte of the row means what it wants.
+fn is_interpreted(alloc: Global, line: &str) -> Result<bool, Fail> {
+    let case = case_of(alloc, line)?;
+    let bytes = bytes_of(alloc, case.input)?;
+    Ok(match bytes.as_slice() {
+        [byte] => interpreted(alloc, &case.encoding, *byte)?.as_str() == case.want,
+        _ => false,
+    })
+}
+
 #[test]
 fn interprets_bytes(rt: HostRuntime) -> Result<(), Fail> {
     for line in MEANINGS.split('\n') {
-        let row = row_of(rt.alloc(), line)?;
-        let encoding = row.specification.encoding()?;
-        let bytes = bytes_of(rt.alloc(), row.input)?;
-        assert_eq!(rt; bytes.len(), 1);
-        assert_eq!(rt;
-            interpreted(rt.alloc(), &encoding, bytes[0])?.as_str(),
-            row.want
-        );
+        assert!(rt; is_interpreted(rt.alloc(), line)?, "{line}");
     }
     Ok(())
+}
+
+// Whether the sizes are those of the row.
+fn is_aligned(alloc: Global, line: &str) -> Result<bool, Fail> {
+    let case = case_of(alloc, line)?;
+    let (width, align) = (case.encoding.bit_width(), case.encoding.encode_align());
+    Ok(format!(in alloc; "{width}, {align}")?.as_str() == case.want)
 }
 
 #[test]
 fn aligns_groups(rt: HostRuntime) -> Result<(), Fail> {
     for line in SIZES.split('\n') {
-        let row = row_of(rt.alloc(), line)?;
-        let encoding = row.specification.encoding()?;
-        let (width, align) = (encoding.bit_width(), encoding.encode_align());
-        let sizes = format!(in rt.alloc(); "{width}, {align}")?;
-        assert_eq!(rt; sizes.as_str(), row.want);
+        assert!(rt; is_aligned(rt.alloc(), line)?, "{line}");
     }
     Ok(())
 }
 
-// Whether the encoding is the other, or not, as the row wants.
-fn compares(alloc: Global, other: &Encoding, line: &str) -> Result<bool, Fail> {
-    let row = row_of(alloc, line)?;
-    let encoding = row.specification.encoding()?;
-    Ok((encoding == *other) == (row.want == "true"))
+// Whether the two encodings are equal or not, as the second row wants, and the first is its copy.
+fn compares(alloc: Global, rows: &str) -> Result<bool, Fail> {
+    let (one, other) = rows.split_once('&').unwrap_or((rows, ""));
+    let one = case_of(alloc, one)?.encoding;
+    let other = case_of(alloc, other)?;
+    Ok((one == other.encoding) == (other.want == "true") && one == one.clone()?)
 }
 
 #[test]
 fn compares_and_copies(rt: HostRuntime) -> Result<(), Fail> {
-    let binary = encoding(rt.alloc(), "binary|most|check|||0||||")?;
-    for line in COMPARISONS.split('\n') {
-        assert!(rt; compares(rt.alloc(), &binary, line)?, "{line}");
+    for rows in COMPARISONS.split('\n') {
+        assert!(rt; compares(rt.alloc(), rows)?, "{rows}");
     }
-    let unpadded = encoding(rt.alloc(), "base64|most|check|||0||||")?;
-    assert!(rt; compares(rt.alloc(), &unpadded, UNPADDED)?);
-    let padded = encoding(rt.alloc(), "base64|most|check|=||0||||")?;
-    assert!(rt; compares(rt.alloc(), &padded, PADDED)?);
-    assert!(rt; binary == binary.clone()?);
-    assert!(rt; hexlower() == encoding(rt.alloc(), "hex|most|check|||0||||")?);
+    assert!(rt; case_of(rt.alloc(), "hex|most|check|||0||||")?.encoding == hexlower());
     Ok(())
 }
 
@@ -140,16 +143,41 @@ fn parts_of(alloc: Global, full: &Specification) -> Result<Specification, AllocE
     Ok(parts)
 }
 
+// Whether the specification is written so.
+fn is_described(
+    alloc: Global,
+    specification: &Specification,
+    want: &str,
+) -> Result<bool, AllocError> {
+    Ok(described(alloc, specification)?.as_str() == want)
+}
+
+// Whether the symbols and the order of the bits are the same.
+fn has_symbols_of(one: &Specification, other: &Specification) -> bool {
+    one.symbols.as_str() == other.symbols.as_str() && one.bit_order == other.bit_order
+}
+
+// Whether the copy of a specification is that of `FULL`.
+fn is_copied(alloc: Global, full: &Specification) -> Result<bool, AllocError> {
+    let copy = full.try_clone()?;
+    Ok(
+        has_symbols_of(&copy, full)
+            && is_described(alloc, &copy, "single/false/Some('.')/~/76/\n/!?/AB")?,
+    )
+}
+
+// Whether a specification, its lines and its translation are copied.
+fn are_copied(alloc: Global) -> Result<bool, Fail> {
+    let full = row_of(alloc, FULL)?.specification;
+    Ok(
+        is_copied(alloc, &full)?
+            && is_described(alloc, &parts_of(alloc, &full)?, "true/None//76/\n/!?/AB")?,
+    )
+}
+
 #[test]
 fn copies_specifications(rt: HostRuntime) -> Result<(), Fail> {
-    let full = row_of(rt.alloc(), FULL)?.specification;
-    let copy = full.try_clone()?;
-    assert_eq!(rt; copy.symbols.as_str(), full.symbols.as_str());
-    assert_eq!(rt; copy.bit_order, full.bit_order);
-    let fields = described(rt.alloc(), &copy)?;
-    assert_eq!(rt; fields.as_str(), "single/false/Some('.')/~/76/\n/!?/AB");
-    let parts = described(rt.alloc(), &parts_of(rt.alloc(), &full)?)?;
-    assert_eq!(rt; parts.as_str(), "true/None//76/\n/!?/AB");
+    assert!(rt; are_copied(rt.alloc())?);
     Ok(())
 }
 
@@ -171,19 +199,9 @@ fn calls_laws() {
 
 // Whether so many bytes come back from their text.
 fn come_back(alloc: Global, count: usize) -> Result<bool, Fail> {
-    let mut input = Vec::new(alloc);
-    for index in 0..count {
-        input.push((index % 251) as u8)?;
-    }
-    let encoding = encoding(alloc, "base64|most|check|||0||||")?;
-    if input.len() > ENCODE_LIMIT {
-        return Ok(false);
-    }
-    let text = encoding.encode(alloc, &input)?;
-    if text.len() > DECODE_LIMIT {
-        return Ok(false);
-    }
-    Ok(encoding.decode(alloc, text.as_bytes())? == input)
+    let specification = row_of(alloc, "base64|most|check|||0||||")?.specification;
+    let input = bytes_of_length(alloc, count)?;
+    Ok(is_there_and_back(alloc, &specification, &input))
 }
 
 #[test]
@@ -204,21 +222,53 @@ fn lines(alloc: Global, count: usize, len: usize) -> Result<Vec<u8>, AllocError>
     Ok(text)
 }
 
-// What a text of many lines means, and how far one comes that has a fault in its last line.
+// Whether the text means so many zeros.
+fn means_zeros(
+    alloc: Global,
+    encoding: &Encoding,
+    text: &[u8],
+    count: usize,
+) -> Result<bool, DecodeFault> {
+    if text.len() > DECODE_LIMIT {
+        return Ok(false);
+    }
+    let zeros = encoding.decode(alloc, text)?;
+    Ok(zeros.len() == count && zeros.iter().all(|byte| *byte == 0))
+}
+
+// Whether a text of a thousand lines is read up to its last, where that has a fault.
+fn stops_in_last_line(alloc: Global, encoding: &Encoding, text: &mut [u8]) -> Result<bool, Fail> {
+    if text.len() != 78_000 {
+        return Ok(false);
+    }
+    text[77_997] = b'!';
+    begins(
+        alloc,
+        encoding,
+        text,
+        "77994 read, 56997 written, invalid symbol at 77997",
+    )
+}
+
+// Whether a thousand lines mean zeros, and are read up to a fault in the last.
+fn decodes_lines(alloc: Global, encoding: &Encoding) -> Result<bool, Fail> {
+    let mut text = lines(alloc, 1000, 76)?;
+    Ok(
+        means_zeros(alloc, encoding, &text, 57_000)?
+            && stops_in_last_line(alloc, encoding, &mut text)?,
+    )
+}
+
+// Whether the ends of many lines mean nothing.
+fn decodes_ends(alloc: Global, encoding: &Encoding) -> Result<bool, Fail> {
+    let ends = lines(alloc, 100_000, 0)?;
+    Ok(ends.len() == 200_000 && means_zeros(alloc, encoding, &ends, 0)?)
+}
+
 #[test]
 fn decodes_many_lines(rt: HostRuntime) -> Result<(), Fail> {
-    let encoding = encoding(rt.alloc(), MIME)?;
-    let mut text = lines(rt.alloc(), 1000, 76)?;
-    assert!(rt; text.len() == 78_000);
-    let zeros = encoding.decode(rt.alloc(), &text)?;
-    assert!(rt; zeros.len() == 57_000 && zeros.iter().all(|byte| *byte == 0));
-    text[77_997] = b'!';
-    assert_eq!(rt;
-        beginning(rt.alloc(), &encoding, &text)?.as_str(),
-        "77994 read, 56997 written, invalid symbol at 77997"
-    );
-    let ends = lines(rt.alloc(), 100_000, 0)?;
-    assert!(rt; ends.len() == 200_000);
-    assert!(rt; encoding.decode(rt.alloc(), &ends)?.is_empty());
+    let encoding = case_of(rt.alloc(), MIME)?.encoding;
+    assert!(rt; decodes_lines(rt.alloc(), &encoding)?);
+    assert!(rt; decodes_ends(rt.alloc(), &encoding)?);
     Ok(())
 }

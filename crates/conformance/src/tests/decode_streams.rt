@@ -1,8 +1,8 @@
 //! Texts that are decoded from a reader to a writer.
 
 use super::judge::Judgement;
-use super::rows::{bytes_of, row_of};
-use super::slow::{Failure, Narrow, Outcome, Slow, bytes_of_length, reader_of};
+use super::rows::{bytes_of, bytes_of_length, row_of};
+use super::slow::{Failure, Narrow, Outcome, Slow, reader_of};
 use data_encoding::{DecodeError, DecodeKind, ENCODE_LIMIT, Encoding, base64_mime, hexlower};
 use encoding_stream::{StreamFault, Watch, decode_stream};
 use std::alloc::{AllocError, Global};

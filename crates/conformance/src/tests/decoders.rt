@@ -1,15 +1,9 @@
 //! Texts that come in pieces, cut anywhere.
 
-ghost use Rattle.std.specs.Prelude.{◌<◌, ◌≤◌, length};
-
-use super::decode_streams::is_streamed_alike;
+use super::comparison::{Comparison, Tally};
 use super::decoding::beginning;
-use super::judge::{Judge, Judgement};
-use super::rows::{bytes_of, field_of, row_of};
-use super::slow::bytes_of_length;
-use super::sweeps::{
-    lengths_are_judged_alike, pairs_are_judged_alike, symbols_are_judged_alike_ignoring,
-};
+use super::judge::Judge;
+use super::rows::{bytes_of, bytes_of_length, field_of, row_of};
 use data_encoding::{DECODE_LIMIT, DecodeError, Encoding, base64_nopad};
 use encoding_stream::Decoder;
 use std::alloc::{AllocError, Global};
@@ -49,22 +43,12 @@ base64|most|single check|=||0||||
 base64|most|single check|=||76|-|||
 octal|most|single|=|-|0||||";
 
-// Each width, padded where a group may lack symbols, and single.
-const SHORT: &str = "\
-binary|least|check|||0||||
-quaternary|most|check|||0||||
-octal|most|check|||0||||
-hex|least|check|||0||||
-base32|most||||0||||
-base64|most|check|||0||||
-octal|least|check|=||0||||
-base32|most||=||0||||
-base64|most|check|=||0||||
-base64|most|single check|=||0||||
-octal|most|single|=||0||||";
-
 // Pushes a piece of a text that is not too long.
-fn push(decoder: &mut Decoder<'_>, piece: &[u8], output: &mut Vec<u8>) -> Result<(), AllocError> {
+pub(super) fn push(
+    decoder: &mut Decoder<'_>,
+    piece: &[u8],
+    output: &mut Vec<u8>,
+) -> Result<(), AllocError> {
     let len = decoder.len();
     if len > DECODE_LIMIT || piece.len() > DECODE_LIMIT - len {
         return Err(AllocError);
@@ -73,68 +57,20 @@ fn push(decoder: &mut Decoder<'_>, piece: &[u8], output: &mut Vec<u8>) -> Result
 }
 
 // The fault of the whole text.
-fn finish(decoder: Decoder<'_>, output: &mut Vec<u8>) -> Result<Option<DecodeError>, AllocError> {
+pub(super) fn finish(
+    decoder: Decoder<'_>,
+    output: &mut Vec<u8>,
+) -> Result<Option<DecodeError>, AllocError> {
     match decoder.finish(output) {
         Ok(finished) => Ok(finished.verdict.err()),
         Err(_) => Err(AllocError),
     }
 }
 
-// Whether a decoder appends and tells what the judge does, which is pushed the text up to a
-// position, and then pieces of so many bytes.
-fn is_cut_alike(
-    encoding: &Encoding,
-    want: &Judgement,
-    text: &[u8],
-    position: usize,
-    size: usize,
-    output: &mut Vec<u8>,
-) -> Result<bool, AllocError>
-    requires inside { position ≤ length text.now }
-    requires some { 0 < size }
-{
-    output.clear();
-    let (front, rest) = text.split_at(position);
-    let mut decoder = Decoder::new(encoding);
-    push(&mut decoder, front, output)?;
-    for piece in rest.chunks(size) {
-        push(&mut decoder, piece, output)?;
-    }
-    let is_counted = decoder.len() == text.len();
-    let fault = finish(decoder, output)?;
-    Ok(is_counted && fault == want.fault && *output == want.bytes)
-}
-
-// Whether a text is judged alike that comes byte by byte, from a reader and in pieces, and that is
-// cut in two at each position.
-pub(super) fn is_judged_alike_in_pieces(
-    alloc: Global,
-    encoding: &Encoding,
-    judge: Judge<'_>,
-    text: &[u8],
-) -> Result<bool, AllocError> {
-    let want = judge.decode_pieces(alloc, text)?;
-    let mut output = Vec::new(alloc);
-    for position in 0..=text.len() {
-        if !is_cut_alike(encoding, &want, text, position, usize::MAX, &mut output)? {
-            return Ok(false);
-        }
-    }
-    Ok(
-        is_cut_alike(encoding, &want, text, 0, 1, &mut output)?
-            && is_streamed_alike(alloc, encoding, &want, text, 1),
-    )
-}
-
-// The same of a long text, in pieces of a few lengths.
-fn is_long_alike(
-    alloc: Global,
-    encoding: &Encoding,
-    judge: Judge<'_>,
-    text: &[u8],
-) -> Result<bool, AllocError> {
-    let want = judge.decode_pieces(alloc, text)?;
-    let mut output = Vec::new(alloc);
+// Whether a long text is judged alike that comes in pieces of a few lengths.
+fn is_long_alike(comparison: &mut Comparison<'_>, text: &[u8]) -> Result<bool, AllocError> {
+    let whole = comparison.judge.decode(comparison.alloc, text)?;
+    let want = comparison.judge.in_pieces(comparison.alloc, text, whole)?;
     for (position, size) in [
         (0, 1),
         (0, usize::MAX),
@@ -143,13 +79,13 @@ fn is_long_alike(
         (1025, 1024),
     ] {
         let position = position.min(text.len());
-        if !is_cut_alike(encoding, &want, text, position, size, &mut output)? {
+        if !comparison.is_cut_alike(&want, text, position, size)? {
             return Ok(false);
         }
     }
     Ok(
-        is_streamed_alike(alloc, encoding, &want, text, 1)
-            && is_streamed_alike(alloc, encoding, &want, text, usize::MAX),
+        comparison.is_read_alike(&want, text, 1)
+            && comparison.is_read_alike(&want, text, usize::MAX),
     )
 }
 
@@ -158,6 +94,7 @@ fn is_alike_throughout(alloc: Global, line: &str) -> Result<bool, Fail> {
     let specification = row_of(alloc, line)?.specification;
     let encoding = specification.encoding()?;
     let judge = Judge::of(&specification);
+    let mut comparison = Comparison::new(alloc, &encoding, judge, Tally::zero());
     let mut text = judge.encode(alloc, &bytes_of_length(alloc, 800)?)?;
     if text.len() < 1030 {
         return Ok(false);
@@ -169,40 +106,13 @@ fn is_alike_throughout(alloc: Global, line: &str) -> Result<bool, Fail> {
         let own = text[position];
         for byte in [b'!', b'=', b'-'] {
             text[position] = byte;
-            if !is_long_alike(alloc, &encoding, judge, &text)? {
+            if !is_long_alike(&mut comparison, &text)? {
                 return Ok(false);
             }
         }
         text[position] = own;
     }
-    Ok(is_long_alike(alloc, &encoding, judge, &text)?)
-}
-
-// Texts of a symbol, and where a group is short, two groups with padding: as they stand and with
-// another byte at any position.
-fn is_short_alike(alloc: Global, line: &str) -> Result<bool, Fail> {
-    let specification = row_of(alloc, line)?.specification;
-    let encoding = specification.encoding()?;
-    let mut judge = Judge::of(&specification);
-    judge.in_pieces = true;
-    let symbol = *judge.symbols.get(1).unwrap_or(&b'?');
-    let has_pairs = judge.padding.is_some() && judge.group_len() <= 4;
-    Ok(
-        lengths_are_judged_alike(alloc, &encoding, judge, symbol)?
-            && (!has_pairs || pairs_are_judged_alike(alloc, &encoding, judge, symbol)?),
-    )
-}
-
-// Texts of a group and a byte, of which one or two are ignored.
-fn is_alike_ignoring(alloc: Global, line: &str) -> Result<bool, Fail> {
-    let mut specification = row_of(alloc, line)?.specification;
-    specification.ignore.push('-')?;
-    let encoding = specification.encoding()?;
-    let mut judge = Judge::of(&specification);
-    judge.in_pieces = true;
-    let symbol = *judge.symbols.first().unwrap_or(&b'?');
-    let len = judge.group_len().min(8) + 1;
-    Ok(symbols_are_judged_alike_ignoring(alloc, &encoding, judge, symbol, len)?)
+    Ok(is_long_alike(&mut comparison, &text)?)
 }
 
 // Appends to an answer what a call has appended, and a bar that leans.
@@ -246,22 +156,6 @@ fn appends_whole_groups(rt: HostRuntime) -> Result<(), Fail> {
 fn long_texts_are_judged_alike_in_pieces(rt: HostRuntime) -> Result<(), Fail> {
     for line in LONG.split('\n') {
         assert!(rt; is_alike_throughout(rt.alloc(), line)?, "{line}");
-    }
-    Ok(())
-}
-
-#[test]
-fn short_texts_are_judged_alike_in_pieces(rt: HostRuntime) -> Result<(), Fail> {
-    for line in SHORT.split('\n') {
-        assert!(rt; is_short_alike(rt.alloc(), line)?, "{line}");
-    }
-    Ok(())
-}
-
-#[test]
-fn ignored_bytes_are_judged_alike_in_pieces(rt: HostRuntime) -> Result<(), Fail> {
-    for line in SHORT.split('\n') {
-        assert!(rt; is_alike_ignoring(rt.alloc(), line)?, "{line}");
     }
     Ok(())
 }

@@ -5,7 +5,7 @@ ghost use Rattle.std.specs.Prelude.{◌≤◌, length};
 use super::judge::Judge;
 use super::rows::{bytes_of, field_of, row_of};
 use super::sweeps::is_judged_alike;
-use data_encoding::{DECODE_LIMIT, Encoding};
+use data_encoding::{DECODE_LIMIT, Encoding, Specification};
 use std::alloc::Global;
 use std::test::Fail;
 
@@ -134,6 +134,18 @@ pub(super) fn beginning(alloc: Global, encoding: &Encoding, text: &[u8]) -> Resu
     })
 }
 
+// Whether `decode_mut` comes so far.
+pub(super) fn begins(
+    alloc: Global,
+    encoding: &Encoding,
+    text: &[u8],
+    want: &str,
+) -> Result<bool, Fail>
+    requires limit { length text.now ≤ DECODE_LIMIT }
+{
+    Ok(beginning(alloc, encoding, text)?.as_str() == want)
+}
+
 // A call that decodes.
 #[derive(Clone, Copy)]
 enum Call {
@@ -142,25 +154,37 @@ enum Call {
     DecodeMut,
 }
 
+// What the call answers; of `decode_mut`, where the judge has the same answer.
+fn answer(
+    alloc: Global,
+    call: Call,
+    specification: &Specification,
+    text: &[u8],
+) -> Result<String, Fail>
+    requires limit { length text.now ≤ DECODE_LIMIT }
+{
+    let encoding = specification.encoding()?;
+    match call {
+        Call::Decode => decoded(alloc, &encoding, text),
+        Call::DecodeLen => most(alloc, &encoding, text.len()),
+        Call::DecodeMut => {
+            if is_judged_alike(alloc, &encoding, Judge::of(specification), text)? {
+                beginning(alloc, &encoding, text)
+            } else {
+                Ok(String::from_str(alloc, "judged otherwise")?)
+            }
+        }
+    }
+}
+
 // Whether the call answers what the row wants.
 fn answers(alloc: Global, call: Call, line: &str) -> Result<bool, Fail> {
     let row = row_of(alloc, line)?;
-    let encoding = row.specification.encoding()?;
     let text = bytes_of(alloc, row.input)?;
     if text.len() > DECODE_LIMIT {
         return Ok(false);
     }
-    let answer = match call {
-        Call::Decode => decoded(alloc, &encoding, &text)?,
-        Call::DecodeLen => most(alloc, &encoding, text.len())?,
-        Call::DecodeMut => {
-            if !is_judged_alike(alloc, &encoding, Judge::of(&row.specification), &text)? {
-                return Ok(false);
-            }
-            beginning(alloc, &encoding, &text)?
-        }
-    };
-    Ok(answer.as_str() == row.want)
+    Ok(answer(alloc, call, &row.specification, &text)?.as_str() == row.want)
 }
 
 #[test]

@@ -2,9 +2,9 @@
 
 ghost use Rattle.std.specs.Prelude.{◌≤◌, length};
 
-use super::rows::{bytes_of, row_of};
+use super::rows::{bytes_of, case_of};
 use data_encoding::{ENCODE_LIMIT, Encoding, hexlower};
-use std::alloc::Global;
+use std::alloc::{AllocError, Global};
 use std::test::Fail;
 
 const TEXTS: &str = "\
@@ -55,16 +55,26 @@ fn writes(encoding: &Encoding, input: &[u8], want: &[u8]) -> bool
     &output[..len] == want
 }
 
-pub(super) fn gives(alloc: Global, line: &str) -> Result<bool, Fail> {
-    let row = row_of(alloc, line)?;
-    let encoding = row.specification.encoding()?;
-    let input = bytes_of(alloc, row.input)?;
+// Whether the data have the text, in new memory and as it is written.
+pub(super) fn has_text(
+    alloc: Global,
+    encoding: &Encoding,
+    input: &[u8],
+    want: &[u8],
+) -> Result<bool, AllocError> {
     if input.len() > ENCODE_LIMIT {
         return Ok(false);
     }
-    let want = bytes_of(alloc, row.want)?;
-    let text = encoding.encode(alloc, &input)?;
-    Ok(text.as_bytes() == want.as_slice() && writes(&encoding, &input, &want))
+    let text = encoding.encode(alloc, input)?;
+    Ok(text.as_bytes() == want && writes(encoding, input, want))
+}
+
+// Whether the input of the row has the text that it wants.
+fn gives(alloc: Global, line: &str) -> Result<bool, Fail> {
+    let case = case_of(alloc, line)?;
+    let input = bytes_of(alloc, case.input)?;
+    let want = bytes_of(alloc, case.want)?;
+    Ok(has_text(alloc, &case.encoding, &input, &want)?)
 }
 
 #[test]
@@ -77,13 +87,12 @@ fn encodes(rt: HostRuntime) -> Result<(), Fail> {
 
 // Whether the text of data of such a length has the length that the row wants.
 fn has_length(alloc: Global, line: &str) -> Result<bool, Fail> {
-    let row = row_of(alloc, line)?;
-    let encoding = row.specification.encoding()?;
-    let len: usize = row.input.parse()?;
+    let case = case_of(alloc, line)?;
+    let len: usize = case.input.parse()?;
     if len > ENCODE_LIMIT {
         return Ok(false);
     }
-    Ok(encoding.encode_len(len) == row.want.parse()?)
+    Ok(case.encoding.encode_len(len) == case.want.parse()?)
 }
 
 #[test]
@@ -94,14 +103,17 @@ fn tells_lengths(rt: HostRuntime) -> Result<(), Fail> {
     Ok(())
 }
 
-// The text that is handed out is the output's own bytes.
-#[test]
-fn hands_out_the_output(rt: HostRuntime) -> Result<(), Fail> {
-    let encoding = hexlower();
+// Whether the text that is handed out is what the output then holds.
+fn hands_out(encoding: &Encoding) -> bool {
     let mut output = [0; 6];
-    assert!(rt; encoding.encode_len(3) == 6);
-    let text = encoding.encode_mut_str(b"Bit", &mut output);
-    assert_eq!(rt; text, "426974");
-    assert_eq!(rt; output.as_slice(), b"426974".as_slice());
-    Ok(())
+    if encoding.encode_len(3) != 6 {
+        return false;
+    }
+    let is_text = encoding.encode_mut_str(b"Bit", &mut output) == "426974";
+    is_text && output.as_slice() == b"426974".as_slice()
+}
+
+#[test]
+fn hands_out_the_output(rt: HostRuntime) {
+    assert!(rt; hands_out(&hexlower()));
 }

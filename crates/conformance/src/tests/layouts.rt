@@ -1,7 +1,7 @@
 //! Layouts: which bytes are one, and which encoding has it.
 
 use super::predefined::named;
-use super::rows::row_of;
+use super::rows::case_of;
 use data_encoding::Encoding;
 use std::alloc::{AllocError, Global};
 use std::test::Fail;
@@ -54,18 +54,22 @@ fn encoding_of(alloc: Global, name: &str) -> Result<Option<Encoding>, Fail> {
         "LONGEST" => LONGEST,
         _ => return Ok(named(name)),
     };
-    Ok(Some(row_of(alloc, line)?.specification.encoding()?))
+    Ok(Some(case_of(alloc, line)?.encoding))
+}
+
+fn put(layout: &mut [u8], position: usize, byte: u8) {
+    if position < layout.len() {
+        layout[position] = byte;
+    }
 }
 
 // Writes a byte anew, as 513=12, or cuts a layout or fills it with zeros, as len=515.
 fn edit(layout: &mut Vec<u8>, change: &str) -> Result<(), Fail> {
-    let mut sides = change.split('=');
-    let position = sides.next().unwrap_or("");
-    let value = sides.next().unwrap_or("");
+    let (position, value) = change.split_once('=').unwrap_or(("", ""));
     if position == "len" {
         layout.resize(value.parse()?, 0)?;
-    } else if let Some(byte) = layout.get_mut(position.parse()?) {
-        *byte = value.parse()?;
+    } else {
+        put(layout, position.parse()?, value.parse()?);
     }
     Ok(())
 }
@@ -90,21 +94,26 @@ fn shown(alloc: Global, layout: &[u8]) -> Result<String, AllocError> {
     format!(in alloc; "{len}: {ends:?} {lines:?}")
 }
 
-// Whether the encoding of the bytes is that of the row, and has these bytes as its layout.
+// Whether the encoding is the wanted one, and has these bytes as its layout.
+fn is_wanted(alloc: Global, encoding: &Encoding, bytes: &[u8], want: &str) -> Result<bool, Fail> {
+    if encoding.internal_implementation().as_slice() != bytes {
+        return Ok(false);
+    }
+    Ok(match encoding_of(alloc, want)? {
+        Some(wanted) => *encoding == wanted,
+        None => shown(alloc, bytes)?.as_str() == want,
+    })
+}
+
+// Whether the encoding of the bytes is that of the row.
 fn answers(alloc: Global, line: &str) -> Result<bool, Fail> {
-    let mut fields = line.split('|');
-    let name = fields.next().unwrap_or("");
-    let layout = changed(alloc, name, fields.next().unwrap_or(""))?;
-    let want = fields.next().unwrap_or("");
-    let Some(encoding) = Encoding::internal_new(&layout) else {
-        return Ok(want == "none");
-    };
-    let again = encoding.internal_implementation();
-    let is_wanted = match encoding_of(alloc, want)? {
-        Some(wanted) => encoding == wanted,
-        None => shown(alloc, again.as_slice())?.as_str() == want,
-    };
-    Ok(is_wanted && again.as_slice() == layout.as_slice())
+    let (name, fields) = line.split_once('|').unwrap_or(("", ""));
+    let (changes, want) = fields.split_once('|').unwrap_or(("", ""));
+    let layout = changed(alloc, name, changes)?;
+    match Encoding::internal_new(&layout) {
+        Some(encoding) => is_wanted(alloc, &encoding, &layout, want),
+        None => Ok(want == "none"),
+    }
 }
 
 #[test]
@@ -266,17 +275,21 @@ fn lengths_are_judged_alike(alloc: Global, layout: &[u8], fill: u8) -> Result<bo
     Ok(true)
 }
 
+// Whether all three hold of the layout of a name.
+fn is_damaged_alike(alloc: Global, name: &str) -> Result<bool, Fail> {
+    let mut layout = changed(alloc, name, "")?;
+    let last = layout.last().copied().unwrap_or(0);
+    Ok(
+        lengths_are_judged_alike(alloc, &layout, 0)?
+            && lengths_are_judged_alike(alloc, &layout, last)?
+            && bytes_are_judged_alike(&mut layout),
+    )
+}
+
 #[test]
 fn damaged_layouts_are_judged_alike(rt: HostRuntime) -> Result<(), Fail> {
-    for name in DAMAGED.split_whitespace() {
-        let mut layout = changed(rt.alloc(), name, "")?;
-        let last = layout.last().copied().unwrap_or(0);
-        assert!(rt; lengths_are_judged_alike(rt.alloc(), &layout, 0)?, "{name}");
-        assert!(rt;
-            lengths_are_judged_alike(rt.alloc(), &layout, last)?,
-            "{name}"
-        );
-        assert!(rt; bytes_are_judged_alike(&mut layout), "{name}");
+    for name in DAMAGED.split(' ') {
+        assert!(rt; is_damaged_alike(rt.alloc(), name)?, "{name}");
     }
     Ok(())
 }

@@ -1,7 +1,7 @@
 //! Texts compared in place of data.
 
 use super::predefined::named;
-use super::rows::row_of;
+use super::rows::case_of;
 use data_encoding::laws::order;
 use data_encoding::{ENCODE_LIMIT, Encoding};
 use std::alloc::Global;
@@ -82,33 +82,44 @@ fn keeps_order(alloc: Global, encoding: &Encoding) -> Result<bool, Fail> {
     )
 }
 
+// Whether the encoding of the name keeps the order or not, as the line wants.
+fn is_told(alloc: Global, line: &str) -> Result<bool, Fail> {
+    let (name, want) = line.split_once('|').unwrap_or((line, ""));
+    let Some(encoding) = named(name) else {
+        return Ok(false);
+    };
+    Ok(keeps_order(alloc, &encoding)? == (want == "true"))
+}
+
 #[test]
 fn texts_are_in_order(rt: HostRuntime) -> Result<(), Fail> {
     order();
     for line in NAMES.split('\n') {
-        let mut fields = line.split('|');
-        let name = fields.next().unwrap_or("");
-        let want = fields.next() == Some("true");
-        let encoding = named(name);
-        assert!(rt; encoding.is_some(), "{line}");
-        if let Some(encoding) = encoding {
-            assert!(rt; keeps_order(rt.alloc(), &encoding)? == want, "{line}");
-        }
+        assert!(rt; is_told(rt.alloc(), line)?, "{line}");
     }
     Ok(())
+}
+
+// Whether the texts of one zero byte and of two are these.
+fn has_texts(alloc: Global, encoding: &Encoding, texts: &str) -> Result<bool, Fail> {
+    let one = text(alloc, encoding, &[0])?;
+    let two = text(alloc, encoding, &[0, 0])?;
+    Ok(texts.split_once(' ') == Some((one.as_str(), two.as_str())))
+}
+
+// Whether the padding of the row is where it says, and keeps the order or not, as it wants.
+fn is_padded(alloc: Global, line: &str) -> Result<bool, Fail> {
+    let case = case_of(alloc, line)?;
+    Ok(
+        has_texts(alloc, &case.encoding, case.input)?
+            && keeps_order(alloc, &case.encoding)? == (case.want == "true"),
+    )
 }
 
 #[test]
 fn padding_comes_before_or_behind(rt: HostRuntime) -> Result<(), Fail> {
     for line in PADDED.split('\n') {
-        let row = row_of(rt.alloc(), line)?;
-        let encoding = row.specification.encoding()?;
-        let one = text(rt.alloc(), &encoding, &[0])?;
-        let two = text(rt.alloc(), &encoding, &[0, 0])?;
-        let texts = format!(in rt.alloc(); "{one} {two}")?;
-        assert!(rt; texts.as_str() == row.input, "{line}");
-        let kept = keeps_order(rt.alloc(), &encoding)?;
-        assert!(rt; kept == (row.want == "true"), "{line}");
+        assert!(rt; is_padded(rt.alloc(), line)?, "{line}");
     }
     Ok(())
 }

@@ -3,13 +3,14 @@
 use super::calls::interpreted;
 use super::decoding::decoded;
 use super::rows::bytes_of;
+use super::vectors::go_both_ways;
 use data_encoding::{
-    ENCODE_LIMIT, Encoding, base32, base32_dnscurve, base32_dnssec, base32_nopad,
+    DECODE_LIMIT, Encoding, base32, base32_dnscurve, base32_dnssec, base32_nopad,
     base32_nopad_nocase, base32_nopad_visual, base32hex, base32hex_nopad, base64, base64_mime,
     base64_mime_permissive, base64_nopad, base64url, base64url_nopad, hexlower,
     hexlower_permissive, hexupper, hexupper_permissive,
 };
-use std::alloc::Global;
+use std::alloc::{AllocError, Global};
 use std::test::Fail;
 
 // A name, what is asked, of what, and the answer. Those of nothing come first, and then the vectors
@@ -112,51 +113,51 @@ pub(super) fn named(name: &str) -> Option<Encoding> {
     })
 }
 
-// Whether the input has that text, which decodes to it.
-fn goes_both_ways(
-    alloc: Global,
-    encoding: &Encoding,
-    input: &str,
-    want: &str,
-) -> Result<bool, Fail> {
-    let input = bytes_of(alloc, input)?;
-    let want = bytes_of(alloc, want)?;
-    if input.len() > ENCODE_LIMIT || want.len() > ENCODE_LIMIT {
-        return Ok(false);
+// The texts of the translation.
+fn translated(alloc: Global, encoding: &Encoding) -> Result<String, AllocError> {
+    let translate = encoding.specification(alloc)?.translate;
+    let (from, to) = (translate.from.as_str(), translate.to.as_str());
+    format!(in alloc; "{from}/{to}")
+}
+
+// What the only byte means.
+fn meaning(alloc: Global, encoding: &Encoding, bytes: &[u8]) -> Result<String, AllocError> {
+    match bytes {
+        [byte] => interpreted(alloc, encoding, *byte),
+        _ => Ok(String::new(alloc)),
     }
-    let text = encoding.encode(alloc, &input)?;
-    let decoded = encoding.decode(alloc, &want);
-    Ok(text.as_bytes() == want.as_slice() && decoded? == input)
 }
 
 // What an encoding answers.
 fn answer(alloc: Global, encoding: &Encoding, asked: &str, input: &str) -> Result<String, Fail> {
     let input = bytes_of(alloc, input)?;
-    if asked == "translate" {
-        let translate = encoding.specification(alloc)?.translate;
-        let (from, to) = (translate.from.as_str(), translate.to.as_str());
-        return Ok(format!(in alloc; "{from}/{to}")?);
+    if input.len() > DECODE_LIMIT {
+        return Ok(String::new(alloc));
     }
-    Ok(match input.as_slice() {
-        [byte] if asked == "meaning" => interpreted(alloc, encoding, *byte)?,
-        bytes if bytes.len() <= ENCODE_LIMIT => decoded(alloc, encoding, bytes)?,
-        _ => String::new(alloc),
+    Ok(match asked {
+        "translate" => translated(alloc, encoding)?,
+        "meaning" => meaning(alloc, encoding, &input)?,
+        _ => decoded(alloc, encoding, &input)?,
     })
+}
+
+// Whether the encoding answers what the fields of the row say.
+fn does_answer(alloc: Global, encoding: &Encoding, fields: &str) -> Result<bool, Fail> {
+    let (asked, fields) = fields.split_once('|').unwrap_or(("", ""));
+    let (input, want) = fields.split_once('|').unwrap_or(("", ""));
+    if asked == "both" {
+        return go_both_ways(alloc, encoding, input, want);
+    }
+    Ok(answer(alloc, encoding, asked, input)?.as_str() == want)
 }
 
 // Whether the answer is that of the row.
 fn answers(alloc: Global, line: &str) -> Result<bool, Fail> {
-    let mut fields = line.split('|');
-    let Some(encoding) = named(fields.next().unwrap_or("")) else {
-        return Ok(false);
-    };
-    let asked = fields.next().unwrap_or("");
-    let input = fields.next().unwrap_or("");
-    let want = fields.next().unwrap_or("");
-    if asked == "both" {
-        return goes_both_ways(alloc, &encoding, input, want);
+    let (name, fields) = line.split_once('|').unwrap_or(("", ""));
+    match named(name) {
+        Some(encoding) => does_answer(alloc, &encoding, fields),
+        None => Ok(false),
     }
-    Ok(answer(alloc, &encoding, asked, input)?.as_str() == want)
 }
 
 #[test]

@@ -1,8 +1,8 @@
 //! Texts that are decoded in two parts: what the first call leaves stands before what follows.
 
-ghost use Rattle.std.specs.Prelude.{◌≤◌, length};
+ghost use Rattle.std.specs.Prelude.{◌<◌, ◌≤◌, length};
 
-use super::decoding::{beginning, decoded};
+use super::decoding::{begins, decoded};
 use super::rows::{bytes_of, row_of};
 use data_encoding::{DecodeFault, Encoding, Specification, base64_mime, base64_nopad};
 use std::alloc::{AllocError, Global};
@@ -100,32 +100,62 @@ fn cuts_resumed(
     Ok(Some(cuts))
 }
 
-// Whether the text is resumed at each position, as it stands and with another byte at each.
-fn is_resumed_throughout(alloc: Global, line: &str) -> Result<bool, Fail> {
-    let row = row_of(alloc, line)?;
-    let encoding = row.specification.encoding()?;
-    let want = Some(row.want.parse()?);
-    let mut text = bytes_of(alloc, row.input)?;
-    if text.len() > 17 || cuts_resumed(alloc, &row.specification, &encoding, &text)? != want {
-        return Ok(false);
-    }
-    for position in 0..text.len() {
-        let own = text[position];
-        for byte in [b'!', b'=', b'-', b'1'] {
-            text[position] = byte;
-            if cuts_resumed(alloc, &row.specification, &encoding, &text)? != want {
-                return Ok(false);
-            }
+// Whether so many fronts of the text are resumed with each of four bytes at a position.
+fn is_resumed_beside(
+    alloc: Global,
+    specification: &Specification,
+    encoding: &Encoding,
+    text: &mut [u8],
+    position: usize,
+    want: usize,
+) -> Result<bool, AllocError>
+    requires short { length text.old ≤ 17 }
+    requires inside { position < length text.old }
+{
+    for byte in [b'!', b'=', b'-', b'1'] {
+        text[position] = byte;
+        if cuts_resumed(alloc, specification, encoding, text)? != Some(want) {
+            return Ok(false);
         }
-        text[position] = own;
     }
     Ok(true)
+}
+
+// Whether so many fronts are resumed of the text, as it stands and with another byte at each
+// position.
+fn is_resumed_throughout(
+    alloc: Global,
+    specification: &Specification,
+    text: &mut [u8],
+    want: usize,
+) -> Result<bool, Fail>
+    requires short { length text.old ≤ 17 }
+{
+    let encoding = specification.encoding()?;
+    let mut is_resumed = cuts_resumed(alloc, specification, &encoding, text)? == Some(want);
+    for position in 0..text.len() {
+        let own = text[position];
+        is_resumed = is_resumed
+            && is_resumed_beside(alloc, specification, &encoding, text, position, want)?;
+        text[position] = own;
+    }
+    Ok(is_resumed)
+}
+
+// Whether the text of the row is resumed as often as it wants.
+fn answers(alloc: Global, line: &str) -> Result<bool, Fail> {
+    let row = row_of(alloc, line)?;
+    let mut text = bytes_of(alloc, row.input)?;
+    if text.len() > 17 {
+        return Ok(false);
+    }
+    is_resumed_throughout(alloc, &row.specification, &mut text, row.want.parse()?)
 }
 
 #[test]
 fn resumes(rt: HostRuntime) -> Result<(), Fail> {
     for line in TEXTS.split('\n') {
-        assert!(rt; is_resumed_throughout(rt.alloc(), line)?, "{line}");
+        assert!(rt; answers(rt.alloc(), line)?, "{line}");
     }
     Ok(())
 }
@@ -135,26 +165,24 @@ fn resumes(rt: HostRuntime) -> Result<(), Fail> {
 #[test]
 fn joins_no_bits(rt: HostRuntime) -> Result<(), Fail> {
     let encoding = base64_nopad();
-    assert_eq!(rt;
-        beginning(rt.alloc(), &encoding, b"AA")?.as_str(),
-        "1 in all"
-    );
-    assert_eq!(rt;
-        beginning(rt.alloc(), &encoding, b"AAAA")?.as_str(),
-        "3 in all"
-    );
+    assert!(rt; begins(rt.alloc(), &encoding, b"AA", "1 in all")?);
+    assert!(rt; begins(rt.alloc(), &encoding, b"AAAA", "3 in all")?);
     Ok(())
+}
+
+// Whether a piece is read so far, and its rest and the next piece together mean these bytes.
+fn is_resumed_in_lines(alloc: Global) -> Result<bool, Fail> {
+    let encoding = base64_mime();
+    let stop = "4 read, 3 written, invalid length at 6";
+    Ok(
+        begins(alloc, &encoding, b"SGVs\r\nbG", stop)?
+            && decoded(alloc, &encoding, b"\r\nbG8=\r\n")?.as_str() == "lo",
+    )
 }
 
 // The rest of a piece goes before the next piece.
 #[test]
 fn resumes_in_lines(rt: HostRuntime) -> Result<(), Fail> {
-    let encoding = base64_mime();
-    let stop = beginning(rt.alloc(), &encoding, b"SGVs\r\nbG")?;
-    assert_eq!(rt; stop.as_str(), "4 read, 3 written, invalid length at 6");
-    assert_eq!(rt;
-        decoded(rt.alloc(), &encoding, b"\r\nbG8=\r\n")?.as_str(),
-        "lo"
-    );
+    assert!(rt; is_resumed_in_lines(rt.alloc())?);
     Ok(())
 }

@@ -1,7 +1,8 @@
 //! Rows of tables, in which a bar stands between two fields.
 
-use data_encoding::{BitOrder, Specification};
+use data_encoding::{BitOrder, Encoding, Specification};
 use std::alloc::{AllocError, Global};
+use std::str::Split;
 use std::test::Fail;
 
 const BASE32: &str = "ABCDEFGHIJKLMNOPQRSTUVWXYZ234567";
@@ -20,41 +21,74 @@ pub(super) struct Row<'a> {
     pub(super) want: &'a str,
 }
 
+// A row, with the encoding of its specification.
+#[derive(Drop)]
+pub(super) struct Case<'a> {
+    pub(super) encoding: Encoding,
+    pub(super) input: &'a str,
+    pub(super) want: &'a str,
+}
+
 // The symbols, the bit that comes first, whether texts stay single and trailing bits are checked,
 // the padding, the ignored bytes, the width of a line, the separator, the texts of the translation;
 // then the input, where there is one, and what is wanted.
 pub(super) fn row_of(alloc: Global, line: &str) -> Result<Row<'_>, Fail> {
     let mut fields = line.split('|');
     let mut specification = Specification::new(alloc);
-    put(
-        &mut specification.symbols,
-        symbols_named(fields.next().unwrap_or("")),
-    )?;
-    if fields.next() == Some("least") {
-        specification.bit_order = BitOrder::LeastSignificantFirst;
-    }
-    let rules = fields.next().unwrap_or("");
-    specification.concatenate = !rules.starts_with("single");
-    specification.check_trailing_bits = rules.ends_with("check");
-    specification.padding = fields.next().unwrap_or("").chars().next();
-    put_ignored(&mut specification, fields.next().unwrap_or(""))?;
-    specification.wrap.width = fields.next().unwrap_or("").parse()?;
-    put_separator(&mut specification, fields.next().unwrap_or(""))?;
-    put(
-        &mut specification.translate.from,
-        fields.next().unwrap_or(""),
-    )?;
-    put(&mut specification.translate.to, fields.next().unwrap_or(""))?;
-    let tenth = fields.next().unwrap_or("");
-    let (input, want) = match fields.next() {
-        Some(eleventh) => (tenth, eleventh),
-        None => ("", tenth),
-    };
+    specify(&mut specification, &mut fields)?;
+    let (input, want) = ends_of(&mut fields);
     Ok(Row {
         specification,
         input,
         want,
     })
+}
+
+// The same, where the specification yields an encoding.
+pub(super) fn case_of(alloc: Global, line: &str) -> Result<Case<'_>, Fail> {
+    let row = row_of(alloc, line)?;
+    Ok(Case {
+        encoding: row.specification.encoding()?,
+        input: row.input,
+        want: row.want,
+    })
+}
+
+// The next field, or nothing where there is none.
+fn next_of<'a>(fields: &mut Split<'a, char>) -> &'a str {
+    fields.next().unwrap_or("")
+}
+
+// The input, where there is one, and what is wanted: the last two fields, or the last.
+fn ends_of<'a>(fields: &mut Split<'a, char>) -> (&'a str, &'a str) {
+    let tenth = next_of(fields);
+    match fields.next() {
+        Some(eleventh) => (tenth, eleventh),
+        None => ("", tenth),
+    }
+}
+
+// Fills in what the fields of a specification say.
+fn specify(specification: &mut Specification, fields: &mut Split<'_, char>) -> Result<(), Fail> {
+    put(&mut specification.symbols, symbols_named(next_of(fields)))?;
+    set_rules(specification, fields);
+    put_ignored(specification, next_of(fields))?;
+    specification.wrap.width = next_of(fields).parse()?;
+    put_separator(specification, next_of(fields))?;
+    put(&mut specification.translate.from, next_of(fields))?;
+    put(&mut specification.translate.to, next_of(fields))?;
+    Ok(())
+}
+
+// The bit that comes first, the two rules, and the padding.
+fn set_rules(specification: &mut Specification, fields: &mut Split<'_, char>) {
+    if next_of(fields) == "least" {
+        specification.bit_order = BitOrder::LeastSignificantFirst;
+    }
+    let rules = next_of(fields);
+    specification.concatenate = !rules.starts_with("single");
+    specification.check_trailing_bits = rules.ends_with("check");
+    specification.padding = next_of(fields).chars().next();
 }
 
 // The symbols of a field, which may name an alphabet in their place.
@@ -125,6 +159,15 @@ pub(super) fn bytes_of(alloc: Global, field: &str) -> Result<Vec<u8>, AllocError
     let mut bytes = Vec::new(alloc);
     for character in field.chars() {
         bytes.push(u8::try_from(meant(character)).unwrap_or(b'?'))?;
+    }
+    Ok(bytes)
+}
+
+// So many bytes, not all the same.
+pub(super) fn bytes_of_length(alloc: Global, len: usize) -> Result<Vec<u8>, AllocError> {
+    let mut bytes = Vec::new(alloc);
+    for index in 0..len {
+        bytes.push((index % 251) as u8)?;
     }
     Ok(bytes)
 }

@@ -2,7 +2,7 @@
 //! them.
 
 use encoding_stream::{StreamFault, Watch};
-use std::alloc::{AllocError, Global};
+use std::alloc::Global;
 use std::io;
 use std::io::{ErrorKind, Read, Write};
 
@@ -143,13 +143,4 @@ pub(super) fn reader_of(bytes: &[u8], most: usize) -> Slow<'_> {
         good: usize::MAX,
         calls: 0,
     }
-}
-
-// So many bytes, not all the same.
-pub(super) fn bytes_of_length(alloc: Global, len: usize) -> Result<Vec<u8>, AllocError> {
-    let mut bytes = Vec::new(alloc);
-    for index in 0..len {
-        bytes.push((index % 251) as u8)?;
-    }
-    Ok(bytes)
 }

@@ -1,7 +1,7 @@
 //! Data that is encoded from a reader to a writer.
 
-use super::rows::row_of;
-use super::slow::{Failure, Narrow, Outcome, Slow, bytes_of_length, reader_of};
+use super::rows::{bytes_of_length, row_of};
+use super::slow::{Failure, Narrow, Outcome, Slow, reader_of};
 use data_encoding::{DecodeError, DecodeKind, ENCODE_LIMIT, Encoding, base64_mime, hexlower};
 use encoding_stream::{StreamFault, Watch, encode_stream};
 use std::alloc::{AllocError, Global};

@@ -1,10 +1,9 @@
 //! Data and their texts, both ways.
 
-use super::decoding::decoded;
-use super::encoding::gives;
+use super::encoding::has_text;
 use super::rows::{bytes_of, row_of};
 use crate::callers::there_and_back;
-use data_encoding::DECODE_LIMIT;
+use data_encoding::{DECODE_LIMIT, DecodeFault, Encoding, Specification};
 use std::alloc::Global;
 use std::test::Fail;
 
@@ -43,33 +42,53 @@ base32|most|check|=||0||||Hello world|JBSWY3DPEB3W64TMMQ======
 octal|most|check|=||0||||B|204=====
 octal|most|check|=||0||||it|322720==";
 
-// Whether the data of the row come back.
-fn comes_back(alloc: Global, line: &str) -> Result<bool, Fail> {
-    let row = row_of(alloc, line)?;
-    let data = bytes_of(alloc, row.input)?;
-    Ok(match there_and_back(alloc, &row.specification, &data) {
-        Ok(bytes) => bytes == data,
+// Whether the data come back from their text.
+pub(super) fn is_there_and_back(alloc: Global, specification: &Specification, data: &[u8]) -> bool {
+    match there_and_back(alloc, specification, data) {
+        Ok(bytes) => bytes.as_slice() == data,
         Err(_) => false,
-    })
+    }
 }
 
-// Whether the text of the row means its data.
-fn means(alloc: Global, line: &str) -> Result<bool, Fail> {
-    let row = row_of(alloc, line)?;
-    let encoding = row.specification.encoding()?;
-    if row.want.len() > DECODE_LIMIT {
+// Whether the text is decoded to the data.
+fn has_data(
+    alloc: Global,
+    encoding: &Encoding,
+    text: &[u8],
+    data: &[u8],
+) -> Result<bool, DecodeFault> {
+    if text.len() > DECODE_LIMIT {
         return Ok(false);
     }
-    Ok(decoded(alloc, &encoding, row.want.as_bytes())?.as_str() == row.input)
+    Ok(encoding.decode(alloc, text)?.as_slice() == data)
+}
+
+// Whether the data have the text, which is decoded to them.
+pub(super) fn go_both_ways(
+    alloc: Global,
+    encoding: &Encoding,
+    data: &str,
+    text: &str,
+) -> Result<bool, Fail> {
+    let data = bytes_of(alloc, data)?;
+    let text = bytes_of(alloc, text)?;
+    Ok(has_text(alloc, encoding, &data, &text)? && has_data(alloc, encoding, &text, &data)?)
+}
+
+// Whether the input of the row goes both ways, and also where a caller takes it there and back.
+fn is_vector(alloc: Global, line: &str) -> Result<bool, Fail> {
+    let row = row_of(alloc, line)?;
+    let encoding = row.specification.encoding()?;
+    Ok(
+        go_both_ways(alloc, &encoding, row.input, row.want)?
+            && is_there_and_back(alloc, &row.specification, row.input.as_bytes()),
+    )
 }
 
 #[test]
 fn vectors_go_both_ways(rt: HostRuntime) -> Result<(), Fail> {
     for line in VECTORS.split('\n') {
-        assert!(rt;
-            gives(rt.alloc(), line)? && means(rt.alloc(), line)?,
-            "{line}"
-        );
+        assert!(rt; is_vector(rt.alloc(), line)?, "{line}");
     }
     Ok(())
 }

@@ -3,8 +3,8 @@ use Rattle.std.proofs.lemmas.Slice.Eq.{bytes_eq-Decides}
 use Rattle.data_encoding.specs.Grammar.{Means}
 use Rattle.conformance.proofs.callers.is_one_text.Goals as goal
 
-pub returns : goal.returns
-returns c =
+pub returns-clause-same : goal.returns-clause-same
+returns-clause-same c =
     let base = c.args.encoding.now in
     let text = c.args.text.now in
     let other = c.args.other.now in
