@@ -3,7 +3,8 @@
 
 usage: docs/contracts.py           writes the file anew
        docs/contracts.py --check   writes nothing; status 1 where the file isn't what would be
-                                   written, or a clause has no words
+                                   written, a clause has no words, or one that README.md shows
+                                   isn't that of the sources
 
 The words on a clause are written in docs/CONTRACTS.md itself, by hand, and are kept as long as the
 clause reads the same, and the definitions that are shown with it. A new clause has the words of one
@@ -18,6 +19,7 @@ from pathlib import Path
 
 TOP = Path(__file__).resolve().parent.parent
 PAGE = TOP / "docs/CONTRACTS.md"
+README = TOP / "README.md"
 MISSING = "(no words yet)"
 COLUMNS = 110
 
@@ -30,6 +32,9 @@ SHOWN = {"encoding_stream", "basecode"}
 
 # The first line of a definition.
 DEFINITION = r"(?:abbrev pub|pub record|pub data) (\w+)"
+
+# README.md shows at least so many clauses.
+LEAST_SHOWN = 25
 
 # Items of an `impl` that promise nothing to a caller.
 SILENT = {"laws", "is_infallible"}
@@ -306,35 +311,70 @@ def told(crate, call, words, old, missing):
     return lines + [""]
 
 
-def page(old, missing):
+def all_calls():
+    """The public calls of each crate, by its name, in the order of crates.txt."""
+    lines = (TOP / "crates.txt").read_text().split("\n")
+    crates = [line.split(":")[0].split(" ")[0].strip() for line in lines]
+    return {crate: of_crate(TOP / "crates" / crate)
+            for crate in crates if crate and not crate.startswith("#")}
+
+
+def page(crates, old, missing):
     """The page anew."""
     known = definitions()
     told_of = set()
     lines = [old.text.partition("\n## ")[0].strip("\n"), ""]
-    for line in (TOP / "crates.txt").read_text().split("\n"):
-        crate = line.split(":")[0].split(" ")[0].strip()
-        if not crate or crate.startswith("#"):
-            continue
+    for crate, calls in crates.items():
         lines += [f"## `{crate}`", "", old.intro(crate), ""]
-        calls = of_crate(TOP / "crates" / crate)
         calls.sort(key=lambda call: old.place(crate, call))
         for call in calls:
             lines += told(crate, call, complete(call, known, told_of), old, missing)
     return re.sub(r"\n{3,}", "\n\n", "\n".join(lines)).rstrip("\n") + "\n"
 
 
+def may_be_shown(calls):
+    """What a row of README.md may show of each call, by its title: a clause in one line, or, where
+    it is one name of specs/, that definition."""
+    found = {}
+    for call in calls:
+        texts = found.setdefault(call.title, set())
+        claimed = claims(call.block)
+        for label, text in clauses(call.block).items():
+            name = "" if label == "ensures" else f"{label} "
+            texts.update(f"{name}{{ {clause} }}" for clause in text.split(" ; "))
+            # The definition stands there without its name and type.
+            texts.add(claimed[label].partition(f"{text} ; abbrev pub {text} : Type 0 ")[2])
+    return found
+
+
+def not_shown_so(crates):
+    """The rows of README.md that show a clause as it isn't, or too few of them."""
+    section = README.read_text().partition("\n## What is proved\n")[2].partition("\n## ")[0]
+    lines = [line for line in section.split("\n")
+             if line.startswith("|") and not line.startswith(("| Call |", "|---"))]
+    rows = [re.fullmatch(r"\| (.+?) \| `(.+?)` \| .+ \|", line) for line in lines]
+    known = may_be_shown(call for calls in crates.values() for call in calls)
+    wrong = [f"README.md: not in the sources: {line}" for line, row in zip(lines, rows)
+             if not row or row[2].replace("\\|", "|") not in known.get(row[1], ())]
+    if len(rows) < LEAST_SHOWN:
+        wrong.append(f"README.md: {len(rows)} clauses")
+    return wrong
+
+
 def main():
     old = Page(PAGE.read_text())
+    crates = all_calls()
     missing = []
-    new = page(old, missing)
-    for line in missing:
-        print(f"no words: {line}")
+    new = page(crates, old, missing)
+    wrong = [f"no words: {line}" for line in missing] + not_shown_so(crates)
     if "--check" not in sys.argv[1:]:
         PAGE.write_text(new)
+        print("".join(f"{line}\n" for line in wrong), end="")
         return 0
     if new != old.text:
-        print("docs/CONTRACTS.md is stale: docs/contracts.py writes it anew")
-    return 1 if missing or new != old.text else 0
+        wrong.append("docs/CONTRACTS.md is stale: docs/contracts.py writes it anew")
+    print("".join(f"{line}\n" for line in wrong), end="")
+    return 1 if wrong else 0
 
 
 if __name__ == "__main__":

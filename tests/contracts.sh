@@ -1,7 +1,8 @@
 #!/usr/bin/env bash
-# Fails where docs/CONTRACTS.md is not what docs/contracts.py makes of the sources, and where that
-# would not see a change of them. Other pages have to agree: docs/COMING_FROM.md names no call that
-# is not there, docs/ARCHITECTURE.md names each file, and docs/DEFINITIONS.md each module.
+# Fails where docs/CONTRACTS.md is not what docs/contracts.py makes of the sources, or a table of
+# README.md shows a clause otherwise, and where that would not see a change. Other pages have to
+# agree: docs/COMING_FROM.md names no call that is not there, docs/ARCHITECTURE.md names each file,
+# and docs/DEFINITIONS.md each module.
 #
 # The last line is `N passed, M failed`.
 set -u
@@ -22,17 +23,17 @@ count() {
 }
 
 docs/contracts.py --check
-count 'the page is what the sources say' $? 0
+count 'the pages are what the sources say' $? 0
 
 # sees NAME FILE OLD NEW: a copy in which OLD, a line of FILE, became NEW is found out.
 sees() {
     rm -rf "$room/copy"
     mkdir -p "$room/copy/docs"
     cp docs/contracts.py docs/CONTRACTS.md "$room/copy/docs"
-    cp crates.txt "$room/copy"
+    cp README.md crates.txt "$room/copy"
     find crates -path '*/out' -prune -o \( -path '*/src/*' -o -path '*/specs/*' \) -type f -print0 |
         xargs -0 cp --parents -t "$room/copy"
-    sed -i "s|$3|$4|" "$room/copy/$2"
+    sed -i "s~$3~$4~" "$room/copy/$2"
     ! cmp -s "$2" "$room/copy/$2"
     count "$1: an edit" $? 0
     "$room/copy/docs/contracts.py" --check >/dev/null
@@ -47,6 +48,14 @@ sees 'a call that is gone' $encode 'pub fn encode_align' 'fn encode_align'
 sees 'a definition that changed' crates/encoding_stream/specs/Encoded.antt \
     'pub at_end : IsAtEnd read_new' 'pub at_end : IsAtEnd read_old'
 sees 'a law that changed' crates/data_encoding/specs/Laws.antt '→ one ≡ other' '→ other ≡ one'
+
+sees 'a clause that README.md shows otherwise' README.md \
+    'IfOk result (λ bytes. Means self.now input.now bytes.items)' \
+    'IfOk result (λ bytes. Means self.now bytes.items input.now)'
+sees 'a law that README.md shows otherwise' README.md '→ one ≡ other' '→ other ≡ one'
+sees 'a clause of another call' README.md '`Encoding::encode_mut` | `text' \
+    '`Encoding::encode` | `text'
+sees 'a row of README.md that is none' README.md '| `run` | `failed' '| `run` `failed'
 
 # Calls of the last column are named as the page names them.
 unknown=$(sed -n '/^## The Rust crate/,$ s/^| .* | //p' docs/COMING_FROM.md |

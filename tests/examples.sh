@@ -1,6 +1,13 @@
 #!/usr/bin/env bash
-# Runs the examples of the pages: in a block of `text`, and in those of the manual page, a line with
-# `$ ` and a command, and then what that prints, on standard output or standard error.
+# Tries every code block of the pages by its kind, and fails at one that it does not know:
+#
+# - `text`, and the examples of the manual page: a line with `$ ` and a command, and then what that
+#   prints, on standard output or standard error;
+# - `rust`: stands in the callers, word for word;
+# - `sh`: is run as it stands.
+#
+# tests/interop.sh runs those of docs/SCALE.md, and tests/contracts.sh has those of
+# docs/CONTRACTS.md.
 #
 # usage: tests/examples.sh [PROGRAM]
 #
@@ -12,59 +19,108 @@ export LC_ALL=C
 program=$(tests/find-program "$@") || exit 1
 room=$(mktemp -d)
 trap 'rm -rf "$room"' EXIT
-mkdir "$room/bin"
+mkdir "$room/bin" "$room/home"
 ln -s "$program" "$room/bin/basecode"
 PATH=$room/bin:$PATH
 passed=0
 failed=0
 
-# try_example PAGE COMMAND WANTED: a line end that the command doesn't print is not wanted.
-try_example() {
-    local given
-    given=$(bash -c "$2" 2>&1)
-    if [ "$given" = "$3" ]; then
+# is NAME WANTED GIVEN
+is() {
+    if [ "$2" = "$3" ]; then
         passed=$((passed + 1))
     else
         failed=$((failed + 1))
-        printf 'FAILED: %s: %s\n  wanted: %s\n  given: %s\n' "$1" "$2" "$3" "$given"
+        printf 'FAILED: %s\n  wanted: %s\n  given: %s\n' "$1" "$2" "$3"
     fi
 }
 
-# blocks PAGE: the lines of its examples, and a line `END` behind each block.
-blocks() {
-    case $1 in
-    *.1) sed -n '/^\.EX$/,/^\.EE$/ { s/\\-/-/g; s/\\e/\\/g; s/^\.EE$/END/; /^\.EX$/d; p }' "$1" ;;
-    *)
-        awk '/^```/ { if (inside) print "END"; inside = !inside && /^```text$/; next }
-            inside' "$1"
-        ;;
-    esac
-}
-
-for page in README.md docs/*.md crates/basecode/basecode.1; do
-    command=
+# try_examples PAGE BLOCK: a line end that a command doesn't print is not wanted.
+try_examples() {
+    local line command='' wanted='' given
     while IFS= read -r line; do
         case $line in
         '$ '* | END)
-            if [ -n "$command" ]; then try_example "$page" "$command" "$wanted"; fi
+            if [ -n "$command" ]; then
+                given=$(bash -c "$command" 2>&1)
+                is "$1: $command" "$wanted" "$given"
+            fi
             command=${line#'$ '}
             wanted=
-            if [ "$line" = END ]; then command=; fi
             ;;
-        *) wanted+=${wanted:+$'\n'}$line ;;
+        *)
+            [ -n "$command" ] || is "$1: a block" 'begins with a command' "$line"
+            wanted+=${wanted:+$'\n'}$line
+            ;;
         esac
-    done < <(blocks "$page")
+    done <<<"$2"$'\nEND'
+}
+
+# try_commands PAGE BLOCK: runs it, and looks at what it did.
+try_commands() {
+    local given
+    case $2 in
+    # It runs this test.
+    .ci/run) is "$1: $2" 'tests/*.sh' "$(grep -o 'tests/\*\.sh' .ci/run)" ;;
+    *'rt run -- encode HEXLOWER'*"< $1")
+        given=$(bash -e -c "$2" 2>"$room/log")
+        is "$1: $2" "$(od -An -v -tx1 "$1" | tr -d ' \n')" "$given"
+        ;;
+    'crates/basecode/install.sh ~/.local')
+        given=$(HOME=$room/home bash -e -c "$2" 2>&1)
+        is "$1: $2" '' "$given"
+        given=$("$room/home/.local/bin/basecode" canonical HEXLOWER 2>&1)
+        is "$1: what $2 installs" true "$given"
+        ;;
+    # FOLDER is for the reader to fill in: without it, it says how it is used.
+    'benches/speed --original FOLDER')
+        bash -e -c "$2" >/dev/null 2>&1
+        is "$1: $2" 2 $?
+        ;;
+    *) is "$1: a block of sh" 'one that is known here' "$2" ;;
+    esac
+}
+
+# try_block PAGE KIND BLOCK
+try_block() {
+    case $1:$2 in
+    docs/SCALE.md:sh | docs/CONTRACTS.md:rust) ;;
+    *:text) try_examples "$1" "$3" ;;
+    *:sh) try_commands "$1" "$3" ;;
+    *:rust)
+        [[ "$(<crates/conformance/src/callers.rt)" == *"$3"* ]]
+        is "$1: its function stands in callers.rt" 0 $?
+        ;;
+    *) is "$1: a block" 'of a kind that is known here' "$2" ;;
+    esac
+}
+
+for page in README.md docs/*.md; do
+    kind=
+    while IFS= read -r line; do
+        case $line in
+        '```'*)
+            if [ -n "$kind" ]; then
+                try_block "$page" "$kind" "$block"
+                kind=
+            else
+                kind=${line#'```'}
+                kind=${kind:-none}
+                block=
+            fi
+            ;;
+        *) if [ -n "$kind" ]; then block+=${block:+$'\n'}$line; fi ;;
+        esac
+    done <"$page"
+    is "$page: the end of its last block" '' "$kind"
 done
 
-# The function of README.md stands in the callers, word for word.
-block=$(awk '/^```/ { inside = !inside && /^```rust$/; next } inside' README.md)
-if [ -n "$block" ] && [[ "$(<crates/conformance/src/callers.rt)" == *"$block"* ]]; then
-    passed=$((passed + 1))
-else
-    failed=$((failed + 1))
-    echo 'FAILED: README.md: its function is not in callers.rt'
-fi
+while IFS= read -r -d '' block; do
+    block=${block#$'\n'}
+    try_examples basecode.1 "${block%$'\n'}"
+done < <(sed -n '/^\.EX$/,/^\.EE$/ { s/\\-/-/g; s/\\e/\\/g; s/^\.EE$/\x00/; /^\.EX$/d; p }' \
+    crates/basecode/basecode.1)
 
-[ "$passed" -ge 10 ] || failed=$((failed + 1))
+[ "$passed" -ge 20 ] || failed=$((failed + 1))
 echo "$passed passed, $failed failed"
 [ "$failed" = 0 ]

@@ -8,23 +8,7 @@ set -u
 cd "$(dirname "$0")/.." || exit 1
 export LC_ALL=C
 
-program=${1:-crates/basecode/out/basecode}
-if [ $# = 0 ] && { [ ! -x "$program" ] ||
-    [ -n "$(find crates/*/src crates/*/specs crates/*/proofs -newer "$program" -print -quit)" ]; }
-then
-    # `rt run` leaves the program in out/.
-    built=$(cd crates/basecode && rt run -- encode HEXLOWER 2>&1 </dev/null) || {
-        printf '%s\n' "$built" | tail -n 20
-        echo "the program was not built"
-        exit 1
-    }
-fi
-if [ ! -x "$program" ]; then
-    echo "no program: $program"
-    exit 1
-fi
-program=$(realpath "$program")
-
+program=$(tests/find-program "$@") || exit 1
 room=$(mktemp -d)
 trap 'rm -rf "$room"' EXIT
 cd "$room" || exit 1
@@ -106,6 +90,36 @@ check 'an empty verb' 2 '' "$usage" 4G '' HEXLOWER
 
 # Words that `main` can't take are out of memory, whatever the cause.
 check 'a word that is not UTF-8' 4 '' 'basecode: out of memory' 4G encode $'\xff'
+
+long=$(printf '%06000d' 0)
+check 'an unknown name that is long' 2 '' "basecode: unknown encoding: $long" 4G decode "$long"
+
+# one_write LINE WORD..: whether the line goes out in one write. The socket keeps writes apart.
+one_write() {
+    printf '%s\n' "$1" >wanted.line
+    shift
+    python3 -c '
+import socket, subprocess, sys
+here, there = socket.socketpair(socket.AF_UNIX, socket.SOCK_SEQPACKET)
+subprocess.run(sys.argv[1:], stdout=subprocess.DEVNULL, stderr=there)
+there.close()
+sys.stdout.buffer.write(here.recv(65536))
+sys.exit(here.recv(1) != b"")' "$program" "$@" <input >line || { echo '  more writes'; return 1; }
+    cmp line wanted.line
+}
+
+if command -v python3 >/dev/null; then
+    printf 4G >input
+    count 'a fault in one write' one_write 'basecode: invalid symbol at 1' decode HEXLOWER
+    count 'the usage in one write' one_write "$usage" recode NOPE
+    count 'a name in one write' one_write 'basecode: unknown encoding: NOPE' decode NOPE
+    count 'no memory in one write' one_write 'basecode: out of memory' encode $'\xff'
+    # With 28 bytes before the name and LF behind it, the line has 4096 bytes.
+    name=${long::4067}
+    count '4096 bytes in one write' one_write "basecode: unknown encoding: $name" decode "$name"
+else
+    skip 'lines in one write: no python3'
+fi
 
 # Wrong words read nothing: the next command has the whole input.
 printf Hello >input

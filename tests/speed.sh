@@ -1,0 +1,50 @@
+#!/usr/bin/env bash
+# Runs benches/speed over little data: each command of it has to write the same bytes. The ratios
+# are not judged.
+#
+# usage: tests/speed.sh
+#
+# The last line is `N passed, M failed`.
+set -u
+cd "$(dirname "$0")/.." || exit 1
+export LC_ALL=C
+
+passed=0
+failed=0
+
+# is NAME WANTED GIVEN
+is() {
+    if [ "$2" = "$3" ]; then
+        passed=$((passed + 1))
+    else
+        failed=$((failed + 1))
+        printf 'FAILED: %s\n  wanted: %s\n  given: %s\n' "$1" "$2" "$3"
+    fi
+}
+
+table=$(benches/speed 1)
+is 'measures' 0 $?
+wanted='| 1 MiB of data | data-encoding | basenc | cat |
+|---|---|---|---|'
+for name in HEXLOWER HEXUPPER BASE32 BASE64 BASE64_MIME; do
+    other=N
+    if [ "$name" = HEXLOWER ] || ! command -v basenc >/dev/null; then other=-; fi
+    wanted+=$'\n'"| encode $name | - | $other | N |"$'\n'"| decode $name | - | $other | N |"
+done
+is 'the table' "$wanted" "$(sed -E 's/[0-9]+\.[0-9]{2}/N/g' <<<"$table")"
+
+benches/speed 0 2>/dev/null
+is 'no data' 2 $?
+benches/speed 1 2 2>/dev/null
+is 'too many words' 2 $?
+benches/speed --original /nowhere 2>/dev/null
+is 'no original' 2 $?
+
+# The table of README.md has the same rows.
+rows() {
+    grep -E '^\| (en|de)code [A-Z0-9_]+ \|' | cut -d '|' -f 2
+}
+is 'the rows of README.md' "$(rows <<<"$table")" "$(rows <README.md)"
+
+echo "$passed passed, $failed failed"
+[ "$failed" = 0 ]
