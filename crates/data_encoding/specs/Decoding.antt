@@ -1,14 +1,14 @@
 -- What the parts of a decoding promise: a run of whole groups, the next group, and its judgement.
-use Rattle.std.specs.Prelude.{◌≡◌, ℕ, ◌+◌, ◌-◌, ◌*◌, ◌/◌, ◌<◌, ◌≤◌, ◌⊎◌, ◌&&◌, not, nat_lt, true, false, List, length, map, take, drop, flat_map, if◌then◌else◌, Some, None, is_some, slice_index}
+use Rattle.std.specs.Prelude.{◌≡◌, ℕ, ◌+◌, ◌-◌, ◌*◌, ◌/◌, ◌%◌, ◌<◌, ◌≤◌, ◌⊎◌, ◌&&◌, not, nat_lt, Bool, true, false, List, [], ◌∷◌, length, map, take, drop, flat_map, if◌then◌else◌, Some, None, is_some, slice_index}
 use Rattle.data_encoding.specs.declared.error.DecodePartial.{DecodePartial}
 use Rattle.data_encoding.specs.declared.decode.Stop.{Stop}
 use Rattle.data_encoding.specs.declared.group.GroupFault.{GroupFault}
 use Rattle.data_encoding.specs.Base.{Base, meaning, is_symbol, is_ignored, is_padded, group_bytes, group_symbols}
 use Rattle.data_encoding.specs.Bits.{runs}
-use Rattle.data_encoding.specs.Grammar.{Positioned, Means, kept, positioned, is_final}
+use Rattle.data_encoding.specs.Grammar.{Positioned, Means, groups, kept, kept_from, positioned, is_final}
 use Rattle.data_encoding.specs.Lengths.{greatest_valid_length, is_valid_count}
-use Rattle.data_encoding.specs.Fault.{bytes_of_group, count_before_padding, fault_of, group_fault, position_of, sound_bytes, symbols_fault}
-use Rattle.data_encoding.specs.Partial.{StopsAt, is_length_fault}
+use Rattle.data_encoding.specs.Fault.{bytes_of_group, count_before_padding, fault_after, fault_of, group_fault, position_of, sound_bytes, symbols_fault}
+use Rattle.data_encoding.specs.Partial.{StopsAt, is_length_fault, position_after}
 
 -- So many whole groups in a row, from the front of a part of a text, are symbols alone; their bytes
 -- stand at the front of the output, which keeps its length.
@@ -20,6 +20,32 @@ pub record IsRun (base : Base) (part : List ℕ) (count : ℕ) (old new : List �
       ≡ flat_map (bytes_of_group base)
       (runs (group_symbols base.width)
       (positioned (take (count * group_symbols base.width) part)))
+
+-- No longer run stands there: it has all whole groups, or the next has a byte that is no symbol.
+abbrev pub IsLongest : Base → List ℕ → ℕ → Type 0
+IsLongest base part count =
+    count < length part / group_symbols base.width
+    → ((k : ℕ) → k < group_symbols base.width
+    → is_symbol (meaning base (slice_index part (count * group_symbols base.width + k))) ≡ true)
+    → false ≡ true
+
+-- No group has a fault, after a final one or none; whether the last one is final.
+abbrev pub AreSound : Base → Bool → List (List Positioned) → Bool → Type 0
+AreSound base begun [] ended = begun ≡ ended
+AreSound base begun (group ∷ others) ended =
+    (fault_after begun base group ≡ None) × AreSound base (is_final base group) others ended
+
+-- So much of the text was read and so many bytes written: whole groups without a fault, or all
+-- groups, where the last of an unpadded text may be shorter.
+pub record HasDecodedTo (base : Base) (text : List ℕ) (read written : ℕ) (ended : Bool)
+    (output : List ℕ) : Type 0 where
+  pub within : read ≤ length text
+  pub sound : AreSound base false (groups base (take read text)) ended
+  pub whole : (length (kept base (take read text)) % group_symbols base.width ≡ 0)
+      ⊎ ((kept_from base read text ≡ []) × (is_padded base ≡ false))
+  pub ends : position_after (kept base (take read text)) ≡ read
+  pub fits : written ≤ length output
+  pub writes : take written output ≡ flat_map (bytes_of_group base) (groups base (take read text))
 
 -- A group without a fault: it has so many symbols, whose bytes stand at the front of the output.
 pub record IsDecodedGroup (base : Base) (group : List ℕ) (count : ℕ) (new : List ℕ)

@@ -1,5 +1,5 @@
 -- Which texts mean which data (RFC 4648, sections 3.2 to 3.5).
-use Rattle.std.specs.Prelude.{◌≡◌, ℕ, ◌<◌, Bool, true, ◌&&◌, List, [], ◌∷◌, ◌++◌, map, length, flat_map, filter, replicate, All, Option, Some, None, not}
+use Rattle.std.specs.Prelude.{◌≡◌, ℕ, ◌<◌, Bool, true, ◌&&◌, List, [], ◌∷◌, ◌++◌, map, length, drop, flat_map, filter, replicate, All, Option, Some, None, not}
 use Rattle.std.specs.List.{enumerate_from, list_any}
 use Rattle.data_encoding.specs.declared.encoding.Character.TheVariants.{Symbol, Padding}
 use Rattle.data_encoding.specs.Base.{Base, meaning, is_padding, is_ignored, group_symbols}
@@ -18,9 +18,18 @@ positioned_from position part =
 abbrev pub positioned : List ℕ → List Positioned
 positioned text = positioned_from 0 text
 
--- the bytes that are not ignored
+-- the bytes of a part, from this position on, that are not ignored
+abbrev pub kept_in : Base → ℕ → List ℕ → List Positioned
+kept_in base start part =
+    filter (λ k. not (is_ignored (meaning base k.byte))) (positioned_from start part)
+
+-- the bytes of a text that are not ignored
 abbrev pub kept : Base → List ℕ → List Positioned
-kept base text = filter (λ k. not (is_ignored (meaning base k.byte))) (positioned text)
+kept base text = kept_in base 0 text
+
+-- those from a position on
+abbrev pub kept_from : Base → ℕ → List ℕ → List Positioned
+kept_from base read text = kept_in base read (drop read text)
 
 -- in groups, the last perhaps shorter
 abbrev pub groups : Base → List ℕ → List (List Positioned)

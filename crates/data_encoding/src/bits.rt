@@ -176,12 +176,34 @@ fn word_of_symbols<const WIDTH: usize, const SYMBOLS: usize>(
     (word, entries)
 }
 
+// Writes five bytes of a word, four of them by one store.
+fn five_bytes_of_word(order: BitOrder, word: u64, output: &mut [u8])
+    requires exact { length output.old ≡ 5 }
+    ensures { output.new ≡ map (digit order 8 5 word) (range_with_len 0 5) }
+{
+    let low = (word & 0xffff_ffff) as u32;
+    match order {
+        BitOrder::MostSignificantFirst => {
+            output[0] = byte_at(word, 32);
+            output[1..].copy_from_slice(&low.to_be_bytes());
+        }
+        BitOrder::LeastSignificantFirst => {
+            output[..4].copy_from_slice(&low.to_le_bytes());
+            output[4] = byte_at(word, 32);
+        }
+    }
+}
+
 // Writes the first bytes of a word.
 fn bytes_of_word<const BYTES: usize>(order: BitOrder, word: u64, output: &mut [u8])
     requires fits { BYTES ≤ 5 }
     requires few { length output.old ≤ BYTES }
     ensures { output.new ≡ map (digit order 8 BYTES word) (range_with_len 0 (length output.old)) }
 {
+    if BYTES == 5 && output.len() == 5 {
+        five_bytes_of_word(order, word, output);
+        return;
+    }
     for index in 0..BYTES {
         if index == output.len() {
             break;

@@ -25,15 +25,15 @@ const _: () = prove!(DECODE_LIMIT == 2305843009213693951);
 // the next group. Single fields go by registers.
 #[derive(Clone, Copy, Drop)]
 pub(crate) struct Stop {
-    read: usize,
-    written: usize,
-    index: usize,
-    kind: DecodeKind,
+    pub(crate) read: usize,
+    pub(crate) written: usize,
+    pub(crate) index: usize,
+    pub(crate) kind: DecodeKind,
 }
 
 impl Stop {
     #[inline(always)]
-    fn new(read: usize, written: usize, index: usize, kind: DecodeKind) -> Stop
+    pub(crate) fn new(read: usize, written: usize, index: usize, kind: DecodeKind) -> Stop
         ensures { result ≡ record { read = read; written = written; index = index; kind = kind } }
     {
         Stop {
@@ -77,113 +77,6 @@ impl Encoding {
             return Ok(stop.written);
         }
         Err(self.stopped(input, output, stop))
-    }
-
-    // With the width as a constant, and the sizes of a group.
-    #[inline(always)]
-    fn decode_by_width(&self, input: &[u8], output: &mut [u8], stop: &mut Stop) -> bool
-        requires limit { length input.now ≤ DECODE_LIMIT }
-        requires exact { decoded_len self.now (length input.now) ≡ Ok (length output.old) }
-        ensures decoded { IsTrue result
-            → IsDecoded self.now input.now stop.new.written output.new }
-        ensures stopped { result ≡ false → HasStopped self.now input.now output.new stop.new }
-        ensures width { IsWidth self.now.width }
-    {
-        match self.width {
-            1 => self.decode_groups::<1, 1, 8>(input, output, stop),
-            2 => self.decode_groups::<2, 1, 4>(input, output, stop),
-            3 => self.decode_groups::<3, 3, 8>(input, output, stop),
-            4 => self.decode_groups::<4, 1, 2>(input, output, stop),
-            5 => self.decode_groups::<5, 5, 8>(input, output, stop),
-            _ => self.decode_groups::<6, 3, 4>(input, output, stop),
-        }
-    }
-
-    // Run after run of whole groups of symbols, each followed by a group that is judged alone:
-    // whether none is faulty, and how far they go. What is told of a fault is made by the caller,
-    // since a result with room for it makes short texts slower.
-    #[inline(always)]
-    fn decode_groups<const WIDTH: usize, const BYTES: usize, const SYMBOLS: usize>(
-        &self,
-        input: &[u8],
-        output: &mut [u8],
-        stop: &mut Stop,
-    ) -> bool
-        requires group { IsGroup WIDTH BYTES SYMBOLS }
-        requires width { self.now.width ≡ WIDTH }
-        requires limit { length input.now ≤ DECODE_LIMIT }
-        requires exact { decoded_len self.now (length input.now) ≡ Ok (length output.old) }
-        ensures decoded { IsTrue result
-            → IsDecoded self.now input.now stop.new.written output.new }
-        ensures stopped { result ≡ false → HasStopped self.now input.now output.new stop.new }
-    {
-        let mut read = 0;
-        let mut written = 0;
-        while read < input.len() {
-            let count = self.run::<WIDTH, BYTES, SYMBOLS>(&input[read..], &mut output[written..]);
-            read += count * SYMBOLS;
-            written += count * BYTES;
-            if read == input.len() {
-                stop.written = written;
-                return true;
-            }
-            let mut room = [0; 8];
-            let group = self.next_group::<SYMBOLS>(&input[read..], &mut room);
-            if group.bytes.is_empty() {
-                stop.written = written;
-                return true;
-            }
-            let rest = &mut output[written..];
-            match self.decode_group::<WIDTH, BYTES, SYMBOLS>(group.bytes, rest) {
-                Ok(count) => {
-                    read += group.span;
-                    written += WIDTH * count / 8;
-                    if count < group.bytes.len() && !self.concatenates {
-                        if self.is_end::<SYMBOLS>(&input[read..]) {
-                            stop.written = written;
-                            return true;
-                        }
-                        *stop = Stop::new(read, written, 0, DecodeKind::Padding);
-                        return false;
-                    }
-                }
-                Err(fault) => {
-                    *stop = Stop::new(read, written, fault.index, fault.kind);
-                    return false;
-                }
-            }
-        }
-        stop.written = written;
-        true
-    }
-
-    // The next run, by the tables of the encoding.
-    #[inline(always)]
-    fn run<const WIDTH: usize, const BYTES: usize, const SYMBOLS: usize>(
-        &self,
-        input: &[u8],
-        output: &mut [u8],
-    ) -> usize
-        requires group { IsGroup WIDTH BYTES SYMBOLS }
-        requires width { self.now.width ≡ WIDTH }
-        requires room { length input.now / SYMBOLS * BYTES ≤ length output.old }
-        ensures run { IsRun self.now input.now result output.old output.new }
-        ensures within { result * SYMBOLS ≤ length input.now }
-    {
-        decode_run::<WIDTH, BYTES, SYMBOLS>(&self.values, self.order, input, output)
-    }
-
-    // Whether no byte is left that is not ignored.
-    #[inline(never)]
-    fn is_end<const SYMBOLS: usize>(&self, rest: &[u8]) -> bool
-        requires some { 0 < SYMBOLS }
-        requires few { SYMBOLS ≤ 8 }
-        ensures end { IsTrue result → length (kept self.now rest.now) ≡ 0 }
-        ensures more { result ≡ false → (group : List ℕ) × (span : ℕ) × (0 < length group)
-            × IsGathered self.now SYMBOLS rest.now group span }
-    {
-        let mut room = [0; 8];
-        self.next_group::<SYMBOLS>(rest, &mut room).bytes.is_empty()
     }
 
     // What is told of a faulty group: only after a group that is too short may more be read.
@@ -261,7 +154,7 @@ impl Encoding {
         if len > SYMBOLS {
             return None;
         }
-        match self.decode_group::<WIDTH, BYTES, SYMBOLS>(&rest[..len], output) {
+        match self.decode_group::<WIDTH, BYTES, SYMBOLS>(self.order, &rest[..len], output) {
             Ok(count) => Some(WIDTH * count / 8),
             Err(_) => None,
         }

@@ -26,11 +26,13 @@ impl Encoding {
     #[inline(always)]
     pub(crate) fn decode_group<const WIDTH: usize, const BYTES: usize, const SYMBOLS: usize>(
         &self,
+        order: BitOrder,
         group: &[u8],
         output: &mut [u8],
     ) -> Result<usize, GroupFault>
         requires group { IsGroup WIDTH BYTES SYMBOLS }
         requires width { self.now.width ≡ WIDTH }
+        requires order { self.now.order ≡ order }
         requires some { 0 < length group.now }
         requires few { length group.now ≤ SYMBOLS }
         requires room { (is_padded self.now ≡ true → length group.now ≡ SYMBOLS)
@@ -52,10 +54,10 @@ impl Encoding {
             }
         }
         let room = &mut output[..WIDTH * count / 8];
-        if !decode_symbols::<WIDTH, BYTES, SYMBOLS>(&self.values, self.order, symbols, room) {
+        if !decode_symbols::<WIDTH, BYTES, SYMBOLS>(&self.values, order, symbols, room) {
             return Err(faulty(symbol_position(&self.values, symbols), DecodeKind::Symbol));
         }
-        if self.checks_trailing_bits && has_trailing::<WIDTH>(&self.values, self.order, symbols) {
+        if self.checks_trailing_bits && has_trailing::<WIDTH>(&self.values, order, symbols) {
             return Err(faulty(count - 1, DecodeKind::Trailing));
         }
         Ok(count)

@@ -27,6 +27,7 @@ mod plain;
 mod predefined;
 mod run;
 mod spec;
+mod step;
 mod write;
 
 pub use decode::DECODE_LIMIT;

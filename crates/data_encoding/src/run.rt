@@ -2,7 +2,7 @@
 
 ghost use Rattle.std.specs.Prelude.{◌≡◌, ℕ, ◌*◌, ◌/◌, ◌≤◌, length, IsTrue};
 ghost use Rattle.data_encoding.specs.Base.{Base};
-ghost use Rattle.data_encoding.specs.Decoding.{IsRun};
+ghost use Rattle.data_encoding.specs.Decoding.{IsLongest, IsRun};
 ghost use Rattle.data_encoding.specs.Tables.{HoldsValues, IsGroup};
 
 use crate::bits::{decode_entries, decode_symbols, entry_of};
@@ -23,6 +23,8 @@ pub(crate) fn decode_run<const WIDTH: usize, const BYTES: usize, const SYMBOLS: 
     requires room { length input.now / SYMBOLS * BYTES ≤ length output.old }
     ensures run { (base : Base) → base.width ≡ WIDTH → base.order ≡ order
         → HoldsValues base values.now → IsRun base input.now result output.old output.new }
+    ensures longest { (base : Base) → base.width ≡ WIDTH → HoldsValues base values.now
+        → IsLongest base input.now result }
     ensures within { result * SYMBOLS ≤ length input.now }
 {
     match order {
@@ -54,6 +56,8 @@ fn decode_groups<const WIDTH: usize, const BYTES: usize, const SYMBOLS: usize>(
     requires room { length input.now / SYMBOLS * BYTES ≤ length output.old }
     ensures run { (base : Base) → base.width ≡ WIDTH → base.order ≡ order
         → HoldsValues base values.now → IsRun base input.now result output.old output.new }
+    ensures longest { (base : Base) → base.width ≡ WIDTH → HoldsValues base values.now
+        → IsLongest base input.now result }
     ensures within { result ≤ length input.now / SYMBOLS }
 {
     let count = input.len() / SYMBOLS;

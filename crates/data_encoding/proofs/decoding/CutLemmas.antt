@@ -1,9 +1,9 @@
 -- A text that is cut before a kept byte.
 use Rattle.std.proofs.Common.{◌≡◌, ℕ, zero, suc, ◌+◌, ◌-◌, ◌<◌, ◌≤◌, Bool, true, false, not, cond, List, [], ◌∷◌, ◌++◌, length, take, drop, refl, ap, ◌∙◌, arith}
 use Rattle.data_encoding.specs.Base.{Base, meaning, is_ignored}
-use Rattle.data_encoding.specs.Grammar.{Positioned, kept}
+use Rattle.data_encoding.specs.Grammar.{Positioned, kept, kept_in, kept_from}
 use Rattle.data_encoding.specs.Fault.{position_of}
-use Rattle.data_encoding.proofs.grammar.KeptLemmas.{kept_in, kept_from, kept-more, kept_in-stands}
+use Rattle.data_encoding.proofs.grammar.KeptLemmas.{kept-more, kept_in-stands}
 
 -- Where a part is cut before a kept byte, the ones before it are kept.
 abbrev IsCut : Base → ℕ → List ℕ → ℕ → ℕ → Type 0

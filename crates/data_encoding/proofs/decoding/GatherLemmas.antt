@@ -6,11 +6,11 @@ use Rattle.std.proofs.lemmas.Bool.{cases_lt}
 use Rattle.data_encoding.specs.Base.{Base, meaning, ignores_some, is_ignored, group_symbols, IsWidth}
 use Rattle.data_encoding.specs.Decoding.{IsGathered}
 use Rattle.data_encoding.specs.Fault.{position_of}
-use Rattle.data_encoding.specs.Grammar.{Positioned, positioned, kept}
+use Rattle.data_encoding.specs.Grammar.{Positioned, positioned, kept, kept_in, kept_from}
 use Rattle.data_encoding.specs.Partial.{position_after}
 use Rattle.data_encoding.proofs.digits.WidthLemmas.{group_symbols-pos}
 use Rattle.data_encoding.proofs.grammar.PositionLemmas.{bytes-positioned_from, filter-plain, length-by_bytes, length-kept, length-kept_plain, never_ignored}
-use Rattle.data_encoding.proofs.grammar.KeptLemmas.{kept_in, kept_in-append, kept_from, between, kept-more, kept_from-more, kept-split, position_after-append}
+use Rattle.data_encoding.proofs.grammar.KeptLemmas.{kept_in-append, between, kept-more, kept_from-more, kept-split, position_after-append}
 use Rattle.data_encoding.proofs.grammar.SameBytesLemmas.{bytes-kept_in}
 use Rattle.data_encoding.proofs.decoding.ProgressLemmas.{IsNext}
 

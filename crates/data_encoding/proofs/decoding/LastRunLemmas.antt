@@ -11,19 +11,20 @@ use Rattle.data_encoding.specs.declared.error.DecodeKind.{DecodeKind}
 use Rattle.data_encoding.specs.declared.error.DecodeKind.TheVariants.{Length as LengthFault, Padding as PaddingFault}
 use Rattle.data_encoding.specs.Base.{Base, meaning, is_ignored, is_padded, group_symbols, IsWidth}
 use Rattle.data_encoding.specs.Bits.{runs}
-use Rattle.data_encoding.specs.Grammar.{Positioned, positioned, positioned_from, kept, groups, is_final, Means}
+use Rattle.data_encoding.specs.Grammar.{Positioned, positioned, positioned_from, kept, groups, is_final, Means, kept_in, kept_from}
 use Rattle.data_encoding.specs.Lengths.{is_valid_count, greatest_valid_count, greatest_valid_length, length_fault}
 use Rattle.data_encoding.specs.Fault.{position_of, fault_at, symbols_fault, plain_fault, padded_fault_at, count_before_padding, group_fault, fault_after, bytes_of_group, or_else, first_after, sound_after, fault_of, sound_bytes}
 use Rattle.data_encoding.specs.Partial.{StopsAt, sound_len, read_len, is_length_fault, is_sound_run, partial_by}
+use Rattle.data_encoding.specs.Decoding.{AreSound, HasDecodedTo}
 use Rattle.data_encoding.proofs.lists.ListLemmas.{filter-all, length-filter}
 use Rattle.data_encoding.proofs.lists.RunLemmas.{runs-join, runs-short}
 use Rattle.data_encoding.proofs.grammar.PositionLemmas.{bytes-positioned_from, length-positioned_from, take-positioned_from}
-use Rattle.data_encoding.proofs.grammar.KeptLemmas.{kept_in, kept_from, kept_from-more}
+use Rattle.data_encoding.proofs.grammar.KeptLemmas.{kept_from-more}
 use Rattle.data_encoding.proofs.grammar.LengthLemmas.{greatest_valid_length-by, is_valid_length-by, length_fault-none}
 use Rattle.data_encoding.proofs.grammar.GroupLemmas.{bytes_in, bytes_of_group-same, group_fault-none_same, whole-valid}
-use Rattle.data_encoding.proofs.grammar.SoundLemmas.{AreSound, AreSound-append, first-none, sound-all}
+use Rattle.data_encoding.proofs.grammar.SoundLemmas.{AreSound-append, first-none, sound-all}
 use Rattle.data_encoding.proofs.grammar.MeaningLemmas.{Means-no_fault}
-use Rattle.data_encoding.proofs.decoding.ProgressLemmas.{HasDecodedTo, IsNext, sound_bytes-front}
+use Rattle.data_encoding.proofs.decoding.ProgressLemmas.{IsNext, sound_bytes-front}
 use Rattle.data_encoding.proofs.decoding.StopLemmas.{bounds, fault_is, kind-group, kind-next, kind_of, pos, rest_is, sound_len_is, whole}
 use Rattle.data_encoding.proofs.decoding.GreatestLengthLemmas.{greatest-least, greatest-less, greatest-more, greatest-same, greatest-valid}
 use Rattle.data_encoding.proofs.decoding.IgnoringLemmas.{group-kept}

@@ -13,28 +13,25 @@ use Rattle.data_encoding.specs.declared.error.DecodeError.{DecodeError}
 use Rattle.data_encoding.specs.declared.error.DecodePartial.{DecodePartial}
 use Rattle.data_encoding.specs.declared.decode.Stop.{Stop}
 use Rattle.data_encoding.specs.declared.group.GroupFault.{GroupFault}
-use Rattle.data_encoding.specs.declared.encoding.Encoding.TheInside.{Inside}
-use Rattle.data_encoding.specs.Encoding.{KeepsRules, base_of_tables}
 use Rattle.data_encoding.specs.Base.{Base, IsWidth, group_bytes, group_symbols, is_padded}
-use Rattle.data_encoding.specs.Decoding.{HasFault, HasNoLastRun, IsDecoded, IsDecodedGroup, IsGathered, IsLastRun, IsRun, IsStop, HasStopped, fault_of_stop, valid_front}
+use Rattle.data_encoding.specs.Decoding.{HasFault, HasNoLastRun, IsDecoded, IsDecodedGroup, IsGathered, IsLastRun, IsRun, IsStop, HasStopped, fault_of_stop, valid_front, HasDecodedTo}
 use Rattle.data_encoding.specs.Fault.{group_fault, position_of}
-use Rattle.data_encoding.specs.Grammar.{Means, Positioned, kept, positioned}
+use Rattle.data_encoding.specs.Grammar.{Means, Positioned, kept, positioned, kept_from}
 use Rattle.data_encoding.specs.Lengths.{decoded_len, greatest_valid_length, length_fault, most_bytes}
 use Rattle.data_encoding.specs.Tables.{IsGroup}
 use Rattle.data_encoding.specs.Partial.{StopsAt, is_length_fault}
 use Rattle.data_encoding.proofs.digits.WidthLemmas.{group_bits, group_bytes-few}
 use Rattle.data_encoding.proofs.grammar.LengthLemmas.{decoded_len-counted, is_valid_length-by, most_bytes-by}
 use Rattle.data_encoding.proofs.grammar.MeaningLemmas.{no_fault-Means}
-use Rattle.data_encoding.proofs.tables.TableLemmas.{IsWidth-seen}
 use Rattle.data_encoding.proofs.grammar.GroupLemmas.{GroupMeans-sound, bytes_of_group-same, group_fault-none_same, group_fault-same, is_final-same}
-use Rattle.data_encoding.proofs.grammar.KeptLemmas.{kept_from, nothing-left}
+use Rattle.data_encoding.proofs.grammar.KeptLemmas.{nothing-left}
 use Rattle.data_encoding.proofs.grammar.PositionLemmas.{bytes-positioned_from, length-positioned_from, position_of-positioned_from}
 use Rattle.data_encoding.proofs.lists.WriteLemmas.{length-put_mid}
 use Rattle.data_encoding.proofs.decoding.GatherLemmas.{bytes-next, gathered-few, gathered-some, is-next, next_bytes, none-next, nothing-kept, position-next, within-next}
 use Rattle.data_encoding.proofs.decoding.GreatestLengthLemmas.{greatest-least, greatest-valid}
 use Rattle.data_encoding.proofs.decoding.LastRunLemmas.{last-none, last-sound, last-unsound}
 use Rattle.data_encoding.proofs.decoding.RoomLemmas.{multiples}
-use Rattle.data_encoding.proofs.decoding.ProgressLemmas.{HasDecodedTo, IsNext, after-group, after-run, at-end, room-group, room-run, same-output}
+use Rattle.data_encoding.proofs.decoding.ProgressLemmas.{IsNext, after-group, after-run, at-end, room-group, room-run, same-output}
 use Rattle.data_encoding.proofs.decoding.StopLemmas.{at-fault, fault-partial, most-partial}
 
 -- What a call decodes: a text of a length without a fault, with the sizes of a group as constants.
@@ -46,14 +43,13 @@ pub record IsDecoding (base : Base) (text : List ℕ) (w bytes symbols size : �
   pub no_fault : length_fault base (length text) ≡ None
   pub size_is : most_bytes base (length text) ≡ size
 
-pub decoding : (e : Inside) (rules : KeepsRules e) (base : Base) (is : base_of_tables e ≡ base)
-    → (text : List ℕ) (w bytes symbols : ℕ) → IsGroup w bytes symbols
+pub decoding : (base : Base) (text : List ℕ) (w bytes symbols : ℕ) → IsGroup w bytes symbols
     → base.width ≡ w → (size : ℕ) → decoded_len base (length text) ≡ Ok size
     → IsDecoding base text w bytes symbols size
-decoding e rules base is text w bytes symbols g w_is size exact =
+decoding base text w bytes symbols g w_is size exact =
     let counted = decoded_len-counted base (length text) size exact in
     record {
-      width = IsWidth-seen e rules base is;
+      width = subst IsWidth (sym w_is) g.is_width;
       symbols_is = g.has_symbols ∙ ap group_symbols (sym w_is);
       bytes_is = g.has_bytes ∙ ap group_bytes (sym w_is);
       w_is = w_is;

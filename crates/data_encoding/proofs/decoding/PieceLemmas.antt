@@ -7,13 +7,14 @@ use Rattle.std.specs.List.{list_any}
 use Rattle.data_encoding.specs.declared.error.DecodeError.{DecodeError}
 use Rattle.data_encoding.specs.Base.{Base, IsWidth, group_symbols}
 use Rattle.data_encoding.specs.Bits.{runs}
-use Rattle.data_encoding.specs.Grammar.{Positioned, groups, is_final, kept}
+use Rattle.data_encoding.specs.Grammar.{Positioned, groups, is_final, kept, kept_in}
 use Rattle.data_encoding.specs.Lengths.{length_fault}
 use Rattle.data_encoding.specs.Fault.{bytes_of_group, fault_after, fault_of, first_after, first_fault, or_else, sound_after, sound_bytes}
 use Rattle.data_encoding.specs.Pieces.{HasRead, held_fault, unfinished, whole_bytes, whole_groups}
+use Rattle.data_encoding.specs.Decoding.{AreSound}
 use Rattle.data_encoding.proofs.digits.WidthLemmas.{group_symbols-pos}
-use Rattle.data_encoding.proofs.grammar.KeptLemmas.{kept_in, kept_in-append}
-use Rattle.data_encoding.proofs.grammar.SoundLemmas.{AreSound, AreSound-append, AreSound-none, ends_after, fault_after-none, first-AreSound, sound-AreSound, sound-all}
+use Rattle.data_encoding.proofs.grammar.KeptLemmas.{kept_in-append}
+use Rattle.data_encoding.proofs.grammar.SoundLemmas.{AreSound-append, AreSound-none, ends_after, fault_after-none, first-AreSound, sound-AreSound, sound-all}
 use Rattle.data_encoding.proofs.lists.RunLemmas.{runs-nil, runs-short}
 use Rattle.data_encoding.proofs.lists.WholeRunLemmas.{left, left_len, runs-left, whole_runs, whole_runs-join, whole_runs-one, whole_runs-short}
 

@@ -8,33 +8,22 @@ use Rattle.std.proofs.lemmas.Nat.{div-add-mod'}
 use Rattle.std.specs.Prelude.{flat_map}
 use Rattle.data_encoding.specs.Base.{Base, meaning, is_symbol, is_padded, group_bytes, group_symbols, IsWidth}
 use Rattle.data_encoding.specs.Bits.{runs}
-use Rattle.data_encoding.specs.Grammar.{Positioned, positioned, positioned_from, kept, groups, is_final, Means}
+use Rattle.data_encoding.specs.Grammar.{Positioned, positioned, positioned_from, kept, groups, is_final, Means, kept_in, kept_from}
 use Rattle.data_encoding.specs.Lengths.{length_fault, most_bytes}
 use Rattle.data_encoding.specs.Fault.{fault_after, group_fault, bytes_of_group, fault_of, or_else, first_after, sound_after, sound_bytes}
 use Rattle.data_encoding.specs.Partial.{position_after}
+use Rattle.data_encoding.specs.Decoding.{AreSound, HasDecodedTo}
 use Rattle.data_encoding.proofs.digits.WidthLemmas.{group_bits, group_symbols-pos}
 use Rattle.data_encoding.proofs.lists.RunLemmas.{runs-nil, runs-join, runs-short, flat_map-runs}
 use Rattle.data_encoding.proofs.lists.EndLemmas.{AllSo}
 use Rattle.data_encoding.proofs.grammar.PositionLemmas.{length-kept, length-positioned_from, bytes-positioned_from}
-use Rattle.data_encoding.proofs.grammar.KeptLemmas.{kept_in, kept_from, between, kept-split, kept-more, kept_from-more, position_after-append, position_after-positioned}
+use Rattle.data_encoding.proofs.grammar.KeptLemmas.{between, kept-split, kept-more, kept_from-more, position_after-append, position_after-positioned}
 use Rattle.data_encoding.proofs.grammar.LengthLemmas.{most_bytes-by}
 use Rattle.data_encoding.proofs.grammar.GroupLemmas.{GroupMeans-sound}
 use Rattle.data_encoding.proofs.grammar.MeaningLemmas.{Means-no_fault}
-use Rattle.data_encoding.proofs.grammar.SoundLemmas.{AreSound, AreSound-append, fault_after-none, first-none, sound-all}
+use Rattle.data_encoding.proofs.grammar.SoundLemmas.{AreSound-append, fault_after-none, first-none, sound-all}
 use Rattle.data_encoding.proofs.grammar.WholeGroupLemmas.{AreSound-symbols, symbols-positioned, kept_in-symbols, bytes_of_runs-same}
 use Rattle.data_encoding.proofs.decoding.RoomLemmas.{length-bytes_of_groups, room-bits, room-plain, room-whole}
-
--- So much of the text was read and so many bytes written: whole groups without a fault, or all
--- groups, where the last of an unpadded text may be shorter.
-pub record HasDecodedTo (base : Base) (text : List ℕ) (read written : ℕ) (ended : Bool)
-    (output : List ℕ) : Type 0 where
-  pub within : read ≤ length text
-  pub sound : AreSound base false (groups base (take read text)) ended
-  pub whole : (length (kept base (take read text)) % group_symbols base.width ≡ 0)
-      ⊎ ((kept_from base read text ≡ []) × (is_padded base ≡ false))
-  pub ends : position_after (kept base (take read text)) ≡ read
-  pub fits : written ≤ length output
-  pub writes : take written output ≡ flat_map (bytes_of_group base) (groups base (take read text))
 
 -- These are the kept bytes from one position to another, which is just after the last of them.
 pub record IsPart (base : Base) (text : List ℕ) (read stop : ℕ) (part : List Positioned)

@@ -5,7 +5,7 @@ use Rattle.std.proofs.lemmas.List.{length-replicate, length-set, take_all}
 use Rattle.data_encoding.specs.declared.error.DecodeError.{DecodeError}
 use Rattle.data_encoding.specs.declared.error.DecodePartial.{DecodePartial}
 use Rattle.data_encoding.specs.Base.{Base, IsWidth, meaning, is_ignored, group_symbols}
-use Rattle.data_encoding.specs.Decoding.{IsGathered, valid_front}
+use Rattle.data_encoding.specs.Decoding.{IsGathered, valid_front, HasDecodedTo}
 use Rattle.data_encoding.specs.Grammar.{Positioned, Means, is_final, positioned}
 use Rattle.data_encoding.specs.Lengths.{greatest_valid_length, length_fault}
 use Rattle.data_encoding.specs.Fault.{bytes_of_group, fault_after, fault_of, group_fault, sound_bytes}
@@ -13,7 +13,7 @@ use Rattle.data_encoding.specs.Partial.{StopsAt, is_length_fault, partial_of}
 use Rattle.data_encoding.proofs.grammar.MeaningLemmas.{sound_bytes-Means}
 use Rattle.data_encoding.proofs.decoding.GatherLemmas.{HasGathered, gather-ignored, gather-kept, gathered, gathered-few, is-next, next_bytes, none-next, nothing-gathered}
 use Rattle.data_encoding.proofs.decoding.LastRunLemmas.{last-none, last-sound, last-unsound}
-use Rattle.data_encoding.proofs.decoding.ProgressLemmas.{HasDecodedTo, IsNext, after-group, at-end, begin, written_len}
+use Rattle.data_encoding.proofs.decoding.ProgressLemmas.{IsNext, after-group, at-end, begin, written_len}
 use Rattle.data_encoding.proofs.decoding.StopLemmas.{at-fault, fault-partial}
 
 -- the next kept bytes of a part, so many or all

@@ -11,20 +11,21 @@ use Rattle.data_encoding.specs.declared.error.DecodeKind.TheVariants.{Length as 
 use Rattle.data_encoding.specs.declared.error.DecodePartial.{DecodePartial}
 use Rattle.data_encoding.specs.Base.{Base, meaning, is_symbol, is_padded, ignores_some, group_bytes, group_symbols, IsWidth}
 use Rattle.data_encoding.specs.Bits.{runs}
-use Rattle.data_encoding.specs.Grammar.{Positioned, positioned_from, kept, groups, is_final, Means}
+use Rattle.data_encoding.specs.Grammar.{Positioned, positioned_from, kept, groups, is_final, Means, kept_from}
 use Rattle.data_encoding.specs.Lengths.{is_valid_count, is_valid_length, length_fault, decoded_len}
 use Rattle.data_encoding.specs.Fault.{position_of, fault_at, fault_at_first, trailing_bits, symbols_fault, plain_fault, padded_fault_at, count_before_padding, group_fault, fault_after, or_else, first_after, sound_after, fault_of, sound_groups, sound_bytes}
 use Rattle.data_encoding.specs.Partial.{StopsAt, position_after, sound_len, read_len, is_length_fault, is_sound_run, partial_at, partial_by, partial_of}
+use Rattle.data_encoding.specs.Decoding.{HasDecodedTo}
 use Rattle.data_encoding.proofs.digits.WidthLemmas.{group_bits, group_symbols-pos}
 use Rattle.data_encoding.proofs.lists.RunLemmas.{runs-nil, runs-append, runs-join, runs-short, flat_map-runs}
 use Rattle.data_encoding.proofs.grammar.PositionLemmas.{length-kept_plain, length-positioned_from, filter-plain}
-use Rattle.data_encoding.proofs.grammar.KeptLemmas.{kept_from, between, kept-split, kept_from-more, kept_in-stands, length-between}
+use Rattle.data_encoding.proofs.grammar.KeptLemmas.{between, kept-split, kept_from-more, kept_in-stands, length-between}
 use Rattle.data_encoding.proofs.grammar.LengthLemmas.{length_fault-none, length_fault-valid, is_valid_length-by}
 use Rattle.data_encoding.proofs.grammar.GroupLemmas.{group_fault-inside, plain_fault-valid, whole-valid}
 use Rattle.data_encoding.proofs.grammar.SoundLemmas.{first-AreSound, sound-AreSound, first-none}
 use Rattle.data_encoding.proofs.grammar.MeaningLemmas.{Means-no_fault, sound_bytes-Means, decoded_len-Means}
 use Rattle.data_encoding.proofs.decoding.RoomLemmas.{multiples}
-use Rattle.data_encoding.proofs.decoding.ProgressLemmas.{HasDecodedTo, IsNext, whole-before, written_len, sound_bytes-front}
+use Rattle.data_encoding.proofs.decoding.ProgressLemmas.{IsNext, whole-before, written_len, sound_bytes-front}
 
 -- so many symbols of whole groups have whole bytes
 whole_bits : (width enc dec count : ℕ) → width * dec ≡ 8 * enc → count % dec ≡ 0

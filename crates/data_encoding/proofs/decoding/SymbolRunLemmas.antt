@@ -1,16 +1,16 @@
 -- Runs of whole groups of symbols, one after the other.
-use Rattle.std.proofs.Common.{◌≡◌, ℕ, ◌+◌, ◌-◌, ◌*◌, ◌%◌, ◌<◌, ◌≤◌, true, List, ◌++◌, length, take, drop, get_or, slice_index, refl, sym, ap, ◌∙◌, subst, arith, length-take-le, ⊎_elim}
+use Rattle.std.proofs.Common.{◌≡◌, ℕ, ◌+◌, ◌-◌, ◌*◌, ◌/◌, ◌%◌, ◌<◌, ◌≤◌, true, false, List, ◌++◌, length, take, drop, get_or, slice_index, refl, sym, ap, ◌∙◌, subst, arith, length-take-le, ⊎_elim}
 use Rattle.std.proofs.Math.Seq.{take-add}
 use Rattle.std.proofs.Math.Nat.{add-mul, mul-mod_left, zero-mul}
-use Rattle.std.proofs.lemmas.Bool.{cases_lt}
-use Rattle.std.proofs.lemmas.List.{append-nil, get_or-take, get_or-drop, length-drop, take_all, take_at}
+use Rattle.std.proofs.lemmas.Bool.{cases_lt, false≢true}
+use Rattle.std.proofs.lemmas.List.{append-nil, get_or-take, get_or-drop, length-drop, length-take, take_all, take_at}
 use Rattle.std.proofs.lemmas.List.Concat.{flat_map-append}
 use Rattle.std.proofs.lemmas.Slice.{take-put_mid}
 use borrow.Rule.Slice.PartMut.{put_mid}
 use Rattle.std.specs.Prelude.{flat_map}
 use Rattle.data_encoding.specs.Base.{Base, IsWidth, meaning, is_symbol, group_bytes, group_symbols}
 use Rattle.data_encoding.specs.Bits.{runs}
-use Rattle.data_encoding.specs.Decoding.{IsRun}
+use Rattle.data_encoding.specs.Decoding.{IsLongest, IsRun}
 use Rattle.data_encoding.specs.Fault.{bytes_of_group}
 use Rattle.data_encoding.specs.Tables.{HoldsValues, IsGroup}
 use Rattle.data_encoding.specs.Grammar.{Positioned, positioned, positioned_from}
@@ -221,3 +221,34 @@ module _ (base : Base) (width : IsWidth base.width) (w bytes symbols : ℕ)
       ∙ get_or-drop (i * symbols) part j 0)) (bytes_fit (i * symbols + j)) in
       ap is_symbol (holds.symbols (slice_index sub j) is_byte (entries j h)))
       len is_bytes)
+
+  -- a group that is not one of symbols alone ends the longest run
+  pub run-longest : (values part : List ℕ) (i stop : ℕ) → stop ≡ i * symbols + symbols
+      → HoldsValues base values → ((j : ℕ) → slice_index part j < 256)
+      → (((j : ℕ) → j < length (take (stop - i * symbols) (drop (i * symbols) part))
+      → slice_index values (slice_index (take (stop - i * symbols) (drop (i * symbols) part)) j) <
+      128) → false ≡ true)
+      → IsLongest base part i
+  run-longest values part i stop stop_is holds bytes_fit stopped = λ before all.
+      stopped
+      (λ j h.
+      let few = length-take (stop - i * symbols) (drop (i * symbols) part) in
+      let inside : j < symbols = omega (arith, h, few, stop_is) in
+      let byte = slice_index part (i * symbols + j) in
+      let same : slice_index (take (stop - i * symbols) (drop (i * symbols) part)) j ≡ byte =
+      get_or-take (stop - i * symbols) (drop (i * symbols) part) j 0
+      (omega (arith, inside, stop_is))
+      ∙ get_or-drop (i * symbols) part j 0 in
+      let is : is_symbol (meaning base byte) ≡ true =
+      subst (λ d. is_symbol (meaning base (slice_index part (i * d + j))) ≡ true) same_symbols
+      (all j (subst (λ d. j < d) (sym same_symbols) inside)) in
+      subst (λ b. slice_index values b < 128) (sym same)
+      (⊎_elim (λ (below : slice_index values byte < 128). below)
+      (λ (past : 128 ≤ slice_index values byte).
+      absurd (false≢true (sym (holds.others byte (bytes_fit (i * symbols + j)) past) ∙ is)))
+      (cases_lt (slice_index values byte) 128)))
+
+  -- so does the last whole group
+  pub run-all : (part : List ℕ) → IsLongest base part (length part / symbols)
+  run-all part = λ before all.
+      absurd (omega (arith, before, ap (λ d. length part / d) same_symbols))

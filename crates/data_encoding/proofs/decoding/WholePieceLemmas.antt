@@ -6,18 +6,18 @@ use Rattle.std.specs.Prelude.{flat_map}
 use Rattle.std.specs.List.{list_any}
 use Rattle.data_encoding.specs.Base.{Base, IsWidth, group_symbols, ignores_some, is_padded}
 use Rattle.data_encoding.specs.Fault.{bytes_of_group, first_after, first_fault, sound_after}
-use Rattle.data_encoding.specs.Grammar.{Means, MeansBy, Positioned, groups, is_final, kept}
+use Rattle.data_encoding.specs.Grammar.{Means, MeansBy, Positioned, groups, is_final, kept, kept_in}
 use Rattle.data_encoding.specs.Laws.{further}
 use Rattle.data_encoding.specs.Lengths.{length_fault}
 use Rattle.data_encoding.specs.Pieces.{HasRead, unfinished, whole_bytes, whole_groups}
+use Rattle.data_encoding.specs.Decoding.{AreSound}
 use Rattle.data_encoding.proofs.decoding.PieceLemmas.{any_final, more, sound, unfinished-more, whole_groups-more}
 use Rattle.data_encoding.proofs.digits.WidthLemmas.{group_symbols-pos}
 use Rattle.data_encoding.proofs.grammar.JoinFaultLemmas.{AreFew, bytes_before, final-moved, first-moved, kept_in-moved, moved, sound-moved}
 use Rattle.data_encoding.proofs.grammar.JoinLemmas.{whole-padded, whole-plain}
-use Rattle.data_encoding.proofs.grammar.KeptLemmas.{kept_in}
 use Rattle.data_encoding.proofs.grammar.MeaningLemmas.{no_fault-Means, sound_bytes-Means}
 use Rattle.data_encoding.proofs.grammar.PositionLemmas.{length-kept_plain}
-use Rattle.data_encoding.proofs.grammar.SoundLemmas.{AreSound, AreSound-append, AreSound-none, ends_after, first-AreSound, neither_fault, sound-AreSound, sound-all}
+use Rattle.data_encoding.proofs.grammar.SoundLemmas.{AreSound-append, AreSound-none, ends_after, first-AreSound, neither_fault, sound-AreSound, sound-all}
 use Rattle.data_encoding.proofs.lists.RunLemmas.{few_runs, runs-map}
 use Rattle.data_encoding.proofs.lists.WholeRunLemmas.{left, whole_runs, whole_runs-all}
 use Rattle.data_encoding.proofs.specification.RuleLemmas.{IsRuled, IsRuledPadding}

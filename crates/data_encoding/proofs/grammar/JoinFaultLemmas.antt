@@ -7,18 +7,18 @@ use Rattle.data_encoding.specs.declared.error.DecodeError.{DecodeError}
 use Rattle.data_encoding.specs.declared.error.DecodeKind.TheVariants.{Length as LengthFault, Padding as PaddingFault}
 use Rattle.data_encoding.specs.Base.{Base, IsWidth, meaning, is_ignored, is_padded, ignores_some, group_symbols}
 use Rattle.data_encoding.specs.Bits.{runs}
-use Rattle.data_encoding.specs.Grammar.{Positioned, kept, groups, is_final, Means}
+use Rattle.data_encoding.specs.Grammar.{Positioned, kept, groups, is_final, Means, kept_in}
 use Rattle.data_encoding.specs.Lengths.{greatest_valid_count, greatest_valid_length, is_valid_count, is_valid_length, length_fault}
 use Rattle.data_encoding.specs.Fault.{bytes_of_group, fault_after, fault_of, first_after, first_fault, or_else, position_of, sound_after, sound_bytes}
 use Rattle.data_encoding.specs.Laws.{MayBeFollowed, further}
+use Rattle.data_encoding.specs.Decoding.{AreSound}
 use Rattle.data_encoding.proofs.digits.WidthLemmas.{by_width, group_symbols-pos}
 use Rattle.data_encoding.proofs.grammar.GroupLemmas.{bytes_in, bytes_of_group-same, group_fault-further, is_final-same}
 use Rattle.data_encoding.proofs.grammar.JoinLemmas.{followed, joined}
-use Rattle.data_encoding.proofs.grammar.KeptLemmas.{kept_in}
 use Rattle.data_encoding.proofs.grammar.LengthLemmas.{greatest_valid_length-by, is_valid_length-by}
 use Rattle.data_encoding.proofs.grammar.MeaningLemmas.{no_fault-Means, sound_bytes-Means}
 use Rattle.data_encoding.proofs.grammar.PositionLemmas.{length-kept_plain}
-use Rattle.data_encoding.proofs.grammar.SoundLemmas.{AreSound, AreSound-none, ends_after, first-AreSound, neither_fault, sound-AreSound, sound-all}
+use Rattle.data_encoding.proofs.grammar.SoundLemmas.{AreSound-none, ends_after, first-AreSound, neither_fault, sound-AreSound, sound-all}
 use Rattle.data_encoding.proofs.lists.ListLemmas.{AllFail}
 use Rattle.data_encoding.proofs.lists.RunLemmas.{few_runs, runs-join, runs-map}
 use Rattle.data_encoding.proofs.specification.RuleLemmas.{IsRuled}

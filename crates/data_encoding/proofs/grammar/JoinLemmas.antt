@@ -7,11 +7,11 @@ use Rattle.std.specs.Prelude.{All}
 use Rattle.std.specs.List.{filter, list_any}
 use Rattle.data_encoding.specs.Base.{Base, IsWidth, meaning, is_ignored, is_padded, is_padding, group_symbols}
 use Rattle.data_encoding.specs.Bits.{runs}
-use Rattle.data_encoding.specs.Grammar.{Positioned, kept, groups, PlainMeans, GroupsMean, Means, MeansBy, is_final}
+use Rattle.data_encoding.specs.Grammar.{Positioned, kept, groups, PlainMeans, GroupsMean, Means, MeansBy, is_final, kept_in}
 use Rattle.data_encoding.specs.Laws.{MayBeFollowed}
 use Rattle.data_encoding.proofs.digits.WidthLemmas.{by_width, group_symbols-pos}
 use Rattle.data_encoding.proofs.grammar.GroupLemmas.{bytes_in, fail-meanings, symbols_alone}
-use Rattle.data_encoding.proofs.grammar.KeptLemmas.{kept_in, kept_in-append}
+use Rattle.data_encoding.proofs.grammar.KeptLemmas.{kept_in-append}
 use Rattle.data_encoding.proofs.grammar.PaddedMeaningLemmas.{length-groups}
 use Rattle.data_encoding.proofs.grammar.SameBytesLemmas.{bytes-kept_in, GroupsMean-same, PlainMeans-same}
 use Rattle.data_encoding.proofs.grammar.UnpaddedGrammarLemmas.{PlainMeans-append}

@@ -5,19 +5,10 @@ use Rattle.std.proofs.lemmas.List.Elements.{filter-append, All-filter, All-from_
 use Rattle.std.proofs.Math.Seq.{take-add}
 use Rattle.std.specs.List.{AllByRecursion, filter}
 use Rattle.data_encoding.specs.Base.{Base, meaning, is_ignored}
-use Rattle.data_encoding.specs.Grammar.{Positioned, positioned_from, kept}
+use Rattle.data_encoding.specs.Grammar.{Positioned, positioned_from, kept, kept_in, kept_from}
 use Rattle.data_encoding.specs.Fault.{position_of}
 use Rattle.data_encoding.specs.Partial.{position_after, position_after_first}
 use Rattle.data_encoding.proofs.grammar.PositionLemmas.{positioned_from-append}
-
--- the bytes of a part, from this position on, that are not ignored
-abbrev pub kept_in : Base → ℕ → List ℕ → List Positioned
-kept_in base start part =
-    filter (λ k. not (is_ignored (meaning base k.byte))) (positioned_from start part)
-
--- those of a text from a position on
-abbrev pub kept_from : Base → ℕ → List ℕ → List Positioned
-kept_from base read text = kept_in base read (drop read text)
 
 -- the part of a text between two positions
 abbrev pub between : ℕ → ℕ → List ℕ → List ℕ

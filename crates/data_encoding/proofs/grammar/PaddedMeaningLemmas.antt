@@ -9,13 +9,14 @@ use Rattle.data_encoding.specs.Base.{Base, is_padded, group_symbols, group_bytes
 use Rattle.data_encoding.specs.Grammar.{Positioned, kept, groups, GroupMeans, GroupsMean, is_final}
 use Rattle.data_encoding.specs.Lengths.{length_fault, most_bytes}
 use Rattle.data_encoding.specs.Fault.{bytes_of_group, fault_after, fault_of, first_fault, or_else, sound_bytes}
+use Rattle.data_encoding.specs.Decoding.{AreSound}
 use Rattle.data_encoding.proofs.digits.WidthLemmas.{group_bits, group_symbols-pos}
 use Rattle.data_encoding.proofs.lists.RunLemmas.{flat_map-runs}
 use Rattle.data_encoding.proofs.grammar.UnpaddedGroupLemmas.{PlainMeans-count}
 use Rattle.data_encoding.proofs.grammar.GroupLemmas.{GroupMeans-sound, GroupMeans-no_fault, GroupMeans-bytes}
 use Rattle.data_encoding.proofs.grammar.PositionLemmas.{length-kept, length-kept_plain}
 use Rattle.data_encoding.proofs.grammar.LengthLemmas.{length_fault-none, is_valid_length-by, most_bytes-by}
-use Rattle.data_encoding.proofs.grammar.SoundLemmas.{AreSound, AreSound-none, ends_after, fault_after-none, neither_fault, first-none, sound-all}
+use Rattle.data_encoding.proofs.grammar.SoundLemmas.{AreSound-none, ends_after, fault_after-none, neither_fault, first-none, sound-all}
 
 -- the groups of a text are no longer than a whole one
 few_in_chunks : {X : Type 0} (size count : ℕ) (xs : List X)

@@ -3,11 +3,10 @@ use Rattle.std.proofs.Common.{◌≡◌, ℕ, ◌+◌, Bool, true, false, not, c
 use Rattle.std.specs.List.{filter}
 use Rattle.data_encoding.specs.Base.{Base, IsWidth, meaning, is_ignored, is_padded, group_symbols}
 use Rattle.data_encoding.specs.Bits.{runs}
-use Rattle.data_encoding.specs.Grammar.{Positioned, kept, PlainMeans, GroupMeans, GroupsMean, Means, MeansBy}
+use Rattle.data_encoding.specs.Grammar.{Positioned, kept, PlainMeans, GroupMeans, GroupsMean, Means, MeansBy, kept_in}
 use Rattle.data_encoding.proofs.digits.WidthLemmas.{group_symbols-pos}
 use Rattle.data_encoding.proofs.digits.WordLemmas.{map-twice}
 use Rattle.data_encoding.proofs.grammar.GroupLemmas.{bytes_in, bytes_of_group-same, group_fault-none_same, is_final-same, length-same, GroupMeans-bytes, GroupMeans-no_fault, GroupMeans-sound}
-use Rattle.data_encoding.proofs.grammar.KeptLemmas.{kept_in}
 use Rattle.data_encoding.proofs.lists.RunLemmas.{runs-map}
 
 -- the bytes that are kept of a part, wherever it stands

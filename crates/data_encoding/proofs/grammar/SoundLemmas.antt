@@ -6,14 +6,9 @@ use Rattle.data_encoding.specs.declared.encoding.Character.TheVariants.{Symbol}
 use Rattle.data_encoding.specs.Base.{Base, meaning, is_padding}
 use Rattle.data_encoding.specs.Grammar.{Positioned, is_final}
 use Rattle.data_encoding.specs.Fault.{fault_after, group_fault, or_else, first_after, sound_after}
+use Rattle.data_encoding.specs.Decoding.{AreSound}
 use Rattle.data_encoding.proofs.lists.ListLemmas.{AllFail, list_any-none}
 use Rattle.data_encoding.proofs.grammar.GroupLemmas.{symbols_alone, fail-meanings}
-
--- whether one ended before them, and after them
-abbrev pub AreSound : Base → Bool → List (List Positioned) → Bool → Type 0
-AreSound base begun [] ended = begun ≡ ended
-AreSound base begun (group ∷ others) ended =
-    (fault_after begun base group ≡ None) × AreSound base (is_final base group) others ended
 
 -- whether one ended after them, sound or not
 abbrev pub ends_after : Base → Bool → List (List Positioned) → Bool

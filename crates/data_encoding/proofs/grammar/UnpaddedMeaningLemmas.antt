@@ -6,11 +6,12 @@ use Rattle.data_encoding.specs.Base.{Base, is_padded, IsWidth}
 use Rattle.data_encoding.specs.Grammar.{Positioned, kept, groups, PlainMeans, is_final}
 use Rattle.data_encoding.specs.Lengths.{is_valid_count, length_fault, most_bytes}
 use Rattle.data_encoding.specs.Fault.{plain_fault, group_fault, padded_fault_at, count_before_padding, bytes_of_group, fault_of, first_fault, or_else, sound_bytes}
+use Rattle.data_encoding.specs.Decoding.{AreSound}
 use Rattle.data_encoding.proofs.grammar.UnpaddedGroupLemmas.{PlainMeans-sound, PlainMeans-valid, PlainMeans-count, PlainMeans-bytes}
 use Rattle.data_encoding.proofs.grammar.UnpaddedGrammarLemmas.{ArePlain, PlainMeans-from_groups, groups-PlainMeans}
 use Rattle.data_encoding.proofs.grammar.PositionLemmas.{length-kept, length-kept_plain}
 use Rattle.data_encoding.proofs.grammar.LengthLemmas.{length_fault-none, is_valid_length-by, most_bytes-by}
-use Rattle.data_encoding.proofs.grammar.SoundLemmas.{AreSound, AreSound-none, ends_after, fault_after-none, neither_fault, first-none, sound-all, symbols-not_final}
+use Rattle.data_encoding.proofs.grammar.SoundLemmas.{AreSound-none, ends_after, fault_after-none, neither_fault, first-none, sound-all, symbols-not_final}
 
 module _ (base : Base) (width : IsWidth base.width) (unpadded : is_padded base ≡ false) where
   group_fault-plain : (group : List Positioned) → group_fault base group ≡ plain_fault base group

@@ -9,9 +9,10 @@ use Rattle.data_encoding.specs.declared.encoding.Character.TheVariants.{Symbol, 
 use Rattle.data_encoding.specs.declared.error.DecodeKind.TheVariants.{Trailing as TrailingFault}
 use Rattle.data_encoding.specs.Base.{Base, meaning, is_symbol, is_ignored, is_padded, group_symbols, group_bytes, IsWidth}
 use Rattle.data_encoding.specs.Bits.{runs}
-use Rattle.data_encoding.specs.Grammar.{Positioned, positioned_from, is_final}
+use Rattle.data_encoding.specs.Grammar.{Positioned, positioned_from, is_final, kept_in}
 use Rattle.data_encoding.specs.Lengths.{is_valid_count}
 use Rattle.data_encoding.specs.Fault.{symbol_bits, trailing_bits, bytes_of_group, fault_at, fault_at_first, trailing_fault, plain_fault, padded_fault_at, count_before_padding, group_fault}
+use Rattle.data_encoding.specs.Decoding.{AreSound}
 use Rattle.data_encoding.proofs.digits.WidthLemmas.{group_bits, group_symbols-pos}
 use Rattle.data_encoding.proofs.lists.EachLemmas.{all_parts}
 use Rattle.data_encoding.proofs.lists.EndLemmas.{AllSo}
@@ -19,8 +20,7 @@ use Rattle.data_encoding.proofs.lists.ListLemmas.{AllFail, position-none, filter
 use Rattle.data_encoding.proofs.lists.RunLemmas.{runs-nil, runs-append, runs-map}
 use Rattle.data_encoding.proofs.grammar.UnpaddedGroupLemmas.{values_in, meanings_in, are_symbols, length-bits_of_values, PlainMeans-sound}
 use Rattle.data_encoding.proofs.grammar.GroupLemmas.{bytes_in, bytes_of_group-same, plain_fault-valid, whole-valid, GroupMeans-no_fault}
-use Rattle.data_encoding.proofs.grammar.SoundLemmas.{AreSound, symbols-not_final}
-use Rattle.data_encoding.proofs.grammar.KeptLemmas.{kept_in}
+use Rattle.data_encoding.proofs.grammar.SoundLemmas.{symbols-not_final}
 
 none_other : (base : Base) (ks : List Positioned) → AllSo (λ k. is_symbol (meaning base k.byte)) ks
     → AllFail (λ k. not (is_symbol (meaning base k.byte))) ks

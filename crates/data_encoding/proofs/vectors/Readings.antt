@@ -12,7 +12,7 @@ use Rattle.data_encoding.specs.Base.{Base, meaning}
 use Rattle.data_encoding.specs.Canonical.{has_one_text}
 use Rattle.data_encoding.specs.Fault.{IsRefusal, symbol_bits, trailing_bits, bytes_of_group, position_of, fault_at, trailing_fault, fault_at_first, invalid_symbol_fault, symbols_fault, plain_fault, count_before_padding, padded_fault_at, group_fault, or_else, fault_after, sound_after, sound_groups, first_after, first_fault}
 use Rattle.data_encoding.specs.Fields.{Fields, base_of}
-use Rattle.data_encoding.specs.Grammar.{Positioned, positioned_from, positioned, kept, groups, is_final}
+use Rattle.data_encoding.specs.Grammar.{Positioned, positioned_from, positioned, kept, groups, is_final, kept_from, kept_in}
 use Rattle.data_encoding.specs.Layout.{layout, fields_of}
 use Rattle.data_encoding.specs.Lengths.{alignment, decoded_len, greatest_valid_count, is_valid_count, is_valid_length, greatest_valid_length, length_fault, most_bytes, unless_fault, align_by}
 use Rattle.data_encoding.specs.Partial.{partial_of, position_after, position_after_first, sound_len, ignoring_nothing, is_sound_run, is_length_fault, read_len, partial_at, partial_by}
@@ -218,7 +218,11 @@ groups_of_text :
     ≡ Some (positioned_from 0 (codes "SG") ++ positioned_from 3 (codes "Vs")))
     × (by (λ base. groups base (codes "AA==AAA=")) base64_fields
     ≡ Some (positioned_from 0 (codes "AA==") ∷ positioned_from 4 (codes "AAA=") ∷ []))
-groups_of_text = (refl, refl, refl, refl)
+    × (by (λ base. kept_from base 2 (codes "SG" ++ 10 ∷ codes "Vs")) base64_mime_fields
+    ≡ Some (positioned_from 3 (codes "Vs")))
+    × (by (λ base. kept_in base 7 (10 ∷ codes "Vs")) base64_mime_fields
+    ≡ Some (positioned_from 8 (codes "Vs")))
+groups_of_text = (refl, refl, refl, refl, refl, refl)
 
 final_groups :
     (by (λ base. is_final base (positioned (codes "AA=="))) base64_fields ≡ Some false)

@@ -17,7 +17,7 @@ use Rattle.data_encoding.specs.Encoding.{base_of_tables, KeepsRules, wrapping_by
 use Rattle.data_encoding.specs.Entries.{meaning_of_entry, is_entry_of, HoldsEntries}
 use Rattle.data_encoding.specs.Meanings.{meanings_of_table, HasEntries}
 use Rattle.data_encoding.specs.Tables.{HasTables, HoldsSymbols, HoldsValues, IsGroup, Writes}
-use Rattle.data_encoding.specs.Decoding.{IsRun, IsDecodedGroup, most_symbols, HasSymbols, HasFault, IsGathered, valid_front, IsLastRun, HasNoLastRun, HasRoom, IsStop, IsDecoded, fault_of_stop}
+use Rattle.data_encoding.specs.Decoding.{AreSound, HasDecodedTo, IsLongest, IsRun, IsDecodedGroup, most_symbols, HasSymbols, HasFault, IsGathered, valid_front, IsLastRun, HasNoLastRun, HasRoom, IsStop, IsDecoded, fault_of_stop}
 use Rattle.data_encoding.proofs.tables.TableLemmas.{HoldsValues-seen, Writes-tables}
 use Rattle.std.specs.Borrow.{Bor}
 use Rattle.data_encoding.specs.declared.predefined.Predefined.{Predefined}
@@ -150,6 +150,32 @@ last_runs = (
   λ h. lit≤ tt,
 )
 
+-- how far a text is decoded: a whole group, and a last one that is shorter
+text_decoded_to :
+    Has base64_nopad_fields (λ base.
+    AreSound base false (positioned (codes "QUJD") ∷ []) false
+    × HasDecodedTo base (codes "QUJD!") 4 3 false (65 ∷ 66 ∷ 67 ∷ [])
+    × HasDecodedTo base (codes "QUI") 3 2 false (65 ∷ 66 ∷ 0 ∷ []))
+text_decoded_to = (
+  (refl, refl),
+  record {
+    within = lit≤ tt;
+    sound = (refl, refl);
+    whole = inl refl;
+    ends = refl;
+    fits = lit≤ tt;
+    writes = refl;
+  },
+  record {
+    within = lit≤ tt;
+    sound = (refl, refl);
+    whole = inr (refl, refl);
+    ends = refl;
+    fits = lit≤ tt;
+    writes = refl;
+  },
+)
+
 -- a text that is decoded, and where one stops
 text_decoded :
     Has base64_nopad_fields (λ base. IsDecoded base (codes "QUI") 2 (65 ∷ 66 ∷ 0 ∷ []))
@@ -185,6 +211,12 @@ group_run :
     Has base64_nopad_fields (λ base.
     IsRun base (codes "QUJD!") 1 (0 ∷ 0 ∷ 0 ∷ []) (65 ∷ 66 ∷ 67 ∷ []))
 group_run = record { within = lit≤ tt; are_symbols = are_all_symbols; bytes = refl }
+
+longest_run :
+    Has base64_nopad_fields (λ base.
+    IsLongest base (codes "QUJDRE!=") 1 × IsLongest base (codes "QUJDRE") 1)
+longest_run =
+    (λ before all. all 2 (lit< tt), λ before. absurd (omega (arith, before)))
 
 -- what tables hold of a base
 tables_hold :

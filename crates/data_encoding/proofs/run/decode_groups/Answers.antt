@@ -1,6 +1,6 @@
-use Rattle.std.proofs.Common.{◌≡◌, ℕ, ◌+◌, ◌*◌, ◌/◌, ◌<◌, ◌≤◌, length, refl, ◌∙◌, arith}
+use Rattle.std.proofs.Common.{◌≡◌, ℕ, ◌+◌, ◌*◌, ◌/◌, ◌<◌, ◌≤◌, length, refl, sym, ◌∙◌, arith}
 use Rattle.data_encoding.proofs.grammar.PositionLemmas.{bytes-positioned_from}
-use Rattle.data_encoding.proofs.decoding.SymbolRunLemmas.{group-next, run-kept}
+use Rattle.data_encoding.proofs.decoding.SymbolRunLemmas.{group-next, run-all, run-kept, run-longest}
 use Rattle.data_encoding.proofs.lists.PartLemmas.{group-before, length-part, one-more}
 use Rattle.std.proofs.Math.Nat.{mul-le-mul_right}
 use Rattle.data_encoding.proofs.run.decode_groups.Goals as goal
@@ -24,6 +24,19 @@ returns-then-not-decode_symbols-clause-run g c = λ base w o holds.
     run-kept base holds.is_width g.row.WIDTH g.row.BYTES g.row.SYMBOLS c.requires.group w
     c.args.input.now _ c.loop-index.output c.decode_symbols.new.output i _ (omega (arith, room))
     (c.loop-index.invariant.run base w o holds)
+
+pub returns-then-not-decode_symbols-clause-longest :
+    goal.returns-then-not-decode_symbols-clause-longest
+returns-then-not-decode_symbols-clause-longest g c = λ base w holds.
+    run-longest base holds.is_width g.row.WIDTH g.row.BYTES g.row.SYMBOLS c.requires.group w
+    c.args.values.now c.args.input.now c.loop-index.index _ refl holds
+    (λ j. (c.type_inv.input j).fits)
+    (λ all. sym c.if-not-decode_symbols.true ∙ c.decode_symbols.ensures.symbols.1 all)
+
+pub returns-clause-longest : goal.returns-clause-longest
+returns-clause-longest g c = λ base w holds.
+    run-all base holds.is_width g.row.WIDTH g.row.BYTES g.row.SYMBOLS c.requires.group w
+    c.args.input.now
 
 pub loop-index-preserved : goal.loop-index-preserved
 loop-index-preserved g c =

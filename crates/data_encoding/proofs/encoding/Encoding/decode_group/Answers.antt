@@ -94,7 +94,7 @@ returns-then-has_trailing-clause-fault g c =
     c.in-Ok.ensures.symbols (c.if-not-decode_symbols.ensures.symbols.0 refl)
     (ap (λ (b : Base). b.checks_trailing_bits) (sym c.self.view_is) ∙ c.if-self.true)
     (sym (c.if-has_trailing.ensures.any seen (positioned (take count group)) c.requires.width
-    (ap (λ (b : Base). b.order) (sym c.self.view_is)) holds
+    c.requires.order holds
     (bytes-positioned_from 0 (take count group))))
     (c.if-has_trailing.ensures.some refl))
 
@@ -107,14 +107,13 @@ returns-clause-sound g c =
     let few = c.in-Ok.ensures.symbols.within in
     let most = mul-le-mul_left g.row.WIDTH few in
     let holds = HoldsValues-seen c.self.inside c.self.invariant seen c.self.view_is in
-    let order = ap (λ (b : Base). b.order) (sym c.self.view_is) in
     let checks = ap (λ (b : Base). b.checks_trailing_bits) (sym c.self.view_is) in
     let quiet : (seen.checks_trailing_bits
     && list_any (λ bit. not (bit == 0)) (trailing_bits seen ks)) ≡ false =
     elim c.else-self.branch [
       | else-self-via-then-self+else-has_trailing w ↦
           (λ i. (checks ∙ w.if-self.true) i
-          && sym (w.if-has_trailing.ensures.any seen ks c.requires.width order holds
+          && sym (w.if-has_trailing.ensures.any seen ks c.requires.width c.requires.order holds
           (bytes-positioned_from 0 (take count group))) i)
       | else-self-via-else-self w ↦
           ap (λ b. b && list_any (λ bit. not (bit == 0)) (trailing_bits seen ks))
@@ -127,5 +126,5 @@ returns-clause-sound g c =
     (c.decode_symbols.auto.output
     ∙ length-take-le (g.row.WIDTH * count / 8) c.args.output.now (omega (arith, most, room))
     ∙ ap (λ w. w * count / 8) (sym c.requires.width))
-    (c.if-not-decode_symbols.ensures.bytes seen ks c.requires.width order holds
+    (c.if-not-decode_symbols.ensures.bytes seen ks c.requires.width c.requires.order holds
     (bytes-positioned_from 0 (take count group)) refl)

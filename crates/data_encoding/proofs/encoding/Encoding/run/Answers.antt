@@ -1,10 +1,12 @@
-use Rattle.std.proofs.Common.{sym, ap}
-use Rattle.data_encoding.specs.Base.{Base}
 use Rattle.data_encoding.proofs.tables.TableLemmas.{HoldsValues-seen}
 use Rattle.data_encoding.proofs.encoding.Encoding.run.Goals as goal
 
 pub returns-clause-run : goal.returns-clause-run
 returns-clause-run g c =
-    c.decode_run.ensures.run c.args.self.now c.requires.width
-    (ap (λ (b : Base). b.order) (sym c.self.view_is))
+    c.decode_run.ensures.run c.args.self.now c.requires.width c.requires.order
+    (HoldsValues-seen c.self.inside c.self.invariant c.args.self.now c.self.view_is)
+
+pub returns-clause-longest : goal.returns-clause-longest
+returns-clause-longest g c =
+    c.decode_run.ensures.longest c.args.self.now c.requires.width
     (HoldsValues-seen c.self.inside c.self.invariant c.args.self.now c.self.view_is)

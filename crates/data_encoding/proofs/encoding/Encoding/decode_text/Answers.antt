@@ -1,0 +1,9 @@
+use Rattle.std.proofs.Common.{sym, subst}
+use Rattle.data_encoding.specs.Base.{IsWidth}
+use Rattle.data_encoding.proofs.decoding.ProgressLemmas.{begin}
+use Rattle.data_encoding.proofs.encoding.Encoding.decode_text.Goals as goal
+
+pub step-requires-clause-so_far : goal.step-requires-clause-so_far
+step-requires-clause-so_far g c =
+    begin c.args.self.now (subst IsWidth (sym c.requires.width) c.requires.group.is_width)
+    c.args.input.now c.args.output.now
