@@ -1,6 +1,6 @@
 //! A text that is decoded piece by piece, into buffers: what is kept of it, and how it is read on.
 
-ghost use Rattle.std.specs.Prelude.{◌≡◌, if◌then◌else◌, ℕ, ◌+◌, ◌<◌, ◌≤◌, ◌*◌, ◌/◌, true, List, [], length, take, IsOk};
+ghost use Rattle.std.specs.Prelude.{◌≡◌, if◌then◌else◌, ℕ, ◌+◌, ◌<◌, ◌≤◌, ◌*◌, ◌/◌, ◌%◌, true, false, List, [], length, take, IsOk, None};
 ghost use Rattle.data_encoding.specs.Base.{IsWidth, group_bytes, group_symbols, ignores_some};
 ghost use Rattle.data_encoding.specs.Fields.{IsSpecified};
 ghost use Rattle.data_encoding.specs.Grammar.{Means};
@@ -138,6 +138,12 @@ impl<'a> PieceDecoder<'a> {
         ensures base { base_of_pieces self.new ≡ base_of_pieces self.old }
         ensures reads { ReadsOn (base_of_pieces self.old) self.old.kept self.new.kept
             (take result.0 piece.now) (take result.1 output.new) }
+        ensures all { let whole = length piece.now / group_symbols (base_of_pieces self.old).width
+            * group_symbols (base_of_pieces self.old).width in
+            self.old.kept.count ≡ 0 → self.old.kept.fault ≡ None → self.old.kept.ended ≡ false
+            → ignores_some (base_of_pieces self.old) ≡ false
+            → (base_of_pieces self.old).concatenates ≡ true → (bytes : List ℕ)
+            → Means (base_of_pieces self.old) (take whole piece.now) bytes → result.0 ≡ whole }
         ensures read { result.0 ≤ length piece.now }
         ensures within { result.1 ≤ length output.new }
         ensures len { length output.new ≡ length output.old }
@@ -161,6 +167,10 @@ impl<'a> PieceDecoder<'a> {
         ensures means { Means (base_of_pieces self.now) (take result.0 piece.now)
             (take result.1 output.new) }
         ensures most { result.1 ≤ most_bytes (base_of_pieces self.now) result.0 }
+        ensures all { let whole = length piece.now / group_symbols (base_of_pieces self.now).width
+            * group_symbols (base_of_pieces self.now).width in
+            ignores_some (base_of_pieces self.now) ≡ false → (bytes : List ℕ)
+            → Means (base_of_pieces self.now) (take whole piece.now) bytes → result.0 ≡ whole }
         ensures read { result.0 ≤ length piece.now }
         ensures within { result.1 ≤ length output.new }
         ensures len { length output.new ≡ length output.old }
@@ -205,6 +215,11 @@ impl<'a> PieceDecoder<'a> {
             → AreWholeGroups (base_of_pieces self.now) text }
         ensures few { result ≡ true → written ≤ most_bytes (base_of_pieces self.now) read
             → FillsGroups (base_of_pieces self.now) 0 read 0 written }
+        ensures by_bytes { written % group_bytes (base_of_pieces self.now).width ≡ 0
+            → result ≡ true }
+        ensures by_length { ignores_some (base_of_pieces self.now) ≡ false
+            → (base_of_pieces self.now).concatenates ≡ true
+            → read % group_symbols (base_of_pieces self.now).width ≡ 0 → result ≡ true }
         ensures specified { IsSpecified (base_of_pieces self.now) }
     {
         pieces();

@@ -1,4 +1,4 @@
-use Rattle.std.proofs.Common.{◌≡◌, ◌<◌, arith, eqb-true, sym, ◌∙◌}
+use Rattle.std.proofs.Common.{◌≡◌, ◌<◌, nat_eq, ap, arith, eqb-true, sym, ◌∙◌}
 use Rattle.data_encoding.specs.Base.{group_bytes, group_symbols}
 use Rattle.encoding_stream.specs.Pieces.{base_of_pieces}
 use Rattle.encoding_stream.proofs.ReadRunLemmas.{due-group, fills-by_bytes, fills-by_length, whole-by_bytes, whole-by_length}
@@ -64,3 +64,13 @@ returns-clause-few c =
     λ test. λ most.
     fills-by_bytes (base_of_pieces pieces) pieces.width c.args.read c.args.written
     (rw (← is) (eqb-true _ _ test)) most
+
+pub returns-clause-by_bytes : goal.returns-clause-by_bytes
+returns-clause-by_bytes c =
+    let pieces = c.args.self.now in
+    let due =
+    due-group (base_of_pieces pieces) c.decode_len.ensures.base c.whole_groups.ensures.bytes
+    pieces.size pieces.group in
+    let is : c.in-Ok.bytes ≡ group_bytes (base_of_pieces pieces).width =
+    cc (c.in-Ok.is, c.decode_len.ensures.value, due) in
+    λ divides. rw is (ap (λ n. nat_eq n 0) divides)

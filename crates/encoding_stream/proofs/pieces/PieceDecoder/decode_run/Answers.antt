@@ -1,5 +1,6 @@
-use Rattle.std.proofs.Common.{◌<◌, drop, arith, sym, ◌∙◌, length-append}
+use Rattle.std.proofs.Common.{◌<◌, take, drop, arith, sym, subst, ◌∙◌, length-append}
 use Rattle.data_encoding.specs.Base.{group_symbols}
+use Rattle.data_encoding.specs.Grammar.{Means}
 use Rattle.encoding_stream.specs.Pieces.{base_of_pieces}
 use Rattle.encoding_stream.proofs.ReadRunLemmas.{run-exact, run-part, run-room, stopped-fits, stopped-means, stopped-most}
 use Rattle.encoding_stream.proofs.SizeLemmas.{due-most}
@@ -80,3 +81,11 @@ returns-in-Err-clause-within c =
     c.decode_mut.ensures.len partial.read partial.error.position partial.written some bounds.0
     bounds.1 c.in-Err.ensures.most in
     omega (arith, fits, length-append new (drop c.in-Ok.most c.args.output.now))
+
+pub returns-in-Err-clause-all : goal.returns-in-Err-clause-all
+returns-in-Err-clause-all c =
+    let base = base_of_pieces c.args.self.now in
+    λ none bytes means.
+    let same = rw none at c.run_len-len.ensures.value in
+    absurd (cc (c.in-Err.ensures.accepted bytes
+    (subst (λ n. Means base (take n c.args.piece.now) bytes) (sym same) means)))

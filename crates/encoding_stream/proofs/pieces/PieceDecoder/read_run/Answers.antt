@@ -1,4 +1,6 @@
-use Rattle.std.proofs.Common.{◌≡◌, ◌+◌, take, length, rules, subst, length-take-le}
+use Rattle.std.proofs.Common.{◌≡◌, ◌+◌, ◌/◌, ◌%◌, take, length, rules, subst, length-take-le}
+use Rattle.std.proofs.Math.Nat.{mul-mod_left}
+use Rattle.data_encoding.specs.Base.{group_symbols}
 use Rattle.encoding_stream.specs.Pieces.{base_of_pieces, FillsGroups}
 use Rattle.encoding_stream.specs.Reading.{ReadsOn}
 use Rattle.encoding_stream.proofs.ReadRunLemmas.{reads-run}
@@ -24,3 +26,12 @@ returns-clause-reads c =
     subst (λ n. ReadsOn base old (record old { len = old.len + n }) piece bytes) piece-is
     (reads-run base c.are_whole.ensures.specified c.pieces.ensures.sound old (search rules)
     (search rules) (search rules) piece bytes run.ensures.means whole few)
+
+pub returns-then-not-are_whole-clause-all : goal.returns-then-not-are_whole-clause-all
+returns-then-not-are_whole-clause-all c =
+    let symbols = group_symbols (base_of_pieces c.args.self.now).width in
+    λ _ _ _ none joins bytes means.
+    let read-is = c.decode_run-read.ensures.all none bytes means in
+    let divides : c.decode_run-read.result.0 % symbols ≡ 0 =
+    rw read-is (mul-mod_left (length c.args.piece.now / symbols) symbols) in
+    absurd (cc (c.are_whole.ensures.by_length none joins divides, c.if-not-are_whole.true))
