@@ -121,3 +121,16 @@ fn told(alloc: Global, verb: &str, name: &str) -> Result<String, AllocError>
         Err(fault) => format!(in alloc; "{fault}"),
     }
 }
+
+#[cfg(test)]
+mod tests {
+    use super::*;
+    use std::test::Fail;
+
+    // No clause says that memory is found.
+    #[test]
+    fn hello_is_encoded(rt: HostRuntime) -> Result<(), Fail> {
+        assert!(rt; encode_hello(rt.alloc())?.is_some());
+        Ok(())
+    }
+}
