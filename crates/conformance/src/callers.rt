@@ -1,11 +1,12 @@
 //! Small functions of a user, each proved from the contracts of the calls that it makes.
 
-ghost use Rattle.std.specs.Prelude.{◌≡◌, ◌⊎◌, ◌↔◌, ◌<◌, ◌≤◌, ◌++◌, length, is_some, is_ok, Err, Ok, IsTrue, IfErr, IfOk, IfSome, OnOk};
+ghost use Rattle.std.specs.Prelude.{◌≡◌, ◌⊎◌, ◌↔◌, ◌<◌, ◌≤◌, ℕ, List, ◌++◌, length, is_some, is_ok, Err, Ok, IsTrue, IfErr, IfOk, IfSome, OnErr, OnOk};
 ghost use Rattle.std.specs.String.{string_bytes};
 ghost use Rattle.data_encoding.specs.Base.{Base};
 ghost use Rattle.data_encoding.specs.Canonical.{IsCanonical};
 ghost use Rattle.data_encoding.specs.Fault.{IsRefusal};
 ghost use Rattle.data_encoding.specs.Fields.{base_of};
+ghost use Rattle.data_encoding.specs.Grammar.{Means};
 ghost use Rattle.data_encoding.specs.Lengths.{length_fault};
 ghost use Rattle.data_encoding.specs.Specification.{specified};
 ghost use Rattle.data_encoding.specs.Text.{text_of};
@@ -168,19 +169,28 @@ pub fn is_one_text(
 }
 
 /// The data of a text that may stand for them, as a token or a name does: no other text has the
-/// same data.
-pub fn data_of_token(alloc: Global, encoding: &Encoding, token: &[u8]) -> Option<Vec<u8>>
+/// same data. There are none where the encoding is not canonical, or the text means none.
+pub fn data_of_token(
+    alloc: Global,
+    encoding: &Encoding,
+    token: &[u8],
+) -> Result<Option<Vec<u8>>, AllocError>
     requires limit { length token.now ≤ DECODE_LIMIT }
-    ensures only { IfSome result (λ bytes. token.now ≡ text_of encoding.now bytes.items) }
+    ensures some { IfOk result (λ found. IsTrue (is_some found)
+        ↔ (IsCanonical encoding.now × ((bytes : List ℕ) × Means encoding.now token.now bytes))) }
+    ensures only { IfOk result (λ found. IfSome found
+        (λ bytes. token.now ≡ text_of encoding.now bytes.items)) }
+    ensures refusal { OnErr result (IsRefusal encoding.now token.now DecodeFault.OutOfMemory) }
 {
     let _width = encoding.bit_width();
     canonical();
     if !encoding.is_canonical() {
-        return None;
+        return Ok(None);
     }
     match encoding.decode(alloc, token) {
-        Ok(bytes) => Some(bytes),
-        Err(_) => None,
+        Ok(bytes) => Ok(Some(bytes)),
+        Err(DecodeFault::Error(_)) => Ok(None),
+        Err(DecodeFault::OutOfMemory) => Err(AllocError),
     }
 }
 

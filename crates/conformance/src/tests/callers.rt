@@ -86,19 +86,26 @@ fn callers_learn_of_texts(rt: HostRuntime) -> Result<(), Fail> {
 }
 
 // Whether the token has the data, or none.
-fn has_data(alloc: Global, encoding: &Encoding, token: &[u8], want: Option<&[u8]>) -> bool
+fn has_data(
+    alloc: Global,
+    encoding: &Encoding,
+    token: &[u8],
+    want: Option<&[u8]>,
+) -> Result<bool, AllocError>
     requires limit { length token.now ≤ DECODE_LIMIT }
 {
-    match data_of_token(alloc, encoding, token) {
-        Some(data) => want == Some(data.as_slice()),
-        None => want.is_none(),
+    match data_of_token(alloc, encoding, token)? {
+        Some(data) => Ok(want == Some(data.as_slice())),
+        None => Ok(want.is_none()),
     }
 }
 
 #[test]
-fn callers_take_tokens(rt: HostRuntime) {
+fn callers_take_tokens(rt: HostRuntime) -> Result<(), Fail> {
     let one = base64url_nopad();
-    assert!(rt; has_data(rt.alloc(), &one, b"-_8", Some(b"\xfb\xff")));
-    assert!(rt; has_data(rt.alloc(), &one, b"-_9", None));
-    assert!(rt; has_data(rt.alloc(), &base64(), b"AA==", None));
+    assert!(rt; has_data(rt.alloc(), &one, b"-_8", Some(b"\xfb\xff"))?);
+    assert!(rt; has_data(rt.alloc(), &one, b"", Some(b""))?);
+    assert!(rt; has_data(rt.alloc(), &one, b"-_9", None)?);
+    assert!(rt; has_data(rt.alloc(), &base64(), b"AA==", None)?);
+    Ok(())
 }
