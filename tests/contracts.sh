@@ -3,27 +3,9 @@
 # README.md shows a clause otherwise, and where that would not see a change. Other pages have to
 # agree: docs/COMING_FROM.md names no call that is not there, docs/ARCHITECTURE.md names each file,
 # and docs/DEFINITIONS.md each module.
-#
-# The last line is `N passed, M failed`.
-set -u
-cd "$(dirname "$0")/.." || exit 1
+. "$(dirname "$0")/common.bash" || exit 1
 
-room=$(mktemp -d)
-trap 'rm -rf "$room"' EXIT
-passed=0
-failed=0
-
-count() {
-    if [ "$2" = "$3" ]; then
-        passed=$((passed + 1))
-    else
-        failed=$((failed + 1))
-        echo "FAILED: $1"
-    fi
-}
-
-docs/contracts.py --check
-count 'the pages are what the sources say' $? 0
+holds 'the pages are what the sources say' docs/contracts.py --check
 
 # sees NAME FILE OLD NEW: a copy in which OLD, a line of FILE, became NEW is found out.
 sees() {
@@ -34,10 +16,10 @@ sees() {
     find crates -path '*/out' -prune -o \( -path '*/src/*' -o -path '*/specs/*' \) -type f -print0 |
         xargs -0 cp --parents -t "$room/copy"
     sed -i "s~$3~$4~" "$room/copy/$2"
-    ! cmp -s "$2" "$room/copy/$2"
-    count "$1: an edit" $? 0
+    cmp -s "$2" "$room/copy/$2"
+    is "$1: an edit" 1 $?
     "$room/copy/docs/contracts.py" --check >/dev/null
-    count "$1" $? 1
+    is "$1" 1 $?
 }
 
 encode=crates/data_encoding/src/encode.rt
@@ -61,7 +43,7 @@ sees 'a row of README.md that is none' README.md '| `run` | `failed' '| `run` `f
 unknown=$(sed -n '/^## The Rust crate/,$ s/^| .* | //p' docs/COMING_FROM.md |
     grep -oE '\b[A-Z][A-Za-z]+::[a-z_]+\(' | tr -d '(' | sort -u |
     while read -r call; do grep -qF "### \`$call\`" docs/CONTRACTS.md || echo "$call"; done)
-count "calls that are unknown: $unknown" "$unknown" ''
+is 'calls that are unknown' '' "$unknown"
 
 # unnamed PAGE FILE..: the files that the page does not name, without their suffix where it names
 # modules so.
@@ -75,10 +57,9 @@ unnamed() {
 }
 
 missing=$(unnamed docs/ARCHITECTURE.md crates/{data_encoding,encoding_stream}/src/*.rt)
-count "files that docs/ARCHITECTURE.md does not name: $missing" "$missing" ''
+is 'files that docs/ARCHITECTURE.md does not name' '' "$missing"
 missing=$(unnamed docs/DEFINITIONS.md $(ls crates/{data_encoding,encoding_stream}/specs/*.antt |
     grep -v /Lib.antt))
-count "modules that docs/DEFINITIONS.md does not name: $missing" "$missing" ''
+is 'modules that docs/DEFINITIONS.md does not name' '' "$missing"
 
-echo "$passed passed, $failed failed"
-[ "$failed" = 0 ]
+finish

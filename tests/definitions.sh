@@ -1,27 +1,9 @@
 #!/usr/bin/env bash
 # Fails where docs/DEFINITIONS.md does not name a definition of specs/, where a definition has no
 # worked row and is not said to have none, and where a row that the page names is not there.
-#
-# The last line is `N passed, M failed`.
-set -u
-cd "$(dirname "$0")/.." || exit 1
-export LC_ALL=C
+. "$(dirname "$0")/common.bash" || exit 1
 
 page=docs/DEFINITIONS.md
-room=$(mktemp -d)
-trap 'rm -rf "$room"' EXIT
-passed=0
-failed=0
-
-# none NAME LINES: there are no such lines.
-none() {
-    if [ -z "$2" ]; then
-        passed=$((passed + 1))
-    else
-        failed=$((failed + 1))
-        printf 'FAILED: %s:\n%s\n' "$1" "$2"
-    fi
-}
 
 # defined FILE..: the names that are defined there.
 defined() {
@@ -52,12 +34,12 @@ for crate in data_encoding encoding_stream basecode; do
     mapfile -t files < <(rows "$crate")
     defined crates/"$crate"/specs/*.antt >"$room/defined"
     [ "$(wc -l <"$room/defined")" -ge 20 ]
-    none "few definitions of $crate" "$([ $? = 0 ] || cat "$room/defined")"
-    none "definitions of $crate that no table has" \
+    is "few definitions of $crate" '' "$([ $? = 0 ] || cat "$room/defined")"
+    is "definitions of $crate that no table has" '' \
         "$(comm -23 "$room/defined" <(named "$tables$without"))"
-    none "definitions of $crate with no worked row" \
+    is "definitions of $crate with no worked row" '' \
         "$(comm -23 "$room/defined" <(sort -u <(words "${files[@]}") <(named "$without")))"
-    none "definitions of $crate said to have no row" \
+    is "definitions of $crate said to have no row" '' \
         "$(comm -12 <(named "$without") <(words "${files[@]}") | comm -12 - "$room/defined")"
 done
 
@@ -65,7 +47,6 @@ done
 mapfile -t files < <(rows data_encoding; rows encoding_stream; rows basecode)
 named "$(sed -nE 's/^\| `.*\| (.*) \|$/\1/p' <<<"$tables")" >"$room/named"
 sed -nE 's/^([a-z_0-9]+) .*/\1/p' "${files[@]}" | sort -u >"$room/rows"
-none 'rows that are not there' "$(grep -nxvFf "$room/rows" "$room/named")"
+is 'rows that are not there' '' "$(grep -nxvFf "$room/rows" "$room/named")"
 
-echo "$passed passed, $failed failed"
-[ "$failed" = 0 ]
+finish

@@ -10,30 +10,11 @@
 # docs/CONTRACTS.md.
 #
 # usage: tests/examples.sh [PROGRAM]
-#
-# The last line is `N passed, M failed`.
-set -u
-cd "$(dirname "$0")/.." || exit 1
-export LC_ALL=C
+. "$(dirname "$0")/common.bash" || exit 1
 
 program=$(tests/find-program "$@") || exit 1
-room=$(mktemp -d)
-trap 'rm -rf "$room"' EXIT
-mkdir "$room/bin" "$room/home"
-ln -s "$program" "$room/bin/basecode"
-PATH=$room/bin:$PATH
-passed=0
-failed=0
-
-# is NAME WANTED GIVEN
-is() {
-    if [ "$2" = "$3" ]; then
-        passed=$((passed + 1))
-    else
-        failed=$((failed + 1))
-        printf 'FAILED: %s\n  wanted: %s\n  given: %s\n' "$1" "$2" "$3"
-    fi
-}
+name_program "$program"
+mkdir "$room/home"
 
 # try_examples PAGE BLOCK: a line end that a command doesn't print is not wanted.
 try_examples() {
@@ -121,6 +102,5 @@ while IFS= read -r -d '' block; do
 done < <(sed -n '/^\.EX$/,/^\.EE$/ { s/\\-/-/g; s/\\e/\\/g; s/^\.EE$/\x00/; /^\.EX$/d; p }' \
     crates/basecode/basecode.1)
 
-[ "$passed" -ge 20 ] || failed=$((failed + 1))
-echo "$passed passed, $failed failed"
-[ "$failed" = 0 ]
+[ "$passed" -ge 20 ] || fail 'the pages have fewer than 20 examples'
+finish

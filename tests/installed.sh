@@ -1,36 +1,14 @@
 #!/usr/bin/env bash
 # Installs the built program below a folder of its own, tries what was installed (program, manual
 # page, completions), and removes it again.
-#
-# Prints what failed and what was skipped. The last line is `N passed, M failed`.
-set -u
-cd "$(dirname "$0")/.." || exit 1
-export LC_ALL=C
+. "$(dirname "$0")/common.bash" || exit 1
 
 program=$(tests/find-program) || exit 1
 install=$(realpath crates/basecode/install.sh)
-room=$(mktemp -d)
-trap 'rm -rf "$room"' EXIT
 cd "$room" || exit 1
-passed=0
-failed=0
-
-skip() {
-    echo "skipped: $1"
-}
-
-# is NAME WANTED GIVEN
-is() {
-    if [ "$2" = "$3" ]; then
-        passed=$((passed + 1))
-    else
-        failed=$((failed + 1))
-        printf 'FAILED: %s\n  wanted: %s\n  given: %s\n' "$1" "$2" "$3"
-    fi
-}
 
 files() {
-    find prefix -type f -printf '%m %P\n' | LC_ALL=C sort -k 2
+    find prefix -type f -printf '%m %P\n' | sort -k 2
 }
 
 wanted='755 bin/basecode
@@ -46,8 +24,7 @@ is 'the files' "$wanted" "$(files)"
 "$install" "$room/prefix"
 is 'installs anew' 0 $?
 is 'the files again' "$wanted" "$(files)"
-cmp "$program" prefix/bin/basecode
-is 'the program' 0 $?
+holds 'the program' cmp "$program" prefix/bin/basecode
 names=$("$program" list)
 PATH=$room/prefix/bin:$PATH
 
@@ -119,5 +96,4 @@ is 'no folder' 2 $?
 "$install" one other 2>/dev/null
 is 'too many words' 2 $?
 
-echo "$passed passed, $failed failed"
-[ "$failed" = 0 ]
+finish

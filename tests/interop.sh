@@ -3,38 +3,18 @@
 # parts, as docs/SCALE.md cuts them.
 #
 # usage: tests/interop.sh [PROGRAM]
-#
-# Prints what failed and what was skipped. The last line is `N passed, M skipped`.
-set -u
-cd "$(dirname "$0")/.." || exit 1
-export LC_ALL=C
+. "$(dirname "$0")/common.bash" || exit 1
 
 program=$(tests/find-program "$@") || exit 1
 tables=$(realpath docs/COMING_FROM.md)
 scale=$(realpath docs/SCALE.md)
-room=$(mktemp -d)
-trap 'rm -rf "$room"' EXIT
+name_program "$program"
 cd "$room" || exit 1
-mkdir bin inputs parts
-ln -s "$program" bin/basecode
-PATH=$room/bin:$PATH
-passed=0
-skipped=0
-failed=0
-
-fail() {
-    failed=$((failed + 1))
-    echo "FAILED: $1"
-}
-
-skip() {
-    skipped=$((skipped + 1))
-    echo "skipped: $1"
-}
+mkdir inputs parts
 
 # same NAME ONE OTHER: counts a test, which passes where the two files are the same.
 same() {
-    if cmp "$2" "$3" >&2; then passed=$((passed + 1)); else fail "$1"; fi
+    holds "$1" cmp "$2" "$3"
 }
 
 for size in 0 1 2 3 57 58 10240; do
@@ -168,6 +148,4 @@ for name in $(basecode list); do
     esac
 done
 
-if [ "$failed" != 0 ]; then echo "$failed failed"; fi
-echo "$passed passed, $skipped skipped"
-[ "$failed" = 0 ]
+finish

@@ -2,35 +2,11 @@
 # Runs the built program from outside: its words, exit statuses and lines, and streams that fail.
 #
 # usage: tests/program.sh [PROGRAM]
-#
-# Prints what failed and what was skipped. The last line is `N passed, M failed`.
-set -u
-cd "$(dirname "$0")/.." || exit 1
-export LC_ALL=C
+. "$(dirname "$0")/common.bash" || exit 1
 
 program=$(tests/find-program "$@") || exit 1
-room=$(mktemp -d)
-trap 'rm -rf "$room"' EXIT
 cd "$room" || exit 1
-passed=0
-failed=0
 usage='basecode: usage: basecode list OR encode NAME OR decode NAME OR canonical NAME'
-
-# count NAME CONDITION..: counts a test, which passes where the command of its condition does.
-count() {
-    local name=$1
-    shift
-    if "$@" >&2; then
-        passed=$((passed + 1))
-    else
-        failed=$((failed + 1))
-        echo "FAILED: $name"
-    fi
-}
-
-skip() {
-    echo "skipped: $1"
-}
 
 # is_run STATUS OUTPUT LINE: whether the last run ended, wrote and printed so. A line ends in LF.
 is_run() {
@@ -47,7 +23,7 @@ check() {
     shift 5
     "$program" "$@" <input >output 2>line
     status=$?
-    count "$name" is_run "$wanted" "$text" "$line"
+    holds "$name" is_run "$wanted" "$text" "$line"
 }
 
 check 'encodes' 0 48656c6c6f '' 'Hello' encode HEXLOWER
@@ -110,13 +86,13 @@ sys.exit(here.recv(1) != b"")' "$program" "$@" <input >line || { echo '  more wr
 
 if command -v python3 >/dev/null; then
     printf 4G >input
-    count 'a fault in one write' one_write 'basecode: invalid symbol at 1' decode HEXLOWER
-    count 'the usage in one write' one_write "$usage" recode NOPE
-    count 'a name in one write' one_write 'basecode: unknown encoding: NOPE' decode NOPE
-    count 'no memory in one write' one_write 'basecode: out of memory' encode $'\xff'
+    holds 'a fault in one write' one_write 'basecode: invalid symbol at 1' decode HEXLOWER
+    holds 'the usage in one write' one_write "$usage" recode NOPE
+    holds 'a name in one write' one_write 'basecode: unknown encoding: NOPE' decode NOPE
+    holds 'no memory in one write' one_write 'basecode: out of memory' encode $'\xff'
     # With 28 bytes before the name and LF behind it, the line has 4096 bytes.
     name=${long::4067}
-    count '4096 bytes in one write' one_write "basecode: unknown encoding: $name" decode "$name"
+    holds '4096 bytes in one write' one_write "basecode: unknown encoding: $name" decode "$name"
 else
     skip 'lines in one write: no python3'
 fi
@@ -124,12 +100,12 @@ fi
 # Wrong words read nothing: the next command has the whole input.
 printf Hello >input
 { "$program" recode HEXLOWER 2>line; status=$?; cat; } <input >output
-count 'wrong words read nothing' is_run 2 Hello "$usage"
+holds 'wrong words read nothing' is_run 2 Hello "$usage"
 
 # Neither does a list, nor a question.
 for words in list 'canonical BASE32_NOPAD'; do
     { "$program" $words >answer 2>line; status=$?; cat; } <input >output
-    count "$words reads nothing" is_run 0 Hello ''
+    holds "$words reads nothing" is_run 0 Hello ''
 done
 
 # An input that comes in pieces is one input.
@@ -137,47 +113,47 @@ done
 { printf 4; sleep 0.2; printf 86; sleep 0.2; printf 5; } |
     { "$program" decode HEXLOWER >output 2>line; echo $? >status; }
 status=$(cat status)
-count 'an input in pieces' is_run 0 He ''
+holds 'an input in pieces' is_run 0 He ''
 
 # A directory can't be read.
 "$program" encode HEXLOWER <. >output 2>line
 status=$?
-count 'a directory as input' is_run 3 '' 'basecode: read failed'
+holds 'a directory as input' is_run 3 '' 'basecode: read failed'
 
 "$program" encode HEXLOWER <&- >output 2>line
 status=$?
-count 'a closed input' is_run 3 '' 'basecode: read failed'
+holds 'a closed input' is_run 3 '' 'basecode: read failed'
 
 : >output
 "$program" encode HEXLOWER <input >&- 2>line
 status=$?
-count 'a closed output' is_run 3 '' 'basecode: write failed'
+holds 'a closed output' is_run 3 '' 'basecode: write failed'
 
 # What can't be printed changes no status.
 printf 4G >input
 : >line
 "$program" decode HEXLOWER <input >output 2>&-
 status=$?
-count 'a fault, and a closed place for its line' is_run 1 '' ''
+holds 'a fault, and a closed place for its line' is_run 1 '' ''
 
 if [ -c /dev/full ]; then
     printf Hello >input
     : >output
     "$program" encode HEXLOWER <input >/dev/full 2>line
     status=$?
-    count 'a full disk' is_run 3 '' 'basecode: write failed'
+    holds 'a full disk' is_run 3 '' 'basecode: write failed'
     printf 4G >input
     : >line
     "$program" decode HEXLOWER <input >output 2>/dev/full
     status=$?
-    count 'a fault, and a full disk for its line' is_run 1 '' ''
+    holds 'a fault, and a full disk for its line' is_run 1 '' ''
     "$program" encode HEXLOWER <input >/dev/full 2>/dev/full
     status=$?
-    count 'a full disk for the answer and the line' is_run 3 '' ''
+    holds 'a full disk for the answer and the line' is_run 3 '' ''
     : >output
     "$program" list >/dev/full 2>line
     status=$?
-    count 'a full disk for the names' is_run 3 '' 'basecode: write failed'
+    holds 'a full disk for the names' is_run 3 '' 'basecode: write failed'
 else
     skip 'a full disk: no /dev/full'
 fi
@@ -191,7 +167,7 @@ if command -v mkfifo >/dev/null; then
     "$program" encode HEXLOWER <input >&4 2>line
     status=$?
     exec 4>&-
-    count 'a closed pipe' is_run 3 '' 'basecode: write failed'
+    holds 'a closed pipe' is_run 3 '' 'basecode: write failed'
 else
     skip 'a closed pipe: no mkfifo'
 fi
@@ -201,24 +177,24 @@ head -c 67108864 /dev/urandom >input
 "$program" encode HEXLOWER <input >text 2>line
 status=$?
 : >output
-count 'encodes 64 MiB' is_run 0 '' ''
+holds 'encodes 64 MiB' is_run 0 '' ''
 if command -v xxd >/dev/null; then
     xxd -p input | tr -d '\n' >wanted.text
-    count '64 MiB as xxd encodes them' cmp text wanted.text
+    holds '64 MiB as xxd encodes them' cmp text wanted.text
 else
     skip '64 MiB as xxd encodes them: no xxd'
 fi
 "$program" decode HEXLOWER <text >back 2>line
 status=$?
-count 'decodes 128 MiB' is_run 0 '' ''
-count '64 MiB come back' cmp input back
+holds 'decodes 128 MiB' is_run 0 '' ''
+holds '64 MiB come back' cmp input back
 
 # What stands before a fault is written, however long.
 { cat text; printf 4G; } | { "$program" decode HEXLOWER >back 2>line; echo $? >status; }
 status=$(cat status)
 : >output
-count 'a fault behind 128 MiB' is_run 1 '' 'basecode: invalid symbol at 134217729'
-count 'and 64 MiB before it' cmp input back
+holds 'a fault behind 128 MiB' is_run 1 '' 'basecode: invalid symbol at 134217729'
+holds 'and 64 MiB before it' cmp input back
 
 # Neither encoding nor decoding takes memory.
 if (ulimit -v 98304 && "$program" decode HEXLOWER </dev/null >output 2>line); then
@@ -227,12 +203,11 @@ if (ulimit -v 98304 && "$program" decode HEXLOWER </dev/null >output 2>line); th
         (ulimit -v 98304 && "$program" "$verb" HEXLOWER <"$given" >again 2>line)
         status=$?
         : >output
-        count "$verb of a long input in little memory" is_run 0 '' ''
-        count "the whole output of $verb" cmp "$wanted" again
+        holds "$verb of a long input in little memory" is_run 0 '' ''
+        holds "the whole output of $verb" cmp "$wanted" again
     done
 else
     skip 'little memory: no limit on memory here'
 fi
 
-echo "$passed passed, $failed failed"
-[ "$failed" = 0 ]
+finish

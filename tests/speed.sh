@@ -3,24 +3,7 @@
 # are not judged.
 #
 # usage: tests/speed.sh
-#
-# The last line is `N passed, M failed`.
-set -u
-cd "$(dirname "$0")/.." || exit 1
-export LC_ALL=C
-
-passed=0
-failed=0
-
-# is NAME WANTED GIVEN
-is() {
-    if [ "$2" = "$3" ]; then
-        passed=$((passed + 1))
-    else
-        failed=$((failed + 1))
-        printf 'FAILED: %s\n  wanted: %s\n  given: %s\n' "$1" "$2" "$3"
-    fi
-}
+. "$(dirname "$0")/common.bash" || exit 1
 
 table=$(benches/speed 1)
 is 'measures' 0 $?
@@ -46,5 +29,4 @@ rows() {
 }
 is 'the rows of README.md' "$(rows <<<"$table")" "$(rows <README.md)"
 
-echo "$passed passed, $failed failed"
-[ "$failed" = 0 ]
+finish

@@ -1,0 +1,55 @@
+# What the tests of this folder share: each reads it first, and ends with `finish`.
+#
+# A test begins at the top of the repository. "$room" is a folder of its own, which is removed when
+# it ends. A test that fails or is skipped is printed; the last line is `N passed, M failed`.
+set -u
+cd "$(dirname "${BASH_SOURCE[0]}")/.." || exit 1
+export LC_ALL=C
+
+room=$(mktemp -d) || exit 1
+trap 'rm -rf "$room"' EXIT
+passed=0
+failed=0
+
+pass() {
+    passed=$((passed + 1))
+}
+
+fail() {
+    failed=$((failed + 1))
+    echo "FAILED: $1"
+}
+
+skip() {
+    echo "skipped: $1"
+}
+
+# is NAME WANTED GIVEN: counts a test, which passes where the two words are the same.
+is() {
+    if [ "$2" = "$3" ]; then
+        pass
+    else
+        fail "$1"
+        printf '  wanted: %s\n  given: %s\n' "$2" "$3"
+    fi
+}
+
+# holds NAME COMMAND..: counts a test, which passes where the command does.
+holds() {
+    local name=$1
+    shift
+    if "$@" >&2; then pass; else fail "$name"; fi
+}
+
+# name_program PROGRAM: commands find it as `basecode`.
+name_program() {
+    mkdir "$room/bin"
+    ln -s "$1" "$room/bin/basecode"
+    PATH=$room/bin:$PATH
+}
+
+finish() {
+    echo "$passed passed, $failed failed"
+    [ "$failed" = 0 ]
+    exit
+}
