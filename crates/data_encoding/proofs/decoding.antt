@@ -12,6 +12,7 @@ pub mod CutLemmas
 pub mod SoundRunLemmas
 pub mod LastRunLemmas
 pub mod LoopLemmas
+pub mod StepLemmas
 pub mod ReadLemmas
 pub mod ResumeLemmas
 pub mod PieceLemmas

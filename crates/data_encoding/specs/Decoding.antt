@@ -1,5 +1,6 @@
 -- What the parts of a decoding promise: a run of whole groups, the next group, and its judgement.
 use Rattle.std.specs.Prelude.{◌≡◌, ℕ, ◌+◌, ◌-◌, ◌*◌, ◌/◌, ◌%◌, ◌<◌, ◌≤◌, ◌⊎◌, ◌&&◌, not, nat_lt, Bool, true, false, List, [], ◌∷◌, length, map, take, drop, flat_map, if◌then◌else◌, Some, None, is_some, slice_index}
+use Rattle.data_encoding.specs.declared.encoding.BitOrder.{BitOrder}
 use Rattle.data_encoding.specs.declared.error.DecodePartial.{DecodePartial}
 use Rattle.data_encoding.specs.declared.decode.Stop.{Stop}
 use Rattle.data_encoding.specs.declared.group.GroupFault.{GroupFault}
@@ -8,6 +9,7 @@ use Rattle.data_encoding.specs.Bits.{runs}
 use Rattle.data_encoding.specs.Grammar.{Positioned, Means, groups, kept, kept_from, positioned, is_final}
 use Rattle.data_encoding.specs.Lengths.{greatest_valid_length, is_valid_count}
 use Rattle.data_encoding.specs.Fault.{bytes_of_group, count_before_padding, fault_after, fault_of, group_fault, position_of, sound_bytes, symbols_fault}
+use Rattle.data_encoding.specs.Tables.{Reads}
 use Rattle.data_encoding.specs.Partial.{StopsAt, is_length_fault, position_after}
 
 -- So many whole groups in a row, from the front of a part of a text, are symbols alone; their bytes
@@ -28,6 +30,16 @@ IsLongest base part count =
     → ((k : ℕ) → k < group_symbols base.width
     → is_symbol (meaning base (slice_index part (count * group_symbols base.width + k))) ≡ true)
     → false ≡ true
+
+-- A run, by each base that decodes with such a table.
+abbrev pub IsRunBy : List ℕ → ℕ → BitOrder → List ℕ → ℕ → List ℕ → List ℕ → Type 0
+IsRunBy values width order part count old new =
+    (base : Base) → Reads base values width order → IsRun base part count old new
+
+-- The longest run, by each base that decodes with such a table.
+abbrev pub IsLongestBy : List ℕ → ℕ → BitOrder → List ℕ → ℕ → Type 0
+IsLongestBy values width order part count =
+    (base : Base) → Reads base values width order → IsLongest base part count
 
 -- No group has a fault, after a final one or none; whether the last one is final.
 abbrev pub AreSound : Base → Bool → List (List Positioned) → Bool → Type 0

@@ -5,6 +5,7 @@ use Rattle.data_encoding.specs.declared.encoding.BitOrder.{BitOrder}
 use Rattle.data_encoding.specs.declared.entries.Tables.{Tables}
 use Rattle.data_encoding.specs.Base.{Base, IsWidth, meaning, symbol, group_bytes, group_symbols, is_symbol, is_padding, is_ignored}
 use Rattle.data_encoding.specs.Entries.{meaning_of_entry}
+use Rattle.data_encoding.specs.Text.{plain_text}
 
 -- They have the symbols, the meanings and the padding character of the base.
 pub record HasTables (base : Base) (tables : Tables) : Type 0 where
@@ -44,3 +45,14 @@ pub record Writes (base : Base) (symbols : List ℕ) (width : ℕ) (order : BitO
   pub width_is : base.width ≡ width
   pub order_is : base.order ≡ order
   pub holds : HoldsSymbols base symbols
+
+-- What decodes with such a table, width and order.
+pub record Reads (base : Base) (values : List ℕ) (width : ℕ) (order : BitOrder) : Type 0 where
+  pub width_is : base.width ≡ width
+  pub order_is : base.order ≡ order
+  pub holds : HoldsValues base values
+
+-- The output is the text of the input, by each base that encodes with such a table.
+abbrev pub IsTextBy : List ℕ → ℕ → BitOrder → List ℕ → List ℕ → Type 0
+IsTextBy symbols width order input output =
+    (base : Base) → Writes base symbols width order → output ≡ plain_text base input

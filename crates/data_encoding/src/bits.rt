@@ -5,8 +5,7 @@ ghost use Rattle.std.specs.List.{range_with_len};
 ghost use Rattle.data_encoding.specs.Base.{Base};
 ghost use Rattle.data_encoding.specs.Fault.{bytes_of_group};
 ghost use Rattle.data_encoding.specs.Grammar.{Positioned};
-ghost use Rattle.data_encoding.specs.Tables.{IsGroup, HoldsSymbols, HoldsValues};
-ghost use Rattle.data_encoding.specs.Text.{plain_text};
+ghost use Rattle.data_encoding.specs.Tables.{IsGroup, IsTextBy, Reads};
 ghost use Rattle.data_encoding.specs.Words.{weight, digit, low_byte, word_of};
 
 use crate::encoding::BitOrder;
@@ -113,8 +112,7 @@ pub(crate) fn encode_group<const WIDTH: usize, const BYTES: usize, const SYMBOLS
     requires group { IsGroup WIDTH BYTES SYMBOLS }
     requires few { length input.now ≤ BYTES }
     requires exact { length output.old ≡ (8 * length input.now + (WIDTH - 1)) / WIDTH }
-    ensures text { (base : Base) → base.width ≡ WIDTH → base.order ≡ order
-        → HoldsSymbols base symbols.now → output.new ≡ plain_text base input.now }
+    ensures text { IsTextBy symbols.now WIDTH order input.now output.new }
 {
     let word = word_of_bytes::<BYTES>(order, input);
     symbols_of_word::<WIDTH, SYMBOLS>(symbols, order, word, output);
@@ -132,9 +130,8 @@ pub(crate) fn encode_group_at<const WIDTH: usize, const BYTES: usize, const SYMB
     requires group { IsGroup WIDTH BYTES SYMBOLS }
     requires inside { start + BYTES ≤ length input.now }
     requires exact { length output.old ≡ SYMBOLS }
-    ensures text { (base : Base) → base.width ≡ WIDTH → base.order ≡ order
-        → HoldsSymbols base symbols.now
-        → output.new ≡ plain_text base (take BYTES (drop start input.now)) }
+    ensures text { IsTextBy symbols.now WIDTH order (take BYTES (drop start input.now))
+        output.new }
 {
     let word = word_at::<BYTES>(order, input, start);
     symbols_of_word::<WIDTH, SYMBOLS>(symbols, order, word, output);
@@ -227,8 +224,8 @@ pub(crate) fn decode_entries<const WIDTH: usize, const BYTES: usize, const SYMBO
     requires exact { length output.old ≡ WIDTH * length input.now / 8 }
     ensures symbols { (result < 128) ↔ ((k : ℕ) → k < length input.now
         → slice_index values.now (slice_index input.now k) < 128) }
-    ensures bytes { (base : Base) (ks : List Positioned) → base.width ≡ WIDTH → base.order ≡ order
-        → HoldsValues base values.now → map (λ k. k.byte) ks ≡ input.now → result < 128
+    ensures bytes { (base : Base) (ks : List Positioned) → Reads base values.now WIDTH order
+        → map (λ k. k.byte) ks ≡ input.now → result < 128
         → output.new ≡ bytes_of_group base ks }
 {
     let (word, entries) = word_of_symbols::<WIDTH, SYMBOLS>(values, order, input);
@@ -251,8 +248,8 @@ pub(crate) fn decode_symbols<const WIDTH: usize, const BYTES: usize, const SYMBO
     requires exact { length output.old ≡ WIDTH * length input.now / 8 }
     ensures symbols { IsTrue result ↔ ((k : ℕ) → k < length input.now
         → slice_index values.now (slice_index input.now k) < 128) }
-    ensures bytes { (base : Base) (ks : List Positioned) → base.width ≡ WIDTH → base.order ≡ order
-        → HoldsValues base values.now → map (λ k. k.byte) ks ≡ input.now → IsTrue result
+    ensures bytes { (base : Base) (ks : List Positioned) → Reads base values.now WIDTH order
+        → map (λ k. k.byte) ks ≡ input.now → IsTrue result
         → output.new ≡ bytes_of_group base ks }
 {
     let entries = match order {

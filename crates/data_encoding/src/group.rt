@@ -7,7 +7,7 @@ ghost use Rattle.data_encoding.specs.Decoding.{HasFault, HasSymbols, IsDecodedGr
 ghost use Rattle.data_encoding.specs.Fault.{count_before_padding, trailing_bits};
 ghost use Rattle.data_encoding.specs.Grammar.{Positioned, positioned};
 ghost use Rattle.data_encoding.specs.Lengths.{is_valid_count};
-ghost use Rattle.data_encoding.specs.Tables.{HoldsValues, IsGroup};
+ghost use Rattle.data_encoding.specs.Tables.{HoldsValues, IsGroup, Reads};
 
 use crate::bits::{decode_symbols, symbol_position};
 use crate::encoding::{BitOrder, Encoding, PADDING};
@@ -124,8 +124,8 @@ fn has_trailing<const WIDTH: usize>(values: &[u8; 256], order: BitOrder, symbols
     requires symbols { (k : ℕ) → k < length symbols.now
         → slice_index values.now (slice_index symbols.now k) < 128 }
     requires valid { is_valid_count WIDTH (length symbols.now) ≡ true }
-    ensures any { (base : Base) (ks : List Positioned) → base.width ≡ WIDTH → base.order ≡ order
-        → HoldsValues base values.now → map (λ k. k.byte) ks ≡ symbols.now
+    ensures any { (base : Base) (ks : List Positioned) → Reads base values.now WIDTH order
+        → map (λ k. k.byte) ks ≡ symbols.now
         → result ≡ list_any (λ bit. not (bit == 0)) (trailing_bits base ks) }
     ensures some { IsTrue result → 0 < length symbols.now }
 {

@@ -3,9 +3,7 @@
 ghost use Rattle.std.specs.Prelude.{◌≡◌, ℕ, ◌+◌, ◌-◌, ◌*◌, ◌/◌, ◌^◌, ◌<◌, ◌≤◌, length, map, take, drop, slice_index, flat_map};
 ghost use Rattle.std.specs.List.{AllByRecursion, range_with_len};
 ghost use Rattle.std.specs.Simd.Lanes.{number_l};
-ghost use Rattle.data_encoding.specs.Base.{Base};
-ghost use Rattle.data_encoding.specs.Tables.{Writes};
-ghost use Rattle.data_encoding.specs.Text.{plain_text};
+ghost use Rattle.data_encoding.specs.Tables.{IsTextBy};
 ghost use Rattle.data_encoding.specs.Words.{digit, word_of};
 ghost use Rattle.data_encoding.specs.declared.encoding.BitOrder.TheVariants.{MostSignificantFirst, LeastSignificantFirst};
 
@@ -117,8 +115,7 @@ fn look_up(symbols: &[u8; 256], values: u8x16) -> u8x16
 pub(crate) fn encode_twelve(symbols: &[u8; 256], order: BitOrder, input: &[u8], output: &mut [u8])
     requires bytes { 16 ≤ length input.now }
     requires exact { length output.old ≡ 16 }
-    ensures { (base : Base) → Writes base symbols.now 6 order
-        → output.new ≡ plain_text base (take 12 input.now) }
+    ensures { IsTextBy symbols.now 6 order (take 12 input.now) output.new }
 {
     look_up(symbols, digits(order, words(order, input))).copy_to_slice(output);
 }

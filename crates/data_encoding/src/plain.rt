@@ -1,9 +1,7 @@
 //! The symbols of data, group after group.
 
 ghost use Rattle.std.specs.Prelude.{◌≡◌, ◌+◌, ◌-◌, ◌*◌, ◌/◌, ◌<◌, ◌≤◌, length, take};
-ghost use Rattle.data_encoding.specs.Base.{Base};
-ghost use Rattle.data_encoding.specs.Tables.{IsGroup, Writes};
-ghost use Rattle.data_encoding.specs.Text.{plain_text};
+ghost use Rattle.data_encoding.specs.Tables.{IsGroup, IsTextBy};
 
 use crate::bits::{encode_group, encode_group_at};
 use crate::encode::ENCODE_LIMIT;
@@ -21,8 +19,7 @@ pub(crate) fn encode_by_fours<const WIDTH: usize, const BYTES: usize, const SYMB
     requires group { IsGroup WIDTH BYTES SYMBOLS }
     requires limit { length input.now ≤ ENCODE_LIMIT }
     requires exact { length output.old ≡ (8 * length input.now + (WIDTH - 1)) / WIDTH }
-    ensures { (base : Base) → Writes base symbols.now WIDTH order
-        → output.new ≡ plain_text base input.now }
+    ensures { IsTextBy symbols.now WIDTH order input.now output.new }
 {
     let count = encode_by_lanes::<WIDTH, BYTES, SYMBOLS>(symbols, order, input, output);
     encode_without_lanes::<WIDTH, BYTES, SYMBOLS>(
@@ -46,9 +43,8 @@ fn encode_by_lanes<const WIDTH: usize, const BYTES: usize, const SYMBOLS: usize>
     requires exact { length output.old ≡ (8 * length input.now + (WIDTH - 1)) / WIDTH }
     ensures within { result * (4 * BYTES) ≤ length input.now }
     ensures reach { WIDTH ≡ 6 → length input.now < result * 12 + 16 }
-    ensures text { (base : Base) → Writes base symbols.now WIDTH order
-        → take (result * (4 * SYMBOLS)) output.new
-        ≡ plain_text base (take (result * (4 * BYTES)) input.now) }
+    ensures text { IsTextBy symbols.now WIDTH order (take (result * (4 * BYTES)) input.now)
+        (take (result * (4 * SYMBOLS)) output.new) }
 {
     if WIDTH != 6 {
         return 0;
@@ -78,8 +74,7 @@ fn encode_without_lanes<const WIDTH: usize, const BYTES: usize, const SYMBOLS: u
     requires group { IsGroup WIDTH BYTES SYMBOLS }
     requires limit { length input.now ≤ ENCODE_LIMIT }
     requires exact { length output.old ≡ (8 * length input.now + (WIDTH - 1)) / WIDTH }
-    ensures { (base : Base) → Writes base symbols.now WIDTH order
-        → output.new ≡ plain_text base input.now }
+    ensures { IsTextBy symbols.now WIDTH order input.now output.new }
 {
     let read_len = 4 * BYTES;
     let written_len = 4 * SYMBOLS;
@@ -114,8 +109,7 @@ fn encode_four_groups<const WIDTH: usize, const BYTES: usize, const SYMBOLS: usi
     requires group { IsGroup WIDTH BYTES SYMBOLS }
     requires bytes { length input.now ≡ 4 * BYTES }
     requires exact { length output.old ≡ 4 * SYMBOLS }
-    ensures { (base : Base) → Writes base symbols.now WIDTH order
-        → output.new ≡ plain_text base input.now }
+    ensures { IsTextBy symbols.now WIDTH order input.now output.new }
 {
     for index in 0..4 {
         let written = index * SYMBOLS;
@@ -141,8 +135,7 @@ fn encode_groups<const WIDTH: usize, const BYTES: usize, const SYMBOLS: usize>(
     requires group { IsGroup WIDTH BYTES SYMBOLS }
     requires limit { length input.now ≤ ENCODE_LIMIT }
     requires exact { length output.old ≡ (8 * length input.now + (WIDTH - 1)) / WIDTH }
-    ensures { (base : Base) → Writes base symbols.now WIDTH order
-        → output.new ≡ plain_text base input.now }
+    ensures { IsTextBy symbols.now WIDTH order input.now output.new }
 {
     let count = input.len() / BYTES;
     for index in 0..count {

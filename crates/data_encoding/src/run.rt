@@ -1,9 +1,8 @@
 //! Runs of whole groups that are symbols alone, decoded without a judgement.
 
-ghost use Rattle.std.specs.Prelude.{◌≡◌, ℕ, ◌*◌, ◌/◌, ◌≤◌, length, IsTrue};
-ghost use Rattle.data_encoding.specs.Base.{Base};
-ghost use Rattle.data_encoding.specs.Decoding.{IsLongest, IsRun};
-ghost use Rattle.data_encoding.specs.Tables.{HoldsValues, IsGroup};
+ghost use Rattle.std.specs.Prelude.{◌≡◌, ◌*◌, ◌/◌, ◌≤◌, length, IsTrue};
+ghost use Rattle.data_encoding.specs.Decoding.{IsLongestBy, IsRunBy};
+ghost use Rattle.data_encoding.specs.Tables.{IsGroup};
 
 use crate::bits::{decode_entries, decode_symbols, entry_of};
 use crate::encoding::BitOrder;
@@ -21,10 +20,8 @@ pub(crate) fn decode_run<const WIDTH: usize, const BYTES: usize, const SYMBOLS: 
 ) -> usize
     requires group { IsGroup WIDTH BYTES SYMBOLS }
     requires room { length input.now / SYMBOLS * BYTES ≤ length output.old }
-    ensures run { (base : Base) → base.width ≡ WIDTH → base.order ≡ order
-        → HoldsValues base values.now → IsRun base input.now result output.old output.new }
-    ensures longest { (base : Base) → base.width ≡ WIDTH → HoldsValues base values.now
-        → IsLongest base input.now result }
+    ensures run { IsRunBy values.now WIDTH order input.now result output.old output.new }
+    ensures longest { IsLongestBy values.now WIDTH order input.now result }
     ensures within { result * SYMBOLS ≤ length input.now }
 {
     match order {
@@ -54,10 +51,8 @@ fn decode_groups<const WIDTH: usize, const BYTES: usize, const SYMBOLS: usize>(
 ) -> usize
     requires group { IsGroup WIDTH BYTES SYMBOLS }
     requires room { length input.now / SYMBOLS * BYTES ≤ length output.old }
-    ensures run { (base : Base) → base.width ≡ WIDTH → base.order ≡ order
-        → HoldsValues base values.now → IsRun base input.now result output.old output.new }
-    ensures longest { (base : Base) → base.width ≡ WIDTH → HoldsValues base values.now
-        → IsLongest base input.now result }
+    ensures run { IsRunBy values.now WIDTH order input.now result output.old output.new }
+    ensures longest { IsLongestBy values.now WIDTH order input.now result }
     ensures within { result ≤ length input.now / SYMBOLS }
 {
     let count = input.len() / SYMBOLS;
@@ -87,8 +82,7 @@ fn decode_by_fours<const WIDTH: usize, const BYTES: usize, const SYMBOLS: usize>
 ) -> usize
     requires group { IsGroup WIDTH BYTES SYMBOLS }
     requires room { length input.now / SYMBOLS * BYTES ≤ length output.old }
-    ensures run { (base : Base) → base.width ≡ WIDTH → base.order ≡ order
-        → HoldsValues base values.now → IsRun base input.now result output.old output.new }
+    ensures run { IsRunBy values.now WIDTH order input.now result output.old output.new }
     ensures within { result ≤ length input.now / SYMBOLS }
 {
     let count = input.len() / SYMBOLS / 4;
@@ -122,8 +116,8 @@ fn decode_four_groups<const WIDTH: usize, const BYTES: usize, const SYMBOLS: usi
     requires group { IsGroup WIDTH BYTES SYMBOLS }
     requires symbols { length input.now ≡ 4 * SYMBOLS }
     requires exact { length output.old ≡ 4 * BYTES }
-    ensures { IsTrue result → (base : Base) → base.width ≡ WIDTH → base.order ≡ order
-        → HoldsValues base values.now → IsRun base input.now 4 output.old output.new }
+    ensures { IsTrue result
+        → IsRunBy values.now WIDTH order input.now 4 output.old output.new }
 {
     let mut all = 0;
     for index in 0..4 {

@@ -13,7 +13,7 @@ use Rattle.data_encoding.specs.Base.{Base, meaning, symbol, value_of}
 use Rattle.data_encoding.specs.Bits.{bits_of, number_of, bits_of_bytes, missing, runs}
 use Rattle.data_encoding.specs.Fault.{bytes_of_group}
 use Rattle.data_encoding.specs.Grammar.{Positioned}
-use Rattle.data_encoding.specs.Tables.{HoldsSymbols, HoldsValues, IsGroup}
+use Rattle.data_encoding.specs.Tables.{HoldsValues, IsGroup, Reads, Writes}
 use Rattle.data_encoding.specs.Text.{plain_text}
 use Rattle.data_encoding.specs.Words.{digit, low_byte, weight, zeros_to, word_of}
 use Rattle.data_encoding.proofs.digits.BitLemmas.{AreBits, AreBits-flat_map, AreBits-bits_of}
@@ -130,16 +130,17 @@ group_same_bits width bytes count group =
 -- the same of a base
 pub plain_text-word : (base : Base) (order : BitOrder) (width bytes count : ℕ)
     (symbols input : List ℕ) → IsGroup width bytes count → length input ≤ bytes
-    → base.width ≡ width → base.order ≡ order → HoldsSymbols base symbols
+    → Writes base symbols width order
     → map (λ k. slice_index symbols (low_byte order width count (word_of order 8 bytes input) k))
     (range_with_len 0 ((8 * length input + (width - 1)) / width))
     ≡ plain_text base input
-plain_text-word base order width bytes count symbols input group few w o holds =
+plain_text-word base order width bytes count symbols input group few writes =
     let same = group_same_bits width bytes count group in
     text_by-word base order width bytes count symbols input group.is_width.some same few
     (subst (λ m. (byte : ℕ) → byte < 256 → symbol base (byte % 2 ^ m) ≡ slice_index symbols byte)
-    w holds.at_byte) (omega (arith, group.is_width.few))
-    ∙ sym (λ i. text_by base (w i) (o i) (bits_of_bytes (o i) input))
+    writes.width_is writes.holds.at_byte) (omega (arith, group.is_width.few))
+    ∙ sym (λ i. text_by base (writes.width_is i) (writes.order_is i)
+    (bits_of_bytes (writes.order_is i) input))
 
 -- the bytes of the bits of values
 abbrev bytes_by : BitOrder → ℕ → List ℕ → List ℕ
@@ -199,26 +200,24 @@ pub bytes_of_group-word : (base : Base) (order : BitOrder) (width bytes count n 
     → length input ≤ count → n ≡ width * length input / 8
     → ((k : ℕ) → slice_index input k < 256)
     → ((k : ℕ) → k < length input → slice_index values (slice_index input k) < 128)
-    → base.width ≡ width → base.order ≡ order → HoldsValues base values
-    → map (λ (p : Positioned). p.byte) ks ≡ input
+    → Reads base values width order → map (λ (p : Positioned). p.byte) ks ≡ input
     → map (digit order 8 bytes (word_of order width count (map (slice_index values) input)))
     (range_with_len 0 n)
     ≡ bytes_of_group base ks
-bytes_of_group-word base order width bytes count n values input ks group few is fits low w o holds
-    e =
+bytes_of_group-word base order width bytes count n values input ks group few is fits low reads e =
     let same = group_same_bits width bytes count group in
     let len : length (map (slice_index values) input) ≡ length input =
     length-map input (slice_index values) in
     let found : filter_map (λ (k : Positioned). value_of (meaning base k.byte)) ks
     ≡ map (slice_index values) input =
-    values_in-table base values ks holds
+    values_in-table base values ks reads.holds
     (subst (λ l. (k : ℕ) → slice_index l k < 256) (sym e) fits)
     (subst (λ l. (k : ℕ) → k < length l → slice_index values (slice_index l k) < 128) (sym e)
     low)
     ∙ ap (map (slice_index values)) e in
     bytes_by-word order width bytes count n (map (slice_index values) input) same (omega arith)
     (is ∙ ap (λ m. width * m / 8) (sym len))
-    ∙ sym (λ i. bytes_by (o i) (w i) (found i))
+    ∙ sym (λ i. bytes_by (reads.order_is i) (reads.width_is i) (found i))
 
 -- entries below 128 are values
 pub entries_below : (base : Base) (width : ℕ) (values input : List ℕ)

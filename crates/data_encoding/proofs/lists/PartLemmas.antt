@@ -89,6 +89,10 @@ fours-before n size i h =
     let few : 4 * i + 4 ≤ n = omega (arith, h, groups-within n 4) in
     omega (arith, next, mul-le-mul_right size few)
 
+pub four-groups-before : (n size i : ℕ) → i < n / size / 4 → 4 * i * size + 4 * size ≤ n
+four-groups-before n size i h =
+    omega (arith, fours-before (n / size) size i h, groups-within n size)
+
 -- one of four parts ends before the end
 pub part-of-four : (n size i : ℕ) → n ≡ 4 * size → i < 4 → i * size + size ≤ n
 part-of-four n size i e h =

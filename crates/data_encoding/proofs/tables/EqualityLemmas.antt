@@ -1,5 +1,5 @@
 -- Two encodings with one base have the same tables.
-use Rattle.std.proofs.Common.{◌≡◌, ℕ, zero, suc, ◌/◌, ◌^◌, ◌==◌, Bool, true, false, ◌&&◌, List, map, take, replicate, Option, Some, None, refl, sym, ap, ◌∙◌, subst}
+use Rattle.std.proofs.Common.{◌≡◌, ℕ, zero, suc, ◌/◌, ◌^◌, ◌==◌, Bool, ◌&&◌, List, map, take, replicate, Option, Some, None, refl, sym, ap, ◌∙◌, subst}
 use Rattle.std.proofs.Math.Bool.{beq}
 use Rattle.std.proofs.lemmas.Bool.Decides.{Decides-and, Decides-at, Decides-eqb, Decides-like}
 use Rattle.std.proofs.lemmas.List.{take-take}
@@ -39,13 +39,6 @@ lines-same (suc m) (suc n) xs ys v w vs ws h k e =
     = cc in
     (ap (λ (l : Wrapping). l.column) same, ap (λ (l : Wrapping). l.separator) same)
 
--- a test that is only asked where another one holds
-pub asked : (a b v : Bool) → a ≡ true → v ≡ b → v ≡ (a && b)
-asked a b v h e = e ∙ ap (λ t. t && b) (sym h)
-
-pub unasked : (a b v : Bool) → a ≡ false → v ≡ a → v ≡ (a && b)
-unasked a b v h e = e ∙ h ∙ ap (λ t. t && b) (sym h)
-
 paddings-Decides : (o p : Option ℕ) → Decides (option_eq ◌==◌ o p) (o ≡ p)
 paddings-Decides None None = (λ h. refl, λ h. refl)
 paddings-Decides None (Some y) = (λ h. cc, λ h. cc)
@@ -59,7 +52,7 @@ symbols-first : (e : Inside) → KeepsRules e
 symbols-first e rules =
     take-take (2 ^ e.width) 64 e.symbols (symbols-few e.width rules.is_width)
 
-module _ (e f : Inside) (he : KeepsRules e) (hf : KeepsRules f) where
+module _ {e f : Inside} (he : KeepsRules e) (hf : KeepsRules f) where
   base-same : AreSame e f → base_of_tables e ≡ base_of_tables f
   base-same same =
       let width = same.0.0.0.0.0.0.0.0 in
@@ -111,16 +104,16 @@ module _ (e f : Inside) (he : KeepsRules e) (hf : KeepsRules f) where
       )
 
   -- what the comparison of the tables tells, whatever compares the orders
-  pub base-Decides : (result order : Bool) (a b : Base) → Decides order (e.order ≡ f.order)
+  pub base-Decides : {result order : Bool} {a b : Base} → base_of_tables e ≡ a
+      → base_of_tables f ≡ b → Decides order (e.order ≡ f.order)
       → result ≡ (((((((((e.width == f.width) && order)
       && beq e.checks_trailing_bits f.checks_trailing_bits)
       && beq e.concatenates f.concatenates)
       && option_eq ◌==◌ e.padding f.padding) && (e.column == f.column))
       && bytes_eq (take 64 e.symbols) (take 64 f.symbols))
       && bytes_eq (take 128 e.values) (take 128 f.values))
-      && bytes_eq e.separator.items f.separator.items)
-      → base_of_tables e ≡ a → base_of_tables f ≡ b → Decides result (a ≡ b)
-  base-Decides result order a b orders is to_a to_b =
+      && bytes_eq e.separator.items f.separator.items) → Decides result (a ≡ b)
+  base-Decides {result} to_a to_b orders is =
       Decides-like result (λ same. sym to_a ∙ base-same same ∙ to_b)
       (λ same. tables-same (to_a ∙ same ∙ sym to_b))
       (Decides-at result _ is
@@ -133,9 +126,9 @@ module _ (e f : Inside) (he : KeepsRules e) (hf : KeepsRules f) where
       (bytes_eq-Decides (take 128 e.values) (take 128 f.values)))
       (bytes_eq-Decides e.separator.items f.separator.items)))
 
-  pub layout-Decides : (result : Bool) (a b : Base) → base_of_tables e ≡ a → base_of_tables f ≡ b
+  pub layout-Decides : {result : Bool} {a b : Base} → base_of_tables e ≡ a → base_of_tables f ≡ b
       → Decides result (a ≡ b) → Decides result (layout a ≡ layout b)
-  layout-Decides result a b to_a to_b =
+  layout-Decides {result} {a} {b} to_a to_b =
       Decides-like result (λ same. ap layout same)
       (one_layout a b (subst IsRuled to_a (IsRuled-tables e he))
       (subst IsRuled to_b (IsRuled-tables f hf)))

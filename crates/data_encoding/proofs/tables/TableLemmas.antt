@@ -5,10 +5,11 @@ use Rattle.std.proofs.lemmas.Bool.Decides.{nat_tests}
 use Rattle.std.proofs.lemmas.List.{get_or-take, get_or_past}
 use Rattle.data_encoding.specs.declared.encoding.Character.TheVariants.{Symbol, Padding, Ignored, Invalid}
 use Rattle.data_encoding.specs.declared.encoding.Encoding.TheInside.{Inside}
+use Rattle.data_encoding.specs.declared.encoding.BitOrder.{BitOrder}
 use Rattle.data_encoding.specs.Base.{Base, symbol, is_ignored, is_padding, is_symbol, IsWidth}
 use Rattle.data_encoding.specs.Encoding.{KeepsPadding, KeepsRules, base_of_tables}
 use Rattle.data_encoding.specs.Entries.{is_entry_of, meaning_of_entry}
-use Rattle.data_encoding.specs.Tables.{HoldsSymbols, HoldsValues, Writes}
+use Rattle.data_encoding.specs.Tables.{HoldsSymbols, HoldsValues, Reads, Writes}
 use Rattle.data_encoding.proofs.tables.EntryLemmas.{high_entry, length-low, meaning-any}
 use Rattle.data_encoding.proofs.tables.TableRuleLemmas.{HoldsEntries-tables, IsWidth-tables, length-symbols, symbol-ascii, value-symbol}
 use Rattle.data_encoding.proofs.lists.EachLemmas.{passes_at}
@@ -126,3 +127,7 @@ module _ (e : Inside) (rules : KeepsRules e) (seen : Base) (is : base_of_tables 
 
   pub HoldsValues-seen : HoldsValues seen e.values
   HoldsValues-seen = subst (λ b. HoldsValues b e.values) is (HoldsValues-tables e rules)
+
+  pub Reads-seen : (width : ℕ) (order : BitOrder) → seen.width ≡ width → seen.order ≡ order
+      → Reads seen e.values width order
+  Reads-seen width order w o = record { width_is = w; order_is = o; holds = HoldsValues-seen }

@@ -54,8 +54,7 @@ module _ (base : Base) (order : BitOrder) (symbols : List ℕ) (writes : Writes 
         (λ k _. at_digit (word / 2 ^ weight order 6 4 k))
         ∙ ap (λ n. map (λ k. slice_index symbols (low_byte order 6 4 word k)) (range_with_len 0 n))
         four
-        ∙ plain_text-word base order 6 3 4 symbols bytes IsGroup-six (omega (arith, long))
-        writes.width_is writes.order_is writes.holds
+        ∙ plain_text-word base order 6 3 4 symbols bytes IsGroup-six (omega (arith, long)) writes
 
     module _ (input : List ℕ) where
       -- the text of a group, and then of others

@@ -16,9 +16,9 @@ use Rattle.data_encoding.specs.declared.entries.Tables.{Tables}
 use Rattle.data_encoding.specs.Encoding.{base_of_tables, KeepsRules, wrapping_by, KeepsPadding, KeepsWrapping}
 use Rattle.data_encoding.specs.Entries.{meaning_of_entry, is_entry_of, HoldsEntries}
 use Rattle.data_encoding.specs.Meanings.{meanings_of_table, HasEntries}
-use Rattle.data_encoding.specs.Tables.{HasTables, HoldsSymbols, HoldsValues, IsGroup, Writes}
+use Rattle.data_encoding.specs.Tables.{HasTables, HoldsSymbols, HoldsValues, IsGroup, Reads, Writes}
 use Rattle.data_encoding.specs.Decoding.{AreSound, HasDecodedTo, IsLongest, IsRun, IsDecodedGroup, most_symbols, HasSymbols, HasFault, IsGathered, valid_front, IsLastRun, HasNoLastRun, HasRoom, IsStop, IsDecoded, fault_of_stop}
-use Rattle.data_encoding.proofs.tables.TableLemmas.{HoldsValues-seen, Writes-tables}
+use Rattle.data_encoding.proofs.tables.TableLemmas.{Reads-seen, Writes-tables}
 use Rattle.std.specs.Borrow.{Bor}
 use Rattle.data_encoding.specs.declared.predefined.Predefined.{Predefined}
 use Rattle.data_encoding.proofs.vectors.Examples.{built, Has, nopad_ignoring_lf_fields}
@@ -223,16 +223,15 @@ tables_hold :
     Has base64_mime_fields (λ base.
     HoldsSymbols base (take 256 (layout base))
     × HoldsValues base (take 256 (drop 256 (layout base)))
-    × Writes base (take 256 (layout base)) 6 MostSignificantFirst)
+    × Writes base (take 256 (layout base)) 6 MostSignificantFirst
+    × Reads base (take 256 (drop 256 (layout base))) 6 MostSignificantFirst)
 tables_hold =
+    let tables = tables_from (built base64_mime_fields) in
     let rules = tables_read.1 in
-    let writes = Writes-tables (tables_from (built base64_mime_fields)) rules
-    (built base64_mime_fields) refl 6 refl in (
-      writes.holds,
-      HoldsValues-seen (tables_from (built base64_mime_fields)) rules
-          (built base64_mime_fields) refl,
-      writes,
-    )
+    let writes = Writes-tables tables rules (built base64_mime_fields) refl 6 refl in
+    let reads = Reads-seen tables rules (built base64_mime_fields) refl 6 MostSignificantFirst refl
+    refl in
+    (writes.holds, reads.holds, writes, reads)
 
 tables_had : (tables : Tables) → tables.symbols.now ≡ codes "01" → tables.padding ≡ None
     → tables.values.now ≡ replicate 48 128 ++ 0 ∷ 1 ∷ replicate 78 128

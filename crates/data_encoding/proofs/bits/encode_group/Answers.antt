@@ -6,11 +6,11 @@ use Rattle.data_encoding.proofs.bits.encode_group.Goals as goal
 
 pub returns : goal.returns
 returns g c = record {
-  text = λ base w o holds.
+  text = λ base writes.
       c.symbols_of_word.ensures
       ∙ (λ i. map (λ k. slice_index c.args.symbols.now
       (low_byte c.args.order g.row.WIDTH g.row.SYMBOLS (c.word_of_bytes-word.ensures i) k))
       (range_with_len 0 (c.requires.exact i)))
       ∙ plain_text-word base c.args.order g.row.WIDTH g.row.BYTES g.row.SYMBOLS c.args.symbols.now
-      c.args.input.now c.requires.group c.requires.few w o holds;
+      c.args.input.now c.requires.group c.requires.few writes;
 }

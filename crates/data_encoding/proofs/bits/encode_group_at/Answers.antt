@@ -25,11 +25,11 @@ returns g c =
     ∙ sym (whole-group 8 w bytes g.row.SYMBOLS (w - 1) (sym whole.same_bits) (omega (arith, pos)))
     ∙ ap (λ n. (8 * n + (w - 1)) / w) (sym long) in
     record {
-      text = λ base is_width is_order holds.
+      text = λ base writes.
           c.symbols_of_word.ensures
           ∙ (λ i. map (λ k. slice_index c.args.symbols.now
           (low_byte c.args.order w g.row.SYMBOLS (c.word_at-word.ensures i) k))
           (range_with_len 0 (count i)))
           ∙ plain_text-word base c.args.order w bytes g.row.SYMBOLS c.args.symbols.now group
-          c.requires.group (omega (arith, long)) is_width is_order holds;
+          c.requires.group (omega (arith, long)) writes;
     }

@@ -1,4 +1,4 @@
-use Rattle.std.proofs.Common.{◌*◌, length, ◌∙◌}
+use Rattle.std.proofs.Common.{◌*◌, length, ◌∙◌, arith}
 use Rattle.data_encoding.proofs.text.PlainGroupLemmas.{encoded-none}
 use Rattle.data_encoding.proofs.text.PlainLoopLemmas.{written-next}
 use Rattle.data_encoding.proofs.lists.PartLemmas.{IsWhole-group, length-part, part-of-four}
@@ -41,5 +41,24 @@ loop-index-preserved g c =
           (part-of-four (length output) symbols i (c.loop-index.auto.output ∙ c.requires.exact)
           c.loop-index-test.true)
           (c.loop-index.invariant.written base writes) c.encode_group_at.auto.output
-          (c.encode_group_at.ensures.text base writes.width_is writes.order_is writes.holds);
+          (c.encode_group_at.ensures.text base writes);
     }
+
+pub overflow_mul-index : goal.overflow_mul-index
+overflow_mul-index g c =
+    omega (
+      arith,
+      part-of-four (length c.args.input.now) g.row.BYTES c.loop-index.index c.requires.bytes
+          c.loop-index-test.true,
+    )
+
+pub slice_bounds-encode_group_at-end : goal.slice_bounds-encode_group_at-end
+slice_bounds-encode_group_at-end g c =
+    part-of-four (length c.loop-index.output) g.row.SYMBOLS c.loop-index.index
+    (c.loop-index.auto.output ∙ c.requires.exact) c.loop-index-test.true
+
+pub overflow_add-written : goal.overflow_add-written
+overflow_add-written g c = omega (arith, slice_bounds-encode_group_at-end g c)
+
+pub encode_group_at-requires-clause-group : goal.encode_group_at-requires-clause-group
+encode_group_at-requires-clause-group g c = c.requires.group

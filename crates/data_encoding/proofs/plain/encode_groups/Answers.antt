@@ -2,7 +2,7 @@ use Rattle.std.proofs.Common.{◌+◌, ◌-◌, ◌*◌, ◌/◌, length, sym, a
 use Rattle.data_encoding.specs.Text.{plain_text}
 use Rattle.data_encoding.proofs.text.PlainGroupLemmas.{encoded-none}
 use Rattle.data_encoding.proofs.text.PlainLoopLemmas.{fits, written-next, written-last}
-use Rattle.data_encoding.proofs.lists.PartLemmas.{IsWhole-group, group-before, whole-group, length-part, length-rest, part-is}
+use Rattle.data_encoding.proofs.lists.PartLemmas.{IsWhole-group, group-before, groups-within, whole-group, length-part, length-rest, part-is}
 use Rattle.data_encoding.proofs.plain.encode_groups.Goals as goal
 
 pub loop-index-init : goal.loop-index-init
@@ -54,7 +54,7 @@ loop-index-preserved g c =
           (group-before (length input) g.row.BYTES i c.loop-index-test.true)
           (room.next i c.loop-index-test.true) (c.loop-index.invariant.written base writes)
           c.encode_group.auto.output
-          (c.encode_group.ensures.text base writes.width_is writes.order_is writes.holds
+          (c.encode_group.ensures.text base writes
           ∙ ap (plain_text base) (part-is (i * g.row.BYTES) g.row.BYTES input));
     }
 
@@ -94,4 +94,53 @@ returns g c base writes =
     (c.loop-index.auto.output ∙ c.requires.exact))
     (omega (arith, c.loop-index-test.false, c.loop-index.auto.index-end))
     (c.loop-index.invariant.written base writes) c.encode_group-2.auto.output
-    (c.encode_group-2.ensures.text base writes.width_is writes.order_is writes.holds)
+    (c.encode_group-2.ensures.text base writes)
+
+pub nonzero_div-count : goal.nonzero_div-count
+nonzero_div-count g c =
+    (IsWhole-group g.row.WIDTH g.row.BYTES g.row.SYMBOLS c.requires.group).some_bytes
+
+pub slice_bounds-encode_group-end : goal.slice_bounds-encode_group-end
+slice_bounds-encode_group-end g c =
+    group-before (length c.args.input.now) g.row.BYTES c.loop-index.index c.loop-index-test.true
+
+pub overflow_add-read : goal.overflow_add-read
+overflow_add-read g c = omega (arith, slice_bounds-encode_group-end g c)
+
+pub overflow_mul-written : goal.overflow_mul-written
+overflow_mul-written g c =
+    omega (
+      arith,
+      (fits (length c.args.input.now) (length c.args.output.now) g.row.WIDTH g.row.BYTES
+          g.row.SYMBOLS
+          (IsWhole-group g.row.WIDTH g.row.BYTES g.row.SYMBOLS c.requires.group)
+          c.requires.exact).next
+          c.loop-index.index c.loop-index-test.true,
+    )
+
+pub overflow_add-written : goal.overflow_add-written
+overflow_add-written g c = omega (arith, slice_bounds-encode_group-end-in-loop-index g c)
+
+pub encode_group-requires-clause-group : goal.encode_group-requires-clause-group
+encode_group-requires-clause-group g c = c.requires.group
+
+pub encode_group-requires-clause-few : goal.encode_group-requires-clause-few
+encode_group-requires-clause-few g c =
+    omega (
+      arith,
+      length-part (c.loop-index.index * g.row.BYTES) g.row.BYTES c.args.input.now
+          (group-before _ g.row.BYTES c.loop-index.index c.loop-index-test.true),
+    )
+
+pub slice_bounds-encode_group-count-2 : goal.slice_bounds-encode_group-count-2
+slice_bounds-encode_group-count-2 g c = groups-within (length c.args.input.now) g.row.BYTES
+
+pub overflow_mul-count : goal.overflow_mul-count
+overflow_mul-count g c =
+    omega (arith, groups-within (length c.args.input.now) g.row.BYTES)
+
+pub overflow_mul-count-2 : goal.overflow_mul-count-2
+overflow_mul-count-2 g c = omega (arith, slice_bounds-encode_group-count-3 g c)
+
+pub encode_group-requires-2-clause-group : goal.encode_group-requires-2-clause-group
+encode_group-requires-2-clause-group g c = c.requires.group

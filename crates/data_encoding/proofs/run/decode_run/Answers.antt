@@ -20,3 +20,35 @@ returns-in-LeastSignificantFirst-clause-within g c =
       mul-le-mul_right g.row.SYMBOLS c.decode_groups-in-LeastSignificantFirst.ensures.within,
       groups-within (length c.args.input.now) g.row.SYMBOLS,
     )
+
+pub decode_groups-requires-clause-group : goal.decode_groups-requires-clause-group
+decode_groups-requires-clause-group g c = c.requires.group
+
+pub decode_groups-requires-clause-room : goal.decode_groups-requires-clause-room
+decode_groups-requires-clause-room g c = c.requires.room
+
+pub decode_groups-requires-in-LeastSignificantFirst-clause-group :
+    goal.decode_groups-requires-in-LeastSignificantFirst-clause-group
+decode_groups-requires-in-LeastSignificantFirst-clause-group g c = c.requires.group
+
+pub decode_groups-requires-in-LeastSignificantFirst-clause-room :
+    goal.decode_groups-requires-in-LeastSignificantFirst-clause-room
+decode_groups-requires-in-LeastSignificantFirst-clause-room g c = c.requires.room
+
+pub returns-in-MostSignificantFirst-clause-run : goal.returns-in-MostSignificantFirst-clause-run
+returns-in-MostSignificantFirst-clause-run g c =
+    rw c.in-MostSignificantFirst.is c.decode_groups.ensures.run
+
+pub returns-in-MostSignificantFirst-clause-longest :
+    goal.returns-in-MostSignificantFirst-clause-longest
+returns-in-MostSignificantFirst-clause-longest g c =
+    rw c.in-MostSignificantFirst.is c.decode_groups.ensures.longest
+
+pub returns-in-LeastSignificantFirst-clause-run : goal.returns-in-LeastSignificantFirst-clause-run
+returns-in-LeastSignificantFirst-clause-run g c =
+    rw c.in-LeastSignificantFirst.is c.decode_groups-in-LeastSignificantFirst.ensures.run
+
+pub returns-in-LeastSignificantFirst-clause-longest :
+    goal.returns-in-LeastSignificantFirst-clause-longest
+returns-in-LeastSignificantFirst-clause-longest g c =
+    rw c.in-LeastSignificantFirst.is c.decode_groups-in-LeastSignificantFirst.ensures.longest

@@ -9,7 +9,7 @@ use Rattle.data_encoding.specs.Grammar.{positioned}
 use Rattle.data_encoding.proofs.decoding.GroupJudgementLemmas.{group-sound, symbol-fault, trailing-fault}
 use Rattle.data_encoding.proofs.digits.WidthLemmas.{group_symbols-few}
 use Rattle.data_encoding.proofs.grammar.PositionLemmas.{bytes-positioned_from}
-use Rattle.data_encoding.proofs.tables.TableLemmas.{HoldsValues-seen}
+use Rattle.data_encoding.proofs.tables.TableLemmas.{HoldsValues-seen, Reads-seen}
 use Rattle.data_encoding.proofs.encoding.Encoding.decode_group.Goals as goal
 use Rattle.data_encoding.proofs.encoding.Encoding.decode_group.Goals.{else-self-via-then-self+else-has_trailing, else-self-via-else-self}
 
@@ -93,8 +93,9 @@ returns-then-has_trailing-clause-fault g c =
     (trailing-fault seen c.self.inside.values holds group (λ k. (c.type_inv.group k).fits) count
     c.in-Ok.ensures.symbols (c.if-not-decode_symbols.ensures.symbols.0 refl)
     (ap (λ (b : Base). b.checks_trailing_bits) (sym c.self.view_is) ∙ c.if-self.true)
-    (sym (c.if-has_trailing.ensures.any seen (positioned (take count group)) c.requires.width
-    c.requires.order holds
+    (sym (c.if-has_trailing.ensures.any seen (positioned (take count group))
+    (Reads-seen c.self.inside c.self.invariant seen c.self.view_is g.row.WIDTH c.args.order
+    c.requires.width c.requires.order)
     (bytes-positioned_from 0 (take count group))))
     (c.if-has_trailing.ensures.some refl))
 
@@ -106,25 +107,26 @@ returns-clause-sound g c =
     let ks = positioned (take count group) in
     let few = c.in-Ok.ensures.symbols.within in
     let most = mul-le-mul_left g.row.WIDTH few in
-    let holds = HoldsValues-seen c.self.inside c.self.invariant seen c.self.view_is in
+    let reads = Reads-seen c.self.inside c.self.invariant seen c.self.view_is g.row.WIDTH
+    c.args.order c.requires.width c.requires.order in
     let checks = ap (λ (b : Base). b.checks_trailing_bits) (sym c.self.view_is) in
     let quiet : (seen.checks_trailing_bits
     && list_any (λ bit. not (bit == 0)) (trailing_bits seen ks)) ≡ false =
     elim c.else-self.branch [
       | else-self-via-then-self+else-has_trailing w ↦
           (λ i. (checks ∙ w.if-self.true) i
-          && sym (w.if-has_trailing.ensures.any seen ks c.requires.width c.requires.order holds
+          && sym (w.if-has_trailing.ensures.any seen ks reads
           (bytes-positioned_from 0 (take count group))) i)
       | else-self-via-else-self w ↦
           ap (λ b. b && list_any (λ bit. not (bit == 0)) (trailing_bits seen ks))
           (checks ∙ w.if-self.false)
     ] in
     let room = c.requires.room c.in-Ok.ensures.whole in
-    group-sound seen c.self.inside.values holds group (λ k. (c.type_inv.group k).fits) count
+    group-sound seen c.self.inside.values reads.holds group (λ k. (c.type_inv.group k).fits) count
     c.in-Ok.ensures.symbols (c.if-not-decode_symbols.ensures.symbols.0 refl) quiet
     c.decode_symbols.new.output (drop (g.row.WIDTH * count / 8) c.args.output.now)
     (c.decode_symbols.auto.output
     ∙ length-take-le (g.row.WIDTH * count / 8) c.args.output.now (omega (arith, most, room))
     ∙ ap (λ w. w * count / 8) (sym c.requires.width))
-    (c.if-not-decode_symbols.ensures.bytes seen ks c.requires.width c.requires.order holds
+    (c.if-not-decode_symbols.ensures.bytes seen ks reads
     (bytes-positioned_from 0 (take count group)) refl)

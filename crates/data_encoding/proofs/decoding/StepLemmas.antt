@@ -1,0 +1,526 @@
+-- A step of a decoding: what a run, a group and the end do to it.
+use Rattle.std.proofs.Common.{◌≡◌, ℕ, ◌+◌, ◌-◌, ◌*◌, ◌/◌, ◌%◌, ◌<◌, ◌≤◌, Bool, true, false, not, nat_lt, ◌&&◌, ◌==◌, ◌⊎◌, List, ◌++◌, length, take, drop, Some, refl, sym, ap, ◌∙◌, subst, arith, length-take-le, ⊎_elim}
+use Rattle.std.proofs.Math.Nat.{mul-le-mul_left, mul-le-mul_right, mul-zero, zero-mod}
+use Rattle.std.proofs.Math.Seq.{take-add}
+use Rattle.std.proofs.lemmas.Bool.{cases_lt, eqb-true, false≢true}
+use Rattle.std.proofs.lemmas.Bool.Decides.{nat_tests}
+use Rattle.std.proofs.lemmas.List.{length-drop, take_rest}
+use Rattle.std.proofs.lemmas.Nat.{div-add-mod'}
+use Rattle.std.proofs.lemmas.Slice.{take-put_mid_below}
+use Rattle.data_encoding.specs.declared.error.DecodeKind.TheVariants.{Padding as PaddingFault}
+use Rattle.data_encoding.specs.declared.error.DecodeError.{DecodeError}
+use Rattle.data_encoding.specs.declared.error.DecodePartial.{DecodePartial}
+use Rattle.data_encoding.specs.declared.group.GroupFault.{GroupFault}
+use Rattle.data_encoding.specs.Base.{Base, IsWidth, group_bytes, group_symbols, is_padded}
+use Rattle.data_encoding.specs.Decoding.{HasFault, HasNoLastRun, IsDecoded, IsDecodedGroup, IsGathered, IsLastRun, IsRun, IsStop, HasStopped, valid_front, HasDecodedTo}
+use Rattle.data_encoding.specs.Fault.{group_fault, position_of}
+use Rattle.data_encoding.specs.Grammar.{Means, Positioned, kept, positioned}
+use Rattle.data_encoding.specs.Lengths.{greatest_valid_length, most_bytes}
+use Rattle.data_encoding.specs.Partial.{StopsAt, is_length_fault}
+use Rattle.data_encoding.proofs.digits.WidthLemmas.{group_bits, group_bytes-few}
+use Rattle.data_encoding.proofs.grammar.LengthLemmas.{is_valid_length-by, most_bytes-by}
+use Rattle.data_encoding.proofs.grammar.GroupLemmas.{GroupMeans-sound, bytes_of_group-same, group_fault-none_same, group_fault-same, is_final-same}
+use Rattle.data_encoding.proofs.grammar.PositionLemmas.{bytes-positioned_from, length-positioned_from, position_of-positioned_from}
+use Rattle.data_encoding.proofs.lists.WriteLemmas.{length-rewritten, length-rewritten_same, rewritten, take-rewritten}
+use Rattle.data_encoding.proofs.decoding.GatherLemmas.{bytes-next, gathered-few, gathered-some, is-next, next_bytes, none-next, nothing-kept, position-next}
+use Rattle.data_encoding.proofs.decoding.GreatestLengthLemmas.{greatest-least, greatest-valid}
+use Rattle.data_encoding.proofs.decoding.LastRunLemmas.{last-none, last-sound, last-unsound}
+use Rattle.data_encoding.proofs.decoding.RoomLemmas.{multiples}
+use Rattle.data_encoding.proofs.decoding.ProgressLemmas.{IsNext, after-group, after-run, room-group, room-run, same-output}
+use Rattle.data_encoding.proofs.decoding.StopLemmas.{at-fault}
+use Rattle.data_encoding.proofs.decoding.LoopLemmas.{IsUnderWay, decoded}
+
+-- a text has no more bytes than it is long
+most-few : (base : Base) → IsWidth base.width → (text : List ℕ)
+    → most_bytes base (length text) ≤ length text
+most-few base width text = by (is_padded base) refl where
+  by : (b : Bool) → is_padded base ≡ b → most_bytes base (length text) ≤ length text
+  by true is =
+      let count = length text / group_symbols base.width in
+      omega (
+        arith,
+        most_bytes-by base (length text) true is,
+        mul-le-mul_left count (group_bytes-few base.width width),
+        div-add-mod' (length text) (group_symbols base.width),
+      )
+  by false is =
+      omega (
+        arith,
+        most_bytes-by base (length text) false is,
+        mul-le-mul_right (length text) width.few,
+      )
+
+-- the front of valid length has that length
+length-front : (base : Base) → IsWidth base.width → (rest : List ℕ)
+    → length (valid_front base rest) ≡ greatest_valid_length base (length rest)
+length-front base width rest =
+    length-take-le (greatest_valid_length base (length rest)) rest
+    (greatest-least base width (length rest))
+
+same-partial : (partial : DecodePartial) (read written : ℕ) (error : DecodeError)
+    → partial.read ≡ read → partial.written ≡ written → partial.error ≡ error
+    → record { read = read; written = written; error = error } ≡ partial
+same-partial partial read written error h k l =
+    λ i. record { read = sym h i; written = sym k i; error = sym l i }
+
+-- a decoding stopped there, whatever stands behind what was written
+stops-same : (base : Base) (text old new : List ℕ) (partial : DecodePartial)
+    → StopsAt base text old partial
+    → take partial.written new ≡ take partial.written old → StopsAt base text new partial
+stops-same base text old new partial stops same =
+    record {
+      is_partial = stops.is_partial;
+      means = subst (Means base (take partial.read text)) (sym same) stops.means;
+      read_before = stops.read_before;
+      within = stops.within;
+    }
+
+-- no group is final where all its bytes are symbols
+no_padding : (b : Bool) (count len : ℕ) → len ≤ count → (not b && nat_lt count len) ≡ false
+no_padding b count len h =
+    let all : nat_lt count len ≡ false = grind (arith, nat_tests) in
+    ap (λ v. not b && v) all ∙ either (not b) where
+      either : (v : Bool) → (v && false) ≡ false
+      either true = refl
+      either false = refl
+
+module _ {base : Base} {text : List ℕ} {w bytes symbols read written : ℕ} {ended : Bool}
+    {output : List ℕ} (s : IsUnderWay base text w bytes symbols read written ended output) where
+  pub written-few : written ≤ length text
+  written-few = omega (arith, s.so_far.fits, s.size_is, most-few base s.width text)
+
+  -- as far as another output of that length holds it
+  further : {stop count : ℕ} {final : Bool} {new : List ℕ} → length new ≡ length output
+      → HasDecodedTo base text stop count final new
+      → IsUnderWay base text w bytes symbols stop count final new
+  further len so_far = record {
+    width = s.width;
+    symbols_is = s.symbols_is;
+    bytes_is = s.bytes_is;
+    w_is = s.w_is;
+    no_fault = s.no_fault;
+    size_is = s.size_is ∙ sym len;
+    so_far = so_far;
+  }
+
+  -- where no byte is left that is not ignored, the text means what was written
+  pub decoded-ignored :
+      length (kept base (take (length text - read) (drop read text))) ≡ 0
+      → IsDecoded base text written output
+  decoded-ignored none =
+      decoded s (nothing-kept base text read
+      (subst (λ l. length (kept base l) ≡ 0) (take_rest text read) none))
+
+  gathered_here : {group : List ℕ} {span : ℕ}
+      → IsGathered base symbols (take (length text - read) (drop read text)) group span
+      → IsGathered base (group_symbols base.width) (drop read text) group span
+  gathered_here {group} {span} is =
+      subst (λ n. IsGathered base n (drop read text) group span) s.symbols_is
+      (subst (λ l. IsGathered base symbols l group span) (take_rest text read) is)
+
+module _ {base : Base} {text : List ℕ} {w bytes symbols read written : ℕ} {output : List ℕ}
+    (s : IsUnderWay base text w bytes symbols read written false output) where
+  -- a run has room
+  pub room-next_run : length (take (length text - read) (drop read text)) / symbols * bytes
+      ≤ length (take (length output - written) (drop written output))
+  room-next_run =
+      let dec = group_symbols base.width in
+      let enc = group_bytes base.width in
+      let count = length (drop read text) / dec in
+      let whole : count * dec ≤ length text - read =
+      omega (arith, div-add-mod' (length (drop read text)) dec, length-drop read text) in
+      let fits : count * enc ≤ length (drop written output) =
+      omega (
+        arith,
+        room-run base s.width text read written false output s.so_far count whole,
+        length-drop written output,
+      ) in
+      let same : length (take (length text - read) (drop read text)) / symbols * bytes
+      ≡ count * enc =
+      λ i. length (take_rest text read i) / s.symbols_is i * s.bytes_is i in
+      subst (λ n. n ≤ length (take (length output - written) (drop written output))) (sym same)
+      (subst (λ l. count * enc ≤ length l) (sym (take_rest output written)) fits)
+
+  -- what a run does
+  module _ {count : ℕ} {rest old : List ℕ}
+      (rest_len : length rest ≡ length (take (length output - written) (drop written output)))
+      (run : IsRun base (take (length text - read) (drop read text)) count old rest) where
+    here : IsRun base (drop read text) count old rest
+    here = subst (λ l. IsRun base l count old rest) (take_rest text read) run
+
+    inside : count * group_symbols base.width ≤ length text - read
+    inside = omega (arith, here.within, length-drop read text)
+
+    room : count * group_bytes base.width ≤ length rest
+    room =
+        omega (
+          arith,
+          room-run base s.width text read written false output s.so_far count inside,
+          rest_len,
+          ap length (take_rest output written),
+          length-drop written output,
+        )
+
+    run_done : HasDecodedTo base text (read + count * symbols) (written + count * bytes) false
+        (rewritten written output rest)
+    run_done =
+        let dec = group_symbols base.width in
+        let enc = group_bytes base.width in
+        let new = rewritten written output rest in
+        let fits = length-rewritten written output rest s.so_far.fits in
+        subst (λ n. HasDecodedTo base text n (written + count * bytes) false new)
+        (ap (λ d. read + count * d) (sym s.symbols_is))
+        (subst (λ n. HasDecodedTo base text (read + count * dec) n false new)
+        (ap (λ e. written + count * e) (sym s.bytes_is))
+        (after-run base s.width text read written count output new s.so_far inside
+        here.are_symbols (omega (arith, room, fits))
+        (take-rewritten written output rest s.so_far.fits (count * enc)
+        ∙ ap (λ l. take written output ++ l) here.bytes)))
+
+    pub after_run : IsUnderWay base text w bytes symbols (read + count * symbols)
+        (written + count * bytes) false (rewritten written output rest)
+    after_run =
+        further s (length-rewritten_same written output rest s.so_far.fits rest_len) run_done
+
+  -- a group of that many bytes has room, where it may have bytes
+  room-group_of : (count : ℕ) → count ≤ length text - read
+      → (is_padded base ≡ true → count ≡ group_symbols base.width)
+      → base.width * count / 8 ≤ length output - written
+  room-group_of count few whole = by (is_padded base) refl where
+    by : (b : Bool) → is_padded base ≡ b → base.width * count / 8 ≤ length output - written
+    by true padded =
+        let all = whole padded in
+        let bits : base.width * count ≡ 8 * group_bytes base.width =
+        ap (λ n. base.width * n) all ∙ group_bits base.width s.width in
+        let one : 1 * group_symbols base.width ≤ length text - read = omega (arith, all, few) in
+        omega (
+          arith,
+          bits,
+          room-run base s.width text read written false output s.so_far 1 one,
+        )
+    by false unpadded =
+        omega (
+          arith,
+          room-group base s.width text read written false output s.so_far count unpadded few,
+        )
+
+  -- so has the greatest front of valid length, where it is one group
+  room-last : length (valid_front base (drop read text)) ≤ symbols
+      → w * length (valid_front base (drop read text)) / 8 ≤ length output - written
+  room-last few =
+      let rest = drop read text in
+      let front = valid_front base rest in
+      let len = length-front base s.width rest in
+      let valid = greatest-valid base s.width (length rest) in
+      let room : 0 < length front → base.width * length front / 8 ≤ length output - written =
+      λ some. room-group_of (length front)
+      (omega (arith, len, greatest-least base s.width (length rest), length-drop read text))
+      (λ padded.
+      let exact : length front % group_symbols base.width ≡ 0 =
+      ap (λ n. n % group_symbols base.width) len
+      ∙ eqb-true (greatest_valid_length base (length rest) % group_symbols base.width) 0
+      (sym (is_valid_length-by base (greatest_valid_length base (length rest)) true padded)
+      ∙ valid) in
+      let most = multiples (group_symbols base.width) 0 (length front)
+      (zero-mod (group_symbols base.width)) exact some in
+      omega (arith, most, few, s.symbols_is)) in
+      let same = ap (λ n. n * length front) (sym s.w_is) in
+      ⊎_elim
+      (λ (some : 0 < length front). omega (arith, room some, same))
+      (λ (none : length front ≤ 0).
+      let no_bits : w * length front ≡ 0 =
+      ap (λ n. w * n) (omega (arith, none)) ∙ mul-zero w in
+      omega (arith, no_bits))
+      (cases_lt 0 (length front))
+
+  module _ {group : List ℕ} {span : ℕ}
+      (is : IsGathered base symbols (take (length text - read) (drop read text)) group span)
+    where
+      found_here : IsGathered base (group_symbols base.width) (drop read text) group span
+      found_here = gathered_here s is
+
+      abbrev placed : List Positioned
+      placed = next_bytes base text read span
+
+      -- nothing is left where the group is empty
+      pub decoded-none : {empty : Bool} → empty ≡ (length group == 0) → empty ≡ true
+          → IsDecoded base text written output
+      decoded-none empty_is empty =
+          decoded s
+          (none-next base s.width text read s.so_far.within group span found_here
+          (eqb-true (length group) 0 (sym empty_is ∙ empty)))
+
+      few_left : length group ≤ length text - read
+      few_left =
+          omega (
+            arith,
+            gathered-few base (group_symbols base.width) (drop read text) group span found_here,
+            found_here.within,
+            length-drop read text,
+          )
+
+      -- a group has room
+      pub room-next_group : (is_padded base ≡ true → length group ≡ symbols)
+          → w * length group / 8
+          ≤ length (take (length output - written) (drop written output))
+      room-next_group whole =
+          let room = room-group_of (length group) few_left
+          (λ padded. whole padded ∙ s.symbols_is) in
+          let same = ap (λ n. n * length group) (sym s.w_is) in
+          omega (
+            arith,
+            room,
+            same,
+            ap length (take_rest output written),
+            length-drop written output,
+          )
+
+      module _ (some : 0 < length group) where
+        next : IsNext base text read (read + span) placed
+        next = is-next base s.width text read s.so_far.within group span found_here some
+
+        fault_here : (fault : GroupFault) → HasFault base group fault
+            → group_fault base placed
+            ≡ Some (record {
+              position = read + position_of (kept base (drop read text)) fault.index;
+              kind = fault.kind;
+            })
+        fault_here fault has =
+            let zero_up : 0 + fault.index ≡ fault.index = omega arith in
+            group_fault-same base s.width placed 0 group fault.kind fault.index
+            (bytes-next base s.width text read s.so_far.within group span found_here) has.inside
+            found_here.few
+            (has.is_fault ∙ sym (ap (λ n. Some (record { position = n; kind = fault.kind }))
+            (position_of-positioned_from 0 group fault.index has.inside ∙ zero_up)))
+            ∙ ap (λ n. Some (record { position = n; kind = fault.kind }))
+            (position-next base s.width text read s.so_far.within group span found_here fault.index
+            has.inside)
+
+        -- where no last run is found
+        stops-here : (fault : GroupFault) (new : List ℕ) → written ≤ length new
+            → take written new ≡ take written output → (error : DecodeError)
+            → group_fault base placed ≡ Some error → fault.kind ≡ error.kind
+            → (is_length_fault fault.kind ≡ true → HasNoLastRun base (drop read text))
+            → StopsAt base text new (record { read = read; written = written; error = error })
+        stops-here fault new fits same error faulty kind none =
+            by (is_length_fault error.kind) refl where
+              by : (b : Bool) → is_length_fault error.kind ≡ b
+                  → StopsAt base text new
+                  (record { read = read; written = written; error = error })
+              by false is =
+                  at-fault base s.width text read written false new
+                  (same-output base s.width text read written false output new s.so_far fits same)
+                  s.no_fault (read + span) placed error next faulty is
+              by true is =
+                  let len = length-front base s.width (drop read text) in
+                  let no_run = none (ap is_length_fault kind ∙ is) in
+                  last-unsound base s.width text read written false output s.so_far s.no_fault
+                  (read + span) placed error next faulty is (omega (arith, len, no_run.0))
+                  (λ few. no_run.1 (omega (arith, len, few))) new fits same
+
+        -- and where one is
+        stops-after : (new : List ℕ) → take written new ≡ take written output
+            → (error : DecodeError) → group_fault base placed ≡ Some error
+            → is_length_fault error.kind ≡ true → (more : ℕ) → written + more ≤ length new
+            → IsLastRun base (drop read text) more (drop written new)
+            → StopsAt base text new
+            (record { read = error.position; written = written + more; error = error })
+        stops-after new same error faulty kind more fits last =
+            let front = valid_front base (drop read text) in
+            let len = length-front base s.width (drop read text) in
+            ⊎_elim {C = StopsAt base text new
+            (record { read = error.position; written = written + more; error = error })}
+            (λ empty.
+            let none : written ≡ written + more = omega (arith, empty.1) in
+            subst (λ n. StopsAt base text new
+            (record { read = error.position; written = n; error = error })) none
+            (last-none base s.width text read written false output s.so_far s.no_fault
+            (read + span) placed error next faulty kind (sym len ∙ empty.0) new
+            (omega (arith, fits)) same))
+            (λ run.
+            let count = base.width * run.2 / 8 in
+            let bytes : written + more ≡ written + count = ap (λ n. written + n) run.4 in
+            subst (λ n. StopsAt base text new
+            (record { read = error.position; written = n; error = error })) (sym bytes)
+            (last-sound base s.width text read written false output s.so_far s.no_fault
+            (read + span) placed error next faulty kind
+            (omega (arith, len, run.0)) (omega (arith, len, run.1))
+            run.3.sound count new (omega (arith, fits, bytes))
+            (take-add written count new ∙ (λ i. same i ++ run.3.bytes i))))
+            last
+
+        -- a faulty group stops the decoding, whatever was written of it
+        group-stops : (fault : GroupFault) → HasFault base group fault
+            → (rest new : List ℕ) (partial : DecodePartial)
+            → written ≤ length new
+            → take written new ≡ take written (rewritten written output rest)
+            → IsStop base (drop read text) read written fault new partial
+            → StopsAt base text new partial
+        group-stops fault has rest new partial fits same stop =
+            let part = drop read text in
+            let front = valid_front base part in
+            let len = length-front base s.width part in
+            let error : DecodeError = record {
+              position = read + position_of (kept base part) fault.index;
+              kind = fault.kind;
+            } in
+            let front_same : take written new ≡ take written output =
+            same ∙ take-put_mid_below written (length output - written) output rest written
+            (omega arith) s.so_far.fits in
+            let faulty = fault_here fault has in
+            ⊎_elim {C = StopsAt base text new partial}
+            (λ how.
+            let stops : StopsAt base text new
+            (record { read = read; written = written; error = error }) =
+            stops-here fault new fits front_same error faulty refl how.2 in
+            subst (StopsAt base text new)
+            (same-partial partial read written error how.0 how.1 stop.error_is) stops)
+            (λ how.
+            let stops : StopsAt base text new
+            (record { read = error.position; written = written + how.2; error = error }) =
+            stops-after new front_same error faulty how.0 how.2 how.4 how.5 in
+            subst (StopsAt base text new)
+            (same-partial partial error.position (written + how.2) error
+            (how.1 ∙ ap (λ (e : DecodeError). e.position) stop.error_is) how.3
+            stop.error_is) stops)
+            stop.how
+
+        pub group-stopped : {fault : GroupFault} → HasFault base group fault → (rest : List ℕ)
+            → length rest ≡ length (take (length output - written) (drop written output))
+            → HasStopped base text (rewritten written output rest)
+            (record { read = read; written = written; index = fault.index; kind = fault.kind })
+        group-stopped {fault} has rest rest_len =
+            let same = length-rewritten_same written output rest s.so_far.fits rest_len in
+            record {
+              within = s.so_far.within;
+              fits = omega (arith, same, s.so_far.fits);
+              inside =
+                  gathered-some base (group_symbols base.width) (drop read text) group span
+                  found_here fault.index has.inside;
+              room = λ _ few. subst (λ n. base.width * length (valid_front base (drop read text))
+                  / 8 ≤ n - written) (sym same)
+                  (subst (λ n. n * length (valid_front base (drop read text)) / 8
+                  ≤ length output - written) (sym s.w_is)
+                  (room-last (subst (λ n. length (valid_front base (drop read text)) ≤ n)
+                  (sym s.symbols_is) few)));
+              stops = λ new partial fits front stop.
+                  group-stops fault has rest new partial fits front stop;
+            }
+
+        -- what a group does
+        module _ {count : ℕ} {rest : List ℕ}
+            (rest_len : length rest
+            ≡ length (take (length output - written) (drop written output)))
+            (has : IsDecodedGroup base group count rest) where
+          whole : is_padded base ≡ true → length group ≡ symbols
+          whole padded =
+              let len = length-positioned_from 0 group in
+              sym len
+              ∙ (GroupMeans-sound base s.width padded (positioned group)
+              (omega (arith, len, found_here.few)) has.sound).is_whole
+              ∙ sym s.symbols_is
+
+          few : w * count / 8 ≤ length rest
+          few = omega (arith, mul-le-mul_left w has.within, room-next_group whole, rest_len)
+
+          group_done : HasDecodedTo base text (read + span) (written + w * count / 8)
+              (not base.concatenates && nat_lt count (length group))
+              (rewritten written output rest)
+          group_done =
+              let new = rewritten written output rest in
+              let fits = length-rewritten written output rest s.so_far.fits in
+              let same = bytes-next base s.width text read s.so_far.within group span found_here
+              ∙ sym (bytes-positioned_from 0 group) in
+              let final = is_final-same base placed (positioned group) same ∙ has.final in
+              subst
+              (λ b. HasDecodedTo base text (read + span) (written + w * count / 8) b new)
+              final
+              (after-group base s.width text read written (read + span) (w * count / 8) false
+              placed output new s.so_far next
+              (group_fault-none_same base placed (positioned group) same has.sound)
+              (omega (arith, few, fits))
+              (take-rewritten written output rest s.so_far.fits (w * count / 8)
+              ∙ ap (λ l. take written output ++ l)
+              (ap (λ n. take (n * count / 8) rest) (sym s.w_is) ∙ has.bytes
+              ∙ sym (bytes_of_group-same base placed (positioned group) same))))
+
+          pub after_group : {final : Bool}
+              → (not base.concatenates && nat_lt count (length group)) ≡ final
+              → IsUnderWay base text w bytes symbols (read + span) (written + w * count / 8) final
+              (rewritten written output rest)
+          after_group same =
+              further s (length-rewritten_same written output rest s.so_far.fits rest_len)
+              (subst (λ b. HasDecodedTo base text (read + span) (written + w * count / 8) b
+              (rewritten written output rest)) same group_done)
+
+          -- it goes on where texts may follow, or where the group has no padding
+          pub group-more : {own : Base} → own ≡ base
+              → (own.concatenates ≡ true) ⊎ (length group ≤ count)
+              → IsUnderWay base text w bytes symbols (read + span) (written + w * count / 8) false
+              (rewritten written output rest)
+          group-more same how =
+              after_group
+              (⊎_elim
+              (λ joins. ap (λ v. not v && nat_lt count (length group))
+              (ap (λ (b : Base). b.concatenates) (sym same) ∙ joins))
+              (no_padding base.concatenates count (length group)) how)
+
+          -- and otherwise the group is final
+          pub group-final : {own : Base} → own ≡ base → own.concatenates ≡ false
+              → count < length group
+              → IsUnderWay base text w bytes symbols (read + span) (written + w * count / 8) true
+              (rewritten written output rest)
+          group-final same apart padded =
+              let short : nat_lt count (length group) ≡ true = grind (arith, nat_tests, padded) in
+              after_group
+              (λ i. not ((ap (λ (b : Base). b.concatenates) (sym same) ∙ apart) i) && short i)
+
+-- after a final group, any other is a fault
+module _ {base : Base} {text : List ℕ} {w bytes symbols read written : ℕ} {output : List ℕ}
+    (s : IsUnderWay base text w bytes symbols read written true output)
+    (left : (group : List ℕ) × (span : ℕ) × (0 < length group)
+    × IsGathered base symbols (take (length text - read) (drop read text)) group span) where
+  other : IsGathered base (group_symbols base.width) (drop read text) left.0 left.1
+  other = gathered_here s left.3
+
+  abbrev fault_there : DecodeError
+  fault_there = record {
+    position = read + position_of (kept base (drop read text)) 0;
+    kind = PaddingFault;
+  }
+
+  final-stops : StopsAt base text output
+      (record { read = read; written = written; error = fault_there })
+  final-stops =
+      at-fault base s.width text read written true output s.so_far s.no_fault (read + left.1)
+      (next_bytes base text read left.1) fault_there
+      (is-next base s.width text read s.so_far.within left.0 left.1 other left.2)
+      (ap (λ n. Some (record { position = n; kind = PaddingFault }))
+      (position-next base s.width text read s.so_far.within left.0 left.1 other 0 left.2)) refl
+
+  pub final-stopped : HasStopped base text output
+      (record { read = read; written = written; index = 0; kind = PaddingFault })
+  final-stopped = record {
+    within = s.so_far.within;
+    fits = s.so_far.fits;
+    inside =
+        gathered-some base (group_symbols base.width) (drop read text) left.0 left.1 other 0
+        left.2;
+    room = λ is. absurd (false≢true is);
+    stops = λ new partial fits front stop.
+        ⊎_elim {C = StopsAt base text new partial}
+        (λ how. subst (StopsAt base text new)
+        (same-partial partial read written fault_there how.0 how.1 stop.error_is)
+        (stops-same base text output new
+        (record { read = read; written = written; error = fault_there }) final-stops front))
+        (λ how. absurd (false≢true how.0))
+        stop.how;
+  }
+
+-- what is found is a group where it is not empty
+pub some-group : {base : Base} {size : ℕ} {part group : List ℕ} {span : ℕ} {empty : Bool}
+    → IsGathered base size part group span → empty ≡ (length group == 0) → empty ≡ false
+    → 0 < length group
+some-group {group} is empty_is some =
+    let none : (length group == 0) ≡ false = sym empty_is ∙ some in
+    grind (arith, nat_tests)
