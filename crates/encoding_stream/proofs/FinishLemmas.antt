@@ -58,6 +58,18 @@ module _ (base : Base) (is : IsSpecified base) (text : List ℕ) (len : ℕ)
         no-fault None m n h = refl
         no-fault (Some e) m n h = absurd (cc h)
 
+  -- a fault of the length is told before that of a group
+  pub verdict-length : TellsFault → (error : DecodeError) → decoded_len base len ≡ Err error
+      → Err error ≡ verdict_of (fault_of base text)
+  verdict-length tells error due =
+      sym (ap verdict_of (tells base is text len fault held ended read
+      ∙ ap (λ o. or_else o (or_else fault (held_fault ended base held)))
+      (has-fault (length_fault base len) (most_bytes base len) due))) where
+        has-fault : (o : Option DecodeError) (m : ℕ) → unless_fault o m ≡ Err error
+            → o ≡ Some error
+        has-fault None m h = absurd (cc h)
+        has-fault (Some e) m h = cc h
+
 -- The bytes of the whole text, with those of a last group where it has no fault.
 pub bytes-judged : (base : Base) → IsSpecified base → TellsBytes → (k : Kept)
     (judged : Result ℕ DecodeError) (output : List ℕ) (written : ℕ)

@@ -1,12 +1,18 @@
-use Rattle.std.proofs.Common.{◌≡◌, ℕ, ◌+◌, ◌-◌, ◌≤◌, [], ◌++◌, length, take, drop, refl, sym, ap, subst, ◌∙◌, arith, length-take-le, take_all}
+use Rattle.std.proofs.Common.{◌≡◌, ℕ, ◌+◌, ◌-◌, ◌≤◌, [], ◌++◌, length, take, drop, refl, sym, ap, subst, ◌∙◌, arith, length-take-le, take_all, Result, Ok, Err}
 use Rattle.std.proofs.lemmas.List.{length-drop, take-append-drop}
 use Rattle.std.proofs.lemmas.Slice.{pushed}
+use Rattle.std.specs.Result.{OnErr}
 use Rattle.data_encoding.specs.Pieces.{whole_bytes}
 use Rattle.encoding_stream.specs.Pieces.{base_of_pieces}
 use Rattle.encoding_stream.specs.Reading.{ReadsOn}
 use Rattle.encoding_stream.proofs.DecoderLemmas.{appends-none, appends-rest, front-adds-none}
 use Rattle.encoding_stream.proofs.SizeLemmas.{most-few}
 use Rattle.encoding_stream.proofs.decoder.append_piece.Goals as goal
+
+-- what holds holds where an error is answered too
+where_err : {T E P : Type 0} (result : Result T E) → P → OnErr result P
+where_err (Ok value) holds = tt
+where_err (Err error) holds = holds
 
 pub overflow_add-written : goal.overflow_add-written
 overflow_add-written g c =
@@ -87,3 +93,7 @@ returns-else-written-gt0-clause-appends g c =
     appends-none base old first.new.pieces.kept piece bytes c.args.output.now.items
     (subst (λ n. take n first.new.buffer ≡ []) (sym none) refl)
     (subst (λ p. ReadsOn base old first.new.pieces.kept p bytes) all first.ensures.reads)
+
+pub returns-in_err-reserve-clause-unchanged : goal.returns-in_err-reserve-clause-unchanged
+returns-in_err-reserve-clause-unchanged g c =
+    where_err c.from_residual.result c.in_err-reserve.ensures.items

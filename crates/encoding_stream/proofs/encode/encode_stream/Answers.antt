@@ -1,5 +1,6 @@
 use Rattle.std.proofs.Common.{◌≡◌, ℕ, ◌+◌, ◌*◌, ◌/◌, ◌%◌, ◌<◌, ◌≤◌, ◌⊎◌, ⊎_elim, inl, inr, List, length, length-append, drop, take, refl, ap, ◌∙◌, subst, rules, arith, length-take-le}
 use Rattle.std.proofs.lemmas.Bool.{cases_lt}
+use Rattle.std.proofs.lemmas.Option.{IfSome_then}
 use Rattle.std.proofs.lemmas.List.{length-drop, take-append-le}
 use Rattle.std.specs.Io.KnownBytes.{IsAtEnd}
 use Rattle.std.proofs.KnownBytes.{Appends-kept}
@@ -8,6 +9,7 @@ use Rattle.data_encoding.specs.Lengths.{alignment}
 use Rattle.encoding_stream.specs.Watch.{inner_of}
 use Rattle.encoding_stream.proofs.WriteLemmas.{AppendsFront-nothing}
 use Rattle.encoding_stream.proofs.EncodedLemmas.{all-front, all-known, blocks-few, blocks-whole, encoded-all, encoded-front, encoded-more, encoded-nothing, encoded-past, front-nothing, front-of_rest}
+use Rattle.encoding_stream.proofs.DecodedLemmas.{not-both, past-few}
 use Rattle.encoding_stream.proofs.encode.encode_stream.Goals as goal
 
 -- a full buffer has whole blocks
@@ -168,3 +170,13 @@ loop-count-preserved g c =
           );
       room = c.write_text.auto.output ∙ c.loop-count.invariant.room;
     }
+
+pub returns-in_default-clause-read : goal.returns-in_default-clause-read
+returns-in_default-clause-read g c =
+    (λ same. cc, λ failed. not-both _ failed c.in-Ok.ensures.failed)
+
+pub returns-in_default-clause-succeeds : goal.returns-in_default-clause-succeeds
+returns-in_default-clause-succeeds g c =
+    IfSome_then (g.R.Read.remaining (inner_of c.args.reader.now))
+    (past-few 18446744073709551615 _ _ (λ bytes. ⊥) (returns-in_default-clause-too_long g c refl))
+    (λ bytes fails few. absurd (fails (omega (arith, few))))

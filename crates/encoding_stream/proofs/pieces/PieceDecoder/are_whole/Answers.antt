@@ -1,4 +1,4 @@
-use Rattle.std.proofs.Common.{◌≡◌, ◌<◌, nat_eq, ap, arith, eqb-true, sym, ◌∙◌}
+use Rattle.std.proofs.Common.{◌≡◌, ◌<◌, nat_eq, ap, arith, eqb-true, refl, sym, ◌∙◌}
 use Rattle.data_encoding.specs.Base.{group_bytes, group_symbols}
 use Rattle.encoding_stream.specs.Pieces.{base_of_pieces}
 use Rattle.encoding_stream.proofs.ReadRunLemmas.{due-group, fills-by_bytes, fills-by_length, whole-by_bytes, whole-by_length}
@@ -74,3 +74,9 @@ returns-clause-by_bytes c =
     let is : c.in-Ok.bytes ≡ group_bytes (base_of_pieces pieces).width =
     cc (c.in-Ok.is, c.decode_len.ensures.value, due) in
     λ divides. rw is (ap (λ n. nat_eq n 0) divides)
+
+pub returns-then-read-self-eq0-clause-by_bytes : goal.returns-then-read-self-eq0-clause-by_bytes
+returns-then-read-self-eq0-clause-by_bytes c = λ _. refl
+
+pub returns-then-read-self-eq0-clause-by_length : goal.returns-then-read-self-eq0-clause-by_length
+returns-then-read-self-eq0-clause-by_length c = λ _ _ _. refl

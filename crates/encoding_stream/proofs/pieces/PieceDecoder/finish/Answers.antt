@@ -1,6 +1,6 @@
 use Rattle.std.proofs.Common.{None, Some, sym, ◌∙◌}
 use Rattle.encoding_stream.specs.Pieces.{held}
-use Rattle.encoding_stream.proofs.FinishLemmas.{bytes-judged, verdict-groups}
+use Rattle.encoding_stream.proofs.FinishLemmas.{bytes-judged, verdict-groups, verdict-length}
 use Rattle.encoding_stream.proofs.pieces.PieceDecoder.finish.Goals as goal
 
 pub returns-in-Err-clause-bytes : goal.returns-in-Err-clause-bytes
@@ -40,3 +40,10 @@ returns-in-Err-judged-clause-bytes c =
     c.args.self.now.kept c.judge_last-judged.result c.judge_last-judged.new.output
     c.unwrap_or-written.result c.judge_last-judged.ensures.sound
     c.judge_last-judged.ensures.fault c.unwrap_or-written.ensures
+
+pub returns-in-Err-clause-verdict : goal.returns-in-Err-clause-verdict
+returns-in-Err-clause-verdict c = λ text keeps.
+    let s = c.args.self.now in
+    let k = s.kept in
+    verdict-length s.encoding.now c.decode_len.ensures.base text k.len k.fault (held k) k.ended
+    keeps c.pieces.ensures.verdict c.in-Err.error (sym c.decode_len.ensures.value ∙ c.in-Err.is)

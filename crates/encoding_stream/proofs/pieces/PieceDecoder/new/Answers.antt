@@ -29,3 +29,7 @@ invariant_of-result-clause-short c =
     subst (λ n. 0 < n)
     (ap group_symbols (sym c.bit_width-width.ensures.value) ∙ sym c.group_size.ensures)
     (symbols-some c.args.encoding.now.width flags.1.is_width)
+
+pub returns-clause-nothing : goal.returns-clause-nothing
+returns-clause-nothing c =
+    (c.pieces.ensures.nothing c.args.encoding.now c.bit_width-width.ensures.base).0
