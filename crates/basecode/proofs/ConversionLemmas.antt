@@ -9,6 +9,8 @@ use Rattle.data_encoding.specs.Predefined.{hexlower_fields}
 use Rattle.data_encoding.specs.Text.{text_of}
 use Rattle.data_encoding.specs.Fields.{IsSpecified}
 use Rattle.data_encoding.specs.Laws.{SoundMeans}
+use Rattle.data_encoding.specs.declared.error.DecodeError.{DecodeError}
+use Rattle.encoding_stream.specs.Decoded.{DecodesAll}
 use Rattle.encoding_stream.specs.Encoded.{ReadsMore}
 use Rattle.encoding_stream.specs.declared.error.StreamFault.{StreamFault}
 use Rattle.encoding_stream.specs.declared.error.StreamFault.TheVariants.{Decode as Faulty, TooLong, Read, Write}
@@ -80,6 +82,20 @@ module _ (words : List (List ℕ)) (read_old read_new written_old written_new : 
         record { verb = verb; base = base; asked = asked; reason = inl explains }
     refused_conversion verb base (Err Read) asked explains ends = absurd (omega (arith, ends))
     refused_conversion verb base (Err Write) asked explains ends = absurd (omega (arith, ends))
+
+-- what decoding tells of a fault explains it
+pub explained : (base : Base) (read_old read_new written_old written_new : Option (List ℕ))
+    (outcome : Result (Unit {0}) StreamFault)
+    → ((error : DecodeError) → outcome ≡ Err (Faulty error)
+    → DecodesAll base (Some error) read_old read_new written_old written_new)
+    → (outcome ≡ Err TooLong → ReadsMore (limit_of Decode) read_old read_new)
+    → IfErr outcome (Explains Decode base read_old read_new written_old written_new)
+explained base read_old read_new written_old written_new (Ok done) faulty past = tt
+explained base read_old read_new written_old written_new (Err (Faulty error)) faulty past =
+    (refl, faulty error refl)
+explained base read_old read_new written_old written_new (Err TooLong) faulty past = past refl
+explained base read_old read_new written_old written_new (Err Read) faulty past = tt
+explained base read_old read_new written_old written_new (Err Write) faulty past = tt
 
 abbrev is_encode : Verb → Bool
 is_encode Encode = true

@@ -5,6 +5,13 @@ use Rattle.std.specs.Fmt.{WritesText, ◌++?◌}
 use Rattle.std.specs.Io.KnownBytes.{Appends}
 use Rattle.basecode.specs.Faults.{line_of}
 
+-- what was written of a fault is the line
+pub line_written : (old new text : Option (List ℕ))
+    → IfSome (Some (codes "basecode: ") ++? (text ++? Some (10 ∷ []))) (Appends old new)
+    → IfSome text (λ shown. Appends old new (line_of shown))
+line_written old new None written = tt
+line_written old new (Some shown) written = written
+
 module _ {L : Type 0} (took : L → List ℕ → L → Type 0) (held : L → List ℕ)
     (keeps : (before : L) (bytes : List ℕ) (after : L) → took before bytes after
     → held after ≡ held before ++ bytes) where

@@ -1,4 +1,5 @@
-use Rattle.std.proofs.Common.{◌≡◌, [], ◌∷◌, ◌∙◌, subst, sym}
+use Rattle.std.proofs.Common.{◌≡◌, [], ◌∷◌, ◌∙◌, subst, refl, sym, arith}
+use Rattle.std.proofs.lemmas.Grind.{common_steps}
 use Rattle.basecode.specs.Words.{IsWrong, texts}
 use Rattle.basecode.proofs.WordLemmas.{texts_of_two}
 use Rattle.basecode.proofs.command.request_named.Goals as goal
@@ -13,3 +14,9 @@ returns-in-Err-clause-fault c =
     c.word-item-then-words-lt3.is c.name-item.is
     ∙ (λ i. sym c.as_str-in-len2.ensures.value i ∷ sym c.as_str-in-len2-2.ensures.value i ∷ []) in
     subst (λ words. IsWrong words c.in-Err.fault) (sym are) c.in-Err.ensures.fault
+
+pub returns-in_default-clause-asked : goal.returns-in_default-clause-asked
+returns-in_default-clause-asked c = tt
+
+pub returns-in_default-clause-wrong : goal.returns-in_default-clause-wrong
+returns-in_default-clause-wrong c = (λ err. grind (arith, common_steps), λ none. refl)

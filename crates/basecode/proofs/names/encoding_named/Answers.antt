@@ -1,4 +1,4 @@
-use Rattle.std.proofs.Common.{ap}
+use Rattle.std.proofs.Common.{ap, refl, rules}
 use Rattle.data_encoding.specs.Predefined.{hexlower_fields, hexlower_permissive_fields, hexupper_fields, hexupper_permissive_fields, base32_fields, base32_nopad_fields, base32_nopad_nocase_fields, base32_nopad_visual_fields, base32hex_fields, base32hex_nopad_fields, base32_dnssec_fields, base32_dnscurve_fields, base64_fields, base64_nopad_fields, base64_mime_fields, base64_mime_permissive_fields, base64url_fields, base64url_nopad_fields}
 use Rattle.basecode.specs.Names.{fields_named}
 use Rattle.basecode.proofs.names.encoding_named.Goals as goal
@@ -129,3 +129,9 @@ returns-in-BASE64URL_NOPAD-clause-known c = record {
   is_known = ap fields_named c.in-BASE64URL_NOPAD.is;
   is_built = c.base64url_nopad.ensures;
 }
+
+pub returns-in_default-clause-known : goal.returns-in_default-clause-known
+returns-in_default-clause-known c = tt
+
+pub returns-in_default-clause-unknown : goal.returns-in_default-clause-unknown
+returns-in_default-clause-unknown c = (λ none. search rules, λ none. refl)

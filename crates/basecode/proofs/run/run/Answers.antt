@@ -1,4 +1,4 @@
-use Rattle.std.proofs.Common.{rules, ◌≡◌, ◌∙◌, sym, Some, IfErr, inl, inr}
+use Rattle.std.proofs.Common.{rules, arith, ◌≡◌, ◌∙◌, refl, sym, Some, IfErr, inl, inr}
 use Rattle.std.specs.Io.KnownBytes.{Appends, Keeps}
 use Rattle.data_encoding.specs.Canonical.{has_one_text}
 use Rattle.basecode.specs.Names.{listing}
@@ -121,3 +121,12 @@ returns-in-Conversion-clause-begun g c = λ not_2.
         begins = begins;
       });
     }
+
+pub returns-in-Err-clause-refused : goal.returns-in-Err-clause-refused
+returns-in-Err-clause-refused g c = λ ends. absurd (omega (arith, ends))
+
+pub returns-in-Err-clause-usage : goal.returns-in-Err-clause-usage
+returns-in-Err-clause-usage g c = (λ ends. c.in-Err.ensures.wrong.0 refl, λ none. refl)
+
+pub returns-in-Err-clause-begun : goal.returns-in-Err-clause-begun
+returns-in-Err-clause-begun g c = λ not_2. absurd (not_2 refl)
