@@ -4,7 +4,7 @@
 # - `text`, and the examples of the manual page: a line with `$ ` and a command, and then what that
 #   prints, on standard output or standard error;
 # - `rust`: stands in the callers, word for word;
-# - `sh`: is run as it stands.
+# - `sh`: is run as it stands, but that `rt run` runs the program that is tried.
 #
 # tests/interop.sh runs those of docs/SCALE.md, and tests/contracts.sh has those of
 # docs/CONTRACTS.md.
@@ -36,6 +36,14 @@ try_examples() {
         esac
     done <<<"$2"$'\nEND'
 }
+
+# Stands for `rt run -- WORD..` in a block that is run, which would prove the program once more.
+rt() {
+    [ "$1 $2" = 'run --' ] || return 2
+    shift 2
+    basecode "$@"
+}
+export -f rt
 
 # try_commands PAGE BLOCK: runs it, and looks at what it did.
 try_commands() {
