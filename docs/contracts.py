@@ -123,7 +123,17 @@ def public_names(root):
     names = set()
     for used in re.findall(r"^pub use (.*?);", text, re.MULTILINE | re.DOTALL):
         names.update(re.findall(r"\w+", used.rpartition("::")[2]))
-    return names, set(re.findall(r"^pub mod (\w+);", text, re.MULTILINE))
+    return names, public_modules(root.parent, text, "")
+
+
+def public_modules(folder, text, prefix):
+    """The modules that a file hands out, by their paths, and those within them."""
+    found = set()
+    for name in re.findall(r"^pub mod (\w+);", text, re.MULTILINE):
+        found.add(prefix + name)
+        inner = (folder / f"{name}.rt").read_text()
+        found |= public_modules(folder / name, inner, f"{prefix}{name}::")
+    return found
 
 
 def of_impl(lines, at, names):
@@ -158,11 +168,10 @@ def imports_of(text):
             for name in re.findall(r"[^\s,]+", all_names)}
 
 
-def of_file(path, names, modules):
-    """The public calls of a file."""
+def of_file(path, module, names, modules):
+    """The public calls of a file, which is that module."""
     text = path.read_text()
     lines = text.split("\n")
-    module = path.stem
     calls = []
     for at, line in enumerate(lines):
         if line.startswith("impl"):
@@ -187,7 +196,8 @@ def of_crate(crate):
     """The public calls of a crate, in the order of its files."""
     root = next(path for path in (crate / "src/lib.rt", crate / "src/main.rt") if path.exists())
     names, modules = public_names(root)
-    names |= {name for module in modules for name in types_of(crate / f"src/{module}.rt")}
+    names |= {name for module in modules
+              for name in types_of(crate / f"src/{module.replace('::', '/')}.rt")}
     calls = []
     gathered = {module: [] for module in TOGETHER}
     for path in sorted((crate / "src").rglob("*.rt")):
@@ -195,7 +205,7 @@ def of_crate(crate):
         if "tests" in parts:
             continue
         target = gathered.get(parts[0], calls)
-        target += of_file(path, names, modules)
+        target += of_file(path, "::".join(parts), names, modules)
     for module, title in TOGETHER.items():
         calls += together(gathered[module], title)
     return calls

@@ -12,7 +12,8 @@ use crate::error::StreamFault;
 use crate::fill::fill;
 use crate::pieces::PieceDecoder;
 use crate::watch::Watch;
-use data_encoding::{DECODE_LIMIT, DecodeError, Encoding, laws};
+use data_encoding::laws::steps;
+use data_encoding::{DECODE_LIMIT, DecodeError, Encoding};
 use std::io;
 use std::io::{Read, Write};
 
@@ -65,7 +66,7 @@ pub fn decode_stream<R: Read, W: Write>(
 {
     // It tells that the base is built from a specification.
     encoding.bit_width();
-    laws::pieces();
+    steps::pieces();
     let mut pieces = PieceDecoder::new(encoding);
     let mut buffer = [0; CHUNK];
     let mut output = [0; ROOM];

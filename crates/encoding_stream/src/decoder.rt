@@ -10,7 +10,8 @@ ghost use Rattle.encoding_stream.specs.Pieces.{base_of_pieces, verdict_of, Keeps
 ghost use Rattle.encoding_stream.specs.Reading.{AppendsPiece, ReadsOn};
 
 use crate::pieces::PieceDecoder;
-use data_encoding::{DECODE_LIMIT, DecodeError, Encoding, laws};
+use data_encoding::laws::steps;
+use data_encoding::{DECODE_LIMIT, DecodeError, Encoding};
 use std::alloc::{AllocError, Allocator};
 
 #[cfg(test)]
@@ -140,7 +141,7 @@ fn append_piece<A: Allocator + Copy>(
 {
     let mut buffer = [0; ROOM];
     let (read, written) = read_first(pieces, piece, &mut buffer);
-    laws::pieces();
+    steps::pieces();
     if written > 0 {
         let rest = &piece[read..];
         output.reserve(written + pieces.most(rest.len()))?;

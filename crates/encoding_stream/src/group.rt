@@ -9,7 +9,7 @@ ghost use Rattle.encoding_stream.specs.Pieces.{at_positions, base_of_pieces, hel
 ghost use Rattle.encoding_stream.specs.Reading.{ReadsOn};
 
 use crate::pieces::PieceDecoder;
-use data_encoding::laws::pieces;
+use data_encoding::laws::steps::pieces;
 use data_encoding::{DECODE_LIMIT, DecodeError, DecodeKind};
 
 impl PieceDecoder<'_> {

@@ -6,7 +6,7 @@ ghost use Rattle.data_encoding.specs.Fields.{IsSpecified};
 ghost use Rattle.data_encoding.specs.Grammar.{Means};
 ghost use Rattle.data_encoding.specs.Lengths.{decoded_len, most_bytes};
 
-use data_encoding::laws::{layout_flags, pieces, whole_groups};
+use data_encoding::laws::steps::{layout_flags, pieces, whole_groups};
 use data_encoding::{DECODE_LIMIT, DecodeError, Encoding};
 
 /// What is kept of a text between its pieces: its length, the first fault of its whole groups, the

@@ -3,9 +3,10 @@
 use super::decoding::begins;
 use super::rows::{bytes_of, bytes_of_length, case_of, described, row_of};
 use super::vectors::is_there_and_back;
+use data_encoding::laws::steps::{layout_flags, pieces};
 use data_encoding::laws::{
-    canonical, join_decode, join_encode, join_fault, layout_flags, not_canonical, one_meaning,
-    pieces, resume, round_trip, specification_again,
+    canonical, join_decode, join_encode, join_fault, not_canonical, one_meaning, resume,
+    round_trip, specification_again,
 };
 use data_encoding::{
     DECODE_LIMIT, DecodeError, DecodeFault, DecodeKind, Encoding, Specification, hexlower,

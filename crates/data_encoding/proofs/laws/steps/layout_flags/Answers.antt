@@ -2,7 +2,7 @@ use Rattle.std.proofs.Common.{refl}
 use Rattle.data_encoding.specs.Layout.{layout}
 use Rattle.data_encoding.proofs.specification.RuleLemmas.{IsRuled-yield}
 use Rattle.data_encoding.proofs.tables.ReadingLemmas.{read-layout}
-use Rattle.data_encoding.proofs.laws.layout_flags.Goals as goal
+use Rattle.data_encoding.proofs.laws.steps.layout_flags.Goals as goal
 
 pub returns : goal.returns
 returns c = λ base is.

@@ -7,7 +7,7 @@ use Rattle.data_encoding.proofs.decoding.LoneGroupLemmas.{bytes-alone, fault-alo
 use Rattle.data_encoding.proofs.decoding.PieceLemmas.{HasRead-faulty, HasRead-group, HasRead-held, HasRead-nothing, fault_of-read, sound_bytes-read, whole_bytes-group, whole_bytes-grows, whole_bytes-nothing}
 use Rattle.data_encoding.proofs.decoding.WholePieceLemmas.{HasRead-whole, kept-whole, whole_bytes-whole}
 use Rattle.data_encoding.proofs.specification.RuleLemmas.{IsRuled-yield}
-use Rattle.data_encoding.proofs.laws.pieces.Goals as goal
+use Rattle.data_encoding.proofs.laws.steps.pieces.Goals as goal
 
 pub returns-clause-nothing : goal.returns-clause-nothing
 returns-clause-nothing c base is =
