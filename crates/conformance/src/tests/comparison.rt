@@ -86,19 +86,6 @@ impl<'a> Comparison<'a> {
         self.is_alike_in_pieces(&want, text)
     }
 
-    // The same, in single bytes alone where it comes in pieces, and not resumed.
-    pub(super) fn is_alike_in_bytes(&mut self, text: &[u8]) -> Result<bool, AllocError> {
-        if text.len() > DECODE_LIMIT {
-            return Ok(false);
-        }
-        let Some(want) = self.found(text)? else {
-            return Ok(false);
-        };
-        self.tally.texts = self.tally.texts.wrapping_add(1);
-        let want = self.judge.in_pieces(self.alloc, text, want)?;
-        self.is_cut_alike(&want, text, 0, 1)
-    }
-
     // Whether a decoding of each front of a valid length that may be followed is resumed to what is
     // wanted of the whole.
     fn is_resumed_alike(&mut self, want: &Judgement, text: &[u8]) -> bool
@@ -162,11 +149,44 @@ impl<'a> Comparison<'a> {
         Ok(is_counted && fault == want.fault && self.output == want.bytes)
     }
 
+    // The same of a decoder whose output is cleared after each call.
+    pub(super) fn is_drained_alike(
+        &mut self,
+        want: &Judgement,
+        text: &[u8],
+        position: usize,
+        size: usize,
+    ) -> Result<bool, AllocError>
+        requires inside { position ≤ length text.now }
+        requires some { 0 < size }
+    {
+        let mut drained = Vec::new(self.alloc);
+        self.output.clear();
+        let (front, rest) = text.split_at(position);
+        let mut decoder = Decoder::new(self.encoding);
+        push(&mut decoder, front, &mut self.output)?;
+        drain(&mut self.output, &mut drained)?;
+        for piece in rest.chunks(size) {
+            push(&mut decoder, piece, &mut self.output)?;
+            drain(&mut self.output, &mut drained)?;
+        }
+        let fault = finish(decoder, &mut self.output)?;
+        drain(&mut self.output, &mut drained)?;
+        Ok(fault == want.fault && drained == want.bytes)
+    }
+
     // Whether a stream writes and answers what is wanted, which is given so many bytes at a time.
     pub(super) fn is_read_alike(&mut self, want: &Judgement, text: &[u8], most: usize) -> bool {
         self.tally.decodings = self.tally.decodings.wrapping_add(1);
         is_streamed_alike(self.alloc, self.encoding, want, text, most)
     }
+}
+
+// Moves what was appended behind what was drained before.
+fn drain(output: &mut Vec<u8>, drained: &mut Vec<u8>) -> Result<(), AllocError> {
+    drained.extend_from_slice(output)?;
+    output.clear();
+    Ok(())
 }
 
 // Whether `decode` answers what the judge does.

@@ -122,7 +122,7 @@ fn faults_are_alike_beside(
         let own = text[position];
         for byte in [b'!', b'=', 200] {
             text[position] = byte;
-            if !comparison.is_alike_in_bytes(text)? {
+            if !comparison.is_alike(text)? {
                 return Ok(false);
             }
         }
@@ -182,13 +182,16 @@ fn faults_are_judged_alike_ignoring_a_byte(rt: HostRuntime) -> Result<(), Fail> 
     let mut tally = Tally::zero();
     for lines in [BASES, UNCHECKED, PADDED] {
         for line in lines.split('\n') {
-            assert!(rt; is_alike_with_faults(rt.alloc(), line, &mut tally)?, "{line}");
+            assert!(rt;
+                is_alike_with_faults(rt.alloc(), line, &mut tally)?,
+                "{line}"
+            );
         }
     }
     let want = Tally {
         texts: 1_574_688,
-        decodings: 1_574_688,
-        resumed: 0,
+        decodings: 25_186_920,
+        resumed: 20_719_194,
     };
     assert_eq!(rt; tally, want);
     Ok(())
