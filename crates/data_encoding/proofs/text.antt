@@ -15,3 +15,4 @@ pub mod SymbolMeaningLemmas
 pub mod KeptTextLemmas
 pub mod LastGroupLemmas
 pub mod TextMeaningLemmas
+pub mod TextLengthLemmas

@@ -23,3 +23,8 @@ pub mod Decoding
 pub mod Printed
 pub mod Shown
 pub mod Predefined
+pub mod Verdicts
+pub mod Eighteen
+pub mod Compared
+pub mod Tight
+pub mod FaultStays

@@ -5,6 +5,11 @@
 
 ghost use Rattle.data_encoding.specs.Canonical.{Canonical, NotCanonical};
 ghost use Rattle.data_encoding.specs.Laws.{JoinDecode, JoinEncode, JoinFault, NoOrder, OneMeaning, Order, Resume, RoundTrip, SoundMeans, SpecificationAgain};
+ghost use Rattle.data_encoding.specs.Compared.{OrderOfData, OrderOfTexts};
+ghost use Rattle.data_encoding.specs.Eighteen.{CanonicalByCauses, SixAreCanonical, SixAreOrdered};
+ghost use Rattle.data_encoding.specs.FaultStays.{FaultStays, GroupFaultStays, NoFaultBefore};
+ghost use Rattle.data_encoding.specs.Tight.{LengthAgain, LengthOfText, MeansMost};
+ghost use Rattle.data_encoding.specs.Verdicts.{FixedLength, Injective, MeansSound};
 
 pub mod steps;
 
@@ -29,9 +34,19 @@ pub fn one_meaning()
     ensures { OneMeaning }
 {}
 
-/// A text without a fault means its sound bytes, for each encoding that a specification yields.
+/// A text means data exactly where it has no fault and the data are its sound bytes, for each
+/// encoding that a specification yields.
 pub fn sound_text()
-    ensures { SoundMeans }
+    ensures sound { SoundMeans }
+    ensures meant { MeansSound }
+{}
+
+/// Different data have different texts, for each encoding that a specification yields; and where it
+/// is canonical, each text that means so many bytes is as long as their text: `encode_len` tells how
+/// long.
+pub fn injective()
+    ensures differ { Injective }
+    ensures length { FixedLength }
 {}
 
 /// Two texts joined mean their data joined, for each encoding that a specification yields: where it
@@ -42,16 +57,42 @@ pub fn join_decode()
 {}
 
 /// Texts may be compared in place of data by exactly these of the encodings without lines: the most
-/// significant bit comes first, the symbols ascend, and padding comes before each symbol.
+/// significant bit comes first, the symbols ascend, and padding comes before each symbol. Six of the
+/// sixteen are so.
 pub fn order()
     ensures kept { Order }
     ensures broken { NoOrder }
+    ensures data { OrderOfData }
+    ensures texts { OrderOfTexts }
+    ensures sixteen { SixAreOrdered }
+{}
+
+/// Where no byte is ignored and there is no padding, `decode_len` tells exactly how many bytes a
+/// text means, and `encode_len` how long each text is that means so many, for each encoding that a
+/// specification yields; and where there are no lines and no padding, `decode_len` undoes
+/// `encode_len`.
+pub fn tight()
+    ensures most { MeansMost }
+    ensures fixed { LengthOfText }
+    ensures again { LengthAgain }
+{}
+
+/// A fault of whole groups is that of every longer text whose length has none, for each encoding
+/// that a specification yields; and where they have none, no longer text has one before their end.
+/// Ignored bytes belong to no group.
+pub fn fault_stays()
+    ensures groups { GroupFaultStays }
+    ensures text { FaultStays }
+    ensures behind { NoFaultBefore }
 {}
 
 /// A text that means data is the text of the data, for each encoding that a specification yields
-/// and that is canonical.
+/// and that is canonical, as six of the eighteen are: those where no byte of a text is padding,
+/// ignored or translated.
 pub fn canonical()
-    ensures { Canonical }
+    ensures only { Canonical }
+    ensures causes { CanonicalByCauses }
+    ensures eighteen { SixAreCanonical }
 {}
 
 /// For each encoding that a specification yields and that is not canonical, and for each cause of

@@ -5,8 +5,8 @@ use Rattle.std.proofs.lemmas.List.{append-nil, length-map, map-append, nil_from_
 use Rattle.std.proofs.Math.Nat.{mod_self, mul-mod_left, mul_comm}
 use Rattle.std.specs.Prelude.{flat_map}
 use Rattle.std.specs.List.{AllByRecursion, list_any}
-use Rattle.data_encoding.specs.declared.encoding.Character.TheVariants.{Ignored, Padding}
-use Rattle.data_encoding.specs.Base.{Base, IsWidth, Wrapping, meaning, is_ignored, is_padded, is_padding, ignores_some, group_symbols}
+use Rattle.data_encoding.specs.declared.encoding.Character.TheVariants.{Padding}
+use Rattle.data_encoding.specs.Base.{Base, IsWidth, meaning, is_padded, is_padding, ignores_some, group_symbols}
 use Rattle.data_encoding.specs.Bits.{runs}
 use Rattle.data_encoding.specs.Canonical.{has_one_text}
 use Rattle.data_encoding.specs.Grammar.{Positioned, GroupMeans, GroupsMean, Means, MeansBy, kept, positioned, is_final}
@@ -15,12 +15,13 @@ use Rattle.data_encoding.specs.Text.{filled_with, plain_text, text_of, with_padd
 use Rattle.data_encoding.proofs.canonicity.OwnTextLemmas.{missing-is, paddings_are, plain_is}
 use Rattle.data_encoding.proofs.digits.WidthLemmas.{group_bits, group_symbols-pos}
 use Rattle.data_encoding.proofs.grammar.GroupLemmas.{bytes_in}
-use Rattle.data_encoding.proofs.grammar.PositionLemmas.{bytes-positioned_from, filter-plain, never_ignored}
+use Rattle.data_encoding.proofs.grammar.PositionLemmas.{bytes-positioned_from, filter-plain}
+use Rattle.data_encoding.proofs.grammar.TightLemmas.{no_lines-plain}
 use Rattle.data_encoding.proofs.grammar.UnpaddedGroupLemmas.{PlainMeans-count}
 use Rattle.data_encoding.proofs.lists.EachLemmas.{all_parts}
 use Rattle.data_encoding.proofs.lists.ListLemmas.{AllFail-list_any}
 use Rattle.data_encoding.proofs.lists.RunLemmas.{flat_map-runs}
-use Rattle.data_encoding.proofs.specification.RuleLemmas.{IsRuled, IsRuledWrapping}
+use Rattle.data_encoding.proofs.specification.RuleLemmas.{IsRuled}
 use Rattle.data_encoding.proofs.text.PaddedTextLemmas.{text_of-unwrapped}
 use Rattle.data_encoding.proofs.text.PlainTextLemmas.{plain_text-join, plain_text-nil}
 use Rattle.data_encoding.proofs.text.TextMeaningLemmas.{filled-behind, filled-nil}
@@ -59,20 +60,6 @@ parts_of base h =
 module _ (base : Base) (ruled : IsRuled base) (one : HasOneText base) where
   width : IsWidth base.width
   width = ruled.is_width
-
-  -- no byte is ignored, so there are no lines
-  no_lines : base.wrapping ≡ None
-  no_lines = by base.wrapping ruled.wrapping where
-    ignored_by : (bytes : List ℕ)
-        → AllByRecursion (λ byte. (byte < 128) × (meaning base byte ≡ Ignored)) bytes
-        → 0 < length bytes → ⊥
-    ignored_by [] all some = absurd (omega (arith, some))
-    ignored_by (byte ∷ bytes) all some =
-        false≢true (sym (never_ignored base one.keeps byte) ∙ ap is_ignored all.0.1)
-
-    by : (o : Option Wrapping) → IsRuledWrapping base o → o ≡ None
-    by None h = refl
-    by (Some lines) h = absurd (ignored_by lines.separator h.ignored h.ended)
 
   module _ (character : ℕ) (some : base.padding ≡ Some character) where
     abbrev size : ℕ
@@ -188,7 +175,7 @@ module _ (base : Base) (ruled : IsRuled base) (one : HasOneText base) where
   one_text : (text bytes : List ℕ) → Means base text bytes → text ≡ text_of base bytes
   one_text text bytes means =
       sym (bytes-positioned_from 0 text) ∙ ap bytes_in (sym all_kept)
-      ∙ by base.padding refl means ∙ sym (text_of-unwrapped base bytes no_lines) where
+      ∙ by base.padding refl means ∙ sym (text_of-unwrapped base bytes (no_lines-plain base ruled one.keeps)) where
         all_kept : kept base text ≡ positioned text
         all_kept = filter-plain base one.keeps (positioned text)
 
@@ -205,3 +192,8 @@ module _ (base : Base) (ruled : IsRuled base) (one : HasOneText base) where
 pub Means-text_of_only : (base : Base) → IsRuled base → has_one_text base ≡ true
     → (text bytes : List ℕ) → Means base text bytes → text ≡ text_of base bytes
 Means-text_of_only base ruled h = one_text base ruled (parts_of base h)
+
+-- and there are no lines
+pub no_lines-only : (base : Base) → IsRuled base → has_one_text base ≡ true
+    → base.wrapping ≡ None
+no_lines-only base ruled h = no_lines-plain base ruled (parts_of base h).keeps
