@@ -13,3 +13,4 @@ pub mod PaddedMeaningLemmas
 pub mod MeaningLemmas
 pub mod JoinLemmas
 pub mod JoinFaultLemmas
+pub mod SameMeaningLemmas

@@ -5,6 +5,7 @@
 
 ghost use Rattle.data_encoding.specs.Canonical.{Canonical, NotCanonical};
 ghost use Rattle.data_encoding.specs.Laws.{JoinDecode, JoinEncode, JoinFault, NoOrder, OneMeaning, Order, Resume, RoundTrip, SoundMeans, SpecificationAgain};
+ghost use Rattle.data_encoding.specs.SameMeaning.{SameKeptBytes, Translated};
 
 pub mod steps;
 
@@ -72,4 +73,16 @@ pub fn join_fault()
 /// `join_decode`.
 pub fn resume()
     ensures { Resume }
+{}
+
+/// Texts of the same bytes but for ignored ones mean the same data, for each encoding that a
+/// specification yields.
+pub fn same_kept_bytes()
+    ensures { SameKeptBytes }
+{}
+
+/// Texts whose bytes mean the same one by one, as `interpret_byte` tells it, have the same fault at
+/// the same position and mean the same data, for each encoding that a specification yields.
+pub fn translated()
+    ensures { Translated }
 {}
