@@ -1,9 +1,10 @@
 -- Texts that mean the same.
-use Rattle.std.specs.Prelude.{◌≡◌, ℕ, List, filter, map, not}
-use Rattle.data_encoding.specs.Base.{Base, meaning, is_ignored}
+use Rattle.std.specs.Prelude.{◌≡◌, ◌↔◌, ℕ, Bool, true, ◌&&◌, List, filter, map, not, unwrap_or}
+use Rattle.data_encoding.specs.Base.{Base, meaning, is_ignored, is_padded, ignores_some}
 use Rattle.data_encoding.specs.Fault.{fault_of}
 use Rattle.data_encoding.specs.Fields.{IsSpecified}
 use Rattle.data_encoding.specs.Grammar.{Means}
+use Rattle.data_encoding.specs.Layout.{own_character}
 
 -- the bytes of a text that are not ignored
 abbrev pub kept_bytes : Base → List ℕ → List ℕ
@@ -23,3 +24,21 @@ Translated =
     → map (meaning base) text ≡ map (meaning base) other
     → (fault_of base text ≡ fault_of base other)
     × ((bytes : List ℕ) → Means base text bytes → Means base other bytes)
+
+-- each byte replaced by the symbol or the padding character that it stands for, if any
+abbrev pub own_form : Base → List ℕ → List ℕ
+own_form base text = map (λ byte. unwrap_or (own_character base (meaning base byte)) byte) text
+
+-- no cause of a second text but a translated byte
+abbrev pub has_one_own_form : Base → Bool
+has_one_own_form base =
+    base.checks_trailing_bits && not (is_padded base && base.concatenates)
+    && not (ignores_some base)
+
+-- Where only a translated byte gives a second text, two texts that mean data mean the same data
+-- exactly where their own forms are equal.
+abbrev pub OwnForms : Type 0
+OwnForms =
+    (base : Base) → IsSpecified base → has_one_own_form base ≡ true
+    → (text other bytes others : List ℕ) → Means base text bytes → Means base other others
+    → (bytes ≡ others) ↔ (own_form base text ≡ own_form base other)

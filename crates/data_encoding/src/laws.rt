@@ -5,7 +5,7 @@
 
 ghost use Rattle.data_encoding.specs.Canonical.{Canonical, NotCanonical};
 ghost use Rattle.data_encoding.specs.Laws.{JoinDecode, JoinEncode, JoinFault, NoOrder, OneMeaning, Order, Resume, RoundTrip, SoundMeans, SpecificationAgain};
-ghost use Rattle.data_encoding.specs.SameMeaning.{SameKeptBytes, Translated};
+ghost use Rattle.data_encoding.specs.SameMeaning.{OwnForms, SameKeptBytes, Translated};
 
 pub mod steps;
 
@@ -82,7 +82,10 @@ pub fn same_kept_bytes()
 {}
 
 /// Texts whose bytes mean the same one by one, as `interpret_byte` tells it, have the same fault at
-/// the same position and mean the same data, for each encoding that a specification yields.
+/// the same position and mean the same data, for each encoding that a specification yields. Where
+/// translated bytes are all that keeps it from being canonical, two texts that mean data mean the
+/// same data exactly where they are equal with each byte replaced by what it stands for.
 pub fn translated()
-    ensures { Translated }
+    ensures same { Translated }
+    ensures own_forms { OwnForms }
 {}

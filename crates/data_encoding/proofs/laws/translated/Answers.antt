@@ -1,10 +1,15 @@
+use Rattle.data_encoding.proofs.canonicity.OneTextLemmas.{own_forms}
 use Rattle.data_encoding.proofs.grammar.SameMeaningLemmas.{fault_of-translated, Means-translated}
 use Rattle.data_encoding.proofs.specification.RuleLemmas.{IsRuled-yield}
 use Rattle.data_encoding.proofs.laws.translated.Goals as goal
 
-pub returns : goal.returns
-returns c = λ base is text other same.
+pub returns-clause-same : goal.returns-clause-same
+returns-clause-same c = λ base is text other same.
     let width = (IsRuled-yield is.fields base is.yields).is_width in (
       fault_of-translated base width text other same,
       Means-translated base width text other same,
     )
+
+pub returns-clause-own_forms : goal.returns-clause-own_forms
+returns-clause-own_forms c = λ base is.
+    own_forms base (IsRuled-yield is.fields base is.yields)
