@@ -14,3 +14,4 @@ pub mod MeaningLemmas
 pub mod JoinLemmas
 pub mod JoinFaultLemmas
 pub mod TightLemmas
+pub mod SameMeaningLemmas

@@ -12,6 +12,7 @@ pub mod PlainLoopLemmas
 pub mod PlainRestLemmas
 pub mod FourGroupLemmas
 pub mod SymbolMeaningLemmas
+pub mod ExchangeLemmas
 pub mod KeptTextLemmas
 pub mod LastGroupLemmas
 pub mod TextMeaningLemmas

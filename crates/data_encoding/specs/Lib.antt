@@ -18,6 +18,7 @@ pub mod Specification
 pub mod Order
 pub mod Canonical
 pub mod Laws
+pub mod SameMeaning
 pub mod Tables
 pub mod Decoding
 pub mod Printed

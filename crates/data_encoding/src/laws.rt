@@ -10,6 +10,7 @@ ghost use Rattle.data_encoding.specs.Eighteen.{CanonicalByCauses, SixAreCanonica
 ghost use Rattle.data_encoding.specs.FaultStays.{FaultStays, GroupFaultStays, NoFaultBefore};
 ghost use Rattle.data_encoding.specs.Tight.{LengthAgain, LengthOfText, MeansMost};
 ghost use Rattle.data_encoding.specs.Verdicts.{FixedLength, Injective, MeansSound};
+ghost use Rattle.data_encoding.specs.SameMeaning.{OwnForm, OwnForms, SameButSymbols, SameKeptBytes, Translated};
 
 pub mod steps;
 
@@ -113,4 +114,30 @@ pub fn join_fault()
 /// `join_decode`.
 pub fn resume()
     ensures { Resume }
+{}
+
+/// Texts of the same bytes but for ignored ones mean the same data, for each encoding that a
+/// specification yields.
+pub fn same_kept_bytes()
+    ensures { SameKeptBytes }
+{}
+
+/// Texts whose bytes mean the same one by one, as `interpret_byte` tells it, have the same fault at
+/// the same position and mean the same data, for each encoding that a specification yields.
+///
+/// So a translated byte may be replaced by the symbol or the padding character that it stands for,
+/// which means the same. Where translated bytes are all that keeps an encoding from being
+/// canonical, two texts that mean data mean the same data exactly where they are equal with each
+/// byte so replaced.
+pub fn translated()
+    ensures same { Translated }
+    ensures own_form { OwnForm }
+    ensures own_forms { OwnForms }
+{}
+
+/// Of an encoding that a specification yields, and of another that differs from it in its symbols
+/// alone: the text of data in the other is that in the first, with each symbol exchanged for the
+/// other's symbol of the same value, and each padding character for the other's.
+pub fn same_but_symbols()
+    ensures { SameButSymbols }
 {}
