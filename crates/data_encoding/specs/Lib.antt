@@ -14,6 +14,7 @@ pub mod Entries
 pub mod Meanings
 pub mod Encoding
 pub mod Layout
+pub mod OneLayout
 pub mod Specification
 pub mod Order
 pub mod Canonical

@@ -4,6 +4,7 @@
 //! text in pieces stand in `steps`.
 
 ghost use Rattle.data_encoding.specs.Canonical.{Canonical, NotCanonical};
+ghost use Rattle.data_encoding.specs.OneLayout.{Layouts, OneLayout};
 ghost use Rattle.data_encoding.specs.Laws.{JoinDecode, JoinEncode, JoinFault, NoOrder, OneMeaning, Order, Resume, RoundTrip, SoundMeans, SpecificationAgain};
 ghost use Rattle.data_encoding.specs.Compared.{OrderOfData, OrderOfTexts};
 ghost use Rattle.data_encoding.specs.Eighteen.{CanonicalByCauses, SixAreCanonical, SixAreOrdered};
@@ -107,6 +108,13 @@ pub fn not_canonical()
 /// stands behind that of the first.
 pub fn join_fault()
     ensures { JoinFault }
+{}
+
+/// No two encodings that specifications yield have one layout, and bytes are the layout of one
+/// exactly where rules on the bytes hold.
+pub fn one_layout()
+    ensures one { OneLayout }
+    ensures rules { Layouts }
 {}
 
 /// Where a decoding of a piece stops at a fault, it is resumed: what was not read, put before what
