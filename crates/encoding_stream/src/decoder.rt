@@ -55,9 +55,11 @@ impl<'a> Decoder<'a> {
     pub fn new(encoding: &'a Encoding) -> Decoder<'a>
         ensures base { base_of_decoder result ≡ encoding.now }
         ensures nothing { StandsAfter result [] }
+        ensures no_bytes { whole_bytes encoding.now [] ≡ [] }
     {
         // It tells that the base is built from a specification.
         encoding.bit_width();
+        steps::pieces();
         Decoder {
             pieces: PieceDecoder::new(encoding),
         }
