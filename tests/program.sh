@@ -61,6 +61,7 @@ check 'a list of a name' 2 '' "$usage" 4G list x
 check 'no words' 2 '' "$usage" 4G
 check 'one word' 2 '' "$usage" 4G encode
 check 'three words' 2 '' "$usage" 4G encode HEXLOWER HEXLOWER
+check 'a hundred words' 2 '' "$usage" 4G $(seq 100)
 check 'no verb' 2 '' "$usage" 4G recode NOPE
 check 'an empty verb' 2 '' "$usage" 4G '' HEXLOWER
 

@@ -5,6 +5,7 @@ use Rattle.data_encoding.specs.declared.error.DecodeError.{DecodeError}
 use Rattle.data_encoding.specs.declared.error.DecodeKind.TheVariants.{Symbol}
 use Rattle.data_encoding.specs.declared.meanings.Refusal.{Refusal}
 use Rattle.data_encoding.specs.Base.{Base}
+use Rattle.data_encoding.specs.Canonical.{IsCanonical}
 use Rattle.data_encoding.specs.Fields.{Fields, base_of}
 use Rattle.data_encoding.specs.Fault.{fault_of, sound_bytes}
 use Rattle.data_encoding.specs.Text.{text_of}
@@ -17,7 +18,7 @@ use Rattle.basecode.specs.declared.command.Verb.TheVariants.{Encode, Decode}
 use Rattle.basecode.specs.declared.fault.WordFault.TheVariants.{Usage, UnknownName}
 use Rattle.basecode.specs.Faults.{line_of, printed_word_fault, status_of, status_after}
 use Rattle.basecode.specs.Names.{IsNamed, fields_named, listing, names}
-use Rattle.basecode.specs.Run.{DecodesFaulty, AskConversion, Answers, Begins, BeginsAnswer, BeginsReply, Begun, Converts, Done, Explains, Fulfils, ByAnswer, ByReply, IsAnswer, Refused, Replies, OfNames, OfQuestion, truth}
+use Rattle.basecode.specs.Run.{DecodesFaulty, AskConversion, Answers, Begins, BeginsAnswer, BeginsReply, Begun, Converts, Done, Explains, Fulfils, ByAnswer, ByReply, IsAnswer, Refused, Replies, OfNames, OfQuestion, TellsCanonical, truth}
 use Rattle.basecode.specs.Words.{Task, Request, AreRequest, Asks, IsWrong, Names, Of, ask_of, both, limit_of, request_of, texts}
 
 abbrev words : List (List ℕ)
@@ -111,16 +112,38 @@ encoded_hello :
     × Done words hello nothing nothing (Some (codes "SGVsbG8=")))
 encoded_hello = encoded_in _ asked refl
 
--- what a question and the list are answered, with nothing read
+told_in : (base : Base) → Asks question Question base
+    → (IsCanonical base → TellsCanonical base (codes "true" ++ 10 ∷ [])
+    × Replies question hello hello (codes "true" ++ 10 ∷ []))
+    × (¬ IsCanonical base → TellsCanonical base (codes "false" ++ 10 ∷ [])
+    × Replies question hello hello (codes "false" ++ 10 ∷ []))
+told_in base asks = (
+  λ is.
+      let tells : TellsCanonical base (codes "true" ++ 10 ∷ []) = inl (is, refl) in
+      (tells, OfQuestion base asks refl tells),
+  λ is_not.
+      let tells : TellsCanonical base (codes "false" ++ 10 ∷ []) = inr (is_not, refl) in
+      (tells, OfQuestion base asks refl tells),
+)
+
+-- what a question is answered, with nothing read, by what is so
+told :
+    Has hexlower_fields (λ base.
+    (IsCanonical base → TellsCanonical base (codes "true" ++ 10 ∷ [])
+    × Replies question hello hello (codes "true" ++ 10 ∷ []))
+    × (¬ IsCanonical base → TellsCanonical base (codes "false" ++ 10 ∷ [])
+    × Replies question hello hello (codes "false" ++ 10 ∷ [])))
+told = told_in _ asked_whether
+
+-- the line of an answer, and what the list is answered, with nothing read
 replied :
     (truth true ≡ codes "true" ++ 10 ∷ []) × (truth false ≡ codes "false" ++ 10 ∷ [])
-    × Replies question hello hello (codes "true" ++ 10 ∷ [])
     × Replies (codes "list" ∷ []) hello hello listing
     × (take 9 listing ≡ codes "HEXLOWER" ++ 10 ∷ [])
     × Fulfils (codes "list" ∷ []) hello hello listing
 replied =
     let names_listed : Replies (codes "list" ∷ []) hello hello listing = OfNames refl refl refl in
-    (refl, refl, OfQuestion _ asked_whether refl refl, names_listed, refl, ByReply names_listed)
+    (refl, refl, names_listed, refl, ByReply names_listed)
 
 begun_in : (base : Base) → Asks words (Conversion Encode) base
     → take 2 (text_of base (codes "Hel")) ≡ codes "SG"

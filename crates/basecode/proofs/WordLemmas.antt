@@ -1,5 +1,5 @@
 -- Lemmas on the words of a command line.
-use Rattle.std.proofs.Common.{◌≡◌, ℕ, ◌<◌, ◌≤◌, List, [], ◌∷◌, length, ◌++◌, codes, get_or, is_some, IsSome, Bool, true, false, Option, None, Some, option_map, ap, subst, refl, sym, ◌∙◌, arith, string_bytes, inl, inr}
+use Rattle.std.proofs.Common.{◌↔◌, ◌≡◌, ℕ, ◌<◌, ◌≤◌, List, [], ◌∷◌, length, ◌++◌, codes, get_or, is_some, IsSome, Bool, true, false, Option, None, Some, option_map, ap, subst, refl, sym, ◌∙◌, arith, string_bytes, inl, inr}
 use Rattle.std.proofs.lemmas.Bool.{false≢true}
 use Rattle.std.proofs.lemmas.Option.{none-some, same_Some}
 use Rattle.std.specs.Io.KnownBytes.{IsAtEnd}
@@ -8,10 +8,11 @@ use Rattle.std.specs.declared.string.String.{String}
 use Rattle.std.specs.declared.alloc.Global.{Global}
 use Rattle.data_encoding.specs.Fields.{Fields, base_of}
 use Rattle.data_encoding.specs.Base.{Base}
+use Rattle.data_encoding.specs.Canonical.{IsCanonical}
 use Rattle.basecode.specs.Names.{fields_named, IsNamed}
 use Rattle.basecode.specs.Faults.{printed_word_fault}
 use Rattle.basecode.specs.Words.{AreRequest, Asks, IsWrong, Names, Of, Request, Task, ask_of, both, texts}
-use Rattle.basecode.specs.Run.{Answers, Begins, Begun, ByAnswer, ByReply, Fulfils, OfNames, OfQuestion, Replies}
+use Rattle.basecode.specs.Run.{Answers, Begins, Begun, ByAnswer, ByReply, Done, Fulfils, OfNames, OfQuestion, Replies, TellsCanonical, truth}
 use Rattle.basecode.specs.declared.command.Ask.{Ask}
 use Rattle.basecode.specs.declared.command.Ask.TheVariants.{Conversion, Question}
 use Rattle.basecode.specs.declared.command.Request.{Request as Requested}
@@ -169,6 +170,35 @@ module _ (word name : List ℕ) (given : Verb) (asks : ask_of word ≡ Some (Con
             answer.base answer.asked answer.begins
         | inr reply ↦ absurd (no_reply read_old read_new reply.output reply.replies)
       ]
+
+-- the words ask whether data has one text only, by the encoding of a name
+module _ (name : List ℕ) (base : Base) (known : IsNamed name base) where
+  fulfilled_told : (old new : Option (List ℕ)) (output : List ℕ)
+      → Fulfils (codes "canonical" ∷ name ∷ []) old new output → TellsCanonical base output
+  fulfilled_told old new output (ByAnswer verb other asked answers) =
+      absurd (false≢true (ap is_question
+      (ask_asked (codes "canonical") name (Conversion verb) other asked Question refl)))
+  fulfilled_told old new output (ByReply (OfQuestion other asked keeps tells)) =
+      subst (λ b. TellsCanonical b output)
+      (base_asked (codes "canonical") name Question other asked base known) tells
+  fulfilled_told old new output (ByReply (OfNames is keeps listed)) =
+      absurd (names_by_two (both (Some Question) (fields_named name)) is)
+
+  -- what was written tells it
+  pub canonical_told : (old new : Option (List ℕ)) (line : List ℕ)
+      → Done (codes "canonical" ∷ name ∷ []) old new (Some []) (Some line)
+      → TellsCanonical base line
+  canonical_told old new line done =
+      subst (TellsCanonical base) (sym done.written) (fulfilled_told old new done.output done.fulfils)
+
+-- and a line is read as it was told
+pub line_read : (base : Base) (line : List ℕ) → TellsCanonical base line
+    → (line ≡ truth true) ↔ IsCanonical base
+line_read base line (inl (is, shown)) = (λ same. is, λ is_so. shown)
+line_read base line (inr (is_not, shown)) =
+    (λ same. absurd (false_line (sym shown ∙ same)), λ is. absurd (is_not is)) where
+      false_line : truth false ≡ truth true → ⊥
+      false_line same = cc
 
 -- what is printed of a name that is not known
 pub printed_name : (word name : List ℕ) (fault : WordFault) → IsWrong (word ∷ name ∷ []) fault

@@ -2,7 +2,7 @@
 use Rattle.std.specs.Prelude.{◌≡◌, ◌⊎◌, ℕ, ⊤, Bool, true, false, List, ◌∷◌, [], ◌++◌, codes, Option, Some, None}
 use Rattle.std.specs.Io.KnownBytes.{Appends, Consumes, IsAtEnd, Keeps}
 use Rattle.data_encoding.specs.Base.{Base}
-use Rattle.data_encoding.specs.Canonical.{has_one_text}
+use Rattle.data_encoding.specs.Canonical.{IsCanonical}
 use Rattle.data_encoding.specs.Grammar.{Means}
 use Rattle.data_encoding.specs.Text.{text_of}
 use Rattle.data_encoding.specs.declared.error.DecodeError.{DecodeError}
@@ -62,12 +62,17 @@ abbrev pub truth : Bool → List ℕ
 truth true = codes "true" ++ 10 ∷ []
 truth false = codes "false" ++ 10 ∷ []
 
+-- The line is `true` where no two texts mean the same data, and else `false`.
+abbrev pub TellsCanonical : Base → List ℕ → Type 0
+TellsCanonical base line =
+    (IsCanonical base × (line ≡ truth true)) ⊎ ((¬ IsCanonical base) × (line ≡ truth false))
+
 -- With nothing read, the output is what the words ask for: whether data has one text only, or the
 -- names.
 pub data Replies (words : List (List ℕ)) (old new : Option (List ℕ)) (output : List ℕ)
     : Type 0 where
   OfQuestion : (base : Base) → Asks words Question base → Keeps old new
-      → output ≡ truth (has_one_text base) → Replies words old new output
+      → TellsCanonical base output → Replies words old new output
   OfNames : request_of words ≡ Some Names → Keeps old new → output ≡ listing
       → Replies words old new output
 

@@ -1,18 +1,22 @@
 //! Small callers, each proved from the clauses of what it calls: what these let a user conclude.
 
-ghost use Rattle.std.specs.Prelude.{◌≡◌, ◌≢◌, ◌-◌, ◌^◌, ◌+◌, ◌++◌, ◌<◌, ◌≤◌, ℕ, List, [], ◌∷◌, codes, length, string_bytes, take, IfOk, IfSome, IsSome, None};
+ghost use Rattle.std.specs.Prelude.{◌≡◌, ◌≢◌, ◌-◌, ◌^◌, ◌+◌, ◌++◌, ◌<◌, ◌≤◌, ℕ, List, [], ◌∷◌, codes, length, string_bytes, take, IfOk, IfSome, IsSome, IsTrue, None, OnOk, ◌↔◌, false};
+ghost use Rattle.std.specs.Io.KnownBytes.{Keeps};
 ghost use Rattle.data_encoding.specs.Base.{Base};
+ghost use Rattle.data_encoding.specs.Canonical.{IsCanonical};
 ghost use Rattle.data_encoding.specs.Fault.{fault_of, sound_bytes};
 ghost use Rattle.data_encoding.specs.Grammar.{Means};
 ghost use Rattle.data_encoding.specs.Text.{text_of};
-ghost use Rattle.basecode.specs.Names.{IsNamed, fields_named};
+ghost use Rattle.basecode.specs.Names.{IsNamed, fields_named, listing};
 ghost use Rattle.basecode.specs.Words.{ask_of, texts};
+ghost use Rattle.encoding_stream.specs.Watch.{has_failed, inner_of};
 
 use crate::command::request_named;
 use crate::run::run;
 use data_encoding::DECODE_LIMIT;
 use encoding_stream::Watch;
 use std::alloc::{AllocError, Global};
+use std::io::Read;
 
 /// A run over bytes in memory: its exit status, what it did not read, and what its output holds.
 #[derive(Debug, Drop)]
@@ -107,6 +111,45 @@ fn encode_hello(alloc: Global) -> Result<Option<Vec<u8>>, AllocError>
     Ok(Some(outcome.output))
 }
 
+// The names, after the bytes of the output, where they were written; nothing is read.
+fn list<R: Read>(
+    alloc: Global,
+    reader: &mut Watch<R>,
+    output: Vec<u8>,
+) -> Result<Option<Vec<u8>>, AllocError>
+    requires works { has_failed reader.old ≡ false }
+    ensures names { IfOk result (λ found. IfSome found (λ bytes.
+        bytes.items ≡ output.items ++ listing)) }
+    ensures unread { OnOk result (Keeps (R.remaining (inner_of reader.old))
+        (R.remaining (inner_of reader.new))) }
+{
+    let words = vec![in alloc; String::from_str(alloc, "list")?]?;
+    let mut writer = Watch::new(output);
+    let mut faults = Vec::new(alloc);
+    let status = run(&words, reader, &mut writer, &mut faults);
+    if status != 0 {
+        return Ok(None);
+    }
+    Ok(Some(writer.into_inner()))
+}
+
+// Whether no two texts mean the same data, by the encoding of a name, where that was answered.
+fn canonical(alloc: Global, name: &str) -> Result<Option<bool>, AllocError>
+    ensures { IfOk result (λ found. IfSome found (λ answer. (base : Base) → IsNamed name.now base
+        → (IsTrue answer ↔ IsCanonical base))) }
+{
+    let words = words_of(alloc, "canonical", name)?;
+    let mut reader = Watch::new(b"".as_slice());
+    let mut writer = Watch::new(Vec::new(alloc));
+    let mut faults = Vec::new(alloc);
+    let status = run(&words, &mut reader, &mut writer, &mut faults);
+    if status != 0 {
+        return Ok(None);
+    }
+    let line = writer.into_inner();
+    Ok(Some(line.as_slice() == b"true\n".as_slice()))
+}
+
 // What is printed of two words, and nothing where they are right.
 fn told(alloc: Global, verb: &str, name: &str) -> Result<String, AllocError>
     ensures no_verb { IfOk result (λ line. ask_of verb.now ≡ None → string_bytes line
@@ -129,8 +172,14 @@ mod tests {
 
     // No clause says that memory is found.
     #[test]
-    fn hello_is_encoded(rt: HostRuntime) -> Result<(), Fail> {
+    fn memory_is_found(rt: HostRuntime) -> Result<(), Fail> {
         assert!(rt; encode_hello(rt.alloc())?.is_some());
+        assert!(rt; canonical(rt.alloc(), "BASE32_NOPAD")? == Some(true));
+        assert!(rt; canonical(rt.alloc(), "BASE64")? == Some(false));
+        let mut reader = Watch::new(b"4G".as_slice());
+        let names = list(rt.alloc(), &mut reader, vec![in rt.alloc(); b'>']?)?;
+        assert!(rt; names.is_some_and(|bytes| bytes.starts_with(b">HEXLOWER\n")));
+        assert!(rt; reader.into_inner() == b"4G".as_slice());
         Ok(())
     }
 }

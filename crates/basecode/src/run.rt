@@ -2,9 +2,8 @@
 
 ghost use Rattle.std.specs.Prelude.{◌≡◌, ◌≢◌, ◌≤◌, ◌↔◌, ◌⊎◌, false, IsTrue, IfErr, IsErr, OnOk, Err, None};
 ghost use Rattle.std.specs.Io.KnownBytes.{Appends};
-ghost use Rattle.data_encoding.specs.Canonical.{has_one_text};
 ghost use Rattle.basecode.specs.Faults.{status_after};
-ghost use Rattle.basecode.specs.Run.{AskConversion, Begins, Begun, Converts, Done, Explains, Refused, truth};
+ghost use Rattle.basecode.specs.Run.{AskConversion, Begins, Begun, Converts, Done, Explains, Refused, TellsCanonical};
 ghost use Rattle.encoding_stream.specs.Watch.{AppendsFront, has_failed, inner_of};
 ghost use Rattle.basecode.specs.Words.{request_of, texts};
 
@@ -74,7 +73,7 @@ pub fn run<R: Read, W: Write, F: Write>(
 
 // Whether data has one text only by the encoding, as a line.
 fn truth_of(encoding: &Encoding) -> &'static [u8]
-    ensures { result.now ≡ truth (has_one_text encoding.now) }
+    ensures { TellsCanonical encoding.now result.now }
 {
     if encoding.is_canonical() {
         b"true\n"

@@ -22,6 +22,7 @@ mod round_trips;
 mod rows;
 mod slow;
 mod specifications;
+mod streamed;
 mod streams;
 mod sweeps;
 mod table;

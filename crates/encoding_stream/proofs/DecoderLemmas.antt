@@ -6,11 +6,11 @@ use Rattle.std.proofs.lemmas.List.{length-drop, take-append-drop, take-take, tak
 use Rattle.std.proofs.lemmas.Nat.{mul-le}
 use Rattle.std.specs.Coded.{le_prop}
 use Rattle.data_encoding.specs.Base.{Base, group_bytes, group_symbols}
-use Rattle.data_encoding.specs.Fault.{sound_bytes}
 use Rattle.data_encoding.specs.Fields.{IsSpecified}
-use Rattle.data_encoding.specs.Pieces.{whole_bytes, HasDecoded, KeepsBytes}
+use Rattle.data_encoding.specs.Pieces.{whole_bytes, KeepsBytes}
 use Rattle.encoding_stream.specs.declared.pieces.Kept.{Kept}
 use Rattle.encoding_stream.specs.declared.pieces.PieceDecoder.{PieceDecoder}
+use Rattle.encoding_stream.specs.Appending.{AppendsDecoded}
 use Rattle.encoding_stream.specs.Pieces.{base_of_pieces, FillsGroups, Keeps}
 use Rattle.encoding_stream.specs.Reading.{AppendsPiece, ReadsOn}
 use Rattle.encoding_stream.proofs.ReadPieceLemmas.{reads-join, reads-nothing}
@@ -152,16 +152,14 @@ module _ (base : Base) where
       subst (λ p. AppendsPiece base a c p x z) (front-rest piece read)
       (appends-join a b c _ _ x y z one other)
 
-  -- what was decoded of a text, with what is appended of a piece
-  pub appends-decoded : (a b : Kept) (piece x y before text : List ℕ)
-      → AppendsPiece base a b piece x y → Keeps base a text → HasDecoded base before text x
-      → HasDecoded base before (text ++ piece) y
-  appends-decoded a b piece x y before text appends is decoded = record {
-    appended =
-        appends.appended
-        ∙ ap (λ l. l ++ appends.bytes) decoded.appended
-        ∙ append_assoc before (whole_bytes base text) appends.bytes
-        ∙ ap (λ l. before ++ l) (sym (appends.reads.decodes text is));
+  -- what is appended of a piece, seen from a text
+  pub piece-appended : (a b : Kept) (piece x y text : List ℕ) → AppendsPiece base a b piece x y
+      → Keeps base a text
+      → AppendsDecoded (whole_bytes base text) (whole_bytes base (text ++ piece)) x y
+  piece-appended a b piece x y text appends is = record {
+    bytes = appends.bytes;
+    decoded = appends.reads.decodes text is;
+    appended = appends.appended;
   }
 
   -- where a piece adds no byte, its front adds none
@@ -182,13 +180,3 @@ module _ (base : Base) where
         length-append (whole_bytes base text ++ bytes) more.0,
         length-append (whole_bytes base text) bytes,
       ))
-
--- at the end the bytes of what is held are appended
-pub ended-decoded : (base : Base) (before text output bytes : List ℕ)
-    → HasDecoded base before text output
-    → sound_bytes base text ≡ whole_bytes base text ++ bytes
-    → output ++ bytes ≡ before ++ sound_bytes base text
-ended-decoded base before text output bytes decoded sound =
-    ap (λ l. l ++ bytes) decoded.appended
-    ∙ append_assoc before (whole_bytes base text) bytes
-    ∙ ap (λ l. before ++ l) (sym sound)

@@ -18,6 +18,7 @@ use Rattle.encoding_stream.specs.declared.decoder.Decoder.{Decoder}
 use Rattle.encoding_stream.specs.declared.error.StreamFault.TheVariants.{Read, Write, Decode, TooLong}
 use Rattle.encoding_stream.specs.declared.pieces.Kept.{Kept}
 use Rattle.encoding_stream.specs.declared.watch.Watch.{Watch}
+use Rattle.encoding_stream.specs.Appending.{AppendsDecoded}
 use Rattle.encoding_stream.specs.Decoder.{base_of_decoder, decoder_len, StandsAfter}
 use Rattle.encoding_stream.specs.Encoded.{EncodesAll, EncodesFront, ReadsMore}
 use Rattle.encoding_stream.specs.Printed.{printed_stream_fault}
@@ -156,6 +157,13 @@ no_piece base =
       few = record { groups = 0; symbols = omega arith; bytes = omega arith };
     } in
     (reads, record { bytes = []; reads = reads; appended = refl })
+
+-- behind `SGVsbG`, of which `Hel` is decoded, `8=` appends `lo` to an output that was drained
+appended_more :
+    Has base64_fields (λ base.
+    AppendsDecoded (whole_bytes base (codes "SGVsbG")) (whole_bytes base (codes "SGVsbG8="))
+    (codes "> ") (codes "> lo"))
+appended_more = record { bytes = codes "lo"; decoded = refl; appended = refl }
 
 -- a decoder that was pushed that text
 pushed_so_far :

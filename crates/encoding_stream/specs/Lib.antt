@@ -4,4 +4,5 @@ pub mod Encoded
 pub mod Pieces
 pub mod Reading
 pub mod Decoder
+pub mod Appending
 pub mod Decoded

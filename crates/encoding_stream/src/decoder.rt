@@ -5,7 +5,8 @@ ghost use Rattle.data_encoding.specs.declared.decode.TheConstants.{DECODE_LIMIT}
 ghost use Rattle.data_encoding.specs.Base.{group_bytes, group_symbols};
 ghost use Rattle.data_encoding.specs.Fields.{IsSpecified};
 ghost use Rattle.data_encoding.specs.Fault.{fault_of, sound_bytes};
-ghost use Rattle.data_encoding.specs.Pieces.{whole_bytes, HasDecoded};
+ghost use Rattle.data_encoding.specs.Pieces.{whole_bytes};
+ghost use Rattle.encoding_stream.specs.Appending.{AppendsDecoded};
 ghost use Rattle.encoding_stream.specs.Pieces.{base_of_pieces, verdict_of, Keeps};
 ghost use Rattle.encoding_stream.specs.Reading.{AppendsPiece, ReadsOn};
 
@@ -46,6 +47,7 @@ impl<'a> Decoder<'a> {
     ghost use Rattle.std.specs.Prelude.{◌≡◌, ℕ, ◌+◌, ◌≤◌, List, [], ◌++◌, length, IfErr, IfOk, IsOk, OnErr, OnOk};
     ghost use Rattle.data_encoding.specs.Fault.{fault_of, sound_bytes};
     ghost use Rattle.data_encoding.specs.Pieces.{whole_bytes, HasDecoded};
+    ghost use Rattle.encoding_stream.specs.Appending.{AppendsDecoded};
     ghost use Rattle.encoding_stream.specs.Decoder.{base_of_decoder, decoder_len, StandsAfter};
     ghost use Rattle.encoding_stream.specs.Pieces.{verdict_of};
 
@@ -53,9 +55,11 @@ impl<'a> Decoder<'a> {
     pub fn new(encoding: &'a Encoding) -> Decoder<'a>
         ensures base { base_of_decoder result ≡ encoding.now }
         ensures nothing { StandsAfter result [] }
+        ensures no_bytes { whole_bytes encoding.now [] ≡ [] }
     {
         // It tells that the base is built from a specification.
         encoding.bit_width();
+        steps::pieces();
         Decoder {
             pieces: PieceDecoder::new(encoding),
         }
@@ -70,7 +74,8 @@ impl<'a> Decoder<'a> {
     }
 
     /// Takes a piece of the text, and appends the bytes of the groups that are then whole, up to
-    /// the first faulty one. The text has at most `DECODE_LIMIT` bytes with it.
+    /// the first faulty one, whatever the output holds: it may be drained or exchanged between
+    /// pieces. The text has at most `DECODE_LIMIT` bytes with it.
     ///
     /// The only error is that memory ran out, which is never answered where no byte is to be
     /// appended: the decoder and the output are then what they were.
@@ -81,6 +86,10 @@ impl<'a> Decoder<'a> {
             ≡ decoder_len self.old + length piece.now) }
         ensures stands { OnOk result ((text : List ℕ) → StandsAfter self.old text
             → StandsAfter self.new (text ++ piece.now)) }
+        ensures appends { OnOk result ((text : List ℕ) → StandsAfter self.old text
+            → AppendsDecoded (whole_bytes (base_of_decoder self.old) text)
+            (whole_bytes (base_of_decoder self.old) (text ++ piece.now))
+            output.old.items output.new.items) }
         ensures decoded { OnOk result ((before text : List ℕ) → StandsAfter self.old text
             → HasDecoded (base_of_decoder self.old) before text output.old.items
             → HasDecoded (base_of_decoder self.old) before (text ++ piece.now)
@@ -105,6 +114,10 @@ impl<'a> Decoder<'a> {
     pub fn finish(self, output: &mut Vec<u8>) -> Result<Finished, Decoder<'a>>
         ensures verdict { IfOk result (λ finished. (text : List ℕ) → StandsAfter self.entry text
             → finished.verdict ≡ verdict_of (fault_of (base_of_decoder self.entry) text)) }
+        ensures appends { OnOk result ((text : List ℕ) → StandsAfter self.entry text
+            → AppendsDecoded (whole_bytes (base_of_decoder self.entry) text)
+            (sound_bytes (base_of_decoder self.entry) text)
+            output.old.items output.new.items) }
         ensures decoded { OnOk result ((before text : List ℕ) → StandsAfter self.entry text
             → HasDecoded (base_of_decoder self.entry) before text output.old.items
             → output.new.items ≡ before ++ sound_bytes (base_of_decoder self.entry) text) }
@@ -160,10 +173,10 @@ fn append_last<A: Allocator + Copy>(
     ensures verdict { IfOk result (λ verdict. (text : List ℕ)
         → Keeps (base_of_pieces pieces.now) pieces.now.kept text
         → verdict ≡ verdict_of (fault_of (base_of_pieces pieces.now) text)) }
-    ensures decoded { OnOk result ((before text : List ℕ)
+    ensures appends { OnOk result ((text : List ℕ)
         → Keeps (base_of_pieces pieces.now) pieces.now.kept text
-        → HasDecoded (base_of_pieces pieces.now) before text output.old.items
-        → output.new.items ≡ before ++ sound_bytes (base_of_pieces pieces.now) text) }
+        → AppendsDecoded (whole_bytes (base_of_pieces pieces.now) text)
+        (sound_bytes (base_of_pieces pieces.now) text) output.old.items output.new.items) }
     ensures unchanged { OnErr result (output.new.items ≡ output.old.items) }
     ensures no_bytes { (text : List ℕ)
         → Keeps (base_of_pieces pieces.now) pieces.now.kept text

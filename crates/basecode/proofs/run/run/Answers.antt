@@ -1,8 +1,7 @@
 use Rattle.std.proofs.Common.{rules, arith, ◌≡◌, ◌∙◌, refl, sym, Some, IfErr, inl, inr}
 use Rattle.std.specs.Io.KnownBytes.{Appends, Keeps}
-use Rattle.data_encoding.specs.Canonical.{has_one_text}
 use Rattle.basecode.specs.Names.{listing}
-use Rattle.basecode.specs.Run.{Begins, ByReply, Converts, Explains, OfNames, OfQuestion, Replies, truth}
+use Rattle.basecode.specs.Run.{Begins, ByReply, Converts, Explains, OfNames, OfQuestion, Replies, TellsCanonical}
 use Rattle.encoding_stream.specs.Watch.{inner_of}
 use Rattle.basecode.specs.Words.{Asks, Names, request_of, texts}
 use Rattle.basecode.specs.declared.command.Ask.TheVariants.{Conversion, Question}
@@ -51,7 +50,7 @@ reply g c =
     let asked : Asks (texts c.args.words.now) Question c.in-Ok-Of.task.encoding =
     Asks-request _ c.in-Ok-Of.field-0 c.in-Ok-Of.task Question
     c.in-Ok-Of.field-0-is asks c.in-Ok-Of.ensures.asked in
-    let shown : c.truth_of.result.now ≡ truth (has_one_text c.in-Ok-Of.task.encoding) =
+    let shown : TellsCanonical c.in-Ok-Of.task.encoding c.truth_of.result.now =
     (rw c.in-Ok-Of.field-0-is at c.truth_of.ensures) in
     let kept : Keeps (g.R.Read.remaining (inner_of c.args.reader.now))
     (g.R.Read.remaining (inner_of c.args.reader.now)) =

@@ -1,7 +1,6 @@
 use Rattle.std.proofs.Common.{◌≡◌, ◌≤◌, [], ◌++◌, length, take, refl, sym, ap, subst, ◌∙◌, append-nil, arith, length-append, length-take-le}
 use Rattle.data_encoding.specs.Pieces.{whole_bytes}
 use Rattle.encoding_stream.specs.Pieces.{base_of_pieces}
-use Rattle.encoding_stream.proofs.DecoderLemmas.{ended-decoded}
 use Rattle.encoding_stream.proofs.decoder.append_last.Goals as goal
 
 pub returns-in_err-extend_from_slice-clause-no_bytes :
@@ -21,12 +20,14 @@ returns-in_err-extend_from_slice-clause-no_bytes g c = λ text is none.
     ) in
     absurd no
 
-pub returns-else-count-gt0-clause-decoded : goal.returns-else-count-gt0-clause-decoded
-returns-else-count-gt0-clause-decoded g c = λ before text is decoded.
-    let base = base_of_pieces c.args.pieces.now in
+pub returns-else-count-gt0-clause-appends : goal.returns-else-count-gt0-clause-appends
+returns-else-count-gt0-clause-appends g c = λ text is.
     let output = c.args.output.now.items in
     let bytes = take c.finish-count.result.0 c.finish-count.new.output in
     let none : c.finish-count.result.0 ≡ 0 = omega (arith, c.if-count-gt0.false) in
     let nothing : bytes ≡ [] = subst (λ n. take n c.finish-count.new.output ≡ []) (sym none) refl in
-    sym (append-nil output) ∙ ap (λ l. output ++ l) (sym nothing)
-    ∙ ended-decoded base before text output bytes decoded (c.finish-count.ensures.bytes text is)
+    record {
+      bytes = bytes;
+      decoded = c.finish-count.ensures.bytes text is;
+      appended = sym (append-nil output) ∙ ap (λ l. output ++ l) (sym nothing);
+    }

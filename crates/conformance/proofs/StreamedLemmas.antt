@@ -1,0 +1,30 @@
+-- What is decoded of a text that comes in pieces.
+use Rattle.std.proofs.Common.{refl, subst, Option, None, Some, Result, OnOk, Ok, ◌≡◌, ℕ, ◌+◌, ◌<◌, List, [], ◌∷◌, ◌++◌, flat_map, get_or, length, take, sym, ap, ◌∙◌, append-nil, append_assoc}
+use Rattle.std.proofs.lemmas.Grind.{flat_map-append}
+use Rattle.std.proofs.lemmas.List.{take_more}
+use Rattle.data_encoding.specs.declared.error.DecodeError.{DecodeError}
+use Rattle.encoding_stream.specs.Appending.{AppendsDecoded}
+use Rattle.encoding_stream.specs.Pieces.{verdict_of}
+
+-- the pieces so far, joined, and the next
+pub joined-more : {X : Type 0} (f : X → List ℕ) (xs : List X) (i : ℕ) (d : X) → i < length xs
+    → flat_map f (take (i + 1) xs) ≡ flat_map f (take i xs) ++ f (get_or xs i d)
+joined-more f xs i d h =
+    ap (flat_map f) (take_more xs i d h)
+    ∙ flat_map-append f (take i xs) (get_or xs i d ∷ [])
+    ∙ ap (λ l. flat_map f (take i xs) ++ l) (append-nil (f (get_or xs i d)))
+
+-- what a drained buffer was appended is handed on behind what was decoded before
+pub handed-on : (before old new buffer output : List ℕ) → AppendsDecoded old new [] buffer
+    → output ≡ before ++ old → output ++ buffer ≡ before ++ new
+handed-on before old new buffer output appends is =
+    ap (λ l. l ++ buffer) is
+    ∙ append_assoc before old buffer
+    ∙ ap (λ l. before ++ (old ++ l)) appends.appended
+    ∙ ap (λ l. before ++ l) (sym appends.decoded)
+
+-- what holds of a text without a fault holds where the verdict is Ok
+pub no-fault-ok : (P : Type 0) (fault : Option DecodeError) (verdict : Result (Unit {0}) DecodeError)
+    → verdict ≡ verdict_of fault → (fault ≡ None → P) → OnOk verdict P
+no-fault-ok P None verdict is holds = subst (λ v. OnOk v P) (sym is) (holds refl)
+no-fault-ok P (Some error) verdict is holds = subst (λ v. OnOk v P) (sym is) tt
