@@ -21,6 +21,7 @@ mod round_trips;
 mod rows;
 mod slow;
 mod specifications;
+mod stored;
 mod streams;
 mod sweeps;
 mod table;
