@@ -23,6 +23,7 @@ mod rows;
 mod slow;
 mod specifications;
 mod streamed;
+mod stored;
 mod streams;
 mod sweeps;
 mod table;
