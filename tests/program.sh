@@ -211,4 +211,21 @@ else
     skip 'little memory: no limit on memory here'
 fi
 
+# is_small VERB LIMIT: whether a run over 256 MiB has had at most so many KiB of memory at once, as
+# the system counts them when all but the end was read.
+is_small() {
+    local peak
+    mkfifo "long.$1"
+    "$program" "$1" HEXLOWER <"long.$1" >/dev/null &
+    exec 9>"long.$1"
+    head -c 268435456 /dev/zero | tr '\0' 0 >&9
+    peak=$(sed -nE 's/^VmHWM:[[:space:]]+([0-9]+) kB$/\1/p' "/proc/$!/status")
+    exec 9>&-
+    wait $! && [ -n "$peak" ] && [ "$peak" -lt "$2" ]
+}
+
+for verb in encode decode; do
+    holds "$verb of 256 MiB in less than 2 MiB of memory" is_small "$verb" 2048
+done
+
 finish

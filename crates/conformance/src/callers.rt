@@ -18,6 +18,7 @@ use data_encoding::{
 };
 use std::alloc::{AllocError, Global};
 
+pub mod stored;
 pub mod streamed;
 
 /// Why data did not come back.

@@ -8,3 +8,5 @@ pub mod ConcatenatedTextLemmas
 pub mod TrailingTextLemmas
 pub mod TranslatedTextLemmas
 pub mod CauseLemmas
+pub mod TokenLemmas
+pub mod EighteenLemmas

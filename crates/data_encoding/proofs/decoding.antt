@@ -20,3 +20,4 @@ pub mod WholePieceLemmas
 pub mod WholeLengthLemmas
 pub mod FinalGroupLemmas
 pub mod LoneGroupLemmas
+pub mod FaultStaysLemmas

@@ -13,3 +13,5 @@ pub mod PaddedMeaningLemmas
 pub mod MeaningLemmas
 pub mod JoinLemmas
 pub mod JoinFaultLemmas
+pub mod TightLemmas
+pub mod SameMeaningLemmas

@@ -2,3 +2,5 @@
 pub mod FrontLemmas
 pub mod TextOrderLemmas
 pub mod OrderPairLemmas
+pub mod ComparedLemmas
+pub mod EighteenOrderLemmas

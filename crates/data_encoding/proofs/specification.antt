@@ -5,3 +5,4 @@ pub mod RoundTripLemmas
 pub mod TranslationLemmas
 pub mod FieldLemmas
 pub mod BuilderLemmas
+pub mod YieldLemmas

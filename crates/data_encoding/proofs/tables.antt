@@ -3,6 +3,7 @@ pub mod TableLemmas
 pub mod EntryLemmas
 pub mod TableRuleLemmas
 pub mod LayoutLemmas
+pub mod LayoutRuleLemmas
 pub mod OneLayoutLemmas
 pub mod ReadingLemmas
 pub mod EqualityLemmas

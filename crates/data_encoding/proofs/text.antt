@@ -12,6 +12,8 @@ pub mod PlainLoopLemmas
 pub mod PlainRestLemmas
 pub mod FourGroupLemmas
 pub mod SymbolMeaningLemmas
+pub mod ExchangeLemmas
 pub mod KeptTextLemmas
 pub mod LastGroupLemmas
 pub mod TextMeaningLemmas
+pub mod TextLengthLemmas

@@ -2,5 +2,7 @@ pub mod Examples
 mod Texts
 mod Readings
 mod Layouts
+mod LayoutRules
 mod Meanings
 mod Steps
+mod Compared

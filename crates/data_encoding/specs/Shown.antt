@@ -3,6 +3,10 @@ use Rattle.std.specs.Prelude.{ℕ, List}
 use Rattle.data_encoding.specs.declared.write.Display.{Display}
 use Rattle.data_encoding.specs.Text.{text_of}
 
+-- its data
+abbrev pub shown_data : Display → List ℕ
+shown_data shown = shown.input.now
+
 -- the text of its data
 abbrev pub shown_text : Display → List ℕ
-shown_text shown = text_of shown.encoding.now shown.input.now
+shown_text shown = text_of shown.encoding.now (shown_data shown)

@@ -52,11 +52,11 @@ impl Encoding {
     /// The bytes of data of a whole group of symbols, or of a whole line.
     ///
     /// The texts of data may be joined where the length of all but the last is a multiple of it. It
-    /// is from 1 to 191.
+    /// is from 1 to 189.
     pub fn encode_align(&self) -> usize
         ensures value { result ≡ alignment self.now }
         ensures some { 0 < result }
-        ensures most { result ≤ 191 }
+        ensures most { result ≤ 189 }
         ensures base { IsSpecified self.now }
     {
         if self.column != 0 {

@@ -24,10 +24,10 @@ mod tests;
 pub struct Encoder<'a> {
     encoding: Encoding,
     output: &'a mut String,
-    held: ArrayVec<u8, 191>,
+    held: ArrayVec<u8, 189>,
     block_len: usize,
     ghost block: { block_len ≡ alignment encoding },
-    ghost most: { block_len ≤ 191 },
+    ghost most: { block_len ≤ 189 },
     ghost short: { length held.items < block_len },
 }
 
@@ -56,13 +56,13 @@ impl Encoding {
     fn append_blocks<A: Allocator + Copy>(
         &self,
         input: &[u8],
-        held: &mut ArrayVec<u8, 191>,
+        held: &mut ArrayVec<u8, 189>,
         block_len: usize,
         output: &mut String<A>,
     ) -> Result<(), AllocError>
         requires limit { length input.now ≤ ENCODE_LIMIT }
         requires block { block_len ≡ alignment self.now }
-        requires most { block_len ≤ 191 }
+        requires most { block_len ≤ 189 }
         requires short { length held.old.items < block_len }
         ensures fragments { OnOk result ((before bytes : List ℕ)
             → HasEncoded self.now before bytes (string_bytes output.old) held.old.items

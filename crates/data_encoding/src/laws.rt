@@ -4,7 +4,14 @@
 //! text in pieces stand in `steps`.
 
 ghost use Rattle.data_encoding.specs.Canonical.{Canonical, NotCanonical};
+ghost use Rattle.data_encoding.specs.OneLayout.{Layouts, OneLayout};
 ghost use Rattle.data_encoding.specs.Laws.{JoinDecode, JoinEncode, JoinFault, NoOrder, OneMeaning, Order, Resume, RoundTrip, SoundMeans, SpecificationAgain};
+ghost use Rattle.data_encoding.specs.Compared.{OrderOfData, OrderOfTexts};
+ghost use Rattle.data_encoding.specs.Eighteen.{CanonicalByCauses, SixAreCanonical, SixAreOrdered};
+ghost use Rattle.data_encoding.specs.FaultStays.{FaultStays, GroupFaultStays, NoFaultBefore};
+ghost use Rattle.data_encoding.specs.Tight.{LengthAgain, LengthOfText, MeansMost};
+ghost use Rattle.data_encoding.specs.Verdicts.{FixedLength, Injective, MeansSound};
+ghost use Rattle.data_encoding.specs.SameMeaning.{OwnForm, OwnForms, SameButSymbols, SameKeptBytes, Translated};
 
 pub mod steps;
 
@@ -29,9 +36,19 @@ pub fn one_meaning()
     ensures { OneMeaning }
 {}
 
-/// A text without a fault means its sound bytes, for each encoding that a specification yields.
+/// A text means data exactly where it has no fault and the data are its sound bytes, for each
+/// encoding that a specification yields.
 pub fn sound_text()
-    ensures { SoundMeans }
+    ensures sound { SoundMeans }
+    ensures meant { MeansSound }
+{}
+
+/// Different data have different texts, for each encoding that a specification yields; and where it
+/// is canonical, each text that means so many bytes is as long as their text: `encode_len` tells how
+/// long.
+pub fn injective()
+    ensures differ { Injective }
+    ensures length { FixedLength }
 {}
 
 /// Two texts joined mean their data joined, for each encoding that a specification yields: where it
@@ -42,16 +59,42 @@ pub fn join_decode()
 {}
 
 /// Texts may be compared in place of data by exactly these of the encodings without lines: the most
-/// significant bit comes first, the symbols ascend, and padding comes before each symbol.
+/// significant bit comes first, the symbols ascend, and padding comes before each symbol. Six of the
+/// sixteen are so.
 pub fn order()
     ensures kept { Order }
     ensures broken { NoOrder }
+    ensures data { OrderOfData }
+    ensures texts { OrderOfTexts }
+    ensures sixteen { SixAreOrdered }
+{}
+
+/// Where no byte is ignored and there is no padding, `decode_len` tells exactly how many bytes a
+/// text means, and `encode_len` how long each text is that means so many, for each encoding that a
+/// specification yields; and where there are no lines and no padding, `decode_len` undoes
+/// `encode_len`.
+pub fn tight()
+    ensures most { MeansMost }
+    ensures fixed { LengthOfText }
+    ensures again { LengthAgain }
+{}
+
+/// A fault of whole groups is that of every longer text whose length has none, for each encoding
+/// that a specification yields; and where they have none, no longer text has one before their end.
+/// Ignored bytes belong to no group.
+pub fn fault_stays()
+    ensures groups { GroupFaultStays }
+    ensures text { FaultStays }
+    ensures behind { NoFaultBefore }
 {}
 
 /// A text that means data is the text of the data, for each encoding that a specification yields
-/// and that is canonical.
+/// and that is canonical, as six of the eighteen are: those where no byte of a text is padding,
+/// ignored or translated.
 pub fn canonical()
-    ensures { Canonical }
+    ensures only { Canonical }
+    ensures causes { CanonicalByCauses }
+    ensures eighteen { SixAreCanonical }
 {}
 
 /// For each encoding that a specification yields and that is not canonical, and for each cause of
@@ -67,9 +110,42 @@ pub fn join_fault()
     ensures { JoinFault }
 {}
 
+/// No two encodings that specifications yield have one layout, and bytes are the layout of one
+/// exactly where rules on the bytes hold.
+pub fn one_layout()
+    ensures one { OneLayout }
+    ensures rules { Layouts }
+{}
+
 /// Where a decoding of a piece stops at a fault, it is resumed: what was not read, put before what
 /// follows, has the meaning and the fault of the whole, if what was read may be followed, as at
 /// `join_decode`.
 pub fn resume()
     ensures { Resume }
+{}
+
+/// Texts of the same bytes but for ignored ones mean the same data, for each encoding that a
+/// specification yields.
+pub fn same_kept_bytes()
+    ensures { SameKeptBytes }
+{}
+
+/// Texts whose bytes mean the same one by one, as `interpret_byte` tells it, have the same fault at
+/// the same position and mean the same data, for each encoding that a specification yields.
+///
+/// So a translated byte may be replaced by the symbol or the padding character that it stands for,
+/// which means the same. Where translated bytes are all that keeps an encoding from being
+/// canonical, two texts that mean data mean the same data exactly where they are equal with each
+/// byte so replaced.
+pub fn translated()
+    ensures same { Translated }
+    ensures own_form { OwnForm }
+    ensures own_forms { OwnForms }
+{}
+
+/// Of an encoding that a specification yields, and of another that differs from it in its symbols
+/// alone: the text of data in the other is that in the first, with each symbol exchanged for the
+/// other's symbol of the same value, and each padding character for the other's.
+pub fn same_but_symbols()
+    ensures { SameButSymbols }
 {}

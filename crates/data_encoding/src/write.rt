@@ -1,10 +1,10 @@
 //! From data to text that is written or formatted.
 
 ghost use Rattle.std.specs.Prelude.{◌≡◌, ◌⊎◌, ◌%◌, ◌<◌, ◌≤◌, ℕ, List, length, Some, IsOk, OnOk};
-ghost use Rattle.std.specs.Fmt.{WritesInCalls};
+ghost use Rattle.std.specs.Fmt.{DisplaysOnOk, WritesInCalls};
 ghost use Rattle.data_encoding.specs.Fields.{IsSpecified};
 ghost use Rattle.data_encoding.specs.Lengths.{IsBlockLength, alignment};
-ghost use Rattle.data_encoding.specs.Shown.{shown_text};
+ghost use Rattle.data_encoding.specs.Shown.{shown_data, shown_text};
 ghost use Rattle.data_encoding.specs.Text.{text_of};
 
 use crate::encode::ENCODE_LIMIT;
@@ -59,7 +59,8 @@ impl Encoding {
 
     /// The data as a value that prints their text, in the calls of `encode_write`.
     pub fn encode_display<'a>(&'a self, input: &'a [u8]) -> Display<'a>
-        ensures { shown_text result ≡ text_of self.now input.now }
+        ensures text { shown_text result ≡ text_of self.now input.now }
+        ensures data { shown_data result ≡ input.now }
     {
         Display {
             encoding: self,
@@ -109,7 +110,8 @@ impl Encoding {
     }
 }
 
-/// Data that print as their text, whatever width and fill are asked for.
+/// Data that print as their text, whatever width and fill are asked for. No data print nothing,
+/// which never fails.
 #[derive(Clone, Copy, Debug)]
 pub struct Display<'a> {
     encoding: &'a Encoding,
@@ -119,7 +121,11 @@ pub struct Display<'a> {
 impl fmt::Display for Display<'_> {
     ghost output = { λ shown. Some (shown_text shown) };
 
-    fn fmt<W: fmt::Write>(&self, f: &mut fmt::Formatter<W>) -> fmt::Result {
+    fn fmt<W: fmt::Write>(&self, f: &mut fmt::Formatter<W>) -> fmt::Result
+        ensures writes { DisplaysOnOk W.write_str_gives f.old result (Some (shown_text self.now))
+            f.new }
+        ensures empty { length (shown_data self.now) ≡ 0 → IsOk result × (f.new ≡ f.old) }
+    {
         self.encoding.encode_write(self.input, f)
     }
 }

@@ -64,6 +64,7 @@ struct FakeWriter {
     good_writes: usize,
     writes: usize,
     flushes: usize,
+    writes_when_flushed: usize,
 }
 
 impl FakeWriter {
@@ -75,6 +76,7 @@ impl FakeWriter {
             good_writes,
             writes: 0,
             flushes: 0,
+            writes_when_flushed: 0,
         })
     }
 }
@@ -98,6 +100,7 @@ impl Write for FakeWriter {
     fn flush(&mut self) -> io::Result<()> {
         let flush = self.flushes;
         self.flushes = flush.saturating_add(1);
+        self.writes_when_flushed = self.writes;
         if flush == 0 && self.failure == Failure::Flush {
             return Err(io::Error::from(ErrorKind::Interrupted));
         }
@@ -130,10 +133,21 @@ fn outcome_of(
     reader: FakeReader<'_>,
     writer: FakeWriter,
 ) -> Result<Outcome, AllocError> {
+    let faults = FakeWriter::new(alloc, Failure::Nothing, 0)?;
+    outcome_with(alloc, line, reader, writer, faults)
+}
+
+// The same, where lines on faults go to this writer.
+fn outcome_with(
+    alloc: Global,
+    line: &str,
+    reader: FakeReader<'_>,
+    writer: FakeWriter,
+    mut faults: FakeWriter,
+) -> Result<Outcome, AllocError> {
     let words = words_of(alloc, line)?;
     let mut reader = Watch::new(reader);
     let mut writer = Watch::new(writer);
-    let mut faults = FakeWriter::new(alloc, Failure::Nothing, 0)?;
     let status = run(&words, &mut reader, &mut writer, &mut faults);
     Ok(Outcome {
         status,
@@ -157,6 +171,7 @@ impl Outcome {
         self.status == 0
             && self.writer.bytes.as_slice() == answer
             && self.writer.flushes == 1
+            && self.writer.writes_when_flushed == self.writer.writes
             && self.line.is_empty()
     }
 

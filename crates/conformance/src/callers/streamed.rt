@@ -1,12 +1,12 @@
 //! Callers of streams, and of texts that come in pieces.
 
-ghost use Rattle.std.specs.Prelude.{◌≡◌, ◌<◌, ◌≤◌, ℕ, List, ◌++◌, flat_map, length, Err, IfOk, OnOk};
+ghost use Rattle.std.specs.Prelude.{◌≡◌, ◌≢◌, ◌<◌, ◌≤◌, ℕ, List, ◌++◌, flat_map, length, Err, IfOk, OnOk};
 ghost use Rattle.data_encoding.specs.Fault.{fault_of, sound_bytes};
 ghost use Rattle.data_encoding.specs.Grammar.{Means};
 ghost use Rattle.data_encoding.specs.Text.{text_of};
 ghost use Rattle.encoding_stream.specs.Pieces.{verdict_of};
 
-use data_encoding::laws::{one_meaning, round_trip, sound_text};
+use data_encoding::laws::{round_trip, sound_text};
 use data_encoding::{DECODE_LIMIT, DecodeError, Encoding};
 use encoding_stream::{Decoder, StreamFault, Watch, decode_stream, encode_stream};
 use std::alloc::{AllocError, Global};
@@ -53,12 +53,12 @@ pub fn there_and_back(
     input: &[u8],
 ) -> Result<Vec<u8>, StreamFault>
     ensures same { IfOk result (λ bytes. bytes.items ≡ input.now) }
+    ensures no_fault { (error : DecodeError) → result ≢ Err (StreamFault.Decode error) }
     ensures too_long { result ≡ Err StreamFault.TooLong
         → DECODE_LIMIT < length (text_of encoding.now input.now) }
 {
     encoding.bit_width();
     round_trip();
-    one_meaning();
     sound_text();
     let mut reader = Watch::new(input);
     let mut writer = Watch::new(Vec::new(alloc));

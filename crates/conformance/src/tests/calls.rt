@@ -9,7 +9,8 @@ use data_encoding::laws::{
     round_trip, specification_again,
 };
 use data_encoding::{
-    DECODE_LIMIT, DecodeError, DecodeFault, DecodeKind, Encoding, Specification, hexlower,
+    DECODE_LIMIT, DecodeError, DecodeFault, DecodeKind, Encoding, Specification,
+    base32_nopad_visual, base64_mime, hexlower,
 };
 use std::alloc::{AllocError, Global};
 use std::test::Fail;
@@ -179,7 +180,28 @@ fn are_copied(alloc: Global) -> Result<bool, Fail> {
 #[test]
 fn copies_specifications(rt: HostRuntime) -> Result<(), Fail> {
     assert!(rt; are_copied(rt.alloc())?);
+    for (encoding, want) in [
+        (base32_nopad_visual(), "true/None//0//018l/OIBI"),
+        (base64_mime(), "true/Some('=')/\n\r/76/\r\n//"),
+    ] {
+        assert!(rt; is_copied_again(rt.alloc(), &encoding, want)?, "{want}");
+    }
     Ok(())
+}
+
+// Whether what a predefined encoding says of itself is copied, whole and in its parts.
+fn is_copied_again(alloc: Global, encoding: &Encoding, want: &str) -> Result<bool, Fail> {
+    let specification = encoding.specification(alloc)?;
+    let copy = specification.try_clone()?;
+    let mut parts = specification.try_clone()?;
+    parts.translate = copy.translate.try_clone()?;
+    parts.wrap = copy.wrap.try_clone()?;
+    Ok(
+        is_described(alloc, &copy, want)?
+            && is_described(alloc, &parts, want)?
+            && has_symbols_of(&copy, &specification)
+            && parts.encoding()? == *encoding,
+    )
 }
 
 // A law is a call that does nothing.

@@ -1,20 +1,22 @@
 //! Texts that are decoded by each call, at once and in pieces, and compared with what the judge
 //! finds in them.
 
-ghost use Rattle.std.specs.Prelude.{◌<◌, ◌≤◌, length};
+ghost use Rattle.std.specs.Prelude.{◌≡◌, ◌<◌, ◌≤◌, length};
 
 use super::decode_streams::is_streamed_alike;
 use super::decoders::{finish, push};
 use super::judge::{Judge, Judgement};
-use data_encoding::{DECODE_LIMIT, DecodeFault, Encoding};
+use data_encoding::{DECODE_LIMIT, DecodeError, DecodeFault, Encoding};
 use encoding_stream::Decoder;
 use std::alloc::{AllocError, Global};
 
-// How many texts came in pieces, and how often one did: cut at another position, or from a reader.
-#[derive(Clone, Copy)]
+// How many texts came in pieces, and how often one did: cut at another position, or from a reader;
+// and how often a decoding of a front was resumed.
+#[derive(Clone, Copy, Debug, PartialEq, Eq)]
 pub(super) struct Tally {
     pub(super) texts: usize,
     pub(super) decodings: usize,
+    pub(super) resumed: usize,
 }
 
 impl Tally {
@@ -22,6 +24,7 @@ impl Tally {
         Tally {
             texts: 0,
             decodings: 0,
+            resumed: 0,
         }
     }
 }
@@ -54,19 +57,55 @@ impl<'a> Comparison<'a> {
         }
     }
 
-    // Whether the text is decoded, or refused, as by the judge: at once and in pieces.
+    // What the judge finds in a text, if it is decoded, or refused, so at once.
+    fn found(&self, text: &[u8]) -> Result<Option<Judgement>, AllocError>
+        requires limit { length text.now ≤ DECODE_LIMIT }
+    {
+        let want = self.judge.decode(self.alloc, text)?;
+        if is_decoded_alike(self.alloc, self.encoding, &want, text)
+            && is_written_alike(self.encoding, &want, text)
+        {
+            Ok(Some(want))
+        } else {
+            Ok(None)
+        }
+    }
+
+    // Whether the text is decoded, or refused, as by the judge: at once, resumed and in pieces.
     pub(super) fn is_alike(&mut self, text: &[u8]) -> Result<bool, AllocError> {
         if text.len() > DECODE_LIMIT {
             return Ok(false);
         }
-        let want = self.judge.decode(self.alloc, text)?;
-        if !is_decoded_alike(self.alloc, self.encoding, &want, text)
-            || !is_written_alike(self.encoding, &want, text)
-        {
+        let Some(want) = self.found(text)? else {
+            return Ok(false);
+        };
+        if !self.is_resumed_alike(&want, text) {
             return Ok(false);
         }
         let want = self.judge.in_pieces(self.alloc, text, want)?;
         self.is_alike_in_pieces(&want, text)
+    }
+
+    // Whether a decoding of each front of a valid length that may be followed is resumed to what is
+    // wanted of the whole.
+    fn is_resumed_alike(&mut self, want: &Judgement, text: &[u8]) -> bool
+        requires limit { length text.now ≤ DECODE_LIMIT }
+    {
+        for position in 0..=text.len() {
+            let mut output = [0; 16];
+            let Some((read, written)) = front_read(self.encoding, &text[..position], &mut output)
+            else {
+                continue;
+            };
+            if !self.judge.may_be_followed(text.get(..read).unwrap_or(&[])) {
+                continue;
+            }
+            self.tally.resumed = self.tally.resumed.wrapping_add(1);
+            if !is_completed(self.encoding, want, text, read, written, &mut output) {
+                return false;
+            }
+        }
+        true
     }
 
     // Whether what is wanted is found in a text that is cut in two, at each position, and in one
@@ -110,11 +149,44 @@ impl<'a> Comparison<'a> {
         Ok(is_counted && fault == want.fault && self.output == want.bytes)
     }
 
+    // The same of a decoder whose output is cleared after each call.
+    pub(super) fn is_drained_alike(
+        &mut self,
+        want: &Judgement,
+        text: &[u8],
+        position: usize,
+        size: usize,
+    ) -> Result<bool, AllocError>
+        requires inside { position ≤ length text.now }
+        requires some { 0 < size }
+    {
+        let mut drained = Vec::new(self.alloc);
+        self.output.clear();
+        let (front, rest) = text.split_at(position);
+        let mut decoder = Decoder::new(self.encoding);
+        push(&mut decoder, front, &mut self.output)?;
+        drain(&mut self.output, &mut drained)?;
+        for piece in rest.chunks(size) {
+            push(&mut decoder, piece, &mut self.output)?;
+            drain(&mut self.output, &mut drained)?;
+        }
+        let fault = finish(decoder, &mut self.output)?;
+        drain(&mut self.output, &mut drained)?;
+        Ok(fault == want.fault && drained == want.bytes)
+    }
+
     // Whether a stream writes and answers what is wanted, which is given so many bytes at a time.
     pub(super) fn is_read_alike(&mut self, want: &Judgement, text: &[u8], most: usize) -> bool {
         self.tally.decodings = self.tally.decodings.wrapping_add(1);
         is_streamed_alike(self.alloc, self.encoding, want, text, most)
     }
+}
+
+// Moves what was appended behind what was drained before.
+fn drain(output: &mut Vec<u8>, drained: &mut Vec<u8>) -> Result<(), AllocError> {
+    drained.extend_from_slice(output)?;
+    output.clear();
+    Ok(())
 }
 
 // Whether `decode` answers what the judge does.
@@ -148,4 +220,67 @@ fn is_written_alike(encoding: &Encoding, want: &Judgement, text: &[u8]) -> bool
         ),
     };
     is_same && written == want.bytes.len() && output.starts_with(&want.bytes)
+}
+
+// How far the front of a text is read, and how many bytes are written, where its length is that of
+// a text of few bytes.
+pub(super) fn front_read(
+    encoding: &Encoding,
+    front: &[u8],
+    output: &mut [u8],
+) -> Option<(usize, usize)>
+    requires limit { length front.now ≤ DECODE_LIMIT }
+    ensures len { length output.new ≡ length output.old }
+{
+    let Ok(most) = encoding.decode_len(front.len()) else {
+        return None;
+    };
+    if most > output.len() {
+        return None;
+    }
+    match encoding.decode_mut(front, &mut output[..most]) {
+        Ok(count) => Some((front.len(), count)),
+        Err(partial) => Some((partial.read, partial.written)),
+    }
+}
+
+// Whether what is wanted of the whole comes of decoding the rest of a text, of which so much was
+// read, and so many bytes written.
+fn is_completed(
+    encoding: &Encoding,
+    want: &Judgement,
+    text: &[u8],
+    read: usize,
+    written: usize,
+    output: &mut [u8],
+) -> bool
+    requires limit { length text.now ≤ DECODE_LIMIT }
+{
+    if read > text.len() || written > output.len() {
+        return false;
+    }
+    let rest = &text[read..];
+    let len = match encoding.decode_len(rest.len()) {
+        Ok(len) => len,
+        Err(error) => return is_further(want.fault, read, error),
+    };
+    if len > output.len() - written {
+        return false;
+    }
+    match encoding.decode_mut(rest, &mut output[written..written + len]) {
+        Ok(count) => {
+            want.fault.is_none() && output.get(..written + count) == Some(want.bytes.as_slice())
+        }
+        Err(partial) => is_further(want.fault, read, partial.error),
+    }
+}
+
+// Whether a fault is the other, so many bytes further on.
+fn is_further(fault: Option<DecodeError>, read: usize, error: DecodeError) -> bool {
+    match fault {
+        Some(fault) => {
+            fault.kind == error.kind && fault.position.checked_sub(read) == Some(error.position)
+        }
+        None => false,
+    }
 }

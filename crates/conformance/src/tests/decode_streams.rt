@@ -1,9 +1,9 @@
 //! Texts that are decoded from a reader to a writer.
 
-use super::judge::Judgement;
+use super::judge::{Judge, Judgement};
 use super::rows::{bytes_of, bytes_of_length, row_of};
 use super::slow::{Failure, Narrow, Outcome, Slow, reader_of};
-use data_encoding::{DecodeError, DecodeKind, ENCODE_LIMIT, Encoding, base64_mime, hexlower};
+use data_encoding::{DecodeError, DecodeKind, Encoding, base64_mime};
 use encoding_stream::{StreamFault, Watch, decode_stream};
 use std::alloc::{AllocError, Global};
 use std::test::Fail;
@@ -109,61 +109,117 @@ fn decodes_lines(rt: HostRuntime) -> Result<(), Fail> {
 }
 
 // Whether the read after so many good ones ends a stream, and nothing is flushed.
-fn ends_at_read(alloc: Global, text: &[u8], bytes: &[u8], good: usize) -> bool {
+fn ends_at_read(
+    alloc: Global,
+    encoding: &Encoding,
+    text: &[u8],
+    bytes: &[u8],
+    good: usize,
+) -> bool {
     let mut reader = reader_of(text, 1000);
     reader.good = good;
     let writer = Narrow::new(alloc, usize::MAX, Failure::Nothing, 0);
-    let got = decode(&hexlower(), reader, writer);
+    let got = decode(encoding, reader, writer);
     got.is_fault(StreamFault::Read, bytes)
         && got.reads == good.wrapping_add(1)
         && got.writer.flushes == 0
 }
 
 // Whether the write after so many good ones ends a stream, and nothing is flushed.
-fn ends_at_write(alloc: Global, text: &[u8], bytes: &[u8], failure: Failure, good: usize) -> bool {
-    let writer = Narrow::new(alloc, 1000, failure, good);
-    let got = decode(&hexlower(), reader_of(text, usize::MAX), writer);
+fn ends_at_write(
+    encoding: &Encoding,
+    text: &[u8],
+    bytes: &[u8],
+    writer: Narrow,
+    good: usize,
+) -> bool {
+    let got = decode(encoding, reader_of(text, usize::MAX), writer);
     got.is_fault(StreamFault::Write, bytes)
         && got.writer.writes == good.wrapping_add(1)
         && got.writer.flushes == 0
 }
 
 // Whether a flush that fails ends a stream that has written all.
-fn ends_at_flush(alloc: Global, text: &[u8], bytes: &[u8]) -> bool {
+fn ends_at_flush(alloc: Global, encoding: &Encoding, text: &[u8], bytes: &[u8]) -> bool {
     let writer = Narrow::new(alloc, 1000, Failure::Flush, 0);
-    let got = decode(&hexlower(), reader_of(text, 1000), writer);
+    let got = decode(encoding, reader_of(text, 1000), writer);
     got.is_fault(StreamFault::Write, bytes)
         && got.writer.bytes.as_slice() == bytes
         && got.writer.flushes == 1
 }
 
-// Whether the first call that fails ends a stream, which has 23 reads and 12 writes.
-fn ends_at_each_call(alloc: Global, text: &[u8], bytes: &[u8]) -> bool {
-    for good in 0..23usize {
-        if !ends_at_read(alloc, text, bytes, good) {
+// Whether the first call that fails ends a stream, which has so many reads and writes.
+fn ends_at_each_call(
+    alloc: Global,
+    encoding: &Encoding,
+    text: &[u8],
+    bytes: &[u8],
+    (reads, writes): (usize, usize),
+) -> bool {
+    for good in 0..reads {
+        if !ends_at_read(alloc, encoding, text, bytes, good) {
             return false;
         }
     }
-    for good in 0..12usize {
-        if !ends_at_write(alloc, text, bytes, Failure::Write, good)
-            || !ends_at_write(alloc, text, bytes, Failure::Take, good)
-        {
-            return false;
+    for good in 0..writes {
+        for failure in [Failure::Write, Failure::Take] {
+            let writer = Narrow::new(alloc, 1000, failure, good);
+            if !ends_at_write(encoding, text, bytes, writer, good) {
+                return false;
+            }
         }
     }
-    ends_at_flush(alloc, text, bytes)
+    ends_at_flush(alloc, encoding, text, bytes)
+}
+
+// How often a stream reads a thousand bytes at most, and writes as many.
+fn calls_of(alloc: Global, encoding: &Encoding, text: &[u8]) -> (usize, usize) {
+    let reads = decode(
+        encoding,
+        reader_of(text, 1000),
+        Narrow::new(alloc, usize::MAX, Failure::Nothing, 0),
+    )
+    .reads;
+    let whole = decode(
+        encoding,
+        reader_of(text, usize::MAX),
+        Narrow::new(alloc, 1000, Failure::Nothing, 0),
+    );
+    (reads, whole.writer.writes)
+}
+
+// Whether the first call that fails ends the stream of a text, as it stands and with a byte that is
+// no symbol in one of its last groups.
+fn ends_throughout(alloc: Global, line: &str, calls: (usize, usize)) -> Result<bool, Fail> {
+    let specification = row_of(alloc, line)?.specification;
+    let encoding = specification.encoding()?;
+    let judge = Judge::of(&specification);
+    let bytes = bytes_of_length(alloc, 10_000)?;
+    let mut text = judge.encode(alloc, &bytes)?;
+    let Some(position) = text.len().checked_sub(10) else {
+        return Ok(false);
+    };
+    let is_sound = calls_of(alloc, &encoding, &text) == calls
+        && ends_at_each_call(alloc, &encoding, &text, &bytes, calls);
+    text[position] = b'!';
+    let whole = judge.decode(alloc, &text)?;
+    let want = judge.in_pieces(alloc, &text, whole)?;
+    Ok(
+        is_sound
+            && want.fault.is_some()
+            && calls_of(alloc, &encoding, &text) == calls
+            && ends_at_each_call(alloc, &encoding, &text, &want.bytes, calls),
+    )
 }
 
 #[test]
 fn ends_at_a_failed_call(rt: HostRuntime) -> Result<(), Fail> {
-    let bytes = bytes_of_length(rt.alloc(), 10_000)?;
-    assert!(rt; bytes.len() <= ENCODE_LIMIT);
-    let sound = hexlower().encode(rt.alloc(), &bytes)?;
-    assert!(rt; ends_at_each_call(rt.alloc(), sound.as_bytes(), &bytes));
-    let mut text = bytes_of(rt.alloc(), sound.as_str())?;
-    assert!(rt; text.len() == 20_000);
-    text[19_990] = b'!';
-    let front = bytes.get(..9_995).unwrap_or(&[]);
-    assert!(rt; ends_at_each_call(rt.alloc(), &text, front));
+    for (line, calls) in [
+        ("hex|most|check|||0||||", (23, 12)),
+        ("base32|most|check|=||0||||", (18, 11)),
+        ("base64|most|check|=||76|←↵|||", (16, 11)),
+    ] {
+        assert!(rt; ends_throughout(rt.alloc(), line, calls)?, "{line}");
+    }
     Ok(())
 }

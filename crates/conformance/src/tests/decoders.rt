@@ -79,7 +79,9 @@ fn is_long_alike(comparison: &mut Comparison<'_>, text: &[u8]) -> Result<bool, A
         (1025, 1024),
     ] {
         let position = position.min(text.len());
-        if !comparison.is_cut_alike(&want, text, position, size)? {
+        if !comparison.is_cut_alike(&want, text, position, size)?
+            || !comparison.is_drained_alike(&want, text, position, size)?
+        {
             return Ok(false);
         }
     }

@@ -240,6 +240,14 @@ impl Judge<'_> {
         false
     }
 
+    // Whether another text may follow one that means data.
+    pub(super) fn may_be_followed(&self, text: &[u8]) -> bool {
+        match self.padding {
+            Some(padding) => self.concatenate || !text.contains(&padding),
+            None => matches!(self.width, 1 | 2 | 4),
+        }
+    }
+
     // Whether so many symbols are whole bytes and fewer bits than one symbol's.
     fn is_count(&self, count: usize) -> bool {
         count.wrapping_mul(self.width as usize) % 8 < self.width as usize

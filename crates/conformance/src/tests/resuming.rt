@@ -2,6 +2,7 @@
 
 ghost use Rattle.std.specs.Prelude.{◌<◌, ◌≤◌, length};
 
+use super::comparison::front_read;
 use super::decoding::{begins, decoded};
 use super::rows::{bytes_of, row_of};
 use data_encoding::{DecodeFault, Encoding, Specification, base64_mime, base64_nopad};
@@ -19,23 +20,6 @@ hex|most|check|||0||||48656c6c6f21|7
 hex|most|check||-|0||||48-65-6c-6c-|13
 quaternary|least|check|||0||||012301230123|4
 binary|most|check||-|0||||01010011-010|13";
-
-// How far a front of a text is read, and how many bytes are written, where its length is that of a
-// text.
-fn front_read(encoding: &Encoding, front: &[u8], output: &mut [u8]) -> Option<(usize, usize)>
-    requires short { length front.now ≤ 17 }
-{
-    let Ok(most) = encoding.decode_len(front.len()) else {
-        return None;
-    };
-    if most > output.len() {
-        return None;
-    }
-    match encoding.decode_mut(front, &mut output[..most]) {
-        Ok(count) => Some((front.len(), count)),
-        Err(partial) => Some((partial.read, partial.written)),
-    }
-}
 
 // Whether the rest of a text is answered as the whole, behind so much that was read and written.
 fn is_resumed(

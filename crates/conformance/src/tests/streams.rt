@@ -2,7 +2,9 @@
 
 use super::rows::{bytes_of_length, row_of};
 use super::slow::{Failure, Narrow, Outcome, Slow, reader_of};
-use data_encoding::{DecodeError, DecodeKind, ENCODE_LIMIT, Encoding, base64_mime, hexlower};
+use data_encoding::{
+    DecodeError, DecodeKind, ENCODE_LIMIT, Encoding, base32, base64_mime, hexlower,
+};
 use encoding_stream::{StreamFault, Watch, encode_stream};
 use std::alloc::{AllocError, Global};
 use std::test::Fail;
@@ -103,39 +105,65 @@ fn streams_in_large_pieces(rt: HostRuntime) -> Result<(), Fail> {
     Ok(())
 }
 
-#[test]
-fn ends_at_a_failed_read(rt: HostRuntime) -> Result<(), Fail> {
-    let bytes = bytes_of_length(rt.alloc(), 20_000)?;
-    let text = text_of(rt.alloc(), &hexlower(), &bytes)?;
-    for good in 0..23usize {
-        let mut reader = reader_of(&bytes, 1000);
+// Whether the read that fails ends a stream, however many good ones came before it; how many reads
+// a stream has that none ends.
+fn reads_that_end(alloc: Global, encoding: &Encoding, bytes: &[u8]) -> Result<Option<usize>, Fail> {
+    let text = text_of(alloc, encoding, bytes)?;
+    let writer = Narrow::new(alloc, usize::MAX, Failure::Nothing, 0);
+    let reads = stream(encoding, reader_of(bytes, 1000), writer).reads;
+    for good in 0..reads {
+        let mut reader = reader_of(bytes, 1000);
         reader.good = good;
-        let writer = Narrow::new(rt.alloc(), usize::MAX, Failure::Nothing, 0);
-        let got = stream(&hexlower(), reader, writer);
-        assert!(rt;
-            got.is_fault(StreamFault::Read, text.as_bytes()),
-            "after {good}"
-        );
-        assert!(rt;
-            got.reads == good + 1 && got.writer.flushes == 0,
-            "after {good}"
-        );
+        let writer = Narrow::new(alloc, usize::MAX, Failure::Nothing, 0);
+        let got = stream(encoding, reader, writer);
+        if !got.is_fault(StreamFault::Read, text.as_bytes())
+            || got.reads != good.wrapping_add(1)
+            || got.writer.flushes != 0
+        {
+            return Ok(None);
+        }
     }
-    Ok(())
+    Ok(Some(reads))
+}
+
+// The same of writes.
+fn writes_that_end(
+    alloc: Global,
+    encoding: &Encoding,
+    bytes: &[u8],
+    failure: Failure,
+) -> Result<Option<usize>, Fail> {
+    let text = text_of(alloc, encoding, bytes)?;
+    let writer = Narrow::new(alloc, 1000, Failure::Nothing, 0);
+    let writes = stream(encoding, reader_of(bytes, usize::MAX), writer)
+        .writer
+        .writes;
+    for good in 0..writes {
+        let writer = Narrow::new(alloc, 1000, failure, good);
+        let got = stream(encoding, reader_of(bytes, usize::MAX), writer);
+        if !got.is_fault(StreamFault::Write, text.as_bytes())
+            || got.writer.writes != good.wrapping_add(1)
+            || got.writer.flushes != 0
+        {
+            return Ok(None);
+        }
+    }
+    Ok(Some(writes))
 }
 
 #[test]
-fn ends_at_a_failed_write(rt: HostRuntime) -> Result<(), Fail> {
+fn ends_at_a_failed_call(rt: HostRuntime) -> Result<(), Fail> {
     let bytes = bytes_of_length(rt.alloc(), 20_000)?;
-    let text = text_of(rt.alloc(), &hexlower(), &bytes)?;
-    for failure in [Failure::Write, Failure::Take] {
-        for good in 0..42usize {
-            let writer = Narrow::new(rt.alloc(), 1000, failure, good);
-            let got = stream(&hexlower(), reader_of(&bytes, usize::MAX), writer);
-            let is_end = got.is_fault(StreamFault::Write, text.as_bytes())
-                && got.writer.writes == good + 1
-                && got.writer.flushes == 0;
-            assert!(rt; is_end, "{failure:?} after {good}");
+    for (encoding, reads, writes) in [
+        (hexlower(), 23, 42),
+        (base32(), 23, 34),
+        (base64_mime(), 23, 30),
+    ] {
+        let ended = reads_that_end(rt.alloc(), &encoding, &bytes)?;
+        assert_eq!(rt; ended, Some(reads));
+        for failure in [Failure::Write, Failure::Take] {
+            let ended = writes_that_end(rt.alloc(), &encoding, &bytes, failure)?;
+            assert_eq!(rt; ended, Some(writes), "{failure:?}");
         }
     }
     Ok(())

@@ -160,15 +160,24 @@ fn lengths_are_alike(comparison: &mut Comparison<'_>, symbol: u8) -> Result<bool
     Ok(true)
 }
 
-// Texts of symbols without bits and of symbols with some; where there is padding, also padded.
+// The symbols of the values 0 and 1, and the last, of which all bits are set.
+pub(super) fn telling_symbols(symbols: &[u8]) -> [u8; 3] {
+    match symbols {
+        [zero, one, .., last] => [*zero, *one, *last],
+        [zero, one] => [*zero, *one, *one],
+        _ => [0; 3],
+    }
+}
+
+// Texts of symbols without bits, with one and with all; where there is padding, also padded.
 fn is_symbol_alike(alloc: Global, line: &str, tally: &mut Tally) -> Result<bool, Fail> {
     let specification = row_of(alloc, line)?.specification;
     let encoding = specification.encoding()?;
     let judge = Judge::of(&specification);
     let mut comparison = Comparison::new(alloc, &encoding, judge, *tally);
-    for symbol in judge.symbols.iter().take(2) {
-        if !lengths_are_alike(&mut comparison, *symbol)?
-            || judge.padding.is_some() && !pairs_are_alike(&mut comparison, *symbol)?
+    for symbol in telling_symbols(judge.symbols) {
+        if !lengths_are_alike(&mut comparison, symbol)?
+            || judge.padding.is_some() && !pairs_are_alike(&mut comparison, symbol)?
         {
             return Ok(false);
         }
@@ -180,10 +189,17 @@ fn is_symbol_alike(alloc: Global, line: &str, tally: &mut Tally) -> Result<bool,
 #[test]
 fn short_texts_are_judged_alike(rt: HostRuntime) -> Result<(), Fail> {
     let mut tally = Tally::zero();
-    for line in BASES.split('\n') {
-        assert!(rt; is_short_alike(rt.alloc(), line, &mut tally)?, "{line}");
+    for lines in [BASES, UNCHECKED, PADDED] {
+        for line in lines.split('\n') {
+            assert!(rt; is_short_alike(rt.alloc(), line, &mut tally)?, "{line}");
+        }
     }
-    assert_eq!(rt; (tally.texts, tally.decodings), (278_460, 4_084_080));
+    let want = Tally {
+        texts: 835_380,
+        decodings: 12_252_240,
+        resumed: 1_697_244,
+    };
+    assert_eq!(rt; tally, want);
     Ok(())
 }
 
@@ -195,6 +211,11 @@ fn padded_texts_are_judged_alike(rt: HostRuntime) -> Result<(), Fail> {
             assert!(rt; is_symbol_alike(rt.alloc(), line, &mut tally)?, "{line}");
         }
     }
-    assert_eq!(rt; (tally.texts, tally.decodings), (234_600, 4_117_692));
+    let want = Tally {
+        texts: 351_900,
+        decodings: 6_176_538,
+        resumed: 936_930,
+    };
+    assert_eq!(rt; tally, want);
     Ok(())
 }

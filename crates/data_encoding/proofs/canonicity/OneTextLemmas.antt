@@ -1,36 +1,40 @@
--- Where there is no cause of a second text, a text that means data is the text of the data.
-use Rattle.std.proofs.Common.{◌≡◌, ℕ, ◌+◌, ◌*◌, ◌%◌, ◌<◌, ◌==◌, Bool, true, false, not, ◌&&◌, List, [], ◌∷◌, ◌++◌, length, map, replicate, Option, Some, None, is_some, refl, sym, ap, ◌∙◌, subst, arith, length-append}
+-- Where there is no cause of a second text but a translated byte, the own form of a text that means
+-- data is the text of the data; and where there is no cause at all, the text is.
+use Rattle.std.proofs.Common.{◌≡◌, ◌↔◌, ℕ, ◌+◌, ◌*◌, ◌%◌, ◌<◌, ◌==◌, Bool, true, false, not, ◌&&◌, List, [], ◌∷◌, ◌++◌, length, map, replicate, Option, Some, None, is_some, unwrap_or, refl, sym, ap, ◌∙◌, subst, arith, length-append}
 use Rattle.std.proofs.lemmas.Bool.{and_parts, eqb-true, false≢true}
 use Rattle.std.proofs.lemmas.List.{append-nil, length-map, map-append, nil_from_length}
 use Rattle.std.proofs.Math.Nat.{mod_self, mul-mod_left, mul_comm}
 use Rattle.std.specs.Prelude.{flat_map}
 use Rattle.std.specs.List.{AllByRecursion, list_any}
-use Rattle.data_encoding.specs.declared.encoding.Character.TheVariants.{Ignored, Padding}
-use Rattle.data_encoding.specs.Base.{Base, IsWidth, Wrapping, meaning, is_ignored, is_padded, is_padding, ignores_some, group_symbols}
+use Rattle.data_encoding.specs.declared.encoding.Character.TheVariants.{Padding}
+use Rattle.data_encoding.specs.Base.{Base, IsWidth, meaning, is_padded, is_padding, ignores_some, group_symbols}
 use Rattle.data_encoding.specs.Bits.{runs}
 use Rattle.data_encoding.specs.Canonical.{has_one_text}
 use Rattle.data_encoding.specs.Grammar.{Positioned, GroupMeans, GroupsMean, Means, MeansBy, kept, positioned, is_final}
-use Rattle.data_encoding.specs.Layout.{translated_bytes}
+use Rattle.data_encoding.specs.Layout.{own_character, translated_bytes}
+use Rattle.data_encoding.specs.SameMeaning.{has_one_own_form, own_form}
 use Rattle.data_encoding.specs.Text.{filled_with, plain_text, text_of, with_padding}
-use Rattle.data_encoding.proofs.canonicity.OwnTextLemmas.{missing-is, paddings_are, plain_is}
+use Rattle.data_encoding.proofs.canonicity.OwnTextLemmas.{missing-is, own_form-itself, own_form-meaning, paddings_are, plain_is}
 use Rattle.data_encoding.proofs.digits.WidthLemmas.{group_bits, group_symbols-pos}
 use Rattle.data_encoding.proofs.grammar.GroupLemmas.{bytes_in}
+use Rattle.data_encoding.proofs.grammar.MeaningLemmas.{sound_bytes-Means}
 use Rattle.data_encoding.proofs.grammar.PositionLemmas.{bytes-positioned_from, filter-plain, never_ignored}
+use Rattle.data_encoding.proofs.grammar.SameMeaningLemmas.{Means-translated}
+use Rattle.data_encoding.proofs.grammar.TightLemmas.{no_lines-plain}
 use Rattle.data_encoding.proofs.grammar.UnpaddedGroupLemmas.{PlainMeans-count}
 use Rattle.data_encoding.proofs.lists.EachLemmas.{all_parts}
 use Rattle.data_encoding.proofs.lists.ListLemmas.{AllFail-list_any}
 use Rattle.data_encoding.proofs.lists.RunLemmas.{flat_map-runs}
-use Rattle.data_encoding.proofs.specification.RuleLemmas.{IsRuled, IsRuledWrapping}
+use Rattle.data_encoding.proofs.specification.RuleLemmas.{IsRuled}
 use Rattle.data_encoding.proofs.text.PaddedTextLemmas.{text_of-unwrapped}
 use Rattle.data_encoding.proofs.text.PlainTextLemmas.{plain_text-join, plain_text-nil}
 use Rattle.data_encoding.proofs.text.TextMeaningLemmas.{filled-behind, filled-nil}
 
--- What a base keeps that has no cause of a second text.
-record HasOneText (base : Base) : Type 0 where
+-- What a base keeps that has no cause of a second text but a translated byte.
+record HasOneForm (base : Base) : Type 0 where
   pub checks : base.checks_trailing_bits ≡ true
   pub alone : (is_padded base && base.concatenates) ≡ false
   pub keeps : ignores_some base ≡ false
-  pub own : translated_bytes base ≡ []
 
 not_true : (b : Bool) → not b ≡ true → b ≡ false
 not_true true h = cc
@@ -40,39 +44,31 @@ second_false : (a b : Bool) → (a && b) ≡ false → a ≡ true → b ≡ fals
 second_false true b h e = h
 second_false false b h e = cc
 
-parts_of : (base : Base) → has_one_text base ≡ true → HasOneText base
+parts_of : (base : Base) → has_one_own_form base ≡ true → HasOneForm base
 parts_of base h =
     let alone = not (is_padded base && base.concatenates) in
     let keeps = not (ignores_some base) in
-    let none = length (translated_bytes base) == 0 in
-    let first = and_parts (base.checks_trailing_bits && alone && keeps) none h in
-    let second = and_parts (base.checks_trailing_bits && alone) keeps first.0 in
-    let third = and_parts base.checks_trailing_bits alone second.0 in
+    let first = and_parts (base.checks_trailing_bits && alone) keeps h in
+    let second = and_parts base.checks_trailing_bits alone first.0 in
     record {
-      checks = third.0;
-      alone = not_true (is_padded base && base.concatenates) third.1;
-      keeps = not_true (ignores_some base) second.1;
-      own = nil_from_length (translated_bytes base)
-          (eqb-true (length (translated_bytes base)) 0 first.1);
+      checks = second.0;
+      alone = not_true (is_padded base && base.concatenates) second.1;
+      keeps = not_true (ignores_some base) first.1;
     }
 
-module _ (base : Base) (ruled : IsRuled base) (one : HasOneText base) where
+module _ (base : Base) (ruled : IsRuled base) (one : HasOneForm base) where
   width : IsWidth base.width
   width = ruled.is_width
 
-  -- no byte is ignored, so there are no lines
-  no_lines : base.wrapping ≡ None
-  no_lines = by base.wrapping ruled.wrapping where
-    ignored_by : (bytes : List ℕ)
-        → AllByRecursion (λ byte. (byte < 128) × (meaning base byte ≡ Ignored)) bytes
-        → 0 < length bytes → ⊥
-    ignored_by [] all some = absurd (omega (arith, some))
-    ignored_by (byte ∷ bytes) all some =
-        false≢true (sym (never_ignored base one.keeps byte) ∙ ap is_ignored all.0.1)
+  -- the own form of some bytes
+  abbrev own_in : List Positioned → List ℕ
+  own_in ks = own_form base (bytes_in ks)
 
-    by : (o : Option Wrapping) → IsRuledWrapping base o → o ≡ None
-    by None h = refl
-    by (Some lines) h = absurd (ignored_by lines.separator h.ignored h.ended)
+  own_in-append : (ks js : List Positioned) → own_in (ks ++ js) ≡ own_in ks ++ own_in js
+  own_in-append ks js =
+      let stands_for : ℕ → ℕ = λ byte. unwrap_or (own_character base (meaning base byte)) byte in
+      ap (own_form base) (map-append (λ (k : Positioned). k.byte) ks js)
+      ∙ map-append stands_for (bytes_in ks) (bytes_in js)
 
   module _ (character : ℕ) (some : base.padding ≡ Some character) where
     abbrev size : ℕ
@@ -103,28 +99,30 @@ module _ (base : Base) (ruled : IsRuled base) (one : HasOneText base) where
               absurd (false≢true (sym parts.1.0 ∙ ap is_padding pads))
 
     module _ (group : List Positioned) (piece : List ℕ) (means : GroupMeans base group piece) where
-      symbols_are : bytes_in means.symbols ≡ plain_text base piece
-      symbols_are = plain_is base ruled one.own one.checks means.symbols piece means.means
+      symbols_are : own_in means.symbols ≡ plain_text base piece
+      symbols_are = plain_is base ruled one.checks means.symbols piece means.means
 
       count : length (plain_text base piece) ≡ length means.symbols
       count =
-          sym (ap length symbols_are) ∙ length-map means.symbols (λ (k : Positioned). k.byte)
+          let stands_for : ℕ → ℕ =
+          λ byte. unwrap_or (own_character base (meaning base byte)) byte in
+          sym (ap length symbols_are) ∙ length-map (bytes_in means.symbols) stands_for
+          ∙ length-map means.symbols (λ (k : Positioned). k.byte)
 
       whole : length means.symbols + length means.padding ≡ size
       whole =
           sym (length-append means.symbols means.padding) ∙ sym (ap length means.is_group)
           ∙ means.is_whole
 
-      group_is : bytes_in group
+      group_is : own_in group
           ≡ plain_text base piece ++ replicate (length means.padding) character
       group_is =
-          ap bytes_in means.is_group
-          ∙ map-append (λ (k : Positioned). k.byte) means.symbols means.padding
+          ap own_in means.is_group ∙ own_in-append means.symbols means.padding
           ∙ (λ i. symbols_are i
-          ++ paddings_are base ruled one.own means.padding character some means.is_padding i)
+          ++ paddings_are base ruled means.padding character some means.is_padding i)
 
       -- where it has padding, it is the text of the last bytes
-      last : bytes_in group ≡ filled piece
+      last : own_in group ≡ filled piece
       last =
           let total : (length (plain_text base piece) + length means.padding) % size ≡ 0 =
           ap (λ n. (n + length means.padding) % size) count ∙ ap (λ n. n % size) whole
@@ -136,7 +134,7 @@ module _ (base : Base) (ruled : IsRuled base) (one : HasOneText base) where
 
       -- and else that of bytes behind which others may stand
       first : length means.padding ≡ 0 → (more : List ℕ)
-          → bytes_in group ++ filled more ≡ filled (piece ++ more)
+          → own_in group ++ filled more ≡ filled (piece ++ more)
       first none more =
           let text = plain_text base piece in
           let all : length means.symbols ≡ size = omega (arith, whole, none) in
@@ -163,14 +161,14 @@ module _ (base : Base) (ruled : IsRuled base) (one : HasOneText base) where
         ∙ filled-nil character size (group_symbols-pos base.width width)
 
     groups_are : (gs : List (List Positioned)) (bytes : List ℕ) → GroupsMean base gs bytes
-        → bytes_in (flat_map (λ g. g) gs) ≡ filled bytes
+        → own_in (flat_map (λ g. g) gs) ≡ filled bytes
     groups_are [] bytes means = sym (filled_none bytes means)
     groups_are (group ∷ gs) bytes means =
-        map-append (λ (k : Positioned). k.byte) group (flat_map (λ g. g) gs)
-        ∙ ap (λ l. bytes_in group ++ l) (groups_are gs means.1 means.5)
+        own_in-append group (flat_map (λ g. g) gs)
+        ∙ ap (λ l. own_in group ++ l) (groups_are gs means.1 means.5)
         ∙ by means.3.padding refl ∙ ap filled (sym means.2) where
           by : (padding : List Positioned) → means.3.padding ≡ padding
-              → bytes_in group ++ filled means.1 ≡ filled (means.0 ++ means.1)
+              → own_in group ++ filled means.1 ≡ filled (means.0 ++ means.1)
           by [] is = first group means.0 means.3 (ap length is) means.1
           by (k ∷ padding) is =
               let each : map (λ j. meaning base j.byte) (k ∷ padding)
@@ -185,23 +183,56 @@ module _ (base : Base) (ruled : IsRuled base) (one : HasOneText base) where
               ∙ append-nil (filled means.0)
               ∙ ap filled (sym (ap (λ l. means.0 ++ l) none ∙ append-nil means.0))
 
-  one_text : (text bytes : List ℕ) → Means base text bytes → text ≡ text_of base bytes
-  one_text text bytes means =
-      sym (bytes-positioned_from 0 text) ∙ ap bytes_in (sym all_kept)
-      ∙ by base.padding refl means ∙ sym (text_of-unwrapped base bytes no_lines) where
+  own_text : (text bytes : List ℕ) → Means base text bytes
+      → own_form base text ≡ text_of base bytes
+  own_text text bytes means =
+      ap (own_form base) (sym (bytes-positioned_from 0 text)) ∙ ap own_in (sym all_kept)
+      ∙ by base.padding refl means ∙ sym (text_of-unwrapped base bytes (no_lines-plain base ruled one.keeps)) where
         all_kept : kept base text ≡ positioned text
         all_kept = filter-plain base one.keeps (positioned text)
 
         by : (o : Option ℕ) → base.padding ≡ o → MeansBy o base text bytes
-            → bytes_in (kept base text)
+            → own_in (kept base text)
             ≡ with_padding o (group_symbols base.width) (plain_text base bytes)
-        by None is h = plain_is base ruled one.own one.checks (kept base text) bytes h
+        by None is h = plain_is base ruled one.checks (kept base text) bytes h
         by (Some character) is h =
-            ap bytes_in (sym (flat_map-runs (group_symbols base.width) (kept base text)
+            ap own_in (sym (flat_map-runs (group_symbols base.width) (kept base text)
             (group_symbols-pos base.width width)))
             ∙ groups_are character is (runs (group_symbols base.width) (kept base text)) bytes h
 
--- the law
-pub Means-text_of_only : (base : Base) → IsRuled base → has_one_text base ≡ true
-    → (text bytes : List ℕ) → Means base text bytes → text ≡ text_of base bytes
-Means-text_of_only base ruled h = one_text base ruled (parts_of base h)
+module _ (base : Base) (ruled : IsRuled base) where
+  -- the law of canonical bases
+  pub Means-text_of_only : has_one_text base ≡ true → (text bytes : List ℕ)
+      → Means base text bytes → text ≡ text_of base bytes
+  Means-text_of_only h text bytes means =
+      let parts = and_parts (has_one_own_form base) (length (translated_bytes base) == 0) h in
+      let none = nil_from_length (translated_bytes base)
+      (eqb-true (length (translated_bytes base)) 0 parts.1) in
+      sym (own_form-itself base ruled none text)
+      ∙ own_text base ruled (parts_of base parts.0) text bytes means
+
+  -- the law of own forms
+  pub own_forms : has_one_own_form base ≡ true → (text other bytes others : List ℕ)
+      → Means base text bytes → Means base other others
+      → (bytes ≡ others) ↔ (own_form base text ≡ own_form base other)
+  own_forms h text other bytes others means more =
+      let form = parts_of base h in
+      let own_means : (one its : List ℕ) → Means base one its
+      → Means base (own_form base one) its =
+      λ one its is. Means-translated base ruled.is_width one (own_form base one)
+      (own_form-meaning base ruled one) its is in (
+        (λ same.
+            own_text base ruled form text bytes means ∙ ap (text_of base) same
+            ∙ sym (own_text base ruled form other others more)),
+        (λ same.
+            sym (sound_bytes-Means base ruled.is_width (own_form base other) bytes
+            (subst (λ l. Means base l bytes) same (own_means text bytes means)))
+            ∙ sound_bytes-Means base ruled.is_width (own_form base other) others
+            (own_means other others more)),
+      )
+
+  -- and there are no lines
+  pub no_lines-only : has_one_text base ≡ true → base.wrapping ≡ None
+  no_lines-only h =
+      no_lines-plain base ruled
+      (parts_of base (and_parts (has_one_own_form base) (length (translated_bytes base) == 0) h).0).keeps

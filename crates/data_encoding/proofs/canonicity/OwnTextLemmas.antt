@@ -1,5 +1,5 @@
--- Where no byte is translated, a text is decided by what its bytes mean.
-use Rattle.std.proofs.Common.{◌≡◌, ℕ, ◌+◌, ◌-◌, ◌%◌, ◌^◌, ◌<◌, ◌≤◌, ◌==◌, true, not, List, [], ◌∷◌, ◌++◌, length, map, replicate, Some, refl, sym, ap, ◌∙◌, arith, ⊎_elim, length-append}
+-- What the bytes of a text stand for is decided by what they mean.
+use Rattle.std.proofs.Common.{◌≡◌, ℕ, ◌+◌, ◌-◌, ◌%◌, ◌^◌, ◌<◌, ◌≤◌, ◌==◌, true, not, List, [], ◌∷◌, ◌++◌, length, map, replicate, Option, Some, None, unwrap_or, refl, sym, ap, ◌∙◌, subst, arith, ⊎_elim, length-append}
 use Rattle.std.proofs.lemmas.Bool.{cases_eq, cases_lt, ltb-true, ne_eqb}
 use Rattle.std.proofs.lemmas.Nat.{mod_below}
 use Rattle.std.proofs.lemmas.List.{get_or_past}
@@ -7,11 +7,13 @@ use Rattle.std.proofs.Math.Nat.{add-mod, add-mod_left, mod-eq_of_lt, mul_comm, m
 use Rattle.std.specs.Prelude.{flat_map}
 use Rattle.std.specs.List.{AllByRecursion}
 use Rattle.data_encoding.specs.declared.encoding.BitOrder.{BitOrder}
-use Rattle.data_encoding.specs.declared.encoding.Character.TheVariants.{Symbol, Padding, Invalid}
+use Rattle.data_encoding.specs.declared.encoding.Character.{Character}
+use Rattle.data_encoding.specs.declared.encoding.Character.TheVariants.{Symbol, Padding, Ignored, Invalid}
 use Rattle.data_encoding.specs.Base.{Base, IsWidth, meaning, symbol}
 use Rattle.data_encoding.specs.Bits.{bits_of, bits_of_bytes, missing, number_of, runs}
 use Rattle.data_encoding.specs.Grammar.{Positioned, PlainMeans}
 use Rattle.data_encoding.specs.Layout.{is_translated, own_character, translated_bytes}
+use Rattle.data_encoding.specs.SameMeaning.{own_form}
 use Rattle.data_encoding.specs.Text.{filled_with, plain_text}
 use Rattle.data_encoding.proofs.canonicity.TranslatedLemmas.{not_translated}
 use Rattle.data_encoding.proofs.digits.BitLemmas.{length-bits_of, number_of-bits_of}
@@ -20,7 +22,7 @@ use Rattle.data_encoding.proofs.grammar.GroupLemmas.{bytes_in}
 use Rattle.data_encoding.proofs.grammar.UnpaddedGroupLemmas.{length-bits_of_values}
 use Rattle.data_encoding.proofs.lists.EachLemmas.{passes_at}
 use Rattle.data_encoding.proofs.lists.RunLemmas.{runs-flat_map}
-use Rattle.data_encoding.proofs.specification.RuleLemmas.{IsRuled, is_within}
+use Rattle.data_encoding.proofs.specification.RuleLemmas.{IsRuled, IsRuledPadding, is_within}
 use Rattle.data_encoding.proofs.text.PlainTextLemmas.{missing-none}
 
 -- what completes a length to a multiple is what is missing
@@ -66,6 +68,10 @@ module _ (base : Base) (ruled : IsRuled base) where
   width : IsWidth base.width
   width = ruled.is_width
 
+  -- what a byte stands for, or the byte
+  abbrev own_byte_of : ℕ → ℕ
+  own_byte_of byte = unwrap_or (own_character base (meaning base byte)) byte
+
   -- a byte that means something is ASCII
   ascii : (byte : ℕ) → (meaning base byte ≡ Invalid → ⊥) → byte < 128
   ascii byte h =
@@ -94,65 +100,104 @@ module _ (base : Base) (ruled : IsRuled base) where
       let others : map (λ k. meaning base k.byte) ks ≡ map (λ value. Symbol value) values = cc in
       (value_below k.byte value here, values_below ks values others)
 
+  -- what a symbol and padding stand for
+  symbol_is : (byte value : ℕ) → meaning base byte ≡ Symbol value
+      → own_byte_of byte ≡ symbol base value
+  symbol_is byte value is = ap (λ m. unwrap_or (own_character base m) byte) is
+
+  padding_is : (byte character : ℕ) → base.padding ≡ Some character
+      → meaning base byte ≡ Padding → own_byte_of byte ≡ character
+  padding_is byte character some is =
+      ap (λ m. unwrap_or (own_character base m) byte) is ∙ ap (λ o. unwrap_or o byte) some
+
+  symbols_are : (ks : List Positioned) (values : List ℕ)
+      → map (λ k. meaning base k.byte) ks ≡ map (λ value. Symbol value) values
+      → own_form base (bytes_in ks) ≡ map (symbol base) values
+  symbols_are [] [] h = refl
+  symbols_are [] (value ∷ values) h = cc
+  symbols_are (k ∷ ks) [] h = cc
+  symbols_are (k ∷ ks) (value ∷ values) h =
+      let here : meaning base k.byte ≡ Symbol value = cc in
+      let others : map (λ k. meaning base k.byte) ks ≡ map (λ value. Symbol value) values = cc in
+      (λ i. symbol_is k.byte value here i ∷ symbols_are ks values others i)
+
+  pub paddings_are : (ks : List Positioned) (character : ℕ) → base.padding ≡ Some character
+      → map (λ k. meaning base k.byte) ks ≡ replicate (length ks) Padding
+      → own_form base (bytes_in ks) ≡ replicate (length ks) character
+  paddings_are [] character some h = refl
+  paddings_are (k ∷ ks) character some h =
+      let here : meaning base k.byte ≡ Padding = cc in
+      let others : map (λ k. meaning base k.byte) ks ≡ replicate (length ks) Padding = cc in
+      (λ i. padding_is k.byte character some here i ∷ paddings_are ks character some others i)
+
+  -- the own form of symbols that mean bytes is their text, where trailing bits are checked
+  pub plain_is : base.checks_trailing_bits ≡ true → (ks : List Positioned) (bytes : List ℕ)
+      → PlainMeans base ks bytes → own_form base (bytes_in ks) ≡ plain_text base bytes
+  plain_is checks ks bytes means =
+      let octets = bits_of_bytes base.order bytes in
+      let bits = flat_map (bits_of base.order base.width) means.values in
+      let show = map (λ run. symbol base (number_of base.order run)) in
+      let whole : (length octets + length means.rest) % base.width ≡ 0 =
+      ap (λ n. n % base.width)
+      (sym (ap length means.same_bits ∙ length-append octets means.rest)
+      ∙ length-bits_of_values base.order base.width means.values
+      ∙ mul_comm base.width (length means.values))
+      ∙ mul-mod_left (length means.values) base.width in
+      let lack =
+      missing-is base.width (length octets) (length means.rest) means.rest_is_short whole in
+      let filled : bits ≡ filled_with 0 base.width octets =
+      means.same_bits
+      ∙ ap (λ l. octets ++ l) (means.rest_is_zero checks ∙ ap (λ n. replicate n 0) lack) in
+      let below = values_below ks means.values means.are_symbols in
+      symbols_are ks means.values means.are_symbols
+      ∙ ap (map (symbol base)) (sym (numbers_again base.order base.width means.values below))
+      ∙ map-twice (symbol base) (number_of base.order)
+      (map (bits_of base.order base.width) means.values)
+      ∙ ap show (sym (runs-flat_map base.width (bits_of base.order base.width) means.values
+      width.some (length-bits_of base.order base.width)))
+      ∙ ap (λ l. show (runs base.width l)) filled
+
+  -- a byte stands for what means the same
+  own_meaning_of : (byte : ℕ) → meaning base (own_byte_of byte) ≡ meaning base byte
+  own_meaning_of byte = by (meaning base byte) refl where
+    by_padding : (o : Option ℕ) → base.padding ≡ o → meaning base byte ≡ Padding
+        → meaning base (unwrap_or o byte) ≡ Padding
+    by_padding None none is = is
+    by_padding (Some character) some is =
+        (subst (λ o. IsRuledPadding base o) some ruled.padding).1
+
+    by : (m : Character) → meaning base byte ≡ m
+        → meaning base (unwrap_or (own_character base m) byte) ≡ m
+    by (Symbol value) is =
+        (ruled.own value (omega (arith, value_below byte value is, ruled.count))).1
+    by Padding is = by_padding base.padding refl is
+    by Ignored is = is
+    by Invalid is = is
+
+  pub own_form-meaning : (text : List ℕ)
+      → map (meaning base) text ≡ map (meaning base) (own_form base text)
+  own_form-meaning [] = refl
+  own_form-meaning (byte ∷ text) =
+      (λ i. sym (own_meaning_of byte) i ∷ own_form-meaning text i)
+
+  -- and for itself where none is translated
   module _ (alone : translated_bytes base ≡ []) where
-    symbol_is : (byte value : ℕ) → meaning base byte ≡ Symbol value
-        → byte ≡ symbol base value
-    symbol_is byte value is =
-        sym (equal_by (symbol base value) byte
-        (λ apart. not_translated base alone byte (ascii byte (λ none. cc))
-        (ap (λ m. is_translated base byte (own_character base m)) is ∙ apart)))
+    own_is : (byte : ℕ) (o : Option ℕ) → (is_translated base byte o ≡ true → ⊥)
+        → unwrap_or o byte ≡ byte
+    own_is byte None h = refl
+    own_is byte (Some character) h = equal_by character byte h
 
-    padding_is : (byte character : ℕ) → base.padding ≡ Some character
-        → meaning base byte ≡ Padding → byte ≡ character
-    padding_is byte character some is =
-        sym (equal_by character byte
-        (λ apart. not_translated base alone byte (ascii byte (λ none. cc))
-        (ap (λ m. is_translated base byte (own_character base m)) is
-        ∙ ap (is_translated base byte) some ∙ apart)))
+    itself : (byte : ℕ) → own_byte_of byte ≡ byte
+    itself byte =
+        ⊎_elim {C = own_byte_of byte ≡ byte}
+        (λ (low : byte < 128).
+        own_is byte (own_character base (meaning base byte))
+        (not_translated base alone byte low))
+        (λ (high : 128 ≤ byte).
+        ap (λ m. unwrap_or (own_character base m) byte)
+        (get_or_past base.meanings byte Invalid (omega (arith, high, ruled.long))))
+        (cases_lt byte 128)
 
-    symbols_are : (ks : List Positioned) (values : List ℕ)
-        → map (λ k. meaning base k.byte) ks ≡ map (λ value. Symbol value) values
-        → bytes_in ks ≡ map (symbol base) values
-    symbols_are [] [] h = refl
-    symbols_are [] (value ∷ values) h = cc
-    symbols_are (k ∷ ks) [] h = cc
-    symbols_are (k ∷ ks) (value ∷ values) h =
-        let here : meaning base k.byte ≡ Symbol value = cc in
-        let others : map (λ k. meaning base k.byte) ks ≡ map (λ value. Symbol value) values = cc in
-        (λ i. symbol_is k.byte value here i ∷ symbols_are ks values others i)
-
-    pub paddings_are : (ks : List Positioned) (character : ℕ) → base.padding ≡ Some character
-        → map (λ k. meaning base k.byte) ks ≡ replicate (length ks) Padding
-        → bytes_in ks ≡ replicate (length ks) character
-    paddings_are [] character some h = refl
-    paddings_are (k ∷ ks) character some h =
-        let here : meaning base k.byte ≡ Padding = cc in
-        let others : map (λ k. meaning base k.byte) ks ≡ replicate (length ks) Padding = cc in
-        (λ i. padding_is k.byte character some here i ∷ paddings_are ks character some others i)
-
-    -- symbols that mean bytes are their text, where trailing bits are checked
-    pub plain_is : base.checks_trailing_bits ≡ true → (ks : List Positioned) (bytes : List ℕ)
-        → PlainMeans base ks bytes → bytes_in ks ≡ plain_text base bytes
-    plain_is checks ks bytes means =
-        let octets = bits_of_bytes base.order bytes in
-        let bits = flat_map (bits_of base.order base.width) means.values in
-        let show = map (λ run. symbol base (number_of base.order run)) in
-        let whole : (length octets + length means.rest) % base.width ≡ 0 =
-        ap (λ n. n % base.width)
-        (sym (ap length means.same_bits ∙ length-append octets means.rest)
-        ∙ length-bits_of_values base.order base.width means.values
-        ∙ mul_comm base.width (length means.values))
-        ∙ mul-mod_left (length means.values) base.width in
-        let lack =
-        missing-is base.width (length octets) (length means.rest) means.rest_is_short whole in
-        let filled : bits ≡ filled_with 0 base.width octets =
-        means.same_bits
-        ∙ ap (λ l. octets ++ l) (means.rest_is_zero checks ∙ ap (λ n. replicate n 0) lack) in
-        let below = values_below ks means.values means.are_symbols in
-        symbols_are ks means.values means.are_symbols
-        ∙ ap (map (symbol base)) (sym (numbers_again base.order base.width means.values below))
-        ∙ map-twice (symbol base) (number_of base.order)
-        (map (bits_of base.order base.width) means.values)
-        ∙ ap show (sym (runs-flat_map base.width (bits_of base.order base.width) means.values
-        width.some (length-bits_of base.order base.width)))
-        ∙ ap (λ l. show (runs base.width l)) filled
+    pub own_form-itself : (text : List ℕ) → own_form base text ≡ text
+    own_form-itself [] = refl
+    own_form-itself (byte ∷ text) = (λ i. itself byte i ∷ own_form-itself text i)

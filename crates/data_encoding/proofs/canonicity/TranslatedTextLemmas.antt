@@ -21,6 +21,7 @@ use Rattle.data_encoding.proofs.grammar.PositionLemmas.{bytes-positioned_from}
 use Rattle.data_encoding.proofs.grammar.UnpaddedGroupLemmas.{length-bits_of_values}
 use Rattle.data_encoding.proofs.lists.EachLemmas.{all_joined}
 use Rattle.data_encoding.proofs.lists.ListLemmas.{parts_same}
+use Rattle.data_encoding.proofs.lists.RepeatLemmas.{map-replicate}
 use Rattle.data_encoding.proofs.lists.RunLemmas.{run_count}
 use Rattle.data_encoding.proofs.specification.RuleLemmas.{IsRuled, IsRuledPadding}
 use Rattle.data_encoding.proofs.text.LastGroupLemmas.{AreFillers-replicate, length-filled_once}
@@ -48,11 +49,6 @@ last_replaced a b count (x ∷ xs) =
 last_same : (a b count : ℕ) → replicate (suc count) a ≡ replicate count a ++ b ∷ [] → a ≡ b
 last_same a b zero same = cc
 last_same a b (suc count) same = last_same a b count cc
-
-map-replicate : {X : Type 0} (f : ℕ → X) (x : X) (n a : ℕ) → f a ≡ x
-    → map f (replicate n a) ≡ replicate n x
-map-replicate f x zero a h = refl
-map-replicate f x (suc n) a h = (λ i. h i ∷ map-replicate f x n a h i)
 
 -- nothing is put behind a whole group
 whole-unpadded : (o : Option ℕ) (size : ℕ) (text : List ℕ) → length text ≡ size

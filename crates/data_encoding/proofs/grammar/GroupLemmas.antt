@@ -1,10 +1,11 @@
 -- A group of any base: what its bytes decide wherever they stand, and that it means something
 -- exactly where it has no fault.
-use Rattle.std.proofs.Common.{◌≡◌, ℕ, ◌+◌, ◌-◌, ◌*◌, ◌/◌, ◌%◌, ◌<◌, ◌≤◌, ◌==◌, nat_lt, Bool, true, false, not, cond, ◌&&◌, ◌||◌, List, [], ◌∷◌, ◌++◌, length, map, take, drop, replicate, Option, Some, None, refl, sym, ap, ◌∙◌, subst, arith, take-append-drop, length-take-le, ⊎_elim}
+use Rattle.std.proofs.Common.{◌≡◌, ℕ, ◌+◌, ◌-◌, ◌*◌, ◌/◌, ◌%◌, ◌<◌, ◌≤◌, ◌==◌, nat_lt, Bool, true, false, not, cond, ◌&&◌, ◌||◌, List, [], ◌∷◌, ◌++◌, length, map, take, drop, replicate, Option, Some, None, get_or, refl, sym, ap, ◌∙◌, subst, arith, take-append-drop, length-take-le, ⊎_elim}
 use Rattle.std.proofs.lemmas.Bool.{cases_lt, false≢true}
 use Rattle.std.proofs.lemmas.Bool.Decides.{nat_tests}
 use Rattle.std.proofs.lemmas.List.{length-map, take-map, take_at, get_or-take, append-nil}
 use Rattle.std.proofs.lemmas.List.Elements.{filter_map-append}
+use Rattle.std.proofs.Math.ListN.{get_or-map}
 use Rattle.std.specs.Prelude.{flat_map}
 use Rattle.std.specs.List.{AllByRecursion, list_any, filter_map, position, prefix_len}
 use Rattle.data_encoding.specs.declared.encoding.Character.{Character}
@@ -20,6 +21,7 @@ use Rattle.data_encoding.specs.Lengths.{is_valid_count, greatest_valid_count}
 use Rattle.data_encoding.specs.Fault.{symbol_bits, trailing_bits, trailing_fault, bytes_of_group, position_of, fault_at, fault_at_first, invalid_symbol_fault, symbols_fault, plain_fault, padded_fault_at, group_fault, count_before_padding}
 use Rattle.data_encoding.specs.Pieces.{fault_in}
 use Rattle.data_encoding.proofs.digits.WidthLemmas.{by_width}
+use Rattle.data_encoding.proofs.digits.WordLemmas.{map-twice}
 use Rattle.data_encoding.proofs.grammar.PositionLemmas.{position_of-positioned_from, bytes-positioned_from, length-positioned_from}
 use Rattle.data_encoding.proofs.grammar.UnpaddedGroupLemmas.{PlainMeans-sound, PlainMeans-valid, PlainMeans-bytes, PlainMeans-no_fault}
 use Rattle.data_encoding.proofs.lists.ListLemmas.{AllFail, filter_map-map, filter_map-none}
@@ -79,76 +81,99 @@ judged base group =
     cond (is_padded base) (judged_padded base group (count_before_padding base group))
     (judged_plain base group)
 
--- Groups of the same bytes.
-module _ (base : Base) (ks js : List Positioned) (same : bytes_in ks ≡ bytes_in js) where
-  pub length-same : length ks ≡ length js
-  length-same =
-      sym (length-map ks (λ (k : Positioned). k.byte)) ∙ ap length same
-      ∙ length-map js (λ (k : Positioned). k.byte)
+-- what the bytes of a group mean
+abbrev pub meanings_in : Base → List Positioned → List Character
+meanings_in base group = map (λ k. meaning base k.byte) group
 
-  symbol_bits-same : symbol_bits base ks ≡ symbol_bits base js
-  symbol_bits-same =
-      let value : ℕ → Option ℕ = λ byte. value_of (meaning base byte) in
+-- the same bytes mean the same
+pub meanings_in-same : (base : Base) (ks js : List Positioned) → bytes_in ks ≡ bytes_in js
+    → meanings_in base ks ≡ meanings_in base js
+meanings_in-same base ks js same =
+    sym (map-twice (meaning base) (λ (k : Positioned). k.byte) ks) ∙ ap (map (meaning base)) same
+    ∙ map-twice (meaning base) (λ (k : Positioned). k.byte) js
+
+-- Groups whose bytes mean the same.
+module _ (base : Base) (ks js : List Positioned)
+    (alike : meanings_in base ks ≡ meanings_in base js) where
+  pub length-alike : length ks ≡ length js
+  length-alike =
+      sym (length-map ks (λ (k : Positioned). meaning base k.byte)) ∙ ap length alike
+      ∙ length-map js (λ (k : Positioned). meaning base k.byte)
+
+  symbol_bits-alike : symbol_bits base ks ≡ symbol_bits base js
+  symbol_bits-alike =
+      let means : Positioned → Character = λ k. meaning base k.byte in
       ap (flat_map (bits_of base.order base.width))
-      (sym (filter_map-map value (λ (k : Positioned). k.byte) ks) ∙ ap (filter_map value) same
-      ∙ filter_map-map value (λ (k : Positioned). k.byte) js)
+      (sym (filter_map-map value_of means ks) ∙ ap (filter_map value_of) alike
+      ∙ filter_map-map value_of means js)
 
-  pub bytes_of_group-same : bytes_of_group base ks ≡ bytes_of_group base js
-  bytes_of_group-same =
+  pub bytes_of_group-alike : bytes_of_group base ks ≡ bytes_of_group base js
+  bytes_of_group-alike =
       ap (λ bits. map (number_of base.order) (runs 8 (take (length bits / 8 * 8) bits)))
-      symbol_bits-same
+      symbol_bits-alike
 
-  pub trailing_bits-same : trailing_bits base ks ≡ trailing_bits base js
-  trailing_bits-same = ap (λ bits. drop (length bits / 8 * 8) bits) symbol_bits-same
+  trailing_bits-alike : trailing_bits base ks ≡ trailing_bits base js
+  trailing_bits-alike = ap (λ bits. drop (length bits / 8 * 8) bits) symbol_bits-alike
 
-  pub is_final-same : is_final base ks ≡ is_final base js
-  is_final-same =
-      let pads : ℕ → Bool = λ byte. is_padding (meaning base byte) in
+  pub is_final-alike : is_final base ks ≡ is_final base js
+  is_final-alike =
+      let means : Positioned → Character = λ k. meaning base k.byte in
       ap (λ b. not base.concatenates && b)
-      (sym (list_any-map pads (λ (k : Positioned). k.byte) ks) ∙ ap (list_any pads) same
-      ∙ list_any-map pads (λ (k : Positioned). k.byte) js)
+      (sym (list_any-map is_padding means ks) ∙ ap (list_any is_padding) alike
+      ∙ list_any-map is_padding means js)
 
-  pub count_before_padding-same : count_before_padding base ks ≡ count_before_padding base js
-  count_before_padding-same =
-      let pads : ℕ → Bool = λ byte. is_padding (meaning base byte) in
-      sym (count_before_end-map pads (λ (k : Positioned). k.byte) ks)
-      ∙ ap (count_before_end pads) same
-      ∙ count_before_end-map pads (λ (k : Positioned). k.byte) js
+  count_before_padding-alike : count_before_padding base ks ≡ count_before_padding base js
+  count_before_padding-alike =
+      let means : Positioned → Character = λ k. meaning base k.byte in
+      sym (count_before_end-map is_padding means ks) ∙ ap (count_before_end is_padding) alike
+      ∙ count_before_end-map is_padding means js
 
-  no_symbol-same : no_symbol base ks ≡ no_symbol base js
-  no_symbol-same =
-      let none : ℕ → Bool = λ byte. not (is_symbol (meaning base byte)) in
-      sym (position-map none (λ (k : Positioned). k.byte) ks) ∙ ap (position none) same
-      ∙ position-map none (λ (k : Positioned). k.byte) js
+  no_symbol-alike : no_symbol base ks ≡ no_symbol base js
+  no_symbol-alike =
+      let none : Character → Bool = λ m. not (is_symbol m) in
+      let means : Positioned → Character = λ k. meaning base k.byte in
+      sym (position-map none means ks) ∙ ap (position none) alike ∙ position-map none means js
 
-  judged_symbols-same : judged_symbols base ks ≡ judged_symbols base js
-  judged_symbols-same = λ i.
-      first_or (no_symbol-same i)
+  judged_symbols-alike : judged_symbols base ks ≡ judged_symbols base js
+  judged_symbols-alike = λ i.
+      first_or (no_symbol-alike i)
       (cond (base.checks_trailing_bits
-      && list_any (λ bit. not (bit == 0)) (trailing_bits-same i))
-      (Some (TrailingFault, length-same i - 1)) None)
+      && list_any (λ bit. not (bit == 0)) (trailing_bits-alike i))
+      (Some (TrailingFault, length-alike i - 1)) None)
 
-module _ (base : Base) (ks js : List Positioned) (same : bytes_in ks ≡ bytes_in js) where
-  take-same : (count : ℕ) → bytes_in (take count ks) ≡ bytes_in (take count js)
-  take-same count =
-      sym (take-map (λ (k : Positioned). k.byte) count ks) ∙ ap (take count) same
-      ∙ take-map (λ (k : Positioned). k.byte) count js
+module _ (base : Base) (ks js : List Positioned)
+    (alike : meanings_in base ks ≡ meanings_in base js) where
+  take-alike : (count : ℕ) → meanings_in base (take count ks) ≡ meanings_in base (take count js)
+  take-alike count =
+      sym (take-map (λ (k : Positioned). meaning base k.byte) count ks) ∙ ap (take count) alike
+      ∙ take-map (λ (k : Positioned). meaning base k.byte) count js
 
-  judged-same : judged base ks ≡ judged base js
-  judged-same =
+  judged-alike : judged base ks ≡ judged base js
+  judged-alike =
       let plain : judged_plain base ks ≡ judged_plain base js = λ i.
-      cond (is_valid_count base.width (length-same base ks js same i))
-      (judged_symbols-same base ks js same i)
-      (Some (LengthFault, greatest_valid_count base.width (length-same base ks js same i))) in
+      cond (is_valid_count base.width (length-alike base ks js alike i))
+      (judged_symbols-alike base ks js alike i)
+      (Some (LengthFault, greatest_valid_count base.width (length-alike base ks js alike i))) in
       let count = count_before_padding base ks in
       let padded : judged_padded base ks count ≡ judged_padded base js count = λ i.
-      cond (nat_lt (length-same base ks js same i) (group_symbols base.width))
+      cond (nat_lt (length-alike base ks js alike i) (group_symbols base.width))
       (Some (LengthFault, 0))
       (cond (count == 0 || not (is_valid_count base.width count)) (Some (PaddingFault, count))
-      (judged_symbols-same base (take count ks) (take count js) (take-same count) i)) in
+      (judged_symbols-alike base (take count ks) (take count js) (take-alike count) i)) in
       (λ i. cond (is_padded base) (padded i) (plain i))
       ∙ ap (λ n. cond (is_padded base) (judged_padded base js n) (judged_plain base js))
-      (count_before_padding-same base ks js same)
+      (count_before_padding-alike base ks js alike)
+
+-- Groups of the same bytes.
+module _ (base : Base) (ks js : List Positioned) (same : bytes_in ks ≡ bytes_in js) where
+  pub bytes_of_group-same : bytes_of_group base ks ≡ bytes_of_group base js
+  bytes_of_group-same = bytes_of_group-alike base ks js (meanings_in-same base ks js same)
+
+  pub is_final-same : is_final base ks ≡ is_final base js
+  is_final-same = is_final-alike base ks js (meanings_in-same base ks js same)
+
+  judged-same : judged base ks ≡ judged base js
+  judged-same = judged-alike base ks js (meanings_in-same base ks js same)
 
 -- a group of a valid number has the fault of its symbols
 pub plain_fault-valid : (base : Base) (group : List Positioned)
@@ -408,13 +433,44 @@ group_fault-in base width group some few =
           let start : 0 + found.1 ≡ found.1 = omega arith in
           ap (λ n. fault_at found.0 group n) (sym (at ∙ start))
 
--- groups of the same bytes have no fault together
+-- groups whose bytes mean the same have no fault together
+pub group_fault-none_alike : (base : Base) (ks js : List Positioned)
+    → meanings_in base ks ≡ meanings_in base js
+    → group_fault base js ≡ None → group_fault base ks ≡ None
+group_fault-none_alike base ks js alike h =
+    group_fault-placed base ks
+    ∙ ap (placed ks) (judged-alike base ks js alike
+    ∙ none_placed js (judged base js) (sym (group_fault-placed base js) ∙ h))
+
 pub group_fault-none_same : (base : Base) (ks js : List Positioned) → bytes_in ks ≡ bytes_in js
     → group_fault base js ≡ None → group_fault base ks ≡ None
-group_fault-none_same base ks js same h =
-    group_fault-placed base ks
-    ∙ ap (placed ks) (judged-same base ks js same
-    ∙ none_placed js (judged base js) (sym (group_fault-placed base js) ∙ h))
+group_fault-none_same base ks js same =
+    group_fault-none_alike base ks js (meanings_in-same base ks js same)
+
+-- members that stand at the same positions have their faults there
+pub fault_at-alike : (kind : DecodeKind) (index : ℕ) (ks js : List Positioned)
+    → map (λ k. k.position) ks ≡ map (λ k. k.position) js
+    → fault_at kind ks index ≡ fault_at kind js index
+fault_at-alike kind index ks js stand =
+    let first : Positioned = record { position = 0; byte = 0 } in
+    ap (λ n. Some (record { position = n; kind = kind }))
+    (sym (get_or-map (λ (k : Positioned). k.position) ks index first)
+    ∙ ap (λ l. get_or l index 0) stand
+    ∙ get_or-map (λ (k : Positioned). k.position) js index first)
+
+placed-alike : (ks js : List Positioned)
+    → map (λ k. k.position) ks ≡ map (λ k. k.position) js → (o : Option (DecodeKind × ℕ))
+    → placed ks o ≡ placed js o
+placed-alike ks js stand None = refl
+placed-alike ks js stand (Some found) = fault_at-alike found.0 found.1 ks js stand
+
+-- so groups whose bytes mean the same have the same fault there
+pub group_fault-alike : (base : Base) (ks js : List Positioned)
+    → map (λ k. k.position) ks ≡ map (λ k. k.position) js
+    → meanings_in base ks ≡ meanings_in base js → group_fault base ks ≡ group_fault base js
+group_fault-alike base ks js stand alike =
+    group_fault-placed base ks ∙ ap (placed ks) (judged-alike base ks js alike)
+    ∙ placed-alike ks js stand (judged base js) ∙ sym (group_fault-placed base js)
 
 -- or that fault further on, where each byte of one is so far behind that of the other
 pub group_fault-further : (base : Base) → IsWidth base.width → (ks js : List Positioned)

@@ -38,7 +38,7 @@ position_of-moved count (k ∷ ks) zero h = refl
 position_of-moved count (k ∷ ks) (suc index) h =
     position_of-moved count ks index (omega (arith, h))
 
-further-or_else : (count : ℕ) (o p : Option DecodeError)
+pub further-or_else : (count : ℕ) (o p : Option DecodeError)
     → or_else (further count o) (further count p) ≡ further count (or_else o p)
 further-or_else count None p = refl
 further-or_else count (Some error) p = refl
@@ -121,7 +121,7 @@ module _ (base : Base) (width : IsWidth base.width) where
         ∙ greatest_count_behind base.width width m n h
         ∙ ap (λ k. m + k) (sym (greatest_valid_length-by base n false is))
 
-  length_fault-behind : (m n : ℕ) → (ignores_some base ≡ false → m % size ≡ 0)
+  pub length_fault-behind : (m n : ℕ) → (ignores_some base ≡ false → m % size ≡ 0)
       → length_fault base (m + n) ≡ further m (length_fault base n)
   length_fault-behind m n whole = by (ignores_some base) refl where
     by : (b : Bool) → ignores_some base ≡ b

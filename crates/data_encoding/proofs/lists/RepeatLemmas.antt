@@ -1,5 +1,5 @@
 -- A list again and again.
-use Rattle.std.proofs.Common.{◌≡◌, ℕ, zero, suc, ◌+◌, ◌-◌, ◌*◌, ◌%◌, ◌<◌, ◌≤◌, List, length, take, get_or, replicate, refl, sym, ap, ◌∙◌, arith, ⊎_elim, length-append, append_assoc, ◌++◌}
+use Rattle.std.proofs.Common.{◌≡◌, ℕ, zero, suc, ◌+◌, ◌-◌, ◌*◌, ◌%◌, ◌<◌, ◌≤◌, List, ◌∷◌, length, map, take, get_or, replicate, refl, sym, ap, ◌∙◌, arith, ⊎_elim, length-append, append_assoc, ◌++◌}
 use Rattle.std.proofs.Math.Nat.{mod-eq-sub-mod, mod-eq_of_lt, zero-mul, suc-mul, zero-add, suc-add}
 use Rattle.std.proofs.lemmas.Bool.{cases_lt}
 use Rattle.std.proofs.lemmas.List.{get_or_append_left, get_or-append_right, take_at}
@@ -44,3 +44,9 @@ pub take-repeats : (times : ℕ) (xs : List ℕ) → 0 < times
     → take (length xs) (concat (replicate times xs)) ≡ xs
 take-repeats zero xs h = absurd (omega (arith, h))
 take-repeats (suc times) xs h = take_at xs (repeats times xs) (length xs) refl
+
+-- a function of each of a run
+pub map-replicate : {X : Type 0} (f : ℕ → X) (x : X) (n a : ℕ) → f a ≡ x
+    → map f (replicate n a) ≡ replicate n x
+map-replicate f x zero a h = refl
+map-replicate f x (suc n) a h = (λ i. h i ∷ map-replicate f x n a h i)

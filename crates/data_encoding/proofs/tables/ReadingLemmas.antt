@@ -52,7 +52,7 @@ single-of_bit : (s : Bool) (n : ℕ) → n + check_bit s ≡ 1 → (n == 0) ≡ 
 single-of_bit true n h = let none : n ≡ 0 = omega (arith, h) in ap (λ k. k == 0) none
 single-of_bit false n h = let one : n ≡ 1 = omega (arith, h) in ap (λ k. k == 0) one
 
-flags-back : (w : ℕ) (o : BitOrder) (c s : Bool) → w ≤ 6 → HasFlags (flags w o c s) w o c s
+pub flags-back : (w : ℕ) (o : BitOrder) (c s : Bool) → w ≤ 6 → HasFlags (flags w o c s) w o c s
 flags-back w o c s few =
     let bits = are_bits o c s in
     let sum = flags w o c s in

@@ -2,14 +2,29 @@
 use Rattle.std.proofs.Common.{◌≡◌, ℕ, ◌+◌, ◌*◌, ◌/◌, ◌%◌, ◌<◌, ◌≤◌, Some, None, List, length, sym, ap, ◌∙◌, subst, arith}
 use Rattle.std.proofs.Math.Nat.{div-mul-le_self, le-div_iff_mul-le, mul-add, mul-le-mul_left, mul-le-mul_right, mul-mod_left, mul_assoc}
 use Rattle.std.proofs.lemmas.Nat.{mul-le}
-use Rattle.data_encoding.specs.Base.{Base, Wrapping, group_bytes, group_symbols}
+use Rattle.data_encoding.specs.Base.{Base, IsWidth, Wrapping, group_bytes, group_symbols}
 use Rattle.data_encoding.specs.Lengths.{IsBlockLength, align_by, alignment}
 use Rattle.data_encoding.specs.Text.{padded_text, text_of}
-use Rattle.data_encoding.proofs.digits.WidthLemmas.{group_bytes-few, group_bytes-pos, group_symbols-few}
+use Rattle.data_encoding.proofs.digits.WidthLemmas.{by_width, group_bytes-few, group_bytes-pos, group_symbols-few}
 use Rattle.data_encoding.proofs.lists.RunLemmas.{run_count, run_count-few}
 use Rattle.data_encoding.proofs.specification.RuleLemmas.{IsRuled}
 use Rattle.data_encoding.proofs.text.LineLemmas.{alignment-is, alignment-some, are, column-is, groups, length-lines, padded-few}
 use Rattle.data_encoding.proofs.text.PaddedTextLemmas.{text_of-unwrapped}
+
+-- lines of whole groups that are below 256: their characters, and their bytes
+abbrev FewColumns : ℕ → Type 0
+FewColumns width =
+    (column : ℕ) → column < 256 → column % group_symbols width ≡ 0
+    → (column ≤ 254) × (column * width / 8 ≤ 189)
+
+pub few-columns : (width : ℕ) → IsWidth width → FewColumns width
+few-columns =
+    by_width FewColumns (λ column short whole. (omega arith, omega arith))
+    (λ column short whole. (omega arith, omega arith))
+    (λ column short whole. (omega arith, omega arith))
+    (λ column short whole. (omega arith, omega arith))
+    (λ column short whole. (omega arith, omega arith))
+    (λ column short whole. (omega arith, omega arith))
 
 module _ (base : Base) (ruled : IsRuled base) where
   -- whole groups are at least as long as their data with padding
@@ -61,7 +76,12 @@ module _ (base : Base) (ruled : IsRuled base) where
               column-is,
               mul-le-mul_left in_line (group_bytes-few base.width ruled.is_width),
             );
-        few = omega (arith, rules.short, rules.ends_short);
+        few =
+            omega (
+              arith,
+              (few-columns base.width ruled.is_width lines.column rules.short rules.whole).0,
+              rules.ends_short,
+            );
         fits = λ count bytes few.
             let text = padded_text base bytes in
             let data_few : length bytes ≤ count * in_line * bytes_in =

@@ -39,19 +39,19 @@ module _ (base : Base) (ruled : IsRuled base) where
       (ap is_ignored (own_meaning value h.0), none_ignored values h.1)
 
   module _ (bytes : List ℕ) where
-    abbrev octets : List ℕ
+    abbrev pub octets : List ℕ
     octets = bits_of_bytes base.order bytes
 
-    abbrev lack : ℕ
+    abbrev pub lack : ℕ
     lack = missing base.width (length octets)
 
-    abbrev bits : List ℕ
+    abbrev pub bits : List ℕ
     bits = filled_with 0 base.width octets
 
-    abbrev values : List ℕ
+    abbrev pub values : List ℕ
     values = map (number_of base.order) (runs base.width bits)
 
-    are_values : AreValuesOf base.order base.width bits values
+    pub are_values : AreValuesOf base.order base.width bits values
     are_values =
         AreValuesOf-runs (run_count base.width (length octets)) base.order base.width bits
         width.some
@@ -61,7 +61,8 @@ module _ (base : Base) (ruled : IsRuled base) where
         (length-filled_with 0 base.width octets
         ∙ filled_count base.width (length octets) width.some)
 
-    text_is : plain_text base bytes ≡ map (symbol base) values
+    -- the text is the symbols of these values
+    pub text_is : plain_text base bytes ≡ map (symbol base) values
     text_is = sym (map-twice (symbol base) (number_of base.order) (runs base.width bits))
 
     -- no byte of the text is ignored

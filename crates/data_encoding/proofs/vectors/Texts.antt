@@ -13,7 +13,7 @@ use Rattle.data_encoding.specs.Fragments.{HasEncoded}
 use Rattle.data_encoding.specs.Encoder.{base_of_encoder, output_name, written, held, HasTaken, IsUnchanged, name_handed_back}
 use mathlib.Core.Option as maybe
 use Rattle.data_encoding.specs.declared.write.Display.{Display}
-use Rattle.data_encoding.specs.Shown.{shown_text}
+use Rattle.data_encoding.specs.Shown.{shown_data, shown_text}
 use Rattle.data_encoding.proofs.vectors.Examples.{Hold, by, encoded, bytes, Has, octal_fields, reversed, lines_of_8_fields}
 
 abbrev widths : List ℕ
@@ -195,13 +195,13 @@ encoder_handed_back encoder =
     (record { written = refl; held = refl; base = refl; output = refl }, refl, refl)
 
 shown_of : (base : Base) (bytes text : List ℕ) → text_of base bytes ≡ text
-    → (shown : Display) → shown.encoding.now ≡ base → shown.input.now ≡ bytes
+    → (shown : Display) → shown.encoding.now ≡ base → shown_data shown ≡ bytes
     → shown_text shown ≡ text
 shown_of base bytes text h shown is input_is =
-    ap (λ b. text_of b shown.input.now) is ∙ ap (λ input. text_of base input) input_is ∙ h
+    ap (λ b. text_of b (shown_data shown)) is ∙ ap (λ input. text_of base input) input_is ∙ h
 
 -- what a `Display` of `Hello world` shows
 text_shown :
     Has base64_fields (λ base. (shown : Display) → shown.encoding.now ≡ base
-    → shown.input.now ≡ codes "Hello world" → shown_text shown ≡ codes "SGVsbG8gd29ybGQ=")
+    → shown_data shown ≡ codes "Hello world" → shown_text shown ≡ codes "SGVsbG8gd29ybGQ=")
 text_shown = shown_of _ _ _ refl

@@ -79,7 +79,7 @@ fn are_blocks_appended(
     let want = encoding.encode(alloc, blocks)?;
     let heap = LocalHeap::new(alloc, 16 * UNITS)?;
     let mut output = String::from_str(&heap, BEFORE)?;
-    let mut held = ArrayVec::<u8, 191>::new();
+    let mut held = ArrayVec::<u8, 189>::new();
     held.try_extend_from_slice(start).unwrap();
     let part = Vec::<u8, &LocalHeap>::with_capacity(&heap, taken)?;
     let first = encoding.append_blocks(input, &mut held, block_len, &mut output);

@@ -90,7 +90,7 @@ returns-in-Conversion-clause-done g c = λ ends.
     (g.W.Write.contents (inner_of c.args.writer.now))
     (g.W.Write.contents (inner_of c.convert.new.writer)) =
     search rules in
-    done_conversion _ _ _ _ _ c.sound_text.ensures c.in-Conversion.verb
+    done_conversion _ _ _ _ _ c.sound_text.ensures.sound c.in-Conversion.verb
     c.in-Ok-Of.task.encoding (conversion g c) converts
 
 pub returns-in-Conversion-clause-refused : goal.returns-in-Conversion-clause-refused

@@ -72,6 +72,41 @@ fn an_interrupted_write_fails(rt: HostRuntime) -> Result<(), Fail> {
 }
 
 #[test]
+fn an_interrupted_answer_fails(rt: HostRuntime) -> Result<(), Fail> {
+    let question = ("canonical BASE64", "Hello");
+    for failure in [Failure::Write, Failure::Take] {
+        assert!(rt;
+            is_end(rt.alloc(), question, failure, (1, 0), "")?,
+            "at {failure:?}"
+        );
+        assert!(rt;
+            is_end(rt.alloc(), question, failure, (2, 0), "fal")?,
+            "at {failure:?}"
+        );
+    }
+    assert!(rt; is_end(rt.alloc(), question, Failure::Flush, (2, 1), "false\n")?);
+    // Of 255 bytes, three a write.
+    let writer = FakeWriter::new(rt.alloc(), Failure::Flush, 0)?;
+    let got = outcome_of(rt.alloc(), "list", FakeReader::new(b"Hello", 2), writer)?;
+    assert!(rt; got.status == 3 && got.reads == 0);
+    assert!(rt; got.writer.writes == 85 && got.writer.flushes == 1);
+    Ok(())
+}
+
+// The status is that of the failed read, though the line on it can't be printed.
+#[test]
+fn a_failed_read_fails_unseen(rt: HostRuntime) -> Result<(), Fail> {
+    let mut reader = FakeReader::new(b"Hello", 2);
+    reader.good_calls = 1;
+    let writer = FakeWriter::new(rt.alloc(), Failure::Nothing, 0)?;
+    let faults = FakeWriter::new(rt.alloc(), Failure::Take, 0)?;
+    let got = outcome_with(rt.alloc(), "encode HEXLOWER", reader, writer, faults)?;
+    assert!(rt; got.status == 3 && got.line.is_empty());
+    assert!(rt; got.read_failed && !got.write_failed && got.reads == 2);
+    Ok(())
+}
+
+#[test]
 fn an_interrupted_list_fails(rt: HostRuntime) -> Result<(), Fail> {
     let writer = FakeWriter::new(rt.alloc(), Failure::Write, 2)?;
     let got = outcome_of(rt.alloc(), "list", FakeReader::new(b"Hello", 2), writer)?;

@@ -1,5 +1,8 @@
-use Rattle.data_encoding.proofs.order.TextOrderLemmas.{KeepsOrder-ordered}
+use Rattle.data_encoding.proofs.canonicity.TokenLemmas.{texts-alike}
+use Rattle.data_encoding.proofs.order.ComparedLemmas.{data-alike}
+use Rattle.data_encoding.proofs.order.EighteenOrderLemmas.{six-ordered, ten-not}
 use Rattle.data_encoding.proofs.order.OrderPairLemmas.{IsBroken-ruled, IsOrdered-keeps}
+use Rattle.data_encoding.proofs.order.TextOrderLemmas.{KeepsOrder-ordered}
 use Rattle.data_encoding.proofs.specification.RuleLemmas.{IsRuled-yield}
 use Rattle.data_encoding.proofs.laws.order.Goals as goal
 
@@ -11,3 +14,12 @@ returns-clause-kept c base is unwrapped =
 pub returns-clause-broken : goal.returns-clause-broken
 returns-clause-broken c base is =
     IsBroken-ruled base (IsRuled-yield is.fields base is.yields)
+
+pub returns-clause-data : goal.returns-clause-data
+returns-clause-data c base is = data-alike base (IsRuled-yield is.fields base is.yields)
+
+pub returns-clause-texts : goal.returns-clause-texts
+returns-clause-texts c base is = texts-alike base (IsRuled-yield is.fields base is.yields)
+
+pub returns-clause-sixteen : goal.returns-clause-sixteen
+returns-clause-sixteen c = (six-ordered, ten-not)

@@ -92,4 +92,4 @@ returns-in-Ok-clause-means c =
     let text = flat_map bytes_of c.args.pieces.now in
     no-fault-ok (Means base text (sound_bytes base text)) (fault_of base text)
     c.in-Ok.finished.verdict (returns-in-Ok-clause-verdict c)
-    (c.sound_text.ensures base c.bit_width.ensures.base text)
+    (c.sound_text.ensures.sound base c.bit_width.ensures.base text)

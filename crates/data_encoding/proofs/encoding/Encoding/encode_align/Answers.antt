@@ -1,9 +1,10 @@
-use Rattle.std.proofs.Common.{◌≡◌, ◌≢◌, ℕ, zero, suc, ◌*◌, ◌/◌, ◌<◌, List, refl, sym, subst, arith}
-use Rattle.std.proofs.lemmas.Nat.{mul-le}
-use Rattle.data_encoding.specs.Encoding.{wrapping_by}
+use Rattle.std.proofs.Common.{◌≡◌, ◌≢◌, ℕ, zero, suc, ◌*◌, ◌/◌, ◌<◌, ◌≤◌, List, refl, sym, subst, arith}
+use Rattle.data_encoding.specs.Base.{IsWidth}
+use Rattle.data_encoding.specs.Encoding.{KeepsWrapping, wrapping_by}
 use Rattle.data_encoding.specs.Lengths.{align_by}
 use Rattle.data_encoding.proofs.digits.WidthLemmas.{group_bytes-pos}
 use Rattle.data_encoding.proofs.tables.TableRuleLemmas.{is_base_of}
+use Rattle.data_encoding.proofs.text.BlockLemmas.{few-columns}
 use Rattle.data_encoding.proofs.text.LineLemmas.{IsRuled-seen, alignment-some, wrapping-seen}
 use Rattle.data_encoding.proofs.encoding.Encoding.encode_align.Goals as goal
 
@@ -11,6 +12,12 @@ by_column : (column width : ℕ) (separator : List ℕ) → column ≢ 0
     → column * width / 8 ≡ align_by (wrapping_by column separator) width
 by_column zero width separator h = absurd (h refl)
 by_column (suc n) width separator h = refl
+
+few-lines : (column : ℕ) (separator : List ℕ) (width : ℕ) (values : List ℕ) → IsWidth width
+    → KeepsWrapping column separator width values → column * width / 8 ≤ 189
+few-lines zero separator width values is keeps = omega arith
+few-lines (suc n) separator width values is keeps =
+    (few-columns width is (suc n) keeps.0 keeps.1).1
 
 pub returns-then-self-ne0-clause-value : goal.returns-then-self-ne0-clause-value
 returns-then-self-ne0-clause-value c =
@@ -29,8 +36,8 @@ returns-then-self-ne0-clause-some c =
 
 pub returns-then-self-ne0-clause-most : goal.returns-then-self-ne0-clause-most
 returns-then-self-ne0-clause-most c =
-    let e = c.self.inside in
-    omega (arith, mul-le e.column e.width 255 6 (omega arith) c.self.invariant.is_width.few)
+    few-lines c.self.inside.column c.self.inside.separator.items c.self.inside.width
+    c.self.inside.values c.self.invariant.is_width c.self.invariant.wrapping
 
 pub returns-clause-some : goal.returns-clause-some
 returns-clause-some c =

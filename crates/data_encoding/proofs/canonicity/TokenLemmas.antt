@@ -1,0 +1,40 @@
+-- What the texts of a canonical base tell: how long they are, and in which order they come.
+use Rattle.std.proofs.Common.{◌≡◌, ◌↔◌, ℕ, true, List, length, refl, sym, ap, ◌∙◌, subst}
+use Rattle.data_encoding.specs.Base.{Base}
+use Rattle.data_encoding.specs.Canonical.{IsCanonical, has_one_text}
+use Rattle.data_encoding.specs.Compared.{CompareAlike}
+use Rattle.data_encoding.specs.Grammar.{Means}
+use Rattle.data_encoding.specs.Order.{IsOrdered}
+use Rattle.data_encoding.specs.Text.{text_of}
+use Rattle.data_encoding.proofs.canonicity.CauseLemmas.{canonical-by}
+use Rattle.data_encoding.proofs.canonicity.OneTextLemmas.{Means-text_of_only, no_lines-only}
+use Rattle.data_encoding.proofs.grammar.TightLemmas.{are_bytes-Means}
+use Rattle.data_encoding.proofs.order.ComparedLemmas.{data-alike}
+use Rattle.data_encoding.proofs.specification.RuleLemmas.{IsRuled}
+use Rattle.data_encoding.proofs.text.TextLengthLemmas.{text-same}
+
+module _ (base : Base) (ruled : IsRuled base) where
+  pub canonical-causes : (has_one_text base ≡ true) ↔ IsCanonical base
+  canonical-causes = canonical-by base ruled (has_one_text base) refl
+
+  module _ (one : IsCanonical base) where
+    pub own-Means : (text bytes : List ℕ) → Means base text bytes → text ≡ text_of base bytes
+    own-Means = Means-text_of_only base ruled (canonical-causes.1 one)
+
+    pub length-token : (text bytes others : List ℕ) → Means base text bytes
+        → length others ≡ length bytes → length text ≡ length (text_of base others)
+    length-token text bytes others means same =
+        ap length (own-Means text bytes means)
+        ∙ text-same base ruled bytes others (sym same)
+
+    pub texts-alike : IsOrdered base → (text other bytes others : List ℕ)
+        → Means base text bytes → Means base other others
+        → CompareAlike bytes others text other
+    texts-alike ordered text other bytes others means other_means =
+        let own = own-Means text bytes means in
+        let other_own = own-Means other others other_means in
+        subst (λ l. CompareAlike bytes others l other) (sym own)
+        (subst (CompareAlike bytes others (text_of base bytes)) (sym other_own)
+        (data-alike base ruled (no_lines-only base ruled (canonical-causes.1 one)) ordered bytes
+        others (are_bytes-Means base text bytes means)
+        (are_bytes-Means base other others other_means)))

@@ -1,0 +1,100 @@
+-- Texts whose bytes mean the same one by one mean the same, and have the same fault.
+use Rattle.std.proofs.Common.{◌≡◌, ℕ, ◌+◌, Bool, true, false, not, cond, List, [], ◌∷◌, length, map, is_some, refl, sym, ap, ◌∙◌}
+use Rattle.std.proofs.lemmas.List.{length-map}
+use Rattle.data_encoding.specs.declared.encoding.Character.{Character}
+use Rattle.data_encoding.specs.declared.error.DecodeKind.TheVariants.{Padding as PaddingFault}
+use Rattle.data_encoding.specs.Base.{Base, IsWidth, meaning, is_ignored, group_symbols}
+use Rattle.data_encoding.specs.Bits.{runs}
+use Rattle.data_encoding.specs.Grammar.{Positioned, Means, groups, is_final, kept, kept_in}
+use Rattle.data_encoding.specs.Fault.{fault_after, fault_at, fault_of, first_after, group_fault, or_else}
+use Rattle.data_encoding.specs.Lengths.{length_fault}
+use Rattle.data_encoding.proofs.digits.WidthLemmas.{group_symbols-pos}
+use Rattle.data_encoding.proofs.digits.WordLemmas.{map-twice}
+use Rattle.data_encoding.proofs.grammar.GroupLemmas.{fault_at-alike, group_fault-alike, is_final-alike, meanings_in}
+use Rattle.data_encoding.proofs.grammar.SameBytesLemmas.{Means-alike}
+use Rattle.data_encoding.proofs.lists.RunLemmas.{runs-map}
+
+module _ (base : Base) where
+  -- the position of a byte, and what the byte means
+  abbrev seen : Positioned → ℕ × Character
+  seen k = (k.position, meaning base k.byte)
+
+  abbrev seen_in : List Positioned → List (ℕ × Character)
+  seen_in ks = map seen ks
+
+  positions-seen : (ks js : List Positioned) → seen_in ks ≡ seen_in js
+      → map (λ k. k.position) ks ≡ map (λ k. k.position) js
+  positions-seen ks js same =
+      let first : ℕ × Character → ℕ = λ p. p.0 in
+      sym (map-twice first seen ks) ∙ ap (map first) same ∙ map-twice first seen js
+
+  meanings-seen : (ks js : List Positioned) → seen_in ks ≡ seen_in js
+      → meanings_in base ks ≡ meanings_in base js
+  meanings-seen ks js same =
+      let second : ℕ × Character → Character = λ p. p.1 in
+      sym (map-twice second seen ks) ∙ ap (map second) same ∙ map-twice second seen js
+
+  kept_one : (b : Bool) (k : Positioned) (ks : List Positioned)
+      → seen_in (cond b (k ∷ ks) ks) ≡ cond b (seen k ∷ seen_in ks) (seen_in ks)
+  kept_one true k ks = refl
+  kept_one false k ks = refl
+
+  -- bytes that mean the same are kept at the same positions
+  kept_in-seen : (start : ℕ) (text other : List ℕ)
+      → map (meaning base) text ≡ map (meaning base) other
+      → seen_in (kept_in base start text) ≡ seen_in (kept_in base start other)
+  kept_in-seen start [] [] same = refl
+  kept_in-seen start [] (byte ∷ other) same = cc
+  kept_in-seen start (byte ∷ text) [] same = cc
+  kept_in-seen start (byte ∷ text) (another ∷ other) same =
+      let here : meaning base byte ≡ meaning base another = cc in
+      let others : map (meaning base) text ≡ map (meaning base) other = cc in
+      let rest = kept_in-seen (start + 1) text other others in
+      kept_one (not (is_ignored (meaning base byte))) (record { position = start; byte = byte })
+      (kept_in base (start + 1) text)
+      ∙ (λ i. cond (not (is_ignored (here i))) ((start, here i) ∷ rest i) (rest i))
+      ∙ sym (kept_one (not (is_ignored (meaning base another)))
+      (record { position = start; byte = another }) (kept_in base (start + 1) other))
+
+  fault_after-seen : (ended : Bool) (ks js : List Positioned) → seen_in ks ≡ seen_in js
+      → fault_after ended base ks ≡ fault_after ended base js
+  fault_after-seen ended ks js same =
+      let stand = positions-seen ks js same in
+      λ i. cond ended (fault_at-alike PaddingFault 0 ks js stand i)
+      (group_fault-alike base ks js stand (meanings-seen ks js same) i)
+
+  -- the first faulty group has the same fault
+  first_after-seen : (ended : Bool) (gs hs : List (List Positioned))
+      → map seen_in gs ≡ map seen_in hs → first_after ended base gs ≡ first_after ended base hs
+  first_after-seen ended [] [] same = refl
+  first_after-seen ended [] (js ∷ hs) same = cc
+  first_after-seen ended (ks ∷ gs) [] same = cc
+  first_after-seen ended (ks ∷ gs) (js ∷ hs) same =
+      let here : seen_in ks ≡ seen_in js = cc in
+      let others : map seen_in gs ≡ map seen_in hs = cc in
+      (λ i. or_else (fault_after-seen ended ks js here i)
+      (first_after (is_final-alike base ks js (meanings-seen ks js here) i) base gs))
+      ∙ ap (or_else (fault_after ended base js))
+      (first_after-seen (is_final base js) gs hs others)
+
+  module _ (width : IsWidth base.width) (text other : List ℕ)
+      (same : map (meaning base) text ≡ map (meaning base) other) where
+    groups-seen : map seen_in (groups base text) ≡ map seen_in (groups base other)
+    groups-seen =
+        let size = group_symbols base.width in
+        let some = group_symbols-pos base.width width in
+        sym (runs-map size seen (kept base text) some)
+        ∙ ap (runs size) (kept_in-seen 0 text other same)
+        ∙ runs-map size seen (kept base other) some
+
+    pub fault_of-translated : fault_of base text ≡ fault_of base other
+    fault_of-translated =
+        let len : length text ≡ length other =
+        sym (length-map text (meaning base)) ∙ ap length same ∙ length-map other (meaning base) in
+        λ i. or_else (length_fault base (len i))
+        (first_after-seen false (groups base text) (groups base other) groups-seen i)
+
+    pub Means-translated : (bytes : List ℕ) → Means base text bytes → Means base other bytes
+    Means-translated bytes =
+        Means-alike base width text other bytes
+        (meanings-seen (kept base text) (kept base other) (kept_in-seen 0 text other same))

@@ -1,0 +1,87 @@
+-- What a text means is bytes, and how many, where there is no padding and no ignored byte.
+use Rattle.std.proofs.Common.{◌≡◌, ℕ, ◌+◌, ◌*◌, ◌/◌, false, ◌<◌, List, [], ◌∷◌, length, All, Option, Some, None, is_some, refl, sym, ap, ◌∙◌, subst, arith}
+use Rattle.std.proofs.lemmas.List.Elements.{All-append, All-from_recursion}
+use Rattle.std.proofs.lemmas.Bool.{false≢true}
+use Rattle.std.specs.List.{AllByRecursion}
+use Rattle.data_encoding.specs.declared.encoding.Character.TheVariants.{Ignored}
+use Rattle.data_encoding.specs.Base.{Base, IsWidth, Wrapping, ignores_some, is_ignored, meaning}
+use Rattle.data_encoding.specs.Grammar.{GroupsMean, Means, MeansBy, PlainMeans, Positioned, groups, kept}
+use Rattle.data_encoding.specs.Lengths.{most_bytes}
+use Rattle.data_encoding.specs.Text.{text_of}
+use Rattle.data_encoding.proofs.digits.WidthLemmas.{by_width}
+use Rattle.data_encoding.proofs.grammar.LengthLemmas.{most_bytes-by}
+use Rattle.data_encoding.proofs.grammar.PositionLemmas.{length-kept_plain, never_ignored}
+use Rattle.data_encoding.proofs.grammar.UnpaddedGroupLemmas.{PlainMeans-count}
+use Rattle.data_encoding.proofs.lists.RunLemmas.{run_count}
+use Rattle.data_encoding.proofs.specification.RuleLemmas.{IsRuled, IsRuledWrapping}
+use Rattle.data_encoding.proofs.text.PaddedTextLemmas.{length-unpadded, text_of-unwrapped}
+
+-- where no byte is ignored, there are no lines
+pub no_lines-plain : (base : Base) → IsRuled base → ignores_some base ≡ false
+    → base.wrapping ≡ None
+no_lines-plain base ruled none = by base.wrapping ruled.wrapping where
+  ignored_by : (bytes : List ℕ)
+      → AllByRecursion (λ byte. (byte < 128) × (meaning base byte ≡ Ignored)) bytes
+      → 0 < length bytes → ⊥
+  ignored_by [] all some = absurd (omega (arith, some))
+  ignored_by (byte ∷ bytes) all some =
+      false≢true (sym (never_ignored base none byte) ∙ ap is_ignored all.0.1)
+
+  by : (o : Option Wrapping) → IsRuledWrapping base o → o ≡ None
+  by None h = refl
+  by (Some lines) h = absurd (ignored_by lines.separator h.ignored h.ended)
+
+-- so many symbols have the bits of so many bytes, and fewer than a symbol's
+symbols_of : (width : ℕ) → IsWidth width → (symbols bytes rest : ℕ)
+    → width * symbols ≡ 8 * bytes + rest → rest < width → run_count width (8 * bytes) ≡ symbols
+symbols_of =
+    by_width
+    (λ w. (symbols bytes rest : ℕ) → w * symbols ≡ 8 * bytes + rest → rest < w
+    → run_count w (8 * bytes) ≡ symbols)
+    (λ m n r h k. omega (arith, h, k)) (λ m n r h k. omega (arith, h, k))
+    (λ m n r h k. omega (arith, h, k)) (λ m n r h k. omega (arith, h, k))
+    (λ m n r h k. omega (arith, h, k)) (λ m n r h k. omega (arith, h, k))
+
+-- texts of as many bytes are as long
+pub length-plain_text_of : (base : Base) → IsRuled base → base.padding ≡ None
+    → ignores_some base ≡ false → (text bytes others : List ℕ) → Means base text bytes
+    → length others ≡ length bytes → length text ≡ length (text_of base others)
+length-plain_text_of base ruled unpadded none text bytes others means same =
+    let plain : PlainMeans base (kept base text) bytes =
+    subst (λ o. MeansBy o base text bytes) unpadded means in
+    let count = symbols_of base.width ruled.is_width (length (kept base text)) (length bytes)
+    (length plain.rest) (PlainMeans-count base ruled.is_width (kept base text) bytes plain)
+    plain.rest_is_short in
+    sym (length-kept_plain base text none) ∙ sym count
+    ∙ ap (λ n. run_count base.width (8 * n)) (sym same)
+    ∙ sym (ap length (text_of-unwrapped base others (no_lines-plain base ruled none))
+    ∙ length-unpadded base others ruled.is_width (ap is_some unpadded))
+
+pub most-Means : (base : Base) → IsWidth base.width → base.padding ≡ None
+    → ignores_some base ≡ false → (text bytes : List ℕ) → Means base text bytes
+    → length bytes ≡ most_bytes base (length text)
+most-Means base width unpadded none text bytes means =
+    let plain : PlainMeans base (kept base text) bytes =
+    subst (λ o. MeansBy o base text bytes) unpadded means in
+    let count = PlainMeans-count base width (kept base text) bytes plain in
+    let all : base.width * length (kept base text) ≡ base.width * length text =
+    ap (λ n. base.width * n) (length-kept_plain base text none) in
+    let most : length bytes ≡ base.width * length text / 8 =
+    omega (arith, count, all, plain.rest_is_short, width.few) in
+    most ∙ sym (most_bytes-by base (length text) false (ap is_some unpadded))
+
+each-bytes : (base : Base) (gs : List (List Positioned)) (bytes : List ℕ)
+    → GroupsMean base gs bytes → All (λ byte. byte < 256) bytes
+each-bytes base [] bytes none =
+    subst (All (λ byte. byte < 256)) (sym none) (All-from_recursion (λ byte. byte < 256) [] tt)
+each-bytes base (group ∷ gs) bytes means =
+    subst (All (λ byte. byte < 256)) (sym means.2)
+    (All-append (λ byte. byte < 256) means.0 means.1 means.3.means.are_bytes
+    (each-bytes base gs means.1 means.5))
+
+pub are_bytes-Means : (base : Base) (text bytes : List ℕ) → Means base text bytes
+    → All (λ byte. byte < 256) bytes
+are_bytes-Means base text bytes = by base.padding where
+  by : (o : Option ℕ) → MeansBy o base text bytes → All (λ byte. byte < 256) bytes
+  by None plain = plain.are_bytes
+  by (Some character) means = each-bytes base (groups base text) bytes means

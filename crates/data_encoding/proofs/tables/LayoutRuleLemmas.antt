@@ -1,0 +1,701 @@
+-- Bytes are the layout of a base exactly where they keep the rules of layouts.
+use Rattle.std.proofs.Common.{◌≡◌, ◌≢◌, ◌⊎◌, ◌↔◌, ℕ, zero, suc, ◌+◌, ◌-◌, ◌*◌, ◌/◌, ◌%◌, ◌^◌, ◌<◌, ◌≤◌, ◌==◌, Bool, true, false, not, ◌||◌, cond, if◌then◌else◌, nat_lt, List, [], ◌∷◌, ◌++◌, length, map, take, drop, replicate, get_or, Option, Some, None, is_none, unwrap_or, refl, sym, ap, ◌∙◌, subst, arith, inl, inr, ⊎_elim, append_assoc, length-append, drop-cons, drop_of_length-le, length-drop}
+use Rattle.std.proofs.Math.Nat.{mod-lt, mod-eq_of_lt}
+use Rattle.std.proofs.lemmas.Bool.{cases_Bool, cases_eq, cases_lt, eq-eqb, eqb-true, lt-ltb, ltb-true}
+use Rattle.std.proofs.lemmas.Bool.Decides.{nat_tests}
+use Rattle.std.proofs.lemmas.Nat.{pow_pos}
+use Rattle.std.proofs.lemmas.List.{drop-drop, ext_get_or, get_or-append_right, get_or_append_left, get_or-drop, get_or-map, get_or-replicate, get_or-take, get_or_past, length-map, length-replicate, length-take-le, take-append-drop}
+use Rattle.std.proofs.lemmas.List.Folds.{list_any_at}
+use Rattle.std.specs.List.{AllByRecursion, concat, list_all, list_any}
+use Rattle.data_encoding.specs.declared.encoding.BitOrder.{BitOrder}
+use Rattle.data_encoding.specs.declared.encoding.BitOrder.TheVariants.{MostSignificantFirst, LeastSignificantFirst}
+use Rattle.data_encoding.specs.declared.encoding.Character.{Character}
+use Rattle.data_encoding.specs.declared.encoding.Character.TheVariants.{Symbol, Padding, Ignored, Invalid}
+use Rattle.data_encoding.specs.Base.{Base, IsWidth, Wrapping, group_symbols, ignores_some, is_ignored, meaning}
+use Rattle.data_encoding.specs.Encoding.{wrapping_by}
+use Rattle.data_encoding.specs.Entries.{is_entry_of, meaning_of_entry}
+use Rattle.data_encoding.specs.Fields.{IsSpecified}
+use Rattle.data_encoding.specs.Layout.{code_of, layout, order_flag, wrapping_bytes}
+use Rattle.data_encoding.specs.OneLayout.{IsIgnoredIn, IsLayout, IsLayoutOf, Layouts, TellsWrapping, TellsLines, TellsPadding, entry_in}
+use Rattle.data_encoding.proofs.digits.WidthLemmas.{symbols-few, times_symbols}
+use Rattle.data_encoding.proofs.lists.EachLemmas.{list_all-map, list_all-places, passes_at}
+use Rattle.data_encoding.proofs.lists.RepeatLemmas.{get_or-repeats, length-repeats}
+use Rattle.data_encoding.proofs.specification.RoundTripLemmas.{IsSpecified-ruled}
+use Rattle.data_encoding.proofs.specification.RuleLemmas.{AreLines, IsRuled, IsRuledPadding, IsRuledWrapping, IsRuled-yield, is_no_padding, is_within}
+use Rattle.data_encoding.proofs.tables.LayoutLemmas.{any-ignored, codes-back}
+use Rattle.data_encoding.proofs.tables.OneLayoutLemmas.{are_bits, check_bit, ends, flags, length-table, order_bit, symbol_table}
+use Rattle.data_encoding.proofs.tables.ReadingLemmas.{HasFlags, flags-back}
+use Rattle.data_encoding.proofs.tables.TableRuleLemmas.{value-symbol}
+
+-- what holds of each member by its place
+places : (P : ℕ → Type 0) (xs : List ℕ) → ((i : ℕ) → i < length xs → P (get_or xs i 0))
+    → AllByRecursion P xs
+places P [] h = tt
+places P (x ∷ xs) h = (h 0 (omega arith), places P xs (λ i less. h (suc i) (omega (arith, less))))
+
+at_place : (P : ℕ → Type 0) (xs : List ℕ) → AllByRecursion P xs → (i : ℕ) → i < length xs
+    → P (get_or xs i 0)
+at_place P [] h i less = absurd (omega (arith, less))
+at_place P (x ∷ xs) h zero less = h.0
+at_place P (x ∷ xs) h (suc i) less = at_place P xs h.1 i (omega (arith, less))
+
+-- one of which some do
+some_passes : {X : Type 0} (test : X → Bool) (xs : List X) (d : X) → list_any test xs ≡ true
+    → (i : ℕ) × (i < length xs) × (test (get_or xs i d) ≡ true)
+some_passes test [] d h = cc
+some_passes test (x ∷ xs) d h =
+    ⊎_elim (λ (here : test x ≡ true). (0, omega arith, here))
+    (λ (other : test x ≡ false).
+    let rest = some_passes test xs d (sym (ap (λ b. b || list_any test xs) other) ∙ h) in
+    (suc rest.0, omega (arith, rest.1), rest.2))
+    (cases_Bool (test x))
+
+-- tables of 256 and of 128 bytes, 128 times 128, two bytes and an end
+module _ (table low : List ℕ) (end : List ℕ) (long_table : length table ≡ 256)
+    (long_low : length low ≡ 128) where
+  abbrev joined : List ℕ
+  joined = table ++ low ++ replicate 128 128 ++ end
+
+  in_parts : joined ≡ table ++ (low ++ (replicate 128 128 ++ end))
+  in_parts =
+      append_assoc (table ++ low) (replicate 128 128) end
+      ∙ append_assoc table low (replicate 128 128 ++ end)
+
+  pub at_table : (k : ℕ) → k < 256 → get_or joined k 0 ≡ get_or table k 0
+  at_table k h =
+      ap (λ l. get_or l k 0) in_parts
+      ∙ get_or_append_left table (low ++ (replicate 128 128 ++ end)) 0 k
+      (omega (arith, h, long_table))
+
+  behind_table : (k : ℕ)
+      → get_or joined (256 + k) 0 ≡ get_or (low ++ (replicate 128 128 ++ end)) k 0
+  behind_table k =
+      let place : 256 + k - 256 ≡ k = omega arith in
+      ap (λ l. get_or l (256 + k) 0) in_parts
+      ∙ get_or-append_right table (low ++ (replicate 128 128 ++ end)) 256 (256 + k) 0 long_table
+      (omega arith)
+      ∙ ap (λ n. get_or (low ++ (replicate 128 128 ++ end)) n 0) place
+
+  pub at_low : (k : ℕ) → k < 128 → get_or joined (256 + k) 0 ≡ get_or low k 0
+  at_low k h =
+      behind_table k
+      ∙ get_or_append_left low (replicate 128 128 ++ end) 0 k (omega (arith, h, long_low))
+
+  pub at_high : (k : ℕ) → 128 ≤ k → k < 256 → get_or joined (256 + k) 0 ≡ 128
+  at_high k from to =
+      behind_table k
+      ∙ get_or-append_right low (replicate 128 128 ++ end) 128 k 0 long_low from
+      ∙ get_or_append_left (replicate 128 128) end 0 (k - 128)
+      (omega (arith, from, to, length-replicate {A = ℕ} 128 128))
+      ∙ get_or-replicate 128 (k - 128) 128 0 (omega (arith, from, to))
+
+  pub long_joined : length joined ≡ 512 + length end
+  long_joined =
+      omega (
+        arith,
+        length-append (table ++ low ++ replicate 128 128) end,
+        length-append (table ++ low) (replicate 128 128),
+        length-append table low,
+        length-replicate {A = ℕ} 128 128,
+        long_table,
+        long_low,
+      )
+
+  pub at_end : (k : ℕ) → get_or joined (512 + k) 0 ≡ get_or end k 0
+  at_end k =
+      let place : 512 + k - 512 ≡ k = omega arith in
+      get_or-append_right (table ++ low ++ replicate 128 128) end 512 (512 + k) 0
+      (omega (
+        arith,
+        length-append (table ++ low) (replicate 128 128),
+        length-append table low,
+        length-replicate {A = ℕ} 128 128,
+        long_table,
+        long_low,
+      ))
+      (omega arith)
+      ∙ ap (λ n. get_or end n 0) place
+
+code-few : (n : ℕ) (m : Character) → is_within n m ≡ true
+    → (code_of m < n) ⊎ ((128 ≤ code_of m) × (code_of m ≤ 130))
+code-few n (Symbol value) h = inl (ltb-true value n h)
+code-few n Padding h = inr (omega arith, omega arith)
+code-few n Ignored h = inr (omega arith, omega arith)
+code-few n Invalid h = inr (omega arith, omega arith)
+
+code-ignored : (n : ℕ) (m : Character) → n ≤ 64 → is_within n m ≡ true → code_of m ≡ 129
+    → m ≡ Ignored
+code-ignored n (Symbol value) few h e = absurd (omega (arith, few, ltb-true value n h, e))
+code-ignored n Padding few h e = absurd (omega (arith, e))
+code-ignored n Ignored few h e = refl
+code-ignored n Invalid few h e = absurd (omega (arith, e))
+
+code-padding : (n : ℕ) (m : Character) → n ≤ 64 → is_within n m ≡ true → is_no_padding m ≡ true
+    → code_of m ≢ 130
+code-padding n (Symbol value) few h k e = omega (arith, few, ltb-true value n h, e)
+code-padding n Padding few h k e = cc
+code-padding n Ignored few h k e = omega (arith, e)
+code-padding n Invalid few h k e = omega (arith, e)
+
+or_true : (a b : Bool) → (a || b) ≡ a → b ≡ true → a ≡ true
+or_true true b h k = refl
+or_true false b h k = sym h ∙ k
+
+or_false : (a b : Bool) → (a || b) ≡ a → a ≡ false → b ≡ false
+or_false true b h k = cc
+or_false false b h k = h
+
+ignored-is : (m : Character) → is_ignored m ≡ true → m ≡ Ignored
+ignored-is (Symbol value) h = cc
+ignored-is Padding h = cc
+ignored-is Ignored h = refl
+ignored-is Invalid h = cc
+
+no_eight : (n : ℕ) → not (n == 0) ≡ true → n ≢ 0
+no_eight n h e = grind (arith, nat_tests)
+
+-- a base, and its layout
+module _ (base : Base) (ruled : IsRuled base) where
+  abbrev codes : List ℕ
+  codes = map code_of base.meanings
+
+  abbrev count : ℕ
+  count = 2 ^ base.width
+
+  count-few : count ≤ 64
+  count-few = symbols-few base.width ruled.is_width
+
+  long-table : length (symbol_table base) ≡ 256
+  long-table = length-table base ruled
+
+  long-codes : length codes ≡ 128
+  long-codes = length-map base.meanings code_of ∙ ruled.long
+
+  code-at : (byte : ℕ) → byte < 128 → entry_in (layout base) byte ≡ code_of (meaning base byte)
+  code-at byte low =
+      at_low (symbol_table base) codes (ends base) long-table long-codes byte low
+      ∙ get_or-map code_of base.meanings byte Invalid 0 (omega (arith, low, ruled.long))
+
+  symbol-at : (k : ℕ) → k < 256 → get_or (layout base) k 0 ≡ get_or base.symbols (k % count) 0
+  symbol-at k h =
+      let all : 256 / count * length base.symbols ≡ 256 =
+      ap (λ n. 256 / count * n) ruled.count ∙ times_symbols base.width ruled.is_width in
+      at_table (symbol_table base) codes (ends base) long-table long-codes k h
+      ∙ get_or-repeats (256 / count) base.symbols k (omega (arith, h, all))
+      ∙ ap (λ n. get_or base.symbols (k % n) 0) ruled.count
+
+  within-at : (byte : ℕ) → byte < 128 → is_within count (meaning base byte) ≡ true
+  within-at byte low =
+      sym (ap (λ n. is_within n (meaning base byte)) ruled.count)
+      ∙ passes_at (is_within (length base.symbols)) base.meanings byte Invalid ruled.within
+      (omega (arith, low, ruled.long))
+
+  end-at : (k : ℕ) → get_or (layout base) (512 + k) 0 ≡ get_or (ends base) k 0
+  end-at = at_end (symbol_table base) codes (ends base) long-table long-codes
+
+  flags-at : get_or (layout base) 513 0
+      ≡ flags base.width base.order base.checks_trailing_bits base.concatenates
+  flags-at = end-at 1
+
+  padding-at : get_or (layout base) 512 0 ≡ unwrap_or base.padding 128
+  padding-at = end-at 0
+
+  has_flags : HasFlags (get_or (layout base) 513 0) base.width base.order base.checks_trailing_bits
+      base.concatenates
+  has_flags =
+      subst
+      (λ n. HasFlags n base.width base.order base.checks_trailing_bits base.concatenates)
+      (sym flags-at)
+      (flags-back base.width base.order base.checks_trailing_bits base.concatenates
+      ruled.is_width.few)
+
+  few-flags : get_or (layout base) 513 0 < 64
+  few-flags =
+      let bits = are_bits base.order base.checks_trailing_bits base.concatenates in
+      omega (
+        arith,
+        flags-at,
+        ruled.is_width.few,
+        bits.order_is,
+        bits.order_few,
+        bits.check_is,
+        bits.check_few,
+        bits.single_is,
+      )
+
+  checked-flag : 8 % base.width ≡ 0 → get_or (layout base) 513 0 / 16 % 2 ≡ 1
+  checked-flag whole =
+      eqb-true (get_or (layout base) 513 0 / 16 % 2) 1
+      (has_flags.checks_is
+      ∙ or_true base.checks_trailing_bits (8 % base.width == 0) ruled.checked
+      (eq-eqb (8 % base.width) 0 whole))
+
+  has-padding : (o : Option ℕ) → IsRuledPadding base o → is_none o ≡ false → unwrap_or o 128 < 128
+  has-padding None rule h = cc
+  has-padding (Some character) rule h = rule.0
+
+  single-flag : get_or (layout base) 513 0 / 32 % 2 ≡ 1 → get_or (layout base) 512 0 < 128
+  single-flag set =
+      let single : base.concatenates ≡ false =
+      sym has_flags.concatenates_is ∙ ap (λ n. n == 0) set in
+      subst (λ n. n < 128) (sym padding-at)
+      (has-padding base.padding ruled.padding
+      (or_false base.concatenates (is_none base.padding) ruled.concatenated single))
+
+  symbol-own : (value : ℕ) → value < count → get_or (layout base) value 0 ≡ get_or base.symbols value 0
+  symbol-own value h =
+      symbol-at value (omega (arith, h, count-few))
+      ∙ ap (λ n. get_or base.symbols n 0) (mod-eq_of_lt h)
+
+  own-value : (value : ℕ) → value < count → (get_or (layout base) value 0 < 128)
+      × (entry_in (layout base) (get_or (layout base) value 0) ≡ value)
+  own-value value h =
+      let own = ruled.own value (omega (arith, h, ruled.count)) in
+      let same = symbol-own value h in (
+        subst (λ n. n < 128) (sym same) own.0,
+        ap (entry_in (layout base)) same ∙ code-at (get_or base.symbols value 0) own.0
+            ∙ ap code_of own.1,
+      )
+
+  again : (k : ℕ) → k < 256 → get_or (layout base) k 0 ≡ get_or (layout base) (k % count) 0
+  again k h =
+      let some : 0 < count = omega (arith, mod-lt k {m = count} (pow_pos base.width)) in
+      symbol-at k h ∙ sym (symbol-own (k % count) (mod-lt k some))
+
+  padding-told : (o : Option ℕ) → IsRuledPadding base o → get_or (layout base) 512 0 ≡ unwrap_or o 128
+      → TellsPadding base.width (layout base)
+  padding-told None rule is =
+      inl (
+        is,
+        λ byte low e.
+            code-padding count (meaning base byte) count-few (within-at byte low)
+            (passes_at is_no_padding base.meanings byte Invalid rule (omega (arith, low, ruled.long)))
+            (sym (code-at byte low) ∙ e),
+      )
+  padding-told (Some character) rule is =
+      inr (
+        subst (λ n. n < 128) (sym is) rule.0,
+        ap (entry_in (layout base)) is ∙ code-at character rule.0 ∙ ap code_of rule.1,
+        λ e. no_eight (8 % base.width) rule.2 e,
+      )
+
+  -- where it is told that a byte is ignored, it is
+  told-ignored : (byte : ℕ) → IsIgnoredIn (layout base) byte → meaning base byte ≡ Ignored
+  told-ignored byte is =
+      code-ignored count (meaning base byte) count-few (within-at byte is.0)
+      (sym (code-at byte is.0) ∙ is.1)
+
+  ignored-told : (byte : ℕ) → byte < 128 → meaning base byte ≡ Ignored
+      → IsIgnoredIn (layout base) byte
+  ignored-told byte low is = (low, code-at byte low ∙ ap code_of is)
+
+  long-layout : length (layout base)
+      ≡ 514 + length (wrapping_bytes (ignores_some base) base.wrapping)
+  long-layout =
+      long_joined (symbol_table base) codes (ends base) long-table long-codes ∙ omega arith
+
+  behind : (k : ℕ) → 514 ≤ k
+      → get_or (layout base) k 0
+      ≡ get_or (wrapping_bytes (ignores_some base) base.wrapping) (k - 514) 0
+  behind k from =
+      let place : k ≡ 512 + suc (suc (k - 514)) = omega (arith, from) in
+      ap (λ n. get_or (layout base) n 0) place ∙ end-at (suc (suc (k - 514)))
+
+  end-told : (ignores : Bool) (o : Option Wrapping) → ignores_some base ≡ ignores
+      → base.wrapping ≡ o → IsRuledWrapping base o → TellsWrapping base.width (layout base)
+  end-told false None none no_lines rule =
+      let long = long-layout ∙ (λ i. 514 + length (wrapping_bytes (none i) (no_lines i))) in
+      inl (
+        omega (arith, long),
+        λ byte is.
+            let some : list_any is_ignored base.meanings ≡ true =
+            list_any_at is_ignored base.meanings byte Invalid (omega (arith, is.0, ruled.long))
+            (ap is_ignored (told-ignored byte is)) in
+            cc,
+      )
+  end-told true None some no_lines rule =
+      let long = long-layout ∙ (λ i. 514 + length (wrapping_bytes (some i) (no_lines i))) in
+      let here = behind 514 (omega arith)
+      ∙ (λ i. get_or (wrapping_bytes (some i) (no_lines i)) 0 0) in
+      let found = some_passes is_ignored base.meanings Invalid some in
+      let low : found.0 < 128 = omega (arith, found.1, ruled.long) in
+      inr (inl (
+        omega (arith, long),
+        here,
+        (found.0, ignored-told found.0 low (ignored-is (meaning base found.0) found.2)),
+      ))
+  end-told ignores (Some lines) is some rule =
+      let tail : wrapping_bytes (ignores_some base) base.wrapping ≡ lines.column ∷ lines.separator =
+      ap (wrapping_bytes (ignores_some base)) some in
+      let long = long-layout ∙ ap (λ l. 514 + length l) tail in
+      let here : get_or (layout base) 514 0 ≡ lines.column =
+      behind 514 (omega arith) ∙ ap (λ l. get_or l 0 0) tail in
+      inr (inr (record {
+        some = omega (arith, here, rule.some);
+        short = omega (arith, here, rule.short);
+        whole = ap (λ n. n % group_symbols base.width) here ∙ rule.whole;
+        ended = omega (arith, long, rule.ended);
+        ends_short = omega (arith, long, rule.ends_short);
+        ignored = λ k from less.
+            let place : k - 514 ≡ suc (k - 515) = omega (arith, from) in
+            let at : get_or (layout base) k 0 ≡ get_or lines.separator (k - 515) 0 =
+            behind k (omega (arith, from)) ∙ (λ i. get_or (tail i) (place i) 0) in
+            let told = at_place (λ byte. (byte < 128) × (meaning base byte ≡ Ignored))
+            lines.separator rule.ignored (k - 515) (omega (arith, from, less, long)) in
+            subst (IsIgnoredIn (layout base)) (sym at) (ignored-told _ told.0 told.1);
+      }))
+
+  is_layout_of : IsLayoutOf base.width (layout base)
+  is_layout_of = record {
+    is_width = ruled.is_width;
+    flags = few-flags;
+    checked = checked-flag;
+    single = single-flag;
+    repeated = again;
+    own = own-value;
+    entries = λ byte low.
+        subst (λ n. (n < count) ⊎ ((128 ≤ n) × (n ≤ 130))) (sym (code-at byte low))
+        (code-few count (meaning base byte) (within-at byte low));
+    invalid_from_128 = at_high (symbol_table base) codes (ends base) long-table long-codes;
+    padding = padding-told base.padding ruled.padding padding-at;
+    end = end-told (ignores_some base) base.wrapping refl refl ruled.wrapping;
+  }
+
+  pub is_layout : IsLayout (layout base)
+  is_layout =
+      subst (λ width. IsLayoutOf width (layout base)) (sym has_flags.width_is) is_layout_of
+
+layout-rules : (base : Base) (bytes : List ℕ) → IsSpecified base → layout base ≡ bytes
+    → IsLayout bytes
+layout-rules base bytes is same =
+    subst IsLayout same (is_layout base (IsRuled-yield is.fields base is.yields))
+
+entry-is : (n v : ℕ) → (v < n) ⊎ ((128 ≤ v) × (v ≤ 130)) → is_entry_of n v ≡ true
+entry-is n v (inl less) = grind (arith, nat_tests)
+entry-is n v (inr between) =
+    let from = between.0 in let to = between.1 in grind (arith, nat_tests)
+
+entry-more : (n v : ℕ) → n ≤ 64 → (v < n) ⊎ ((128 ≤ v) × (v ≤ 130)) → is_entry_of 64 v ≡ true
+entry-more n v few (inl less) = grind (arith, nat_tests)
+entry-more n v few (inr between) =
+    let from = between.0 in let to = between.1 in grind (arith, nat_tests)
+
+entry-within : (n v : ℕ) → is_entry_of n v ≡ true → is_within n (meaning_of_entry v) ≡ true
+entry-within n v h = grind (arith, nat_tests)
+
+entry-no_padding : (v : ℕ) → v ≢ 130 → is_no_padding (meaning_of_entry v) ≡ true
+entry-no_padding v h = grind (arith, nat_tests)
+
+entry-not_ignored : (v : ℕ) → v ≢ 129 → is_ignored (meaning_of_entry v) ≡ false
+entry-not_ignored v h = grind (arith, nat_tests)
+
+eight-no : (n : ℕ) → n ≢ 0 → not (n == 0) ≡ true
+eight-no n h = grind (arith, nat_tests)
+
+-- none passes where none does at its place
+none_passes : {X : Type 0} (test : X → Bool) (xs : List X) (d : X)
+    → ((i : ℕ) → i < length xs → test (get_or xs i d) ≡ false) → list_any test xs ≡ false
+none_passes test [] d h = refl
+none_passes test (x ∷ xs) d h =
+    ap (λ b. b || list_any test xs) (h 0 (omega arith))
+    ∙ none_passes test xs d (λ i less. h (suc i) (omega (arith, less)))
+
+-- a sum of its bits
+order-bit : (n : ℕ) → n < 2
+    → order_flag (cond (n == 1) MostSignificantFirst LeastSignificantFirst) ≡ 8 * n
+order-bit zero h = refl
+order-bit (suc zero) h = refl
+order-bit (suc (suc n)) h = absurd (omega (arith, h))
+
+check-bit : (n : ℕ) → n < 2 → (if n == 1 then 16 else 0) ≡ 16 * n
+check-bit zero h = refl
+check-bit (suc zero) h = refl
+check-bit (suc (suc n)) h = absurd (omega (arith, h))
+
+single-bit : (n : ℕ) → n < 2 → (if n == 0 then 0 else 32) ≡ 32 * n
+single-bit zero h = refl
+single-bit (suc zero) h = refl
+single-bit (suc (suc n)) h = absurd (omega (arith, h))
+
+sum-is : (sum : ℕ) → sum < 64
+    → flags (sum % 8) (cond (sum / 8 % 2 == 1) MostSignificantFirst LeastSignificantFirst)
+    (sum / 16 % 2 == 1) (sum / 32 % 2 == 0)
+    ≡ sum
+sum-is sum few =
+    omega (
+      arith,
+      few,
+      order-bit (sum / 8 % 2) (omega arith),
+      check-bit (sum / 16 % 2) (omega arith),
+      single-bit (sum / 32 % 2) (omega arith),
+    )
+
+checks-rule : (check whole : Bool) → (whole ≡ true → check ≡ true) → (check || whole) ≡ check
+checks-rule true whole h = refl
+checks-rule false true h = sym (h refl)
+checks-rule false false h = refl
+
+concatenates-rule : (concatenates none : Bool) → (concatenates ≡ false → none ≡ false)
+    → (concatenates || none) ≡ concatenates
+concatenates-rule true none h = refl
+concatenates-rule false none h = h refl
+
+-- the padding that byte 512 tells
+abbrev padding_in : ℕ → Option ℕ
+padding_in entry = cond (nat_lt entry 128) (Some entry) None
+
+padding_in-some : (entry : ℕ) → entry < 128 → padding_in entry ≡ Some entry
+padding_in-some entry h = ap (λ b. cond b (Some entry) None) (lt-ltb entry 128 h)
+
+-- the base that bytes tell, and that keeps the rules where they do
+module _ (bytes : List ℕ) (width : ℕ) (width_is : get_or bytes 513 0 % 8 ≡ width)
+    (rule : IsLayoutOf width bytes) where
+  abbrev sum : ℕ
+  sum = get_or bytes 513 0
+
+  abbrev low : List ℕ
+  low = take 128 (drop 256 bytes)
+
+  abbrev size : ℕ
+  size = 2 ^ width
+
+  size-few : size ≤ 64
+  size-few = symbols-few width rule.is_width
+
+  abbrev told : Base
+  told = record {
+    width = width;
+    order = cond (sum / 8 % 2 == 1) MostSignificantFirst LeastSignificantFirst;
+    symbols = take size bytes;
+    checks_trailing_bits = sum / 16 % 2 == 1;
+    concatenates = sum / 32 % 2 == 0;
+    padding = padding_in (get_or bytes 512 0);
+    meanings = map meaning_of_entry low;
+    wrapping = wrapping_by (get_or bytes 514 0) (drop 515 bytes);
+  }
+
+  long : 514 ≤ length bytes
+  long = by_end rule.end where
+    by_end : TellsWrapping width bytes → 514 ≤ length bytes
+    by_end (inl none) = omega (arith, none.0)
+    by_end (inr (inl some)) = omega (arith, some.0)
+    by_end (inr (inr lines)) = omega (arith, lines.ended)
+
+  long-low : length low ≡ 128
+  long-low = length-take-le 128 (drop 256 bytes) (omega (arith, long, length-drop 256 bytes))
+
+  low-at : (byte : ℕ) → byte < 128 → get_or low byte 0 ≡ entry_in bytes byte
+  low-at byte h = get_or-take 128 (drop 256 bytes) byte 0 h ∙ get_or-drop 256 bytes byte 0
+
+  meaning-at : (byte : ℕ) → byte < 128 → meaning told byte ≡ meaning_of_entry (entry_in bytes byte)
+  meaning-at byte h =
+      get_or-map meaning_of_entry low byte 0 Invalid (omega (arith, h, long-low))
+      ∙ ap meaning_of_entry (low-at byte h)
+
+  long-symbols : length (take size bytes) ≡ size
+  long-symbols = length-take-le size bytes (omega (arith, size-few, long))
+
+  own : (i : ℕ) → i < length (take size bytes) → (get_or (take size bytes) i 0 < 128)
+      × (meaning told (get_or (take size bytes) i 0) ≡ Symbol i)
+  own i h =
+      let below : i < size = omega (arith, h, long-symbols) in
+      let same = get_or-take size bytes i 0 below in
+      let at = rule.own i below in
+      let few : i < 64 = omega (arith, below, size-few) in (
+        subst (λ n. n < 128) (sym same) at.0,
+        ap (meaning told) same ∙ meaning-at (get_or bytes i 0) at.0
+            ∙ ap meaning_of_entry at.1 ∙ value-symbol i few,
+      )
+
+  within : list_all (is_within (length (take size bytes))) (map meaning_of_entry low) ≡ true
+  within =
+      ap (λ n. list_all (is_within n) (map meaning_of_entry low)) long-symbols
+      ∙ list_all-places (is_within size) (map meaning_of_entry low) Invalid (λ i h.
+      let few : i < 128 = omega (arith, h, length-map low meaning_of_entry, long-low) in
+      ap (is_within size) (meaning-at i few)
+      ∙ entry-within size (entry_in bytes i) (entry-is size (entry_in bytes i) (rule.entries i few)))
+
+  ruled-padding : TellsPadding width bytes → IsRuledPadding told (padding_in (get_or bytes 512 0))
+  ruled-padding (inl none) =
+      subst (λ n. IsRuledPadding told (padding_in n)) (sym none.0)
+      (list_all-places is_no_padding (map meaning_of_entry low) Invalid (λ i h.
+      let few : i < 128 = omega (arith, h, length-map low meaning_of_entry, long-low) in
+      ap is_no_padding (meaning-at i few)
+      ∙ entry-no_padding (entry_in bytes i) (none.1 i few)))
+  ruled-padding (inr some) =
+      subst (IsRuledPadding told) (sym (padding_in-some (get_or bytes 512 0) some.0)) (
+        some.0,
+        meaning-at (get_or bytes 512 0) some.0 ∙ ap meaning_of_entry some.1,
+        eight-no (8 % width) some.2,
+      )
+
+  ignored-at : (byte : ℕ) → IsIgnoredIn bytes byte → meaning told byte ≡ Ignored
+  ignored-at byte is = meaning-at byte is.0 ∙ ap meaning_of_entry is.1
+
+  behind_all : length bytes ≤ 515 → drop 515 bytes ≡ []
+  behind_all few = drop_of_length-le bytes {i = 515} few
+
+  wrapping-of : (column : ℕ) → 0 < column → wrapping_by column (drop 515 bytes)
+      ≡ Some (record { column = column; separator = drop 515 bytes })
+  wrapping-of zero h = absurd (omega (arith, h))
+  wrapping-of (suc n) h = refl
+
+  no_column : length bytes ≡ 514 → get_or bytes 514 0 ≡ 0
+  no_column is = get_or_past bytes 514 0 (omega (arith, is))
+
+  ruled-wrapping : TellsWrapping width bytes
+      → IsRuledWrapping told (wrapping_by (get_or bytes 514 0) (drop 515 bytes))
+  ruled-wrapping (inl none) =
+      subst (λ n. IsRuledWrapping told (wrapping_by n (drop 515 bytes))) (sym (no_column none.0)) tt
+  ruled-wrapping (inr (inl some)) =
+      subst (λ n. IsRuledWrapping told (wrapping_by n (drop 515 bytes))) (sym some.1) tt
+  ruled-wrapping (inr (inr lines)) =
+      let rest = length-drop 515 bytes in
+      subst (IsRuledWrapping told) (sym (wrapping-of (get_or bytes 514 0) lines.some))
+      (record {
+        some = lines.some;
+        short = lines.short;
+        whole = lines.whole;
+        ended = omega (arith, rest, lines.ended);
+        ends_short = omega (arith, rest, lines.ends_short);
+        ignored =
+            places (λ byte. (byte < 128) × (meaning told byte ≡ Ignored)) (drop 515 bytes) (λ i h.
+            let is = lines.ignored (515 + i) (omega arith) (omega (arith, h, rest)) in
+            subst (λ byte. (byte < 128) × (meaning told byte ≡ Ignored))
+            (sym (get_or-drop 515 bytes i 0)) (is.0, ignored-at (get_or bytes (515 + i) 0) is));
+      })
+
+  padded-single : (sum / 32 % 2 == 0) ≡ false
+      → is_none (padding_in (get_or bytes 512 0)) ≡ false
+  padded-single h =
+      let odd : sum / 32 % 2 ≡ 1 = odd-bit (sum / 32 % 2) (omega arith) h in
+      ap is_none (padding_in-some (get_or bytes 512 0) (rule.single odd)) where
+        odd-bit : (n : ℕ) → n < 2 → (n == 0) ≡ false → n ≡ 1
+        odd-bit n h k = grind (arith, nat_tests)
+
+  is_ruled : IsRuled told
+  is_ruled = record {
+    is_width = rule.is_width;
+    count = long-symbols;
+    checked =
+        checks-rule (sum / 16 % 2 == 1) (8 % width == 0)
+        (λ whole. eq-eqb (sum / 16 % 2) 1 (rule.checked (eqb-true (8 % width) 0 whole)));
+    concatenated =
+        concatenates-rule (sum / 32 % 2 == 0) (is_none (padding_in (get_or bytes 512 0)))
+        padded-single;
+    long = length-map low meaning_of_entry ∙ long-low;
+    own = own;
+    within = within;
+    padding = ruled-padding rule.padding;
+    wrapping = ruled-wrapping rule.end;
+  }
+
+  -- and its layout is the bytes
+  table-is : symbol_table told ≡ take 256 bytes
+  table-is =
+      let all : 256 / size * length (take size bytes) ≡ 256 =
+      ap (λ n. 256 / size * n) long-symbols ∙ times_symbols width rule.is_width in
+      let count = length-repeats (256 / size) (take size bytes) in
+      ext_get_or 0 (symbol_table told) (take 256 bytes)
+      (count ∙ all ∙ sym (length-take-le 256 bytes (omega (arith, long))))
+      (λ k h.
+      let few : k < 256 = omega (arith, h, count, all) in
+      get_or-repeats (256 / size) (take size bytes) k (omega (arith, few, all))
+      ∙ ap (λ n. get_or (take size bytes) (k % n) 0) long-symbols
+      ∙ get_or-take size bytes (k % size) 0 (mod-lt k (pow_pos width))
+      ∙ sym (rule.repeated k few)
+      ∙ sym (get_or-take 256 bytes k 0 few))
+
+  codes-are : map code_of (map meaning_of_entry low) ≡ low
+  codes-are =
+      codes-back low (list_all-places (is_entry_of 64) low 0 (λ i h.
+      let few : i < 128 = omega (arith, h, long-low) in
+      ap (is_entry_of 64) (low-at i few)
+      ∙ entry-more size (entry_in bytes i) size-few (rule.entries i few)))
+
+  high-is : replicate 128 128 ≡ take 128 (drop 384 bytes)
+  high-is =
+      let few : length (take 128 (drop 384 bytes)) ≡ 128 =
+      length-take-le 128 (drop 384 bytes) (omega (arith, long, length-drop 384 bytes)) in
+      ext_get_or 0 (replicate 128 128) (take 128 (drop 384 bytes))
+      (length-replicate {A = ℕ} 128 128 ∙ sym few)
+      (λ k h.
+      let less : k < 128 = omega (arith, h, length-replicate {A = ℕ} 128 128) in
+      let place : 256 + (128 + k) ≡ 384 + k = omega arith in
+      get_or-replicate 128 k 128 0 less
+      ∙ sym (get_or-take 128 (drop 384 bytes) k 0 less ∙ get_or-drop 384 bytes k 0
+      ∙ ap (λ n. get_or bytes n 0) (sym place)
+      ∙ rule.invalid_from_128 (128 + k) (omega arith) (omega (arith, less))))
+
+  padding-is : TellsPadding width bytes → unwrap_or (padding_in (get_or bytes 512 0)) 128
+      ≡ get_or bytes 512 0
+  padding-is (inl none) =
+      subst (λ n. unwrap_or (padding_in n) 128 ≡ n) (sym none.0) refl
+  padding-is (inr some) =
+      ap (λ o. unwrap_or o 128) (padding_in-some (get_or bytes 512 0) some.0)
+
+  flags-are : flags width (told).order (told).checks_trailing_bits (told).concatenates ≡ sum
+  flags-are =
+      ap (λ w. flags w (told).order (told).checks_trailing_bits (told).concatenates) (sym width_is)
+      ∙ sum-is sum rule.flags
+
+  wrapped : TellsWrapping width bytes
+      → wrapping_bytes (ignores_some told) (wrapping_by (get_or bytes 514 0) (drop 515 bytes))
+      ≡ drop 514 bytes
+  wrapped (inl none) =
+      let ignores : ignores_some told ≡ false =
+      none_passes is_ignored (map meaning_of_entry low) Invalid (λ i h.
+      let few : i < 128 = omega (arith, h, length-map low meaning_of_entry, long-low) in
+      ap is_ignored (meaning-at i few)
+      ∙ entry-not_ignored (entry_in bytes i) (λ e. none.1 i (few, e))) in
+      (λ i. wrapping_bytes (ignores i) (wrapping_by (no_column none.0 i) (drop 515 bytes)))
+      ∙ sym (drop_of_length-le bytes {i = 514} (omega (arith, none.0)))
+  wrapped (inr (inl some)) =
+      let ignored = some.2 in
+      let ignores : ignores_some told ≡ true =
+      list_any_at is_ignored (map meaning_of_entry low) ignored.0 Invalid
+      (omega (arith, ignored.1.0, length-map low meaning_of_entry, long-low))
+      (ap is_ignored (ignored-at ignored.0 ignored.1)) in
+      (λ i. wrapping_bytes (ignores i) (wrapping_by (some.1 i) (drop 515 bytes)))
+      ∙ sym (drop-cons bytes 514 0 (omega (arith, some.0))
+      ∙ (λ i. some.1 i ∷ behind_all (omega (arith, some.0)) i))
+  wrapped (inr (inr lines)) =
+      ap (wrapping_bytes (ignores_some told)) (wrapping-of (get_or bytes 514 0) lines.some)
+      ∙ sym (drop-cons bytes 514 0 (omega (arith, lines.ended)))
+
+  abbrev end : List ℕ
+  end = get_or bytes 512 0 ∷ sum ∷ drop 514 bytes
+
+  ends-are : ends told ≡ end
+  ends-are =
+      λ i. padding-is rule.padding i ∷ flags-are i ∷ wrapped rule.end i
+
+  end-is : end ≡ drop 512 bytes
+  end-is =
+      sym (drop-cons bytes 512 0 (omega (arith, long))
+      ∙ ap (λ l. get_or bytes 512 0 ∷ l) (drop-cons bytes 513 0 (omega (arith, long))))
+
+  in_halves : bytes ≡ take 256 bytes ++ (low ++ (take 128 (drop 384 bytes) ++ drop 512 bytes))
+  in_halves =
+      sym (ap (λ l. take 256 bytes ++ l)
+      (ap (λ l. low ++ l)
+      (ap (λ l. take 128 (drop 384 bytes) ++ l) (sym (drop-drop 128 384 bytes))
+      ∙ take-append-drop 128 (drop 384 bytes) ∙ sym (drop-drop 128 256 bytes))
+      ∙ take-append-drop 128 (drop 256 bytes))
+      ∙ take-append-drop 256 bytes)
+
+  pub layout-told : layout told ≡ bytes
+  layout-told =
+      (λ i. table-is i ++ codes-are i ++ high-is i ++ (ends-are ∙ end-is) i)
+      ∙ append_assoc (take 256 bytes ++ low) (take 128 (drop 384 bytes)) (drop 512 bytes)
+      ∙ append_assoc (take 256 bytes) low (take 128 (drop 384 bytes) ++ drop 512 bytes)
+      ∙ sym in_halves
+
+  pub specified-told : (base : Base) × IsSpecified base × (layout base ≡ bytes)
+  specified-told = (told, IsSpecified-ruled told is_ruled, layout-told)
+
+pub layouts : Layouts
+layouts bytes = (
+  λ has. layout-rules has.0 bytes has.1 has.2,
+  λ rule. specified-told bytes (get_or bytes 513 0 % 8) refl rule,
+)
