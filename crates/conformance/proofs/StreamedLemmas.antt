@@ -3,6 +3,9 @@ use Rattle.std.proofs.Common.{refl, subst, Option, None, Some, Result, OnOk, Ok,
 use Rattle.std.proofs.lemmas.Grind.{flat_map-append}
 use Rattle.std.proofs.lemmas.List.{take_more}
 use Rattle.data_encoding.specs.declared.error.DecodeError.{DecodeError}
+use Rattle.data_encoding.specs.Base.{Base}
+use Rattle.data_encoding.specs.Fault.{fault_of, sound_bytes}
+use Rattle.encoding_stream.specs.Decoded.{DecodesAll}
 use Rattle.encoding_stream.specs.Appending.{AppendsDecoded}
 use Rattle.encoding_stream.specs.Pieces.{verdict_of}
 
@@ -28,3 +31,14 @@ pub no-fault-ok : (P : Type 0) (fault : Option DecodeError) (verdict : Result (U
     → verdict ≡ verdict_of fault → (fault ≡ None → P) → OnOk verdict P
 no-fault-ok P None verdict is holds = subst (λ v. OnOk v P) (sym is) (holds refl)
 no-fault-ok P (Some error) verdict is holds = subst (λ v. OnOk v P) (sym is) tt
+
+-- what a stream did with known bytes: the fault is that of all of them, and so are the sound bytes
+pub all-decoded : (base : Base) (fault : Option DecodeError) (text rest output : List ℕ)
+    → DecodesAll base fault (Some text) (Some rest) (Some []) (Some output)
+    → (fault_of base text ≡ fault) × (output ≡ sound_bytes base text)
+all-decoded base fault text rest output all =
+    let whole : all.text ≡ text =
+    sym (all.read ∙ ap (λ r. all.text ++ r) all.at_end ∙ append-nil all.text) in (
+      ap (fault_of base) (sym whole) ∙ all.fault_is,
+      all.written ∙ ap (sound_bytes base) whole,
+    )

@@ -1,13 +1,14 @@
 //! Callers of streams, and of texts that come in pieces.
 
-ghost use Rattle.std.specs.Prelude.{◌≡◌, ◌≤◌, ℕ, List, ◌++◌, flat_map, length, IfOk, OnOk};
+ghost use Rattle.std.specs.Prelude.{◌≡◌, ◌≢◌, ◌<◌, ◌≤◌, ℕ, List, ◌++◌, flat_map, length, Err, IfOk, OnOk};
 ghost use Rattle.data_encoding.specs.Fault.{fault_of, sound_bytes};
 ghost use Rattle.data_encoding.specs.Grammar.{Means};
+ghost use Rattle.data_encoding.specs.Text.{text_of};
 ghost use Rattle.encoding_stream.specs.Pieces.{verdict_of};
 
-use data_encoding::laws::sound_text;
+use data_encoding::laws::{round_trip, sound_text};
 use data_encoding::{DECODE_LIMIT, DecodeError, Encoding};
-use encoding_stream::Decoder;
+use encoding_stream::{Decoder, StreamFault, Watch, decode_stream, encode_stream};
 use std::alloc::{AllocError, Global};
 
 /// Decodes a text that comes in pieces by way of a small buffer: what a piece appends to it is
@@ -43,4 +44,28 @@ pub fn decode_pieces(
         }
         Err(_) => Err(AllocError),
     }
+}
+
+/// The data again, by way of two streams: their text is written into memory, and read from there.
+pub fn there_and_back(
+    alloc: Global,
+    encoding: &Encoding,
+    input: &[u8],
+) -> Result<Vec<u8>, StreamFault>
+    ensures same { IfOk result (λ bytes. bytes.items ≡ input.now) }
+    ensures no_fault { (error : DecodeError) → result ≢ Err (StreamFault.Decode error) }
+    ensures too_long { result ≡ Err StreamFault.TooLong
+        → DECODE_LIMIT < length (text_of encoding.now input.now) }
+{
+    encoding.bit_width();
+    round_trip();
+    sound_text();
+    let mut reader = Watch::new(input);
+    let mut writer = Watch::new(Vec::new(alloc));
+    encode_stream(encoding, &mut reader, &mut writer)?;
+    let text = writer.into_inner();
+    let mut text_reader = Watch::new(text.as_slice());
+    let mut output = Watch::new(Vec::new(alloc));
+    decode_stream(encoding, &mut text_reader, &mut output)?;
+    Ok(output.into_inner())
 }
