@@ -1,2 +1,3 @@
 pub mod FaultLemmas
 pub mod YieldLemmas
+pub mod RewrittenLemmas

@@ -4,3 +4,4 @@ mod Readings
 mod Layouts
 mod Meanings
 mod Steps
+mod SameMeanings
