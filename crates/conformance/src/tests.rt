@@ -18,6 +18,7 @@ mod layouts;
 mod order;
 mod predefined;
 mod resuming;
+mod rewritten;
 mod round_trips;
 mod rows;
 mod slow;
