@@ -1,2 +1,4 @@
+pub mod OrderLemmas
+pub mod NameLemmas
 pub mod FaultLemmas
 pub mod YieldLemmas

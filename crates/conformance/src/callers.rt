@@ -18,6 +18,8 @@ use data_encoding::{
 };
 use std::alloc::{AllocError, Global};
 
+pub mod names;
+
 /// Why data did not come back.
 #[derive(Debug, Drop)]
 pub enum Trouble {

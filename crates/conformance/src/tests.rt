@@ -14,6 +14,7 @@ mod ignored;
 mod judge;
 mod judged;
 mod layouts;
+mod names;
 mod order;
 mod predefined;
 mod resuming;
