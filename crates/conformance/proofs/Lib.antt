@@ -1,3 +1,5 @@
+pub mod OrderLemmas
+pub mod NameLemmas
 pub mod FaultLemmas
 pub mod YieldLemmas
 pub mod StreamedLemmas

@@ -22,6 +22,7 @@ use std::alloc::{AllocError, Global};
 
 pub mod stored;
 pub mod streamed;
+pub mod names;
 
 /// Why data did not come back.
 #[derive(Debug, Drop)]

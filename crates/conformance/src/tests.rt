@@ -15,6 +15,7 @@ mod ignored;
 mod judge;
 mod judged;
 mod layouts;
+mod names;
 mod order;
 mod predefined;
 mod resuming;
