@@ -1,7 +1,8 @@
 //! Encodings that are stored as bytes, and texts that grow behind another text.
 
 use crate::callers::stored::{
-    encoded_at_second_try, finalized, is_stored_alike, restored, show_nothing, stands_for_some, write_behind,
+    encoded_at_second_try, finalized, is_stored_alike, restored, show_nothing, stands_for_some,
+    write_behind,
 };
 use data_encoding::{Encoding, base32, base64, base64_mime, hexlower, hexlower_permissive};
 use std::alloc::{AllocError, Global};
