@@ -1,7 +1,8 @@
 //! Encodings that are stored as bytes, and texts that grow behind another text.
 
 use crate::callers::stored::{
-    encoded_at_second_try, is_stored_alike, restored, show_nothing, stands_for_some, write_behind,
+    encoded_at_second_try, finalized, is_stored_alike, restored, show_nothing, stands_for_some,
+    write_behind,
 };
 use data_encoding::{Encoding, base32, base64, base64_mime, hexlower, hexlower_permissive};
 use std::alloc::{AllocError, Global};
@@ -33,13 +34,28 @@ fn is_stored(encoding: &Encoding, other: &Encoding) -> bool {
         && !stands_for_some(&bytes.as_slice()[..513])
 }
 
+// Whether the text of the byte is appended.
+fn is_finalized(encoding: &Encoding, byte: u8, output: &mut String) -> bool {
+    let mut encoder = encoding.new_encoder(output);
+    let is_taken = encoder.append(&[byte]).is_ok();
+    match finalized(encoder) {
+        Ok(()) => is_taken,
+        Err(encoder) => {
+            encoder.abandon();
+            false
+        }
+    }
+}
+
 // Whether the texts are appended behind the words.
 fn grows(alloc: Global) -> Result<bool, Fail> {
     let mut output = String::from_str(alloc, "Payload: ")?;
     let is_ok = write_behind(&hexlower(), b"Hello", &mut output).is_ok();
     encoded_at_second_try(&base32(), b"Hello", b" world", &mut output)?;
     encoded_at_second_try(&base64_mime(), b"", b"", &mut output)?;
-    Ok(is_ok && output.as_str() == "Payload: 48656c6c6fJBSWY3DPEB3W64TMMQ======")
+    let is_last = is_finalized(&base64(), b'!', &mut output);
+    let want = "Payload: 48656c6c6fJBSWY3DPEB3W64TMMQ======IQ==";
+    Ok(is_ok && is_last && output.as_str() == want)
 }
 
 // Whether no data are shown by a writer that fails at each call, and data are not.
