@@ -1,3 +1,4 @@
 pub mod FaultLemmas
 pub mod YieldLemmas
 pub mod StreamedLemmas
+pub mod ResumedLemmas
