@@ -1,5 +1,5 @@
 -- Lines of base64 whose decoding is resumed.
-use Rattle.std.proofs.Common.{◌≡◌, ℕ, Bool, true, false, List, [], ◌++◌, length, take, drop, inl, None, Result, Ok, Err, refl, sym, ap, subst, ◌∙◌}
+use Rattle.std.proofs.Common.{◌≡◌, ℕ, Bool, true, false, List, ◌++◌, length, take, inl, None, Result, Ok, Err, refl, sym, ap, subst, ◌∙◌}
 use Rattle.std.proofs.Math.Seq.{drop-length, take-append_seam, take-length}
 use Rattle.data_encoding.specs.declared.meanings.Refusal.{Refusal}
 use Rattle.data_encoding.specs.Base.{Base, ignores_some, is_padded}

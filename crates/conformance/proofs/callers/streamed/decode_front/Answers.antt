@@ -1,5 +1,4 @@
 use Rattle.std.proofs.Common.{◌≡◌, length, take, subst, sym, ◌∙◌, rules}
-use Rattle.data_encoding.specs.Fault.{sound_bytes}
 use Rattle.data_encoding.specs.Grammar.{Means}
 use Rattle.data_encoding.specs.Laws.{Resumes}
 use Rattle.conformance.proofs.ResumedLemmas.{front-kept, joined-resumes, lines-follow, lines-length}
