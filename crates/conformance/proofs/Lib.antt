@@ -4,3 +4,4 @@ pub mod FaultLemmas
 pub mod YieldLemmas
 pub mod StreamedLemmas
 pub mod RewrittenLemmas
+pub mod ResumedLemmas

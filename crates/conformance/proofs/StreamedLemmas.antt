@@ -1,5 +1,5 @@
 -- What is decoded of a text that comes in pieces.
-use Rattle.std.proofs.Common.{refl, subst, Option, None, Some, Result, OnOk, Ok, ◌≡◌, ℕ, ◌+◌, ◌<◌, List, [], ◌∷◌, ◌++◌, flat_map, get_or, length, take, sym, ap, ◌∙◌, append-nil, append_assoc}
+use Rattle.std.proofs.Common.{refl, subst, Option, None, Some, Result, OnOk, ◌≡◌, ℕ, ◌+◌, ◌<◌, List, [], ◌∷◌, ◌++◌, flat_map, get_or, length, take, sym, ap, ◌∙◌, append-nil, append_assoc}
 use Rattle.std.proofs.lemmas.Grind.{flat_map-append}
 use Rattle.std.proofs.lemmas.List.{take_more}
 use Rattle.data_encoding.specs.declared.error.DecodeError.{DecodeError}

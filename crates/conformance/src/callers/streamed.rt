@@ -1,13 +1,16 @@
 //! Callers of streams, and of texts that come in pieces.
 
-ghost use Rattle.std.specs.Prelude.{◌≡◌, ◌≢◌, ◌<◌, ◌≤◌, ℕ, List, ◌++◌, flat_map, length, Err, IfOk, OnOk};
+ghost use Rattle.std.specs.Prelude.{◌≡◌, ◌≢◌, ◌<◌, ◌≤◌, ℕ, List, ◌+◌, ◌++◌, flat_map, length, Err, IfOk, Ok, OnOk, Some};
 ghost use Rattle.data_encoding.specs.Fault.{fault_of, sound_bytes};
+ghost use Rattle.data_encoding.specs.Fields.{base_of};
 ghost use Rattle.data_encoding.specs.Grammar.{Means};
+ghost use Rattle.data_encoding.specs.Laws.{Resumes};
+ghost use Rattle.data_encoding.specs.Predefined.{base64_mime_fields};
 ghost use Rattle.data_encoding.specs.Text.{text_of};
 ghost use Rattle.encoding_stream.specs.Pieces.{verdict_of};
 
-use data_encoding::laws::{round_trip, sound_text};
-use data_encoding::{DECODE_LIMIT, DecodeError, Encoding};
+use data_encoding::laws::{join_decode, join_fault, resume, round_trip, sound_text};
+use data_encoding::{DECODE_LIMIT, DecodeError, DecodeFault, Encoding};
 use encoding_stream::{Decoder, StreamFault, Watch, decode_stream, encode_stream};
 use std::alloc::{AllocError, Global};
 
@@ -68,4 +71,69 @@ pub fn there_and_back(
     let mut output = Watch::new(Vec::new(alloc));
     decode_stream(encoding, &mut text_reader, &mut output)?;
     Ok(output.into_inner())
+}
+
+/// Decodes lines of base64 that come in two pieces, cut anywhere. Where the decoding of the first
+/// stops, it goes on with what was not read of it, before the second.
+pub fn decode_in_two(
+    alloc: Global,
+    encoding: &Encoding,
+    piece: &[u8],
+    next: &[u8],
+) -> Result<Vec<u8>, DecodeFault>
+    requires lines { base_of base64_mime_fields ≡ Ok encoding.now }
+    requires limit { length piece.now + length next.now ≤ DECODE_LIMIT }
+    ensures means { IfOk result (λ bytes. Means encoding.now (piece.now ++ next.now) bytes.items) }
+    ensures fault { (error : DecodeError) → result ≡ Err (DecodeFault.Error error)
+        → fault_of encoding.now (piece.now ++ next.now) ≡ Some error }
+{
+    let (read, mut bytes) = decode_front(alloc, encoding, piece)?;
+    let mut rest = Vec::new(alloc);
+    rest.extend_from_slice(&piece[read..])?;
+    rest.extend_from_slice(next)?;
+    match encoding.decode(alloc, &rest) {
+        Ok(more) => {
+            bytes.extend_from_slice(&more)?;
+            Ok(bytes)
+        }
+        Err(DecodeFault::Error(error)) => Err(DecodeFault::Error(DecodeError {
+            position: read + error.position,
+            kind: error.kind,
+        })),
+        Err(DecodeFault::OutOfMemory) => Err(DecodeFault::OutOfMemory),
+    }
+}
+
+// Decodes a piece as far as it means data: how far it was read, and the data.
+fn decode_front(
+    alloc: Global,
+    encoding: &Encoding,
+    piece: &[u8],
+) -> Result<(usize, Vec<u8>), AllocError>
+    requires lines { base_of base64_mime_fields ≡ Ok encoding.now }
+    requires limit { length piece.now ≤ DECODE_LIMIT }
+    ensures within { IfOk result (λ front. front.0 ≤ length piece.now) }
+    ensures resumes { IfOk result (λ front. (next : List ℕ)
+        → Resumes encoding.now piece.now next front.0 front.1.items) }
+{
+    encoding.bit_width();
+    join_decode();
+    join_fault();
+    resume();
+    sound_text();
+    let Ok(len) = encoding.decode_len(piece.len()) else {
+        unreachable!()
+    };
+    let mut bytes = Vec::new(alloc);
+    bytes.resize(len, 0)?;
+    match encoding.decode_mut(piece, &mut bytes) {
+        Ok(written) => {
+            bytes.truncate(written);
+            Ok((piece.len(), bytes))
+        }
+        Err(partial) => {
+            bytes.truncate(partial.written);
+            Ok((partial.read, bytes))
+        }
+    }
 }

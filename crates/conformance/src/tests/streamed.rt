@@ -1,9 +1,17 @@
 //! The callers of streams and of texts that come in pieces.
 
-use crate::callers::streamed::decode_pieces;
-use data_encoding::{DecodeError, DecodeKind, base64_mime};
+use crate::callers::streamed::{decode_in_two, decode_pieces, there_and_back};
+use data_encoding::{DecodeError, DecodeFault, DecodeKind, base64_mime};
 use std::alloc::{AllocError, Global};
 use std::test::Fail;
+
+// A byte that is no symbol.
+fn no_symbol(position: usize) -> DecodeError {
+    DecodeError {
+        position,
+        kind: DecodeKind::Symbol,
+    }
+}
 
 // Whether the pieces `SGVs` CR, LF `bG` and the last decode to the bytes, behind a sign, with this
 // verdict.
@@ -23,13 +31,24 @@ fn is_handed_on(
     Ok(told == verdict && output.as_slice() == bytes)
 }
 
-#[test]
-fn pieces_are_handed_on(rt: HostRuntime) -> Result<(), Fail> {
-    assert!(rt; is_handed_on(rt.alloc(), b"8=", b">Hello", Ok(()))?);
-    let error = DecodeError {
-        position: 9,
-        kind: DecodeKind::Symbol,
+// Whether `SGVs` CR LF `b` and `G8=` CR LF decode to `Hello`, and with a byte that is no symbol to
+// its fault.
+fn is_resumed(alloc: Global) -> Result<bool, DecodeFault> {
+    let encoding = base64_mime();
+    let data = decode_in_two(alloc, &encoding, b"SGVs\r\nb", b"G8=\r\n")?;
+    let faulty = match decode_in_two(alloc, &encoding, b"SGVs\r\nb", b"G!=") {
+        Err(DecodeFault::Error(error)) => error == no_symbol(8),
+        _ => false,
     };
-    assert!(rt; is_handed_on(rt.alloc(), b"8!", b">Hel", Err(error))?);
+    Ok(faulty && data.as_slice() == b"Hello".as_slice())
+}
+
+#[test]
+fn texts_are_streamed(rt: HostRuntime) -> Result<(), Fail> {
+    assert!(rt; is_handed_on(rt.alloc(), b"8=", b">Hello", Ok(()))?);
+    assert!(rt; is_handed_on(rt.alloc(), b"8!", b">Hel", Err(no_symbol(9)))?);
+    assert!(rt; is_resumed(rt.alloc())?);
+    let data = there_and_back(rt.alloc(), &base64_mime(), b"Hello")?;
+    assert!(rt; data.as_slice() == b"Hello".as_slice());
     Ok(())
 }

@@ -1,4 +1,4 @@
-use Rattle.std.proofs.Common.{◌≡◌, ◌<◌, List, ℕ, [], ◌++◌, flat_map, get_or, length, take, sym, ap, subst, ◌∙◌, append-nil, arith, take_all}
+use Rattle.std.proofs.Common.{◌≡◌, List, ℕ, [], ◌++◌, flat_map, get_or, take, sym, ap, ◌∙◌, append-nil, arith, take_all}
 use Rattle.std.proofs.lemmas.List.Folds.{length-flat_map-take}
 use denote.Bor.{Bor}
 use Rattle.data_encoding.specs.Fault.{fault_of, sound_bytes}

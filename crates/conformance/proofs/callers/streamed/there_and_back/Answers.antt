@@ -1,9 +1,8 @@
 use Rattle.std.proofs.lemmas.Option.{none-some}
 use Rattle.encoding_stream.specs.declared.error.StreamFault.TheVariants.{Decode}
-use Rattle.std.proofs.Common.{Err, ◌≡◌, ◌<◌, ◌∙◌, ◌++◌, [], None, Some, refl, rules, sym, ap, subst, append-nil}
+use Rattle.std.proofs.Common.{Err, ◌≡◌, ◌<◌, ◌∙◌, [], None, Some, rules, sym, subst}
 use Rattle.std.proofs.lemmas.List.Elements.{All-from_get_or}
 use Rattle.std.specs.Prelude.{All}
-use Rattle.data_encoding.specs.Fault.{sound_bytes}
 use Rattle.data_encoding.specs.Grammar.{Means}
 use Rattle.data_encoding.specs.Text.{text_of}
 use Rattle.encoding_stream.specs.Decoded.{DecodesAll}
