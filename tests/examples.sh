@@ -15,6 +15,7 @@
 program=$(tests/find-program "$@") || exit 1
 name_program "$program"
 mkdir "$room/home"
+callers=$(cat crates/conformance/src/callers.rt crates/conformance/src/callers/*.rt)
 
 # try_examples PAGE BLOCK: a line end that a command doesn't print is not wanted.
 try_examples() {
@@ -77,8 +78,8 @@ try_block() {
     *:text) try_examples "$1" "$3" ;;
     *:sh) try_commands "$1" "$3" ;;
     *:rust)
-        [[ "$(<crates/conformance/src/callers.rt)" == *"$3"* ]]
-        is "$1: its function stands in callers.rt" 0 $?
+        [[ "$callers" == *"$3"* ]]
+        is "$1: its function stands in the callers" 0 $?
         ;;
     *) is "$1: a block" 'of a kind that is known here' "$2" ;;
     esac
@@ -109,6 +110,14 @@ while IFS= read -r -d '' block; do
     try_examples basecode.1 "${block%$'\n'}"
 done < <(sed -n '/^\.EX$/,/^\.EE$/ { s/\\-/-/g; s/\\e/\\/g; s/^\.EE$/\x00/; /^\.EX$/d; p }' \
     crates/basecode/basecode.1)
+
+# functions: the names of the public functions in what is read.
+functions() {
+    sed -nE 's/^pub fn ([a-z_0-9]+).*/\1/p' | sort
+}
+
+is 'callers that docs/EXAMPLES.md does not show' '' \
+    "$(comm -23 <(functions <<<"$callers") <(functions <docs/EXAMPLES.md))"
 
 [ "$passed" -ge 20 ] || fail 'the pages have fewer than 20 examples'
 finish

@@ -52,7 +52,7 @@ completed() {
 }
 
 . prefix/share/bash-completion/completions/basecode
-is 'bash: the function' 'complete -F _basecode basecode' "$(complete -p basecode)"
+is 'bash: the function' 'complete -o default -F _basecode basecode' "$(complete -p basecode)"
 is 'bash: the verbs' 'list encode decode canonical' "$(completed basecode '')"
 is 'bash: a verb' 'encode' "$(completed basecode e)"
 is 'bash: the names' "${names//$'\n'/ }" "$(completed basecode encode '')"
@@ -62,6 +62,60 @@ is 'bash: no such name' '' "$(completed basecode encode NOPE)"
 is 'bash: nothing behind a list' '' "$(completed basecode list '')"
 is 'bash: nothing behind a name' '' "$(completed basecode encode HEXLOWER '')"
 is 'bash: nothing behind no verb' '' "$(completed basecode recode '')"
+
+# typed KEYS: what a bash in a terminal shows when they are typed, the completions installed.
+typed() {
+    python3 -c '
+import os, pty, select, signal, sys
+page, keys = sys.argv[1:]
+child, terminal = pty.fork()
+if child == 0:
+    os.execvp("bash", ["bash", "--norc", "--noprofile", "-i"])
+
+# What is shown until nothing comes for a second, and no more than some of it.
+def read():
+    shown = b""
+    while len(shown) < 65536 and select.select([terminal], [], [], 1)[0]:
+        try:
+            shown += os.read(terminal, 4096)
+        except OSError:
+            break
+    return shown
+
+os.write(terminal, f". {page}\n".encode())
+read()
+os.write(terminal, keys.encode().decode("unicode_escape").encode())
+shown = read()
+os.kill(child, signal.SIGKILL)
+os.waitpid(child, 0)
+sys.stdout.write(shown.decode(errors="replace"))
+' prefix/share/bash-completion/completions/basecode "$1"
+}
+
+# shows NAME WANTED KEYS: whether the line that is shown has the wanted part.
+shows() {
+    local given
+    given=$(typed "$3")
+    case $given in
+    *"$2"*) pass ;;
+    *) is "$1" "$2" "$given" ;;
+    esac
+}
+
+touch file-with-a-name
+shows 'bash, typed: a name' 'HEXUPPER_PERMISSIVE' 'basecode encode HEXUPPER_\t'
+shows 'bash, typed: a file' '<file-with-a-name' 'basecode encode BASE64 <file-w\t'
+ln -s "$program" basecode
+mv prefix/bin/basecode prefix/bin/other
+shows 'bash, typed: the program that was typed' 'BASE32_DNSCURVE' './basecode encode BASE32_DNSC\t'
+mv prefix/bin/other prefix/bin/basecode
+
+ln -s "$install" link
+DESTDIR=$room/staged ./link /usr
+is 'installs by a link, below another folder' 0 $?
+holds 'the program there' cmp "$program" staged/usr/bin/basecode
+DESTDIR=$room/staged ./link --remove /usr
+is 'and is removed' '' "$(find staged -type f)"
 
 if command -v fish >/dev/null; then
     # offered LINE: what fish completes it to, without descriptions.

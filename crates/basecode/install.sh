@@ -5,7 +5,7 @@
 #        crates/basecode/install.sh --remove PREFIX
 #
 # The program is the one that `rt run` or `rt ci` left in out/. Folders that are made stay when the
-# files are removed.
+# files are removed. Where DESTDIR is set, everything goes below that folder, as packages want it.
 set -eu
 
 usage() {
@@ -36,7 +36,10 @@ case $1 in
 *) prefix=$PWD/$1 ;;
 esac
 
-cd "$(dirname "$0")"
+prefix=${DESTDIR-}$prefix
+
+# This script may be called by a symbolic link.
+cd "$(dirname "$(readlink -f "$0")")"
 if [ "$remove" = no ] && [ ! -x out/basecode ]; then
     echo 'no program: "rt run -- list" in crates/basecode builds it' >&2
     exit 1

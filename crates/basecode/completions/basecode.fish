@@ -10,9 +10,14 @@ function __basecode_takes_name
     and contains -- $words[2] encode decode canonical
 end
 
+function __basecode_names
+    set -l words (commandline -opc)
+    $words[1] list 2>/dev/null
+end
+
 complete -c basecode -f
 complete -c basecode -n __basecode_takes_verb -a list -d 'Write the names of the encodings'
 complete -c basecode -n __basecode_takes_verb -a encode -d 'Write the text of standard input'
 complete -c basecode -n __basecode_takes_verb -a decode -d 'Write the data that standard input means'
 complete -c basecode -n __basecode_takes_verb -a canonical -d 'Write whether data has one text only'
-complete -c basecode -n __basecode_takes_name -a '(basecode list 2>/dev/null)'
+complete -c basecode -n __basecode_takes_name -a '(__basecode_names)'
