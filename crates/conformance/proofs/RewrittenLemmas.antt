@@ -1,5 +1,5 @@
 -- Facts of three of the encodings, which are computed, and what texts have in common.
-use Rattle.std.proofs.Common.{zero, suc, set, drop, Option, None, unwrap_or, zero-add, ⊎_elim, ◌==◌, ◌||◌, ◌≡◌, ◌↔◌, ℕ, ◌+◌, ◌<◌, ◌≤◌, Bool, true, false, IsTrue, List, [], ◌∷◌, ◌++◌, length, map, take, get_or, Result, Ok, Err, refl, sym, ap, ◌∙◌, subst, arith}
+use Rattle.std.proofs.Common.{◌≡◌, ◌↔◌, ℕ, zero, suc, ◌+◌, ◌<◌, ◌≤◌, ◌==◌, Bool, true, false, ◌||◌, IsTrue, List, [], ◌∷◌, ◌++◌, length, map, take, drop, get_or, set, None, unwrap_or, Result, Ok, Err, refl, sym, ap, ◌∙◌, subst, arith, zero-add, ⊎_elim}
 use Rattle.std.proofs.lemmas.List.{append-nil, drop_all, get_or-map, get_or_past, length-map, map_more, take_all}
 use Rattle.std.proofs.lemmas.Bool.{cases_lt}
 use Rattle.std.proofs.lemmas.Bool.Decides.{nat_tests}
@@ -8,15 +8,15 @@ use Rattle.std.proofs.lemmas.List.FromFn.{get_or-range_with_len, length-range_wi
 use Rattle.std.proofs.lemmas.List.Sums.{AllPass-from_list_all}
 use Rattle.std.specs.List.{list_all, range_with_len}
 use Rattle.data_encoding.specs.declared.encoding.BitOrder.TheVariants.{LeastSignificantFirst}
-use Rattle.data_encoding.specs.Layout.{own_character}
 use Rattle.data_encoding.specs.declared.encoding.Character.TheVariants.{Invalid}
 use Rattle.data_encoding.specs.declared.meanings.Refusal.{Refusal}
+use Rattle.data_encoding.specs.Layout.{own_character}
 use Rattle.data_encoding.specs.Base.{Base, is_padded, meaning}
 use Rattle.data_encoding.specs.Fields.{Fields, IsSpecified, base_of}
 use Rattle.data_encoding.specs.Grammar.{Means}
 use Rattle.data_encoding.specs.Laws.{OneMeaning}
 use Rattle.data_encoding.specs.Predefined.{base32_dnssec_fields, base64_fields, base64url_fields}
-use Rattle.data_encoding.specs.SameMeaning.{DifferInSymbols, OwnForm, OwnForms, Translated, exchanged, has_one_own_form, own_form}
+use Rattle.data_encoding.specs.SameMeaning.{DifferInSymbols, OwnForm, OwnForms, Translated, exchanged, has_one_own_form}
 use Rattle.conformance.proofs.YieldLemmas.{same_yield}
 
 -- what is known of the base of some fields is computed

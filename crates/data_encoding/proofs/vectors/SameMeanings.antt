@@ -1,9 +1,9 @@
 -- Worked rows of texts that mean the same.
 use Rattle.std.proofs.Common.{◌≡◌, ℕ, true, false, List, [], ◌∷◌, ◌++◌, map, codes, Option, Some, refl}
 use Rattle.data_encoding.specs.Fields.{Fields}
-use Rattle.data_encoding.specs.Predefined.{base32_dnssec_fields, base64_fields, base64_mime_fields, base64url_fields, hexlower_fields, hexupper_fields, translated_fields}
+use Rattle.data_encoding.specs.Predefined.{base32_dnssec_fields, base64_fields, base64_mime_fields, base64_nopad_fields, base64url_fields, hexlower_fields, hexupper_fields, translated_fields}
 use Rattle.data_encoding.specs.SameMeaning.{DifferInSymbols, exchanged, has_one_own_form, kept_bytes, own_form}
-use Rattle.data_encoding.proofs.vectors.Examples.{Has, Hold, by, single_fields}
+use Rattle.data_encoding.proofs.vectors.Examples.{Has, Hold, by, single_fields, unchecked}
 
 -- two ignored bytes in a row, and one at the end
 kept_of_lines : by (λ base. kept_bytes base (codes "SG" ++ 13 ∷ 10 ∷ codes "Vs" ++ 10 ∷ []))
@@ -32,10 +32,11 @@ own_forms_of_texts :
     (translated_fields single_fields (codes "~") (codes "=")) ≡ Some (codes "AA=="))
 own_forms_of_texts = (refl, refl)
 
--- base64 has two texts of the same data, though it translates no byte
+-- trailing bits, padding behind which texts may stand, and ignored bytes give a second text
 forms_counted : Hold (λ fields. by has_one_own_form fields) (
     (base32_dnssec_fields, Some true)
     ∷ (hexlower_fields, Some true)
+    ∷ (unchecked base64_nopad_fields, Some false)
     ∷ (base64_fields, Some false)
     ∷ (base64_mime_fields, Some false)
     ∷ [])

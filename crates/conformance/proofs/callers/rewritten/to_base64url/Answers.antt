@@ -1,7 +1,7 @@
-use Rattle.std.proofs.Common.{length, get_or, ap, sym, ◌≡◌, ◌≤◌, ◌∙◌, map, arith}
+use Rattle.std.proofs.Common.{map, sym, ap, ◌∙◌, arith}
+use Rattle.data_encoding.specs.Predefined.{base64_fields}
 use Rattle.data_encoding.specs.SameMeaning.{exchanged}
 use Rattle.conformance.proofs.RewrittenLemmas.{differ, exchanged-all, exchanged-more, specified_by}
-use Rattle.data_encoding.specs.Predefined.{base64_fields}
 use Rattle.conformance.proofs.callers.rewritten.to_base64url.Goals as goal
 
 pub loop-byte-preserved : goal.loop-byte-preserved
