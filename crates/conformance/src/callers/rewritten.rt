@@ -12,9 +12,9 @@ use data_encoding::laws::{one_meaning, same_but_symbols, same_kept_bytes, transl
 use data_encoding::{Encoding, base32_dnssec};
 use std::alloc::{AllocError, Global};
 
-/// A text in lines of so many characters, each followed by CR LF, as a MIME body is wrapped to other
-/// lines. It means the data that the text means. There is none where the encoding does not ignore
-/// CR and LF.
+/// A text in lines of `line` characters, each followed by CR LF, as a MIME body is wrapped to other
+/// lines: it means the data that the text means. There is none where the encoding does not ignore
+/// CR and LF. Where `line` is 0, there is one line.
 pub fn rewrapped(
     alloc: Global,
     encoding: &Encoding,
