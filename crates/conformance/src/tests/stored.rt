@@ -19,7 +19,7 @@ impl fmt::Write for Refusing {
     }
 }
 
-// Whether the encoding comes back, its bytes stand for it alone, and no longer ones for any.
+// Whether the encoding comes back, its bytes stand for it alone, and none for no encoding.
 fn is_stored(encoding: &Encoding, other: &Encoding) -> bool {
     let bytes = encoding.internal_implementation();
     let is_back = match restored(encoding) {
@@ -30,8 +30,7 @@ fn is_stored(encoding: &Encoding, other: &Encoding) -> bool {
         && is_stored_alike(encoding, encoding)
         && !is_stored_alike(encoding, other)
         && stands_for_some(bytes.as_slice())
-        && !stands_for_some(&bytes.as_slice()[1..])
-        && !stands_for_some(&bytes.as_slice()[..513])
+        && !stands_for_some(b"")
 }
 
 // Whether the text of the byte is appended.
