@@ -1,4 +1,7 @@
+pub mod OrderLemmas
+pub mod NameLemmas
 pub mod FaultLemmas
 pub mod YieldLemmas
 pub mod StreamedLemmas
+pub mod RewrittenLemmas
 pub mod ResumedLemmas

@@ -11,6 +11,8 @@ ghost use Rattle.data_encoding.specs.Lengths.{length_fault};
 ghost use Rattle.data_encoding.specs.Specification.{specified};
 ghost use Rattle.data_encoding.specs.Text.{text_of};
 
+pub mod rewritten;
+
 use data_encoding::laws::{canonical, one_meaning, round_trip, specification_again};
 use data_encoding::{
     DECODE_LIMIT, DecodeError, DecodeFault, DecodeKind, ENCODE_LIMIT, Encoding, Specification,
@@ -20,6 +22,7 @@ use std::alloc::{AllocError, Global};
 
 pub mod stored;
 pub mod streamed;
+pub mod names;
 
 /// Why data did not come back.
 #[derive(Debug, Drop)]

@@ -6,3 +6,4 @@ mod LayoutRules
 mod Meanings
 mod Steps
 mod Compared
+mod SameMeanings

@@ -1,7 +1,7 @@
 //! Laws of the definitions: each function's contract is a theorem, and calling it does nothing.
 //!
-//! The laws here are what a user concludes from. The steps by which a decoder proves that it reads a
-//! text in pieces stand in `steps`.
+//! The laws here are what a user concludes from. The steps by which a decoder proves that it reads
+//! a text in pieces stand in `steps`.
 
 ghost use Rattle.data_encoding.specs.Canonical.{Canonical, NotCanonical};
 ghost use Rattle.data_encoding.specs.OneLayout.{Layouts, OneLayout};
@@ -44,8 +44,8 @@ pub fn sound_text()
 {}
 
 /// Different data have different texts, for each encoding that a specification yields; and where it
-/// is canonical, each text that means so many bytes is as long as their text: `encode_len` tells how
-/// long.
+/// is canonical, each text that means n bytes is as long as the text of any n bytes, which
+/// `encode_len` returns.
 pub fn injective()
     ensures differ { Injective }
     ensures length { FixedLength }
@@ -59,8 +59,8 @@ pub fn join_decode()
 {}
 
 /// Texts may be compared in place of data by exactly these of the encodings without lines: the most
-/// significant bit comes first, the symbols ascend, and padding comes before each symbol. Six of the
-/// sixteen are so.
+/// significant bit comes first, the symbols ascend, and padding comes before each symbol. Six of
+/// the sixteen are so.
 pub fn order()
     ensures kept { Order }
     ensures broken { NoOrder }

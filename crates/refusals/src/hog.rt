@@ -26,8 +26,8 @@ impl Hog {
         })
     }
 
-    /// Takes memory until no part of any size is left, if it is greedy: great parts first, then each
-    /// size that an allocator may keep apart.
+    /// Takes memory until no part of any size is left, if it is greedy: great parts first, then
+    /// each size that an allocator may keep apart.
     pub fn fill(&mut self) {
         if !self.is_greedy {
             return;

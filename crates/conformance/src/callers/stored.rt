@@ -1,8 +1,12 @@
 //! Encodings that are stored as bytes, and texts that grow behind another text.
 
-ghost use Rattle.std.specs.Prelude.{◌≡◌, ◌↔◌, ◌≤◌, ℕ, List, ◌++◌, length, Some, IsOk, IsTrue, OnErr, OnOk};
+ghost use Rattle.std.specs.Prelude.{◌≡◌, ◌↔◌, ◌≤◌, ℕ, List, ◌++◌, length, ⊤, Some, IsOk, IsTrue, OnErr, OnOk};
+ghost use Rattle.std.specs.Borrow.{follows_so, sem};
+ghost use Rattle.std.specs.contracts.alloc.Global.{the_row as global_row};
+ghost use Rattle.std.specs.contracts.impls.GlobalAllocator.TheImpl.{ghosts};
+ghost use Rattle.std.specs.contracts.string.String.{the_row as string_row};
 ghost use Rattle.std.specs.String.{string_bytes};
-ghost use Rattle.data_encoding.specs.Encoder.{HasTaken, base_of_encoder, output_name};
+ghost use Rattle.data_encoding.specs.Encoder.{HasTaken, base_of_encoder, name_handed_back, output_name};
 ghost use Rattle.data_encoding.specs.OneLayout.{IsLayout};
 ghost use Rattle.data_encoding.specs.Text.{text_of};
 
@@ -98,4 +102,13 @@ pub fn encoded_at_second_try(
             }
         },
     }
+}
+
+/// Finalizes. Where memory was refused, the text is what the encoder that is handed back leaves.
+pub fn finalized(encoder: Encoder<'_>) -> Result<(), Encoder<'_>>
+    ensures* { sem 𝓛 (follows_so (string_row global_row ghosts) (string_row global_row ghosts)
+        (output_name encoder.entry) (name_handed_back result)
+        (λ last now. OnErr result (now ≡ last)) (λ _. ⊤)) }
+{
+    encoder.finalize()
 }

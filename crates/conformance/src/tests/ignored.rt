@@ -131,8 +131,8 @@ fn faults_are_alike_beside(
     Ok(true)
 }
 
-// Whether texts of a symbol, of which so many bytes at the end are padding, are judged alike with an
-// ignored byte at any position, and a faulty one at any other.
+// Whether texts of a symbol that end with so much padding are judged alike with an ignored byte at
+// any position, and a faulty one at any other.
 fn faults_are_alike(
     comparison: &mut Comparison<'_>,
     symbol: u8,

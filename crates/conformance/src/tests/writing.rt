@@ -20,7 +20,7 @@ base64|most|check|=||0||||1000|Ok 1024 312
 base64|most|check|=||0||||768|Ok 1024
 base64|most|check|=||0||||0|Ok";
 
-// The length of data, and what the calls of the writer are given that it takes, one after the other.
+// The length of data, and the lengths of what the calls of the writer are given, one by one.
 const FAILING: &str = "\
 buffer base64|most|check|=||76|←↵|||1500|468 468 468 468 182
 buffer base64|most|check|=||0||||1500|508 508 508 476

@@ -194,6 +194,20 @@ encoder_handed_back : (encoder : Encoder) → IsUnchanged encoder encoder
 encoder_handed_back encoder =
     (record { written = refl; held = refl; base = refl; output = refl }, refl, refl)
 
+-- one that is unchanged has taken the same bytes, and appends to the same text
+encoder_unchanged : (old new : Encoder) → IsUnchanged old new → ((before bytes : List ℕ)
+    → HasTaken old before bytes → HasTaken new before bytes)
+    × (output_name new ≡ output_name old)
+encoder_unchanged old new same = (
+  λ before bytes has.
+      subst (λ base. HasEncoded base before bytes (written new) (held new)) (sym same.base)
+      (subst (λ text. HasEncoded (base_of_encoder old) before bytes text (held new))
+      (sym same.written)
+      (subst (λ rest. HasEncoded (base_of_encoder old) before bytes (written old) rest)
+      (sym same.held) has)),
+  same.output,
+)
+
 shown_of : (base : Base) (bytes text : List ℕ) → text_of base bytes ≡ text
     → (shown : Display) → shown.encoding.now ≡ base → shown_data shown ≡ bytes
     → shown_text shown ≡ text

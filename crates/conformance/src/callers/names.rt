@@ -1,0 +1,127 @@
+//! Tokens, names and key files, of encodings whose laws need no test at run time.
+
+ghost use Rattle.std.specs.Prelude.{◌≡◌, ◌↔◌, ◌≤◌, ◌==◌, ℕ, List, length, take, reverse, take_while, count_by, not, is_some, Some, Ok, Err, IsTrue, IfOk, IfSome};
+ghost use Rattle.std.specs.String.{string_bytes};
+ghost use Rattle.data_encoding.specs.Eighteen.{Yields};
+ghost use Rattle.data_encoding.specs.Fault.{fault_of};
+ghost use Rattle.data_encoding.specs.Grammar.{Means};
+ghost use Rattle.data_encoding.specs.Order.{IsBefore};
+ghost use Rattle.data_encoding.specs.Predefined.{base32hex_nopad_fields, base64_mime_fields, base64url_nopad_fields};
+ghost use Rattle.data_encoding.specs.Text.{text_of};
+
+use data_encoding::laws::{canonical, injective, order, tight};
+use data_encoding::{
+    DECODE_LIMIT, DecodeFault, DecodeKind, ENCODE_LIMIT, base32hex_nopad, base64_mime,
+    base64url_nopad,
+};
+use std::alloc::{AllocError, Global};
+
+/// The token of data, in BASE64URL_NOPAD.
+pub fn token_of(alloc: Global, input: &[u8]) -> Result<String, AllocError>
+    requires limit { length input.now ≤ ENCODE_LIMIT }
+    ensures { Yields (λ base. IfOk result
+        (λ token. string_bytes token ≡ text_of base input.now)) base64url_nopad_fields }
+{
+    base64url_nopad().encode(alloc, input)
+}
+
+/// The data of a token, where it means any. No other token has them: `laws::canonical` says it of
+/// BASE64URL_NOPAD, so nothing is tested.
+pub fn data_of_token(alloc: Global, token: &[u8]) -> Result<Option<Vec<u8>>, AllocError>
+    requires limit { length token.now ≤ DECODE_LIMIT }
+    ensures some { Yields (λ base. IfOk result (λ found. IsTrue (is_some found)
+        ↔ ((bytes : List ℕ) × Means base token.now bytes))) base64url_nopad_fields }
+    ensures only { Yields (λ base. IfOk result (λ found. IfSome found
+        (λ bytes. token.now ≡ text_of base bytes.items))) base64url_nopad_fields }
+{
+    canonical();
+    match base64url_nopad().decode(alloc, token) {
+        Ok(bytes) => Ok(Some(bytes)),
+        Err(DecodeFault::Error(_)) => Ok(None),
+        Err(DecodeFault::OutOfMemory) => Err(AllocError),
+    }
+}
+
+/// Whether a token is that of 16 bytes, where it means any data: its length tells.
+pub fn is_key(token: &[u8]) -> bool
+    ensures { Yields (λ base. (bytes : List ℕ) → Means base token.now bytes
+        → (IsTrue result ↔ (length bytes ≡ 16))) base64url_nopad_fields }
+{
+    canonical();
+    injective();
+    tight();
+    token.len() == base64url_nopad().encode_len(16)
+}
+
+/// Whether the data of a name come before those of another, in BASE32HEX_NOPAD: the names are
+/// compared, and nothing is decoded.
+pub fn comes_before(one: &[u8], other: &[u8]) -> bool
+    ensures { Yields (λ base. (bytes others : List ℕ)
+        → Means base one.now bytes → Means base other.now others
+        → (IsTrue result ↔ IsBefore bytes others)) base32hex_nopad_fields }
+{
+    let _encoding = base32hex_nopad();
+    canonical();
+    order();
+    one < other
+}
+
+/// A line of a text, and a place in it, both from 0.
+#[derive(Clone, Copy, Debug, PartialEq, Eq)]
+pub struct Place {
+    /// How many LF stand before it.
+    pub line: usize,
+
+    /// How many bytes stand between the last of these and it.
+    pub column: usize,
+}
+
+/// Where a position of a text is.
+pub fn place_of(text: &[u8], position: usize) -> Place
+    requires within { position ≤ length text.now }
+    ensures line { result.line ≡ count_by (λ byte. byte == 10) (take position text.now) }
+    ensures column { result.column ≡ length
+        (take_while (λ byte. not (byte == 10)) (reverse (take position text.now))) }
+{
+    let before = &text[..position];
+    let line = before.iter().filter(|byte| **byte == b'\n').count();
+    let column = before
+        .iter()
+        .rev()
+        .take_while(|byte| **byte != b'\n')
+        .count();
+    Place { line, column }
+}
+
+/// Why the body of a key file has no data.
+#[derive(Debug, Drop)]
+pub enum BodyFault {
+    /// Its text has a fault there.
+    Text(Place, DecodeKind),
+
+    /// No memory was found.
+    OutOfMemory,
+}
+
+/// The data of the body of a key file: lines of base64, of any length. A fault is told by its line
+/// and its column.
+pub fn data_of_body(alloc: Global, body: &[u8]) -> Result<Vec<u8>, BodyFault>
+    requires limit { length body.now ≤ DECODE_LIMIT }
+    ensures means { Yields (λ base. IfOk result (λ bytes. Means base body.now bytes.items))
+        base64_mime_fields }
+    ensures fault { Yields (λ base. (place : Place) (kind : DecodeKind)
+        → result ≡ Err (BodyFault.Text place kind) → (position : ℕ)
+        × (fault_of base body.now ≡ Some (record { position = position; kind = kind }))
+        × (place.line ≡ count_by (λ byte. byte == 10) (take position body.now))
+        × (place.column ≡ length
+        (take_while (λ byte. not (byte == 10)) (reverse (take position body.now)))))
+        base64_mime_fields }
+{
+    match base64_mime().decode(alloc, body) {
+        Ok(bytes) => Ok(bytes),
+        Err(DecodeFault::Error(error)) => {
+            Err(BodyFault::Text(place_of(body, error.position), error.kind))
+        }
+        Err(DecodeFault::OutOfMemory) => Err(BodyFault::OutOfMemory),
+    }
+}

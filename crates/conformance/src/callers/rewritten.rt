@@ -1,0 +1,99 @@
+//! Texts that are written otherwise, or compared, and mean the same.
+
+ghost use Rattle.std.specs.Prelude.{◌≡◌, ◌↔◌, ◌&&◌, ℕ, List, Ok, is_some, IsTrue, IfOk, IfSome};
+ghost use Rattle.data_encoding.specs.Base.{Base, is_ignored, meaning};
+ghost use Rattle.data_encoding.specs.Fields.{base_of};
+ghost use Rattle.data_encoding.specs.Grammar.{Means};
+ghost use Rattle.data_encoding.specs.Predefined.{base32_dnssec_fields, base64_fields, base64url_fields};
+ghost use Rattle.data_encoding.specs.SameMeaning.{exchanged};
+ghost use Rattle.data_encoding.specs.Text.{text_of};
+
+use data_encoding::laws::{one_meaning, same_but_symbols, same_kept_bytes, translated};
+use data_encoding::{Encoding, base32_dnssec};
+use std::alloc::{AllocError, Global};
+
+/// A text in lines of so many characters, each followed by CR LF, as a MIME body is wrapped to other
+/// lines. It means the data that the text means. There is none where the encoding does not ignore
+/// CR and LF.
+pub fn rewrapped(
+    alloc: Global,
+    encoding: &Encoding,
+    text: &[u8],
+    line: usize,
+) -> Result<Option<Vec<u8>>, AllocError>
+    ensures same { IfOk result (λ found. IfSome found (λ output.
+        (bytes : List ℕ)
+        → Means encoding.now text.now bytes ↔ Means encoding.now output.items bytes)) }
+    ensures some { IfOk result (λ found. is_some found
+        ≡ (is_ignored (meaning encoding.now 13) && is_ignored (meaning encoding.now 10))) }
+{
+    let _width = encoding.bit_width();
+    same_kept_bytes();
+    if !encoding.interpret_byte(b'\r').is_ignored() {
+        return Ok(None);
+    }
+    if !encoding.interpret_byte(b'\n').is_ignored() {
+        return Ok(None);
+    }
+    let mut output = Vec::new(alloc);
+    let mut count: usize = 0;
+    for byte in text {
+        if !encoding.interpret_byte(*byte).is_ignored() {
+            output.push(*byte)?;
+            count += 1;
+            if count == line {
+                output.extend_from_slice(b"\r\n")?;
+                count = 0;
+            }
+        }
+    }
+    if count > 0 {
+        output.extend_from_slice(b"\r\n")?;
+    }
+    Ok(Some(output))
+}
+
+// The byte of base64url for a byte of base64.
+fn url_byte(byte: u8) -> u8
+    ensures { (base url : Base) → base_of base64_fields ≡ Ok base → base_of base64url_fields ≡ Ok url
+        → result ≡ exchanged base url byte }
+{
+    match byte {
+        b'+' => b'-',
+        b'/' => b'_',
+        other => other,
+    }
+}
+
+/// Turns the text of data in base64 into their text in base64url, where it stands.
+pub fn to_base64url(text: &mut [u8])
+    ensures { (base url : Base) (bytes : List ℕ)
+        → base_of base64_fields ≡ Ok base → base_of base64url_fields ≡ Ok url
+        → text.old ≡ text_of base bytes → text.new ≡ text_of url bytes }
+{
+    same_but_symbols();
+    for byte in text.iter_mut() {
+        *byte = url_byte(*byte);
+    }
+}
+
+/// Whether two names are the same in either case, as hashed names of DNSSEC are compared: of names
+/// that mean data, exactly where they mean the same data.
+pub fn is_same_name(one: &[u8], other: &[u8]) -> bool
+    ensures { (base : Base) (bytes others : List ℕ) → base_of base32_dnssec_fields ≡ Ok base
+        → Means base one.now bytes → Means base other.now others
+        → IsTrue result ↔ (bytes ≡ others) }
+{
+    let encoding = base32_dnssec();
+    one_meaning();
+    translated();
+    if one.len() != other.len() {
+        return false;
+    }
+    for (i, byte) in one.iter().enumerate() {
+        if encoding.interpret_byte(*byte) != encoding.interpret_byte(other[i]) {
+            return false;
+        }
+    }
+    true
+}
