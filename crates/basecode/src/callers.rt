@@ -1,6 +1,6 @@
 //! Small callers, each proved from the clauses of what it calls: what these let a user conclude.
 
-ghost use Rattle.std.specs.Prelude.{◌≡◌, ◌≢◌, ◌-◌, ◌^◌, ◌+◌, ◌++◌, ◌<◌, ◌≤◌, ℕ, List, [], ◌∷◌, codes, length, string_bytes, take, IfOk, IfSome, IsSome, IsTrue, None, OnOk, ◌↔◌, false};
+ghost use Rattle.std.specs.Prelude.{◌≡◌, ◌≢◌, ◌-◌, ◌^◌, ◌+◌, ◌++◌, ◌<◌, ◌≤◌, ◌↔◌, ℕ, List, [], ◌∷◌, codes, length, string_bytes, take, IfOk, IfSome, IsSome, IsTrue, None, OnOk, false};
 ghost use Rattle.std.specs.Io.KnownBytes.{Keeps};
 ghost use Rattle.data_encoding.specs.Base.{Base};
 ghost use Rattle.data_encoding.specs.Canonical.{IsCanonical};
