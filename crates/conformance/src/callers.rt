@@ -20,9 +20,9 @@ use data_encoding::{
 };
 use std::alloc::{AllocError, Global};
 
+pub mod names;
 pub mod stored;
 pub mod streamed;
-pub mod names;
 
 /// Why data did not come back.
 #[derive(Debug, Drop)]

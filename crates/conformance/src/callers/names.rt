@@ -27,7 +27,7 @@ pub fn token_of(alloc: Global, input: &[u8]) -> Result<String, AllocError>
 
 /// The data of a token, where it means any. No other token has them: `laws::canonical` says it of
 /// BASE64URL_NOPAD, so nothing is tested.
-pub fn data_of_token(alloc: Global, token: &[u8]) -> Result<Option<Vec<u8>>, AllocError>
+pub fn decoded_token(alloc: Global, token: &[u8]) -> Result<Option<Vec<u8>>, AllocError>
     requires limit { length token.now ≤ DECODE_LIMIT }
     ensures some { Yields (λ base. IfOk result (λ found. IsTrue (is_some found)
         ↔ ((bytes : List ℕ) × Means base token.now bytes))) base64url_nopad_fields }

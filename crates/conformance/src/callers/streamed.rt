@@ -1,16 +1,19 @@
 //! Callers of streams, and of texts that come in pieces.
 
-ghost use Rattle.std.specs.Prelude.{◌≡◌, ◌≢◌, ◌<◌, ◌≤◌, ℕ, List, ◌+◌, ◌++◌, flat_map, length, Err, IfOk, Ok, OnOk, Some};
+ghost use Rattle.std.specs.Prelude.{◌≡◌, ◌≢◌, ◌<◌, ◌≤◌, ℕ, List, ◌+◌, ◌%◌, ◌++◌, flat_map, length, Err, IfOk, None, Ok, OnOk, Some};
+ghost use Rattle.data_encoding.specs.Eighteen.{Yields};
 ghost use Rattle.data_encoding.specs.Fault.{fault_of, sound_bytes};
 ghost use Rattle.data_encoding.specs.Fields.{base_of};
 ghost use Rattle.data_encoding.specs.Grammar.{Means};
 ghost use Rattle.data_encoding.specs.Laws.{Resumes};
-ghost use Rattle.data_encoding.specs.Predefined.{base64_mime_fields};
+ghost use Rattle.data_encoding.specs.Lengths.{length_fault};
+ghost use Rattle.data_encoding.specs.Predefined.{base64_fields, base64_mime_fields};
 ghost use Rattle.data_encoding.specs.Text.{text_of};
 ghost use Rattle.encoding_stream.specs.Pieces.{verdict_of};
 
-use data_encoding::laws::{join_decode, join_fault, resume, round_trip, sound_text};
-use data_encoding::{DECODE_LIMIT, DecodeError, DecodeFault, Encoding};
+use data_encoding::laws::steps::whole_groups;
+use data_encoding::laws::{fault_stays, join_decode, join_fault, resume, round_trip, sound_text};
+use data_encoding::{DECODE_LIMIT, DecodeError, DecodeFault, Encoding, base64};
 use encoding_stream::{Decoder, StreamFault, Watch, decode_stream, encode_stream};
 use std::alloc::{AllocError, Global};
 
@@ -50,7 +53,7 @@ pub fn decode_pieces(
 }
 
 /// The data again, by way of two streams: their text is written into memory, and read from there.
-pub fn there_and_back(
+pub fn streamed_back(
     alloc: Global,
     encoding: &Encoding,
     input: &[u8],
@@ -102,6 +105,23 @@ pub fn decode_in_two(
         })),
         Err(DecodeFault::OutOfMemory) => Err(DecodeFault::OutOfMemory),
     }
+}
+
+/// Decodes the front of a text in base64, of whole groups of 4 characters. Its fault is that of each
+/// text of a valid length that begins so: a long text is refused by its front.
+pub fn decoded_early(alloc: Global, front: &[u8]) -> Result<Vec<u8>, DecodeFault>
+    requires limit { length front.now ≤ DECODE_LIMIT }
+    requires whole { length front.now % 4 ≡ 0 }
+    ensures means { Yields (λ base. IfOk result (λ bytes. Means base front.now bytes.items))
+        base64_fields }
+    ensures fault { Yields (λ base. (error : DecodeError) (after : List ℕ)
+        → result ≡ Err (DecodeFault.Error error)
+        → length_fault base (length (front.now ++ after)) ≡ None
+        → fault_of base (front.now ++ after) ≡ Some error) base64_fields }
+{
+    fault_stays();
+    whole_groups();
+    base64().decode(alloc, front)
 }
 
 // Decodes a piece as far as it means data: how far it was read, and the data.

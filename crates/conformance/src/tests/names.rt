@@ -3,7 +3,7 @@
 ghost use Rattle.std.specs.Prelude.{◌≤◌, length};
 
 use crate::callers::names::{
-    BodyFault, Place, comes_before, data_of_body, data_of_token, is_key, token_of,
+    BodyFault, Place, comes_before, data_of_body, decoded_token, is_key, token_of,
 };
 use data_encoding::{DECODE_LIMIT, DecodeKind};
 use std::alloc::{AllocError, Global};
@@ -13,7 +13,7 @@ use std::test::Fail;
 fn has_data(alloc: Global, token: &[u8], want: Option<&[u8]>) -> Result<bool, AllocError>
     requires limit { length token.now ≤ DECODE_LIMIT }
 {
-    match data_of_token(alloc, token)? {
+    match decoded_token(alloc, token)? {
         Some(data) => Ok(want == Some(data.as_slice())),
         None => Ok(want.is_none()),
     }

@@ -1,6 +1,6 @@
 //! The callers of streams and of texts that come in pieces.
 
-use crate::callers::streamed::{decode_in_two, decode_pieces, there_and_back};
+use crate::callers::streamed::{decode_in_two, decode_pieces, decoded_early, streamed_back};
 use data_encoding::{DecodeError, DecodeFault, DecodeKind, base64_mime};
 use std::alloc::{AllocError, Global};
 use std::test::Fail;
@@ -48,7 +48,11 @@ fn texts_are_streamed(rt: HostRuntime) -> Result<(), Fail> {
     assert!(rt; is_handed_on(rt.alloc(), b"8=", b">Hello", Ok(()))?);
     assert!(rt; is_handed_on(rt.alloc(), b"8!", b">Hel", Err(no_symbol(9)))?);
     assert!(rt; is_resumed(rt.alloc())?);
-    let data = there_and_back(rt.alloc(), &base64_mime(), b"Hello")?;
+    let front = decoded_early(rt.alloc(), b"SGVs")?;
+    assert!(rt; front.as_slice() == b"Hel".as_slice());
+    let faulty = decoded_early(rt.alloc(), b"SGVsbG8!");
+    assert!(rt; matches!(&faulty, Err(DecodeFault::Error(error)) if *error == no_symbol(7)));
+    let data = streamed_back(rt.alloc(), &base64_mime(), b"Hello")?;
     assert!(rt; data.as_slice() == b"Hello".as_slice());
     Ok(())
 }

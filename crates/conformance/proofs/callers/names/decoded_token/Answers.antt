@@ -6,7 +6,7 @@ use Rattle.data_encoding.specs.Predefined.{base64url_nopad_fields}
 use Rattle.data_encoding.specs.Text.{text_of}
 use Rattle.conformance.proofs.FaultLemmas.{no_error}
 use Rattle.conformance.proofs.NameLemmas.{yields-seen}
-use Rattle.conformance.proofs.callers.names.data_of_token.Goals as goal
+use Rattle.conformance.proofs.callers.names.decoded_token.Goals as goal
 
 pub returns-in-Ok-clause-only : goal.returns-in-Ok-clause-only
 returns-in-Ok-clause-only c =

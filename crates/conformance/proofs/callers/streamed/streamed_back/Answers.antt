@@ -8,7 +8,7 @@ use Rattle.data_encoding.specs.Text.{text_of}
 use Rattle.encoding_stream.specs.Decoded.{DecodesAll}
 use Rattle.encoding_stream.specs.Watch.{inner_of}
 use Rattle.conformance.proofs.StreamedLemmas.{all-decoded}
-use Rattle.conformance.proofs.callers.streamed.there_and_back.Goals as goal
+use Rattle.conformance.proofs.callers.streamed.streamed_back.Goals as goal
 
 pub returns-clause-same : goal.returns-clause-same
 returns-clause-same c =

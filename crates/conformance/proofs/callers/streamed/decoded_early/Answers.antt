@@ -1,0 +1,39 @@
+use Rattle.std.proofs.Common.{◌≡◌, ◌%◌, ◌++◌, ℕ, false, List, length, Err, Some, None, refl, sym, ap, ◌∙◌, subst}
+use Rattle.std.specs.Prelude.{IfErr}
+use Rattle.std.specs.List.{enumerate_from}
+use Rattle.std.proofs.lemmas.List.{length-map}
+use Rattle.std.proofs.lemmas.List.FromFn.{length-enumerate_from}
+use Rattle.data_encoding.specs.declared.error.DecodeError.{DecodeError}
+use Rattle.data_encoding.specs.declared.error.DecodeFault.TheVariants.{Error}
+use Rattle.data_encoding.specs.Base.{group_symbols, ignores_some}
+use Rattle.data_encoding.specs.Fault.{fault_of, IsRefusal}
+use Rattle.data_encoding.specs.Fields.{IsSpecified}
+use Rattle.data_encoding.specs.Grammar.{Positioned, kept}
+use Rattle.data_encoding.specs.Lengths.{length_fault}
+use Rattle.data_encoding.specs.Predefined.{base64_fields}
+use Rattle.conformance.proofs.NameLemmas.{computed, yields-seen}
+use Rattle.conformance.proofs.callers.streamed.decoded_early.Goals as goal
+
+pub returns-clause-fault : goal.returns-clause-fault
+returns-clause-fault c =
+    let seen = c.base64.result in
+    let yields = c.base64.ensures in
+    let front = c.args.front.now in
+    let is : IsSpecified seen = record { fields = base64_fields; yields = yields } in
+    let none = computed (λ b. ignores_some b ≡ false) base64_fields seen yields refl in
+    let size = computed (λ b. group_symbols b.width ≡ 4) base64_fields seen yields refl in
+    let len : length (kept seen front) ≡ length front =
+    ap length ((c.whole_groups.ensures.kept seen none).1 front)
+    ∙ length-map (enumerate_from 0 front)
+    (λ (p : ℕ × ℕ). let k : Positioned = record { position = p.0; byte = p.1 } in k)
+    ∙ length-enumerate_from 0 front in
+    let whole : length (kept seen front) % group_symbols seen.width ≡ 0 =
+    subst (λ n. n % group_symbols seen.width ≡ 0) (sym len)
+    (subst (λ n. length front % n ≡ 0) (sym size) c.requires.whole) in
+    yields-seen (λ base. (error : DecodeError) (after : List ℕ)
+    → c.decode.result ≡ Err (Error error)
+    → length_fault base (length (front ++ after)) ≡ None
+    → fault_of base (front ++ after) ≡ Some error) base64_fields seen yields
+    (λ error after told due.
+    c.fault_stays.ensures.text seen is front after error whole
+    (subst (λ r. IfErr r (IsRefusal seen front)) told c.decode.ensures.refusal) due)
