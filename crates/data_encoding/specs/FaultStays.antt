@@ -25,8 +25,8 @@ FaultStays =
     → fault_of base text ≡ Some error → length_fault base (length (text ++ after)) ≡ None
     → fault_of base (text ++ after) ≡ Some error
 
--- Behind a text without a fault whose kept bytes are whole groups, no longer text has a fault before
--- its end.
+-- Behind a text without a fault whose kept bytes are whole groups, no longer text has a fault
+-- before its end.
 abbrev pub NoFaultBefore : Type 0
 NoFaultBefore =
     (base : Base) → IsSpecified base → (text after : List ℕ) (error : DecodeError)

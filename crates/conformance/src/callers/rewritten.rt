@@ -55,7 +55,8 @@ pub fn rewrapped(
 
 // The byte of base64url for a byte of base64.
 fn url_byte(byte: u8) -> u8
-    ensures { (base url : Base) → base_of base64_fields ≡ Ok base → base_of base64url_fields ≡ Ok url
+    ensures { (base url : Base)
+        → base_of base64_fields ≡ Ok base → base_of base64url_fields ≡ Ok url
         → result ≡ exchanged base url byte }
 {
     match byte {

@@ -107,8 +107,8 @@ pub fn decode_in_two(
     }
 }
 
-/// Decodes the front of a text in base64, of whole groups of 4 characters. Its fault is that of each
-/// text of a valid length that begins so: a long text is refused by its front.
+/// Decodes the front of a text in base64, of whole groups of 4 characters. Its fault is that of
+/// each text of a valid length that begins so: a long text is refused by its front.
 pub fn decoded_early(alloc: Global, front: &[u8]) -> Result<Vec<u8>, DecodeFault>
     requires limit { length front.now ≤ DECODE_LIMIT }
     requires whole { length front.now % 4 ≡ 0 }

@@ -18,7 +18,7 @@ use Rattle.data_encoding.proofs.canonicity.OwnTextLemmas.{missing-is, own_form-i
 use Rattle.data_encoding.proofs.digits.WidthLemmas.{group_bits, group_symbols-pos}
 use Rattle.data_encoding.proofs.grammar.GroupLemmas.{bytes_in}
 use Rattle.data_encoding.proofs.grammar.MeaningLemmas.{sound_bytes-Means}
-use Rattle.data_encoding.proofs.grammar.PositionLemmas.{bytes-positioned_from, filter-plain, never_ignored}
+use Rattle.data_encoding.proofs.grammar.PositionLemmas.{bytes-positioned_from, filter-plain}
 use Rattle.data_encoding.proofs.grammar.SameMeaningLemmas.{Means-translated}
 use Rattle.data_encoding.proofs.grammar.TightLemmas.{no_lines-plain}
 use Rattle.data_encoding.proofs.grammar.UnpaddedGroupLemmas.{PlainMeans-count}
@@ -187,7 +187,8 @@ module _ (base : Base) (ruled : IsRuled base) (one : HasOneForm base) where
       → own_form base text ≡ text_of base bytes
   own_text text bytes means =
       ap (own_form base) (sym (bytes-positioned_from 0 text)) ∙ ap own_in (sym all_kept)
-      ∙ by base.padding refl means ∙ sym (text_of-unwrapped base bytes (no_lines-plain base ruled one.keeps)) where
+      ∙ by base.padding refl means
+      ∙ sym (text_of-unwrapped base bytes (no_lines-plain base ruled one.keeps)) where
         all_kept : kept base text ≡ positioned text
         all_kept = filter-plain base one.keeps (positioned text)
 
@@ -234,5 +235,5 @@ module _ (base : Base) (ruled : IsRuled base) where
   -- and there are no lines
   pub no_lines-only : has_one_text base ≡ true → base.wrapping ≡ None
   no_lines-only h =
-      no_lines-plain base ruled
-      (parts_of base (and_parts (has_one_own_form base) (length (translated_bytes base) == 0) h).0).keeps
+      let parts = and_parts (has_one_own_form base) (length (translated_bytes base) == 0) h in
+      no_lines-plain base ruled (parts_of base parts.0).keeps

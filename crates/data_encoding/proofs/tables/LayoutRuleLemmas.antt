@@ -1,29 +1,28 @@
 -- Bytes are the layout of a base exactly where they keep the rules of layouts.
-use Rattle.std.proofs.Common.{◌≡◌, ◌≢◌, ◌⊎◌, ◌↔◌, ℕ, zero, suc, ◌+◌, ◌-◌, ◌*◌, ◌/◌, ◌%◌, ◌^◌, ◌<◌, ◌≤◌, ◌==◌, Bool, true, false, not, ◌||◌, cond, if◌then◌else◌, nat_lt, List, [], ◌∷◌, ◌++◌, length, map, take, drop, replicate, get_or, Option, Some, None, is_none, unwrap_or, refl, sym, ap, ◌∙◌, subst, arith, inl, inr, ⊎_elim, append_assoc, length-append, drop-cons, drop_of_length-le, length-drop}
+use Rattle.std.proofs.Common.{◌≡◌, ◌≢◌, ◌⊎◌, ℕ, zero, suc, ◌+◌, ◌-◌, ◌*◌, ◌/◌, ◌%◌, ◌^◌, ◌<◌, ◌≤◌, ◌==◌, Bool, true, false, not, ◌||◌, cond, if◌then◌else◌, nat_lt, List, [], ◌∷◌, ◌++◌, length, map, take, drop, replicate, get_or, Option, Some, None, is_none, unwrap_or, refl, sym, ap, ◌∙◌, subst, arith, inl, inr, ⊎_elim, append_assoc, length-append, drop-cons, drop_of_length-le, length-drop}
 use Rattle.std.proofs.Math.Nat.{mod-lt, mod-eq_of_lt}
-use Rattle.std.proofs.lemmas.Bool.{cases_Bool, cases_eq, cases_lt, eq-eqb, eqb-true, lt-ltb, ltb-true}
+use Rattle.std.proofs.lemmas.Bool.{cases_Bool, eq-eqb, eqb-true, lt-ltb, ltb-true}
 use Rattle.std.proofs.lemmas.Bool.Decides.{nat_tests}
 use Rattle.std.proofs.lemmas.Nat.{pow_pos}
 use Rattle.std.proofs.lemmas.List.{drop-drop, ext_get_or, get_or-append_right, get_or_append_left, get_or-drop, get_or-map, get_or-replicate, get_or-take, get_or_past, length-map, length-replicate, length-take-le, take-append-drop}
 use Rattle.std.proofs.lemmas.List.Folds.{list_any_at}
-use Rattle.std.specs.List.{AllByRecursion, concat, list_all, list_any}
-use Rattle.data_encoding.specs.declared.encoding.BitOrder.{BitOrder}
+use Rattle.std.specs.List.{AllByRecursion, list_all, list_any}
 use Rattle.data_encoding.specs.declared.encoding.BitOrder.TheVariants.{MostSignificantFirst, LeastSignificantFirst}
 use Rattle.data_encoding.specs.declared.encoding.Character.{Character}
 use Rattle.data_encoding.specs.declared.encoding.Character.TheVariants.{Symbol, Padding, Ignored, Invalid}
-use Rattle.data_encoding.specs.Base.{Base, IsWidth, Wrapping, group_symbols, ignores_some, is_ignored, meaning}
+use Rattle.data_encoding.specs.Base.{Base, Wrapping, group_symbols, ignores_some, is_ignored, meaning}
 use Rattle.data_encoding.specs.Encoding.{wrapping_by}
 use Rattle.data_encoding.specs.Entries.{is_entry_of, meaning_of_entry}
 use Rattle.data_encoding.specs.Fields.{IsSpecified}
 use Rattle.data_encoding.specs.Layout.{code_of, layout, order_flag, wrapping_bytes}
-use Rattle.data_encoding.specs.OneLayout.{IsIgnoredIn, IsLayout, IsLayoutOf, Layouts, TellsWrapping, TellsLines, TellsPadding, entry_in}
+use Rattle.data_encoding.specs.OneLayout.{IsIgnoredIn, IsLayout, IsLayoutOf, Layouts, TellsWrapping, TellsPadding, entry_in}
 use Rattle.data_encoding.proofs.digits.WidthLemmas.{symbols-few, times_symbols}
-use Rattle.data_encoding.proofs.lists.EachLemmas.{list_all-map, list_all-places, passes_at}
+use Rattle.data_encoding.proofs.lists.EachLemmas.{list_all-places, passes_at}
 use Rattle.data_encoding.proofs.lists.RepeatLemmas.{get_or-repeats, length-repeats}
 use Rattle.data_encoding.proofs.specification.RoundTripLemmas.{IsSpecified-ruled}
-use Rattle.data_encoding.proofs.specification.RuleLemmas.{AreLines, IsRuled, IsRuledPadding, IsRuledWrapping, IsRuled-yield, is_no_padding, is_within}
-use Rattle.data_encoding.proofs.tables.LayoutLemmas.{any-ignored, codes-back}
-use Rattle.data_encoding.proofs.tables.OneLayoutLemmas.{are_bits, check_bit, ends, flags, length-table, order_bit, symbol_table}
+use Rattle.data_encoding.proofs.specification.RuleLemmas.{IsRuled, IsRuledPadding, IsRuledWrapping, IsRuled-yield, is_no_padding, is_within}
+use Rattle.data_encoding.proofs.tables.LayoutLemmas.{codes-back}
+use Rattle.data_encoding.proofs.tables.OneLayoutLemmas.{are_bits, ends, flags, length-table, symbol_table}
 use Rattle.data_encoding.proofs.tables.ReadingLemmas.{HasFlags, flags-back}
 use Rattle.data_encoding.proofs.tables.TableRuleLemmas.{value-symbol}
 
@@ -242,7 +241,8 @@ module _ (base : Base) (ruled : IsRuled base) where
       (has-padding base.padding ruled.padding
       (or_false base.concatenates (is_none base.padding) ruled.concatenated single))
 
-  symbol-own : (value : ℕ) → value < count → get_or (layout base) value 0 ≡ get_or base.symbols value 0
+  symbol-own : (value : ℕ) → value < count
+      → get_or (layout base) value 0 ≡ get_or base.symbols value 0
   symbol-own value h =
       symbol-at value (omega (arith, h, count-few))
       ∙ ap (λ n. get_or base.symbols n 0) (mod-eq_of_lt h)
@@ -262,14 +262,16 @@ module _ (base : Base) (ruled : IsRuled base) where
       let some : 0 < count = omega (arith, mod-lt k {m = count} (pow_pos base.width)) in
       symbol-at k h ∙ sym (symbol-own (k % count) (mod-lt k some))
 
-  padding-told : (o : Option ℕ) → IsRuledPadding base o → get_or (layout base) 512 0 ≡ unwrap_or o 128
+  padding-told : (o : Option ℕ) → IsRuledPadding base o
+      → get_or (layout base) 512 0 ≡ unwrap_or o 128
       → TellsPadding base.width (layout base)
   padding-told None rule is =
       inl (
         is,
         λ byte low e.
             code-padding count (meaning base byte) count-few (within-at byte low)
-            (passes_at is_no_padding base.meanings byte Invalid rule (omega (arith, low, ruled.long)))
+            (passes_at is_no_padding base.meanings byte Invalid rule
+            (omega (arith, low, ruled.long)))
             (sym (code-at byte low) ∙ e),
       )
   padding-told (Some character) rule is =
@@ -513,7 +515,8 @@ module _ (bytes : List ℕ) (width : ℕ) (width_is : get_or bytes 513 0 % 8 ≡
       ∙ list_all-places (is_within size) (map meaning_of_entry low) Invalid (λ i h.
       let few : i < 128 = omega (arith, h, length-map low meaning_of_entry, long-low) in
       ap (is_within size) (meaning-at i few)
-      ∙ entry-within size (entry_in bytes i) (entry-is size (entry_in bytes i) (rule.entries i few)))
+      ∙ entry-within size (entry_in bytes i)
+      (entry-is size (entry_in bytes i) (rule.entries i few)))
 
   ruled-padding : TellsPadding width bytes → IsRuledPadding told (padding_in (get_or bytes 512 0))
   ruled-padding (inl none) =

@@ -1,6 +1,5 @@
 -- Worked rows of the rules that tell a layout.
-use Rattle.std.proofs.Common.{◌≡◌, ℕ, ◌<◌, ◌⊎◌, List, [], ◌++◌, length, replicate, take, refl, inl, inr, arith, lit<}
-use Rattle.data_encoding.specs.Base.{Base}
+use Rattle.std.proofs.Common.{◌≡◌, ℕ, ◌<◌, List, length, replicate, refl, inl, inr, arith, lit<}
 use Rattle.data_encoding.specs.Layout.{layout}
 use Rattle.data_encoding.specs.OneLayout.{IsIgnoredIn, IsLayout, IsLayoutOf, TellsLines, TellsPadding, TellsWrapping, entry_in}
 use Rattle.data_encoding.specs.Predefined.{base64_mime_fields}
@@ -21,7 +20,8 @@ layout_ruled :
 layout_ruled =
     let bytes = layout (built base64_mime_fields) in
     let rules : IsLayoutOf 6 bytes =
-    (layouts bytes).0 (built base64_mime_fields, record { fields = base64_mime_fields; yields = refl }, refl)
+    (layouts bytes).0
+    (built base64_mime_fields, record { fields = base64_mime_fields; yields = refl }, refl)
     in (
       refl,
       (lit< tt, refl),

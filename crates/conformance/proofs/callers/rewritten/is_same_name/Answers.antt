@@ -19,12 +19,14 @@ pub returns-then-ne : goal.returns-then-ne
 returns-then-ne c = λ base bytes others is.
     let encoding = c.base32_dnssec-encoding.result in
     let laws = c.translated.ensures in
-    let apart : c.interpret_byte.result ≡ c.interpret_byte-in-loop-i.result → ⊥ = λ h. search rules in
+    let apart : c.interpret_byte.result ≡ c.interpret_byte-in-loop-i.result → ⊥ =
+    λ h. search rules in
     same_name base is c.one_meaning.ensures laws.same laws.own_form laws.own_forms
     encoding c.base32_dnssec-encoding.ensures c.args.one.now c.args.other.now false (
       (λ h. absurd (false≢true h)),
       (λ same. absurd (apart (c.interpret_byte.ensures ∙
-          one_alike encoding c.args.one.now c.args.other.now c.loop-i.i (omega arith) c.if-one-other.false same
+          one_alike encoding c.args.one.now c.args.other.now c.loop-i.i (omega arith)
+          c.if-one-other.false same
           ∙ sym c.interpret_byte-in-loop-i.ensures))),
     )
     bytes others
@@ -32,7 +34,8 @@ returns-then-ne c = λ base bytes others is.
 pub loop-i-preserved : goal.loop-i-preserved
 loop-i-preserved c =
     let same : c.interpret_byte.result ≡ c.interpret_byte-in-loop-i.result = search rules in
-    more_alike c.base32_dnssec-encoding.result c.args.one.now c.args.other.now c.loop-i.i (omega arith)
+    more_alike c.base32_dnssec-encoding.result c.args.one.now c.args.other.now c.loop-i.i
+    (omega arith)
     c.if-one-other.false c.loop-i.invariant
     (sym c.interpret_byte.ensures ∙ same ∙ c.interpret_byte-in-loop-i.ensures)
 

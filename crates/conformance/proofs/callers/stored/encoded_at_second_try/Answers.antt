@@ -59,6 +59,7 @@ returns-in-Ok-finalize c =
     ∙ c.new_encoder-encoder.ensures.base in
     let whole =
     text
-    ∙ ap (λ base. string_bytes c.args.output.now ++ text_of base (c.args.one.now ++ c.args.other.now))
+    ∙ ap (λ base. string_bytes c.args.output.now
+    ++ text_of base (c.args.one.now ++ c.args.other.now))
     base in
     search rules
