@@ -189,7 +189,8 @@ module _ (name : List ℕ) (base : Base) (known : IsNamed name base) where
       → Done (codes "canonical" ∷ name ∷ []) old new (Some []) (Some line)
       → TellsCanonical base line
   canonical_told old new line done =
-      subst (TellsCanonical base) (sym done.written) (fulfilled_told old new done.output done.fulfils)
+      subst (TellsCanonical base) (sym done.written)
+      (fulfilled_told old new done.output done.fulfils)
 
 -- and a line is read as it was told
 pub line_read : (base : Base) (line : List ℕ) → TellsCanonical base line

@@ -12,7 +12,8 @@ use Rattle.conformance.proofs.YieldLemmas.{same_yield}
 -- what is so of one base is so of each that the fields have
 pub yields-seen : (P : Base → Type 0) (fields : Fields) (seen : Base)
     → base_of fields ≡ Ok seen → P seen → Yields P fields
-yields-seen P fields seen is h base other = subst P (same_yield (base_of fields) seen base is other) h
+yields-seen P fields seen is h base other =
+    subst P (same_yield (base_of fields) seen base is other) h
 
 -- There is a base, and it is so.
 abbrev pub IsOfBase : (Base → Type 0) → Result Base Refusal → Type 0

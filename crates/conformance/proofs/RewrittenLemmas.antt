@@ -164,7 +164,8 @@ module _ (f : ℕ → ℕ) where
       → set now index byte ≡ exchanged_to (index + 1) xs
   exchanged-more now xs index byte same inside is =
       let next : suc index ≡ index + 1 = omega arith in
-      (λ i. set (same i) index ((is ∙ ap (λ l. f (get_or l index 0)) same) i)) ∙ one_more index xs inside
+      (λ i. set (same i) index ((is ∙ ap (λ l. f (get_or l index 0)) same) i))
+      ∙ one_more index xs inside
       ∙ ap (λ n. exchanged_to n xs) next
 
   pub exchanged-all : (index : ℕ) (xs : List ℕ) → length xs ≤ index

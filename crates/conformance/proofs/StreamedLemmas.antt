@@ -27,7 +27,8 @@ handed-on before old new buffer output appends is =
     ∙ ap (λ l. before ++ l) (sym appends.decoded)
 
 -- what holds of a text without a fault holds where the verdict is Ok
-pub no-fault-ok : (P : Type 0) (fault : Option DecodeError) (verdict : Result (Unit {0}) DecodeError)
+pub no-fault-ok : (P : Type 0) (fault : Option DecodeError)
+    (verdict : Result (Unit {0}) DecodeError)
     → verdict ≡ verdict_of fault → (fault ≡ None → P) → OnOk verdict P
 no-fault-ok P None verdict is holds = subst (λ v. OnOk v P) (sym is) (holds refl)
 no-fault-ok P (Some error) verdict is holds = subst (λ v. OnOk v P) (sym is) tt

@@ -28,7 +28,8 @@ returns-in-Err-Error-clause-some c =
     c.base64url_nopad.result c.base64url_nopad.ensures (
       (λ never. absurd (false≢true never)),
       (λ found. ⊎_elim (λ none. none)
-          (λ memory. absurd (no_error c.decode.result c.in-Err-Error.field-0 c.in-Err-Error.field-0-0
-          c.in-Err-Error.field-0-is c.in-Err-Error.is (c.in-Err-Error.is ∙ memory)))
+          (λ memory. absurd (no_error c.decode.result c.in-Err-Error.field-0
+          c.in-Err-Error.field-0-0 c.in-Err-Error.field-0-is c.in-Err-Error.is
+          (c.in-Err-Error.is ∙ memory)))
           (c.in-Err-Error.ensures.accepted found.0 found.1)),
     )
