@@ -1,4 +1,5 @@
 -- Faults, and how far a text is decoded.
+pub mod EightGroupLemmas
 pub mod TrailingBitLemmas
 pub mod GroupJudgementLemmas
 pub mod RoomLemmas

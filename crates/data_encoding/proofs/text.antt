@@ -10,7 +10,7 @@ pub mod BlockLemmas
 pub mod WrittenLemmas
 pub mod PlainLoopLemmas
 pub mod PlainRestLemmas
-pub mod FourGroupLemmas
+pub mod EightGroupLemmas
 pub mod SymbolMeaningLemmas
 pub mod ExchangeLemmas
 pub mod KeptTextLemmas

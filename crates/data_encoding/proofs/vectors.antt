@@ -7,3 +7,4 @@ mod Meanings
 mod Steps
 mod Compared
 mod SameMeanings
+mod Lanes

@@ -1,5 +1,6 @@
 -- One text for the same data, and what gives it a second one.
 use Rattle.std.specs.Prelude.{◌≡◌, ℕ, ◌-◌, ◌≤◌, ◌/◌, ◌==◌, Bool, true, false, not, ◌&&◌, List, [], ◌∷◌, ◌++◌, length, take, replicate, Some}
+use Rattle.data_encoding.specs.declared.decode.TheConstants.{DECODE_LIMIT}
 use Rattle.data_encoding.specs.declared.encoding.BitOrder.{BitOrder}
 use Rattle.data_encoding.specs.declared.encoding.Character.TheVariants.{Symbol, Padding}
 use Rattle.data_encoding.specs.Base.{Base, meaning, symbol, is_ignored, is_padded, ignores_some, group_symbols}
@@ -13,7 +14,7 @@ use Rattle.data_encoding.specs.Text.{padded_text, text_of, with_padding}
 abbrev pub IsCanonical : Base → Type 0
 IsCanonical base =
     (text other bytes : List ℕ)
-    → length text ≤ 2305843009213693951 → length other ≤ 2305843009213693951
+    → length text ≤ DECODE_LIMIT → length other ≤ DECODE_LIMIT
     → Means base text bytes → Means base other bytes → text ≡ other
 
 -- no cause of a second text: trailing bits that are not checked, padding where texts may be

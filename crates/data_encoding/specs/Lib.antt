@@ -30,3 +30,5 @@ pub mod Eighteen
 pub mod Compared
 pub mod Tight
 pub mod FaultStays
+pub mod Lanes
+pub mod Values

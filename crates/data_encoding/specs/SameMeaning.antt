@@ -54,6 +54,12 @@ OwnForms =
     → (text other bytes others : List ℕ) → Means base text bytes → Means base other others
     → (bytes ≡ others) ↔ (own_form base text ≡ own_form base other)
 
+-- And the own form of a text that means data is the text of the data.
+abbrev pub OwnText : Type 0
+OwnText =
+    (base : Base) → IsSpecified base → has_one_own_form base ≡ true
+    → (text bytes : List ℕ) → Means base text bytes → own_form base text ≡ text_of base bytes
+
 -- The bases have the same width, bit order and lines, and both have padding or neither.
 pub record DifferInSymbols (base other : Base) : Type 0 where
   pub width : base.width ≡ other.width

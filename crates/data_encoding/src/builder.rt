@@ -1,13 +1,9 @@
 //! How a specification becomes an encoding: each byte is given its meaning in turn.
 
-ghost use Rattle.std.specs.Prelude.{◌≡◌, ◌/◌, ◌%◌, ◌^◌, ◌==◌, ◌||◌, ◌<◌, ◌≤◌, List, [], length, take, map, replicate, zip, slice_index_or, if◌then◌else◌, is_none, IfOk, OnOk, IfErr, IfSome, IsTrue, Ok, Err, Some, None};
+ghost use Rattle.std.specs.Prelude.{◌≡◌, ◌/◌, ◌%◌, ◌^◌, ◌==◌, ◌||◌, ◌<◌, [], length, replicate, if◌then◌else◌, is_none, IfOk, IfErr, IfSome, IsTrue, Ok, Err, Some, None};
 ghost use Rattle.std.specs.List.{concat};
-ghost use Rattle.data_encoding.specs.declared.encoding.Character.TheVariants.{Invalid};
 ghost use Rattle.data_encoding.specs.Base.{IsWidth};
-ghost use Rattle.data_encoding.specs.Encoding.{wrapping_by};
-ghost use Rattle.data_encoding.specs.Entries.{meaning_of_entry, is_entry_of, HoldsEntries};
-ghost use Rattle.data_encoding.specs.Fields.{Fields, base_of, base_by, defined, ignored_judgements, judgements, meanings_after, no_meanings, padding_judgements, symbol_judgements, translated, translation_judgements, width_of, wrapping_judgements, wraps};
-ghost use Rattle.data_encoding.specs.Predefined.{symbols_alone};
+ghost use Rattle.data_encoding.specs.Fields.{Fields, base_of, base_by, judgements, meanings_after, no_meanings, width_of, wraps};
 ghost use Rattle.data_encoding.specs.Specification.{fields_of_parts};
 
 use crate::encoding::{BitOrder, Encoding};
@@ -30,26 +26,6 @@ pub(crate) struct Parts<'a> {
     pub(crate) separator: &'a [u8],
     pub(crate) from: &'a [u8],
     pub(crate) to: &'a [u8],
-}
-
-impl<'a> Parts<'a> {
-    // Symbols alone: unpadded, with nothing ignored, translated or wrapped.
-    pub(crate) fn alone(symbols: &'a [u8], order: BitOrder, check: bool) -> Parts<'a>
-        ensures { fields_of_parts result ≡ symbols_alone symbols.now order check }
-    {
-        Parts {
-            symbols,
-            order,
-            check,
-            concatenate: true,
-            padding: None,
-            ignored: b"",
-            column: 0,
-            separator: b"",
-            from: b"",
-            to: b"",
-        }
-    }
 }
 
 // The number of bits of one of so many symbols, where one has none.
@@ -83,8 +59,7 @@ fn repeated(symbols: &[u8], width: u8) -> [u8; 256]
     let mut filled = symbols.len();
     table[..filled].copy_from_slice(symbols);
     for _ in width..8 {
-        let front = table;
-        table[filled..2 * filled].copy_from_slice(&front[..filled]);
+        table.copy_within(..filled, filled);
         filled *= 2;
     }
     table

@@ -1,9 +1,8 @@
 //! From text to data.
 
-ghost use Rattle.std.specs.Prelude.{◌≡◌, ℕ, List, true, false, ◌+◌, ◌-◌, ◌*◌, ◌/◌, ◌<◌, ◌≤◌, ◌⊎◌, length, take, drop, None, Some, Ok, Err, IfOk, IfErr, IfSome, IsOk, IsOkAnd, IsTrue};
-ghost use Rattle.data_encoding.specs.Base.{IsWidth};
-ghost use Rattle.data_encoding.specs.Decoding.{HasNoLastRun, HasRoom, HasStopped, IsDecoded, IsGathered, IsLastRun, IsRun, IsStop, fault_of_stop};
-ghost use Rattle.data_encoding.specs.Fault.{IsRefusal, fault_of, position_of, sound_bytes};
+ghost use Rattle.std.specs.Prelude.{◌≡◌, ℕ, List, true, ◌+◌, ◌-◌, ◌*◌, ◌/◌, ◌<◌, ◌≤◌, ◌⊎◌, length, take, drop, None, Some, Ok, Err, IfOk, IfErr, IfSome, IsOk, IsOkAnd};
+ghost use Rattle.data_encoding.specs.Decoding.{HasNoLastRun, HasRoom, IsLastRun, IsStop, fault_of_stop};
+ghost use Rattle.data_encoding.specs.Fault.{IsRefusal, fault_of, sound_bytes};
 ghost use Rattle.data_encoding.specs.Grammar.{Means, kept};
 ghost use Rattle.data_encoding.specs.Lengths.{decoded_len};
 ghost use Rattle.data_encoding.specs.Partial.{is_length_fault, partial_of};
@@ -11,9 +10,7 @@ ghost use Rattle.data_encoding.specs.Tables.{IsGroup};
 
 use crate::encoding::Encoding;
 use crate::error::{DecodeError, DecodeFault, DecodeKind, DecodePartial};
-use crate::group::GroupFault;
 use crate::memory::zeros;
-use crate::run::decode_run;
 use std::alloc::Global;
 
 /// The greatest length of a text that is decoded in one call, in bytes.

@@ -1,16 +1,16 @@
 //! From data to text.
 
-ghost use Rattle.std.specs.Prelude.{◌≡◌, All, ℕ, ◌<◌, ◌+◌, ◌-◌, ◌*◌, ◌/◌, ◌≤◌, List, ◌++◌, length, drop, replicate, IfOk, IsOk, IsSome};
+ghost use Rattle.std.specs.Prelude.{◌≡◌, All, ℕ, ◌<◌, ◌+◌, ◌-◌, ◌*◌, ◌/◌, ◌≤◌, List, ◌++◌, length, drop, IfOk, IsOk, IsSome};
 ghost use Rattle.std.specs.String.{string_bytes};
-ghost use Rattle.data_encoding.specs.Base.{Base, IsWidth, group_bytes, group_symbols};
+ghost use Rattle.data_encoding.specs.Base.{IsWidth, group_bytes, group_symbols};
 ghost use Rattle.data_encoding.specs.Fields.{IsSpecified};
 ghost use Rattle.data_encoding.specs.Lengths.{alignment};
 ghost use Rattle.data_encoding.specs.Tables.{IsGroup, Writes};
 ghost use Rattle.data_encoding.specs.Text.{padded_text, plain_text, text_of};
 
 use crate::encoding::{BitOrder, Encoding, group_bytes};
+use crate::kernel::encode::encode_plain;
 use crate::memory::zeros;
-use crate::plain::encode_by_fours;
 use std::alloc::{AllocError, Global};
 
 /// The greatest length of data that is encoded in one call, in bytes.
@@ -235,7 +235,7 @@ impl Encoding {
         ensures { output.new ≡ padded_text self.now input.now }
     {
         let count = self.pad::<WIDTH>(input, output);
-        encode_by_fours::<WIDTH, BYTES, SYMBOLS>(&self.symbols, order, input, &mut output[..count]);
+        encode_plain::<WIDTH, BYTES, SYMBOLS>(&self.symbols, order, input, &mut output[..count]);
     }
 
     // Writes the padding of the text to the end of `output`, and answers how many symbols come

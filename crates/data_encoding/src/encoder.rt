@@ -2,7 +2,7 @@
 
 ghost use Rattle.std.specs.Prelude.{◌≡◌, ℕ, ◌+◌, ◌<◌, ◌≤◌, List, [], ◌++◌, length, IfErr, IsOk, OnErr, OnOk};
 ghost use Rattle.std.specs.Borrow.{sem};
-ghost use Rattle.std.specs.String.{string_bytes, string_capacity};
+ghost use Rattle.std.specs.String.{string_bytes};
 ghost use Rattle.data_encoding.specs.Fragments.{HasEncoded};
 ghost use Rattle.data_encoding.specs.Lengths.{alignment};
 ghost use Rattle.data_encoding.specs.Text.{text_of};

@@ -1,6 +1,6 @@
 //! The judgement of one group of a text: its bytes, or its fault.
 
-ghost use Rattle.std.specs.Prelude.{◌≡◌, ℕ, ◌*◌, ◌/◌, ◌<◌, ◌≤◌, ◌==◌, not, true, List, length, map, take, IsTrue, slice_index, IfOk, IfErr};
+ghost use Rattle.std.specs.Prelude.{◌≡◌, ℕ, ◌*◌, ◌/◌, ◌<◌, ◌≤◌, ◌==◌, not, true, List, length, map, IsTrue, slice_index, IfOk, IfErr};
 ghost use Rattle.std.specs.List.{list_any};
 ghost use Rattle.data_encoding.specs.Base.{Base, is_padded};
 ghost use Rattle.data_encoding.specs.Decoding.{HasFault, HasSymbols, IsDecodedGroup};
@@ -9,9 +9,9 @@ ghost use Rattle.data_encoding.specs.Grammar.{Positioned, positioned};
 ghost use Rattle.data_encoding.specs.Lengths.{is_valid_count};
 ghost use Rattle.data_encoding.specs.Tables.{HoldsValues, IsGroup, Reads};
 
-use crate::bits::{decode_symbols, symbol_position};
 use crate::encoding::{BitOrder, Encoding, PADDING};
 use crate::error::DecodeKind;
+use crate::kernel::words::{decode_symbols, symbol_position};
 
 // What is wrong with a group, and with which of its bytes.
 #[derive(Clone, Copy, Drop)]

@@ -11,7 +11,7 @@ ghost use Rattle.data_encoding.specs.Eighteen.{CanonicalByCauses, SixAreCanonica
 ghost use Rattle.data_encoding.specs.FaultStays.{FaultStays, GroupFaultStays, NoFaultBefore};
 ghost use Rattle.data_encoding.specs.Tight.{LengthAgain, LengthOfText, MeansMost};
 ghost use Rattle.data_encoding.specs.Verdicts.{FixedLength, Injective, MeansSound};
-ghost use Rattle.data_encoding.specs.SameMeaning.{OwnForm, OwnForms, SameButSymbols, SameKeptBytes, Translated};
+ghost use Rattle.data_encoding.specs.SameMeaning.{OwnForm, OwnForms, OwnText, SameButSymbols, SameKeptBytes, Translated};
 
 pub mod steps;
 
@@ -136,11 +136,12 @@ pub fn same_kept_bytes()
 /// So a translated byte may be replaced by the symbol or the padding character that it stands for,
 /// which means the same. Where translated bytes are all that keeps an encoding from being
 /// canonical, two texts that mean data mean the same data exactly where they are equal with each
-/// byte so replaced.
+/// byte so replaced, and a text is the text of its data then.
 pub fn translated()
     ensures same { Translated }
     ensures own_form { OwnForm }
     ensures own_forms { OwnForms }
+    ensures text { OwnText }
 {}
 
 /// Of an encoding that a specification yields, and of another that differs from it in its symbols

@@ -6,7 +6,6 @@
 #![tactic(auto)]
 
 mod append;
-mod bits;
 mod builder;
 mod canonical;
 mod decode;
@@ -17,15 +16,13 @@ mod entries;
 mod error;
 mod gather;
 mod group;
-mod lanes;
+mod kernel;
 pub mod laws;
 mod layout;
 mod length;
 mod meanings;
 mod memory;
-mod plain;
 mod predefined;
-mod run;
 mod spec;
 mod step;
 mod write;

@@ -1,14 +1,11 @@
 //! What each byte means while a specification is judged.
 
-ghost use Rattle.std.specs.Prelude.{◌≡◌, ◌/◌, ◌%◌, ◌^◌, ◌==◌, ◌||◌, ◌<◌, ◌≤◌, List, [], length, take, map, replicate, zip, slice_index_or, if◌then◌else◌, is_none, IfOk, OnOk, IfErr, IfSome, IsTrue, Ok, Err, Some, None};
-ghost use Rattle.std.specs.List.{concat, list_any};
+ghost use Rattle.std.specs.Prelude.{◌≡◌, ◌/◌, ◌%◌, ◌==◌, ◌||◌, ◌<◌, ◌≤◌, List, length, take, map, slice_index_or, OnOk, IfErr, IsTrue, Ok, Err, Some};
+ghost use Rattle.std.specs.List.{list_any};
 ghost use Rattle.data_encoding.specs.declared.encoding.Character.TheVariants.{Invalid};
 ghost use Rattle.data_encoding.specs.Base.{IsWidth, is_ignored};
-ghost use Rattle.data_encoding.specs.Encoding.{wrapping_by};
 ghost use Rattle.data_encoding.specs.Entries.{meaning_of_entry, is_entry_of, HoldsEntries};
-ghost use Rattle.data_encoding.specs.Fields.{Fields, base_of, base_by, defined, ignored_judgements, judgements, meanings_after, no_meanings, padding_judgements, symbol_judgements, translated, translation_judgements, width_of, wrapping_judgements, wraps};
-ghost use Rattle.data_encoding.specs.Predefined.{symbols_alone};
-ghost use Rattle.data_encoding.specs.Specification.{fields_of_parts};
+ghost use Rattle.data_encoding.specs.Fields.{defined, ignored_judgements, meanings_after, no_meanings, padding_judgements, symbol_judgements, translated, translation_judgements, wrapping_judgements, wraps};
 
 use crate::encoding::{IGNORED, INVALID, PADDING, group_symbols};
 use std::marker::Model;

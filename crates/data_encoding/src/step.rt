@@ -10,7 +10,7 @@ ghost use Rattle.data_encoding.specs.Tables.{IsGroup};
 use crate::decode::{DECODE_LIMIT, Stop};
 use crate::encoding::{BitOrder, Encoding};
 use crate::error::DecodeKind;
-use crate::run::decode_run;
+use crate::kernel::decode::decode_run;
 
 // How a step ended.
 #[derive(Clone, Copy, Drop)]

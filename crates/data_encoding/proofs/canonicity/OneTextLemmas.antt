@@ -212,7 +212,12 @@ module _ (base : Base) (ruled : IsRuled base) where
       sym (own_form-itself base ruled none text)
       ∙ own_text base ruled (parts_of base parts.0) text bytes means
 
-  -- the law of own forms
+  -- the law of own forms of texts
+  pub own_form-text : has_one_own_form base ≡ true → (text bytes : List ℕ)
+      → Means base text bytes → own_form base text ≡ text_of base bytes
+  own_form-text h = own_text base ruled (parts_of base h)
+
+  -- and of two
   pub own_forms : has_one_own_form base ≡ true → (text other bytes others : List ℕ)
       → Means base text bytes → Means base other others
       → (bytes ≡ others) ↔ (own_form base text ≡ own_form base other)

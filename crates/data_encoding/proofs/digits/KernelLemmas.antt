@@ -74,7 +74,7 @@ run_count-most size n count h k =
     omega arith
 
 -- the lowest bits of a byte
-lowest_bits : (n width : ℕ) → width ≤ 8 → n % 2 ^ 8 % 2 ^ width ≡ n % 2 ^ width
+pub lowest_bits : (n width : ℕ) → width ≤ 8 → n % 2 ^ 8 % 2 ^ width ≡ n % 2 ^ width
 lowest_bits n width h =
     let whole : 8 - width + width ≡ 8 = omega arith in
     ap (λ m. n % 2 ^ m % 2 ^ width) (sym whole) ∙ mod-mod-pow n (8 - width) width

@@ -6,6 +6,7 @@ use Rattle.std.specs.Prelude.{flat_map}
 use Rattle.std.specs.List.{AllByRecursion, range_with_len}
 use Rattle.std.specs.Simd.Lanes.{number_l, digits_l, sel_l}
 use Rattle.data_encoding.specs.declared.encoding.BitOrder.{BitOrder}
+use Rattle.data_encoding.specs.Lanes.{digits_of}
 use Rattle.data_encoding.specs.Words.{digit, weight}
 use Rattle.data_encoding.proofs.digits.BitLemmas.{length-pieces}
 use Rattle.data_encoding.proofs.lists.EachLemmas.{all_joined}
@@ -54,15 +55,27 @@ pub all_pieces : {X Y : Type 0} (P : Y → Type 0) (f : X → List Y) (xs : List
 all_pieces P f [] h = tt
 all_pieces P f (x ∷ xs) h = all_joined P (f x) (flat_map f xs) (h x) (all_pieces P f xs h)
 
--- wide lanes, each of four bytes, as bytes
-pub bytes-of-wide : (f : ℕ → List ℕ) (ws : List ℕ) → length ws ≡ 4
-    → ((w : ℕ) → length (f w) ≡ 4) → ((w : ℕ) → AllByRecursion (λ x. x < 256) (f w))
-    → digits_l 256 16 (number_l 4294967296 (map (λ w. number_l 256 (f w)) ws)) ≡ flat_map f ws
-bytes-of-wide f ws four long small =
-    let sixteen : 16 ≡ length (flat_map f ws) =
-    sym (length-pieces 4 f ws long ∙ ap (λ n. 4 * n) four) in
-    (λ i. digits_l 256 (sixteen i) (number-of-wide 256 4 4294967296 refl f ws long i))
+-- wide lanes as their bytes
+pub bytes-of-lanes : (k q n : ℕ) → q ≡ 256 ^ k → (f : ℕ → List ℕ) (ws : List ℕ)
+    → n ≡ k * length ws → ((w : ℕ) → length (f w) ≡ k)
+    → ((w : ℕ) → AllByRecursion (λ x. x < 256) (f w))
+    → digits_l 256 n (number_l q (map (λ w. number_l 256 (f w)) ws)) ≡ flat_map f ws
+bytes-of-lanes k q n e f ws many long small =
+    let all : n ≡ length (flat_map f ws) = many ∙ sym (length-pieces k f ws long) in
+    (λ i. digits_l 256 (all i) (number-of-wide 256 k q e f ws long i))
     ∙ digits-of-number 256 (flat_map f ws) (all_pieces (λ x. x < 256) f ws small)
+
+-- what holds of each value of a function
+pub all_mapped : {X Y : Type 0} (P : Y → Type 0) (f : X → Y) (xs : List X) → ((x : X) → P (f x))
+    → AllByRecursion P (map f xs)
+all_mapped P f [] h = tt
+all_mapped P f (x ∷ xs) h = (h x, all_mapped P f xs h)
+
+pub digits_of-below : (order : BitOrder) (width count bound word : ℕ) → 2 ^ width ≤ bound
+    → AllByRecursion (λ x. x < bound) (digits_of order width count word)
+digits_of-below order width count bound word h =
+    all_mapped (λ x. x < bound) (digit order width count word) (range_with_len 0 count)
+    (λ k. omega (arith, h, mod-lt (word / 2 ^ weight order width count k) (pow_pos width)))
 
 -- what is selected lane by lane
 pub selected : {V X : Type 0} (test : V → Bool) (f g : V → X) (vs : List V)
@@ -86,10 +99,13 @@ by_four P h (a ∷ b ∷ c ∷ []) e = absurd (omega (arith, e))
 by_four P h (a ∷ b ∷ c ∷ d ∷ []) e = h a b c d
 by_four P h (a ∷ b ∷ c ∷ d ∷ x ∷ xs) e = absurd (omega (arith, e))
 
--- the digits of a word, four of six bits
-pub four_digits-below : (order : BitOrder) (bound word : ℕ) → 64 ≤ bound
-    → AllByRecursion (λ x. x < bound) (map (digit order 6 4 word) (range_with_len 0 4))
-four_digits-below order bound word h =
-    let below : (k : ℕ) → digit order 6 4 word k < bound =
-    λ k. omega (arith, h, mod-lt (word / 2 ^ weight order 6 4 k) (pow_pos 6)) in
-    (below 0, (below 1, (below 2, (below 3, tt))))
+-- what holds of any eight lanes
+pub by_eight : (P : List ℕ → Type 0)
+    → ((a b c d e f g h : ℕ) → P (a ∷ b ∷ c ∷ d ∷ e ∷ f ∷ g ∷ h ∷ [])) → (ws : List ℕ)
+    → length ws ≡ 8 → P ws
+by_eight P is [] e = absurd (omega (arith, e))
+by_eight P is (a ∷ []) e = absurd (omega (arith, e))
+by_eight P is (a ∷ b ∷ []) e = absurd (omega (arith, e))
+by_eight P is (a ∷ b ∷ c ∷ []) e = absurd (omega (arith, e))
+by_eight P is (a ∷ b ∷ c ∷ d ∷ ws) e =
+    by_four (λ l. P (a ∷ b ∷ c ∷ d ∷ l)) (is a b c d) ws (omega (arith, e))

@@ -8,19 +8,26 @@ use Rattle.data_encoding.specs.Text.{plain_text}
 use Rattle.data_encoding.proofs.lists.PartLemmas.{IsWhole, IsWhole-group, room-next, room-rest, size-rest, group-before, groups-within, one-more, length-part, length-rest}
 use Rattle.data_encoding.proofs.text.PlainGroupLemmas.{encoded-next, encoded-last}
 
--- four whole groups are as whole as one
-pub IsWhole-four : (width bytes symbols : ℕ) → IsGroup width bytes symbols
-    → IsWhole width (4 * bytes) (4 * symbols)
-IsWhole-four width bytes symbols group =
+-- eight whole groups are as whole as one
+pub IsWhole-eight : (width bytes symbols : ℕ) → IsGroup width bytes symbols
+    → IsWhole width (8 * bytes) (8 * symbols)
+IsWhole-eight width bytes symbols group =
     let one = IsWhole-group width bytes symbols group in
     record {
       is_width = one.is_width;
       same_bits =
-          mul_left_comm width 4 symbols ∙ ap (λ n. 4 * n) one.same_bits
-          ∙ sym (mul_left_comm 8 4 bytes);
+          mul_left_comm width 8 symbols ∙ ap (λ n. 8 * n) one.same_bits
+          ∙ sym (mul_left_comm 8 8 bytes);
       some_bytes = omega (arith, one.some_bytes);
       some_symbols = omega (arith, one.some_symbols);
     }
+
+-- there is room for what the next groups give
+pub next_fits : (n size width bytes symbols i : ℕ) → IsWhole width bytes symbols
+    → size ≡ (8 * n + (width - 1)) / width → i * bytes + bytes ≤ n → i * symbols + symbols ≤ size
+next_fits n size width bytes symbols i whole e h =
+    subst (λ k. i * symbols + symbols ≤ k) (sym e)
+    (room-next 8 width bytes symbols (width - 1) (sym whole.same_bits) whole.is_width.some n i h)
 
 -- Of n bytes, so many at a time, and of as many symbols.
 pub record Fits (n size width bytes symbols : ℕ) : Type 0 where

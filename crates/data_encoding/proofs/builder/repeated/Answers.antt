@@ -1,26 +1,24 @@
-use Rattle.std.proofs.Common.{◌≡◌, ◌+◌, ◌-◌, ◌*◌, ◌^◌, ◌≤◌, ◌++◌, length, length-take-le, replicate, suc, sym, take, ap, ◌∙◌, arith}
+use Rattle.std.proofs.Common.{◌≡◌, ◌+◌, ◌-◌, ◌*◌, ◌^◌, ◌≤◌, ◌++◌, length, replicate, suc, sym, take, ap, ◌∙◌, arith}
 use Rattle.std.proofs.Math.Nat.{pow-succ'}
 use Rattle.std.proofs.Math.Pow.{pow_mono}
 use Rattle.std.proofs.lemmas.List.{take_all}
-use Rattle.std.proofs.lemmas.Slice.{take-put_mid}
+use Rattle.std.proofs.lemmas.List.Edits.{take-paste}
 use Rattle.std.specs.List.{concat}
+use lib.Seq.{paste}
 use Rattle.data_encoding.proofs.digits.WidthLemmas.{times_doubled}
 use Rattle.data_encoding.proofs.lists.RepeatLemmas.{repeats-add}
-use Rattle.data_encoding.proofs.lists.WriteLemmas.{length-put_mid}
 use Rattle.data_encoding.proofs.builder.repeated.Goals as goal
 
 pub loop-preserved : goal.loop-preserved
 loop-preserved c =
     let table = c.loop.table in
     let filled = c.loop.filled in
-    let copied = c.copy_from_slice-in-loop.new.self in
+    let copied = c.copy_within.new.self in
     let symbols = c.args.symbols.now in
     let before : c.loop.counter ≤ 7 = omega arith in
     let few : 2 ^ c.loop.counter ≤ 2 ^ 7 = pow_mono before in
-    let room : filled ≤ 128 = omega (arith, few, c.loop.invariant.filled) in
-    let is : copied ≡ take filled table = c.copy_from_slice-in-loop.ensures.after in
-    let long : length copied ≡ filled =
-    ap length is ∙ length-take-le filled table (omega (arith, room, c.loop.invariant.long)) in
+    let room : filled ≤ length table =
+    omega (arith, few, c.loop.invariant.filled, c.loop.invariant.long) in
     let next : suc c.loop.counter ≡ c.loop.counter + 1 = omega arith in
     let double : 2 ^ (c.loop.counter + 1) ≡ 2 * 2 ^ c.loop.counter =
     ap (λ n. 2 ^ n) (sym next) ∙ pow-succ' 2 c.loop.counter in
@@ -29,14 +27,14 @@ loop-preserved c =
     omega arith in
     let twice : times + times ≡ 2 ^ (c.loop.counter + 1 - c.args.width) =
     omega (arith, pow-succ' 2 (c.loop.counter - c.args.width), ap (λ n. 2 ^ n) later) in
+    let whole : filled - 0 ≡ filled = omega arith in
     record {
-      long = length-put_mid filled (2 * filled - filled) table copied
-          (omega (arith, room, c.loop.invariant.long)) (omega (arith, long))
-          ∙ c.loop.invariant.long;
+      long = c.copy_within.ensures.len ∙ c.loop.invariant.long;
       filled = omega (arith, double, c.loop.invariant.filled);
-      front = take-put_mid filled (2 * filled - filled) table copied (filled * 2)
-          (omega (arith, long)) (omega (arith, room, c.loop.invariant.long))
-          ∙ ap (λ l. take filled table ++ l) is
+      front = ap (λ n. take n copied) (omega arith)
+          ∙ ap (take (filled + filled)) c.copy_within.ensures.after
+          ∙ ap (λ n. take (filled + filled) (paste table filled table n)) whole
+          ∙ take-paste table filled table filled room room
           ∙ (λ i. c.loop.invariant.front i ++ c.loop.invariant.front i)
           ∙ sym (repeats-add times times symbols)
           ∙ ap (λ n. concat (replicate n symbols)) twice;

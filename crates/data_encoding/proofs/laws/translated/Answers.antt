@@ -1,4 +1,4 @@
-use Rattle.data_encoding.proofs.canonicity.OneTextLemmas.{own_forms}
+use Rattle.data_encoding.proofs.canonicity.OneTextLemmas.{own_form-text, own_forms}
 use Rattle.data_encoding.proofs.canonicity.OwnTextLemmas.{own_form-meaning}
 use Rattle.data_encoding.proofs.grammar.SameMeaningLemmas.{fault_of-translated, Means-translated}
 use Rattle.data_encoding.proofs.specification.RuleLemmas.{IsRuled-yield}
@@ -18,3 +18,7 @@ returns-clause-own_form c = λ base is.
 pub returns-clause-own_forms : goal.returns-clause-own_forms
 returns-clause-own_forms c = λ base is.
     own_forms base (IsRuled-yield is.fields base is.yields)
+
+pub returns-clause-text : goal.returns-clause-text
+returns-clause-text c = λ base is.
+    own_form-text base (IsRuled-yield is.fields base is.yields)

@@ -13,5 +13,5 @@ returns g c =
     let writes = subst (Writes seen e.symbols g.row.WIDTH) order
     (Writes-tables e c.self.invariant seen c.self.view_is g.row.WIDTH width) in
     ap (λ l. l ++ drop c.pad-count.result c.pad-count.new.output)
-    (c.encode_by_fours.ensures seen writes)
+    (c.encode_plain.ensures seen writes)
     ∙ sym c.pad-count.ensures.padding

@@ -1,0 +1,7 @@
+use Rattle.data_encoding.specs.Decoding.{IsRunBy}
+use Rattle.data_encoding.proofs.kernel.decode.decode_groups.Given as goal
+
+abbrev pub invariant-loop-index : goal.invariant-loop-index
+invariant-loop-index g l = record {
+  run : IsRunBy l.values g.row.WIDTH l.order l.input l.index l.fn.output l.output;
+}

@@ -1,0 +1,28 @@
+use Rattle.std.proofs.Common.{◌+◌, ◌*◌, ◌^◌, ◌<◌, take, slice_index, sym, ap, ◌∙◌, arith}
+use Rattle.std.proofs.lemmas.List.{take_more, length-take-le}
+use Rattle.data_encoding.specs.Words.{word_of}
+use Rattle.data_encoding.proofs.digits.WordLemmas.{word_of-nil, word_of-more, term}
+use Rattle.data_encoding.proofs.kernel.words.word_of_bytes.Goals as goal
+
+pub loop-index-init : goal.loop-index-init
+loop-index-init g c = record {
+  so_far = sym (word_of-nil c.args.order 8 g.row.BYTES);
+  small = omega arith;
+}
+
+pub loop-index-preserved : goal.loop-index-preserved
+loop-index-preserved g c =
+    let index = c.loop-index.index in
+    let input = c.args.input.now in
+    let byte = slice_index input index in
+    let below : byte < 256 = (c.type_inv.input index).fits in
+    let added = term byte c.weight_at.result below (omega arith) in
+    record {
+      so_far = (λ i. c.loop-index.invariant.so_far i + added.whole i)
+          ∙ ap (λ w. word_of c.args.order 8 g.row.BYTES (take index input) + byte * 2 ^ w)
+          c.weight_at.ensures.weight
+          ∙ sym (word_of-more c.args.order 8 g.row.BYTES index (take index input) byte
+          (length-take-le index input (omega arith)) (omega arith) below)
+          ∙ ap (word_of c.args.order 8 g.row.BYTES) (sym (take_more input index 0 (omega arith)));
+      small = omega (arith, added.small);
+    }

@@ -1,9 +1,0 @@
-use Rattle.std.proofs.Common.{◌*◌, take}
-use Rattle.data_encoding.specs.Tables.{IsTextBy}
-use Rattle.data_encoding.proofs.plain.encode_without_lanes.Given as goal
-
-abbrev pub invariant-loop-index : goal.invariant-loop-index
-invariant-loop-index g l = record {
-  written : IsTextBy l.symbols g.row.WIDTH l.order (take (l.index * (4 * g.row.BYTES)) l.input)
-      (take (l.index * (4 * g.row.SYMBOLS)) l.output);
-}

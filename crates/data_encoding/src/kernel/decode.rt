@@ -1,0 +1,220 @@
+//! Runs of whole groups that are symbols alone, decoded without a judgement.
+
+ghost use Rattle.std.specs.Prelude.{◌≡◌, ◌*◌, ◌/◌, ◌≤◌, length, IsTrue};
+ghost use Rattle.data_encoding.specs.Decoding.{IsLongestBy, IsRunBy};
+ghost use Rattle.data_encoding.specs.Tables.{IsGroup};
+
+use crate::encoding::BitOrder;
+use crate::kernel::lanes::decode::decode_eight;
+use crate::kernel::lanes::rows::rows_of;
+use crate::kernel::words::{decode_entries, decode_symbols, entry_of};
+
+/// Decodes whole groups in a row, from the front of the input to the front of the output, up to the
+/// first that has a byte that is no symbol, and answers how many they are. What stands behind their
+/// bytes is not said.
+// Part of its caller, since a call costs more than a short text.
+#[inline(always)]
+pub(crate) fn decode_run<const WIDTH: usize, const BYTES: usize, const SYMBOLS: usize>(
+    values: &[u8; 256],
+    order: BitOrder,
+    input: &[u8],
+    output: &mut [u8],
+) -> usize
+    requires group { IsGroup WIDTH BYTES SYMBOLS }
+    requires room { length input.now / SYMBOLS * BYTES ≤ length output.old }
+    ensures run { IsRunBy values.now WIDTH order input.now result output.old output.new }
+    ensures longest { IsLongestBy values.now WIDTH order input.now result }
+    ensures within { result * SYMBOLS ≤ length input.now }
+{
+    match order {
+        BitOrder::MostSignificantFirst => decode_groups::<WIDTH, BYTES, SYMBOLS>(
+            values,
+            BitOrder::MostSignificantFirst,
+            input,
+            output,
+        ),
+        BitOrder::LeastSignificantFirst => decode_groups::<WIDTH, BYTES, SYMBOLS>(
+            values,
+            BitOrder::LeastSignificantFirst,
+            input,
+            output,
+        ),
+    }
+}
+
+// With the order as a constant, once this is part of its caller: several groups at a time, and then
+// group by group.
+#[inline(always)]
+fn decode_groups<const WIDTH: usize, const BYTES: usize, const SYMBOLS: usize>(
+    values: &[u8; 256],
+    order: BitOrder,
+    input: &[u8],
+    output: &mut [u8],
+) -> usize
+    requires group { IsGroup WIDTH BYTES SYMBOLS }
+    requires room { length input.now / SYMBOLS * BYTES ≤ length output.old }
+    ensures run { IsRunBy values.now WIDTH order input.now result output.old output.new }
+    ensures longest { IsLongestBy values.now WIDTH order input.now result }
+    ensures within { result ≤ length input.now / SYMBOLS }
+{
+    let count = input.len() / SYMBOLS;
+    let first = decode_by_several::<WIDTH, BYTES, SYMBOLS>(values, order, input, output);
+    for index in first..count {
+        let read = index * SYMBOLS;
+        let written = index * BYTES;
+        if !decode_symbols::<WIDTH, BYTES, SYMBOLS>(
+            values,
+            order,
+            &input[read..read + SYMBOLS],
+            &mut output[written..written + BYTES],
+        ) {
+            return index;
+        }
+    }
+    count
+}
+
+// By lanes, where there are eight groups, and else four at a time.
+#[inline(always)]
+fn decode_by_several<const WIDTH: usize, const BYTES: usize, const SYMBOLS: usize>(
+    values: &[u8; 256],
+    order: BitOrder,
+    input: &[u8],
+    output: &mut [u8],
+) -> usize
+    requires group { IsGroup WIDTH BYTES SYMBOLS }
+    requires room { length input.now / SYMBOLS * BYTES ≤ length output.old }
+    ensures run { IsRunBy values.now WIDTH order input.now result output.old output.new }
+    ensures within { result ≤ length input.now / SYMBOLS }
+{
+    let eight = 8 * SYMBOLS;
+    if input.len() < eight {
+        return decode_by_fours::<WIDTH, BYTES, SYMBOLS>(values, order, input, output);
+    }
+    decode_by_lanes::<WIDTH, BYTES, SYMBOLS>(values, order, input, output)
+}
+
+// With the order as a constant again. Not inlined, so that short texts do not pay for the room that
+// lanes take.
+#[inline(never)]
+fn decode_by_lanes<const WIDTH: usize, const BYTES: usize, const SYMBOLS: usize>(
+    values: &[u8; 256],
+    order: BitOrder,
+    input: &[u8],
+    output: &mut [u8],
+) -> usize
+    requires group { IsGroup WIDTH BYTES SYMBOLS }
+    requires room { length input.now / SYMBOLS * BYTES ≤ length output.old }
+    ensures run { IsRunBy values.now WIDTH order input.now result output.old output.new }
+    ensures within { result ≤ length input.now / SYMBOLS }
+{
+    match order {
+        BitOrder::MostSignificantFirst => decode_by_eights::<WIDTH, BYTES, SYMBOLS>(
+            values,
+            BitOrder::MostSignificantFirst,
+            input,
+            output,
+        ),
+        BitOrder::LeastSignificantFirst => decode_by_eights::<WIDTH, BYTES, SYMBOLS>(
+            values,
+            BitOrder::LeastSignificantFirst,
+            input,
+            output,
+        ),
+    }
+}
+
+// Eight groups at a time, by lanes; the eight with a byte that is no symbol are left.
+#[inline(always)]
+fn decode_by_eights<const WIDTH: usize, const BYTES: usize, const SYMBOLS: usize>(
+    values: &[u8; 256],
+    order: BitOrder,
+    input: &[u8],
+    output: &mut [u8],
+) -> usize
+    requires group { IsGroup WIDTH BYTES SYMBOLS }
+    requires room { length input.now / SYMBOLS * BYTES ≤ length output.old }
+    ensures run { IsRunBy values.now WIDTH order input.now result output.old output.new }
+    ensures within { result ≤ length input.now / SYMBOLS }
+{
+    let count = input.len() / SYMBOLS / 8;
+    // Padded groups may follow one another: then the eight are not decoded in vain.
+    if 8 % WIDTH != 0 && count != 0 && entry_of(values, input[8 * SYMBOLS - 1]) >= 128 {
+        return 0;
+    }
+    let rows = rows_of(values);
+    for index in 0..count {
+        let read = 8 * index * SYMBOLS;
+        let written = 8 * index * BYTES;
+        if !decode_eight::<WIDTH, BYTES, SYMBOLS>(
+            &rows,
+            order,
+            &input[read..read + 8 * SYMBOLS],
+            &mut output[written..written + 8 * BYTES],
+        ) {
+            return 8 * index;
+        }
+    }
+    8 * count
+}
+
+// Four groups at a time, tested together; the four with a byte that is no symbol are left.
+#[inline(always)]
+fn decode_by_fours<const WIDTH: usize, const BYTES: usize, const SYMBOLS: usize>(
+    values: &[u8; 256],
+    order: BitOrder,
+    input: &[u8],
+    output: &mut [u8],
+) -> usize
+    requires group { IsGroup WIDTH BYTES SYMBOLS }
+    requires room { length input.now / SYMBOLS * BYTES ≤ length output.old }
+    ensures run { IsRunBy values.now WIDTH order input.now result output.old output.new }
+    ensures within { result ≤ length input.now / SYMBOLS }
+{
+    let count = input.len() / SYMBOLS / 4;
+    // Padded groups may follow one another: then the four are not decoded in vain.
+    if 8 % WIDTH != 0 && count != 0 && entry_of(values, input[4 * SYMBOLS - 1]) >= 128 {
+        return 0;
+    }
+    for index in 0..count {
+        let read = 4 * index * SYMBOLS;
+        let written = 4 * index * BYTES;
+        if !decode_four_groups::<WIDTH, BYTES, SYMBOLS>(
+            values,
+            order,
+            &input[read..read + 4 * SYMBOLS],
+            &mut output[written..written + 4 * BYTES],
+        ) {
+            return 4 * index;
+        }
+    }
+    4 * count
+}
+
+// Four whole groups; `false`, and any bytes, where some byte of the input is no symbol.
+#[inline(always)]
+fn decode_four_groups<const WIDTH: usize, const BYTES: usize, const SYMBOLS: usize>(
+    values: &[u8; 256],
+    order: BitOrder,
+    input: &[u8],
+    output: &mut [u8],
+) -> bool
+    requires group { IsGroup WIDTH BYTES SYMBOLS }
+    requires symbols { length input.now ≡ 4 * SYMBOLS }
+    requires exact { length output.old ≡ 4 * BYTES }
+    ensures { IsTrue result
+        → IsRunBy values.now WIDTH order input.now 4 output.old output.new }
+{
+    let mut all = 0;
+    for index in 0..4 {
+        let read = index * SYMBOLS;
+        let written = index * BYTES;
+        all |= decode_entries::<WIDTH, BYTES, SYMBOLS>(
+            values,
+            order,
+            &input[read..read + SYMBOLS],
+            &mut output[written..written + BYTES],
+        );
+    }
+    all < 128
+}
