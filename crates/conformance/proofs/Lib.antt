@@ -1,3 +1,4 @@
+pub mod LineLemmas
 pub mod OrderLemmas
 pub mod NameLemmas
 pub mod FaultLemmas
@@ -5,3 +6,4 @@ pub mod YieldLemmas
 pub mod StreamedLemmas
 pub mod RewrittenLemmas
 pub mod ResumedLemmas
+pub mod LowerLemmas

@@ -20,11 +20,11 @@ use Rattle.data_encoding.specs.SameMeaning.{DifferInSymbols, OwnForm, OwnForms, 
 use Rattle.conformance.proofs.YieldLemmas.{same_yield}
 
 -- what is known of the base of some fields is computed
-abbrev got : {X : Type 0} → (Base → X) → X → Result Base Refusal → X
+abbrev pub got : {X : Type 0} → (Base → X) → X → Result Base Refusal → X
 got f otherwise (Ok base) = f base
 got f otherwise (Err refusal) = otherwise
 
-known : {X : Type 0} (f : Base → X) (otherwise : X) (fields : Fields) (base : Base)
+pub known : {X : Type 0} (f : Base → X) (otherwise : X) (fields : Fields) (base : Base)
     → base_of fields ≡ Ok base → f base ≡ got f otherwise (base_of fields)
 known f otherwise fields base is = sym (ap (got f otherwise) is)
 

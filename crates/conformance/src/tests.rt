@@ -14,6 +14,8 @@ mod encoding;
 mod ignored;
 mod judge;
 mod judged;
+mod lanes_decoded;
+mod lanes_encoded;
 mod layouts;
 mod names;
 mod order;

@@ -1,7 +1,7 @@
 //! From a reader of text to a writer of data.
 
 ghost use Rattle.std.specs.Prelude.{◌≡◌, ℕ, ◌≤◌, ◌↔◌, List, length, false, Err, IfSome, IsTrue, None, OnOk, Some};
-ghost use Rattle.std.specs.Io.KnownBytes.{Appends, IsAtEnd};
+ghost use Rattle.std.specs.Io.KnownBytes.{IsAtEnd};
 ghost use Rattle.data_encoding.specs.Fault.{fault_of};
 ghost use Rattle.encoding_stream.specs.Decoded.{answer_of, DecodesAll, DecodesFront, EndsText};
 ghost use Rattle.encoding_stream.specs.Encoded.{ReadsMore};
@@ -14,7 +14,6 @@ use crate::pieces::PieceDecoder;
 use crate::watch::Watch;
 use data_encoding::laws::steps;
 use data_encoding::{DECODE_LIMIT, DecodeError, Encoding};
-use std::io;
 use std::io::{Read, Write};
 
 // The bytes of text that are asked for at a time.

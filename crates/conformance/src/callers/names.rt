@@ -103,7 +103,7 @@ pub enum BodyFault {
     OutOfMemory,
 }
 
-/// The data of the body of a key file: lines of base64, of any length. A fault is told by its line
+/// The data of the body of a key file: lines of base64, of any length. A fault is named by its line
 /// and its column.
 pub fn data_of_body(alloc: Global, body: &[u8]) -> Result<Vec<u8>, BodyFault>
     requires limit { length body.now ≤ DECODE_LIMIT }

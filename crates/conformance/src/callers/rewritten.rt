@@ -1,16 +1,45 @@
 //! Texts that are written otherwise, or compared, and mean the same.
 
-ghost use Rattle.std.specs.Prelude.{◌≡◌, ◌↔◌, ◌&&◌, ℕ, List, Ok, is_some, IsTrue, IfOk, IfSome};
+ghost use Rattle.std.specs.Prelude.{◌≡◌, ◌↔◌, ◌<◌, ◌&&◌, ℕ, List, [], ◌∷◌, ◌++◌, Ok, flat_map, is_some, IsTrue, IfOk, IfSome};
 ghost use Rattle.data_encoding.specs.Base.{Base, is_ignored, meaning};
+ghost use Rattle.data_encoding.specs.Bits.{runs};
 ghost use Rattle.data_encoding.specs.Fields.{base_of};
 ghost use Rattle.data_encoding.specs.Grammar.{Means};
+ghost use Rattle.data_encoding.specs.Order.{IsBefore};
 ghost use Rattle.data_encoding.specs.Predefined.{base32_dnssec_fields, base64_fields, base64url_fields};
-ghost use Rattle.data_encoding.specs.SameMeaning.{exchanged};
+ghost use Rattle.data_encoding.specs.SameMeaning.{exchanged, kept_bytes, own_form};
 ghost use Rattle.data_encoding.specs.Text.{text_of};
 
-use data_encoding::laws::{one_meaning, same_but_symbols, same_kept_bytes, translated};
+use data_encoding::laws::{one_meaning, order, same_but_symbols, same_kept_bytes, translated};
 use data_encoding::{Encoding, base32_dnssec};
 use std::alloc::{AllocError, Global};
+
+// The bytes of a text that are not ignored.
+fn kept(alloc: Global, encoding: &Encoding, text: &[u8]) -> Result<Vec<u8>, AllocError>
+    ensures { IfOk result (λ bytes. bytes.items ≡ kept_bytes encoding.now text.now) }
+{
+    let mut bytes = Vec::new(alloc);
+    for byte in text {
+        if !encoding.interpret_byte(*byte).is_ignored() {
+            bytes.push(*byte)?;
+        }
+    }
+    Ok(bytes)
+}
+
+// The bytes in lines of `line`, the last perhaps shorter, each followed by CR LF.
+fn in_lines(alloc: Global, bytes: &[u8], line: usize) -> Result<Vec<u8>, AllocError>
+    requires some { 0 < line }
+    ensures { IfOk result (λ output. output.items
+        ≡ flat_map (λ run. run ++ 13 ∷ 10 ∷ []) (runs line bytes.now)) }
+{
+    let mut output = Vec::new(alloc);
+    for run in bytes.chunks(line) {
+        output.extend_from_slice(run)?;
+        output.extend_from_slice(b"\r\n")?;
+    }
+    Ok(output)
+}
 
 /// A text in lines of `line` characters, each followed by CR LF, as a MIME body is wrapped to other
 /// lines: it means the data that the text means. There is none where the encoding does not ignore
@@ -24,6 +53,8 @@ pub fn rewrapped(
     ensures same { IfOk result (λ found. IfSome found (λ output.
         (bytes : List ℕ)
         → Means encoding.now text.now bytes ↔ Means encoding.now output.items bytes)) }
+    ensures lines { IfOk result (λ found. IfSome found (λ output. 0 < line → output.items
+        ≡ flat_map (λ run. run ++ 13 ∷ 10 ∷ []) (runs line (kept_bytes encoding.now text.now)))) }
     ensures some { IfOk result (λ found. is_some found
         ≡ (is_ignored (meaning encoding.now 13) && is_ignored (meaning encoding.now 10))) }
 {
@@ -35,22 +66,9 @@ pub fn rewrapped(
     if !encoding.interpret_byte(b'\n').is_ignored() {
         return Ok(None);
     }
-    let mut output = Vec::new(alloc);
-    let mut count: usize = 0;
-    for byte in text {
-        if !encoding.interpret_byte(*byte).is_ignored() {
-            output.push(*byte)?;
-            count += 1;
-            if count == line {
-                output.extend_from_slice(b"\r\n")?;
-                count = 0;
-            }
-        }
-    }
-    if count > 0 {
-        output.extend_from_slice(b"\r\n")?;
-    }
-    Ok(Some(output))
+    let bytes = kept(alloc, encoding, text)?;
+    let line = if line == 0 { usize::MAX } else { line };
+    Ok(Some(in_lines(alloc, &bytes, line)?))
 }
 
 // The byte of base64url for a byte of base64.
@@ -97,4 +115,46 @@ pub fn is_same_name(one: &[u8], other: &[u8]) -> bool
         }
     }
     true
+}
+
+// The byte that a byte of a name of BASE32_DNSSEC stands for.
+fn lower_byte(byte: u8) -> u8
+    ensures { (base : Base) → base_of base32_dnssec_fields ≡ Ok base
+        → result ≡ exchanged base base byte }
+{
+    match byte {
+        b'A'..=b'V' => byte + 32,
+        other => other,
+    }
+}
+
+/// Puts a name of BASE32_DNSSEC in lower case, where it stands.
+pub fn to_lower_case(name: &mut [u8])
+    ensures { (base : Base) → base_of base32_dnssec_fields ≡ Ok base
+        → name.new ≡ own_form base name.old }
+{
+    for byte in name.iter_mut() {
+        *byte = lower_byte(*byte);
+    }
+}
+
+// Whether a list comes before another.
+fn is_before(one: &[u8], other: &[u8]) -> bool
+    ensures { IsTrue result ↔ IsBefore one.now other.now }
+{
+    one < other
+}
+
+/// Whether the data of a name come before those of another, in either case, as hashed names of
+/// DNSSEC are sorted: the names are put in lower case and compared, and nothing is decoded.
+pub fn sorts_before(one: &mut [u8], other: &mut [u8]) -> bool
+    ensures { (base : Base) (bytes others : List ℕ) → base_of base32_dnssec_fields ≡ Ok base
+        → Means base one.old bytes → Means base other.old others
+        → IsTrue result ↔ IsBefore bytes others }
+{
+    translated();
+    order();
+    to_lower_case(one);
+    to_lower_case(other);
+    is_before(one, other)
 }

@@ -4,7 +4,7 @@ use super::comparison::{Comparison, Tally};
 use super::decoding::beginning;
 use super::judge::Judge;
 use super::rows::{bytes_of, bytes_of_length, field_of, row_of};
-use data_encoding::{DECODE_LIMIT, DecodeError, Encoding, base64_nopad};
+use data_encoding::{DECODE_LIMIT, DecodeError, base64_nopad};
 use encoding_stream::Decoder;
 use std::alloc::{AllocError, Global};
 use std::test::Fail;

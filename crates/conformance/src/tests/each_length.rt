@@ -18,17 +18,17 @@ hex|most|check|||0||||";
 fn are_appended(
     alloc: Global,
     encoding: &Encoding,
-    data: &[u8],
+    bytes: &[u8],
     text: &str,
 ) -> Result<bool, AllocError>
-    requires limit { length data.now ≤ ENCODE_LIMIT }
+    requires limit { length bytes.now ≤ ENCODE_LIMIT }
 {
     let mut output = String::new(alloc);
-    encoding.encode_append(data, &mut output)?;
+    encoding.encode_append(bytes, &mut output)?;
     let is_whole = output.as_str() == text;
     output.clear();
     let mut encoder = encoding.new_encoder(&mut output);
-    let (one, other) = data.split_at(data.len() / 2);
+    let (one, other) = bytes.split_at(bytes.len() / 2);
     let first = encoder.append(one);
     let second = encoder.append(other);
     let ended = match encoder.finalize() {
@@ -48,18 +48,18 @@ fn are_appended(
 fn is_written(
     alloc: Global,
     encoding: &Encoding,
-    data: &[u8],
+    bytes: &[u8],
     text: &str,
 ) -> Result<bool, AllocError>
-    requires limit { length data.now ≤ ENCODE_LIMIT }
+    requires limit { length bytes.now ≤ ENCODE_LIMIT }
 {
     let mut output = String::new(alloc);
-    let written = encoding.encode_write_buffer(data, &mut output, &mut [0; 600]);
+    let written = encoding.encode_write_buffer(bytes, &mut output, &mut [0; 600]);
     Ok(written.is_ok() && output.as_str() == text)
 }
 
 // Whether the text means the data, at once and in two pieces.
-fn is_decoded(alloc: Global, encoding: &Encoding, data: &[u8], text: &[u8]) -> Result<bool, Fail>
+fn is_decoded(alloc: Global, encoding: &Encoding, bytes: &[u8], text: &[u8]) -> Result<bool, Fail>
     requires limit { length text.now ≤ DECODE_LIMIT }
 {
     let whole = encoding.decode(alloc, text)?;
@@ -71,7 +71,7 @@ fn is_decoded(alloc: Global, encoding: &Encoding, data: &[u8], text: &[u8]) -> R
     let Ok(finished) = decoder.finish(&mut output) else {
         return Ok(false);
     };
-    Ok(whole.as_slice() == data && output == whole && finished.verdict.is_ok())
+    Ok(whole.as_slice() == bytes && output == whole && finished.verdict.is_ok())
 }
 
 // Whether all of this holds of data of each length.

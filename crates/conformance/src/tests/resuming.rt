@@ -4,6 +4,7 @@ ghost use Rattle.std.specs.Prelude.{◌<◌, ◌≤◌, length};
 
 use super::comparison::front_read;
 use super::decoding::{begins, decoded};
+use super::judge::Judge;
 use super::rows::{bytes_of, row_of};
 use data_encoding::{DecodeFault, Encoding, Specification, base64_mime, base64_nopad};
 use std::alloc::{AllocError, Global};
@@ -47,19 +48,10 @@ fn is_resumed(
     })
 }
 
-// Whether the padding, if there is one that ends a text, is none of these bytes.
-fn may_be_followed(specification: &Specification, bytes: &[u8]) -> bool {
-    specification.concatenate
-        || match specification.padding {
-            Some(padding) => !bytes.iter().any(|byte| char::from(*byte) == padding),
-            None => true,
-        }
-}
-
 // At how many positions the text was cut, where all that may be followed are resumed there.
 fn cuts_resumed(
     alloc: Global,
-    specification: &Specification,
+    judge: &Judge,
     encoding: &Encoding,
     text: &[u8],
 ) -> Result<Option<usize>, AllocError>
@@ -74,9 +66,7 @@ fn cuts_resumed(
         let (Some(front), Some(bytes)) = (text.get(..read), output.get(..written)) else {
             return Ok(None);
         };
-        if may_be_followed(specification, front)
-            && !is_resumed(alloc, encoding, text, read, bytes)?
-        {
+        if judge.may_be_followed(front) && !is_resumed(alloc, encoding, text, read, bytes)? {
             return Ok(None);
         }
         cuts = cuts.wrapping_add(1);
@@ -87,7 +77,7 @@ fn cuts_resumed(
 // Whether so many fronts of the text are resumed with each of four bytes at a position.
 fn is_resumed_beside(
     alloc: Global,
-    specification: &Specification,
+    judge: &Judge,
     encoding: &Encoding,
     text: &mut [u8],
     position: usize,
@@ -98,7 +88,7 @@ fn is_resumed_beside(
 {
     for byte in [b'!', b'=', b'-', b'1'] {
         text[position] = byte;
-        if cuts_resumed(alloc, specification, encoding, text)? != Some(want) {
+        if cuts_resumed(alloc, judge, encoding, text)? != Some(want) {
             return Ok(false);
         }
     }
@@ -116,11 +106,12 @@ fn is_resumed_throughout(
     requires short { length text.old ≤ 17 }
 {
     let encoding = specification.encoding()?;
-    let mut is_resumed = cuts_resumed(alloc, specification, &encoding, text)? == Some(want);
+    let judge = Judge::of(specification);
+    let mut is_resumed = cuts_resumed(alloc, &judge, &encoding, text)? == Some(want);
     for position in 0..text.len() {
         let own = text[position];
         is_resumed = is_resumed
-            && is_resumed_beside(alloc, specification, &encoding, text, position, want)?;
+            && is_resumed_beside(alloc, &judge, &encoding, text, position, want)?;
         text[position] = own;
     }
     Ok(is_resumed)

@@ -1,6 +1,8 @@
 //! Texts that are written otherwise, or compared, and mean the same.
 
-use crate::callers::rewritten::{is_same_name, rewrapped, to_base64url};
+use crate::callers::rewritten::{
+    is_same_name, rewrapped, sorts_before, to_base64url, to_lower_case,
+};
 use data_encoding::{Encoding, base64, base64_mime};
 use std::alloc::{AllocError, Global};
 use std::test::Fail;
@@ -22,6 +24,11 @@ fn has_lines(
 const EXAMPLE: &[u8] = b"0p9mhaveqvm6t7vbl5lop2u3t2rp3tom";
 
 const A_EXAMPLE: &[u8] = b"35mthgpgcu1qg68fab165klnsnk3dpvl";
+
+// Whether a name of two characters sorts before another.
+fn is_sorted(mut one: [u8; 2], mut other: [u8; 2]) -> bool {
+    sorts_before(&mut one, &mut other)
+}
 
 #[test]
 fn texts_are_rewritten(rt: HostRuntime) -> Result<(), Fail> {
@@ -46,5 +53,12 @@ fn texts_are_rewritten(rt: HostRuntime) -> Result<(), Fail> {
     assert!(rt; is_same_name(EXAMPLE, b"0P9MHAVEQVM6T7VBL5LOP2U3T2RP3TOM"));
     assert!(rt; !is_same_name(EXAMPLE, A_EXAMPLE));
     assert!(rt; !is_same_name(EXAMPLE, b"0p9mhaveqvm6t7vbl5lop2u3t2rp3to"));
+
+    // The byte `B` comes before `a`, and the value of `a` before that of `B`.
+    assert!(rt; is_sorted(*b"a0", *b"B0"));
+    assert!(rt; !is_sorted(*b"B0", *b"a0") && !is_sorted(*b"A0", *b"a0"));
+    let mut name = *b"0P9MHAVEqz";
+    to_lower_case(&mut name);
+    assert!(rt; name == *b"0p9mhaveqz");
     Ok(())
 }

@@ -5,7 +5,7 @@ use crate::callers::stored::{
     write_behind,
 };
 use data_encoding::{Encoding, base32, base64, base64_mime, hexlower, hexlower_permissive};
-use std::alloc::{AllocError, Global};
+use std::alloc::Global;
 use std::fmt;
 use std::test::Fail;
 
