@@ -1,0 +1,198 @@
+/* The calls of data_encoding.h over those that are proved, which take no null pointer. */
+#include "data_encoding.h"
+
+typedef unsigned char byte;
+
+struct form {
+    size_t wrap_width;
+    byte padding;
+    bool has_padding;
+    bool least_significant_first;
+    bool check_trailing_bits;
+    bool concatenate;
+};
+
+unsigned de_numbered_encode_len(unsigned number, size_t len, size_t *text_len);
+unsigned de_numbered_encode(unsigned number, const byte *input, size_t input_len, byte *output,
+                            size_t output_len, size_t *written);
+unsigned de_numbered_decode_len(unsigned number, size_t len, size_t *most);
+unsigned de_numbered_decode(unsigned number, const byte *input, size_t input_len, byte *output,
+                            size_t output_len, de_decoded *decoded);
+unsigned de_numbered_is_canonical(unsigned number, bool *canonical);
+unsigned de_held_new(const struct form *form, const byte *symbols, size_t symbols_len,
+                     const byte *ignore, size_t ignore_len, const byte *separator,
+                     size_t separator_len, const byte *from, size_t from_len, const byte *to,
+                     size_t to_len, byte *held, size_t held_len, size_t *len, size_t *detail);
+unsigned de_held_encode_len(const byte *held, size_t held_len, size_t len, size_t *text_len);
+unsigned de_held_encode(const byte *held, size_t held_len, const byte *input, size_t input_len,
+                        byte *output, size_t output_len, size_t *written);
+unsigned de_held_decode_len(const byte *held, size_t held_len, size_t len, size_t *most);
+unsigned de_held_decode(const byte *held, size_t held_len, const byte *input, size_t input_len,
+                        byte *output, size_t output_len, de_decoded *decoded);
+unsigned de_held_is_canonical(const byte *held, size_t held_len, bool *canonical);
+
+/* What no bytes are read from, and written to. */
+static const byte no_bytes[1];
+static byte no_room[1];
+
+static bool is_missing(const void *bytes, size_t len) {
+    return bytes == NULL && len != 0;
+}
+
+static const byte *in(const void *bytes) {
+    return bytes != NULL ? (const byte *)bytes : no_bytes;
+}
+
+static byte *out(void *bytes) {
+    return bytes != NULL ? (byte *)bytes : no_room;
+}
+
+static bool is_held(const de_encoding *encoding) {
+    return encoding->len <= sizeof encoding->layout;
+}
+
+const char *de_status_text(de_status status) {
+    static const char *const texts[] = {
+        "no fault",
+        "unknown encoding",
+        "null pointer",
+        "too long",
+        "output too short",
+        "out of memory",
+        "invalid length",
+        "invalid symbol",
+        "non-zero trailing bits",
+        "invalid padding length",
+        "invalid number of symbols",
+        "non-ascii character",
+        "conflicting definitions of a character",
+        "unnecessary padding",
+        "invalid wrap width or separator length",
+        "wrap width not a multiple of a group",
+        "translate from/to length mismatch",
+        "undefined character",
+        "no encoding",
+    };
+    unsigned index = (unsigned)status;
+    return index < sizeof texts / sizeof *texts ? texts[index] : "unknown status";
+}
+
+de_status de_encode_len(de_number number, size_t len, size_t *text_len) {
+    if (text_len == NULL) {
+        return DE_NULL_POINTER;
+    }
+    return (de_status)de_numbered_encode_len((unsigned)number, len, text_len);
+}
+
+de_status de_encode(de_number number, const void *input, size_t input_len, char *output,
+                    size_t output_len, size_t *written) {
+    if (is_missing(input, input_len) || is_missing(output, output_len) || written == NULL) {
+        return DE_NULL_POINTER;
+    }
+    return (de_status)de_numbered_encode((unsigned)number, in(input), input_len, out(output),
+                                         output_len, written);
+}
+
+de_status de_decode_len(de_number number, size_t len, size_t *most) {
+    if (most == NULL) {
+        return DE_NULL_POINTER;
+    }
+    return (de_status)de_numbered_decode_len((unsigned)number, len, most);
+}
+
+de_status de_decode(de_number number, const char *input, size_t input_len, void *output,
+                    size_t output_len, de_decoded *decoded) {
+    if (is_missing(input, input_len) || is_missing(output, output_len) || decoded == NULL) {
+        return DE_NULL_POINTER;
+    }
+    return (de_status)de_numbered_decode((unsigned)number, in(input), input_len, out(output),
+                                         output_len, decoded);
+}
+
+de_status de_is_canonical(de_number number, bool *canonical) {
+    if (canonical == NULL) {
+        return DE_NULL_POINTER;
+    }
+    return (de_status)de_numbered_is_canonical((unsigned)number, canonical);
+}
+
+de_status de_encoding_new(de_encoding *encoding, const de_specification *asked, size_t *detail) {
+    size_t unread = 0;
+    struct form form;
+    if (encoding == NULL || asked == NULL || is_missing(asked->symbols, asked->symbols_len) ||
+        is_missing(asked->ignore, asked->ignore_len) ||
+        is_missing(asked->wrap_separator, asked->wrap_separator_len) ||
+        is_missing(asked->translate_from, asked->translate_from_len) ||
+        is_missing(asked->translate_to, asked->translate_to_len)) {
+        return DE_NULL_POINTER;
+    }
+    form.wrap_width = asked->wrap_width;
+    form.has_padding = asked->padding >= 0;
+    /* No character from 128 on is ASCII. */
+    form.padding = (byte)(asked->padding < 128 ? asked->padding & 127 : 128);
+    form.least_significant_first = asked->least_significant_first;
+    form.check_trailing_bits = asked->check_trailing_bits;
+    form.concatenate = asked->concatenate;
+    return (de_status)de_held_new(
+        &form, in(asked->symbols), asked->symbols_len, in(asked->ignore), asked->ignore_len,
+        in(asked->wrap_separator), asked->wrap_separator_len, in(asked->translate_from),
+        asked->translate_from_len, in(asked->translate_to), asked->translate_to_len,
+        encoding->layout, sizeof encoding->layout, &encoding->len,
+        detail != NULL ? detail : &unread);
+}
+
+de_status de_encoding_encode_len(const de_encoding *encoding, size_t len, size_t *text_len) {
+    if (encoding == NULL || text_len == NULL) {
+        return DE_NULL_POINTER;
+    }
+    if (!is_held(encoding)) {
+        return DE_NO_ENCODING;
+    }
+    return (de_status)de_held_encode_len(encoding->layout, encoding->len, len, text_len);
+}
+
+de_status de_encoding_encode(const de_encoding *encoding, const void *input, size_t input_len,
+                             char *output, size_t output_len, size_t *written) {
+    if (encoding == NULL || is_missing(input, input_len) || is_missing(output, output_len) ||
+        written == NULL) {
+        return DE_NULL_POINTER;
+    }
+    if (!is_held(encoding)) {
+        return DE_NO_ENCODING;
+    }
+    return (de_status)de_held_encode(encoding->layout, encoding->len, in(input), input_len,
+                                     out(output), output_len, written);
+}
+
+de_status de_encoding_decode_len(const de_encoding *encoding, size_t len, size_t *most) {
+    if (encoding == NULL || most == NULL) {
+        return DE_NULL_POINTER;
+    }
+    if (!is_held(encoding)) {
+        return DE_NO_ENCODING;
+    }
+    return (de_status)de_held_decode_len(encoding->layout, encoding->len, len, most);
+}
+
+de_status de_encoding_decode(const de_encoding *encoding, const char *input, size_t input_len,
+                             void *output, size_t output_len, de_decoded *decoded) {
+    if (encoding == NULL || is_missing(input, input_len) || is_missing(output, output_len) ||
+        decoded == NULL) {
+        return DE_NULL_POINTER;
+    }
+    if (!is_held(encoding)) {
+        return DE_NO_ENCODING;
+    }
+    return (de_status)de_held_decode(encoding->layout, encoding->len, in(input), input_len,
+                                     out(output), output_len, decoded);
+}
+
+de_status de_encoding_is_canonical(const de_encoding *encoding, bool *canonical) {
+    if (encoding == NULL || canonical == NULL) {
+        return DE_NULL_POINTER;
+    }
+    if (!is_held(encoding)) {
+        return DE_NO_ENCODING;
+    }
+    return (de_status)de_held_is_canonical(encoding->layout, encoding->len, canonical);
+}

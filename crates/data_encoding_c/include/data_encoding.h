@@ -1,0 +1,211 @@
+/* Base encodings, proved: data as text over an alphabet of symbols, and back.
+ *
+ * C99, and C++. Each function returns a status, tests every length itself, and can be called by
+ * any number of threads at once, also with one encoding.
+ *
+ * What a caller owes, and nothing checks: a pointer points to as many bytes as the length behind it
+ * says, or to a value of its type; what a call writes to overlaps nothing else that it is given;
+ * and nothing writes to any of these while the call runs. A pointer to bytes may be null where its
+ * length is 0. Any other null pointer is refused by DE_NULL_POINTER.
+ *
+ * Lengths are in bytes. No text that is written ends in a NUL. No call but de_encoding_new takes
+ * memory, and none keeps any.
+ */
+#ifndef DATA_ENCODING_H
+#define DATA_ENCODING_H
+
+#include <stdbool.h>
+#include <stddef.h>
+#include <stdint.h>
+
+#ifdef __cplusplus
+extern "C" {
+#endif
+
+/* The greatest length of data that is encoded in one call, and of a text that is decoded. */
+#define DE_ENCODE_LIMIT (SIZE_MAX / 512)
+#define DE_DECODE_LIMIT (SIZE_MAX / 8)
+
+/* What happened. After any but DE_OK, and the four of a faulty text, a call has changed nothing
+ * (but *detail, where it names one). */
+typedef enum de_status {
+    DE_OK = 0,
+
+    /* No predefined encoding has the number. */
+    DE_UNKNOWN_ENCODING = 1,
+
+    /* A pointer is null that must not be. */
+    DE_NULL_POINTER = 2,
+
+    /* The data is longer than DE_ENCODE_LIMIT, or the text than DE_DECODE_LIMIT. */
+    DE_TOO_LONG = 3,
+
+    /* The output has no room: de_encode_len and de_decode_len say how much is needed. */
+    DE_SHORT_BUFFER = 4,
+
+    /* No memory was found. Of de_encoding_new alone. */
+    DE_OUT_OF_MEMORY = 5,
+
+    /* The text has a fault: its length is that of no text; a byte is no symbol; bits that are left
+     * after the last byte are not zeros; the number of padding characters is wrong. */
+    DE_INVALID_LENGTH = 6,
+    DE_INVALID_SYMBOL = 7,
+    DE_INVALID_TRAILING_BITS = 8,
+    DE_INVALID_PADDING = 9,
+
+    /* A specification is refused, by de_encoding_new alone. In this order are judged: */
+
+    /* There are not 2, 4, 8, 16, 32 or 64 symbols. */
+    DE_SYMBOL_COUNT = 10,
+
+    /* A character is not ASCII. */
+    DE_NOT_ASCII = 11,
+
+    /* The byte `detail` is given two meanings. */
+    DE_DUPLICATE = 12,
+
+    /* There is padding, and no text needs any. */
+    DE_EXTRA_PADDING = 13,
+
+    /* The width of lines or the length of their separator is over 255. */
+    DE_WRAP_LENGTH = 14,
+
+    /* The width of lines is no multiple of `detail`. */
+    DE_WRAP_WIDTH = 15,
+
+    /* The two texts of a translation differ in length. */
+    DE_TRANSLATE_LENGTH = 16,
+
+    /* A byte is translated to the byte `detail`, which has no meaning. */
+    DE_UNDEFINED = 17,
+
+    /* The de_encoding was not made by de_encoding_new. */
+    DE_NO_ENCODING = 18
+} de_status;
+
+/* A few words on a status: never null, and valid for ever. */
+const char *de_status_text(de_status status);
+
+/* The predefined encodings. */
+typedef enum de_number {
+    DE_HEXLOWER = 0,
+    DE_HEXLOWER_PERMISSIVE = 1,
+    DE_HEXUPPER = 2,
+    DE_HEXUPPER_PERMISSIVE = 3,
+    DE_BASE32 = 4,
+    DE_BASE32_NOPAD = 5,
+    DE_BASE32_NOPAD_NOCASE = 6,
+    DE_BASE32_NOPAD_VISUAL = 7,
+    DE_BASE32HEX = 8,
+    DE_BASE32HEX_NOPAD = 9,
+    DE_BASE32_DNSSEC = 10,
+    DE_BASE32_DNSCURVE = 11,
+    DE_BASE64 = 12,
+    DE_BASE64_NOPAD = 13,
+    DE_BASE64_MIME = 14,
+    DE_BASE64_MIME_PERMISSIVE = 15,
+    DE_BASE64URL = 16,
+    DE_BASE64URL_NOPAD = 17
+} de_number;
+
+/* What a decoding tells, where its status is DE_OK or that of a faulty text. */
+typedef struct de_decoded {
+    /* How many bytes of the text were read: of a faulty text, those before its first faulty group
+     * or some more, which mean what was written. */
+    size_t read;
+
+    /* How many bytes were written. */
+    size_t written;
+
+    /* The position of the faulty byte, from 0; for an invalid length where no byte is ignored, the
+     * greatest valid length below it; after DE_OK, the length of the text. */
+    size_t position;
+} de_decoded;
+
+/* Writes to *text_len how long the text of len bytes is, with its padding and line ends.
+ * DE_TOO_LONG where len is above DE_ENCODE_LIMIT. */
+de_status de_encode_len(de_number number, size_t len, size_t *text_len);
+
+/* Writes the text of the data to the front of output, and its length to *written. What stands in
+ * the output behind the text stays. DE_TOO_LONG, DE_SHORT_BUFFER. */
+de_status de_encode(de_number number, const void *input, size_t input_len, char *output,
+                    size_t output_len, size_t *written);
+
+/* Writes to *most how many bytes a text of len bytes may mean at most. Where no text has this
+ * length, DE_INVALID_LENGTH, and *most is the greatest valid length below it. DE_TOO_LONG. */
+de_status de_decode_len(de_number number, size_t len, size_t *most);
+
+/* Writes the data that the text means to the front of output, which has room for as many bytes as
+ * de_decode_len says, and to *decoded how far it came. A text that means nothing has one fault: one
+ * of the four statuses DE_INVALID_. Then what was read means what was written; what the output has
+ * behind these, within what de_decode_len says, is not said. Where the length alone is the fault,
+ * nothing is read. DE_TOO_LONG, DE_SHORT_BUFFER. */
+de_status de_decode(de_number number, const char *input, size_t input_len, void *output,
+                    size_t output_len, de_decoded *decoded);
+
+/* Writes to *canonical whether no two different texts decode to the same data. */
+de_status de_is_canonical(de_number number, bool *canonical);
+
+/* What an encoding is asked for by. DE_SPECIFICATION is one with nothing but the defaults. */
+typedef struct de_specification {
+    /* The symbols in order of value: 2, 4, 8, 16, 32 or 64 ASCII characters. */
+    const char *symbols;
+    size_t symbols_len;
+
+    /* Bytes that a text may have anywhere, and that mean nothing. */
+    const char *ignore;
+    size_t ignore_len;
+
+    /* What follows each line of wrap_width characters; there are lines where both are not 0. */
+    const char *wrap_separator;
+    size_t wrap_separator_len;
+    size_t wrap_width;
+
+    /* Bytes that mean what others mean: each of the first what the one of the second at its
+     * position means. */
+    const char *translate_from;
+    size_t translate_from_len;
+    const char *translate_to;
+    size_t translate_to_len;
+
+    /* What fills the last group of a text; below 0, nothing does. */
+    int padding;
+
+    /* Whether the bit of weight 1 comes first, in place of that of weight 128. */
+    bool least_significant_first;
+
+    /* Whether bits that are left after the last byte have to be zeros. */
+    bool check_trailing_bits;
+
+    /* Whether padded texts that stand one after the other are decoded as one. */
+    bool concatenate;
+} de_specification;
+
+#define DE_SPECIFICATION {NULL, 0, NULL, 0, NULL, 0, 0, NULL, 0, NULL, 0, -1, false, true, true}
+
+/* An encoding of a caller's own: plain bytes, which may be copied and stored, and need no end. */
+typedef struct de_encoding {
+    size_t len;
+    unsigned char layout[770];
+} de_encoding;
+
+/* Writes the encoding that is asked for to *encoding; or, after DE_DUPLICATE, DE_WRAP_WIDTH and
+ * DE_UNDEFINED, what these name to *detail, if that is not null. DE_OUT_OF_MEMORY. */
+de_status de_encoding_new(de_encoding *encoding, const de_specification *specification,
+                          size_t *detail);
+
+/* The same calls by such an encoding. It is judged anew at each call, which takes about
+ * half a microsecond. DE_NO_ENCODING. */
+de_status de_encoding_encode_len(const de_encoding *encoding, size_t len, size_t *text_len);
+de_status de_encoding_encode(const de_encoding *encoding, const void *input, size_t input_len,
+                             char *output, size_t output_len, size_t *written);
+de_status de_encoding_decode_len(const de_encoding *encoding, size_t len, size_t *most);
+de_status de_encoding_decode(const de_encoding *encoding, const char *input, size_t input_len,
+                             void *output, size_t output_len, de_decoded *decoded);
+de_status de_encoding_is_canonical(const de_encoding *encoding, bool *canonical);
+
+#ifdef __cplusplus
+}
+#endif
+
+#endif

@@ -1,0 +1,3 @@
+mod DecodeLemmas
+mod NumberLemmas
+mod HeldLemmas

@@ -1,0 +1,25 @@
+-- A number has one base.
+use Rattle.std.proofs.Common.{◌≡◌, ℕ, Some, None, Result, Ok, sym, ap, ◌∙◌}
+use Rattle.data_encoding.specs.declared.meanings.Refusal.{Refusal}
+use Rattle.data_encoding.specs.Base.{Base}
+use Rattle.data_encoding.specs.Fields.{Fields, base_of}
+use Rattle.data_encoding_c.specs.Numbers.{IsNumbered, fields_numbered}
+
+some-one : {one other : Fields} → Some one ≡ Some other → one ≡ other
+some-one is = cc
+
+ok-one : {one other : Base} → ◌≡◌ {A = Result Base Refusal} (Ok one) (Ok other) → one ≡ other
+ok-one is = cc
+
+pub one-base : (number : ℕ) (one other : Base) → IsNumbered number one → IsNumbered number other
+    → one ≡ other
+one-base number one other h k =
+    let same = some-one (sym h.is_known ∙ k.is_known) in
+    ok-one (sym h.is_built ∙ ap base_of same ∙ k.is_built)
+
+pub is-known : (number : ℕ) (base : Base) → IsNumbered number base → fields_numbered number ≡ None
+    → ⊥
+is-known number base h none = absurd (cc (sym h.is_known ∙ none))
+
+pub some-base : {one other : Base} → Some one ≡ Some other → one ≡ other
+some-base is = cc

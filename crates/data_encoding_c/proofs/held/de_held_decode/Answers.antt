@@ -1,0 +1,22 @@
+use Rattle.std.proofs.Common.{subst, sym, ◌∙◌}
+use Rattle.data_encoding_c.specs.Calls.{Decodes}
+use Rattle.data_encoding_c.proofs.NumberLemmas.{some-base}
+use Rattle.data_encoding_c.proofs.held.de_held_decode.Goals as goal
+
+pub returns-clause-known : goal.returns-clause-known
+returns-clause-known c = λ base is.
+    let told = c.decode_by.ensures in
+    subst
+    (λ b. Decodes b c.args.input.now c.args.output.now c.decode_by.new.output
+    c.args.decoded.now c.decode_by.new.decoded c.decode_by.result)
+    (some-base (sym c.in-Some.is ∙ c.encoding_held.ensures.known base is))
+    (record {
+      status = told.status;
+      means = told.means;
+      all = told.all;
+      refused = told.refused;
+      by_length = told.by_length;
+      fault = told.fault;
+      within = told.within;
+      behind = told.behind;
+    })

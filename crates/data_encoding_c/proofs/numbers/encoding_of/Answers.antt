@@ -1,0 +1,130 @@
+use Rattle.std.proofs.Common.{ap}
+use Rattle.data_encoding.specs.Predefined.{hexlower_fields, hexlower_permissive_fields, hexupper_fields, hexupper_permissive_fields, base32_fields, base32_nopad_fields, base32_nopad_nocase_fields, base32_nopad_visual_fields, base32hex_fields, base32hex_nopad_fields, base32_dnssec_fields, base32_dnscurve_fields, base64_fields, base64_nopad_fields, base64_mime_fields, base64_mime_permissive_fields, base64url_fields, base64url_nopad_fields}
+use Rattle.data_encoding_c.specs.Numbers.{fields_numbered}
+use Rattle.data_encoding_c.proofs.numbers.encoding_of.Goals as goal
+
+pub returns-in-0 : goal.returns-in-0
+returns-in-0 g c = record {
+  fields = hexlower_fields;
+  is_known = ap fields_numbered c.in-0.is;
+  is_built = c.hexlower.ensures;
+}
+
+pub returns-in-1 : goal.returns-in-1
+returns-in-1 g c = record {
+  fields = hexlower_permissive_fields;
+  is_known = ap fields_numbered c.in-1.is;
+  is_built = c.hexlower_permissive.ensures;
+}
+
+pub returns-in-2 : goal.returns-in-2
+returns-in-2 g c = record {
+  fields = hexupper_fields;
+  is_known = ap fields_numbered c.in-2.is;
+  is_built = c.hexupper.ensures;
+}
+
+pub returns-in-3 : goal.returns-in-3
+returns-in-3 g c = record {
+  fields = hexupper_permissive_fields;
+  is_known = ap fields_numbered c.in-3.is;
+  is_built = c.hexupper_permissive.ensures;
+}
+
+pub returns-in-4 : goal.returns-in-4
+returns-in-4 g c = record {
+  fields = base32_fields;
+  is_known = ap fields_numbered c.in-4.is;
+  is_built = c.base32.ensures;
+}
+
+pub returns-in-5 : goal.returns-in-5
+returns-in-5 g c = record {
+  fields = base32_nopad_fields;
+  is_known = ap fields_numbered c.in-5.is;
+  is_built = c.base32_nopad.ensures;
+}
+
+pub returns-in-6 : goal.returns-in-6
+returns-in-6 g c = record {
+  fields = base32_nopad_nocase_fields;
+  is_known = ap fields_numbered c.in-6.is;
+  is_built = c.base32_nopad_nocase.ensures;
+}
+
+pub returns-in-7 : goal.returns-in-7
+returns-in-7 g c = record {
+  fields = base32_nopad_visual_fields;
+  is_known = ap fields_numbered c.in-7.is;
+  is_built = c.base32_nopad_visual.ensures;
+}
+
+pub returns-in-8 : goal.returns-in-8
+returns-in-8 g c = record {
+  fields = base32hex_fields;
+  is_known = ap fields_numbered c.in-8.is;
+  is_built = c.base32hex.ensures;
+}
+
+pub returns-in-9 : goal.returns-in-9
+returns-in-9 g c = record {
+  fields = base32hex_nopad_fields;
+  is_known = ap fields_numbered c.in-9.is;
+  is_built = c.base32hex_nopad.ensures;
+}
+
+pub returns-in-10 : goal.returns-in-10
+returns-in-10 g c = record {
+  fields = base32_dnssec_fields;
+  is_known = ap fields_numbered c.in-10.is;
+  is_built = c.base32_dnssec.ensures;
+}
+
+pub returns-in-11 : goal.returns-in-11
+returns-in-11 g c = record {
+  fields = base32_dnscurve_fields;
+  is_known = ap fields_numbered c.in-11.is;
+  is_built = c.base32_dnscurve.ensures;
+}
+
+pub returns-in-12 : goal.returns-in-12
+returns-in-12 g c = record {
+  fields = base64_fields;
+  is_known = ap fields_numbered c.in-12.is;
+  is_built = c.base64.ensures;
+}
+
+pub returns-in-13 : goal.returns-in-13
+returns-in-13 g c = record {
+  fields = base64_nopad_fields;
+  is_known = ap fields_numbered c.in-13.is;
+  is_built = c.base64_nopad.ensures;
+}
+
+pub returns-in-14 : goal.returns-in-14
+returns-in-14 g c = record {
+  fields = base64_mime_fields;
+  is_known = ap fields_numbered c.in-14.is;
+  is_built = c.base64_mime.ensures;
+}
+
+pub returns-in-15 : goal.returns-in-15
+returns-in-15 g c = record {
+  fields = base64_mime_permissive_fields;
+  is_known = ap fields_numbered c.in-15.is;
+  is_built = c.base64_mime_permissive.ensures;
+}
+
+pub returns-in-16 : goal.returns-in-16
+returns-in-16 g c = record {
+  fields = base64url_fields;
+  is_known = ap fields_numbered c.in-16.is;
+  is_built = c.base64url.ensures;
+}
+
+pub returns-in-17 : goal.returns-in-17
+returns-in-17 g c = record {
+  fields = base64url_nopad_fields;
+  is_known = ap fields_numbered c.in-17.is;
+  is_built = c.base64url_nopad.ensures;
+}

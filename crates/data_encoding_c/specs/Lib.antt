@@ -1,0 +1,4 @@
+pub mod Status
+pub mod Numbers
+pub mod Calls
+pub mod Held
