@@ -3,8 +3,8 @@
 
 usage: docs/contracts.py           writes the file anew
        docs/contracts.py --check   writes nothing; status 1 where the file isn't what would be
-                                   written, a clause has no words, or one that README.md shows
-                                   isn't that of the sources
+                                   written, a clause has no words, or one that docs/PROVED.md
+                                   shows isn't that of the sources
 
 The words on a clause are written in docs/CONTRACTS.md itself, by hand, and are kept as long as the
 clause reads the same, and the definitions that are shown with it. A new clause has the words of one
@@ -19,7 +19,7 @@ from pathlib import Path
 
 TOP = Path(__file__).resolve().parent.parent
 PAGE = TOP / "docs/CONTRACTS.md"
-README = TOP / "README.md"
+PROVED = TOP / "docs/PROVED.md"
 MISSING = "(no words yet)"
 COLUMNS = 110
 
@@ -33,8 +33,8 @@ SHOWN = {"encoding_stream", "basecode"}
 # The first line of a definition.
 DEFINITION = r"(?:abbrev pub|pub record|pub data) (\w+)"
 
-# README.md shows at least so many clauses.
-LEAST_SHOWN = 25
+# docs/PROVED.md shows at least so many clauses.
+LEAST_SHOWN = 50
 
 # Items of an `impl` that promise nothing to a caller.
 SILENT = {"laws", "is_infallible"}
@@ -322,11 +322,12 @@ def told(crate, call, words, old, missing):
 
 
 def all_calls():
-    """The public calls of each crate, by its name, in the order of crates.txt."""
+    """The public calls of each crate that has some, by its name, in the order of crates.txt."""
     lines = (TOP / "crates.txt").read_text().split("\n")
     crates = [line.split(":")[0].split(" ")[0].strip() for line in lines]
-    return {crate: of_crate(TOP / "crates" / crate)
-            for crate in crates if crate and not crate.startswith("#")}
+    found = {crate: of_crate(TOP / "crates" / crate)
+             for crate in crates if crate and not crate.startswith("#")}
+    return {crate: calls for crate, calls in found.items() if calls}
 
 
 def page(crates, old, missing):
@@ -343,7 +344,7 @@ def page(crates, old, missing):
 
 
 def may_be_shown(calls):
-    """What a row of README.md may show of each call, by its title: a clause in one line, or, where
+    """What a row of docs/PROVED.md may show of each call, by its title: a clause in one line, or, where
     it is one name of specs/, that definition."""
     found = {}
     for call in calls:
@@ -358,16 +359,15 @@ def may_be_shown(calls):
 
 
 def not_shown_so(crates):
-    """The rows of README.md that show a clause as it isn't, or too few of them."""
-    section = README.read_text().partition("\n## What is proved\n")[2].partition("\n## ")[0]
-    lines = [line for line in section.split("\n")
+    """The rows of docs/PROVED.md that show a clause as it isn't, or too few of them."""
+    lines = [line for line in PROVED.read_text().split("\n")
              if line.startswith("|") and not line.startswith(("| Call |", "|---"))]
     rows = [re.fullmatch(r"\| (.+?) \| `(.+?)` \| .+ \|", line) for line in lines]
     known = may_be_shown(call for calls in crates.values() for call in calls)
-    wrong = [f"README.md: not in the sources: {line}" for line, row in zip(lines, rows)
+    wrong = [f"docs/PROVED.md: not in the sources: {line}" for line, row in zip(lines, rows)
              if not row or row[2].replace("\\|", "|") not in known.get(row[1], ())]
     if len(rows) < LEAST_SHOWN:
-        wrong.append(f"README.md: {len(rows)} clauses")
+        wrong.append(f"docs/PROVED.md: {len(rows)} clauses")
     return wrong
 
 

@@ -1,6 +1,6 @@
 #!/usr/bin/env bash
 # Fails where docs/CONTRACTS.md is not what docs/contracts.py makes of the sources, or a table of
-# README.md shows a clause otherwise, and where that would not see a change. Other pages have to
+# docs/PROVED.md shows a clause otherwise, and where that would not see a change. Other pages have to
 # agree: docs/COMING_FROM.md names no call that is not there, docs/ARCHITECTURE.md names each file,
 # and docs/DEFINITIONS.md each module.
 . "$(dirname "$0")/common.bash" || exit 1
@@ -11,8 +11,8 @@ holds 'the pages are what the sources say' docs/contracts.py --check
 sees() {
     rm -rf "$room/copy"
     mkdir -p "$room/copy/docs"
-    cp docs/contracts.py docs/CONTRACTS.md "$room/copy/docs"
-    cp README.md crates.txt "$room/copy"
+    cp docs/contracts.py docs/CONTRACTS.md docs/PROVED.md "$room/copy/docs"
+    cp crates.txt "$room/copy"
     find crates -path '*/out' -prune -o \( -path '*/src/*' -o -path '*/specs/*' \) -type f -print0 |
         xargs -0 cp --parents -t "$room/copy"
     sed -i "s~$3~$4~" "$room/copy/$2"
@@ -31,13 +31,13 @@ sees 'a definition that changed' crates/encoding_stream/specs/Encoded.antt \
     'pub at_end : IsAtEnd read_new' 'pub at_end : IsAtEnd read_old'
 sees 'a law that changed' crates/data_encoding/specs/Laws.antt '→ one ≡ other' '→ other ≡ one'
 
-sees 'a clause that README.md shows otherwise' README.md \
+sees 'a clause that docs/PROVED.md shows otherwise' docs/PROVED.md \
     'IfOk result (λ bytes. Means self.now input.now bytes.items)' \
     'IfOk result (λ bytes. Means self.now bytes.items input.now)'
-sees 'a law that README.md shows otherwise' README.md '→ one ≡ other' '→ other ≡ one'
-sees 'a clause of another call' README.md '`Encoding::encode_mut` | `text' \
+sees 'a law that docs/PROVED.md shows otherwise' docs/PROVED.md '→ one ≡ other' '→ other ≡ one'
+sees 'a clause of another call' docs/PROVED.md '`Encoding::encode_mut` | `text' \
     '`Encoding::encode` | `text'
-sees 'a row of README.md that is none' README.md '| `run` | `failed' '| `run` `failed'
+sees 'a row of docs/PROVED.md that is none' docs/PROVED.md '| `run` | `failed' '| `run` `failed'
 
 # Calls of the last column are named as the page names them.
 unknown=$(sed -n '/^## The Rust crate/,$ s/^| .* | //p' docs/COMING_FROM.md |

@@ -3,11 +3,11 @@
 #
 # - `text`, and the examples of the manual page: a line with `$ ` and a command, and then what that
 #   prints, on standard output or standard error;
-# - `rust`: stands in the callers, word for word;
+# - `rust`: stands in the callers, word for word, or in crates/examples;
 # - `sh`: is run as it stands, but that `rt run` runs the program that is tried.
 #
-# tests/interop.sh runs those of docs/SCALE.md, and tests/contracts.sh has those of
-# docs/CONTRACTS.md.
+# tests/interop.sh runs those of docs/SCALE.md, tests/library.sh that of docs/LIBRARY.md, tests/c.sh
+# those of docs/C.md, and tests/contracts.sh has those of docs/CONTRACTS.md.
 #
 # usage: tests/examples.sh [PROGRAM]
 . "$(dirname "$0")/common.bash" || exit 1
@@ -16,6 +16,7 @@ program=$(tests/find-program "$@") || exit 1
 name_program "$program"
 mkdir "$room/home"
 callers=$(cat crates/conformance/src/callers.rt crates/conformance/src/callers/*.rt)
+library=$(cat crates/examples/src/*.rt)
 
 # try_examples PAGE BLOCK: a line end that a command doesn't print is not wanted.
 try_examples() {
@@ -52,20 +53,11 @@ try_commands() {
     case $2 in
     # It runs this test.
     .ci/run) is "$1: $2" 'tests/*.sh' "$(grep -o 'tests/\*\.sh' .ci/run)" ;;
-    *'rt run -- encode HEXLOWER'*"< $1")
-        given=$(bash -e -c "$2" 2>"$room/log")
-        is "$1: $2" "$(od -An -v -tx1 "$1" | tr -d ' \n')" "$given"
-        ;;
-    'crates/basecode/install.sh ~/.local')
+    '(cd crates/basecode && rt run -- list)'*'crates/basecode/install.sh ~/.local')
         given=$(HOME=$room/home bash -e -c "$2" 2>&1)
-        is "$1: $2" '' "$given"
+        is "$1: $2" "$(basecode list)" "$given"
         given=$("$room/home/.local/bin/basecode" canonical HEXLOWER 2>&1)
         is "$1: what $2 installs" true "$given"
-        ;;
-    # FOLDER is for the reader to fill in: without it, it says how it is used.
-    'benches/speed --original FOLDER')
-        bash -e -c "$2" >/dev/null 2>&1
-        is "$1: $2" 2 $?
         ;;
     *) is "$1: a block of sh" 'one that is known here' "$2" ;;
     esac
@@ -74,18 +66,18 @@ try_commands() {
 # try_block PAGE KIND BLOCK
 try_block() {
     case $1:$2 in
-    docs/SCALE.md:sh | docs/CONTRACTS.md:rust) ;;
+    docs/SCALE.md:sh | docs/LIBRARY.md:sh | docs/C.md:* | docs/CONTRACTS.md:rust) ;;
     *:text) try_examples "$1" "$3" ;;
     *:sh) try_commands "$1" "$3" ;;
     *:rust)
-        [[ "$callers" == *"$3"* ]]
-        is "$1: its function stands in the callers" 0 $?
+        [[ "$callers"$'\n'"$library" == *"$3"* ]]
+        is "$1: its function stands in the sources" 0 $?
         ;;
     *) is "$1: a block" 'of a kind that is known here' "$2" ;;
     esac
 }
 
-for page in README.md docs/*.md; do
+for page in *.md docs/*.md; do
     kind=
     while IFS= read -r line; do
         case $line in
@@ -118,6 +110,35 @@ functions() {
 
 is 'callers that docs/EXAMPLES.md does not show' '' \
     "$(comm -23 <(functions <<<"$callers") <(functions <docs/EXAMPLES.md))"
+
+# anchors PAGE: those of its headings.
+anchors() {
+    sed -nE 's/^#+ (.*)/\1/p' "$1" | tr 'A-Z ' 'a-z-' | sed 's/[^a-z0-9_-]//g'
+}
+
+# links PAGE: where its links within the repository lead.
+links() {
+    grep -oE '\]\([^):]+\)' "$1" | sed 's/^](//; s/)$//' | sort -u
+}
+
+for page in *.md docs/*.md; do
+    while IFS='#' read -r target anchor; do
+        [ -n "$target" ] && target=$(dirname "$page")/$target || target=$page
+        if [ ! -f "$target" ] || { [ -n "$anchor" ] && ! anchors "$target" | grep -qxF "$anchor"; }
+        then
+            echo "$page: $target $anchor"
+        fi
+    done < <(links "$page")
+done >"$room/lost"
+is 'links that lead nowhere' '' "$(cat "$room/lost")"
+
+[ "$(wc -w <README.md)" -le 1500 ]
+is 'README.md has at most 1,500 words' 0 $?
+is 'the table of README.md has each encoding, canonical or not' \
+    "$(for name in $(basecode list); do
+        echo "$name $(basecode canonical "$name" | sed 's/true/yes/; s/false/no/')"
+    done)" \
+    "$(sed -n 's/^| \([A-Z0-9_]*\) | .* | \(yes\|no\) | [a-z]* *| [0-9]* *|$/\1 \2/p' README.md)"
 
 [ "$passed" -ge 20 ] || fail 'the pages have fewer than 20 examples'
 finish

@@ -5,6 +5,7 @@
 
 program=$(tests/find-program) || exit 1
 install=$(realpath crates/basecode/install.sh)
+changes=$(realpath CHANGELOG.md)
 cd "$room" || exit 1
 
 files() {
@@ -39,8 +40,19 @@ if command -v man >/dev/null && man --version >/dev/null 2>&1; then
 else
     skip 'the page by man: no man'
 fi
+is 'the version in its footer' "basecode $(sed -n 's/^## //p' "$changes" | head -n 1)" \
+    "$(sed -nE '1s/^\.TH BASECODE 1 [0-9]{4}-[0-9]{2}-[0-9]{2} "([^"]*)" .*/\1/p' "$page")"
 is 'the page has each name' '' \
     "$(for name in $names; do grep -qw "$name" "$page" || echo "$name"; done)"
+
+# The stack that the page says is enough, in KiB.
+stack=$(sed -n 's/^The program needs up to \([0-9]*\) KiB of stack.*/\1/p' "$page")
+for words in list 'canonical HEXLOWER' 'encode BASE64_MIME' 'encode BASE32_DNSCURVE' \
+    'decode BASE64_MIME' 'decode BASE64' 'recode NOPE'; do
+    wanted=$("$program" $words <"$page" 2>&1)
+    is "$stack KiB of stack: $words" "$wanted" \
+        "$(ulimit -s "$stack" && env -i "$program" $words <"$page" 2>&1)"
+done
 
 # completed WORD..: what bash completes the last word to.
 completed() {
@@ -63,52 +75,66 @@ is 'bash: nothing behind a list' '' "$(completed basecode list '')"
 is 'bash: nothing behind a name' '' "$(completed basecode encode HEXLOWER '')"
 is 'bash: nothing behind no verb' '' "$(completed basecode recode '')"
 
-# typed KEYS: what a bash in a terminal shows when they are typed, the completions installed.
+# typed SHELL SETUP KEYS: types the keys in a shell in a terminal, after the setup, and ends it.
 typed() {
     python3 -c '
-import os, pty, select, signal, sys
-page, keys = sys.argv[1:]
+import os, pty, select, shlex, signal, sys, time
+shell, setup, keys = sys.argv[1:]
 child, terminal = pty.fork()
 if child == 0:
-    os.execvp("bash", ["bash", "--norc", "--noprofile", "-i"])
+    os.environ["TERM"] = "vt100"
+    words = shlex.split(shell)
+    os.execvp(words[0], words)
 
-# What is shown until nothing comes for a second, and no more than some of it.
-def read():
-    shown = b""
-    while len(shown) < 65536 and select.select([terminal], [], [], 1)[0]:
+# Reads what is shown until nothing comes for so many seconds, or the shell has ended.
+def settle(seconds):
+    end = time.monotonic() + 30
+    while time.monotonic() < end and select.select([terminal], [], [], seconds)[0]:
         try:
-            shown += os.read(terminal, 4096)
+            os.read(terminal, 4096)
         except OSError:
-            break
-    return shown
+            return
 
-os.write(terminal, f". {page}\n".encode())
-read()
-os.write(terminal, keys.encode().decode("unicode_escape").encode())
-shown = read()
+settle(1)
+os.write(terminal, setup.encode() + b"\n")
+settle(1)
+os.write(terminal, keys.encode().decode("unicode_escape").encode() + b"\nexit\n")
+settle(5)
 os.kill(child, signal.SIGKILL)
 os.waitpid(child, 0)
-sys.stdout.write(shown.decode(errors="replace"))
-' prefix/share/bash-completion/completions/basecode "$1"
+' "$@"
 }
 
-# shows NAME WANTED KEYS: whether the line that is shown has the wanted part.
-shows() {
-    local given
-    given=$(typed "$3")
-    case $given in
-    *"$2"*) pass ;;
-    *) is "$1" "$2" "$given" ;;
-    esac
+# Each shell in which completion is tried: what starts it, and what it is told at first.
+share=prefix/share
+shells="bash --norc --noprofile -i|. $share/bash-completion/completions/basecode
+zsh -f -i|fpath=($share/zsh/site-functions \$fpath); autoload -Uz compinit; compinit -u -D
+fish --no-config -i|source $share/fish/vendor_completions.d/basecode.fish"
+
+# completes SHELL SETUP PROGRAM: whether a name and a file are completed in a line that is run.
+completes() {
+    local shell=${1%% *}
+    rm -f typed.output
+    typed "$1" "$2" "$3 encode HEXUPPER_\\t<file-w\\t>typed.output"
+    is "$shell, typed: $3, a name, a file" 48656C6C6F "$(cat typed.output 2>&1)"
 }
 
-touch file-with-a-name
-shows 'bash, typed: a name' 'HEXUPPER_PERMISSIVE' 'basecode encode HEXUPPER_\t'
-shows 'bash, typed: a file' '<file-with-a-name' 'basecode encode BASE64 <file-w\t'
+printf Hello >file-with-a-name
 ln -s "$program" basecode
-mv prefix/bin/basecode prefix/bin/other
-shows 'bash, typed: the program that was typed' 'BASE32_DNSCURVE' './basecode encode BASE32_DNSC\t'
-mv prefix/bin/other prefix/bin/basecode
+if command -v python3 >/dev/null; then
+    while IFS='|' read -r shell setup <&3; do
+        if ! command -v "${shell%% *}" >/dev/null; then
+            skip "completion as ${shell%% *} does it: no ${shell%% *}"
+            continue
+        fi
+        completes "$shell" "$setup" basecode
+        mv prefix/bin/basecode prefix/bin/other
+        completes "$shell" "$setup" ./basecode
+        mv prefix/bin/other prefix/bin/basecode
+    done 3<<<"$shells"
+else
+    skip 'completion as shells do it: no python3'
+fi
 
 ln -s "$install" link
 DESTDIR=$room/staged ./link /usr

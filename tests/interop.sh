@@ -50,22 +50,26 @@ decodes() {
     done
 }
 
-# rows: the rows of the tables that have commands, as `there` and `here` with a tab between.
+# rows: the rows of the tables that have commands: how to encode there and here, and how to decode
+# there and here, with tabs between.
 rows() {
-    sed -n 's/^| `\(.*\)` | `\(.*basecode .*\)` |$/\1\t\2/p' "$tables" | sed 's/\\|/|/g'
+    local code='`\(.*\)`'
+    sed -n "s/^| [^|\`]* | $code | $code | $code | $code |\$/\1\t\2\t\3\t\4/p" "$tables" |
+        sed 's/\\|/|/g'
 }
 
-while IFS=$'\t' read -r there here; do
-    tool=${there%% *}
-    if ! command -v "$tool" >/dev/null; then
-        skip "$there: no $tool"
-    elif [[ $here == *'basecode decode '* ]]; then
-        decodes "$there" "$here"
+while IFS=$'\t' read -r encode_there encode_here decode_there decode_here; do
+    tool=${encode_there%% *}
+    if command -v "$tool" >/dev/null; then
+        encodes "$encode_there" "$encode_here"
+        decodes "$decode_there" "$decode_here"
     else
-        encodes "$there" "$here"
+        skip "$encode_there, $decode_there: no $tool"
     fi
 done < <(rows)
-[ "$(rows | wc -l)" -ge 30 ] || fail 'the tables have fewer than 30 lines'
+is 'each row of the tables is read' "$(grep -c '^| .* | `.*basecode encode ' "$tables")" \
+    "$(rows | grep -c 'basecode encode .*basecode decode ')"
+[ "$(rows | wc -l)" -ge 20 ] || fail 'the tables have fewer than 20 rows'
 
 # statuses ROW ENCODE DECODE FAULTY WRONG: the commands end as the row of the table says.
 statuses() {
@@ -96,23 +100,27 @@ block() {
         inside == number' "$scale"
 }
 
-# in_parts NUMBER MADE WANTED: runs the block, which makes a file that is wanted so.
+# in_parts NUMBER MADE WANTED: runs the block, which makes a file that is wanted so. `:` is this
+# machine.
 in_parts() {
-    (cd parts && bash -e -c "$(block "$1")") || fail "the block $1: status $?"
+    (cd parts && bash -e -c "$(block "$1" | sed 's/ one,other / : /')") ||
+        fail "the block $1: status $?"
     same "the block $1" "parts/$2" "$3"
 }
 
-[ "$(grep -c '^```sh$' "$scale")" = 4 ] || fail 'docs/SCALE.md has other than 4 blocks'
+[ "$(grep -c '^```sh$' "$scale")" = 5 ] || fail 'docs/SCALE.md has other than 5 blocks'
 head -c 67108864 /dev/urandom >parts/input
 basecode encode BASE64 <parts/input >whole
 in_parts 1 text whole
-in_parts 4 back parts/input
-if command -v parallel >/dev/null; then
-    rm parts/text
-    in_parts 2 text whole
-else
-    skip 'the block 2: no parallel'
-fi
+in_parts 5 back parts/input
+for number in 2 4; do
+    if command -v parallel >/dev/null; then
+        rm parts/text
+        in_parts "$number" text whole
+    else
+        skip "the block $number: no parallel"
+    fi
+done
 tail -c +8360001 whole | head -c 8360000 >second
 in_parts 3 second second
 
@@ -121,7 +129,7 @@ printf '!' | dd of=parts/text bs=1 seek=10000000 conv=notrunc status=none
 basecode decode BASE64 <parts/text 2>&1 >back | tail -n 1 >line
 echo 'basecode: invalid symbol at 10000000' >wanted
 same 'a fault of the whole' line wanted
-(cd parts && bash -e -c "$(block 4)") 2>&1 | tail -n 1 >line
+(cd parts && bash -e -c "$(block 5)") 2>&1 | tail -n 1 >line
 [ "${PIPESTATUS[0]}" = 123 ] || fail "a fault of a part: status ${PIPESTATUS[0]}"
 echo 'basecode: invalid symbol at 2200000' >wanted
 same 'a fault of a part' line wanted

@@ -10,7 +10,7 @@ made() {
         -not -path '*/tests/*' -not -name tests.rt -print0 | sort -z |
         xargs -0 grep -HE 'AllocError|AllocFailed|OutOfMemory|fmt::Error|io::Error|ErrorKind|(StreamFault|Self)::(Read|Write)\b' |
         sed -E 's/: +/: /' |
-        grep -vE '^[^:]*:( *//| *(pub )?use |.*->.*Result<)' |
+        grep -vE '^[^:]*:( *//|.*->.*Result<)' | grep -vP '^[^:]*: *(pub )?use (?!.* as )' |
         grep -vE ': (ghost|ensures|requires) |→|DecodeFault\.OutOfMemory|StreamFault\.(Read|Write)')
 }
 
@@ -52,5 +52,7 @@ sees 'a writer that did not fail' data_encoding/src/write.rt 'let mut rest = inp
     'let mut rest = input; if input.len() == 4099 { return Err(fmt::Error); }'
 sees 'a read that did not fail' encoding_stream/src/encode.rt '^    join_encode();' \
     'return Err(StreamFault::Read);'
+sees 'another name of an error' data_encoding/src/append.rt '^use std::alloc::{AllocError, \(.*\)};$' \
+    'use std::alloc::{AllocError as Refused, \1};'
 
 finish

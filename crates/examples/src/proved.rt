@@ -1,0 +1,23 @@
+//! A function with a contract of its own, proved from those of the calls that it makes.
+
+ghost use Rattle.std.specs.Prelude.{◌≡◌, ◌++◌, ◌≤◌, length, string_bytes, IfOk};
+ghost use Rattle.data_encoding.specs.Text.{text_of};
+
+use data_encoding::{ENCODE_LIMIT, Encoding};
+use std::alloc::{AllocError, Global};
+
+/// A line of the name and the text of the data. The only error is that memory ran out.
+pub fn labelled(
+    alloc: Global,
+    encoding: &Encoding,
+    name: &str,
+    data: &[u8],
+) -> Result<String, AllocError>
+    requires limit { length data.now ≤ ENCODE_LIMIT }
+    ensures line { IfOk result (λ line. string_bytes line
+        ≡ name.now ++ text_of encoding.now data.now) }
+{
+    let mut line = String::from_str(alloc, name)?;
+    encoding.encode_append(data, &mut line)?;
+    Ok(line)
+}

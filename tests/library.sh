@@ -1,0 +1,53 @@
+#!/usr/bin/env bash
+# Follows the way in of docs/LIBRARY.md, from an empty folder, and runs the program of
+# crates/examples over streams that fail. tests/examples.sh compares the other blocks of that page.
+. "$(dirname "$0")/common.bash" || exit 1
+
+tests/find-program >/dev/null || exit 1
+program=$(CRATE=examples tests/find-program) || exit 1
+BAMSTURK=$PWD
+export BAMSTURK
+
+# The block of sh on the page.
+way=$(sed -n '/^```sh$/,/^```$/ { /^```/d; p }' docs/LIBRARY.md)
+is 'the page has one block of sh' 1 "$(grep -c '^```sh$' docs/LIBRARY.md)"
+
+mkdir "$room/mine"
+cd "$room/mine" || exit 1
+bash -e -c "$way" >../output 2>../log
+is 'the way in' 0 $?
+is 'what it prints' "$(grep -o '`SGVsbG8=`' "$BAMSTURK/docs/LIBRARY.md" | tr -d '`')" \
+    "$(tail -n 1 ../output)"
+is 'it is proved' 1 "$(cat ../output ../log | grep -c '^logic=proved ')"
+
+# What the page says is not proved.
+form='let mut out = [0; 8]; base64().encode_mut(b"Hello", &mut out)'
+is 'the page names the form' 1 "$(grep -cF "\`$form\`" "$BAMSTURK/docs/LIBRARY.md")"
+sed -i "/println/a ${form//&/\\&};" crates/greeting/src/main.rt
+(cd crates/greeting && rt check) >../output 2>&1
+is 'a length that is not worked out' 1 \
+    "$(grep -c '^note: .*it is not proved that what `encode_mut` requires holds' ../output)"
+cd "$room" || exit 1
+
+# ends NAME STATUS LINE INPUT: how the program ends, with what line, on that input.
+ends() {
+    printf '%s' "$4" >input
+    "$program" <input >output 2>line
+    is "$1: its status" "$2" $?
+    is "$1: its line" "$3" "$(cat line)"
+}
+
+ends 'a text' 0 '' SGVsbG8=
+ends 'a text with a fault' 1 \
+    'Error: a fault of the text: non-zero trailing bits at 6' SGVsbG9=
+is 'the groups before it' Hel "$(tail -n 1 output)"
+"$program" <. >output 2>line
+is 'no input' "Error: the text can't be read" "$(cat line)"
+
+# The next command ends after the lines that are printed first, before there is a text.
+stdout=$BAMSTURK/crates/examples/stdout
+{ sleep 1; printf SGVsbG8=; } | "$program" 2>line | head -n "$(wc -l <"$stdout")" >output
+is 'no output: the lines before it' "$(head -n "$(wc -l <"$stdout")" "$stdout")" "$(cat output)"
+is 'no output' "Error: the data can't be written" "$(cat line)"
+
+finish
