@@ -24,7 +24,7 @@ MISSING = "(no words yet)"
 COLUMNS = 110
 
 # The functions of these modules are told together.
-TOGETHER = {"predefined": "The predefined encodings"}
+TOGETHER = {("specification", "predefined"): "The predefined encodings"}
 
 # The definitions of these crates are shown with the first call whose clauses name them; those of
 # data_encoding are in docs/DEFINITIONS.md.
@@ -204,7 +204,7 @@ def of_crate(crate):
         parts = path.relative_to(crate / "src").with_suffix("").parts
         if "tests" in parts:
             continue
-        target = gathered.get(parts[0], calls)
+        target = gathered.get(parts[:2], calls)
         target += of_file(path, "::".join(parts), names, modules)
     for module, title in TOGETHER.items():
         calls += together(gathered[module], title)

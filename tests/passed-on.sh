@@ -44,15 +44,15 @@ sees() {
     is "$1" 1 $?
 }
 
-sees 'memory that nobody was refused' data_encoding/src/append.rt '^        self.append_in(input, output)$' \
+sees 'memory that nobody was refused' data_encoding/src/encode/append.rt '^        self.append_in(input, output)$' \
     '        if input.len() == 4099 { return Err(AllocError); } self.append_in(input, output)'
 sees 'memory that ran out while decoding' data_encoding/src/decode.rt '^        let mut output = zeros.*' \
     '        if input.len() == 4099 { return Err(DecodeFault::OutOfMemory); }'
-sees 'a writer that did not fail' data_encoding/src/write.rt 'let mut rest = input;' \
+sees 'a writer that did not fail' data_encoding/src/encode/display.rt 'let mut rest = input;' \
     'let mut rest = input; if input.len() == 4099 { return Err(fmt::Error); }'
 sees 'a read that did not fail' encoding_stream/src/encode.rt '^    join_encode();' \
     'return Err(StreamFault::Read);'
-sees 'another name of an error' data_encoding/src/append.rt '^use std::alloc::{AllocError, \(.*\)};$' \
+sees 'another name of an error' data_encoding/src/encode/append.rt '^use std::alloc::{AllocError, \(.*\)};$' \
     'use std::alloc::{AllocError as Refused, \1};'
 
 finish

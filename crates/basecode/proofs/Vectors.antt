@@ -3,7 +3,7 @@ use Rattle.std.proofs.Common.{◌≡◌, ℕ, true, false, take, sym, Result, Li
 use Rattle.std.specs.Borrow.{Bor}
 use Rattle.data_encoding.specs.declared.error.DecodeError.{DecodeError}
 use Rattle.data_encoding.specs.declared.error.DecodeKind.TheVariants.{Symbol}
-use Rattle.data_encoding.specs.declared.meanings.Refusal.{Refusal}
+use Rattle.data_encoding.specs.declared.specification.meanings.Refusal.{Refusal}
 use Rattle.data_encoding.specs.Base.{Base}
 use Rattle.data_encoding.specs.Canonical.{IsCanonical}
 use Rattle.data_encoding.specs.Fields.{Fields, base_of}

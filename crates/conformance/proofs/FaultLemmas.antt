@@ -5,7 +5,7 @@ use Rattle.data_encoding.specs.declared.error.DecodeKind.{DecodeKind}
 use Rattle.data_encoding.specs.declared.error.DecodeKind.TheVariants.{Length, Symbol}
 use Rattle.data_encoding.specs.declared.error.DecodeFault.{DecodeFault}
 use Rattle.data_encoding.specs.declared.error.DecodeFault.TheVariants.{Error, OutOfMemory}
-use Rattle.data_encoding.specs.declared.meanings.Refusal.{Refusal}
+use Rattle.data_encoding.specs.declared.specification.meanings.Refusal.{Refusal}
 use Rattle.data_encoding.specs.Base.{Base}
 use Rattle.data_encoding.specs.Fault.{fault_of, first_fault, or_else, IsRefusal}
 use Rattle.data_encoding.specs.Fields.{base_of}

@@ -9,7 +9,7 @@ use Rattle.std.proofs.lemmas.List.Sums.{AllPass-from_list_all}
 use Rattle.std.specs.List.{list_all, range_with_len}
 use Rattle.data_encoding.specs.declared.encoding.BitOrder.TheVariants.{LeastSignificantFirst}
 use Rattle.data_encoding.specs.declared.encoding.Character.TheVariants.{Invalid}
-use Rattle.data_encoding.specs.declared.meanings.Refusal.{Refusal}
+use Rattle.data_encoding.specs.declared.specification.meanings.Refusal.{Refusal}
 use Rattle.data_encoding.specs.Layout.{own_character}
 use Rattle.data_encoding.specs.Base.{Base, is_padded, meaning}
 use Rattle.data_encoding.specs.Fields.{Fields, IsSpecified, base_of}

@@ -1,7 +1,7 @@
 pub mod lists
 pub mod digits
 pub mod tables
-pub mod specification
+pub mod judgement
 pub mod text
 pub mod order
 pub mod grammar

@@ -1,7 +1,7 @@
 -- What the builder of an encoding shows: what each byte means so far.
 use Rattle.std.specs.Prelude.{List, map, take}
 use Rattle.data_encoding.specs.declared.encoding.Character.{Character}
-use Rattle.data_encoding.specs.declared.meanings.Meanings.TheInside.{Inside}
+use Rattle.data_encoding.specs.declared.specification.meanings.Meanings.TheInside.{Inside}
 use Rattle.data_encoding.specs.Entries.{meaning_of_entry, HoldsEntries}
 
 abbrev pub meanings_of_table : Inside → List Character

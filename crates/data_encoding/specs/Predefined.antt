@@ -3,7 +3,7 @@ use Rattle.std.specs.Prelude.{ℕ, Bool, true, false, List, [], ◌∷◌, codes
 use Rattle.data_encoding.specs.declared.encoding.BitOrder.{BitOrder}
 use Rattle.data_encoding.specs.declared.encoding.BitOrder.TheVariants.{MostSignificantFirst, LeastSignificantFirst}
 use Rattle.data_encoding.specs.declared.encoding.Encoding.TheInside.{Inside}
-use Rattle.data_encoding.specs.declared.predefined.Predefined.{Predefined}
+use Rattle.data_encoding.specs.declared.specification.predefined.Predefined.{Predefined}
 use Rattle.data_encoding.specs.Fields.{Fields}
 
 -- symbols alone

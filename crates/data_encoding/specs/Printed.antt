@@ -6,8 +6,8 @@ use Rattle.data_encoding.specs.declared.error.DecodeKind.TheVariants.{Length, Sy
 use Rattle.data_encoding.specs.declared.error.DecodeError.{DecodeError}
 use Rattle.data_encoding.specs.declared.error.DecodeFault.{DecodeFault}
 use Rattle.data_encoding.specs.declared.error.DecodeFault.TheVariants.{Error, OutOfMemory}
-use Rattle.data_encoding.specs.declared.meanings.Refusal.{Refusal}
-use Rattle.data_encoding.specs.declared.meanings.Refusal.TheVariants.{BadSize, NotAscii, Duplicate, ExtraPadding, WrapLength, WrapWidth, FromTo, Undefined}
+use Rattle.data_encoding.specs.declared.specification.meanings.Refusal.{Refusal}
+use Rattle.data_encoding.specs.declared.specification.meanings.Refusal.TheVariants.{BadSize, NotAscii, Duplicate, ExtraPadding, WrapLength, WrapWidth, FromTo, Undefined}
 
 abbrev pub printed_kind : DecodeKind → List ℕ
 printed_kind Length = codes "invalid length"

@@ -1,13 +1,13 @@
 -- What a `Specification` says, with its texts as bytes.
 use Rattle.std.specs.Prelude.{◌≡◌, true, [], None}
 use Rattle.std.specs.String.{string_bytes}
-use Rattle.data_encoding.specs.declared.builder.Parts.{Parts}
+use Rattle.data_encoding.specs.declared.specification.builder.Parts.{Parts}
 use Rattle.data_encoding.specs.declared.encoding.BitOrder.TheVariants.{MostSignificantFirst}
-use Rattle.data_encoding.specs.declared.meanings.Refusal.{Refusal}
-use Rattle.data_encoding.specs.declared.spec.Specification.{Specification}
-use Rattle.data_encoding.specs.declared.spec.SpecificationError.{SpecificationError}
-use Rattle.data_encoding.specs.declared.spec.Translate.{Translate}
-use Rattle.data_encoding.specs.declared.spec.Wrap.{Wrap}
+use Rattle.data_encoding.specs.declared.specification.meanings.Refusal.{Refusal}
+use Rattle.data_encoding.specs.declared.specification.Specification.{Specification}
+use Rattle.data_encoding.specs.declared.specification.SpecificationError.{SpecificationError}
+use Rattle.data_encoding.specs.declared.specification.Translate.{Translate}
+use Rattle.data_encoding.specs.declared.specification.Wrap.{Wrap}
 use Rattle.data_encoding.specs.Fields.{Fields}
 
 abbrev pub specified : Specification → Fields

@@ -2,7 +2,7 @@
 use Rattle.std.specs.Prelude.{◌≡◌, ℕ, ◌%◌, ◌^◌, ◌<◌, ◌≤◌, ◌==◌, false, List, map, slice_index}
 use Rattle.data_encoding.specs.declared.encoding.Character.TheVariants.{Symbol}
 use Rattle.data_encoding.specs.declared.encoding.BitOrder.{BitOrder}
-use Rattle.data_encoding.specs.declared.entries.Tables.{Tables}
+use Rattle.data_encoding.specs.declared.specification.tables.Tables.{Tables}
 use Rattle.data_encoding.specs.Base.{Base, IsWidth, meaning, symbol, group_bytes, group_symbols, is_symbol, is_padding, is_ignored}
 use Rattle.data_encoding.specs.Entries.{meaning_of_entry}
 use Rattle.data_encoding.specs.Text.{plain_text}

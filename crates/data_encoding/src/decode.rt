@@ -1,5 +1,10 @@
 //! From text to data.
 
+pub(crate) mod group;
+pub(crate) mod length;
+pub(crate) mod next_group;
+pub(crate) mod steps;
+
 ghost use Rattle.std.specs.Prelude.{◌≡◌, ℕ, List, true, ◌+◌, ◌-◌, ◌*◌, ◌/◌, ◌<◌, ◌≤◌, ◌⊎◌, length, take, drop, None, Some, Ok, Err, IfOk, IfErr, IfSome, IsOk, IsOkAnd};
 ghost use Rattle.data_encoding.specs.Decoding.{HasNoLastRun, HasRoom, IsLastRun, IsStop, fault_of_stop};
 ghost use Rattle.data_encoding.specs.Fault.{IsRefusal, fault_of, sound_bytes};

@@ -1,5 +1,9 @@
 //! From data to text.
 
+pub(crate) mod append;
+pub(crate) mod display;
+pub(crate) mod encoder;
+
 ghost use Rattle.std.specs.Prelude.{◌≡◌, All, ℕ, ◌<◌, ◌+◌, ◌-◌, ◌*◌, ◌/◌, ◌≤◌, List, ◌++◌, length, drop, IfOk, IsOk, IsSome};
 ghost use Rattle.std.specs.String.{string_bytes};
 ghost use Rattle.data_encoding.specs.Base.{IsWidth, group_bytes, group_symbols};

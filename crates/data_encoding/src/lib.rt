@@ -5,37 +5,24 @@
 //! contracts of the public calls compare with them.
 #![tactic(auto)]
 
-mod append;
-mod builder;
-mod canonical;
 mod decode;
 mod encode;
-mod encoder;
 mod encoding;
-mod entries;
 mod error;
-mod gather;
-mod group;
 mod kernel;
 pub mod laws;
-mod layout;
-mod length;
-mod meanings;
 mod memory;
-mod predefined;
-mod spec;
-mod step;
-mod write;
+mod specification;
 
 pub use decode::DECODE_LIMIT;
 pub use encode::ENCODE_LIMIT;
-pub use encoder::Encoder;
+pub use encode::display::Display;
+pub use encode::encoder::Encoder;
 pub use encoding::{BitOrder, Character, Encoding};
 pub use error::{DecodeError, DecodeFault, DecodeKind, DecodePartial};
-pub use predefined::{
+pub use specification::predefined::{
     base32, base32_dnscurve, base32_dnssec, base32_nopad, base32_nopad_nocase, base32_nopad_visual,
     base32hex, base32hex_nopad, base64, base64_mime, base64_mime_permissive, base64_nopad,
     base64url, base64url_nopad, hexlower, hexlower_permissive, hexupper, hexupper_permissive,
 };
-pub use spec::{Specification, SpecificationError, Translate, Wrap};
-pub use write::Display;
+pub use specification::{Specification, SpecificationError, Translate, Wrap};

@@ -1,6 +1,6 @@
 -- A number has one base.
 use Rattle.std.proofs.Common.{◌≡◌, ℕ, Some, None, Result, Ok, sym, ap, ◌∙◌}
-use Rattle.data_encoding.specs.declared.meanings.Refusal.{Refusal}
+use Rattle.data_encoding.specs.declared.specification.meanings.Refusal.{Refusal}
 use Rattle.data_encoding.specs.Base.{Base}
 use Rattle.data_encoding.specs.Fields.{Fields, base_of}
 use Rattle.data_encoding_c.specs.Numbers.{IsNumbered, fields_numbered}

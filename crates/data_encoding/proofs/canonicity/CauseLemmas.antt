@@ -14,8 +14,8 @@ use Rattle.data_encoding.proofs.canonicity.OneTextLemmas.{Means-text_of_only}
 use Rattle.data_encoding.proofs.canonicity.TrailingTextLemmas.{trailing-second}
 use Rattle.data_encoding.proofs.canonicity.TranslatedTextLemmas.{padding-second, symbol-second}
 use Rattle.data_encoding.proofs.lists.EachLemmas.{all_in_range, none_passes}
-use Rattle.data_encoding.proofs.specification.RuleLemmas.{IsRuled}
-use Rattle.data_encoding.proofs.specification.TranslationLemmas.{is_translated_byte}
+use Rattle.data_encoding.proofs.judgement.RuleLemmas.{IsRuled}
+use Rattle.data_encoding.proofs.judgement.TranslationLemmas.{is_translated_byte}
 
 none_in : (l : List ℕ) → AllByRecursion (λ _. ⊥) l → l ≡ []
 none_in [] h = refl

@@ -10,7 +10,7 @@ use Rattle.data_encoding.proofs.canonicity.OneGroupLemmas.{Means-padded_text, le
 use Rattle.data_encoding.proofs.digits.WidthLemmas.{by_width, group_symbols-few, group_symbols-pos}
 use Rattle.data_encoding.proofs.grammar.JoinLemmas.{Means-join}
 use Rattle.data_encoding.proofs.lists.RunLemmas.{run_count}
-use Rattle.data_encoding.proofs.specification.RuleLemmas.{IsRuled, IsRuledPadding}
+use Rattle.data_encoding.proofs.judgement.RuleLemmas.{IsRuled, IsRuledPadding}
 use Rattle.data_encoding.proofs.text.PaddedTextLemmas.{length-padded}
 
 -- padding is only where eight bits are no whole symbols

@@ -7,8 +7,8 @@ use Rattle.data_encoding.specs.Eighteen.{Yields, canonical_fields, second_text_f
 use Rattle.data_encoding.specs.Fields.{Fields, base_of}
 use Rattle.data_encoding.specs.Predefined.{hexlower_fields, hexlower_permissive_fields, hexupper_fields, hexupper_permissive_fields, base32_fields, base32_nopad_fields, base32_nopad_nocase_fields, base32_nopad_visual_fields, base32hex_fields, base32hex_nopad_fields, base32_dnssec_fields, base32_dnscurve_fields, base64_fields, base64_nopad_fields, base64_mime_fields, base64_mime_permissive_fields, base64url_fields, base64url_nopad_fields}
 use Rattle.data_encoding.proofs.canonicity.TokenLemmas.{canonical-causes}
-use Rattle.data_encoding.proofs.specification.RuleLemmas.{IsRuled-yield}
-use Rattle.data_encoding.proofs.specification.YieldLemmas.{IsOfBase, yields}
+use Rattle.data_encoding.proofs.judgement.RuleLemmas.{IsRuled-yield}
+use Rattle.data_encoding.proofs.judgement.YieldLemmas.{IsOfBase, yields}
 
 is_canonical : (fields : Fields)
     → IsOfBase (λ base. has_one_text base ≡ true) (base_of fields) → Yields IsCanonical fields

@@ -7,7 +7,7 @@ use Rattle.data_encoding.specs.Grammar.{GroupsMean, Means, MeansBy, Positioned}
 use Rattle.data_encoding.proofs.digits.WidthLemmas.{group_symbols-pos}
 use Rattle.data_encoding.proofs.grammar.SameBytesLemmas.{bytes-kept_in, Means-same}
 use Rattle.data_encoding.proofs.lists.RunLemmas.{runs-nil}
-use Rattle.data_encoding.proofs.specification.RuleLemmas.{IsRuled}
+use Rattle.data_encoding.proofs.judgement.RuleLemmas.{IsRuled}
 
 module _ (base : Base) (ruled : IsRuled base) where
   -- nothing means nothing

@@ -14,7 +14,7 @@ use Rattle.data_encoding.proofs.grammar.SameBytesLemmas.{bytes-kept_in, GroupsMe
 use Rattle.data_encoding.proofs.lists.EachLemmas.{all_joined}
 use Rattle.data_encoding.proofs.lists.ListLemmas.{AllFail}
 use Rattle.data_encoding.proofs.lists.RunLemmas.{runs-short}
-use Rattle.data_encoding.proofs.specification.RuleLemmas.{IsRuled, IsRuledPadding}
+use Rattle.data_encoding.proofs.judgement.RuleLemmas.{IsRuled, IsRuledPadding}
 use Rattle.data_encoding.proofs.text.KeptTextLemmas.{bytes-kept_text, filter-kept, none_ignored}
 use Rattle.data_encoding.proofs.text.LastGroupLemmas.{AreFillers, AreFillers-replicate, GroupMeans-fillers, length-filled_once}
 use Rattle.data_encoding.proofs.text.PlainTextLemmas.{length-plain_text}

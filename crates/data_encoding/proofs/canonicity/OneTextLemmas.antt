@@ -25,7 +25,7 @@ use Rattle.data_encoding.proofs.grammar.UnpaddedGroupLemmas.{PlainMeans-count}
 use Rattle.data_encoding.proofs.lists.EachLemmas.{all_parts}
 use Rattle.data_encoding.proofs.lists.ListLemmas.{AllFail-list_any}
 use Rattle.data_encoding.proofs.lists.RunLemmas.{flat_map-runs}
-use Rattle.data_encoding.proofs.specification.RuleLemmas.{IsRuled}
+use Rattle.data_encoding.proofs.judgement.RuleLemmas.{IsRuled}
 use Rattle.data_encoding.proofs.text.PaddedTextLemmas.{text_of-unwrapped}
 use Rattle.data_encoding.proofs.text.PlainTextLemmas.{plain_text-join, plain_text-nil}
 use Rattle.data_encoding.proofs.text.TextMeaningLemmas.{filled-behind, filled-nil}

@@ -22,7 +22,7 @@ use Rattle.data_encoding.proofs.grammar.GroupLemmas.{bytes_in}
 use Rattle.data_encoding.proofs.grammar.UnpaddedGroupLemmas.{length-bits_of_values}
 use Rattle.data_encoding.proofs.lists.EachLemmas.{passes_at}
 use Rattle.data_encoding.proofs.lists.RunLemmas.{runs-flat_map}
-use Rattle.data_encoding.proofs.specification.RuleLemmas.{IsRuled, IsRuledPadding, is_within}
+use Rattle.data_encoding.proofs.judgement.RuleLemmas.{IsRuled, IsRuledPadding, is_within}
 use Rattle.data_encoding.proofs.text.PlainTextLemmas.{missing-none}
 
 -- what completes a length to a multiple is what is missing

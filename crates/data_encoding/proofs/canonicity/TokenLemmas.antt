@@ -10,7 +10,7 @@ use Rattle.data_encoding.proofs.canonicity.CauseLemmas.{canonical-by}
 use Rattle.data_encoding.proofs.canonicity.OneTextLemmas.{Means-text_of_only, no_lines-only}
 use Rattle.data_encoding.proofs.grammar.TightLemmas.{are_bytes-Means}
 use Rattle.data_encoding.proofs.order.ComparedLemmas.{data-alike}
-use Rattle.data_encoding.proofs.specification.RuleLemmas.{IsRuled}
+use Rattle.data_encoding.proofs.judgement.RuleLemmas.{IsRuled}
 use Rattle.data_encoding.proofs.text.TextLengthLemmas.{text-same}
 
 module _ (base : Base) (ruled : IsRuled base) where

@@ -16,7 +16,7 @@ use Rattle.data_encoding.proofs.canonicity.OneGroupLemmas.{Means-group, Means-pa
 use Rattle.data_encoding.proofs.digits.WidthLemmas.{by_width}
 use Rattle.data_encoding.proofs.digits.WordLemmas.{map-twice}
 use Rattle.data_encoding.proofs.grammar.PositionLemmas.{bytes-positioned_from}
-use Rattle.data_encoding.proofs.specification.RuleLemmas.{IsRuled}
+use Rattle.data_encoding.proofs.judgement.RuleLemmas.{IsRuled}
 use Rattle.data_encoding.proofs.text.SymbolMeaningLemmas.{own_meaning}
 use Rattle.data_encoding.proofs.text.PlainTextLemmas.{text_by}
 

@@ -5,7 +5,7 @@ use Rattle.data_encoding.specs.Base.{Base, is_padded, ignores_some}
 use Rattle.data_encoding.specs.Canonical.{has_one_text}
 use Rattle.data_encoding.specs.Layout.{translated_bytes}
 use Rattle.data_encoding.proofs.lists.EachLemmas.{at_in_range}
-use Rattle.data_encoding.proofs.specification.TranslationLemmas.{is_translated_byte}
+use Rattle.data_encoding.proofs.judgement.TranslationLemmas.{is_translated_byte}
 
 -- where the list is empty, no byte is translated
 pub not_translated : (base : Base) → translated_bytes base ≡ [] → (byte : ℕ) → byte < 128

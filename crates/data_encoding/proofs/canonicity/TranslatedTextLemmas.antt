@@ -23,7 +23,7 @@ use Rattle.data_encoding.proofs.lists.EachLemmas.{all_joined}
 use Rattle.data_encoding.proofs.lists.ListLemmas.{parts_same}
 use Rattle.data_encoding.proofs.lists.RepeatLemmas.{map-replicate}
 use Rattle.data_encoding.proofs.lists.RunLemmas.{run_count}
-use Rattle.data_encoding.proofs.specification.RuleLemmas.{IsRuled, IsRuledPadding}
+use Rattle.data_encoding.proofs.judgement.RuleLemmas.{IsRuled, IsRuledPadding}
 use Rattle.data_encoding.proofs.text.LastGroupLemmas.{AreFillers-replicate, length-filled_once}
 use Rattle.data_encoding.proofs.text.PlainTextLemmas.{filled-whole, length-plain_text}
 use Rattle.data_encoding.proofs.text.SymbolMeaningLemmas.{PlainMeans-plain_text, own_meaning}

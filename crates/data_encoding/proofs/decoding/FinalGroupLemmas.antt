@@ -14,7 +14,7 @@ use Rattle.data_encoding.proofs.grammar.GroupLemmas.{fail-meanings, symbols_alon
 use Rattle.data_encoding.proofs.grammar.JoinLemmas.{whole-padded}
 use Rattle.data_encoding.proofs.grammar.UnpaddedGroupLemmas.{PlainMeans-count}
 use Rattle.data_encoding.proofs.lists.ListLemmas.{AllFail, list_any-none}
-use Rattle.data_encoding.proofs.specification.RuleLemmas.{IsRuled}
+use Rattle.data_encoding.proofs.judgement.RuleLemmas.{IsRuled}
 
 -- symbols of whole groups of bytes, and fewer bits than a symbol's, are whole groups
 symbols_whole : (width : ℕ) → IsWidth width → (symbols bytes rest : ℕ)

@@ -10,7 +10,7 @@ use Rattle.data_encoding.specs.Partial.{partial_of}
 use Rattle.data_encoding.proofs.decoding.ReadLemmas.{Means-partial}
 use Rattle.data_encoding.proofs.grammar.JoinFaultLemmas.{fault-join, sound_bytes-join}
 use Rattle.data_encoding.proofs.grammar.JoinLemmas.{Means-join}
-use Rattle.data_encoding.proofs.specification.RuleLemmas.{IsRuled}
+use Rattle.data_encoding.proofs.judgement.RuleLemmas.{IsRuled}
 
 module _ (base : Base) (ruled : IsRuled base) (piece next : List ℕ) where
   -- what was read, and what is left before what follows, are the whole

@@ -10,7 +10,7 @@ use Rattle.std.proofs.lemmas.Slice.{take-put_mid_below}
 use Rattle.data_encoding.specs.declared.error.DecodeKind.TheVariants.{Padding as PaddingFault}
 use Rattle.data_encoding.specs.declared.error.DecodeError.{DecodeError}
 use Rattle.data_encoding.specs.declared.error.DecodePartial.{DecodePartial}
-use Rattle.data_encoding.specs.declared.group.GroupFault.{GroupFault}
+use Rattle.data_encoding.specs.declared.decode.group.GroupFault.{GroupFault}
 use Rattle.data_encoding.specs.Base.{Base, IsWidth, group_bytes, group_symbols, is_padded}
 use Rattle.data_encoding.specs.Decoding.{HasFault, HasNoLastRun, IsDecoded, IsDecodedGroup, IsGathered, IsLastRun, IsRun, IsStop, HasStopped, valid_front, HasDecodedTo}
 use Rattle.data_encoding.specs.Fault.{group_fault, position_of}

@@ -9,7 +9,7 @@ use Rattle.data_encoding.specs.Grammar.{Positioned, is_final}
 use Rattle.data_encoding.specs.Lengths.{decoded_len, greatest_valid_length, is_valid_count, is_valid_length, most_bytes, unless_fault}
 use Rattle.data_encoding.proofs.digits.WidthLemmas.{by_width}
 use Rattle.data_encoding.proofs.grammar.LengthLemmas.{decoded_len-valid, is_valid_length-by, most_bytes-by}
-use Rattle.data_encoding.proofs.specification.RuleLemmas.{IsRuled}
+use Rattle.data_encoding.proofs.judgement.RuleLemmas.{IsRuled}
 
 -- So many whole groups.
 

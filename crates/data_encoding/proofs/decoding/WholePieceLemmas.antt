@@ -20,7 +20,7 @@ use Rattle.data_encoding.proofs.grammar.PositionLemmas.{length-kept_plain}
 use Rattle.data_encoding.proofs.grammar.SoundLemmas.{AreSound-append, AreSound-none, ends_after, first-AreSound, neither_fault, sound-AreSound, sound-all}
 use Rattle.data_encoding.proofs.lists.RunLemmas.{few_runs, runs-map}
 use Rattle.data_encoding.proofs.lists.WholeRunLemmas.{left, whole_runs, whole_runs-all}
-use Rattle.data_encoding.proofs.specification.RuleLemmas.{IsRuled, IsRuledPadding}
+use Rattle.data_encoding.proofs.judgement.RuleLemmas.{IsRuled, IsRuledPadding}
 
 length-moved : (count : ℕ) (ks : List Positioned) → length (moved count ks) ≡ length ks
 length-moved count [] = refl

@@ -21,7 +21,7 @@ use Rattle.data_encoding.proofs.grammar.PositionLemmas.{length-kept_plain}
 use Rattle.data_encoding.proofs.grammar.SoundLemmas.{AreSound-none, ends_after, first-AreSound, neither_fault, sound-AreSound, sound-all}
 use Rattle.data_encoding.proofs.lists.ListLemmas.{AllFail}
 use Rattle.data_encoding.proofs.lists.RunLemmas.{few_runs, runs-join, runs-map}
-use Rattle.data_encoding.proofs.specification.RuleLemmas.{IsRuled}
+use Rattle.data_encoding.proofs.judgement.RuleLemmas.{IsRuled}
 
 -- the same bytes, so many positions further on
 abbrev pub moved : ℕ → List Positioned → List Positioned

@@ -19,7 +19,7 @@ use Rattle.data_encoding.proofs.grammar.UnpaddedGroupLemmas.{PlainMeans-count}
 use Rattle.data_encoding.proofs.lists.EachLemmas.{all_parts}
 use Rattle.data_encoding.proofs.lists.ListLemmas.{AllFail, list_any-none}
 use Rattle.data_encoding.proofs.lists.RunLemmas.{flat_map-runs, runs-join}
-use Rattle.data_encoding.proofs.specification.RuleLemmas.{IsRuled, IsRuledPadding}
+use Rattle.data_encoding.proofs.judgement.RuleLemmas.{IsRuled, IsRuledPadding}
 
 -- where eight bits are whole symbols, no bits are left
 none_left : (width : ℕ) → IsWidth width → (symbols bytes rest : ℕ) → 8 % width ≡ 0

@@ -13,7 +13,7 @@ use Rattle.data_encoding.proofs.grammar.LengthLemmas.{most_bytes-by}
 use Rattle.data_encoding.proofs.grammar.PositionLemmas.{length-kept_plain, never_ignored}
 use Rattle.data_encoding.proofs.grammar.UnpaddedGroupLemmas.{PlainMeans-count}
 use Rattle.data_encoding.proofs.lists.RunLemmas.{run_count}
-use Rattle.data_encoding.proofs.specification.RuleLemmas.{IsRuled, IsRuledWrapping}
+use Rattle.data_encoding.proofs.judgement.RuleLemmas.{IsRuled, IsRuledWrapping}
 use Rattle.data_encoding.proofs.text.PaddedTextLemmas.{length-unpadded, text_of-unwrapped}
 
 -- where no byte is ignored, there are no lines

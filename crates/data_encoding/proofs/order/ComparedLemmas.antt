@@ -8,7 +8,7 @@ use Rattle.data_encoding.specs.Order.{IsBefore, IsOrdered, KeepsOrder}
 use Rattle.data_encoding.specs.Text.{text_of}
 use Rattle.data_encoding.proofs.grammar.MeaningLemmas.{sound_bytes-Means}
 use Rattle.data_encoding.proofs.order.TextOrderLemmas.{KeepsOrder-ordered}
-use Rattle.data_encoding.proofs.specification.RuleLemmas.{IsRuled}
+use Rattle.data_encoding.proofs.judgement.RuleLemmas.{IsRuled}
 use Rattle.data_encoding.proofs.text.TextMeaningLemmas.{Means-text_of}
 
 never_both : (xs ys : List ℕ) → IsBefore xs ys → IsBefore ys xs → ⊥

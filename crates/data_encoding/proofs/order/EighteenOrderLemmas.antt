@@ -10,7 +10,7 @@ use Rattle.data_encoding.specs.Eighteen.{Yields, ordered_fields, unordered_field
 use Rattle.data_encoding.specs.Fields.{Fields, base_of}
 use Rattle.data_encoding.specs.Order.{IsOrdered}
 use Rattle.data_encoding.specs.Predefined.{hexlower_fields, hexlower_permissive_fields, hexupper_fields, hexupper_permissive_fields, base32_fields, base32_nopad_fields, base32_nopad_nocase_fields, base32_nopad_visual_fields, base32hex_fields, base32hex_nopad_fields, base32_dnssec_fields, base32_dnscurve_fields, base64_fields, base64_nopad_fields, base64url_fields, base64url_nopad_fields}
-use Rattle.data_encoding.proofs.specification.YieldLemmas.{IsOfBase, yields}
+use Rattle.data_encoding.proofs.judgement.YieldLemmas.{IsOfBase, yields}
 
 -- each is below all that follow
 abbrev ascends : List ℕ → Bool

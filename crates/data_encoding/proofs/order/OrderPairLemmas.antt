@@ -16,7 +16,7 @@ use Rattle.data_encoding.proofs.digits.BitLemmas.{length-bits_of, low_bits-add, 
 use Rattle.data_encoding.proofs.digits.WidthLemmas.{by_width}
 use Rattle.data_encoding.proofs.order.FrontLemmas.{front, front-long}
 use Rattle.data_encoding.proofs.order.TextOrderLemmas.{text_by-first}
-use Rattle.data_encoding.proofs.specification.RuleLemmas.{IsRuled, IsRuledPadding}
+use Rattle.data_encoding.proofs.judgement.RuleLemmas.{IsRuled, IsRuledPadding}
 use Rattle.data_encoding.proofs.text.PaddedTextLemmas.{text_of-unwrapped}
 use Rattle.data_encoding.proofs.text.PlainTextLemmas.{text_by}
 

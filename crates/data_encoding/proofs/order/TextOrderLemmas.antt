@@ -13,7 +13,7 @@ use Rattle.data_encoding.specs.Text.{filled_with, with_padding, padded_text, tex
 use Rattle.data_encoding.proofs.digits.BitLemmas.{AreBits, AreBits-bits_of, AreBits-drop, AreBits-flat_map}
 use Rattle.data_encoding.proofs.lists.RunLemmas.{runs-append, runs-nil, runs-short}
 use Rattle.data_encoding.proofs.order.FrontLemmas.{front, front_number, front-long, front-short, front_number-below, length-front, front-compared, before-bytes, IsBeforeBy, IsRestBefore}
-use Rattle.data_encoding.proofs.specification.RuleLemmas.{IsRuled}
+use Rattle.data_encoding.proofs.judgement.RuleLemmas.{IsRuled}
 use Rattle.data_encoding.proofs.text.PaddedTextLemmas.{text_of-unwrapped}
 use Rattle.data_encoding.proofs.text.PlainTextLemmas.{filled-join, filled-whole, missing-some, text_by}
 

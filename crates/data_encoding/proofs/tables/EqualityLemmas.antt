@@ -15,7 +15,7 @@ use Rattle.data_encoding.specs.Encoding.{KeepsRules, KeepsWrapping, base_of_tabl
 use Rattle.data_encoding.specs.Entries.{meaning_of_entry}
 use Rattle.data_encoding.specs.Layout.{code_of, layout}
 use Rattle.data_encoding.proofs.digits.WidthLemmas.{symbols-few}
-use Rattle.data_encoding.proofs.specification.RuleLemmas.{IsRuled}
+use Rattle.data_encoding.proofs.judgement.RuleLemmas.{IsRuled}
 use Rattle.data_encoding.proofs.tables.LayoutLemmas.{codes-back}
 use Rattle.data_encoding.proofs.tables.OneLayoutLemmas.{one_layout}
 use Rattle.data_encoding.proofs.tables.TableRuleLemmas.{HoldsEntries-tables, IsRuled-tables}

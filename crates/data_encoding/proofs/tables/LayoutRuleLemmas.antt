@@ -19,8 +19,8 @@ use Rattle.data_encoding.specs.OneLayout.{IsIgnoredIn, IsLayout, IsLayoutOf, Lay
 use Rattle.data_encoding.proofs.digits.WidthLemmas.{symbols-few, times_symbols}
 use Rattle.data_encoding.proofs.lists.EachLemmas.{list_all-places, passes_at}
 use Rattle.data_encoding.proofs.lists.RepeatLemmas.{get_or-repeats, length-repeats}
-use Rattle.data_encoding.proofs.specification.RoundTripLemmas.{IsSpecified-ruled}
-use Rattle.data_encoding.proofs.specification.RuleLemmas.{IsRuled, IsRuledPadding, IsRuledWrapping, IsRuled-yield, is_no_padding, is_within}
+use Rattle.data_encoding.proofs.judgement.RoundTripLemmas.{IsSpecified-ruled}
+use Rattle.data_encoding.proofs.judgement.RuleLemmas.{IsRuled, IsRuledPadding, IsRuledWrapping, IsRuled-yield, is_no_padding, is_within}
 use Rattle.data_encoding.proofs.tables.LayoutLemmas.{codes-back}
 use Rattle.data_encoding.proofs.tables.OneLayoutLemmas.{are_bits, ends, flags, length-table, symbol_table}
 use Rattle.data_encoding.proofs.tables.ReadingLemmas.{HasFlags, flags-back}

@@ -13,7 +13,7 @@ use Rattle.data_encoding.specs.Entries.{meaning_of_entry}
 use Rattle.data_encoding.specs.Layout.{code_of, layout, order_flag, wrapping_bytes}
 use Rattle.data_encoding.proofs.lists.ListLemmas.{parts_same}
 use Rattle.data_encoding.proofs.lists.RepeatLemmas.{length-repeats, take-repeats}
-use Rattle.data_encoding.proofs.specification.RuleLemmas.{IsRuled, IsRuledPadding, IsRuledWrapping, is_within}
+use Rattle.data_encoding.proofs.judgement.RuleLemmas.{IsRuled, IsRuledPadding, IsRuledWrapping, is_within}
 use Rattle.data_encoding.proofs.tables.TableRuleLemmas.{value-symbol}
 use Rattle.data_encoding.proofs.digits.WidthLemmas.{times_symbols, times-pos, symbols-few}
 

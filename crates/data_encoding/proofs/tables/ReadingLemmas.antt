@@ -7,15 +7,15 @@ use Rattle.std.specs.Result.{result_ok}
 use Rattle.data_encoding.specs.declared.encoding.BitOrder.{BitOrder}
 use Rattle.data_encoding.specs.declared.encoding.BitOrder.TheVariants.{MostSignificantFirst, LeastSignificantFirst}
 use Rattle.data_encoding.specs.declared.encoding.Character.TheVariants.{Invalid}
-use Rattle.data_encoding.specs.declared.entries.Tables.{Tables}
-use Rattle.data_encoding.specs.declared.meanings.Refusal.{Refusal}
+use Rattle.data_encoding.specs.declared.specification.tables.Tables.{Tables}
+use Rattle.data_encoding.specs.declared.specification.meanings.Refusal.{Refusal}
 use Rattle.data_encoding.specs.Base.{Base, Wrapping, ignores_some, is_ignored, meaning}
 use Rattle.data_encoding.specs.Entries.{meaning_of_entry}
 use Rattle.data_encoding.specs.Fields.{Fields, IsSpecified, base_of}
 use Rattle.data_encoding.specs.Layout.{code_of, column_of, layout, separator_of, wrapping_bytes}
 use Rattle.data_encoding.specs.Tables.{HasTables}
 use Rattle.data_encoding.proofs.digits.WidthLemmas.{symbols-few}
-use Rattle.data_encoding.proofs.specification.RuleLemmas.{IsRuled, IsRuledPadding, IsRuledWrapping, IsRuled-yield}
+use Rattle.data_encoding.proofs.judgement.RuleLemmas.{IsRuled, IsRuledPadding, IsRuledWrapping, IsRuled-yield}
 use Rattle.data_encoding.proofs.tables.OneLayoutLemmas.{are_bits, check_bit, ends, flags, length-table, length-tables, meanings-of_codes, order_bit, symbol_table, symbols-of_table}
 
 -- a byte is ignored where its entry says so

@@ -7,7 +7,7 @@ use Rattle.data_encoding.specs.Lengths.{IsBlockLength, align_by, alignment}
 use Rattle.data_encoding.specs.Text.{padded_text, text_of}
 use Rattle.data_encoding.proofs.digits.WidthLemmas.{by_width, group_bytes-few, group_bytes-pos, group_symbols-few}
 use Rattle.data_encoding.proofs.lists.RunLemmas.{run_count, run_count-few}
-use Rattle.data_encoding.proofs.specification.RuleLemmas.{IsRuled}
+use Rattle.data_encoding.proofs.judgement.RuleLemmas.{IsRuled}
 use Rattle.data_encoding.proofs.text.LineLemmas.{alignment-is, alignment-some, are, column-is, groups, length-lines, padded-few}
 use Rattle.data_encoding.proofs.text.PaddedTextLemmas.{text_of-unwrapped}
 

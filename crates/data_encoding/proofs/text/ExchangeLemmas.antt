@@ -12,7 +12,7 @@ use Rattle.data_encoding.specs.Text.{filled_with, in_lines, padded_text, plain_t
 use Rattle.data_encoding.proofs.digits.WordLemmas.{map-twice}
 use Rattle.data_encoding.proofs.lists.RepeatLemmas.{map-replicate}
 use Rattle.data_encoding.proofs.lists.RunLemmas.{runs-map}
-use Rattle.data_encoding.proofs.specification.RuleLemmas.{AreLines, IsRuled, IsRuledPadding, IsRuledWrapping}
+use Rattle.data_encoding.proofs.judgement.RuleLemmas.{AreLines, IsRuled, IsRuledPadding, IsRuledWrapping}
 use Rattle.data_encoding.proofs.text.SymbolMeaningLemmas.{are_values, own_meaning, text_is, values}
 
 module _ (base other : Base) (ruled : IsRuled base) (differ : DifferInSymbols base other) where

@@ -13,7 +13,7 @@ use Rattle.data_encoding.proofs.grammar.SameBytesLemmas.{bytes-kept_in}
 use Rattle.data_encoding.proofs.lists.EachLemmas.{all_joined}
 use Rattle.data_encoding.proofs.lists.ListLemmas.{AllFail}
 use Rattle.data_encoding.proofs.lists.RunLemmas.{flat_map-runs}
-use Rattle.data_encoding.proofs.specification.RuleLemmas.{IsRuled, IsRuledPadding, IsRuledWrapping}
+use Rattle.data_encoding.proofs.judgement.RuleLemmas.{IsRuled, IsRuledPadding, IsRuledWrapping}
 use Rattle.data_encoding.proofs.text.SymbolMeaningLemmas.{none_ignored-plain_text}
 
 module _ {X : Type 0} (test : X → Bool) where

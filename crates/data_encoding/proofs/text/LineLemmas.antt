@@ -14,7 +14,7 @@ use Rattle.data_encoding.specs.Lengths.{align_by, alignment}
 use Rattle.data_encoding.specs.Text.{in_lines, padded_text, text_of}
 use Rattle.data_encoding.proofs.digits.WidthLemmas.{group_bytes-few, group_bytes-pos, group_symbols-few, group_symbols-pos}
 use Rattle.data_encoding.proofs.lists.RunLemmas.{all_ended, length-ended, run_count, run_count-few, run_count-some, runs-reach, runs-short}
-use Rattle.data_encoding.proofs.specification.RuleLemmas.{AreLines, IsRuled, IsRuledWrapping}
+use Rattle.data_encoding.proofs.judgement.RuleLemmas.{AreLines, IsRuled, IsRuledWrapping}
 use Rattle.data_encoding.proofs.tables.TableLemmas.{padding-seen, symbols-seen}
 use Rattle.data_encoding.proofs.tables.TableRuleLemmas.{IsRuled-tables}
 use Rattle.data_encoding.proofs.text.TextJoinLemmas.{length-padded_groups, line-groups, whole-parts}

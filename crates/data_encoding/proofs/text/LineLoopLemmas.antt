@@ -14,7 +14,7 @@ use Rattle.data_encoding.specs.Lengths.{alignment}
 use Rattle.data_encoding.specs.Text.{text_of}
 use Rattle.data_encoding.proofs.lists.PartLemmas.{one-more}
 use Rattle.data_encoding.proofs.lists.RunLemmas.{div_ceil-runs, run_count, run-before, runs-reach}
-use Rattle.data_encoding.proofs.specification.RuleLemmas.{IsRuled}
+use Rattle.data_encoding.proofs.judgement.RuleLemmas.{IsRuled}
 use Rattle.data_encoding.proofs.text.TextJoinLemmas.{text_of-join}
 use Rattle.data_encoding.proofs.text.LineLemmas.{IsRuled-seen, alignment-few, alignment-some, are, column-some, short-line, text_of-nil, whole-line, wrapping-seen}
 

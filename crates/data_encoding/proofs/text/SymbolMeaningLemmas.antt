@@ -16,7 +16,7 @@ use Rattle.data_encoding.proofs.digits.WordLemmas.{AreBits-zeros, map-twice}
 use Rattle.data_encoding.proofs.grammar.GroupLemmas.{bytes_in}
 use Rattle.data_encoding.proofs.lists.ListLemmas.{AllFail}
 use Rattle.data_encoding.proofs.lists.RunLemmas.{run_count}
-use Rattle.data_encoding.proofs.specification.RuleLemmas.{IsRuled}
+use Rattle.data_encoding.proofs.judgement.RuleLemmas.{IsRuled}
 use Rattle.data_encoding.proofs.text.PaddedTextLemmas.{length-filled_with}
 
 module _ (base : Base) (ruled : IsRuled base) where

@@ -10,7 +10,7 @@ use Rattle.data_encoding.specs.Text.{in_lines, padded_text, plain_text, text_of,
 use Rattle.data_encoding.proofs.digits.WidthLemmas.{group_bits, group_symbols-pos}
 use Rattle.data_encoding.proofs.lists.PartLemmas.{regroup, whole-group}
 use Rattle.data_encoding.proofs.lists.RunLemmas.{runs-join}
-use Rattle.data_encoding.proofs.specification.RuleLemmas.{IsRuled, IsRuledWrapping}
+use Rattle.data_encoding.proofs.judgement.RuleLemmas.{IsRuled, IsRuledWrapping}
 use Rattle.data_encoding.proofs.text.PlainTextLemmas.{filled-join, filled-whole, length-plain_text, plain_text-join}
 
 -- a number of whole parts

@@ -7,7 +7,7 @@ use Rattle.data_encoding.specs.Text.{padded_text, text_of}
 use Rattle.data_encoding.proofs.digits.WidthLemmas.{by_width}
 use Rattle.data_encoding.proofs.grammar.LengthLemmas.{decoded_len-valid, is_valid_length-by, most_bytes-by}
 use Rattle.data_encoding.proofs.lists.RunLemmas.{run_count}
-use Rattle.data_encoding.proofs.specification.RuleLemmas.{IsRuled}
+use Rattle.data_encoding.proofs.judgement.RuleLemmas.{IsRuled}
 use Rattle.data_encoding.proofs.text.LineLemmas.{length-lines}
 use Rattle.data_encoding.proofs.text.PaddedTextLemmas.{length-padded, length-unpadded, text_of-unwrapped}
 

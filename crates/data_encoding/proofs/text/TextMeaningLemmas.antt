@@ -16,7 +16,7 @@ use Rattle.data_encoding.proofs.grammar.PositionLemmas.{bytes-positioned_from, l
 use Rattle.data_encoding.proofs.grammar.SameBytesLemmas.{GroupsMean-same}
 use Rattle.data_encoding.proofs.grammar.SoundLemmas.{symbols-not_final}
 use Rattle.data_encoding.proofs.lists.RunLemmas.{run_count, runs-append, runs-nil, runs-short}
-use Rattle.data_encoding.proofs.specification.RuleLemmas.{IsRuled, IsRuledPadding}
+use Rattle.data_encoding.proofs.judgement.RuleLemmas.{IsRuled, IsRuledPadding}
 use Rattle.data_encoding.proofs.text.LastGroupLemmas.{AreFillers-replicate, GroupMeans-fillers, length-filled_once}
 use Rattle.data_encoding.proofs.text.KeptTextLemmas.{bytes-kept_text}
 use Rattle.data_encoding.proofs.text.SymbolMeaningLemmas.{PlainMeans-plain_text}

@@ -6,7 +6,7 @@ use Rattle.data_encoding.specs.Eighteen.{Yields, canonical_fields, second_text_f
 use Rattle.data_encoding.specs.Order.{IsBefore}
 use Rattle.data_encoding.specs.Predefined.{hexlower_fields}
 use Rattle.data_encoding.specs.Text.{text_of}
-use Rattle.data_encoding.proofs.specification.YieldLemmas.{yields}
+use Rattle.data_encoding.proofs.judgement.YieldLemmas.{yields}
 use Rattle.data_encoding.proofs.vectors.Examples.{Has, by}
 
 -- of the eighteen, by the test of causes; sixteen have no lines

@@ -1,6 +1,6 @@
 -- How worked rows are written, and the fields of encodings that they speak of.
 use Rattle.std.proofs.Common.{◌≡◌, ℕ, false, List, [], ◌∷◌, map, codes, Option, Some, None, Result, Ok, Err}
-use Rattle.data_encoding.specs.declared.meanings.Refusal.{Refusal}
+use Rattle.data_encoding.specs.declared.specification.meanings.Refusal.{Refusal}
 use Rattle.data_encoding.specs.declared.encoding.BitOrder.TheVariants.{LeastSignificantFirst}
 use Rattle.data_encoding.specs.declared.error.DecodeError.{DecodeError}
 use Rattle.data_encoding.specs.declared.error.DecodeKind.{DecodeKind}

@@ -3,7 +3,7 @@ use Rattle.std.proofs.Common.{◌≡◌, ℕ, ◌*◌, true, false, List, [], �
 use Rattle.std.specs.Prelude.{sum_by}
 use Rattle.std.specs.List.{enumerate_from}
 use Rattle.std.proofs.lemmas.Fmt.{decimal_digit}
-use Rattle.data_encoding.specs.declared.meanings.Refusal.TheVariants.{BadSize, NotAscii, Duplicate, ExtraPadding, WrapLength, WrapWidth, FromTo, Undefined}
+use Rattle.data_encoding.specs.declared.specification.meanings.Refusal.TheVariants.{BadSize, NotAscii, Duplicate, ExtraPadding, WrapLength, WrapWidth, FromTo, Undefined}
 use Rattle.data_encoding.specs.declared.encoding.BitOrder.TheVariants.{LeastSignificantFirst, MostSignificantFirst}
 use Rattle.data_encoding.specs.declared.encoding.Character.TheVariants.{Symbol as SymbolCharacter, Padding as PaddingCharacter, Ignored, Invalid}
 use Rattle.data_encoding.specs.declared.error.DecodeFault.TheVariants.{Error, OutOfMemory}
@@ -18,10 +18,10 @@ use Rattle.data_encoding.specs.Specification.{no_fields, specified, refusal_of, 
 use Rattle.std.specs.String.{string_bytes}
 use Rattle.data_encoding.specs.Laws.{HasLayoutFlags}
 use Rattle.data_encoding.specs.declared.encoding.Character.{Character}
-use Rattle.data_encoding.specs.declared.spec.Specification.{Specification}
-use Rattle.data_encoding.specs.declared.builder.Parts.{Parts}
-use Rattle.data_encoding.specs.declared.spec.Translate.{Translate as TranslateTexts}
-use Rattle.data_encoding.specs.declared.spec.Wrap.{Wrap}
+use Rattle.data_encoding.specs.declared.specification.Specification.{Specification}
+use Rattle.data_encoding.specs.declared.specification.builder.Parts.{Parts}
+use Rattle.data_encoding.specs.declared.specification.Translate.{Translate as TranslateTexts}
+use Rattle.data_encoding.specs.declared.specification.Wrap.{Wrap}
 use Rattle.data_encoding.proofs.vectors.Examples.{Hold, by, Has, octal_fields, reversed, unchecked, ignoring, wrapped, nopad_ignoring_lf_fields, lines_of_8_fields, single_fields}
 
 -- the length of a layout, its bytes times their positions in sum, and what follows the tables

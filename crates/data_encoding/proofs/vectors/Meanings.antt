@@ -20,7 +20,7 @@ use Rattle.data_encoding.proofs.decoding.ResumeLemmas.{resumed}
 use Rattle.data_encoding.proofs.grammar.MeaningLemmas.{Means-no_fault, faulty-Means}
 use Rattle.data_encoding.proofs.order.OrderPairLemmas.{IsBroken-ruled}
 use Rattle.data_encoding.proofs.order.TextOrderLemmas.{KeepsOrder-ordered}
-use Rattle.data_encoding.proofs.specification.RuleLemmas.{IsRuled-yield}
+use Rattle.data_encoding.proofs.judgement.RuleLemmas.{IsRuled-yield}
 use Rattle.data_encoding.proofs.text.BlockLemmas.{IsBlockLength-group, IsBlockLength-line}
 use Rattle.data_encoding.proofs.canonicity.ConcatenatedTextLemmas.{concatenated-second}
 use Rattle.data_encoding.proofs.canonicity.IgnoredTextLemmas.{ignored-second}

@@ -1,6 +1,6 @@
 -- Worked rows of what is decoded: data, faults, lengths.
 use Rattle.std.proofs.Common.{◌≡◌, ℕ, true, false, List, [], ◌∷◌, ◌++◌, map, drop, codes, replicate, Option, Some, None, Result, Ok, Err, refl, lit<, arith}
-use Rattle.data_encoding.specs.declared.meanings.Refusal.{Refusal}
+use Rattle.data_encoding.specs.declared.specification.meanings.Refusal.{Refusal}
 use Rattle.data_encoding.specs.declared.encoding.Character.TheVariants.{Symbol as SymbolCharacter, Invalid}
 use Rattle.data_encoding.specs.declared.error.DecodeError.{DecodeError}
 use Rattle.data_encoding.specs.declared.error.DecodeFault.{DecodeFault}

@@ -11,8 +11,8 @@ use Rattle.data_encoding.specs.Grammar.{positioned}
 use Rattle.data_encoding.proofs.grammar.MeaningLemmas.{Means-no_fault}
 use Rattle.std.specs.Prelude.{slice_index}
 use Rattle.data_encoding.specs.declared.encoding.Encoding.TheInside.{Inside}
-use Rattle.data_encoding.specs.declared.meanings.Meanings.TheInside.{Inside as BuilderInside}
-use Rattle.data_encoding.specs.declared.entries.Tables.{Tables}
+use Rattle.data_encoding.specs.declared.specification.meanings.Meanings.TheInside.{Inside as BuilderInside}
+use Rattle.data_encoding.specs.declared.specification.tables.Tables.{Tables}
 use Rattle.data_encoding.specs.Encoding.{base_of_tables, KeepsRules, wrapping_by, KeepsPadding, KeepsWrapping}
 use Rattle.data_encoding.specs.Entries.{meaning_of_entry, is_entry_of, HoldsEntries}
 use Rattle.data_encoding.specs.Meanings.{meanings_of_table, HasEntries}
@@ -20,7 +20,7 @@ use Rattle.data_encoding.specs.Tables.{HasTables, HoldsSymbols, HoldsValues, IsG
 use Rattle.data_encoding.specs.Decoding.{AreSound, HasDecodedTo, IsLongest, IsRun, IsDecodedGroup, most_symbols, HasSymbols, HasFault, IsGathered, valid_front, IsLastRun, HasNoLastRun, HasRoom, IsStop, IsDecoded, fault_of_stop}
 use Rattle.data_encoding.proofs.tables.TableLemmas.{Reads-seen, Writes-tables}
 use Rattle.std.specs.Borrow.{Bor}
-use Rattle.data_encoding.specs.declared.predefined.Predefined.{Predefined}
+use Rattle.data_encoding.specs.declared.specification.predefined.Predefined.{Predefined}
 use Rattle.data_encoding.proofs.vectors.Examples.{built, Has, nopad_ignoring_lf_fields}
 
 -- the tables of a base: what its layout says

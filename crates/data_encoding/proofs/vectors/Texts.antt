@@ -6,13 +6,13 @@ use Rattle.data_encoding.specs.Base.{is_symbol, Base, is_ignored, is_invalid, is
 use Rattle.data_encoding.specs.Fields.{Fields}
 use Rattle.data_encoding.specs.Predefined.{padded_fields, hexlower_fields, hexlower_permissive_fields, hexupper_fields, hexupper_permissive_fields, base32_fields, base32_nopad_fields, base32_nopad_nocase_fields, base32_nopad_visual_fields, base32hex_fields, base32hex_nopad_fields, base32_dnssec_fields, base32_dnscurve_fields, base64_fields, base64_nopad_fields, base64_mime_fields, base64_mime_permissive_fields, base64url_fields, base64url_nopad_fields}
 use Rattle.data_encoding.specs.Text.{text_of, filled_with, plain_text, with_padding, padded_text, in_lines}
-use Rattle.data_encoding.specs.declared.encoder.Encoder.{Encoder}
+use Rattle.data_encoding.specs.declared.encode.encoder.Encoder.{Encoder}
 use Rattle.data_encoding.specs.Bits.{low_bits, number_of_low_bits, bits_of, number_of, bits_of_bytes, missing, runs}
 use Rattle.data_encoding.specs.Words.{weight, digit, low_byte, zeros_to, word_of}
 use Rattle.data_encoding.specs.Fragments.{HasEncoded}
 use Rattle.data_encoding.specs.Encoder.{base_of_encoder, output_name, written, held, HasTaken, IsUnchanged, name_handed_back}
 use mathlib.Core.Option as maybe
-use Rattle.data_encoding.specs.declared.write.Display.{Display}
+use Rattle.data_encoding.specs.declared.encode.display.Display.{Display}
 use Rattle.data_encoding.specs.Shown.{shown_data, shown_text}
 use Rattle.data_encoding.proofs.vectors.Examples.{Hold, by, encoded, bytes, Has, octal_fields, reversed, lines_of_8_fields}
 

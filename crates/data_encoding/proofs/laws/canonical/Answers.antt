@@ -1,7 +1,7 @@
 use Rattle.data_encoding.proofs.canonicity.EighteenLemmas.{six-canonical, twelve-not}
 use Rattle.data_encoding.proofs.canonicity.OneTextLemmas.{Means-text_of_only}
 use Rattle.data_encoding.proofs.canonicity.TokenLemmas.{canonical-causes}
-use Rattle.data_encoding.proofs.specification.RuleLemmas.{IsRuled-yield}
+use Rattle.data_encoding.proofs.judgement.RuleLemmas.{IsRuled-yield}
 use Rattle.data_encoding.proofs.laws.canonical.Goals as goal
 
 pub returns-clause-only : goal.returns-clause-only

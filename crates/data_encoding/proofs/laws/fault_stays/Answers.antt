@@ -1,5 +1,5 @@
 use Rattle.data_encoding.proofs.decoding.FaultStaysLemmas.{fault-behind, fault-stays, group_fault-stays}
-use Rattle.data_encoding.proofs.specification.RuleLemmas.{IsRuled-yield}
+use Rattle.data_encoding.proofs.judgement.RuleLemmas.{IsRuled-yield}
 use Rattle.data_encoding.proofs.laws.fault_stays.Goals as goal
 
 pub returns-clause-groups : goal.returns-clause-groups

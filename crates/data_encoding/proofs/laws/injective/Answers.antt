@@ -1,6 +1,6 @@
 use Rattle.data_encoding.proofs.canonicity.TokenLemmas.{length-token}
 use Rattle.data_encoding.proofs.order.ComparedLemmas.{injective}
-use Rattle.data_encoding.proofs.specification.RuleLemmas.{IsRuled-yield}
+use Rattle.data_encoding.proofs.judgement.RuleLemmas.{IsRuled-yield}
 use Rattle.data_encoding.proofs.laws.injective.Goals as goal
 
 pub returns-clause-differ : goal.returns-clause-differ

@@ -1,5 +1,5 @@
 use Rattle.data_encoding.proofs.grammar.JoinLemmas.{Means-join}
-use Rattle.data_encoding.proofs.specification.RuleLemmas.{IsRuled-yield}
+use Rattle.data_encoding.proofs.judgement.RuleLemmas.{IsRuled-yield}
 use Rattle.data_encoding.proofs.laws.join_decode.Goals as goal
 
 pub returns : goal.returns

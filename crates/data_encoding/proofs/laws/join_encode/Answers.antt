@@ -1,4 +1,4 @@
-use Rattle.data_encoding.proofs.specification.RuleLemmas.{IsRuled-yield}
+use Rattle.data_encoding.proofs.judgement.RuleLemmas.{IsRuled-yield}
 use Rattle.data_encoding.proofs.text.TextJoinLemmas.{text_of-join}
 use Rattle.data_encoding.proofs.laws.join_encode.Goals as goal
 

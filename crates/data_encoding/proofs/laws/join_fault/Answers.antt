@@ -1,5 +1,5 @@
 use Rattle.data_encoding.proofs.grammar.JoinFaultLemmas.{fault-join, sound_bytes-join}
-use Rattle.data_encoding.proofs.specification.RuleLemmas.{IsRuled-yield}
+use Rattle.data_encoding.proofs.judgement.RuleLemmas.{IsRuled-yield}
 use Rattle.data_encoding.proofs.laws.join_fault.Goals as goal
 
 pub returns : goal.returns

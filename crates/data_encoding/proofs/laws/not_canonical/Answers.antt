@@ -2,7 +2,7 @@ use Rattle.data_encoding.proofs.canonicity.ConcatenatedTextLemmas.{concatenated-
 use Rattle.data_encoding.proofs.canonicity.IgnoredTextLemmas.{ignored-second}
 use Rattle.data_encoding.proofs.canonicity.TrailingTextLemmas.{trailing-second}
 use Rattle.data_encoding.proofs.canonicity.TranslatedTextLemmas.{padding-second, symbol-second}
-use Rattle.data_encoding.proofs.specification.RuleLemmas.{IsRuled-yield}
+use Rattle.data_encoding.proofs.judgement.RuleLemmas.{IsRuled-yield}
 use Rattle.data_encoding.proofs.laws.not_canonical.Goals as goal
 
 pub returns : goal.returns

@@ -1,4 +1,4 @@
-use Rattle.data_encoding.proofs.specification.RuleLemmas.{IsRuled-yield}
+use Rattle.data_encoding.proofs.judgement.RuleLemmas.{IsRuled-yield}
 use Rattle.data_encoding.proofs.tables.LayoutRuleLemmas.{layouts}
 use Rattle.data_encoding.proofs.tables.OneLayoutLemmas.{one_layout}
 use Rattle.data_encoding.proofs.laws.one_layout.Goals as goal

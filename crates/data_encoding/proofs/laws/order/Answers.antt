@@ -3,7 +3,7 @@ use Rattle.data_encoding.proofs.order.ComparedLemmas.{data-alike}
 use Rattle.data_encoding.proofs.order.EighteenOrderLemmas.{six-ordered, ten-not}
 use Rattle.data_encoding.proofs.order.OrderPairLemmas.{IsBroken-ruled, IsOrdered-keeps}
 use Rattle.data_encoding.proofs.order.TextOrderLemmas.{KeepsOrder-ordered}
-use Rattle.data_encoding.proofs.specification.RuleLemmas.{IsRuled-yield}
+use Rattle.data_encoding.proofs.judgement.RuleLemmas.{IsRuled-yield}
 use Rattle.data_encoding.proofs.laws.order.Goals as goal
 
 pub returns-clause-kept : goal.returns-clause-kept

@@ -1,5 +1,5 @@
 use Rattle.data_encoding.proofs.decoding.ResumeLemmas.{resumed}
-use Rattle.data_encoding.proofs.specification.RuleLemmas.{IsRuled-yield}
+use Rattle.data_encoding.proofs.judgement.RuleLemmas.{IsRuled-yield}
 use Rattle.data_encoding.proofs.laws.resume.Goals as goal
 
 pub returns : goal.returns

@@ -1,4 +1,4 @@
-use Rattle.data_encoding.proofs.specification.RuleLemmas.{IsRuled-yield}
+use Rattle.data_encoding.proofs.judgement.RuleLemmas.{IsRuled-yield}
 use Rattle.data_encoding.proofs.text.TextMeaningLemmas.{Means-text_of}
 use Rattle.data_encoding.proofs.laws.round_trip.Goals as goal
 

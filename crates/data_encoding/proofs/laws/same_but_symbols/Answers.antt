@@ -1,4 +1,4 @@
-use Rattle.data_encoding.proofs.specification.RuleLemmas.{IsRuled-yield}
+use Rattle.data_encoding.proofs.judgement.RuleLemmas.{IsRuled-yield}
 use Rattle.data_encoding.proofs.text.ExchangeLemmas.{text_of-exchanged}
 use Rattle.data_encoding.proofs.laws.same_but_symbols.Goals as goal
 

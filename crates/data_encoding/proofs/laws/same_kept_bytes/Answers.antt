@@ -1,6 +1,6 @@
 use Rattle.std.proofs.Common.{sym, ◌∙◌}
 use Rattle.data_encoding.proofs.grammar.SameBytesLemmas.{bytes-kept_in, Means-same}
-use Rattle.data_encoding.proofs.specification.RuleLemmas.{IsRuled-yield}
+use Rattle.data_encoding.proofs.judgement.RuleLemmas.{IsRuled-yield}
 use Rattle.data_encoding.proofs.laws.same_kept_bytes.Goals as goal
 
 pub returns : goal.returns

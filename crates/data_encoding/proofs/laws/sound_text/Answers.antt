@@ -1,7 +1,7 @@
 use Rattle.std.proofs.Common.{subst}
 use Rattle.data_encoding.specs.Grammar.{Means}
 use Rattle.data_encoding.proofs.grammar.MeaningLemmas.{Means-no_fault, no_fault-Means, sound_bytes-Means}
-use Rattle.data_encoding.proofs.specification.RuleLemmas.{IsRuled-yield}
+use Rattle.data_encoding.proofs.judgement.RuleLemmas.{IsRuled-yield}
 use Rattle.data_encoding.proofs.laws.sound_text.Goals as goal
 
 pub returns-clause-sound : goal.returns-clause-sound

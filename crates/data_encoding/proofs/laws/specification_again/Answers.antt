@@ -1,4 +1,4 @@
-use Rattle.data_encoding.proofs.specification.RoundTripLemmas.{specification-again}
+use Rattle.data_encoding.proofs.judgement.RoundTripLemmas.{specification-again}
 use Rattle.data_encoding.proofs.laws.specification_again.Goals as goal
 
 pub returns : goal.returns

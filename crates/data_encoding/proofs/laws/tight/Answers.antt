@@ -1,5 +1,5 @@
 use Rattle.data_encoding.proofs.grammar.TightLemmas.{length-plain_text_of, most-Means}
-use Rattle.data_encoding.proofs.specification.RuleLemmas.{IsRuled-yield}
+use Rattle.data_encoding.proofs.judgement.RuleLemmas.{IsRuled-yield}
 use Rattle.data_encoding.proofs.text.TextLengthLemmas.{length-again}
 use Rattle.data_encoding.proofs.laws.tight.Goals as goal
 

@@ -1,7 +1,7 @@
 use Rattle.data_encoding.proofs.canonicity.OneTextLemmas.{own_form-text, own_forms}
 use Rattle.data_encoding.proofs.canonicity.OwnTextLemmas.{own_form-meaning}
 use Rattle.data_encoding.proofs.grammar.SameMeaningLemmas.{fault_of-translated, Means-translated}
-use Rattle.data_encoding.proofs.specification.RuleLemmas.{IsRuled-yield}
+use Rattle.data_encoding.proofs.judgement.RuleLemmas.{IsRuled-yield}
 use Rattle.data_encoding.proofs.laws.translated.Goals as goal
 
 pub returns-clause-same : goal.returns-clause-same

@@ -1,7 +1,7 @@
 use Rattle.std.proofs.Common.{◌≡◌, ℕ, List, ◌++◌, false, rules, Result, Ok, Err, OnOk, OnErr, is_err, sym, ap, ◌∙◌, subst}
 use Rattle.std.proofs.lemmas.Result.{IfOk-at_ok}
 use Rattle.std.specs.String.{string_bytes}
-use Rattle.data_encoding.specs.declared.encoder.Encoder.{Encoder}
+use Rattle.data_encoding.specs.declared.encode.encoder.Encoder.{Encoder}
 use Rattle.data_encoding.specs.Encoder.{HasTaken, IsUnchanged, base_of_encoder, held, written}
 use Rattle.data_encoding.specs.Fragments.{HasEncoded}
 use Rattle.data_encoding.specs.Text.{text_of}

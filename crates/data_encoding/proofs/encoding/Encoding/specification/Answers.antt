@@ -1,10 +1,10 @@
 use Rattle.std.proofs.Common.{◌≡◌, true, map, nat_lt, ap, sym, ◌∙◌, refl, subst}
 use Rattle.std.specs.List.{list_all}
-use Rattle.data_encoding.specs.declared.spec.Specification.{Specification}
+use Rattle.data_encoding.specs.declared.specification.Specification.{Specification}
 use Rattle.data_encoding.specs.Base.{Base, is_ignored, meaning}
 use Rattle.data_encoding.specs.Layout.{ignored_bytes, own_byte, translated_bytes}
-use Rattle.data_encoding.proofs.specification.FieldLemmas.{specified-is}
-use Rattle.data_encoding.proofs.specification.TranslationLemmas.{is_translated_byte, owns-ascii, range-ascii}
+use Rattle.data_encoding.proofs.judgement.FieldLemmas.{specified-is}
+use Rattle.data_encoding.proofs.judgement.TranslationLemmas.{is_translated_byte, owns-ascii, range-ascii}
 use Rattle.data_encoding.proofs.tables.TableLemmas.{padding-seen, symbols-seen}
 use Rattle.data_encoding.proofs.tables.TableRuleLemmas.{separator-ascii}
 use Rattle.data_encoding.proofs.encoding.Encoding.specification.Goals as goal

@@ -1,6 +1,6 @@
 use Rattle.std.proofs.Common.{refl}
 use Rattle.data_encoding.specs.Layout.{layout}
-use Rattle.data_encoding.proofs.specification.RuleLemmas.{IsRuled-yield}
+use Rattle.data_encoding.proofs.judgement.RuleLemmas.{IsRuled-yield}
 use Rattle.data_encoding.proofs.tables.ReadingLemmas.{read-layout}
 use Rattle.data_encoding.proofs.laws.steps.layout_flags.Goals as goal
 

@@ -6,7 +6,7 @@ use Rattle.data_encoding.specs.Pieces.{HasRead, held_with, whole_bytes}
 use Rattle.data_encoding.proofs.decoding.LoneGroupLemmas.{bytes-alone, fault-alone}
 use Rattle.data_encoding.proofs.decoding.PieceLemmas.{HasRead-faulty, HasRead-group, HasRead-held, HasRead-nothing, fault_of-read, sound_bytes-read, whole_bytes-group, whole_bytes-grows, whole_bytes-nothing}
 use Rattle.data_encoding.proofs.decoding.WholePieceLemmas.{HasRead-whole, kept-whole, whole_bytes-whole}
-use Rattle.data_encoding.proofs.specification.RuleLemmas.{IsRuled-yield}
+use Rattle.data_encoding.proofs.judgement.RuleLemmas.{IsRuled-yield}
 use Rattle.data_encoding.proofs.laws.steps.pieces.Goals as goal
 
 pub returns-clause-nothing : goal.returns-clause-nothing

@@ -2,7 +2,7 @@ use Rattle.data_encoding.specs.Grammar.{positioned}
 use Rattle.data_encoding.proofs.decoding.FinalGroupLemmas.{ends-Means, whole-Means}
 use Rattle.data_encoding.proofs.decoding.WholeLengthLemmas.{decoded_len-one, decoded_len-whole, joins-unpadded, most_bytes-few, none_final-joined}
 use Rattle.data_encoding.proofs.grammar.PositionLemmas.{filter-plain, never_ignored}
-use Rattle.data_encoding.proofs.specification.RuleLemmas.{IsRuled-yield}
+use Rattle.data_encoding.proofs.judgement.RuleLemmas.{IsRuled-yield}
 use Rattle.data_encoding.proofs.laws.steps.whole_groups.Goals as goal
 
 pub returns-clause-bytes : goal.returns-clause-bytes

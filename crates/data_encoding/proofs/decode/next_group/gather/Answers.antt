@@ -1,0 +1,64 @@
+use Rattle.std.proofs.Common.{◌≡◌, ◌<◌, ◌==◌, true, false, length, get_or, ap, ◌∙◌, arith, inl, inr}
+use Rattle.std.proofs.lemmas.List.{length-set}
+use Rattle.std.proofs.lemmas.Bool.Decides.{nat_tests}
+use Rattle.data_encoding.proofs.decoding.GatherLemmas.{gather-ignored, gather-kept, gathered, nothing-gathered}
+use Rattle.data_encoding.proofs.decode.next_group.gather.Goals as goal
+use Rattle.data_encoding.proofs.decode.next_group.gather.Goals.{then-values-byte, else-values-byte}
+
+pub loop-index-init : goal.loop-index-init
+loop-index-init g c =
+    (omega arith, λ base holds. nothing-gathered base c.args.rest.now c.args.room.now)
+
+pub bounds-room-count : goal.bounds-room-count
+bounds-room-count g c =
+    let most = c.loop-index.invariant.0 in
+    let few = c.requires.few in
+    let apart = c.if-count.false in
+    omega (arith, most, few, apart)
+
+pub loop-index-preserved : goal.loop-index-preserved
+loop-index-preserved g c =
+    let rest = c.args.rest.now in
+    let index = c.loop-index.index in
+    let byte = get_or rest index 0 in
+    let inside : index < length rest = c.loop-index-test.true in
+    let most = c.loop-index.invariant.0 in
+    let apart = c.if-count.false in
+    let small : byte < 256 = omega (arith, (c.type_inv.rest index).fits) in
+    elim c.if-values-byte.branch [
+      | then-values-byte w ↦
+          let other : (get_or c.args.values.now byte 0 == 129) ≡ false =
+          grind (arith, nat_tests, w.if-values-byte.true) in
+          let room_len = ap length w.room-is ∙ length-set c.loop-index.room c.loop-index.count byte
+          in
+          let fits : c.loop-index.count < length c.loop-index.room =
+          omega (arith, most, apart, c.requires.few, room_len, c.if-values-byte.array_long) in (
+            omega (arith, most, apart, w.count-is),
+            λ base holds. rw (w.room-is, w.count-is, w.span-is)
+                (gather-kept base rest index inside c.loop-index.count c.loop-index.span
+                c.loop-index.room (c.loop-index.invariant.1 base holds)
+                (holds.ignoreds byte small ∙ other) fits),
+          )
+      | else-values-byte w ↦
+          let same : (get_or c.args.values.now byte 0 == 129) ≡ true =
+          grind (arith, nat_tests, w.if-values-byte.false) in (
+            omega (arith, most, w.count-is),
+            λ base holds. rw (w.room-is, w.count-is, w.span-is)
+                (gather-ignored base rest index inside c.loop-index.count c.loop-index.span
+                c.loop-index.room (c.loop-index.invariant.1 base holds)
+                (holds.ignoreds byte small ∙ same)),
+          )
+    ]
+
+pub returns-after-loop-index-clause-first : goal.returns-after-loop-index-clause-first
+returns-after-loop-index-clause-first g c base holds =
+    gathered base g.row.SYMBOLS c.args.rest.now c.loop-index.index c.loop-index.count
+    c.loop-index.span c.loop-index.room (c.loop-index.invariant.1 base holds)
+    c.loop-index.auto.index-end c.loop-index.invariant.0
+    (inr (omega (arith, c.loop-index-test.false, c.loop-index.auto.index-end)))
+
+pub returns-then-count-clause-first : goal.returns-then-count-clause-first
+returns-then-count-clause-first g c base holds =
+    gathered base g.row.SYMBOLS c.args.rest.now c.loop-index.index c.loop-index.count
+    c.loop-index.span c.loop-index.room (c.loop-index.invariant.1 base holds)
+    c.loop-index.auto.index-end c.loop-index.invariant.0 (inl c.if-count.true)

@@ -1,0 +1,11 @@
+use Rattle.std.proofs.Common.{◌≤◌}
+use Rattle.data_encoding.specs.Base.{Base}
+use Rattle.data_encoding.specs.Tables.{HoldsValues}
+use Rattle.data_encoding.proofs.decoding.GatherLemmas.{HasGathered}
+use Rattle.data_encoding.proofs.decode.next_group.gather.Given as goal
+
+abbrev pub invariant-loop-index : goal.invariant-loop-index
+invariant-loop-index g l =
+    (l.count ≤ g.row.SYMBOLS)
+    × ((base : Base) → HoldsValues base l.values
+    → HasGathered base l.rest l.index l.count l.span l.room)

@@ -1,0 +1,189 @@
+-- What the builder makes of a specification.
+use Rattle.std.proofs.Common.{◌≡◌, ℕ, zero, suc, ◌%◌, ◌/◌, ◌^◌, ◌<◌, ◌==◌, Bool, true, false, ◌||◌, cond, List, [], ◌++◌, length, map, take, replicate, Option, Some, None, is_none, IfSome, Result, Ok, refl, sym, ap, ◌∙◌, arith}
+use Rattle.std.specs.List.{concat, list_any}
+use Rattle.data_encoding.specs.declared.encoding.Character.{Character}
+use Rattle.data_encoding.specs.declared.encoding.Encoding.TheInside.{Inside}
+use Rattle.data_encoding.specs.declared.specification.meanings.Refusal.{Refusal}
+use Rattle.data_encoding.specs.Base.{Base, IsWidth, is_ignored}
+use Rattle.data_encoding.specs.Encoding.{KeepsRules, base_of_tables, wrapping_by}
+use Rattle.data_encoding.specs.Entries.{HoldsEntries, meaning_of_entry}
+use Rattle.data_encoding.specs.Fields.{Fields, Judgement, base_of, base_with, ignored_judgements, judgements, meanings_after, no_meanings, padding_judgements, symbol_judgements, translation_judgements, width_of, wrapping_judgements, wraps}
+use Rattle.data_encoding.proofs.judgement.JudgementLemmas.{Judged, meanings_after-append}
+use Rattle.data_encoding.proofs.tables.TableRuleLemmas.{KeepsRules-ruled}
+use Rattle.data_encoding.proofs.lists.RepeatLemmas.{take-repeats}
+use Rattle.data_encoding.proofs.judgement.RuleLemmas.{IsRuledPadding, IsRuledWrapping, IsRuled-yield, base_from, base_of-width}
+use Rattle.data_encoding.proofs.digits.WidthLemmas.{times-pos}
+
+-- the judgements, part after part
+judged-parts : (width : ℕ) (fields : Fields) (r : Result (List Character) Refusal)
+    → meanings_after r (judgements width fields)
+    ≡ meanings_after (meanings_after (meanings_after (meanings_after
+    (meanings_after r (symbol_judgements 0 fields.symbols))
+    (padding_judgements width fields.padding))
+    (ignored_judgements fields.ignored))
+    (wrapping_judgements width fields.column fields.separator))
+    (translation_judgements fields.from fields.to)
+judged-parts width fields r =
+    let a = symbol_judgements 0 fields.symbols in
+    let b = padding_judgements width fields.padding in
+    let c = ignored_judgements fields.ignored in
+    let d = wrapping_judgements width fields.column fields.separator in
+    let e = translation_judgements fields.from fields.to in
+    meanings_after-append r (a ++ b ++ c ++ d) e
+    ∙ ap (λ s. meanings_after s e) (meanings_after-append r (a ++ b ++ c) d
+    ∙ ap (λ s. meanings_after s d) (meanings_after-append r (a ++ b) c
+    ∙ ap (λ s. meanings_after s c) (meanings_after-append r a b)))
+
+-- the judgements up to each part
+module _ (width : ℕ) (fields : Fields) where
+  abbrev a : List Judgement
+  a = symbol_judgements 0 fields.symbols
+
+  abbrev b : List Judgement
+  b = padding_judgements width fields.padding
+
+  abbrev c : List Judgement
+  c = ignored_judgements fields.ignored
+
+  abbrev d : List Judgement
+  d = wrapping_judgements width fields.column fields.separator
+
+  abbrev e : List Judgement
+  e = translation_judgements fields.from fields.to
+
+  abbrev all : Judged
+  all = meanings_after (Ok no_meanings) (judgements width fields)
+
+  pub after-symbols : (r : Judged) → meanings_after (Ok no_meanings) a ≡ r
+      → all ≡ meanings_after (meanings_after (meanings_after (meanings_after r b) c) d) e
+  after-symbols r h =
+      judged-parts width fields (Ok no_meanings)
+      ∙ ap (λ s. meanings_after (meanings_after (meanings_after (meanings_after s b) c) d) e) h
+
+  pub after-padding : (one : List Character) (r : Judged)
+      → meanings_after (Ok no_meanings) a ≡ Ok one → meanings_after (Ok one) b ≡ r
+      → all ≡ meanings_after (meanings_after (meanings_after r c) d) e
+  after-padding one r h k =
+      after-symbols (Ok one) h
+      ∙ ap (λ s. meanings_after (meanings_after (meanings_after s c) d) e) k
+
+  pub after-ignored : (one two : List Character) (r : Judged)
+      → meanings_after (Ok no_meanings) a ≡ Ok one → meanings_after (Ok one) b ≡ Ok two
+      → meanings_after (Ok two) c ≡ r → all ≡ meanings_after (meanings_after r d) e
+  after-ignored one two r h k l =
+      after-padding one (Ok two) h k ∙ ap (λ s. meanings_after (meanings_after s d) e) l
+
+  pub after-wrapping : (one two three : List Character) (r : Judged)
+      → meanings_after (Ok no_meanings) a ≡ Ok one → meanings_after (Ok one) b ≡ Ok two
+      → meanings_after (Ok two) c ≡ Ok three → meanings_after (Ok three) d ≡ r
+      → all ≡ meanings_after r e
+  after-wrapping one two three r h k l m =
+      after-ignored one two (Ok three) h k l ∙ ap (λ s. meanings_after s e) m
+
+  pub after-translation : (one two three four : List Character) (r : Judged)
+      → meanings_after (Ok no_meanings) a ≡ Ok one → meanings_after (Ok one) b ≡ Ok two
+      → meanings_after (Ok two) c ≡ Ok three → meanings_after (Ok three) d ≡ Ok four
+      → meanings_after (Ok four) e ≡ r → all ≡ r
+  after-translation one two three four r h k l m n =
+      after-wrapping one two three (Ok four) h k l m ∙ n
+
+-- the lines that the builder keeps
+wrapping_by-kept : (column : ℕ) (separator : List ℕ)
+    → wrapping_by (cond (wraps column separator) column 0)
+    (cond (wraps column separator) separator [])
+    ≡ cond (wraps column separator)
+    (Some (record { column = column; separator = separator })) None
+wrapping_by-kept column separator = by_test (wraps column separator) refl where
+  by_number : (n : ℕ) → wraps n separator ≡ true
+      → wrapping_by n separator ≡ Some (record { column = n; separator = separator })
+  by_number zero h = cc
+  by_number (suc n) h = refl
+
+  by_test : (b : Bool) → wraps column separator ≡ b
+      → wrapping_by (cond b column 0) (cond b separator [])
+      ≡ cond b (Some (record { column = column; separator = separator })) None
+  by_test true h = by_number column h
+  by_test false h = refl
+
+-- no lines have no separator
+nothing-kept : (column : ℕ) (separator : List ℕ)
+    → cond (wraps column separator) column 0 ≡ 0
+    → cond (wraps column separator) separator [] ≡ []
+nothing-kept column separator = by_test (wraps column separator) refl where
+  by_number : (n : ℕ) → wraps n separator ≡ true → n ≡ 0 → separator ≡ []
+  by_number zero h e = cc
+  by_number (suc n) h e = absurd (omega (arith, e))
+
+  by_test : (b : Bool) → wraps column separator ≡ b → cond b column 0 ≡ 0
+      → cond b separator [] ≡ []
+  by_test true h e = by_number column h e
+  by_test false h e = refl
+
+pub padding-ascii : (base : Base) (o : Option ℕ) → IsRuledPadding base o
+    → IfSome o (λ character. character < 128)
+padding-ascii base None rule = tt
+padding-ascii base (Some character) rule = rule.0
+
+pub lines-short : (base : Base) (b : Bool) (column : ℕ) (separator : List ℕ)
+    → IsRuledWrapping base (cond b (Some (record { column = column; separator = separator })) None)
+    → b ≡ true → (column < 256) × (length separator < 256)
+lines-short base true column separator rule h = (rule.short, rule.ends_short)
+lines-short base false column separator rule h = cc
+
+-- What the builder has of a specification that is not refused.
+pub record IsMadeOf (fields : Fields) (e : Inside) (meanings : List Character) : Type 0 where
+  pub width_is : width_of (length fields.symbols) ≡ Some e.width
+  pub is_width : IsWidth e.width
+  pub count : 2 ^ e.width ≡ length fields.symbols
+  pub judged : meanings_after (Ok no_meanings) (judgements e.width fields) ≡ Ok meanings
+  pub repeat : e.symbols ≡ concat (replicate (256 / 2 ^ e.width) fields.symbols)
+  pub holds : HoldsEntries e.values
+  pub values : map meaning_of_entry (take 128 e.values) ≡ meanings
+  pub order : e.order ≡ fields.order
+  pub checks : e.checks_trailing_bits ≡ (fields.checks_trailing_bits || (8 % e.width == 0))
+  pub concatenates : e.concatenates ≡ (fields.concatenates || is_none fields.padding)
+  pub padding : e.padding ≡ fields.padding
+  pub ignores : e.ignores ≡ list_any is_ignored meanings
+  pub column : e.column ≡ cond (wraps fields.column fields.separator) fields.column 0
+  pub separator : e.separator.items
+      ≡ cond (wraps fields.column fields.separator) fields.separator []
+
+module _ (fields : Fields) (e : Inside) (meanings : List Character)
+    (made : IsMadeOf fields e meanings) where
+  take-symbols : take (2 ^ e.width) e.symbols ≡ fields.symbols
+  take-symbols =
+      ap (take (2 ^ e.width)) made.repeat
+      ∙ ap (λ n. take n (concat (replicate (256 / 2 ^ e.width) fields.symbols))) made.count
+      ∙ take-repeats (256 / 2 ^ e.width) fields.symbols (times-pos e.width made.is_width)
+
+  base-made : base_of_tables e ≡ base_from e.width fields meanings
+  base-made =
+      let symbols = take-symbols in
+      let wrapping =
+      (λ i. wrapping_by (made.column i) (made.separator i))
+      ∙ wrapping_by-kept fields.column fields.separator in
+      λ i. record {
+        width = e.width;
+        order = made.order i;
+        symbols = symbols i;
+        checks_trailing_bits = made.checks i;
+        concatenates = made.concatenates i;
+        padding = made.padding i;
+        meanings = made.values i;
+        wrapping = wrapping i;
+      }
+
+  pub yields-made : base_of fields ≡ Ok (base_of_tables e)
+  yields-made =
+      base_of-width fields e.width made.width_is made.is_width.some
+      ∙ ap (base_with e.width fields) made.judged
+      ∙ ap (λ b. Ok b) (sym (base-made))
+
+  pub rules-made : KeepsRules e
+  rules-made =
+      KeepsRules-ruled e (IsRuled-yield fields (base_of_tables e) (yields-made)) made.holds
+      (made.ignores ∙ ap (list_any is_ignored) (sym made.values))
+      (made.repeat
+      ∙ ap (λ l. concat (replicate (256 / 2 ^ e.width) l)) (sym (take-symbols)))
+      (λ none. made.separator
+      ∙ nothing-kept fields.column fields.separator (sym made.column ∙ none))

@@ -1,0 +1,507 @@
+-- The specification of a base yields it again.
+use Rattle.std.proofs.Common.{◌≡◌, ◌≢◌, ◌⊎◌, ℕ, suc, ◌+◌, ◌%◌, ◌<◌, ◌≤◌, ◌==◌, Bool, true, false, not, ◌&&◌, nat_le, nat_lt, cond, if◌then◌else◌, List, [], ◌∷◌, ◌++◌, length, map, get_or, Option, Some, None, unwrap_or, Ok, Err, refl, sym, ap, ◌∙◌, subst, arith, inl, inr, ⊎_elim, get_or-set_same, get_or-set_other}
+use Rattle.std.proofs.lemmas.Bool.{and_from, cases_Bool, cases_eq, cases_lt, eq-eqb, ltb-true, lt-ltb, lt-leb}
+use Rattle.std.proofs.lemmas.Bool.Decides.{nat_tests}
+use Rattle.std.proofs.lemmas.List.{ext_get_or, get_or-replicate, get_or_past, length-map}
+use Rattle.std.proofs.Math.ListN.{set}
+use Rattle.std.specs.List.{AllByRecursion}
+use Rattle.data_encoding.specs.declared.encoding.Character.{Character}
+use Rattle.data_encoding.specs.declared.encoding.Character.TheVariants.{Symbol, Padding, Ignored, Invalid}
+use Rattle.data_encoding.specs.declared.specification.meanings.Refusal.TheVariants.{NotAscii, Undefined, WrapLength, WrapWidth}
+use Rattle.data_encoding.specs.Base.{Base, Wrapping, group_symbols, is_ignored, meaning, symbol}
+use Rattle.data_encoding.specs.Fields.{Fields, Judgement, base_of, base_with, defined, ignored_judgements, is_same, judged, judgements, meanings_after, no_meanings, padding_judgements, pair_judgements, symbol_judgements, translated, translation_judgements, width_of, wrapping_judgements, wraps, Require, Define, Translate, IsSpecified}
+use Rattle.data_encoding.specs.Layout.{column_of, fields_of, is_translated, own_character, separator_of, translated_bytes}
+use Rattle.data_encoding.proofs.tables.EntryLemmas.{defined_by, false_or, is_same-self, same-is_same}
+use Rattle.data_encoding.proofs.judgement.JudgementLemmas.{AreKept, AreKept-join, IsHeld, Judged, after-ok, judged-ok, meanings_after-append, meanings_after-ok, symbols-held}
+use Rattle.data_encoding.proofs.lists.EachLemmas.{all_joined, all_parts, all_in_range, at_in_range, passes_at}
+use Rattle.data_encoding.proofs.judgement.RuleLemmas.{IsRuled, IsRuledPadding, IsRuledWrapping, base_of-width, ignored-held, is_no_padding, is_within, IsRuled-yield, width_of-power}
+
+-- A judgement agrees with the meanings in the end, where what is translated to is known before.
+abbrev Agrees : List Character → List Character → Judgement → Type 0
+Agrees target known (Require holds refusal) = holds ≡ true
+Agrees target known (Define byte m) = (byte < 128) × (get_or target byte Invalid ≡ m)
+Agrees target known (Translate from to) =
+    (from < 128) × (to < 128) × (get_or known to Invalid ≢ Invalid)
+    × (get_or target from Invalid ≡ get_or target to Invalid)
+
+-- each byte means nothing yet, or what it means in the end
+abbrev IsBelow : List Character → List Character → Type 0
+IsBelow before target =
+    (byte : ℕ) → (get_or before byte Invalid ≡ Invalid)
+    ⊎ (get_or before byte Invalid ≡ get_or target byte Invalid)
+
+-- What comes next.
+record GoesOn (r : Judged) (target : List Character) : Type 0 where
+  after : List Character
+  is : r ≡ Ok after
+  below : IsBelow after target
+
+by_cases : (past same free : Bool) (before : List Character) (byte : ℕ) (m : Character)
+    → nat_le 128 byte ≡ past → is_same (get_or before byte Invalid) m ≡ same
+    → is_same (get_or before byte Invalid) Invalid ≡ free
+    → defined before byte m ≡ defined_by past same free before byte m
+by_cases past same free before byte m p s f = λ i. defined_by (p i) (s i) (f i) before byte m
+
+set-below : (target before : List Character) (byte : ℕ) (m : Character) → length before ≡ 128
+    → byte < 128 → get_or target byte Invalid ≡ m → IsBelow before target
+    → IsBelow (set before byte m) target
+set-below target before byte m long low is below other =
+    ⊎_elim
+    (λ (same : other ≡ byte).
+    inr (ap (λ n. get_or (set before byte m) n Invalid) same
+    ∙ get_or-set_same before byte m Invalid (omega (arith, low, long))
+    ∙ sym is ∙ ap (λ n. get_or target n Invalid) (sym same)))
+    (λ (apart : other ≢ byte).
+    let kept = get_or-set_other before byte other m Invalid apart in
+    ⊎_elim
+    (λ (none : get_or before other Invalid ≡ Invalid). inl (kept ∙ none))
+    (λ (there : get_or before other Invalid ≡ get_or target other Invalid). inr (kept ∙ there))
+    (below other))
+    (cases_eq other byte)
+
+define-goes : (target before : List Character) (byte : ℕ) (m : Character) → length before ≡ 128
+    → byte < 128 → get_or target byte Invalid ≡ m → IsBelow before target
+    → GoesOn (defined before byte m) target
+define-goes target before byte m long low is below =
+    by_same (is_same (get_or before byte Invalid) m) refl where
+      past : nat_le 128 byte ≡ false
+      past = lt-leb 128 byte low
+
+      by_same : (same : Bool) → is_same (get_or before byte Invalid) m ≡ same
+          → GoesOn (defined before byte m) target
+      by_same true s = record {
+        after = before;
+        is = by_cases false true (is_same (get_or before byte Invalid) Invalid) before byte m past s
+            refl;
+        below = below;
+      }
+      by_same false s = record {
+        after = set before byte m;
+        is =
+            let none : get_or before byte Invalid ≡ Invalid = ⊎_elim
+            (λ (none : get_or before byte Invalid ≡ Invalid). none)
+            (λ (there : get_or before byte Invalid ≡ get_or target byte Invalid).
+            let yes : is_same (get_or before byte Invalid) m ≡ true =
+            ap (λ n. is_same n m) (there ∙ is) ∙ is_same-self m in
+            absurd (differ (is_same (get_or before byte Invalid) m) yes s))
+            (below byte) in
+            by_cases false false true before byte m past s (ap (λ n. is_same n Invalid) none);
+        below = set-below target before byte m long low is below;
+      } where
+        differ : (b : Bool) → b ≡ true → b ≡ false → ⊥
+        differ b h k = cc
+
+translate-goes : (target known before : List Character) (from to : ℕ) → length before ≡ 128
+    → Agrees target known (Translate from to) → AreKept known before → IsBelow before target
+    → GoesOn (translated before from to) target
+translate-goes target known before from to long agrees kept below =
+    let m = get_or before to Invalid in
+    let some : m ≢ Invalid = λ e. agrees.2 (sym (kept to agrees.2) ∙ e) in
+    let there : m ≡ get_or target to Invalid = ⊎_elim
+    (λ (none : m ≡ Invalid). absurd (some none))
+    (λ (there : m ≡ get_or target to Invalid). there)
+    (below to) in
+    let past : nat_le 128 to ≡ false = lt-leb 128 to agrees.1 in
+    let known_to : is_same m Invalid ≡ false =
+    false_or (is_same m Invalid) (λ e. some (same-is_same m Invalid e)) in
+    let next = define-goes target before from m long agrees.0 (agrees.3 ∙ sym there) below in
+    record {
+      after = next.after;
+      is =
+          (λ i. if past i then Err NotAscii
+          else if known_to i then Err (Undefined to)
+          else defined before from m)
+          ∙ next.is;
+      below = next.below;
+    }
+
+step-goes : (target known before : List Character) (j : Judgement) → length before ≡ 128
+    → Agrees target known j → AreKept known before → IsBelow before target
+    → GoesOn (judged before j) target
+step-goes target known before (Require holds refusal) long agrees kept below = record {
+  after = before;
+  is = ap (λ b. if b then Ok before else Err refusal) agrees;
+  below = below;
+}
+step-goes target known before (Define byte m) long agrees kept below =
+    define-goes target before byte m long agrees.0 agrees.1 below
+step-goes target known before (Translate from to) long agrees kept below =
+    translate-goes target known before from to long agrees kept below
+
+-- judgements that agree are not refused
+all-go : (target known : List Character) (js : List Judgement) (before : List Character)
+    → length before ≡ 128 → AllByRecursion (Agrees target known) js → AreKept known before
+    → IsBelow before target → GoesOn (meanings_after (Ok before) js) target
+all-go target known [] before long agree kept below =
+    record { after = before; is = refl; below = below }
+all-go target known (j ∷ js) before long agree kept below =
+    let next = step-goes target known before j long agree.0 kept below in
+    let step = judged-ok before next.after j next.is in
+    let rest = all-go target known js next.after (step.long ∙ long) agree.1
+    (AreKept-join known before next.after kept step.kept) next.below in
+    record {
+      after = rest.after;
+      is = after-ok (judged before j) next.after js next.is ∙ rest.is;
+      below = rest.below;
+    }
+
+nothing-below : (target : List Character) → IsBelow no_meanings target
+nothing-below target byte =
+    inl (⊎_elim
+    (λ (low : byte < 128). get_or-replicate 128 byte Invalid Invalid low)
+    (λ (high : 128 ≤ byte). get_or_past no_meanings byte Invalid high)
+    (cases_lt byte 128))
+
+symbols-agree : (target known : List Character) (n : ℕ) (symbols : List ℕ)
+    → ((i : ℕ) → i < length symbols → (get_or symbols i 0 < 128)
+    × (get_or target (get_or symbols i 0) Invalid ≡ Symbol (n + i)))
+    → AllByRecursion (Agrees target known) (symbol_judgements n symbols)
+symbols-agree target known n [] own = tt
+symbols-agree target known n (s ∷ symbols) own =
+    let first = own 0 (omega arith) in
+    let here : n + 0 ≡ n = omega arith in (
+      (first.0, first.1 ∙ ap (λ v. Symbol v) here),
+      symbols-agree target known (n + 1) symbols (λ i h.
+          let at = own (suc i) (omega (arith, h)) in
+          let next : n + suc i ≡ n + 1 + i = omega arith in
+          (at.0, at.1 ∙ ap (λ v. Symbol v) next)),
+    )
+
+ignored-agree : (target known : List Character) (bytes : List ℕ)
+    → AllByRecursion (λ byte. (byte < 128) × (get_or target byte Invalid ≡ Ignored)) bytes
+    → AllByRecursion (Agrees target known) (ignored_judgements bytes)
+ignored-agree target known [] all = tt
+ignored-agree target known (byte ∷ bytes) all = (all.0, ignored-agree target known bytes all.1)
+
+pairs-agree : (target known : List Character) (f : ℕ → ℕ) (bytes : List ℕ)
+    → AllByRecursion (λ byte. Agrees target known (Translate byte (f byte))) bytes
+    → AllByRecursion (Agrees target known) (pair_judgements bytes (map f bytes))
+pairs-agree target known f [] all = tt
+pairs-agree target known f (byte ∷ bytes) all = (all.0, pairs-agree target known f bytes all.1)
+
+pairs-held : (meanings : List Character) (f : ℕ → ℕ) (bytes : List ℕ)
+    → AllByRecursion (IsHeld meanings) (pair_judgements bytes (map f bytes))
+    → AllByRecursion (λ byte. IsHeld meanings (Translate byte (f byte))) bytes
+pairs-held meanings f [] all = tt
+pairs-held meanings f (byte ∷ bytes) all = (all.0, pairs-held meanings f bytes all.1)
+
+ignored-is : (m : Character) → is_ignored m ≡ true → m ≡ Ignored
+ignored-is (Symbol value) h = cc
+ignored-is Padding h = cc
+ignored-is Ignored h = refl
+ignored-is Invalid h = cc
+
+not_zero : (n : ℕ) → 0 < n → not (n == 0) ≡ true
+not_zero n h = grind (arith, nat_tests)
+
+module _ (base : Base) (ruled : IsRuled base) where
+  value-small : (byte value : ℕ) → byte < 128 → meaning base byte ≡ Symbol value
+      → value < length base.symbols
+  value-small byte value low is =
+      let limit = length base.symbols in
+      let passes : is_within limit (meaning base byte) ≡ true =
+      passes_at (is_within limit) base.meanings byte Invalid ruled.within
+      (omega (arith, low, ruled.long)) in
+      ltb-true value limit (sym (ap (is_within limit) is) ∙ passes)
+
+  no_padding : (byte : ℕ) → byte < 128 → (o : Option ℕ) → base.padding ≡ o
+      → IsRuledPadding base o → meaning base byte ≡ Padding → (character : ℕ)
+      × (o ≡ Some character) × (character < 128) × (meaning base character ≡ Padding)
+  no_padding byte low None is rule m =
+      let passes : is_no_padding (meaning base byte) ≡ true =
+      passes_at is_no_padding base.meanings byte Invalid rule (omega (arith, low, ruled.long)) in
+      let fails : is_no_padding (meaning base byte) ≡ false = ap is_no_padding m in
+      cc
+  no_padding byte low (Some character) is rule m = (character, refl, rule.0, rule.1)
+
+  padding-own : (byte : ℕ) → byte < 128 → meaning base byte ≡ Padding → (character : ℕ)
+      × (base.padding ≡ Some character) × (character < 128)
+      × (meaning base character ≡ Padding)
+  padding-own byte low m = no_padding byte low base.padding refl ruled.padding m
+
+  abbrev fields : Fields
+  fields = fields_of base
+
+  abbrev before_pairs : List Judgement
+  before_pairs =
+      symbol_judgements 0 base.symbols ++ padding_judgements base.width base.padding
+      ++ ignored_judgements (fields_of base).ignored
+      ++ wrapping_judgements base.width (column_of base.wrapping) (separator_of base.wrapping)
+
+  padding-agrees : (o : Option ℕ) → IsRuledPadding base o
+      → AllByRecursion (Agrees base.meanings no_meanings) (padding_judgements base.width o)
+  padding-agrees None rule = tt
+  padding-agrees (Some character) rule =
+      (rule.2, (lt-ltb character 128 rule.0, ((rule.0, rule.1), tt)))
+
+  wrapping-agrees : (o : Option Wrapping) → IsRuledWrapping base o
+      → AllByRecursion (Agrees base.meanings no_meanings)
+      (wrapping_judgements base.width (column_of o) (separator_of o))
+  wrapping-agrees None rule = tt
+  wrapping-agrees (Some lines) rule =
+      let column = lines.column in
+      let separator = lines.separator in
+      let on : wraps column separator ≡ true =
+      and_from (not (column == 0)) (not (length separator == 0)) (not_zero column rule.some)
+      (not_zero (length separator) rule.ended) in
+      subst
+      (λ b. AllByRecursion (Agrees base.meanings no_meanings) (cond b
+      (Require (nat_lt column 256 && nat_lt (length separator) 256) WrapLength
+      ∷ Require (column % group_symbols base.width == 0) (WrapWidth (group_symbols base.width))
+      ∷ ignored_judgements separator) []))
+      (sym on) (
+        and_from (nat_lt column 256) (nat_lt (length separator) 256)
+            (lt-ltb column 256 rule.short) (lt-ltb (length separator) 256 rule.ends_short),
+        (
+          eq-eqb (column % group_symbols base.width) 0 rule.whole,
+          ignored-agree base.meanings no_meanings separator rule.ignored,
+        ),
+      )
+
+  before_pairs-agree : AllByRecursion (Agrees base.meanings no_meanings) before_pairs
+  before_pairs-agree =
+      let P = Agrees base.meanings no_meanings in
+      let a = symbol_judgements 0 base.symbols in
+      let b = padding_judgements base.width base.padding in
+      let c = ignored_judgements (fields_of base).ignored in
+      let d = wrapping_judgements base.width (column_of base.wrapping)
+      (separator_of base.wrapping) in
+      all_joined P (a ++ b ++ c) d
+      (all_joined P (a ++ b) c
+      (all_joined P a b
+      (symbols-agree base.meanings no_meanings 0 base.symbols (λ i h.
+      let own = ruled.own i h in
+      let first : i ≡ 0 + i = omega arith in
+      (own.0, own.1 ∙ ap (λ v. Symbol v) first)))
+      (padding-agrees base.padding ruled.padding))
+      (ignored-agree base.meanings no_meanings (fields_of base).ignored
+      (all_in_range (λ byte. (byte < 128) × (get_or base.meanings byte Invalid ≡ Ignored))
+      (λ byte. is_ignored (meaning base byte)) 0 128
+      (λ byte from low is. (omega arith, ignored-is (meaning base byte) is)))))
+      (wrapping-agrees base.wrapping ruled.wrapping)
+
+  -- the meanings before the translations
+  first : GoesOn (meanings_after (Ok no_meanings) before_pairs) base.meanings
+  first =
+      all-go base.meanings no_meanings before_pairs no_meanings refl before_pairs-agree
+      (λ byte some. refl) (nothing-below base.meanings)
+
+  abbrev halfway : List Character
+  halfway = (first).after
+
+  halfway-held : AllByRecursion (IsHeld halfway) before_pairs
+  halfway-held =
+      (meanings_after-ok before_pairs no_meanings halfway (first).is).held refl
+
+  long-halfway : length halfway ≡ 128
+  long-halfway = (meanings_after-ok before_pairs no_meanings halfway (first).is).long
+
+  -- in any meanings that hold them, the symbols and the padding mean themselves
+  symbol-there : (meanings : List Character) → AllByRecursion (IsHeld meanings) before_pairs
+      → (i : ℕ) → i < length base.symbols
+      → get_or meanings (get_or base.symbols i 0) Invalid ≡ Symbol i
+  symbol-there meanings held i h =
+      let a = symbol_judgements 0 base.symbols in
+      let b = padding_judgements base.width base.padding in
+      let c = ignored_judgements (fields_of base).ignored in
+      let d = wrapping_judgements base.width (column_of base.wrapping)
+      (separator_of base.wrapping) in
+      let P = IsHeld meanings in
+      let all = (all_parts P a b (all_parts P (a ++ b) c (all_parts P (a ++ b ++ c) d held).0).0).0
+      in
+      let here : 0 + i ≡ i = omega arith in
+      (symbols-held meanings 0 base.symbols all i h).1 ∙ ap (λ v. Symbol v) here
+
+  padding-there : (meanings : List Character) → AllByRecursion (IsHeld meanings) before_pairs
+      → (character : ℕ) → base.padding ≡ Some character
+      → get_or meanings character Invalid ≡ Padding
+  padding-there meanings held character is =
+      let a = symbol_judgements 0 base.symbols in
+      let b = padding_judgements base.width base.padding in
+      let c = ignored_judgements (fields_of base).ignored in
+      let d = wrapping_judgements base.width (column_of base.wrapping)
+      (separator_of base.wrapping) in
+      let P = IsHeld meanings in
+      let all = (all_parts P a b (all_parts P (a ++ b) c (all_parts P (a ++ b ++ c) d held).0).0).1
+      in
+      let one = subst (λ o. AllByRecursion P (padding_judgements base.width o)) is all in
+      one.1.1.0.1 (λ e. cc)
+
+  ignored-there : (meanings : List Character) → AllByRecursion (IsHeld meanings) before_pairs
+      → (byte : ℕ) → byte < 128 → meaning base byte ≡ Ignored
+      → get_or meanings byte Invalid ≡ Ignored
+  ignored-there meanings held byte low is =
+      let a = symbol_judgements 0 base.symbols in
+      let b = padding_judgements base.width base.padding in
+      let c = ignored_judgements (fields_of base).ignored in
+      let d = wrapping_judgements base.width (column_of base.wrapping)
+      (separator_of base.wrapping) in
+      let P = IsHeld meanings in
+      let all = (all_parts P (a ++ b) c (all_parts P (a ++ b ++ c) d held).0).1 in
+      (at_in_range (λ k. (k < 128) × (get_or meanings k Invalid ≡ Ignored))
+      (λ k. is_ignored (meaning base k)) 0 128 byte
+      (ignored-held meanings (fields_of base).ignored all) (omega arith) (omega arith)
+      (ap is_ignored is)).1
+
+  -- a translated byte agrees, once what it stands for is known
+  pair-agrees : (byte : ℕ) → byte < 128 → (m : Character) → meaning base byte ≡ m
+      → is_translated base byte (own_character base m) ≡ true
+      → Agrees base.meanings halfway (Translate byte (unwrap_or (own_character base m) 0))
+  pair-agrees byte low (Symbol value) is t =
+      let small = value-small byte value low is in
+      let own = ruled.own value small in
+      let there = symbol-there halfway halfway-held value small in
+      (low, own.0, (λ e. let bad : Symbol value ≡ Invalid = sym there ∙ e in cc), is ∙ sym own.1)
+  pair-agrees byte low Padding is t =
+      let own = padding-own byte low is in
+      subst
+      (λ o. Agrees base.meanings halfway (Translate byte (unwrap_or o 0)))
+      (sym own.1)
+      (let there = padding-there halfway halfway-held own.0 own.1 in
+      (low, own.2, (λ e. let bad : Padding ≡ Invalid = sym there ∙ e in cc), is ∙ sym own.3))
+  pair-agrees byte low Ignored is t = cc
+  pair-agrees byte low Invalid is t = cc
+
+  abbrev from : List ℕ
+  from = translated_bytes base
+
+  abbrev own : ℕ → ℕ
+  own byte = unwrap_or (own_character base (meaning base byte)) 0
+
+  pairs-all : AllByRecursion (Agrees base.meanings halfway)
+      (translation_judgements (fields_of base).from (fields_of base).to)
+  pairs-all = (
+    eq-eqb (length from) (length (map own from)) (sym (length-map from own)),
+    pairs-agree base.meanings halfway own from
+        (all_in_range (λ byte. Agrees base.meanings halfway (Translate byte (own byte)))
+        (λ byte. is_translated base byte (own_character base (meaning base byte))) 0 128
+        (λ byte from low is. pair-agrees byte (omega arith) (meaning base byte) refl is)),
+  )
+
+  second : GoesOn (meanings_after (Ok halfway)
+      (translation_judgements (fields_of base).from (fields_of base).to)) base.meanings
+  second =
+      all-go base.meanings halfway
+      (translation_judgements (fields_of base).from (fields_of base).to) halfway long-halfway
+      pairs-all (λ byte some. refl) (first).below
+
+  abbrev last : List Character
+  last = (second).after
+
+  judged-all : meanings_after (Ok no_meanings) (judgements base.width (fields_of base)) ≡ Ok last
+  judged-all =
+      meanings_after-append (Ok no_meanings) before_pairs
+      (translation_judgements (fields_of base).from (fields_of base).to)
+      ∙ after-ok (meanings_after (Ok no_meanings) before_pairs) halfway
+      (translation_judgements (fields_of base).from (fields_of base).to) (first).is
+      ∙ (second).is
+
+  last-held : AllByRecursion (IsHeld last) (judgements base.width (fields_of base))
+  last-held =
+      (meanings_after-ok (judgements base.width (fields_of base)) no_meanings last judged-all).held
+      refl
+
+  long-last : length last ≡ 128
+  long-last =
+      (meanings_after-ok (judgements base.width (fields_of base)) no_meanings last judged-all).long
+
+  first-held : AllByRecursion (IsHeld last) before_pairs
+  first-held =
+      (all_parts (IsHeld last) before_pairs
+      (translation_judgements (fields_of base).from (fields_of base).to) last-held).0
+
+  -- a translated byte means something in the end
+  translated-there : (byte : ℕ) → byte < 128
+      → is_translated base byte (own_character base (meaning base byte)) ≡ true
+      → get_or last byte Invalid ≢ Invalid
+  translated-there byte low is e =
+      let pairs = (all_parts (IsHeld last) before_pairs
+      (translation_judgements (fields_of base).from (fields_of base).to) last-held).1 in
+      let at = at_in_range (λ k. IsHeld last (Translate k (own k)))
+      (λ k. is_translated base k (own_character base (meaning base k))) 0 128 byte
+      (pairs-held last own from pairs.1) (omega arith) (omega arith) is in
+      at.2 (sym at.3 ∙ e)
+
+  -- a byte is translated, or is the character itself
+  self-there : (byte character : ℕ) → byte < 128
+      → own_character base (meaning base byte) ≡ Some character
+      → (get_or last character Invalid ≢ Invalid) → get_or last byte Invalid ≢ Invalid
+  self-there byte character low is there =
+      ⊎_elim
+      (λ (same : character ≡ byte). λ e. there (ap (λ n. get_or last n Invalid) same ∙ e))
+      (λ (apart : character ≢ byte).
+      let t : is_translated base byte (own_character base (meaning base byte)) ≡ true =
+      ap (is_translated base byte) is ∙ apart_test character byte apart in
+      translated-there byte low t)
+      (cases_eq character byte) where
+        apart_test : (a b : ℕ) → a ≢ b → not (a == b) ≡ true
+        apart_test a b ne = grind (arith, nat_tests)
+
+  all-there : (byte : ℕ) → byte < 128 → (m : Character) → meaning base byte ≡ m → m ≢ Invalid
+      → get_or last byte Invalid ≢ Invalid
+  all-there byte low (Symbol value) is some =
+      let there = symbol-there last first-held value (value-small byte value low is) in
+      self-there byte (symbol base value) low (ap (own_character base) is)
+      (λ e. let bad : Symbol value ≡ Invalid = sym there ∙ e in cc)
+  all-there byte low Padding is some =
+      let own_padding = padding-own byte low is in
+      let there = padding-there last first-held own_padding.0 own_padding.1 in
+      self-there byte own_padding.0 low (ap (own_character base) is ∙ own_padding.1)
+      (λ e. let bad : Padding ≡ Invalid = sym there ∙ e in cc)
+  all-there byte low Ignored is some =
+      let there = ignored-there last first-held byte low is in
+      λ e. let bad : Ignored ≡ Invalid = sym there ∙ e in cc
+  all-there byte low Invalid is some = absurd (some refl)
+
+  last-is : last ≡ base.meanings
+  last-is =
+      ext_get_or Invalid last base.meanings (long-last ∙ sym ruled.long)
+      (λ byte h.
+      let low : byte < 128 = omega (arith, h, long-last) in
+      ⊎_elim
+      (λ (none : get_or last byte Invalid ≡ Invalid).
+      ⊎_elim
+      (λ (same : is_same (meaning base byte) Invalid ≡ true).
+      none ∙ sym (same-is_same (meaning base byte) Invalid same))
+      (λ (other : is_same (meaning base byte) Invalid ≡ false).
+      absurd (all-there byte low (meaning base byte) refl
+      (λ e. let same : is_same (meaning base byte) Invalid ≡ true
+      = ap (λ n. is_same n Invalid) e in cc) none))
+      (cases_Bool (is_same (meaning base byte) Invalid)))
+      (λ (there : get_or last byte Invalid ≡ meaning base byte). there)
+      ((second).below byte))
+
+  wrapping-again : (o : Option Wrapping) → IsRuledWrapping base o
+      → cond (wraps (column_of o) (separator_of o))
+      (Some (record { column = column_of o; separator = separator_of o })) None ≡ o
+  wrapping-again None rule = refl
+  wrapping-again (Some lines) rule =
+      let on : wraps lines.column lines.separator ≡ true =
+      and_from (not (lines.column == 0)) (not (length lines.separator == 0))
+      (not_zero lines.column rule.some) (not_zero (length lines.separator) rule.ended) in
+      ap (λ b. cond b (Some lines) None) on
+
+  pub base_of-again : base_of (fields_of base) ≡ Ok base
+  base_of-again =
+      let wrapped = wrapping-again base.wrapping ruled.wrapping in
+      base_of-width (fields_of base) base.width
+      (ap width_of ruled.count ∙ width_of-power base.width ruled.is_width) ruled.is_width.some
+      ∙ ap (base_with base.width (fields_of base)) (judged-all ∙ ap (λ l. Ok l) last-is)
+      ∙ (λ i. Ok (record {
+        width = base.width;
+        order = base.order;
+        symbols = base.symbols;
+        checks_trailing_bits = ruled.checked i;
+        concatenates = ruled.concatenated i;
+        padding = base.padding;
+        meanings = base.meanings;
+        wrapping = wrapped i;
+      }))
+
+pub specification-again : (base : Base) → IsSpecified base → base_of (fields_of base) ≡ Ok base
+specification-again base is = base_of-again base (IsRuled-yield is.fields base is.yields)
+
+-- what keeps the rules is a base
+pub IsSpecified-ruled : (base : Base) → IsRuled base → IsSpecified base
+IsSpecified-ruled base ruled =
+    record { fields = fields_of base; yields = base_of-again base ruled }

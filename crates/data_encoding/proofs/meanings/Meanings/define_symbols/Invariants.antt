@@ -1,8 +1,0 @@
-use Rattle.std.proofs.Common.{◌≡◌, drop, Ok}
-use Rattle.data_encoding.specs.Fields.{meanings_after, symbol_judgements}
-use Rattle.data_encoding.proofs.meanings.Meanings.define_symbols.Given as goal
-
-abbrev pub invariant-loop-value : goal.invariant-loop-value
-invariant-loop-value l =
-    meanings_after (Ok l.self) (symbol_judgements l.value (drop l.value l.symbols))
-    ≡ meanings_after (Ok l.initial.self) (symbol_judgements 0 l.symbols)

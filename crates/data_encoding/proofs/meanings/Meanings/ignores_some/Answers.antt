@@ -1,7 +1,0 @@
-use Rattle.std.proofs.Common.{take, ◌∙◌}
-use Rattle.data_encoding.proofs.tables.LayoutLemmas.{any-ignored}
-use Rattle.data_encoding.proofs.meanings.Meanings.ignores_some.Goals as goal
-
-pub returns : goal.returns
-returns c =
-    rw (← c.self.view_is) (c.contains.ensures.value ∙ any-ignored (take 128 c.self.inside.values))

@@ -1,0 +1,8 @@
+use Rattle.std.proofs.Common.{◌≡◌, drop, Ok}
+use Rattle.data_encoding.specs.Fields.{ignored_judgements, meanings_after}
+use Rattle.data_encoding.proofs.specification.meanings.Meanings.define_ignored.Given as goal
+
+abbrev pub invariant-loop-index : goal.invariant-loop-index
+invariant-loop-index l =
+    meanings_after (Ok l.self) (ignored_judgements (drop l.index l.bytes))
+    ≡ meanings_after (Ok l.initial.self) (ignored_judgements l.bytes)

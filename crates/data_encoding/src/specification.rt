@@ -1,0 +1,262 @@
+//! Specifications of encodings, and why one is refused.
+
+pub(crate) mod builder;
+pub(crate) mod canonical;
+pub(crate) mod layout;
+pub(crate) mod meanings;
+pub(crate) mod predefined;
+pub(crate) mod tables;
+
+ghost use Rattle.std.specs.Prelude.{◌≡◌, ◌<◌, ◌++◌, ◌∷◌, [], length, nat_lt, IsTrue, IfOk, IfErr, OnOk, Ok, Err};
+ghost use Rattle.std.specs.List.{list_all};
+ghost use Rattle.std.specs.String.{string_bytes};
+ghost use Rattle.data_encoding.specs.Fields.{base_of};
+ghost use Rattle.data_encoding.specs.Layout.{fields_of};
+ghost use Rattle.data_encoding.specs.Printed.{printed_refusal};
+ghost use Rattle.data_encoding.specs.Tables.{HasTables};
+ghost use Rattle.data_encoding.specs.Specification.{specified, no_fields, refusal_of, SameTranslate, SameWrap};
+
+use crate::encoding::{BitOrder, Encoding};
+use crate::specification::builder::{Parts, define};
+use crate::specification::meanings::Refusal;
+use crate::specification::tables::{Tables, character, symbol_count};
+use std::alloc::{AllocError, Global};
+use std::error::Error;
+use std::fmt;
+
+/// Bytes that mean what others mean: each of `from` what the one of `to` at its position means.
+#[derive(Debug, Drop)]
+pub struct Translate {
+    /// The bytes that are translated.
+    pub from: String,
+
+    /// What each of them stands for.
+    pub to: String,
+}
+
+/// Lines of text.
+#[derive(Debug, Drop)]
+pub struct Wrap {
+    /// The number of characters of a line, or 0 where the text is not cut into lines.
+    pub width: usize,
+
+    /// What follows each line, or nothing where the text is not cut into lines.
+    pub separator: String,
+}
+
+/// How an encoding is asked for.
+#[derive(Debug, Drop)]
+pub struct Specification {
+    /// The symbols, in order of value: 2, 4, 8, 16, 32 or 64 ASCII characters.
+    pub symbols: String,
+
+    /// Which bit of a byte comes first.
+    pub bit_order: BitOrder,
+
+    /// Whether bits that are left after the last byte have to be zeros.
+    pub check_trailing_bits: bool,
+
+    /// Whether padded texts that stand one after the other are decoded as one. Where it is false,
+    /// a text ends with its first padded group. Without padding it has no effect.
+    pub concatenate: bool,
+
+    /// What fills the last group of a text.
+    pub padding: Option<char>,
+
+    /// Bytes that a text may have anywhere, and that mean nothing.
+    pub ignore: String,
+
+    /// The lines of a text.
+    pub wrap: Wrap,
+
+    /// Bytes that mean what others mean.
+    pub translate: Translate,
+}
+
+/// Why no encoding is built from a specification.
+#[derive(Clone, Copy, Debug)]
+pub struct SpecificationError {
+    pub(crate) refusal: Refusal,
+}
+
+impl Specification {
+    /// A specification with no symbols, the most significant bit first, trailing bits checked, and
+    /// texts concatenated: no padding, nothing ignored, no lines and no translation. It takes no
+    /// memory.
+    pub fn new(alloc: Global) -> Specification
+        ensures { specified result ≡ no_fields }
+    {
+        Specification {
+            symbols: String::new(alloc),
+            bit_order: BitOrder::MostSignificantFirst,
+            check_trailing_bits: true,
+            concatenate: true,
+            padding: None,
+            ignore: String::new(alloc),
+            wrap: Wrap {
+                width: 0,
+                separator: String::new(alloc),
+            },
+            translate: Translate {
+                from: String::new(alloc),
+                to: String::new(alloc),
+            },
+        }
+    }
+
+    /// The encoding that is asked for, or the first reason why there is none.
+    ///
+    /// It takes no memory. Judged in turn are the number of symbols, the symbols, the padding, the
+    /// ignored bytes, the lines where there are some, and the translations, each of which may use
+    /// what an earlier one defined. Where eight bits are whole symbols, trailing bits are checked
+    /// whatever is asked.
+    pub fn encoding(&self) -> Result<Encoding, SpecificationError>
+        ensures yields { IfOk result (λ base. base_of (specified self.now) ≡ Ok base) }
+        ensures refused { IfErr result
+            (λ error. base_of (specified self.now) ≡ Err (refusal_of error)) }
+    {
+        let parts = Parts {
+            symbols: self.symbols.as_bytes(),
+            order: self.bit_order,
+            check: self.check_trailing_bits,
+            concatenate: self.concatenate,
+            padding: self.padding,
+            ignored: self.ignore.as_bytes(),
+            column: self.wrap.width,
+            separator: self.wrap.separator.as_bytes(),
+            from: self.translate.from.as_bytes(),
+            to: self.translate.to.as_bytes(),
+        };
+        match define(&parts) {
+            Ok(encoding) => Ok(encoding),
+            Err(refusal) => Err(SpecificationError { refusal }),
+        }
+    }
+
+    /// A copy, which says the same. The only error is that memory ran out.
+    pub fn try_clone(&self) -> Result<Specification, AllocError>
+        ensures { IfOk result (λ copy. specified copy ≡ specified self.now) }
+    {
+        Ok(Specification {
+            symbols: self.symbols.clone()?,
+            bit_order: self.bit_order,
+            check_trailing_bits: self.check_trailing_bits,
+            concatenate: self.concatenate,
+            padding: self.padding,
+            ignore: self.ignore.clone()?,
+            wrap: self.wrap.try_clone()?,
+            translate: self.translate.try_clone()?,
+        })
+    }
+}
+
+impl Encoding {
+    /// A specification that builds the encoding again. The only error is that memory ran out.
+    ///
+    /// Its ignored bytes are in order; and so are its translations, one for each byte that means a
+    /// symbol or padding and is another byte.
+    pub fn specification(&self, alloc: Global) -> Result<Specification, AllocError>
+        ensures { IfOk result (λ specification. specified specification ≡ fields_of self.now) }
+    {
+        let tables = self.tables();
+        let translations = tables.translations();
+        Ok(Specification {
+            symbols: ascii_text(alloc, tables.symbols)?,
+            bit_order: self.order,
+            check_trailing_bits: self.checks_trailing_bits,
+            concatenate: self.concatenates,
+            padding: character(self.padding),
+            ignore: ascii_text(alloc, tables.ignored().as_slice())?,
+            wrap: Wrap {
+                width: self.column as usize,
+                separator: ascii_text(alloc, self.separator.as_slice())?,
+            },
+            translate: Translate {
+                from: ascii_text(alloc, translations.from.as_slice())?,
+                to: ascii_text(alloc, translations.to.as_slice())?,
+            },
+        })
+    }
+
+    // The tables, of which a symbol has one entry each.
+    pub(crate) fn tables(&self) -> Tables<'_>
+        ensures tables { HasTables self.now result }
+        ensures long { length result.values.now ≡ 128 }
+        ensures ascii { IsTrue (list_all (λ symbol. nat_lt symbol 128) result.symbols.now) }
+    {
+        Tables {
+            symbols: &self.symbols[..symbol_count(self.width)],
+            values: &self.values[..128],
+            padding: self.padding,
+        }
+    }
+}
+
+// Appends an ASCII character.
+fn push_ascii(text: &mut String, byte: u8) -> Result<(), AllocError>
+    requires { byte < 128 }
+    ensures { OnOk result (string_bytes text.new ≡ string_bytes text.old ++ byte ∷ []) }
+{
+    text.push(char::from(byte))
+}
+
+// ASCII characters as text.
+fn ascii_text(alloc: Global, bytes: &[u8]) -> Result<String, AllocError>
+    requires { IsTrue (list_all (λ byte. nat_lt byte 128) bytes.now) }
+    ensures { IfOk result (λ text. string_bytes text ≡ bytes.now) }
+{
+    let mut text = String::new(alloc);
+    for byte in bytes {
+        push_ascii(&mut text, *byte)?;
+    }
+    Ok(text)
+}
+
+impl Translate {
+    /// A copy with the same texts. The only error is that memory ran out.
+    pub fn try_clone(&self) -> Result<Translate, AllocError>
+        ensures { IfOk result (λ copy. SameTranslate copy self.now) }
+    {
+        Ok(Translate {
+            from: self.from.clone()?,
+            to: self.to.clone()?,
+        })
+    }
+}
+
+impl Wrap {
+    /// A copy with the same width and text. The only error is that memory ran out.
+    pub fn try_clone(&self) -> Result<Wrap, AllocError>
+        ensures { IfOk result (λ copy. SameWrap copy self.now) }
+    {
+        Ok(Wrap {
+            width: self.width,
+            separator: self.separator.clone()?,
+        })
+    }
+}
+
+impl fmt::Display for SpecificationError {
+    ghost output = { λ error. printed_refusal error.refusal };
+
+    fn fmt<W: fmt::Write>(&self, f: &mut fmt::Formatter<W>) -> fmt::Result {
+        match self.refusal {
+            Refusal::BadSize => f.write_str("invalid number of symbols"),
+            Refusal::NotAscii => f.write_str("non-ascii character"),
+            Refusal::Duplicate(byte) => {
+                let character = char::from(byte);
+                write!(f, "{character:?} has conflicting definitions")
+            }
+            Refusal::ExtraPadding => f.write_str("unnecessary padding"),
+            Refusal::WrapLength => f.write_str("invalid wrap width or separator length"),
+            Refusal::WrapWidth(count) => write!(f, "wrap width not a multiple of {count}"),
+            Refusal::FromTo => f.write_str("translate from/to length mismatch"),
+            Refusal::Undefined(byte) => {
+                let character = char::from(byte);
+                write!(f, "{character:?} is undefined")
+            }
+        }
+    }
+}
+
+impl Error for SpecificationError {}

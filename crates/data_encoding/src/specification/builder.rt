@@ -1,0 +1,170 @@
+//! How a specification becomes an encoding: each byte is given its meaning in turn.
+
+ghost use Rattle.std.specs.Prelude.{◌≡◌, ◌/◌, ◌%◌, ◌^◌, ◌==◌, ◌||◌, ◌<◌, [], length, replicate, if◌then◌else◌, is_none, IfOk, IfErr, IfSome, IsTrue, Ok, Err, Some, None};
+ghost use Rattle.std.specs.List.{concat};
+ghost use Rattle.data_encoding.specs.Base.{IsWidth};
+ghost use Rattle.data_encoding.specs.Fields.{Fields, base_of, base_by, judgements, meanings_after, no_meanings, width_of, wraps};
+ghost use Rattle.data_encoding.specs.Specification.{fields_of_parts};
+
+use crate::encoding::{BitOrder, Encoding};
+use crate::specification::meanings::{Meanings, Refusal, wraps};
+use arrayvec::ArrayVec;
+
+// The numbers of symbols, in order of their bits; one symbol has none.
+const SIZES: [usize; 7] = [1, 2, 4, 8, 16, 32, 64];
+
+// The fields of a specification, its texts as bytes.
+#[derive(Drop)]
+pub(crate) struct Parts<'a> {
+    pub(crate) symbols: &'a [u8],
+    pub(crate) order: BitOrder,
+    pub(crate) check: bool,
+    pub(crate) concatenate: bool,
+    pub(crate) padding: Option<char>,
+    pub(crate) ignored: &'a [u8],
+    pub(crate) column: usize,
+    pub(crate) separator: &'a [u8],
+    pub(crate) from: &'a [u8],
+    pub(crate) to: &'a [u8],
+}
+
+// The number of bits of one of so many symbols, where one has none.
+fn width_of(count: usize) -> Option<usize>
+    ensures { result ≡ width_of count }
+{
+    SIZES.iter().position(|size| *size == count)
+}
+
+// The number of bits of one of so many symbols, which is not 0.
+fn bits_of_symbol(count: usize) -> Result<u8, Refusal>
+    ensures width { IfOk result (λ width. width_of count ≡ Some width) }
+    ensures bits { IfOk result IsWidth }
+    ensures count { IfOk result (λ width. 2 ^ width ≡ count) }
+    ensures refused { IfErr result
+        (λ refusal. (fields : Fields) → base_by (width_of count) fields ≡ Err refusal) }
+{
+    match width_of(count) {
+        None | Some(0) => Err(Refusal::BadSize),
+        Some(width) => Ok(width as u8),
+    }
+}
+
+// The symbols again and again, until the table is full: what is there is copied behind itself.
+fn repeated(symbols: &[u8], width: u8) -> [u8; 256]
+    requires width { IsWidth width }
+    requires count { length symbols.now ≡ 2 ^ width }
+    ensures { result ≡ concat (replicate (256 / 2 ^ width) symbols.now) }
+{
+    let mut table = [0; 256];
+    let mut filled = symbols.len();
+    table[..filled].copy_from_slice(symbols);
+    for _ in width..8 {
+        table.copy_within(..filled, filled);
+        filled *= 2;
+    }
+    table
+}
+
+// Whether trailing bits are checked: always, where eight bits are whole symbols.
+fn checks_trailing_bits(check: bool, width: u8) -> bool
+    requires { 0 < width }
+    ensures { result ≡ (check || (8 % width == 0)) }
+{
+    check || 8 % width == 0
+}
+
+// Whether texts may be concatenated: always, where there is no padding.
+fn concatenates(concatenate: bool, padding: Option<char>) -> bool
+    ensures { result ≡ (concatenate || is_none padding) }
+{
+    concatenate || padding.is_none()
+}
+
+// The padding character as a byte.
+fn padding_byte(padding: Option<char>) -> Option<u8>
+    requires { IfSome padding (λ character. character < 128) }
+    ensures { result ≡ padding }
+{
+    match padding {
+        Some(character) => Some(character as u32 as u8),
+        None => None,
+    }
+}
+
+// The length of a line, or 0 where there are no lines.
+fn column_byte(column: usize, separator: &[u8]) -> u8
+    requires { IsTrue (wraps column separator.now) → column < 256 }
+    ensures { result ≡ (if wraps column separator.now then column else 0) }
+{
+    if wraps(column, separator) {
+        return column as u8;
+    }
+    0
+}
+
+// What follows each line; nothing where there are no lines.
+fn separator_bytes(column: usize, separator: &[u8]) -> ArrayVec<u8, 255>
+    requires { IsTrue (wraps column separator.now) → length separator.now < 256 }
+    ensures { result.items ≡ (if wraps column separator.now then separator.now else []) }
+{
+    let mut bytes = ArrayVec::new();
+    if wraps(column, separator) {
+        bytes.try_extend_from_slice(separator).unwrap();
+    }
+    bytes
+}
+
+// What the bytes mean after all judgements.
+fn judge(parts: &Parts<'_>, width: u8) -> Result<Meanings, Refusal>
+    requires width { IsWidth width }
+    requires count { 2 ^ width ≡ length parts.now.symbols.now }
+    ensures meanings { IfOk result (λ meanings.
+        meanings_after (Ok no_meanings) (judgements width (fields_of_parts parts.now))
+        ≡ Ok meanings) }
+    ensures refused { IfErr result (λ refusal.
+        meanings_after (Ok no_meanings) (judgements width (fields_of_parts parts.now))
+        ≡ Err refusal) }
+{
+    let mut meanings = Meanings::new();
+    meanings.define_symbols(parts.symbols)?;
+    meanings.define_padding(width, parts.padding)?;
+    meanings.define_ignored(parts.ignored)?;
+    meanings.define_wrapping(width, parts.column, parts.separator)?;
+    meanings.translate(parts.from, parts.to)?;
+    Ok(meanings)
+}
+
+// The encoding of what was judged.
+fn assembled(parts: &Parts<'_>, width: u8, meanings: Meanings) -> Encoding
+    requires sized { width_of (length parts.now.symbols.now) ≡ Some width }
+    requires width { IsWidth width }
+    requires count { 2 ^ width ≡ length parts.now.symbols.now }
+    requires judged { meanings_after (Ok no_meanings)
+        (judgements width (fields_of_parts parts.now)) ≡ Ok meanings }
+    ensures { base_of (fields_of_parts parts.now) ≡ Ok result }
+{
+    let ignores = meanings.ignores_some();
+    Encoding {
+        symbols: repeated(parts.symbols, width),
+        values: meanings.into_values(),
+        width,
+        order: parts.order,
+        checks_trailing_bits: checks_trailing_bits(parts.check, width),
+        concatenates: concatenates(parts.concatenate, parts.padding),
+        padding: padding_byte(parts.padding),
+        ignores,
+        column: column_byte(parts.column, parts.separator),
+        separator: separator_bytes(parts.column, parts.separator),
+    }
+}
+
+// The encoding that is built from the fields, or the first refusal.
+pub(crate) fn define(parts: &Parts<'_>) -> Result<Encoding, Refusal>
+    ensures yields { IfOk result (λ base. base_of (fields_of_parts parts.now) ≡ Ok base) }
+    ensures refused { IfErr result
+        (λ refusal. base_of (fields_of_parts parts.now) ≡ Err refusal) }
+{
+    let width = bits_of_symbol(parts.symbols.len())?;
+    let meanings = judge(parts, width)?;
+    Ok(assembled(parts, width, meanings))
+}

@@ -1,0 +1,167 @@
+//! An encoding as bytes, and back.
+
+ghost use Rattle.std.specs.Prelude.{◌≡◌, ◌+◌, ◌/◌, ◌%◌, ◌==◌, ◌<◌, ◌≤◌, ◌++◌, length, drop, slice_index, if◌then◌else◌, nat_lt, Some, None, unwrap_or, IfSome, IsSome};
+ghost use Rattle.arrayvec.specs.ArrayVec.{array_vec_len};
+ghost use Rattle.data_encoding.specs.declared.encoding.BitOrder.TheVariants.{MostSignificantFirst, LeastSignificantFirst};
+ghost use Rattle.data_encoding.specs.Base.{Base};
+ghost use Rattle.data_encoding.specs.Fields.{IsSpecified};
+ghost use Rattle.data_encoding.specs.Layout.{layout, order_flag};
+
+use crate::encoding::{BitOrder, Encoding, INVALID};
+use crate::specification::builder::{Parts, define};
+use crate::specification::tables::{Tables, character, symbol_count};
+use arrayvec::ArrayVec;
+
+impl Encoding {
+    /// The encoding of a layout, or nothing where no specification asks for one that has this
+    /// layout.
+    ///
+    /// [`internal_implementation`](Encoding::internal_implementation) describes the layouts. The
+    /// bytes are copied, and it takes no memory.
+    pub fn internal_new(implementation: &[u8]) -> Option<Encoding>
+        ensures base { IfSome result IsSpecified }
+        ensures layout { IfSome result (λ base. layout base ≡ implementation.now) }
+        ensures accepted { (base : Base) → IsSpecified base → layout base ≡ implementation.now
+            → IsSome result }
+    {
+        if implementation.len() < 514 || implementation.len() > 770 {
+            return None;
+        }
+        let encoding = described(implementation)?;
+        if encoding.internal_implementation().as_slice() == implementation {
+            Some(encoding)
+        } else {
+            None
+        }
+    }
+
+    /// The layout: 514 to 770 bytes that stand for the encoding, from which
+    /// [`internal_new`](Encoding::internal_new) makes it again. It takes no memory.
+    ///
+    /// The bytes from 0 on are the symbols, again and again, up to byte 256. The bytes from 256 on
+    /// are what the 256 bytes mean, each a symbol's value, 128 for nothing, 129 for ignored or 130
+    /// for padding. Byte 512 is the padding character, or 128 where there is none. Byte 513 is a
+    /// sum: the number of bits of a symbol, 8 where the most significant bit comes first, 16 where
+    /// trailing bits are checked, and 32 where texts may not be concatenated. With lines, the
+    /// number of characters of a line and then the separator follow; without lines, one 0 follows
+    /// where a byte is ignored, and nothing otherwise.
+    pub fn internal_implementation(&self) -> ArrayVec<u8, 770>
+        ensures { result.items ≡ layout self.now }
+    {
+        let mut bytes = ArrayVec::new();
+        put(&mut bytes, &self.symbols);
+        put(&mut bytes, &self.values);
+        put(&mut bytes, &[padding_entry(self.padding), self.flags()]);
+        if self.column != 0 {
+            put(&mut bytes, &[self.column]);
+            put(&mut bytes, self.separator.as_slice());
+        } else if self.ignores {
+            put(&mut bytes, &[0]);
+        }
+        bytes
+    }
+
+    // The width; the order and the check in the bits of weight 8 and 16, and in that of weight 32
+    // that texts may not be concatenated.
+    fn flags(&self) -> u8
+        ensures { result ≡ self.now.width + order_flag self.now.order
+            + (if self.now.checks_trailing_bits then 16 else 0)
+            + (if self.now.concatenates then 0 else 32) }
+    {
+        let order = match self.order {
+            BitOrder::MostSignificantFirst => 8,
+            BitOrder::LeastSignificantFirst => 0,
+        };
+        let check = if self.checks_trailing_bits { 16 } else { 0 };
+        let single = if self.concatenates { 0 } else { 32 };
+        self.width + order + check + single
+    }
+}
+
+// Appends bytes, for which there is room.
+fn put(layout: &mut ArrayVec<u8, 770>, bytes: &[u8])
+    requires { array_vec_len layout.old + length bytes.now ≤ 770 }
+    ensures { layout.new.items ≡ layout.old.items ++ bytes.now }
+{
+    layout.try_extend_from_slice(bytes).unwrap();
+}
+
+// The padding character, or 128.
+fn padding_entry(padding: Option<u8>) -> u8
+    ensures { result ≡ unwrap_or padding 128 }
+{
+    padding.unwrap_or(INVALID)
+}
+
+// The encoding that has these bytes as its layout, where there is one.
+fn described(bytes: &[u8]) -> Option<Encoding>
+    requires { 514 ≤ length bytes.now }
+    ensures base { IfSome result IsSpecified }
+    ensures found { (base : Base) → IsSpecified base → layout base ≡ bytes.now
+        → result ≡ Some base }
+{
+    let flags = bytes[513];
+    let width = flags % 8;
+    if width == 0 || width > 6 {
+        return None;
+    }
+    let tables = Tables {
+        symbols: &bytes[..symbol_count(width)],
+        values: &bytes[256..384],
+        padding: padding_of(bytes[512]),
+    };
+    let ignored = tables.ignored();
+    let translations = tables.translations();
+    let parts = Parts {
+        symbols: tables.symbols,
+        order: order_of(flags),
+        check: flags / 16 % 2 == 1,
+        concatenate: flags / 32 % 2 == 0,
+        padding: character(tables.padding),
+        ignored: ignored.as_slice(),
+        column: column_of(bytes) as usize,
+        separator: separator_of(bytes),
+        from: translations.from.as_slice(),
+        to: translations.to.as_slice(),
+    };
+    define(&parts).ok()
+}
+
+// The padding character of its entry.
+fn padding_of(entry: u8) -> Option<u8>
+    ensures { result ≡ (if nat_lt entry 128 then Some entry else None) }
+{
+    if entry < 128 { Some(entry) } else { None }
+}
+
+// The order of the bits: the bit of weight 8.
+fn order_of(flags: u8) -> BitOrder
+    ensures { result
+        ≡ (if flags / 8 % 2 == 1 then MostSignificantFirst else LeastSignificantFirst) }
+{
+    if flags / 8 % 2 == 1 {
+        BitOrder::MostSignificantFirst
+    } else {
+        BitOrder::LeastSignificantFirst
+    }
+}
+
+// The length of a line, or 0 where nothing is said of lines.
+fn column_of(bytes: &[u8]) -> u8
+    ensures { result ≡ slice_index bytes.now 514 }
+{
+    if bytes.len() <= 514 {
+        return 0;
+    }
+    bytes[514]
+}
+
+// What stands behind the length of a line.
+fn separator_of(bytes: &[u8]) -> &[u8]
+    ensures { result.now ≡ drop 515 bytes.now }
+{
+    if bytes.len() <= 515 {
+        return b"";
+    }
+    &bytes[515..]
+}
