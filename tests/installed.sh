@@ -12,7 +12,7 @@ files() {
     find prefix -type f -printf '%m %P\n' | sort -k 2
 }
 
-wanted='755 bin/basecode
+installed='755 bin/basecode
 644 share/bash-completion/completions/basecode
 644 share/fish/vendor_completions.d/basecode.fish
 644 share/man/man1/basecode.1
@@ -21,10 +21,10 @@ wanted='755 bin/basecode
 mkdir prefix
 "$install" prefix
 is 'installs' 0 $?
-is 'the files' "$wanted" "$(files)"
+is 'the files' "$installed" "$(files)"
 "$install" "$room/prefix"
 is 'installs anew' 0 $?
-is 'the files again' "$wanted" "$(files)"
+is 'the files again' "$installed" "$(files)"
 holds 'the program' cmp "$program" prefix/bin/basecode
 names=$("$program" list)
 PATH=$room/prefix/bin:$PATH
@@ -175,5 +175,33 @@ is 'no words' 2 $?
 is 'no folder' 2 $?
 "$install" one other 2>/dev/null
 is 'too many words' 2 $?
+is 'unknown processors' \
+    'install.sh: unknown processors: x86-64-v9 (x86-64, x86-64-v2, x86-64-v3)' \
+    "$("$install" --cpu x86-64-v9 prefix 2>&1)"
+"$install" --cpu x86-64-v9 prefix 2>/dev/null
+is 'unknown processors: the status' 2 $?
+"$install" --cpu x86-64-v3 2>/dev/null
+is 'processors and no folder' 2 $?
+"$install" --cpu x86-64-v3 --remove prefix 2>/dev/null
+is 'processors and a removal' 2 $?
+is 'nothing was installed' '644 bin/other' "$(files)"
+
+# A program for other processors. One that is not for this processor says so.
+cp "$program" kept
+"$install" --cpu x86-64-v3 prefix
+is 'installs for x86-64-v3' 0 $?
+rm prefix/bin/other
+is 'the same files' "$installed" "$(files)"
+holds 'the program in out/ as it was' cmp "$program" kept
+if cmp -s "$program" prefix/bin/basecode; then fail 'another program'; else pass; fi
+missing=$(for feature in abm avx avx2 bmi1 bmi2 f16c fma movbe xsave; do
+    grep -m 1 '^flags' /proc/cpuinfo | grep -qw "$feature" || echo "$feature"
+done)
+if [ -z "$missing" ]; then
+    is 'it encodes' SGVsbG8= "$(printf Hello | prefix/bin/basecode encode BASE64)"
+else
+    printf Hello | prefix/bin/basecode encode BASE64 2>/dev/null
+    is 'it says that it is not for this processor' 127 $?
+fi
 
 finish

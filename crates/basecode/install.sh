@@ -2,21 +2,24 @@
 # Installs basecode, its manual page and its completions below a folder, or removes them.
 #
 # usage: crates/basecode/install.sh PREFIX
+#        crates/basecode/install.sh --cpu NAME PREFIX
 #        crates/basecode/install.sh --remove PREFIX
 #
-# The program is the one that `rt run` or `rt ci` left in out/. Folders that are made stay when the
-# files are removed. Where DESTDIR is set, everything goes below that folder, as packages want it.
+# The program is the one that `rt run` or `rt ci` left in out/. With --cpu it is one that is proved
+# and built for the x86-64 processors NAME, which is x86-64, x86-64-v2 or x86-64-v3; out/basecode
+# stays as it is. Folders that are made stay when the files are removed. Where DESTDIR is set,
+# everything goes below that folder, as packages want it.
 set -eu
 
 usage() {
-    echo 'usage: install.sh PREFIX, or install.sh --remove PREFIX' >&2
+    echo 'usage: install.sh [--cpu NAME] PREFIX, or install.sh --remove PREFIX' >&2
     exit 2
 }
 
 # Each line: a file of this folder, its mode, and where it goes below PREFIX.
 files() {
-    cat <<'LINES'
-out/basecode 755 bin/basecode
+    cat <<LINES
+$program 755 bin/basecode
 basecode.1 644 share/man/man1/basecode.1
 completions/basecode.bash 644 share/bash-completion/completions/basecode
 completions/_basecode 644 share/zsh/site-functions/_basecode
@@ -24,23 +27,68 @@ completions/basecode.fish 644 share/fish/vendor_completions.d/basecode.fish
 LINES
 }
 
+# Puts the program of out/ back, where there was one, with what `rt run` notes of it.
+put_back() {
+    for file in basecode basecode.stamp; do
+        rm -f "out/$file"
+        if [ -e "out/$file.kept" ]; then mv "out/$file.kept" "out/$file"; fi
+    done
+}
+
+# Builds the program for the processors, as out/basecode-NAME. It may not run on this one, so that
+# the status of `rt run` tells nothing, but what was built does.
+build() {
+    mkdir -p out
+    for file in basecode basecode.stamp; do
+        if [ -e "out/$file" ]; then mv "out/$file" "out/$file.kept"; fi
+    done
+    trap put_back EXIT
+    trap 'exit 1' HUP INT TERM
+    rt run --cpu "$cpu" -- list >"$program.log" 2>&1 </dev/null || true
+    if [ ! -x out/basecode ]; then
+        tail -n 20 "$program.log" >&2
+        echo "the program for $cpu was not built" >&2
+        exit 1
+    fi
+    mv out/basecode "$program"
+    put_back
+    trap - EXIT HUP INT TERM
+}
+
 remove=no
-if [ "${1-}" = --remove ]; then
+cpu=
+case ${1-} in
+--remove)
     remove=yes
     shift
-fi
+    ;;
+--cpu)
+    [ $# = 3 ] || usage
+    cpu=$2
+    shift 2
+    ;;
+esac
 [ $# = 1 ] || usage
 case $1 in
 '' | -*) usage ;;
 /*) prefix=$1 ;;
 *) prefix=$PWD/$1 ;;
 esac
+case $cpu in
+'' | x86-64 | x86-64-v2 | x86-64-v3) ;;
+*)
+    echo "install.sh: unknown processors: $cpu (x86-64, x86-64-v2, x86-64-v3)" >&2
+    exit 2
+    ;;
+esac
 
 prefix=${DESTDIR-}$prefix
 
 # This script may be called by a symbolic link.
 cd "$(dirname "$(readlink -f "$0")")"
-if [ "$remove" = no ] && [ ! -x out/basecode ]; then
+program=out/basecode${cpu:+-$cpu}
+if [ -n "$cpu" ]; then build; fi
+if [ "$remove" = no ] && [ ! -x "$program" ]; then
     echo 'no program: "rt run -- list" in crates/basecode builds it' >&2
     exit 1
 fi
