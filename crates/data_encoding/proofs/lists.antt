@@ -2,6 +2,7 @@
 pub mod RunLemmas
 pub mod ListLemmas
 pub mod PartLemmas
+pub mod PieceLemmas
 pub mod EachLemmas
 pub mod EndLemmas
 pub mod RepeatLemmas

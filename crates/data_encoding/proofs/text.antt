@@ -5,7 +5,7 @@ pub mod PaddedTextLemmas
 pub mod TextJoinLemmas
 pub mod FragmentLemmas
 pub mod LineLemmas
-pub mod LineLoopLemmas
+pub mod LinePieceLemmas
 pub mod BlockLemmas
 pub mod WrittenLemmas
 pub mod PlainLoopLemmas

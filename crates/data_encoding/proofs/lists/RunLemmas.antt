@@ -1,5 +1,5 @@
 -- Lists cut into runs.
-use Rattle.std.proofs.Common.{◌≡◌, ℕ, zero, suc, ◌+◌, ◌-◌, ◌*◌, ◌/◌, ◌%◌, ◌<◌, ◌≤◌, List, [], ◌∷◌, ◌++◌, length, map, take, drop, refl, sym, ap, ◌∙◌, arith, length-append, append_assoc, take-append-drop, length-take, length-take-le, subst, ⊎_elim}
+use Rattle.std.proofs.Common.{◌≡◌, ℕ, zero, suc, ◌+◌, ◌-◌, ◌*◌, ◌/◌, ◌%◌, ◌<◌, ◌≤◌, List, [], ◌∷◌, ◌++◌, length, map, take, drop, refl, sym, ap, ◌∙◌, arith, length-append, append-nil, append_assoc, take-append-drop, length-take, length-take-le, subst, ⊎_elim}
 use Rattle.std.proofs.Math.Nat.{add-div_left, add-mul, div-eq_of_lt, div-eq_of_lt-le, div-mul-le_self, lt-div-mul-add, mul-le-mul_right, mul-suc, zero-mul, suc-mul}
 use Rattle.std.proofs.lemmas.List.{take_at, drop_at, take_all, drop_all, length-map, take-map, drop-map, nil_from_length, length-drop, take-append-le, drop-append-le}
 use Rattle.std.proofs.lemmas.Nat.{div-add-mod'}
@@ -50,6 +50,11 @@ run_count-few size n k h few =
     (λ (more : k < run_count size n). absurd (omega (arith, run-before size n k h more, few)))
     (λ (less : run_count size n ≤ k). less)
     (cases_lt k (run_count size n))
+
+pub run_count-whole : (size k : ℕ) → 0 < size → run_count size (k * size) ≡ k
+run_count-whole size k h =
+    div-eq_of_lt-le {k = k} size {m = k * size + (size - 1)} (omega arith)
+    (omega (arith, h, add-mul k 1 size))
 
 pub run_count-some : (size n : ℕ) → 0 < size → 0 < n → 0 < run_count size n
 run_count-some size n h some =
@@ -234,6 +239,12 @@ pub length-ended : {X : Type 0} (size : ℕ) (end xs : List X) → 0 < size
 length-ended size end xs h =
     length-each_ended end (runs size xs)
     ∙ (λ i. length (flat_map-runs size xs h i) + length-runs size xs i * length end)
+
+-- the only run of a short list
+pub ended-short : {X : Type 0} (size : ℕ) (end xs : List X) → 0 < length xs → length xs ≤ size
+    → flat_map (λ run. run ++ end) (runs size xs) ≡ xs ++ end
+ended-short size end xs some few =
+    ap (flat_map (λ run. run ++ end)) (runs-short size xs some few) ∙ append-nil (xs ++ end)
 
 pub all_ended : {X : Type 0} (P : X → Type 0) (end : List X) → AllByRecursion P end
     → (size k : ℕ) (xs : List X) → AllByRecursion P xs

@@ -1,11 +1,10 @@
 -- Texts in lines: their lengths, and one line after the other.
-use Rattle.std.proofs.Common.{◌≡◌, ◌≢◌, ℕ, zero, suc, ◌+◌, ◌*◌, ◌/◌, ◌<◌, ◌≤◌, Bool, true, false, Option, Some, None, IsSome, is_some, List, [], ◌∷◌, ◌++◌, length, refl, sym, ap, ◌∙◌, subst, arith, ⊎_elim, length-append, append-nil}
-use Rattle.std.proofs.Math.Nat.{le-mul_of_pos_right, mul-le-mul_right, zero-mul}
+use Rattle.std.proofs.Common.{◌≡◌, ◌≢◌, ℕ, zero, suc, ◌+◌, ◌*◌, ◌/◌, ◌<◌, ◌≤◌, Bool, true, false, Option, Some, None, IsSome, is_some, List, [], ◌∷◌, ◌++◌, length, refl, sym, ap, ◌∙◌, subst, arith, ⊎_elim, append-nil}
+use Rattle.std.proofs.Math.Nat.{le-mul_of_pos_right, mul-add, mul-le-mul_right, mul_assoc, zero-mul}
 use Rattle.std.proofs.lemmas.Bool.{cases_lt, false≢true}
 use Rattle.std.proofs.lemmas.List.{nil_from_length}
 use Rattle.std.proofs.lemmas.Nat.{mul-le}
 use Rattle.std.specs.List.{AllByRecursion}
-use Rattle.std.specs.Prelude.{flat_map}
 use Rattle.data_encoding.specs.Base.{Base, IsWidth, Wrapping, group_bytes, group_symbols, is_padded, meaning}
 use Rattle.data_encoding.specs.declared.encoding.Character.TheVariants.{Ignored}
 use Rattle.data_encoding.specs.declared.encoding.Encoding.TheInside.{Inside}
@@ -13,7 +12,7 @@ use Rattle.data_encoding.specs.Encoding.{KeepsRules, KeepsWrapping, base_of_tabl
 use Rattle.data_encoding.specs.Lengths.{align_by, alignment}
 use Rattle.data_encoding.specs.Text.{in_lines, padded_text, text_of}
 use Rattle.data_encoding.proofs.digits.WidthLemmas.{group_bytes-few, group_bytes-pos, group_symbols-few, group_symbols-pos}
-use Rattle.data_encoding.proofs.lists.RunLemmas.{all_ended, length-ended, run_count, run_count-few, run_count-some, runs-reach, runs-short}
+use Rattle.data_encoding.proofs.lists.RunLemmas.{all_ended, ended-short, length-ended, run_count, run_count-few, run_count-some, run_count-whole, runs-reach}
 use Rattle.data_encoding.proofs.judgement.RuleLemmas.{AreLines, IsRuled, IsRuledWrapping}
 use Rattle.data_encoding.proofs.tables.TableLemmas.{padding-seen, symbols-seen}
 use Rattle.data_encoding.proofs.tables.TableRuleLemmas.{IsRuled-tables}
@@ -160,42 +159,64 @@ module _ (base : Base) (ruled : IsRuled base) (lines : Wrapping) (some : base.wr
               (omega (arith, are.ends_short)),
         )
 
-    -- data of at most a line
-    module _ (bytes : List ℕ) (few : length bytes ≤ alignment base) where
-      padded-line : length (padded_text base bytes) ≤ lines.column
-      padded-line =
-          let count : run_count (group_bytes base.width) (length bytes) ≤ groups =
-          run_count-few (group_bytes base.width) (length bytes) groups
-          (group_bytes-pos base.width ruled.is_width) (omega (arith, few, alignment-is)) in
+    -- data of at most so many lines
+    module _ (count : ℕ) (bytes : List ℕ) (few : length bytes ≤ count * alignment base) where
+      pub padded-lines : length (padded_text base bytes) ≤ count * lines.column
+      padded-lines =
+          let size = group_bytes base.width in
+          let symbols = group_symbols base.width in
+          let reach : length bytes ≤ count * groups * size =
+          omega (arith, few, ap (λ n. count * n) alignment-is, mul_assoc count groups size) in
+          let all : run_count size (length bytes) ≤ count * groups =
+          run_count-few size (length bytes) (count * groups)
+          (group_bytes-pos base.width ruled.is_width) reach in
           omega (
             arith,
             padded-few base ruled.is_width bytes,
-            mul-le-mul_right (group_symbols base.width) count,
-            column-is,
+            mul-le-mul_right symbols all,
+            ap (λ n. count * n) column-is,
+            mul_assoc count groups symbols,
           )
 
-      module _ (any : 0 < length bytes) where
-        one-line : text_of base bytes ≡ padded_text base bytes ++ lines.separator
-        one-line =
-            let text = padded_text base bytes in
-            text-lines bytes
-            ∙ ap (flat_map (λ line. line ++ lines.separator))
-            (runs-short lines.column text (padded-some base ruled.is_width bytes any) padded-line)
-            ∙ append-nil (text ++ lines.separator)
+      pub short-lines : length (text_of base bytes)
+          ≤ count * (lines.column + length lines.separator)
+      short-lines =
+          let ends = length lines.separator in
+          let all : run_count lines.column (length (padded_text base bytes)) ≤ count =
+          run_count-few lines.column (length (padded_text base bytes)) count are.some
+          padded-lines in
+          omega (
+            arith,
+            length-lines bytes,
+            padded-lines,
+            mul-le-mul_right ends all,
+            mul-add count lines.column ends,
+          )
 
-        length-line : length (text_of base bytes)
-            ≡ length (padded_text base bytes) + length lines.separator
-        length-line = ap length one-line ∙ length-append (padded_text base bytes) lines.separator
+    pub whole-lines : (count : ℕ) (bytes : List ℕ) → length bytes ≡ count * alignment base
+        → length (text_of base bytes) ≡ count * (lines.column + length lines.separator)
+    whole-lines count bytes e =
+        let ends = length lines.separator in
+        let long : length (padded_text base bytes) ≡ count * lines.column =
+        length-padded_groups base ruled.is_width bytes (count * groups)
+        (e ∙ ap (λ n. count * n) alignment-is
+        ∙ sym (mul_assoc count groups (group_bytes base.width)))
+        ∙ mul_assoc count groups (group_symbols base.width)
+        ∙ ap (λ n. count * n) (sym column-is) in
+        length-lines bytes
+        ∙ (λ i. long i + run_count lines.column (long i) * ends)
+        ∙ ap (λ n. count * lines.column + n * ends)
+        (run_count-whole lines.column count are.some)
+        ∙ sym (mul-add count lines.column ends)
 
-        pub short-line : length (text_of base bytes) ≤ lines.column + length lines.separator
-        short-line = omega (arith, length-line, padded-line)
-
-    pub whole-line : (bytes : List ℕ) → length bytes ≡ alignment base
-        → length (text_of base bytes) ≡ lines.column + length lines.separator
-    whole-line bytes e =
-        length-line bytes (omega (arith, e)) (omega (arith, e, alignment-some))
-        ∙ ap (λ n. n + length lines.separator)
-        (length-padded_groups base ruled.is_width bytes groups (e ∙ alignment-is) ∙ sym column-is)
+    -- data of at most a line
+    one-line : (bytes : List ℕ) → length bytes ≤ alignment base → 0 < length bytes
+        → text_of base bytes ≡ padded_text base bytes ++ lines.separator
+    one-line bytes few any =
+        text-lines bytes
+        ∙ ended-short lines.column lines.separator (padded_text base bytes)
+        (padded-some base ruled.is_width bytes any)
+        (omega (arith, padded-lines 1 bytes (omega (arith, few))))
 
 -- a separator of 255 behind each line of eight symbols, of one byte, is the most
 pub text-most : (base : Base) → IsRuled base → (bytes : List ℕ)

@@ -1,9 +1,8 @@
 -- Worked rows of lanes: groups as words, their digits, and tables as rows.
-use Rattle.std.proofs.Common.{◌≡◌, ℕ, ◌+◌, ◌≤◌, ◌<◌, List, [], ◌∷◌, codes, refl, sym, ◌∙◌, arith, lit≤}
+use Rattle.std.proofs.Common.{◌≡◌, ℕ, ◌+◌, ◌≤◌, List, [], ◌∷◌, codes, refl, sym, ◌∙◌, arith, lit≤}
 use Rattle.std.proofs.lemmas.List.FromFn.{get_or-range_with_len}
 use Rattle.std.specs.List.{range_with_len}
 use Rattle.data_encoding.specs.declared.encoding.BitOrder.TheVariants.{MostSignificantFirst}
-use Rattle.data_encoding.specs.declared.kernel.lanes.rows.Rows.{Rows}
 use Rattle.data_encoding.specs.Lanes.{digits_of, group_word, group_words, halved_lane, spread_word}
 use Rattle.data_encoding.specs.Values.{HoldsRows, IsRow, chosen_by, in_row, joined}
 

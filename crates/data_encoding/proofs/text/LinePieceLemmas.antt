@@ -1,0 +1,142 @@
+-- Texts in lines, made by pieces: line by line, and by blocks of lines.
+use Rattle.std.proofs.Common.{◌≡◌, ℕ, ◌+◌, ◌*◌, ◌/◌, ◌%◌, ◌<◌, ◌≤◌, Some, IsSome, List, ◌++◌, length, sym, ap, ◌∙◌, subst, arith, ⊎_elim, length-append}
+use Rattle.std.proofs.Math.Nat.{le-mul_of_pos_right, lt-div-mul-add, mul-mod_left, mul_assoc, zero-mul}
+use Rattle.std.proofs.lemmas.Bool.{cases_lt}
+use Rattle.std.proofs.lemmas.List.Concat.{flat_map-append}
+use Rattle.std.specs.Prelude.{flat_map}
+use Rattle.data_encoding.specs.Base.{Base, Wrapping}
+use Rattle.data_encoding.specs.Bits.{runs}
+use Rattle.data_encoding.specs.declared.encoding.Encoding.TheInside.{Inside}
+use Rattle.data_encoding.specs.Encoding.{KeepsRules, base_of_tables}
+use Rattle.data_encoding.specs.Lengths.{alignment}
+use Rattle.data_encoding.specs.Text.{in_lines, padded_text, text_of}
+use Rattle.data_encoding.proofs.judgement.RuleLemmas.{AreLines, IsRuled}
+use Rattle.data_encoding.proofs.lists.PartLemmas.{groups-within}
+use Rattle.data_encoding.proofs.lists.PieceLemmas.{IsByPieces}
+use Rattle.data_encoding.proofs.lists.RunLemmas.{ended-short, runs-join, runs-nil}
+use Rattle.data_encoding.proofs.text.LineLemmas.{IsRuled-seen, alignment-some, are, column-some, padded-lines, short-lines, text_of-nil, whole-lines, wrapping-seen}
+use Rattle.data_encoding.proofs.text.TextJoinLemmas.{text_of-join, whole-parts}
+
+pub IsByPieces-lines : (column : ℕ) (separator : List ℕ) → 0 < column
+    → IsByPieces (λ text. flat_map (λ line. line ++ separator) (runs column text)) column
+    (column + length separator)
+IsByPieces-lines column separator some =
+    record {
+      some = some;
+      nil = ap (flat_map (λ line. line ++ separator)) (runs-nil column some);
+      join =
+          λ xs ys whole.
+          ap (flat_map (λ line. line ++ separator)) (runs-join column xs ys some whole)
+          ∙ flat_map-append (λ line. line ++ separator) _ _;
+      whole =
+          λ xs e.
+          ap length (ended-short column separator xs (omega (arith, e, some)) (omega (arith, e)))
+          ∙ length-append xs separator ∙ ap (λ n. n + length separator) e;
+      short =
+          λ xs any few.
+          omega (
+            arith,
+            ap length (ended-short column separator xs any few),
+            length-append xs separator,
+            few,
+          );
+    }
+
+IsByPieces-blocks : (base : Base) → IsRuled base → (lines : Wrapping)
+    → base.wrapping ≡ Some lines → (count : ℕ) → 0 < count
+    → IsByPieces (text_of base) (count * alignment base)
+    (count * (lines.column + length lines.separator))
+IsByPieces-blocks base ruled lines wrapped count some =
+    let size = alignment base in
+    let size-some : 0 < size = alignment-some base ruled lines wrapped in
+    record {
+      some = omega (arith, some, le-mul_of_pos_right count size-some);
+      nil = text_of-nil base ruled;
+      join =
+          λ xs ys whole.
+          let blocks = length xs / (count * size) in
+          text_of-join base ruled xs ys
+          (ap (λ n. n % size)
+          (whole-parts (length xs) (count * size) whole ∙ sym (mul_assoc blocks count size))
+          ∙ mul-mod_left (blocks * count) size);
+      whole = λ xs e. whole-lines base ruled lines wrapped count xs e;
+      short = λ xs any few. short-lines base ruled lines wrapped count xs few;
+    }
+
+-- the same by what the tables say
+module _ {e : Inside} {seen : Base} (rules : KeepsRules e) (is : base_of_tables e ≡ seen)
+    (wraps : IsSome seen.wrapping) where
+  abbrev lines : Wrapping
+  lines = record { column = e.column; separator = e.separator.items }
+
+  ruled : IsRuled seen
+  ruled = IsRuled-seen e rules seen is
+
+  wrapped : seen.wrapping ≡ Some lines
+  wrapped = wrapping-seen e rules seen is (column-some e rules seen is wraps)
+
+  lines-are : AreLines seen lines
+  lines-are = are seen ruled lines wrapped
+
+  pub columns-some : 0 < e.column
+  columns-some = lines-are.some
+
+  pub line-few : {ends : ℕ} → ends ≡ length e.separator.items → e.column + ends ≤ 510
+  line-few ends-is =
+      let columns : e.column < 256 = lines-are.short in
+      let few : length e.separator.items < 256 = lines-are.ends_short in
+      omega (arith, columns, few, ends-is)
+
+  pub text-wrapped : (input : List ℕ) {separator padded : List ℕ}
+      → separator ≡ e.separator.items → padded ≡ padded_text seen input
+      → text_of seen input ≡ flat_map (λ line. line ++ separator) (runs e.column padded)
+  text-wrapped input {separator} {padded} separator-is padded-is =
+      ap (λ o. in_lines o (padded_text seen input)) wrapped
+      ∙ (λ i. flat_map (λ line. line ++ sym separator-is i) (runs e.column (sym padded-is i)))
+
+  pub IsByPieces-text : {count size ends : ℕ} → 0 < count → size ≡ alignment seen
+      → ends ≡ length e.separator.items
+      → IsByPieces (text_of seen) (count * size) (count * (e.column + ends))
+  IsByPieces-text {count} {size} {ends} any size-is ends-is =
+      subst (λ n. IsByPieces (text_of seen) (count * n) (count * (e.column + ends))) (sym size-is)
+      (subst (λ n. IsByPieces (text_of seen) (count * alignment seen) (count * (e.column + n)))
+      (sym ends-is)
+      (IsByPieces-blocks seen ruled lines wrapped count any))
+
+  -- as many lines as there is room for
+  module _ (room : ℕ) where
+    pub lines-few : room / e.column ≤ room
+    lines-few =
+        omega (
+          arith,
+          le-mul_of_pos_right (room / e.column) columns-some,
+          groups-within room e.column,
+        )
+
+    pub lines-some : 256 ≤ room → 0 < room / e.column
+    lines-some enough =
+        let columns : e.column < 256 = lines-are.short in
+        ⊎_elim {C = 0 < room / e.column}
+        (λ (more : 0 < room / e.column). more)
+        (λ (none : room / e.column ≤ 0).
+        let no_lines : room / e.column ≡ 0 = omega (arith, none) in
+        let past : room < room / e.column * e.column + e.column =
+        lt-div-mul-add columns-some in
+        absurd (omega (
+          arith,
+          past,
+          columns,
+          enough,
+          ap (λ n. n * e.column) no_lines,
+          zero-mul e.column,
+        )))
+        (cases_lt 0 (room / e.column))
+
+    pub lines-fit : {size : ℕ} (bytes : List ℕ) → size ≡ alignment seen
+        → length bytes ≤ room / e.column * size → length (padded_text seen bytes) ≤ room
+    lines-fit {size} bytes size-is few =
+        let count = room / e.column in
+        let most : length (padded_text seen bytes) ≤ count * e.column =
+        padded-lines seen ruled lines wrapped count bytes
+        (omega (arith, few, ap (λ n. count * n) size-is)) in
+        omega (arith, most, groups-within room e.column)
