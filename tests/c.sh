@@ -30,8 +30,12 @@ program 'calls of the shared library' "$cc" -std=c99 "${strict[@]}" tests/c/call
     "-L$lib" -ldata_encoding "-Wl,-rpath,$lib"
 program 'two threads' "$cc" -std=c99 "${strict[@]}" tests/c/threads.c "$lib/libdata_encoding.a" \
     -pthread
+program 'memory that is refused' "$cc" -std=c99 "${strict[@]}" -Icrates/data_encoding_c/glue \
+    tests/c/memory.c "$lib/libdata_encoding.a"
 echo 'int main(void) { return 0; }' >"$room/empty.c"
 if "$cc" "${sanitized[@]}" "$room/empty.c" -o "$room/empty" 2>/dev/null; then
+    program 'memory that is refused, with sanitizers' "$cc" -std=c99 "${strict[@]}" \
+        "${sanitized[@]}" -Icrates/data_encoding_c/glue tests/c/memory.c "$lib/libdata_encoding.a"
     program 'calls with sanitizers' "$cc" -std=c99 "${strict[@]}" "${sanitized[@]}" \
         tests/c/calls.c crates/data_encoding_c/glue/*.c crates/data_encoding_c/out/*.a
 else
