@@ -1,6 +1,8 @@
 #!/usr/bin/env bash
 # Builds the library for programs in C, and calls it from C, C++, Python and Rust: the programs of
-# tests/c/, the tests of the Python module, and the blocks of docs/C.md.
+# tests/c/, the tests of the Python module, and the blocks of docs/C.md. They run side by side.
+#
+# usage: tests/c.sh [LIB]: where build.sh left the library; it is built where no folder is given.
 . "$(dirname "$0")/common.bash" || exit 1
 
 cc=${CC:-cc}
@@ -10,39 +12,78 @@ if ! command -v "$cc" >/dev/null; then
 fi
 
 lib=$room/lib
-crates/data_encoding_c/build.sh "$lib" || exit 1
-strict=(-Wall -Wextra -Wpedantic -Werror "-I$lib")
+if [ $# = 0 ]; then
+    crates/data_encoding_c/build.sh "$lib" || exit 1
+else
+    ln -s "$(realpath "$1")" "$lib" && lib=$(realpath "$1") || exit 1
+fi
+strict=(-std=c99 -Wall -Wextra -Wpedantic -Werror "-I$lib")
 sanitized=(-g -fsanitize=address,undefined -fno-sanitize-recover=all)
+glue=crates/data_encoding_c/glue
+names=()
+jobs=()
+
+# begin NAME COMMAND..: begins a command, whose test `ended` counts: it passes where that ends well.
+begin() {
+    names+=("$1")
+    shift
+    "$@" >"$room/said.${#jobs[@]}" 2>&1 &
+    jobs+=($!)
+}
+
+# ended: waits for each command, and counts its test.
+ended() {
+    local index
+    for index in "${!jobs[@]}"; do
+        holds "${names[index]}" wait "${jobs[index]}"
+        cat "$room/said.$index" >&2
+    done
+}
 
 # program NAME COMMAND..: compiles with the command, and runs what it makes, which ends well.
 program() {
+    local made=$room/program.${#jobs[@]}
     local name=$1
     shift
-    if "$@" -o "$room/program"; then
-        holds "$name" "$room/program"
-    else
-        fail "$name: not compiled"
-    fi
+    begin "$name" run_made "$made" "$@"
 }
 
-program 'calls in C' "$cc" -std=c99 "${strict[@]}" tests/c/calls.c "$lib/libdata_encoding.a"
-program 'calls of the shared library' "$cc" -std=c99 "${strict[@]}" tests/c/calls.c \
-    "-L$lib" -ldata_encoding "-Wl,-rpath,$lib"
-program 'two threads' "$cc" -std=c99 "${strict[@]}" tests/c/threads.c "$lib/libdata_encoding.a" \
-    -pthread
+run_made() {
+    local made=$1
+    shift
+    "$@" -o "$made" && "$made"
+}
+
+program 'calls in C' "$cc" "${strict[@]}" tests/c/calls.c "$lib/libdata_encoding.a"
+program 'calls of the shared library' "$cc" "${strict[@]}" tests/c/calls.c "-L$lib" \
+    -ldata_encoding "-Wl,-rpath,$lib"
+program 'two threads' "$cc" "${strict[@]}" tests/c/threads.c "$lib/libdata_encoding.a" -pthread
+program 'memory that is refused' "$cc" "${strict[@]}" "-I$glue" tests/c/memory.c \
+    "$lib/libdata_encoding.a"
+begin 'the program of speed' "$cc" -O2 "${strict[@]}" tests/c/speed.c "$lib/libdata_encoding.a" \
+    -o "$room/speed"
 echo 'int main(void) { return 0; }' >"$room/empty.c"
 if "$cc" "${sanitized[@]}" "$room/empty.c" -o "$room/empty" 2>/dev/null; then
-    program 'calls with sanitizers' "$cc" -std=c99 "${strict[@]}" "${sanitized[@]}" \
-        tests/c/calls.c crates/data_encoding_c/glue/*.c crates/data_encoding_c/out/*.a
+    program 'calls with sanitizers' "$cc" "${strict[@]}" "${sanitized[@]}" tests/c/calls.c \
+        "$glue"/*.c "$lib/libdata_encoding.a"
+    program 'memory that is refused, with sanitizers' "$cc" "${strict[@]}" "${sanitized[@]}" \
+        "-I$glue" tests/c/memory.c "$glue/data_encoding.c" "$lib/libdata_encoding.a"
 else
     skip 'sanitizers: this compiler has none'
 fi
 if command -v c++ >/dev/null; then
-    program 'calls in C++' c++ -std=c++11 "${strict[@]}" -x c++ tests/c/calls.c -x none \
+    program 'calls in C++' c++ -std=c++11 "${strict[@]:1}" -x c++ tests/c/calls.c -x none \
         "$lib/libdata_encoding.a"
 else
     skip 'calls in C++: no c++'
 fi
+if command -v python3 >/dev/null; then
+    begin 'the Python module' env "DATA_ENCODING_LIBRARY=$lib/libdata_encoding.so" \
+        python3 -B bindings/python/test_data_encoding.py
+else
+    skip 'the Python module: no python3'
+fi
+
 is 'what the shared library gives' "$(grep -o '^[a-z].*\bde_[a-z_]*(' "$lib/data_encoding.h" |
     grep -o 'de_[a-z_]*($' | tr -d '(' | sort)" \
     "$(nm -D --defined-only "$lib/libdata_encoding.so" | sed 's/.* //' | sort)"
@@ -51,13 +92,6 @@ if command -v pkg-config >/dev/null; then
         pkg-config --cflags --libs data_encoding | sed 's/ *$//')"
 else
     skip 'the file for pkg-config: no pkg-config'
-fi
-
-if command -v python3 >/dev/null; then
-    holds 'the Python module' env "DATA_ENCODING_LIBRARY=$lib/libdata_encoding.so" \
-        python3 -B bindings/python/test_data_encoding.py
-else
-    skip 'the Python module: no python3'
 fi
 
 # block KIND: the block of docs/C.md of this kind.
@@ -85,4 +119,5 @@ else
     skip 'the Rust of docs/C.md: no rustc'
 fi
 
+ended
 finish

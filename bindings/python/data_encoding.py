@@ -6,6 +6,8 @@
 b'Hello'
 >>> Encoding(symbols="01234567", padding="=").encode(b"Hi")
 '220644=='
+>>> Encoding.named("BASE32_NOPAD").encode(b"Hi")
+'JBUQ'
 
 The calls are those of libdata_encoding.so, which `crates/data_encoding_c/build.sh` makes. It is
 looked for at $DATA_ENCODING_LIBRARY, then beside this file, and then where the system has it.
@@ -13,12 +15,13 @@ looked for at $DATA_ENCODING_LIBRARY, then beside this file, and then where the 
 
 import ctypes
 import os
-from typing import NamedTuple, Optional, Tuple, Union
+from typing import List, NamedTuple, Optional, Tuple, Union
 
 __all__ = ["DecodeError", "Decoder", "Encoding", "Partial"]
 
 _OK = 0
 _OUT_OF_MEMORY = 5
+_NAME_LIMIT = 22
 _KINDS = {6: "length", 7: "symbol", 8: "trailing", 9: "padding"}
 
 
@@ -69,6 +72,8 @@ def _library() -> ctypes.CDLL:
             ("is_canonical", (ctypes.c_void_p,)),
         ):
             getattr(library, prefix + call).argtypes = (encoding,) + arguments
+    library.de_name.argtypes = (ctypes.c_uint, ctypes.c_char_p, size, ctypes.c_void_p)
+    library.de_number_named.argtypes = (ctypes.c_char_p, size, ctypes.c_void_p)
     library.de_encoding_new.argtypes = (ctypes.c_void_p, ctypes.c_void_p, ctypes.c_void_p)
     library.de_status_text.restype = ctypes.c_char_p
     return library
@@ -200,6 +205,26 @@ class Encoding:
         encoding._held = None
         encoding._set("de_", number, width, padded, True, ignored)
         return encoding
+
+    @staticmethod
+    def names() -> List[str]:
+        """The names of the predefined encodings."""
+        names = []
+        name = ctypes.create_string_buffer(_NAME_LIMIT)
+        size = ctypes.c_size_t()
+        while _LIBRARY.de_name(len(names), name, len(name), ctypes.addressof(size)) == _OK:
+            names.append(name.raw[: size.value].decode("ascii"))
+        return names
+
+    @classmethod
+    def named(cls, name: str) -> "Encoding":
+        """The predefined encoding of a name, as "BASE64". A ValueError where none has it."""
+        asked = name.encode("utf-8")
+        number = ctypes.c_uint()
+        status = _LIBRARY.de_number_named(asked, len(asked), ctypes.addressof(number))
+        if status != _OK:
+            raise ValueError(f"{_text_of(status)}: {name}")
+        return getattr(cls, name.lower())()
 
     @classmethod
     def hexlower(cls) -> "Encoding":

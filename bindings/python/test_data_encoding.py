@@ -108,6 +108,15 @@ class Tests(unittest.TestCase):
             "base64url_nopad",
         ])
 
+    def test_names(self) -> None:
+        self.assertEqual([name.lower() for name in Encoding.names()], NAMES)
+        data = bytes(range(256))
+        for name in NAMES:
+            text = getattr(Encoding, name)().encode(data)
+            self.assertEqual(Encoding.named(name.upper()).encode(data), text)
+        for name in ("base64", "BASE", "BASE64 ", "", "BASE64\u00e9", "\ud800"):
+            self.assertRaises(ValueError, Encoding.named, name)
+
     def test_decoder(self) -> None:
         """Each text in two and three pieces, cut anywhere, and byte by byte."""
         for encoding in every():

@@ -40,7 +40,11 @@ rm -f "$target/libdata_encoding.a"
 ar crs "$target/libdata_encoding.a" "$room"/*.o
 # What the header does not name stays inside.
 cat >"$room/names" <<'END'
-{ global: de_status_text; de_encode*; de_decode*; de_is_canonical; de_encoding_*; local: *; };
+{
+    global: de_status_text; de_encode*; de_decode*; de_is_canonical; de_encoding_*; de_name;
+        de_number_named;
+    local: *;
+};
 END
 "$cc" -shared -Wl,--version-script="$room/names" -o "$target/libdata_encoding.so" "$room"/*.o
 cp include/data_encoding.h "$target"

@@ -137,6 +137,44 @@ static void canonical(void) {
     }
 }
 
+static void named(void) {
+    int number;
+    for (number = 0; number < 18; number++) {
+        const char *name = names[number];
+        size_t len = strlen(name);
+        char output[DE_NAME_LIMIT + 1];
+        size_t written = 77;
+        de_number found = (de_number)77;
+        memset(output, '.', sizeof output);
+        is(name, DE_SHORT_BUFFER, de_name((de_number)number, output, len - 1, &written));
+        holds(name, output[0] == '.' && written == 77);
+        is(name, DE_OK, de_name((de_number)number, output, DE_NAME_LIMIT, &written));
+        is(name, len, written);
+        holds(name, memcmp(output, name, len) == 0 && output[len] == '.');
+        is(name, DE_OK, de_number_named(name, len, &found));
+        is(name, (size_t)number, (size_t)found);
+    }
+}
+
+static void no_names(void) {
+    char output[8] = "untold!";
+    size_t size = 77;
+    de_number number = (de_number)77;
+    is("unknown", DE_UNKNOWN_ENCODING, de_name((de_number)18, output, 8, &size));
+    is("unknown", DE_UNKNOWN_ENCODING, de_number_named("base64", 6, &number));
+    is("unknown", DE_UNKNOWN_ENCODING, de_number_named("BASE64 ", 7, &number));
+    is("unknown", DE_UNKNOWN_ENCODING, de_number_named("BASE", 4, &number));
+    is("unknown", DE_UNKNOWN_ENCODING, de_number_named("BASE64\xff", 7, &number));
+    is("unknown", DE_UNKNOWN_ENCODING, de_number_named(NULL, 0, &number));
+    is("null", DE_NULL_POINTER, de_name(DE_BASE64, NULL, 8, &size));
+    is("null", DE_NULL_POINTER, de_name(DE_BASE64, output, 8, NULL));
+    is("null", DE_NULL_POINTER, de_number_named(NULL, 6, &number));
+    is("null", DE_NULL_POINTER, de_number_named("BASE64", 6, NULL));
+    is("no room at null", DE_SHORT_BUFFER, de_name(DE_BASE64, NULL, 0, &size));
+    holds("nothing is changed", memcmp(output, "untold!", 8) == 0 && size == 77 &&
+                                    (unsigned)number == 77);
+}
+
 static void statuses(void) {
     char text[8] = "untold!";
     unsigned char data[8] = "untold!";
@@ -309,6 +347,8 @@ static void own(void) {
 int main(void) {
     numbers();
     canonical();
+    named();
+    no_names();
     statuses();
     refusals();
     own();

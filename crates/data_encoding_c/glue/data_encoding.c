@@ -19,6 +19,8 @@ unsigned de_numbered_decode_len(unsigned number, size_t len, size_t *most);
 unsigned de_numbered_decode(unsigned number, const byte *input, size_t input_len, byte *output,
                             size_t output_len, de_decoded *decoded);
 unsigned de_numbered_is_canonical(unsigned number, bool *canonical);
+unsigned de_numbered_name(unsigned number, byte *output, size_t output_len, size_t *written);
+unsigned de_named_number(const byte *name, size_t name_len, unsigned *number);
 unsigned de_held_new(const struct form *form, const byte *symbols, size_t symbols_len,
                      const byte *ignore, size_t ignore_len, const byte *separator,
                      size_t separator_len, const byte *from, size_t from_len, const byte *to,
@@ -114,6 +116,26 @@ de_status de_is_canonical(de_number number, bool *canonical) {
         return DE_NULL_POINTER;
     }
     return (de_status)de_numbered_is_canonical((unsigned)number, canonical);
+}
+
+de_status de_name(de_number number, char *output, size_t output_len, size_t *written) {
+    if (is_missing(output, output_len) || written == NULL) {
+        return DE_NULL_POINTER;
+    }
+    return (de_status)de_numbered_name((unsigned)number, out(output), output_len, written);
+}
+
+de_status de_number_named(const char *name, size_t name_len, de_number *number) {
+    unsigned found = 0;
+    de_status status;
+    if (is_missing(name, name_len) || number == NULL) {
+        return DE_NULL_POINTER;
+    }
+    status = (de_status)de_named_number(in(name), name_len, &found);
+    if (status == DE_OK) {
+        *number = (de_number)found;
+    }
+    return status;
 }
 
 de_status de_encoding_new(de_encoding *encoding, const de_specification *asked, size_t *detail) {

@@ -31,7 +31,7 @@ extern "C" {
 typedef enum de_status {
     DE_OK = 0,
 
-    /* No predefined encoding has the number. */
+    /* No predefined encoding has the number, or the name. */
     DE_UNKNOWN_ENCODING = 1,
 
     /* A pointer is null that must not be. */
@@ -145,6 +145,18 @@ de_status de_decode(de_number number, const char *input, size_t input_len, void 
 
 /* Writes to *canonical whether no two different texts decode to the same data. */
 de_status de_is_canonical(de_number number, bool *canonical);
+
+/* The length of the longest name of a predefined encoding. */
+#define DE_NAME_LIMIT 22
+
+/* Writes the name of the encoding, as "BASE64_NOPAD" that of DE_BASE64_NOPAD, to the front of
+ * output, and its length to *written. What stands in the output behind the name stays.
+ * DE_SHORT_BUFFER, which DE_NAME_LIMIT bytes avoid. */
+de_status de_name(de_number number, char *output, size_t output_len, size_t *written);
+
+/* Writes the number of the encoding of this name to *number. DE_UNKNOWN_ENCODING, also where the
+ * name is in lower case. */
+de_status de_number_named(const char *name, size_t name_len, de_number *number);
 
 /* What an encoding is asked for by. DE_SPECIFICATION is one with nothing but the defaults. */
 typedef struct de_specification {

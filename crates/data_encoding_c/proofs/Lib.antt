@@ -1,3 +1,4 @@
 mod DecodeLemmas
 mod NumberLemmas
+mod NameLemmas
 mod HeldLemmas

@@ -2,3 +2,4 @@ pub mod Status
 pub mod Numbers
 pub mod Calls
 pub mod Held
+pub mod Names

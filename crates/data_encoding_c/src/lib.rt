@@ -8,6 +8,7 @@
 mod convert;
 mod held;
 mod make;
+mod names;
 mod numbered;
 mod numbers;
 mod refusal;
