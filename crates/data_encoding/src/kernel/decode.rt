@@ -1,13 +1,18 @@
 //! Runs of whole groups that are symbols alone, decoded without a judgement.
 
-ghost use Rattle.std.specs.Prelude.{◌≡◌, ◌*◌, ◌/◌, ◌≤◌, length, IsTrue};
+ghost use Rattle.std.specs.Prelude.{◌≡◌, ℕ, ◌*◌, ◌/◌, ◌≤◌, List, length, IsTrue};
 ghost use Rattle.data_encoding.specs.Decoding.{IsLongestBy, IsRunBy};
 ghost use Rattle.data_encoding.specs.Tables.{IsGroup};
 
 use crate::encoding::BitOrder;
+use crate::kernel::lanes::affine::{Affine, affine_of};
 use crate::kernel::lanes::decode::decode_eight;
-use crate::kernel::lanes::rows::rows_of;
+use crate::kernel::lanes::look_up::LookUp;
+use crate::kernel::lanes::rows::{Rows, rows_of};
 use crate::kernel::words::{decode_entries, decode_symbols, entry_of};
+
+// The length of a run from which finding the affine form of a table costs less than it brings.
+const AFFINE_FROM: usize = 704;
 
 /// Decodes whole groups in a row, from the front of the input to the front of the output, up to the
 /// first that has a byte that is no symbol, and answers how many they are. What stands behind their
@@ -124,7 +129,7 @@ fn decode_by_lanes<const WIDTH: usize, const BYTES: usize, const SYMBOLS: usize>
     }
 }
 
-// Eight groups at a time, by lanes; the eight with a byte that is no symbol are left.
+// Eight groups at a time, by lanes, with the entries found in the way that pays.
 #[inline(always)]
 fn decode_by_eights<const WIDTH: usize, const BYTES: usize, const SYMBOLS: usize>(
     values: &[u8; 256],
@@ -137,17 +142,41 @@ fn decode_by_eights<const WIDTH: usize, const BYTES: usize, const SYMBOLS: usize
     ensures run { IsRunBy values.now WIDTH order input.now result output.old output.new }
     ensures within { result ≤ length input.now / SYMBOLS }
 {
-    let count = input.len() / SYMBOLS / 8;
     // Padded groups may follow one another: then the eight are not decoded in vain.
-    if 8 % WIDTH != 0 && count != 0 && entry_of(values, input[8 * SYMBOLS - 1]) >= 128 {
+    if 8 % WIDTH != 0
+        && input.len() >= 8 * SYMBOLS
+        && entry_of(values, input[8 * SYMBOLS - 1]) >= 128
+    {
         return 0;
     }
-    let rows = rows_of(values);
+    if input.len() >= AFFINE_FROM {
+        if let Some(affine) = affine_of(values, 1 << WIDTH) {
+            return decode_eights::<Affine, WIDTH, BYTES, SYMBOLS>(&affine, order, input, output);
+        }
+    }
+    decode_eights::<Rows, WIDTH, BYTES, SYMBOLS>(&rows_of(values), order, input, output)
+}
+
+// Eight groups at a time; the eight with a byte that is no symbol are left.
+#[inline(always)]
+fn decode_eights<L: LookUp, const WIDTH: usize, const BYTES: usize, const SYMBOLS: usize>(
+    look_up: &L,
+    order: BitOrder,
+    input: &[u8],
+    output: &mut [u8],
+) -> usize
+    requires group { IsGroup WIDTH BYTES SYMBOLS }
+    requires room { length input.now / SYMBOLS * BYTES ≤ length output.old }
+    ensures run { (values : List ℕ) → L.holds values look_up.now
+        → IsRunBy values WIDTH order input.now result output.old output.new }
+    ensures within { result ≤ length input.now / SYMBOLS }
+{
+    let count = input.len() / SYMBOLS / 8;
     for index in 0..count {
         let read = 8 * index * SYMBOLS;
         let written = 8 * index * BYTES;
-        if !decode_eight::<WIDTH, BYTES, SYMBOLS>(
-            &rows,
+        if !decode_eight::<L, WIDTH, BYTES, SYMBOLS>(
+            look_up,
             order,
             &input[read..read + 8 * SYMBOLS],
             &mut output[written..written + 8 * BYTES],
