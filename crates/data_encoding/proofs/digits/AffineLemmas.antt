@@ -174,7 +174,9 @@ agreed affine values bytes found row long few are_bytes are_found passes k h sma
     (omega (arith, length-chunk (16 * row) 16 values (omega (arith, long, few)))))
     (row-of (16 * row) values) in
     let lanes_are =
-    chosen-equal entry own (λ _. 0) (λ j. plus (entry j) 128) places _ _ _ _ found_are own_are
+    chosen-equal entry own (λ _. 0) (λ j. plus (entry j) 128) places found
+    (entries_of row values) (replicate 16 0) (zip2 plus found (replicate 16 128))
+    found_are own_are
     (splat_is_map places 16 0 refl)
     (zip2_of_maps plus entry (λ _. 128) places found_are (splat_is_map places 16 128 refl)) in
     let inside : k < length (map lane places) =

@@ -96,11 +96,51 @@ fn decode_by_several<const WIDTH: usize, const BYTES: usize, const SYMBOLS: usiz
     if input.len() < eight {
         return decode_by_fours::<WIDTH, BYTES, SYMBOLS>(values, order, input, output);
     }
+    // Padded groups may follow one another: then the eight are not decoded in vain.
+    if 8 % WIDTH != 0 && entry_of(values, input[eight - 1]) >= 128 {
+        return 0;
+    }
+    if input.len() >= AFFINE_FROM {
+        return decode_long::<WIDTH, BYTES, SYMBOLS>(values, order, input, output);
+    }
     decode_by_lanes::<WIDTH, BYTES, SYMBOLS>(values, order, input, output)
 }
 
-// With the order as a constant again. Not inlined, so that short texts do not pay for the room that
-// lanes take.
+// By the affine form of the table, where it has one. Not inlined, so that shorter runs do not pay
+// for the room that the search takes.
+#[inline(never)]
+fn decode_long<const WIDTH: usize, const BYTES: usize, const SYMBOLS: usize>(
+    values: &[u8; 256],
+    order: BitOrder,
+    input: &[u8],
+    output: &mut [u8],
+) -> usize
+    requires group { IsGroup WIDTH BYTES SYMBOLS }
+    requires room { length input.now / SYMBOLS * BYTES ≤ length output.old }
+    ensures run { IsRunBy values.now WIDTH order input.now result output.old output.new }
+    ensures within { result ≤ length input.now / SYMBOLS }
+{
+    let Some(affine) = affine_of(values, 1 << WIDTH) else {
+        return decode_by_lanes::<WIDTH, BYTES, SYMBOLS>(values, order, input, output);
+    };
+    match order {
+        BitOrder::MostSignificantFirst => decode_eights::<Affine, WIDTH, BYTES, SYMBOLS>(
+            &affine,
+            BitOrder::MostSignificantFirst,
+            input,
+            output,
+        ),
+        BitOrder::LeastSignificantFirst => decode_eights::<Affine, WIDTH, BYTES, SYMBOLS>(
+            &affine,
+            BitOrder::LeastSignificantFirst,
+            input,
+            output,
+        ),
+    }
+}
+
+// By rows of the table, with the order as a constant again. Not inlined, so that short texts do not
+// pay for the room that lanes take.
 #[inline(never)]
 fn decode_by_lanes<const WIDTH: usize, const BYTES: usize, const SYMBOLS: usize>(
     values: &[u8; 256],
@@ -114,47 +154,19 @@ fn decode_by_lanes<const WIDTH: usize, const BYTES: usize, const SYMBOLS: usize>
     ensures within { result ≤ length input.now / SYMBOLS }
 {
     match order {
-        BitOrder::MostSignificantFirst => decode_by_eights::<WIDTH, BYTES, SYMBOLS>(
-            values,
+        BitOrder::MostSignificantFirst => decode_eights::<Rows, WIDTH, BYTES, SYMBOLS>(
+            &rows_of(values),
             BitOrder::MostSignificantFirst,
             input,
             output,
         ),
-        BitOrder::LeastSignificantFirst => decode_by_eights::<WIDTH, BYTES, SYMBOLS>(
-            values,
+        BitOrder::LeastSignificantFirst => decode_eights::<Rows, WIDTH, BYTES, SYMBOLS>(
+            &rows_of(values),
             BitOrder::LeastSignificantFirst,
             input,
             output,
         ),
     }
-}
-
-// Eight groups at a time, by lanes, with the entries found in the way that pays.
-#[inline(always)]
-fn decode_by_eights<const WIDTH: usize, const BYTES: usize, const SYMBOLS: usize>(
-    values: &[u8; 256],
-    order: BitOrder,
-    input: &[u8],
-    output: &mut [u8],
-) -> usize
-    requires group { IsGroup WIDTH BYTES SYMBOLS }
-    requires room { length input.now / SYMBOLS * BYTES ≤ length output.old }
-    ensures run { IsRunBy values.now WIDTH order input.now result output.old output.new }
-    ensures within { result ≤ length input.now / SYMBOLS }
-{
-    // Padded groups may follow one another: then the eight are not decoded in vain.
-    if 8 % WIDTH != 0
-        && input.len() >= 8 * SYMBOLS
-        && entry_of(values, input[8 * SYMBOLS - 1]) >= 128
-    {
-        return 0;
-    }
-    if input.len() >= AFFINE_FROM {
-        if let Some(affine) = affine_of(values, 1 << WIDTH) {
-            return decode_eights::<Affine, WIDTH, BYTES, SYMBOLS>(&affine, order, input, output);
-        }
-    }
-    decode_eights::<Rows, WIDTH, BYTES, SYMBOLS>(&rows_of(values), order, input, output)
 }
 
 // Eight groups at a time; the eight with a byte that is no symbol are left.
