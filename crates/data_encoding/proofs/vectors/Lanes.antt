@@ -1,11 +1,10 @@
 -- Worked rows of lanes: groups as words, their digits, and tables as rows.
-use Rattle.std.proofs.Common.{◌≡◌, ℕ, ◌+◌, ◌≤◌, ◌<◌, List, [], ◌∷◌, map, get_or, codes, refl, sym, ap, ◌∙◌, arith, lit≤}
+use Rattle.std.proofs.Common.{◌≡◌, ℕ, ◌+◌, ◌≤◌, List, [], ◌∷◌, map, get_or, codes, refl, sym, ap, ◌∙◌, arith, lit≤}
 use Rattle.std.proofs.lemmas.List.{get_or-map}
 use Rattle.std.proofs.lemmas.List.FromFn.{get_or-range_with_len, length-range_with_len}
 use Rattle.std.specs.List.{range_with_len}
 use Rattle.data_encoding.specs.declared.encoding.BitOrder.TheVariants.{MostSignificantFirst}
 use Rattle.data_encoding.specs.declared.kernel.lanes.affine.Affine.{Affine}
-use Rattle.data_encoding.specs.declared.kernel.lanes.rows.Rows.{Rows}
 use Rattle.data_encoding.specs.Affine.{HoldsAffine, affine_entry, affine_value, bits_of_rows, symbol_bit}
 use Rattle.data_encoding.specs.Lanes.{digits_of, group_word, group_words, halved_lane, spread_word}
 use Rattle.data_encoding.specs.Values.{HoldsRows, IsRow, chosen_by, in_row, joined}
@@ -82,7 +81,8 @@ unfolding digits_and_plus
 affine_digits = (refl, refl, refl, refl, refl, refl)
 
 -- held by the table of these values
-affine_held : HoldsAffine (map (affine_entry digits_and_plus) (range_with_len 0 128)) digits_and_plus
+affine_held :
+    HoldsAffine (map (affine_entry digits_and_plus) (range_with_len 0 128)) digits_and_plus
 affine_held = record {
   agrees = λ byte h small.
       sym (get_or-map (affine_entry digits_and_plus) (range_with_len 0 128) byte 0 0

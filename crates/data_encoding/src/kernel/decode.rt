@@ -11,7 +11,7 @@ use crate::kernel::lanes::look_up::LookUp;
 use crate::kernel::lanes::rows::{Rows, rows_of};
 use crate::kernel::words::{decode_entries, decode_symbols, entry_of};
 
-// The length of a run from which finding the affine form of a table costs less than it brings.
+// The length of a run from which finding the affine form of a table takes less time than it saves.
 const AFFINE_FROM: usize = 704;
 
 /// Decodes whole groups in a row, from the front of the input to the front of the output, up to the

@@ -16,10 +16,12 @@ decode_eights-requires-in-LeastSignificantFirst-clause-room g c = c.requires.roo
 
 pub returns-in-MostSignificantFirst-clause-run : goal.returns-in-MostSignificantFirst-clause-run
 returns-in-MostSignificantFirst-clause-run g c =
-    rw c.in-MostSignificantFirst.is (c.decode_eights.ensures.run c.args.values.now c.rows_of.ensures)
+    let run = c.decode_eights.ensures.run c.args.values.now c.rows_of.ensures in
+    rw c.in-MostSignificantFirst.is run
 
 pub returns-in-LeastSignificantFirst-clause-run :
     goal.returns-in-LeastSignificantFirst-clause-run
 returns-in-LeastSignificantFirst-clause-run g c =
-    rw c.in-LeastSignificantFirst.is
-    (c.decode_eights-in-LeastSignificantFirst.ensures.run c.args.values.now c.rows_of-in-LeastSignificantFirst.ensures)
+    let held = c.rows_of-in-LeastSignificantFirst.ensures in
+    let run = c.decode_eights-in-LeastSignificantFirst.ensures.run c.args.values.now held in
+    rw c.in-LeastSignificantFirst.is run

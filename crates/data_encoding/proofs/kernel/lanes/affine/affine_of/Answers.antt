@@ -12,5 +12,6 @@ loop-row-preserved c =
 
 pub returns : goal.returns
 returns c = record {
-  agrees = λ byte h small. c.loop-row.invariant byte (omega (arith, h, c.loop-row-test.false)) small;
+  agrees = λ byte h.
+      c.loop-row.invariant byte (omega (arith, h, c.loop-row-test.false));
 }
