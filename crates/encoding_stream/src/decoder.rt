@@ -15,9 +15,6 @@ use data_encoding::laws::steps;
 use data_encoding::{DECODE_LIMIT, DecodeError, Encoding};
 use std::alloc::{AllocError, Allocator};
 
-#[cfg(test)]
-mod tests;
-
 // The bytes of a piece that are read at a time.
 const CHUNK: usize = 1024;
 

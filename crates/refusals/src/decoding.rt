@@ -1,7 +1,7 @@
 //! Calls that decode.
 
 use crate::hog::Hog;
-use data_encoding::base64_nopad;
+use data_encoding::{DecodeKind, Encoding, base64, base64_mime, base64_nopad, hexlower};
 use encoding_stream::Decoder;
 
 const TEXT: &[u8] = b"SGVsbG8";
@@ -21,29 +21,69 @@ pub fn decodes(hog: &mut Hog) -> bool {
 
 /// `Decoder::push`.
 pub fn pushes(hog: &mut Hog) -> bool {
+    for (encoding, digit) in [(hexlower(), b'0'), (base64(), b'A'), (base64_mime(), b'A')] {
+        let text = [digit; 300];
+        for len in [0, 5, 299] {
+            let piece = text.get(..len).unwrap_or(&[]);
+            if !is_pushed(hog, &encoding, &[digit], piece) {
+                return false;
+            }
+        }
+    }
+    true
+}
+
+// Whether a piece behind a front that completes no group is refused where it completes one, and the
+// same call succeeds later.
+fn is_pushed(hog: &mut Hog, encoding: &Encoding, front: &[u8], piece: &[u8]) -> bool {
+    if front.len() > 8 || piece.len() > 300 {
+        return false;
+    }
+    let mut want = Vec::new(hog.alloc);
+    let mut whole = Decoder::new(encoding);
+    if whole.push(front, &mut want).is_err() || whole.push(piece, &mut want).is_err() {
+        return false;
+    }
     let mut output = Vec::new(hog.alloc);
-    let encoding = base64_nopad();
-    let mut decoder = Decoder::new(&encoding);
+    let mut decoder = Decoder::new(encoding);
+    let held = decoder.push(front, &mut output);
     hog.fill();
-    let first = decoder.push(b"SGVs", &mut output);
+    let first = decoder.push(piece, &mut output);
     hog.clear();
-    if first.is_err() != hog.is_greedy || first.is_err() != output.is_empty() {
+    if first.is_err() != (hog.is_greedy && !piece.is_empty()) {
+        return false;
+    }
+    if first.is_err() && (!output.is_empty() || decoder.len() != front.len()) {
         return false;
     }
     let second = if first.is_err() {
-        decoder.push(b"SGVs", &mut output)
+        decoder.push(piece, &mut output)
     } else {
         Ok(())
     };
-    second.is_ok() && decoder.len() == 4 && output.as_slice() == b"Hel".as_slice()
+    held.is_ok()
+        && second.is_ok()
+        && decoder.len() == whole.len()
+        && output.as_slice() == want.as_slice()
 }
 
 /// `Decoder::finish`, which hands the decoder back where it is refused.
 pub fn finishes(hog: &mut Hog) -> bool {
+    is_finished(hog, b"bG8", Ok(b"lo"))
+        && is_finished(hog, b"A", Err(DecodeKind::Length))
+        && is_finished(hog, b"A!", Err(DecodeKind::Symbol))
+}
+
+// Whether a text of less than a group has those bytes, or that kind of fault, at the second call
+// where the first is refused: it takes memory only for bytes.
+fn is_finished(hog: &mut Hog, text: &[u8], want: Result<&[u8], DecodeKind>) -> bool {
+    if text.len() > 8 {
+        return false;
+    }
     let mut output = Vec::new(hog.alloc);
     let encoding = base64_nopad();
     let mut decoder = Decoder::new(&encoding);
-    let held = decoder.push(b"bG8", &mut output);
+    let held = decoder.push(text, &mut output);
     hog.fill();
     let first = decoder.finish(&mut output);
     hog.clear();
@@ -52,9 +92,16 @@ pub fn finishes(hog: &mut Hog) -> bool {
         Ok(finished) => Ok(finished),
         Err(decoder) => decoder.finish(&mut output),
     };
-    let is_sound = match finished {
-        Ok(finished) => finished.verdict.is_ok(),
-        Err(_) => false,
+    let is_right = match (finished, want) {
+        (Ok(finished), Ok(bytes)) => finished.verdict.is_ok() && output.as_slice() == bytes,
+        (Ok(finished), Err(kind)) => {
+            output.is_empty()
+                && match finished.verdict {
+                    Ok(_) => false,
+                    Err(error) => error.kind == kind,
+                }
+        }
+        (Err(_), _) => false,
     };
-    is_sound && held.is_ok() && is_refused == hog.is_greedy && output.as_slice() == b"lo".as_slice()
+    is_right && held.is_ok() && is_refused == (hog.is_greedy && want.is_ok())
 }

@@ -1,15 +1,15 @@
 //! Calls that encode.
 
 use crate::hog::Hog;
-use data_encoding::base64;
+use data_encoding::{ENCODE_LIMIT, Encoding, base64, base64_mime};
 
 const HELLO: &[u8] = b"Hello";
 
-// Some bytes, whose text needs more memory than a text of a few bytes has to spare.
-const ZEROS: &[u8] = &[0; 60];
+// Some data, of two lines and more where there are lines.
+const DATA: &[u8] = b"Data that come in fragments are encoded block by block, and the few bytes \
+    that complete no block are held until they do, or until the text is finished.";
 
-const ZEROS_TEXT: &str =
-    "AAAAAAAAAAAAAAAAAAAAAAAAAAAAAAAAAAAAAAAAAAAAAAAAAAAAAAAAAAAAAAAAAAAAAAAAAAAAAAAA";
+const BEFORE: &str = "Result: ";
 
 /// `Encoding::encode`.
 pub fn encodes(hog: &mut Hog) -> bool {
@@ -26,33 +26,78 @@ pub fn encodes(hog: &mut Hog) -> bool {
 
 /// `Encoding::encode_append`.
 pub fn appends(hog: &mut Hog) -> bool {
-    let Ok(mut output) = String::from_str(hog.alloc, "x") else {
+    for encoding in [base64(), base64_mime()] {
+        for len in [57, 130] {
+            let input = DATA.get(..len).unwrap_or(&[]);
+            if !is_appended(hog, &encoding, input) {
+                return false;
+            }
+        }
+    }
+    true
+}
+
+// Whether a text that is refused memory is unchanged, and is appended to by the same call later.
+fn is_appended(hog: &mut Hog, encoding: &Encoding, input: &[u8]) -> bool {
+    if input.len() > ENCODE_LIMIT {
+        return false;
+    }
+    let Ok(want) = encoding.encode(hog.alloc, input) else {
         return false;
     };
+    let Ok(mut output) = String::from_str(hog.alloc, BEFORE) else {
+        return false;
+    };
+    let capacity = output.capacity();
     hog.fill();
-    let first = base64().encode_append(ZEROS, &mut output);
+    let first = encoding.encode_append(input, &mut output);
     hog.clear();
-    let is_unchanged = output.as_str() == "x";
-    if first.is_err() != hog.is_greedy || first.is_err() != is_unchanged {
+    if first.is_err() != hog.is_greedy {
         return false;
     }
-    if first.is_ok() {
-        return true;
+    if first.is_err() {
+        if output.as_str() != BEFORE || output.capacity() != capacity {
+            return false;
+        }
+        if encoding.encode_append(input, &mut output).is_err() {
+            return false;
+        }
     }
-    base64().encode_append(ZEROS, &mut output).is_ok()
-        && output.as_str().strip_prefix("x") == Some(ZEROS_TEXT)
+    output.as_str().strip_prefix(BEFORE) == Some(want.as_str())
 }
 
 /// `Encoder::append`, which is then finalized.
 pub fn appends_fragments(hog: &mut Hog) -> bool {
+    for encoding in [base64(), base64_mime()] {
+        for blocks in 0..3usize {
+            let len = blocks * encoding.encode_align() + 2;
+            let input = DATA.get(..len).unwrap_or(HELLO);
+            if !is_encoded(hog, &encoding, input, blocks != 0) {
+                return false;
+            }
+        }
+    }
+    true
+}
+
+// Whether data of which one byte is held are encoded: the call that appends the others is refused
+// where it has to write a block, and where it is, the same call succeeds later.
+fn is_encoded(hog: &mut Hog, encoding: &Encoding, input: &[u8], has_block: bool) -> bool {
+    if input.is_empty() || input.len() > ENCODE_LIMIT {
+        return false;
+    }
+    let Ok(want) = encoding.encode(hog.alloc, input) else {
+        return false;
+    };
+    let (front, rest) = input.split_at(1);
     let mut output = String::new(hog.alloc);
-    let encoding = base64();
     let mut encoder = encoding.new_encoder(&mut output);
+    let held = encoder.append(front);
     hog.fill();
-    let first = encoder.append(ZEROS);
+    let first = encoder.append(rest);
     hog.clear();
     let second = if first.is_err() {
-        encoder.append(ZEROS)
+        encoder.append(rest)
     } else {
         Ok(())
     };
@@ -63,16 +108,21 @@ pub fn appends_fragments(hog: &mut Hog) -> bool {
             false
         }
     };
-    is_finalized
+    held.is_ok()
         && second.is_ok()
-        && first.is_err() == hog.is_greedy
-        && output.as_str() == ZEROS_TEXT
+        && is_finalized
+        && first.is_err() == (hog.is_greedy && has_block)
+        && output.as_str() == want.as_str()
 }
 
 /// `Encoder::finalize`, which hands the encoder back where it is refused.
 pub fn finalizes(hog: &mut Hog) -> bool {
+    is_finalized(hog, &base64(), "SA==") && is_finalized(hog, &base64_mime(), "SA==\r\n")
+}
+
+// Whether one byte is encoded to that text, at the second call where the first is refused.
+fn is_finalized(hog: &mut Hog, encoding: &Encoding, text: &str) -> bool {
     let mut output = String::new(hog.alloc);
-    let encoding = base64();
     let mut encoder = encoding.new_encoder(&mut output);
     let held = encoder.append(b"H");
     hog.fill();
@@ -89,5 +139,5 @@ pub fn finalizes(hog: &mut Hog) -> bool {
             }
         },
     };
-    is_finalized && held.is_ok() && is_refused == hog.is_greedy && output.as_str() == "SA=="
+    is_finalized && held.is_ok() && is_refused == hog.is_greedy && output.as_str() == text
 }

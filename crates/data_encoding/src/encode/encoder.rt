@@ -12,9 +12,6 @@ use crate::encoding::Encoding;
 use arrayvec::ArrayVec;
 use std::alloc::{AllocError, Allocator};
 
-#[cfg(test)]
-mod tests;
-
 /// Appends the text of data that comes in fragments to a text.
 ///
 /// A block is `encode_align` bytes of data: a group of symbols, or a line. The text of a block is
