@@ -16,3 +16,4 @@ pub mod GatherStepLemmas
 pub mod GatherWordLemmas
 pub mod GatherRowLemmas
 pub mod GatherStoreLemmas
+pub mod AffineLemmas

@@ -32,3 +32,4 @@ pub mod Tight
 pub mod FaultStays
 pub mod Lanes
 pub mod Values
+pub mod Affine

@@ -17,6 +17,7 @@ use Rattle.data_encoding.specs.Words.{digit, word_of}
 use Rattle.data_encoding.proofs.digits.KernelLemmas.{bytes_of_group-word}
 use Rattle.data_encoding.proofs.digits.WidthLemmas.{by_width, symbols-few}
 use Rattle.data_encoding.proofs.grammar.PositionLemmas.{bytes-positioned_from, length-positioned_from}
+use Rattle.data_encoding.proofs.lists.EachLemmas.{all-at}
 use Rattle.data_encoding.proofs.lists.PartLemmas.{IsWhole, IsWhole-group, groups-within}
 use Rattle.data_encoding.proofs.lists.RunLemmas.{runs-first, runs-nil}
 
@@ -170,12 +171,6 @@ weaker : (few most : ℕ) → few ≤ most → (xs : List ℕ) → AllByRecursio
     → AllByRecursion (λ x. x < most) xs
 weaker few most h [] all = tt
 weaker few most h (x ∷ xs) all = (omega (arith, h, all.0), weaker few most h xs all.1)
-
-all-at : (P : ℕ → Type 0) (xs : List ℕ) → AllByRecursion P xs → (k : ℕ) → k < length xs
-    → P (slice_index xs k)
-all-at P [] all k h = absurd (omega (arith, h))
-all-at P (x ∷ xs) all zero h = all.0
-all-at P (x ∷ xs) all (suc k) h = all-at P xs all.1 k (omega (arith, h))
 
 -- where all entries are below the limit, they are those of the input
 module _ (width symbols : ℕ) (values input entries : List ℕ) (k : ℕ) (is : IsWidth width)

@@ -1,8 +1,11 @@
 -- Worked rows of lanes: groups as words, their digits, and tables as rows.
-use Rattle.std.proofs.Common.{◌≡◌, ℕ, ◌+◌, ◌≤◌, List, [], ◌∷◌, codes, refl, sym, ◌∙◌, arith, lit≤}
-use Rattle.std.proofs.lemmas.List.FromFn.{get_or-range_with_len}
+use Rattle.std.proofs.Common.{◌≡◌, ℕ, ◌+◌, ◌≤◌, List, [], ◌∷◌, map, get_or, codes, refl, sym, ap, ◌∙◌, arith, lit≤}
+use Rattle.std.proofs.lemmas.List.{get_or-map}
+use Rattle.std.proofs.lemmas.List.FromFn.{get_or-range_with_len, length-range_with_len}
 use Rattle.std.specs.List.{range_with_len}
 use Rattle.data_encoding.specs.declared.encoding.BitOrder.TheVariants.{MostSignificantFirst}
+use Rattle.data_encoding.specs.declared.kernel.lanes.affine.Affine.{Affine}
+use Rattle.data_encoding.specs.Affine.{HoldsAffine, affine_entry, affine_value, bits_of_rows, symbol_bit}
 use Rattle.data_encoding.specs.Lanes.{digits_of, group_word, group_words, halved_lane, spread_word}
 use Rattle.data_encoding.specs.Values.{HoldsRows, IsRow, chosen_by, in_row, joined}
 
@@ -56,3 +59,34 @@ row_of_five :
     (in_row table 48 53 ≡ 1053)
     × (chosen_by 3 (in_row table 48) (in_row table 32) 53 ≡ 1053)
 row_of_five = (refl, refl)
+
+-- digits in the row from 48 on, less 48, and `+` with a value of its own: 62
+digits_and_plus : Affine
+digits_and_plus = record {
+  symbols = 8 ∷ 8 ∷ 8 ∷ 8 ∷ 8 ∷ 8 ∷ 8 ∷ 8 ∷ 8 ∷ 8 ∷ 0 ∷ 4 ∷ 0 ∷ 0 ∷ 0 ∷ 0 ∷ [];
+  deltas = 0 ∷ 0 ∷ 0 ∷ 208 ∷ 0 ∷ 0 ∷ 0 ∷ 0 ∷ 0 ∷ 0 ∷ 0 ∷ 0 ∷ 0 ∷ 0 ∷ 0 ∷ 0 ∷ [];
+  odd = 43;
+  odd_value = 62;
+}
+
+-- the digit `5`, byte 53, of the row with the bit 8, is 5; `+`, byte 43, is 62; `A` is nothing
+affine_digits :
+    (symbol_bit digits_and_plus 53 ≡ 8)
+    × (get_or bits_of_rows 3 0 ≡ 8)
+    × (affine_value digits_and_plus 53 ≡ 5)
+    × (affine_entry digits_and_plus 53 ≡ 5)
+    × (affine_entry digits_and_plus 43 ≡ 62)
+    × (affine_entry digits_and_plus 65 ≡ 255)
+unfolding digits_and_plus
+affine_digits = (refl, refl, refl, refl, refl, refl)
+
+-- held by the table of these values
+affine_held :
+    HoldsAffine (map (affine_entry digits_and_plus) (range_with_len 0 128)) digits_and_plus
+affine_held = record {
+  agrees = λ byte h small.
+      sym (get_or-map (affine_entry digits_and_plus) (range_with_len 0 128) byte 0 0
+      (omega (arith, h, length-range_with_len 0 128))
+      ∙ ap (affine_entry digits_and_plus)
+      (get_or-range_with_len 0 128 byte 0 h ∙ omega arith));
+}

@@ -1,13 +1,18 @@
 //! Runs of whole groups that are symbols alone, decoded without a judgement.
 
-ghost use Rattle.std.specs.Prelude.{◌≡◌, ◌*◌, ◌/◌, ◌≤◌, length, IsTrue};
+ghost use Rattle.std.specs.Prelude.{◌≡◌, ℕ, ◌*◌, ◌/◌, ◌≤◌, List, length, IsTrue};
 ghost use Rattle.data_encoding.specs.Decoding.{IsLongestBy, IsRunBy};
 ghost use Rattle.data_encoding.specs.Tables.{IsGroup};
 
 use crate::encoding::BitOrder;
+use crate::kernel::lanes::affine::{Affine, affine_of};
 use crate::kernel::lanes::decode::decode_eight;
-use crate::kernel::lanes::rows::rows_of;
+use crate::kernel::lanes::look_up::LookUp;
+use crate::kernel::lanes::rows::{Rows, rows_of};
 use crate::kernel::words::{decode_entries, decode_symbols, entry_of};
+
+// The length of a run from which finding the affine form of a table takes less time than it saves.
+const AFFINE_FROM: usize = 704;
 
 /// Decodes whole groups in a row, from the front of the input to the front of the output, up to the
 /// first that has a byte that is no symbol, and answers how many they are. What stands behind their
@@ -91,11 +96,51 @@ fn decode_by_several<const WIDTH: usize, const BYTES: usize, const SYMBOLS: usiz
     if input.len() < eight {
         return decode_by_fours::<WIDTH, BYTES, SYMBOLS>(values, order, input, output);
     }
+    // Padded groups may follow one another: then the eight are not decoded in vain.
+    if 8 % WIDTH != 0 && entry_of(values, input[eight - 1]) >= 128 {
+        return 0;
+    }
+    if input.len() >= AFFINE_FROM {
+        return decode_long::<WIDTH, BYTES, SYMBOLS>(values, order, input, output);
+    }
     decode_by_lanes::<WIDTH, BYTES, SYMBOLS>(values, order, input, output)
 }
 
-// With the order as a constant again. Not inlined, so that short texts do not pay for the room that
-// lanes take.
+// By the affine form of the table, where it has one. Not inlined, so that shorter runs do not pay
+// for the room that the search takes.
+#[inline(never)]
+fn decode_long<const WIDTH: usize, const BYTES: usize, const SYMBOLS: usize>(
+    values: &[u8; 256],
+    order: BitOrder,
+    input: &[u8],
+    output: &mut [u8],
+) -> usize
+    requires group { IsGroup WIDTH BYTES SYMBOLS }
+    requires room { length input.now / SYMBOLS * BYTES ≤ length output.old }
+    ensures run { IsRunBy values.now WIDTH order input.now result output.old output.new }
+    ensures within { result ≤ length input.now / SYMBOLS }
+{
+    let Some(affine) = affine_of(values, 1 << WIDTH) else {
+        return decode_by_lanes::<WIDTH, BYTES, SYMBOLS>(values, order, input, output);
+    };
+    match order {
+        BitOrder::MostSignificantFirst => decode_eights::<Affine, WIDTH, BYTES, SYMBOLS>(
+            &affine,
+            BitOrder::MostSignificantFirst,
+            input,
+            output,
+        ),
+        BitOrder::LeastSignificantFirst => decode_eights::<Affine, WIDTH, BYTES, SYMBOLS>(
+            &affine,
+            BitOrder::LeastSignificantFirst,
+            input,
+            output,
+        ),
+    }
+}
+
+// By rows of the table, with the order as a constant again. Not inlined, so that short texts do not
+// pay for the room that lanes take.
 #[inline(never)]
 fn decode_by_lanes<const WIDTH: usize, const BYTES: usize, const SYMBOLS: usize>(
     values: &[u8; 256],
@@ -109,14 +154,14 @@ fn decode_by_lanes<const WIDTH: usize, const BYTES: usize, const SYMBOLS: usize>
     ensures within { result ≤ length input.now / SYMBOLS }
 {
     match order {
-        BitOrder::MostSignificantFirst => decode_by_eights::<WIDTH, BYTES, SYMBOLS>(
-            values,
+        BitOrder::MostSignificantFirst => decode_eights::<Rows, WIDTH, BYTES, SYMBOLS>(
+            &rows_of(values),
             BitOrder::MostSignificantFirst,
             input,
             output,
         ),
-        BitOrder::LeastSignificantFirst => decode_by_eights::<WIDTH, BYTES, SYMBOLS>(
-            values,
+        BitOrder::LeastSignificantFirst => decode_eights::<Rows, WIDTH, BYTES, SYMBOLS>(
+            &rows_of(values),
             BitOrder::LeastSignificantFirst,
             input,
             output,
@@ -124,30 +169,26 @@ fn decode_by_lanes<const WIDTH: usize, const BYTES: usize, const SYMBOLS: usize>
     }
 }
 
-// Eight groups at a time, by lanes; the eight with a byte that is no symbol are left.
+// Eight groups at a time; the eight with a byte that is no symbol are left.
 #[inline(always)]
-fn decode_by_eights<const WIDTH: usize, const BYTES: usize, const SYMBOLS: usize>(
-    values: &[u8; 256],
+fn decode_eights<L: LookUp, const WIDTH: usize, const BYTES: usize, const SYMBOLS: usize>(
+    look_up: &L,
     order: BitOrder,
     input: &[u8],
     output: &mut [u8],
 ) -> usize
     requires group { IsGroup WIDTH BYTES SYMBOLS }
     requires room { length input.now / SYMBOLS * BYTES ≤ length output.old }
-    ensures run { IsRunBy values.now WIDTH order input.now result output.old output.new }
+    ensures run { (values : List ℕ) → L.holds values look_up.now
+        → IsRunBy values WIDTH order input.now result output.old output.new }
     ensures within { result ≤ length input.now / SYMBOLS }
 {
     let count = input.len() / SYMBOLS / 8;
-    // Padded groups may follow one another: then the eight are not decoded in vain.
-    if 8 % WIDTH != 0 && count != 0 && entry_of(values, input[8 * SYMBOLS - 1]) >= 128 {
-        return 0;
-    }
-    let rows = rows_of(values);
     for index in 0..count {
         let read = 8 * index * SYMBOLS;
         let written = 8 * index * BYTES;
-        if !decode_eight::<WIDTH, BYTES, SYMBOLS>(
-            &rows,
+        if !decode_eight::<L, WIDTH, BYTES, SYMBOLS>(
+            look_up,
             order,
             &input[read..read + 8 * SYMBOLS],
             &mut output[written..written + 8 * BYTES],

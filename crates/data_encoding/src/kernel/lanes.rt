@@ -1,5 +1,7 @@
 //! Eight groups at a time, with a lane for each.
 
+pub(crate) mod affine;
 pub(crate) mod decode;
 pub(crate) mod encode;
+pub(crate) mod look_up;
 pub(crate) mod rows;

@@ -5,11 +5,11 @@ ghost use Rattle.std.specs.List.{AllByRecursion, range_with_len};
 ghost use Rattle.std.specs.Simd.{first_chunks};
 ghost use Rattle.data_encoding.specs.Decoding.{IsRunBy};
 ghost use Rattle.data_encoding.specs.Tables.{IsGroup};
-ghost use Rattle.data_encoding.specs.Values.{HoldsRows, joined};
+ghost use Rattle.data_encoding.specs.Values.{joined};
 ghost use Rattle.data_encoding.specs.Words.{digit, word_of};
 
 use crate::encoding::BitOrder;
-use crate::kernel::lanes::rows::{Rows, entries_16, entries_32, entries_64};
+use crate::kernel::lanes::look_up::LookUp;
 use crate::kernel::words::weight_at;
 use std::simd::prelude::*;
 
@@ -90,7 +90,7 @@ fn words_of_eight(order: BitOrder, width: usize, values: u8x64) -> u64x8
 
 // Whether each lane is below the limit.
 #[inline(always)]
-fn are_below<const N: usize>(limit: u8, lanes: Simd<u8, N>) -> bool
+pub(crate) fn are_below<const N: usize>(limit: u8, lanes: Simd<u8, N>) -> bool
     requires { N ≤ 64 }
     ensures { IsTrue result → AllByRecursion (λ lane. lane < limit) lanes.entry }
 {
@@ -99,17 +99,17 @@ fn are_below<const N: usize>(limit: u8, lanes: Simd<u8, N>) -> bool
 
 // The words of eight groups of symbols, and whether each byte of them is a symbol.
 #[inline(always)]
-fn words_of_groups<const WIDTH: usize, const BYTES: usize, const SYMBOLS: usize>(
-    rows: &Rows,
+fn words_of_groups<L: LookUp, const WIDTH: usize, const BYTES: usize, const SYMBOLS: usize>(
+    look_up: &L,
     order: BitOrder,
     input: &[u8],
 ) -> (u64x8, bool)
     requires group { IsGroup WIDTH BYTES SYMBOLS }
     requires symbols { length input.now ≡ 8 * SYMBOLS }
-    ensures words { (values : List ℕ) → HoldsRows values rows.now → IsTrue result.1
+    ensures words { (values : List ℕ) → L.holds values look_up.now → IsTrue result.1
         → result.0 ≡ map (word_of order WIDTH SYMBOLS)
         (first_chunks SYMBOLS 8 (map (slice_index values) input.now)) }
-    ensures symbols { (values : List ℕ) → HoldsRows values rows.now → IsTrue result.1
+    ensures symbols { (values : List ℕ) → L.holds values look_up.now → IsTrue result.1
         → (k : ℕ) → k < length input.now
         → slice_index values (slice_index input.now k) < 128 }
     ensures fit { IsTrue result.1
@@ -118,18 +118,18 @@ fn words_of_groups<const WIDTH: usize, const BYTES: usize, const SYMBOLS: usize>
     let limit = 1 << WIDTH;
     match SYMBOLS {
         2 => {
-            let values = entries_16(rows, u8x16::from_slice(input));
+            let values = look_up.look_up_16(u8x16::from_slice(input));
             (words_of_two(order, WIDTH, values), are_below(limit, values))
         }
         4 => {
-            let values = entries_32(rows, u8x32::from_slice(input));
+            let values = look_up.look_up_32(u8x32::from_slice(input));
             (
                 words_of_four(order, WIDTH, values),
                 are_below(limit, values),
             )
         }
         _ => {
-            let values = entries_64(rows, u8x64::from_slice(input));
+            let values = look_up.look_up_64(u8x64::from_slice(input));
             (
                 words_of_eight(order, WIDTH, values),
                 are_below(limit, values),
@@ -221,8 +221,8 @@ fn store<const BYTES: usize>(order: BitOrder, words: u64x8, output: &mut [u8])
 /// Decodes eight whole groups; `false`, with the output unchanged, where some byte of the input is
 /// no symbol.
 #[inline(always)]
-pub(crate) fn decode_eight<const WIDTH: usize, const BYTES: usize, const SYMBOLS: usize>(
-    rows: &Rows,
+pub(crate) fn decode_eight<L: LookUp, const WIDTH: usize, const BYTES: usize, const SYMBOLS: usize>(
+    look_up: &L,
     order: BitOrder,
     input: &[u8],
     output: &mut [u8],
@@ -230,10 +230,10 @@ pub(crate) fn decode_eight<const WIDTH: usize, const BYTES: usize, const SYMBOLS
     requires group { IsGroup WIDTH BYTES SYMBOLS }
     requires symbols { length input.now ≡ 8 * SYMBOLS }
     requires exact { length output.old ≡ 8 * BYTES }
-    ensures { (values : List ℕ) → HoldsRows values rows.now → IsTrue result
+    ensures { (values : List ℕ) → L.holds values look_up.now → IsTrue result
         → IsRunBy values WIDTH order input.now 8 output.old output.new }
 {
-    let (words, are_symbols) = words_of_groups::<WIDTH, BYTES, SYMBOLS>(rows, order, input);
+    let (words, are_symbols) = words_of_groups::<L, WIDTH, BYTES, SYMBOLS>(look_up, order, input);
     if !are_symbols {
         return false;
     }

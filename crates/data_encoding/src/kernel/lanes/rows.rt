@@ -38,7 +38,7 @@ pub(crate) fn rows_of(values: &[u8; 256]) -> Rows
 
 // What a row has at the lowest four bits of bytes.
 #[inline(always)]
-fn in_row_16(row: u8x16, bytes: u8x16) -> u8x16
+pub(crate) fn in_row_16(row: u8x16, bytes: u8x16) -> u8x16
     ensures { (values : List ℕ) → (start : ℕ) → IsRow values start row
         → result ≡ map (λ byte. slice_index values (start + byte % 16)) bytes }
 {
@@ -46,7 +46,7 @@ fn in_row_16(row: u8x16, bytes: u8x16) -> u8x16
 }
 
 #[inline(always)]
-fn in_row_32(row: u8x16, bytes: u8x32) -> u8x32
+pub(crate) fn in_row_32(row: u8x16, bytes: u8x32) -> u8x32
     ensures { (values : List ℕ) → (start : ℕ) → IsRow values start row
         → result ≡ map (λ byte. slice_index values (start + byte % 16)) bytes }
 {
@@ -58,7 +58,7 @@ fn in_row_32(row: u8x16, bytes: u8x32) -> u8x32
 }
 
 #[inline(always)]
-fn in_row_64(row: u8x16, bytes: u8x64) -> u8x64
+pub(crate) fn in_row_64(row: u8x16, bytes: u8x64) -> u8x64
     ensures { (values : List ℕ) → (start : ℕ) → IsRow values start row
         → result ≡ map (λ byte. slice_index values (start + byte % 16)) bytes }
 {

@@ -6,16 +6,16 @@ pub returns-in-2-clause-words :
     goal.returns-in-2-clause-words
 returns-in-2-clause-words g c = λ values rows all.
     words-of-input g.row.WIDTH g.row.SYMBOLS values c.args.input.now
-    c.entries_16-values.result 2 c.requires.group.is_width c.in-2.is c.requires.symbols
-    (c.are_below.ensures all) (c.entries_16-values.ensures values rows) c.args.order
+    c.look_up_16-values.result 2 c.requires.group.is_width c.in-2.is c.requires.symbols
+    (c.are_below.ensures all) (c.look_up_16-values.ensures values rows) c.args.order
     c.words_of_two.result c.words_of_two.ensures.words
 
 pub returns-in-4-clause-words :
     goal.returns-in-4-clause-words
 returns-in-4-clause-words g c = λ values rows all.
     words-of-input g.row.WIDTH g.row.SYMBOLS values c.args.input.now
-    c.entries_32-values.result 4 c.requires.group.is_width c.in-4.is c.requires.symbols
-    (c.are_below-in-4.ensures all) (c.entries_32-values.ensures values rows) c.args.order
+    c.look_up_32-values.result 4 c.requires.group.is_width c.in-4.is c.requires.symbols
+    (c.are_below-in-4.ensures all) (c.look_up_32-values.ensures values rows) c.args.order
     c.words_of_four.result c.words_of_four.ensures.words
 
 pub returns-in_default-clause-words :
@@ -29,18 +29,18 @@ returns-in_default-clause-words g c = λ values rows all.
       c.requires.group.has_symbols,
     ) in
     words-of-input g.row.WIDTH g.row.SYMBOLS values c.args.input.now
-    c.entries_64-values.result 8 c.requires.group.is_width eight c.requires.symbols
-    (c.are_below-in_default.ensures all) (c.entries_64-values.ensures values rows) c.args.order
+    c.look_up_64-values.result 8 c.requires.group.is_width eight c.requires.symbols
+    (c.are_below-in_default.ensures all) (c.look_up_64-values.ensures values rows) c.args.order
     c.words_of_eight.result c.words_of_eight.ensures.words
 
 pub returns-in-2-clause-fit : goal.returns-in-2-clause-fit
 returns-in-2-clause-fit g c = λ all.
-    words-fit-input g.row.WIDTH g.row.SYMBOLS c.entries_16-values.result c.words_of_two.result 2
+    words-fit-input g.row.WIDTH g.row.SYMBOLS c.look_up_16-values.result c.words_of_two.result 2
     c.requires.group.is_width c.in-2.is (c.are_below.ensures all) c.words_of_two.ensures.fit
 
 pub returns-in-4-clause-fit : goal.returns-in-4-clause-fit
 returns-in-4-clause-fit g c = λ all.
-    words-fit-input g.row.WIDTH g.row.SYMBOLS c.entries_32-values.result c.words_of_four.result 4
+    words-fit-input g.row.WIDTH g.row.SYMBOLS c.look_up_32-values.result c.words_of_four.result 4
     c.requires.group.is_width c.in-4.is (c.are_below-in-4.ensures all)
     c.words_of_four.ensures.fit
 
@@ -53,7 +53,7 @@ returns-in_default-clause-fit g c = λ all.
       c.in_default,
       c.requires.group.has_symbols,
     ) in
-    words-fit-input g.row.WIDTH g.row.SYMBOLS c.entries_64-values.result c.words_of_eight.result
+    words-fit-input g.row.WIDTH g.row.SYMBOLS c.look_up_64-values.result c.words_of_eight.result
     8 c.requires.group.is_width eight (c.are_below-in_default.ensures all)
     c.words_of_eight.ensures.fit
 
@@ -70,14 +70,14 @@ bounds-input-0-in_default g c =
 pub returns-in-2-clause-symbols : goal.returns-in-2-clause-symbols
 returns-in-2-clause-symbols g c = λ values rows all.
     symbols-of-input g.row.WIDTH g.row.SYMBOLS values c.args.input.now
-    c.entries_16-values.result 2 c.requires.group.is_width c.in-2.is c.requires.symbols
-    (c.are_below.ensures all) (c.entries_16-values.ensures values rows)
+    c.look_up_16-values.result 2 c.requires.group.is_width c.in-2.is c.requires.symbols
+    (c.are_below.ensures all) (c.look_up_16-values.ensures values rows)
 
 pub returns-in-4-clause-symbols : goal.returns-in-4-clause-symbols
 returns-in-4-clause-symbols g c = λ values rows all.
     symbols-of-input g.row.WIDTH g.row.SYMBOLS values c.args.input.now
-    c.entries_32-values.result 4 c.requires.group.is_width c.in-4.is c.requires.symbols
-    (c.are_below-in-4.ensures all) (c.entries_32-values.ensures values rows)
+    c.look_up_32-values.result 4 c.requires.group.is_width c.in-4.is c.requires.symbols
+    (c.are_below-in-4.ensures all) (c.look_up_32-values.ensures values rows)
 
 pub returns-in_default-clause-symbols : goal.returns-in_default-clause-symbols
 returns-in_default-clause-symbols g c = λ values rows all.
@@ -89,5 +89,5 @@ returns-in_default-clause-symbols g c = λ values rows all.
       c.requires.group.has_symbols,
     ) in
     symbols-of-input g.row.WIDTH g.row.SYMBOLS values c.args.input.now
-    c.entries_64-values.result 8 c.requires.group.is_width eight c.requires.symbols
-    (c.are_below-in_default.ensures all) (c.entries_64-values.ensures values rows)
+    c.look_up_64-values.result 8 c.requires.group.is_width eight c.requires.symbols
+    (c.are_below-in_default.ensures all) (c.look_up_64-values.ensures values rows)

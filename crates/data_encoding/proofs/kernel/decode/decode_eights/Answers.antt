@@ -3,11 +3,11 @@ use Rattle.data_encoding.specs.Decoding.{IsRun}
 use Rattle.data_encoding.proofs.decoding.SymbolRunLemmas.{run-kept, run-none, run-next}
 use Rattle.data_encoding.proofs.decoding.EightGroupLemmas.{eights-before, eight-groups-before}
 use Rattle.data_encoding.proofs.lists.PartLemmas.{IsWhole-group, length-part}
-use Rattle.data_encoding.proofs.kernel.decode.decode_by_eights.Goals as goal
+use Rattle.data_encoding.proofs.kernel.decode.decode_eights.Goals as goal
 
 pub loop-index-init : goal.loop-index-init
 loop-index-init g c = record {
-  run = λ base reads. run-none base reads.holds.is_width c.args.input.now _ _;
+  run = λ values held base reads. run-none base reads.holds.is_width c.args.input.now _ _;
 }
 
 pub slice_bounds-decode_eight-end : goal.slice_bounds-decode_eight-end
@@ -92,19 +92,17 @@ loop-index-preserved g c =
     let shown_len : length c.decode_eight.new.output ≡ 8 * enc =
     c.decode_eight.auto.output ∙ length-part (8 * i * enc) (8 * enc) output room in
     record {
-      run = λ base reads.
+      run = λ values held base reads.
           run-next base reads.holds.is_width g.row.WIDTH enc dec c.requires.group
           reads.width_is input _ output _
           c.decode_eight.new.output (8 * i) 8 _ _ _ (omega arith) refl within
-          (omega (arith, room)) shown_len (c.loop-index.invariant.run base reads)
-          (c.decode_eight.ensures c.args.values.now c.rows_of-rows.ensures
-          c.if-not-decode_eight.false base
-          reads);
+          (omega (arith, room)) shown_len (c.loop-index.invariant.run values held base reads)
+          (c.decode_eight.ensures values held c.if-not-decode_eight.false base reads);
     }
 
 pub returns-then-not-decode_eight-clause-run :
     goal.returns-then-not-decode_eight-clause-run
-returns-then-not-decode_eight-clause-run g c = λ base reads.
+returns-then-not-decode_eight-clause-run g c = λ values held base reads.
     let i = c.loop-index.index in
     let room : 8 * i * g.row.BYTES + 8 * g.row.BYTES ≤ length c.loop-index.output =
     omega (
@@ -116,29 +114,12 @@ returns-then-not-decode_eight-clause-run g c = λ base reads.
     run-kept base reads.holds.is_width g.row.WIDTH g.row.BYTES g.row.SYMBOLS c.requires.group
     reads.width_is
     c.args.input.now _ c.loop-index.output c.decode_eight.new.output (8 * i) _
-    (omega (arith, room)) (c.loop-index.invariant.run base reads)
+    (omega (arith, room)) (c.loop-index.invariant.run values held base reads)
 
 pub returns-clause-run : goal.returns-clause-run
-returns-clause-run g c = λ base reads.
+returns-clause-run g c = λ values held base reads.
     let all : c.loop-index.index ≡ length c.args.input.now / g.row.SYMBOLS / 8 =
     omega (arith, c.loop-index-test.false, c.loop-index.auto.index-end) in
     subst
     (λ n. IsRun base c.args.input.now (8 * n) c.args.output.now c.loop-index.output) all
-    (c.loop-index.invariant.run base reads)
-
-pub bounds-input : goal.bounds-input
-bounds-input g c =
-    omega (arith, eight-groups-before (length c.args.input.now) g.row.SYMBOLS 0 (omega arith))
-
-pub overflow_mul-entry_of : goal.overflow_mul-entry_of
-overflow_mul-entry_of g c =
-    omega (arith, eight-groups-before (length c.args.input.now) g.row.SYMBOLS 0 (omega arith))
-
-pub overflow_sub-entry_of : goal.overflow_sub-entry_of
-overflow_sub-entry_of g c =
-    let whole = IsWhole-group g.row.WIDTH g.row.BYTES g.row.SYMBOLS c.requires.group in
-    omega (arith, whole.some_symbols)
-
-pub returns-then-entry_of-ge128-clause-run : goal.returns-then-entry_of-ge128-clause-run
-returns-then-entry_of-ge128-clause-run g c = λ base reads.
-    run-none base reads.holds.is_width c.args.input.now _ _
+    (c.loop-index.invariant.run values held base reads)
