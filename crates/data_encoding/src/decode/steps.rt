@@ -164,6 +164,7 @@ impl Encoding {
     {
         let count = self.run::<WIDTH, BYTES, SYMBOLS>(
             order,
+            read == 0,
             &input[read..],
             &mut output[written..],
         );
@@ -207,6 +208,7 @@ impl Encoding {
     fn run<const WIDTH: usize, const BYTES: usize, const SYMBOLS: usize>(
         &self,
         order: BitOrder,
+        is_first: bool,
         input: &[u8],
         output: &mut [u8],
     ) -> usize
@@ -218,7 +220,7 @@ impl Encoding {
         ensures longest { IsLongest self.now input.now result }
         ensures within { result * SYMBOLS ≤ length input.now }
     {
-        decode_run::<WIDTH, BYTES, SYMBOLS>(&self.values, order, input, output)
+        decode_run::<WIDTH, BYTES, SYMBOLS>(&self.values, order, is_first, input, output)
     }
 
     // Whether no byte is left that is not ignored.

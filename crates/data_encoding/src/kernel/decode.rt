@@ -15,13 +15,15 @@ use crate::kernel::words::{decode_entries, decode_symbols, entry_of};
 const AFFINE_FROM: usize = 704;
 
 /// Decodes whole groups in a row, from the front of the input to the front of the output, up to the
-/// first that has a byte that is no symbol, and answers how many they are. What stands behind their
-/// bytes is not said.
+/// first that has a byte that is no symbol, and returns how many they are. What the output holds
+/// after their bytes is not said. `is_first` tells the first run of a text: those that follow stand
+/// between ignored bytes or padded groups, and are too short for a search.
 // Part of its caller, since a call costs more than a short text.
 #[inline(always)]
 pub(crate) fn decode_run<const WIDTH: usize, const BYTES: usize, const SYMBOLS: usize>(
     values: &[u8; 256],
     order: BitOrder,
+    is_first: bool,
     input: &[u8],
     output: &mut [u8],
 ) -> usize
@@ -35,12 +37,14 @@ pub(crate) fn decode_run<const WIDTH: usize, const BYTES: usize, const SYMBOLS: 
         BitOrder::MostSignificantFirst => decode_groups::<WIDTH, BYTES, SYMBOLS>(
             values,
             BitOrder::MostSignificantFirst,
+            is_first,
             input,
             output,
         ),
         BitOrder::LeastSignificantFirst => decode_groups::<WIDTH, BYTES, SYMBOLS>(
             values,
             BitOrder::LeastSignificantFirst,
+            is_first,
             input,
             output,
         ),
@@ -53,6 +57,7 @@ pub(crate) fn decode_run<const WIDTH: usize, const BYTES: usize, const SYMBOLS: 
 fn decode_groups<const WIDTH: usize, const BYTES: usize, const SYMBOLS: usize>(
     values: &[u8; 256],
     order: BitOrder,
+    is_first: bool,
     input: &[u8],
     output: &mut [u8],
 ) -> usize
@@ -63,7 +68,7 @@ fn decode_groups<const WIDTH: usize, const BYTES: usize, const SYMBOLS: usize>(
     ensures within { result ≤ length input.now / SYMBOLS }
 {
     let count = input.len() / SYMBOLS;
-    let first = decode_by_several::<WIDTH, BYTES, SYMBOLS>(values, order, input, output);
+    let first = decode_by_several::<WIDTH, BYTES, SYMBOLS>(values, order, is_first, input, output);
     for index in first..count {
         let read = index * SYMBOLS;
         let written = index * BYTES;
@@ -84,6 +89,7 @@ fn decode_groups<const WIDTH: usize, const BYTES: usize, const SYMBOLS: usize>(
 fn decode_by_several<const WIDTH: usize, const BYTES: usize, const SYMBOLS: usize>(
     values: &[u8; 256],
     order: BitOrder,
+    is_first: bool,
     input: &[u8],
     output: &mut [u8],
 ) -> usize
@@ -100,7 +106,7 @@ fn decode_by_several<const WIDTH: usize, const BYTES: usize, const SYMBOLS: usiz
     if 8 % WIDTH != 0 && entry_of(values, input[eight - 1]) >= 128 {
         return 0;
     }
-    if input.len() >= AFFINE_FROM {
+    if is_first && input.len() >= AFFINE_FROM {
         return decode_long::<WIDTH, BYTES, SYMBOLS>(values, order, input, output);
     }
     decode_by_lanes::<WIDTH, BYTES, SYMBOLS>(values, order, input, output)
