@@ -5,7 +5,7 @@ use Rattle.encoding_stream.specs.declared.error.StreamFault.TheVariants.{Decode,
 use Rattle.basecode.specs.declared.fault.WordFault.{WordFault}
 use Rattle.basecode.specs.declared.fault.WordFault.TheVariants.{Usage, UnknownName}
 
--- the line on wrong words, after the name of the program
+-- the line on wrong arguments, after the name of the program
 abbrev pub printed_word_fault : WordFault → List ℕ
 printed_word_fault Usage =
     codes "usage: basecode list OR encode NAME OR decode NAME OR canonical NAME"

@@ -133,7 +133,7 @@ fn list<R: Read>(
     Ok(Some(writer.into_inner()))
 }
 
-// Whether no two texts mean the same data, by the encoding of a name, where that was answered.
+// Whether no two texts mean the same data, by the encoding of a name, where that was printed.
 fn canonical(alloc: Global, name: &str) -> Result<Option<bool>, AllocError>
     ensures { IfOk result (λ found. IfSome found (λ answer. (base : Base) → IsNamed name.now base
         → (IsTrue answer ↔ IsCanonical base))) }

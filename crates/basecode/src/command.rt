@@ -20,7 +20,7 @@ pub enum Verb {
 /// What a word asks of an encoding.
 #[derive(Clone, Copy, Debug, PartialEq, Eq)]
 pub enum Ask {
-    /// The answer to an input.
+    /// What is printed of an input.
     Conversion(Verb),
 
     /// Whether data has one text only.

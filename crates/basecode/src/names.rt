@@ -6,7 +6,7 @@ ghost use Rattle.basecode.specs.Names.{fields_named, listing, IsNamed};
 use data_encoding::Encoding;
 
 // The names in the order in which they are listed, each with the function of `data_encoding` that
-// answers its encoding. The rows are handed to another macro, after its own argument.
+// returns its encoding. The rows are given to another macro, after its own argument.
 macro_rules! with_names {
     ($to:ident $(, $argument:expr)?) => {
         $to! {

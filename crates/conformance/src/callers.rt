@@ -84,7 +84,7 @@ pub fn there_and_back(
     }
 }
 
-/// What a text is answered with a byte that is no symbol, at position 1.
+/// What is returned of a text with a byte that is no symbol, at position 1.
 pub fn no_symbol(alloc: Global) -> Result<Vec<u8>, DecodeFault>
     ensures { (result ≡ Err (DecodeFault.Error (record { position = 1; kind = DecodeKind.Symbol })))
         ⊎ (result ≡ Err DecodeFault.OutOfMemory) }
@@ -92,7 +92,7 @@ pub fn no_symbol(alloc: Global) -> Result<Vec<u8>, DecodeFault>
     hexlower().decode(alloc, b"4G")
 }
 
-/// What a text of an odd length is answered: its length is judged before memory is asked for.
+/// What is returned of a text of an odd length: its length is judged before memory is asked for.
 pub fn odd_length(alloc: Global) -> Result<Vec<u8>, DecodeFault>
     ensures { result ≡ Err (DecodeFault.Error (record { position = 2; kind = DecodeKind.Length })) }
 {

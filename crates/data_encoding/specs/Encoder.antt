@@ -27,7 +27,7 @@ written encoder = string_bytes encoder.output.now
 abbrev pub held : Encoder → List ℕ
 held encoder = encoder.held.items
 
--- Behind a text the encoder was handed these bytes.
+-- The encoder has taken these bytes since its output was this text.
 abbrev pub HasTaken : Encoder → List ℕ → List ℕ → Type 0
 HasTaken encoder before bytes =
     HasEncoded (base_of_encoder encoder) before bytes (written encoder) (held encoder)

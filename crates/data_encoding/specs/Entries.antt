@@ -12,7 +12,7 @@ meaning_of_entry entry =
     else if entry == 130 then Padding
     else Invalid
 
--- an entry where there are so many symbols
+-- an entry where there are this many symbols
 abbrev pub is_entry_of : ℕ → ℕ → Bool
 is_entry_of count entry = nat_lt entry count || (nat_lt 127 entry && nat_lt entry 131)
 

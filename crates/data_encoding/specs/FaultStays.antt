@@ -25,8 +25,8 @@ FaultStays =
     → fault_of base text ≡ Some error → length_fault base (length (text ++ after)) ≡ None
     → fault_of base (text ++ after) ≡ Some error
 
--- Behind a text without a fault whose kept bytes are whole groups, no longer text has a fault
--- before its end.
+-- No text that begins with one without a fault whose kept bytes are whole groups has a fault
+-- before the end of that one.
 abbrev pub NoFaultBefore : Type 0
 NoFaultBefore =
     (base : Base) → IsSpecified base → (text after : List ℕ) (error : DecodeError)

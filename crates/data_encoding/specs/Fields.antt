@@ -66,7 +66,7 @@ meanings_after (Ok meanings) [] = Ok meanings
 meanings_after (Ok meanings) (judgement ∷ others) =
     meanings_after (judged meanings judgement) others
 
--- the number of bits of one of so many symbols
+-- the number of bits of a symbol, by how many there are
 abbrev pub width_of : ℕ → Option ℕ
 width_of count = position (λ n. n == count) (1 ∷ 2 ∷ 4 ∷ 8 ∷ 16 ∷ 32 ∷ 64 ∷ [])
 

@@ -4,8 +4,8 @@ use Rattle.data_encoding.specs.Base.{Base}
 use Rattle.data_encoding.specs.Text.{text_of}
 use Rattle.data_encoding.specs.Lengths.{alignment}
 
--- Behind a text these bytes were encoded, but for the last few, which are held until they fill a
--- block.
+-- To a text that of these bytes was appended, but for the last few, which are held until they fill
+-- a block.
 pub record HasEncoded (base : Base) (before bytes : List ℕ) (text held : List ℕ) : Type 0 where
   pub encoded : List ℕ
   pub are_bytes : bytes ≡ encoded ++ held

@@ -8,11 +8,11 @@ use Rattle.data_encoding.specs.Layout.{layout}
 abbrev pub OneLayout : Type 0
 OneLayout = (a b : Base) → IsSpecified a → IsSpecified b → layout a ≡ layout b → a ≡ b
 
--- what these bytes tell of a byte: its entry
+-- the entry of a byte in these bytes
 abbrev pub entry_in : List ℕ → ℕ → ℕ
 entry_in bytes byte = slice_index bytes (256 + byte)
 
--- They tell that the byte is ignored.
+-- By these bytes the byte is ignored.
 abbrev pub IsIgnoredIn : List ℕ → ℕ → Type 0
 IsIgnoredIn bytes byte = (byte < 128) × (entry_in bytes byte ≡ 129)
 
@@ -24,7 +24,7 @@ TellsPadding width bytes =
     ⊎ ((slice_index bytes 512 < 128) × (entry_in bytes (slice_index bytes 512) ≡ 130)
     × (8 % width ≢ 0))
 
--- Byte 514 is a number of whole groups, and 1 to 255 bytes that are ignored stand behind it.
+-- Byte 514 is a number of whole groups, and 1 to 255 bytes that are ignored follow it.
 pub record TellsLines (width : ℕ) (bytes : List ℕ) : Type 0 where
   pub some : 0 < slice_index bytes 514
   pub short : slice_index bytes 514 < 256
@@ -33,7 +33,8 @@ pub record TellsLines (width : ℕ) (bytes : List ℕ) : Type 0 where
   pub ends_short : length bytes ≤ 770
   pub ignored : (k : ℕ) → 515 ≤ k → k < length bytes → IsIgnoredIn bytes (slice_index bytes k)
 
--- Behind byte 513 stands nothing, where no byte is ignored; one 0, where one is; or the lines.
+-- Byte 513 is followed by nothing, where no byte is ignored; by one 0, where one is; or by the
+-- lines.
 abbrev pub TellsWrapping : ℕ → List ℕ → Type 0
 TellsWrapping width bytes =
     ((length bytes ≡ 514) × ((byte : ℕ) → IsIgnoredIn bytes byte → ⊥))
@@ -58,7 +59,7 @@ pub record IsLayoutOf (width : ℕ) (bytes : List ℕ) : Type 0 where
   pub padding : TellsPadding width bytes
   pub end : TellsWrapping width bytes
 
--- The bytes keep the rules, with the width that byte 513 tells.
+-- The bytes keep the rules, with the width that byte 513 has.
 abbrev pub IsLayout : List ℕ → Type 0
 IsLayout bytes = IsLayoutOf (slice_index bytes 513 % 8) bytes
 

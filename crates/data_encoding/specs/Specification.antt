@@ -28,7 +28,7 @@ specified s = record {
 abbrev pub refusal_of : SpecificationError → Refusal
 refusal_of error = error.refusal
 
--- what the builder is handed
+-- what the builder is given
 abbrev pub fields_of_parts : Parts → Fields
 fields_of_parts p = record {
   symbols = p.symbols.now;

@@ -34,7 +34,7 @@ pub record HoldsValues (base : Base) (values : List ℕ) : Type 0 where
   pub ignoreds : (byte : ℕ) → byte < 256
       → is_ignored (meaning base byte) ≡ (slice_index values byte == 129)
 
--- So many bytes and so many symbols of so many bits are a whole group.
+-- A whole group has this many bytes, as this many symbols of this many bits.
 pub record IsGroup (width bytes symbols : ℕ) : Type 0 where
   pub is_width : IsWidth width
   pub has_bytes : bytes ≡ group_bytes width

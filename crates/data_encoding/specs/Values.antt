@@ -4,7 +4,7 @@ use Rattle.data_encoding.specs.declared.encoding.BitOrder.{BitOrder}
 use Rattle.data_encoding.specs.declared.kernel.lanes.rows.Rows.{Rows}
 use Rattle.data_encoding.specs.Words.{weight}
 
--- the two halves of a lane, of so many bits, as two digits of a word
+-- the two halves of a lane, of this many bits, as two digits of a word
 abbrev pub joined : BitOrder → ℕ → ℕ → ℕ → ℕ
 joined order half size lane =
     (lane % 2 ^ half * 2 ^ weight order size 2 0 + lane / 2 ^ half * 2 ^ weight order size 2 1)

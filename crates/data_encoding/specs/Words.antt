@@ -4,7 +4,7 @@ use Rattle.data_encoding.specs.declared.encoding.BitOrder.{BitOrder}
 use Rattle.data_encoding.specs.declared.encoding.BitOrder.TheVariants.{MostSignificantFirst, LeastSignificantFirst}
 use Rattle.data_encoding.specs.Bits.{bits_of, number_of}
 
--- how many bits of a word of so many digits, each of so many bits, are below a digit
+-- how many bits of a word are below a digit, by the number of digits and the bits of each
 abbrev pub weight : BitOrder → ℕ → ℕ → ℕ → ℕ
 weight MostSignificantFirst size count index = size * (count - 1 - index)
 weight LeastSignificantFirst size count index = size * index

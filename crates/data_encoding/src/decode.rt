@@ -49,11 +49,11 @@ impl Stop {
 
 impl Encoding {
     /// Writes the data that the text means to the front of `output`, which has exactly
-    /// `decode_len` of the text's length, and answers how many bytes they are. The text has at most
+    /// `decode_len` of the text's length, and returns how many bytes they are. The text has at most
     /// `DECODE_LIMIT` bytes.
     ///
-    /// Padded texts that stand one after the other decode as one, where they may be concatenated.
-    /// A text that means nothing has one fault. Of it, the beginning that was read means the bytes
+    /// Concatenated padded texts decode as one, where the encoding allows it. A text that means
+    /// nothing has one fault. Of it, the beginning that was read means the bytes
     /// that were written: those of the groups before the faulty one and, where a last group is too
     /// short and bytes are ignored, of its symbols that stand in a row, where they are valid. What
     /// stands in the output after these is not said.
@@ -81,7 +81,7 @@ impl Encoding {
         Err(self.stopped(input, output, stop))
     }
 
-    // What is told of a faulty group: only after a group that is too short may more be read.
+    // What is reported of a faulty group: only after a group that is too short may more be read.
     #[inline(always)]
     fn stopped(&self, input: &[u8], output: &mut [u8], stop: Stop) -> DecodePartial
         requires limit { length input.now ≤ DECODE_LIMIT }
@@ -114,7 +114,7 @@ impl Encoding {
         }
     }
 
-    // Decodes the greatest front of valid length of the rest of a text as it stands, and answers
+    // Decodes the greatest front of valid length of the rest of a text as it stands, and returns
     // how many bytes it means; nothing where it has a fault.
     #[cold]
     #[inline(never)]
@@ -164,10 +164,10 @@ impl Encoding {
 
     /// The data that the text, of at most `DECODE_LIMIT` bytes, means.
     ///
-    /// Padded texts that stand one after the other decode as one, where they may be concatenated.
-    /// A text that means nothing has one fault: its length is judged first; then the first faulty
-    /// group decides, its padding before its symbols. Out of memory is answered only for a text of
-    /// a valid length that may mean one byte or more.
+    /// Concatenated padded texts decode as one, where the encoding allows it. A text that means
+    /// nothing has one fault: its length is judged first; then the first faulty group decides, its
+    /// padding before its symbols. Out of memory is reported only for a text of a valid length that
+    /// may mean one byte or more.
     pub fn decode(&self, alloc: Global, input: &[u8]) -> Result<Vec<u8>, DecodeFault>
         requires limit { length input.now ≤ DECODE_LIMIT }
         ensures means { IfOk result (λ bytes. Means self.now input.now bytes.items) }

@@ -69,9 +69,9 @@ pub fn order()
     ensures sixteen { SixAreOrdered }
 {}
 
-/// Where no byte is ignored and there is no padding, `decode_len` tells exactly how many bytes a
-/// text means, and `encode_len` how long each text is that means so many, for each encoding that a
-/// specification yields; and where there are no lines and no padding, `decode_len` undoes
+/// Where no byte is ignored and there is no padding, `decode_len` is exactly the number of bytes
+/// that a text means, and `encode_len` of that number the length of the text, for each encoding
+/// that a specification yields; and where there are no lines and no padding, `decode_len` undoes
 /// `encode_len`.
 pub fn tight()
     ensures most { MeansMost }
@@ -103,9 +103,9 @@ pub fn not_canonical()
     ensures { NotCanonical }
 {}
 
-/// Behind a text that means data and may be followed, as at `join_decode`, another text has the
-/// fault that it has alone, if any, further on by the length of the first; and the data before it
-/// stands behind that of the first.
+/// A text that follows one that means data and may be followed, as at `join_decode`, has the fault
+/// that it has alone, if any, further on by the length of the first; and the data before that fault
+/// follows that of the first.
 pub fn join_fault()
     ensures { JoinFault }
 {}
@@ -130,7 +130,7 @@ pub fn same_kept_bytes()
     ensures { SameKeptBytes }
 {}
 
-/// Texts whose bytes mean the same one by one, as `interpret_byte` tells it, have the same fault at
+/// Texts whose bytes mean the same one by one, by `interpret_byte`, have the same fault at
 /// the same position and mean the same data, for each encoding that a specification yields.
 ///
 /// So a translated byte may be replaced by the symbol or the padding character that it stands for,

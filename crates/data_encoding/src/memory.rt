@@ -1,10 +1,10 @@
-//! Memory for an answer.
+//! Memory for a result.
 
 ghost use Rattle.std.specs.Prelude.{◌≡◌, replicate, IfOk, IsOk};
 
 use std::alloc::{AllocError, Global};
 
-// So many zeros.
+// As many zeros.
 pub(crate) fn zeros(alloc: Global, len: usize) -> Result<Vec<u8>, AllocError>
     ensures items { IfOk result (λ bytes. bytes.items ≡ replicate len 0) }
     ensures none { len ≡ 0 → IsOk result }

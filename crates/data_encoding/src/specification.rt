@@ -56,8 +56,8 @@ pub struct Specification {
     /// Whether bits that are left after the last byte have to be zeros.
     pub check_trailing_bits: bool,
 
-    /// Whether padded texts that stand one after the other are decoded as one. Where it is false,
-    /// a text ends with its first padded group. Without padding it has no effect.
+    /// Whether concatenated padded texts are decoded as one. Where it is false, a text ends with
+    /// its first padded group. Without padding it has no effect.
     pub concatenate: bool,
 
     /// What fills the last group of a text.

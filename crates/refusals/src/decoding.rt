@@ -33,7 +33,7 @@ pub fn pushes(hog: &mut Hog) -> bool {
     true
 }
 
-// Whether a piece behind a front that completes no group is refused where it completes one, and the
+// Whether a piece after a front that completes no group is refused where it completes one, and the
 // same call succeeds later.
 fn is_pushed(hog: &mut Hog, encoding: &Encoding, front: &[u8], piece: &[u8]) -> bool {
     if front.len() > 8 || piece.len() > 300 {

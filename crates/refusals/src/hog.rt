@@ -45,7 +45,7 @@ impl Hog {
         self.parts.clear();
     }
 
-    // Takes parts of this size, at most so many.
+    // Takes at most that many parts of this size.
     fn fill_by(&mut self, size: usize, most: usize) {
         for _ in 0..most {
             let Ok(part) = Vec::with_capacity(self.alloc, size) else {

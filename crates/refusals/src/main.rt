@@ -2,7 +2,7 @@
 //!
 //! With the word `refused` all memory that the process may have is taken before each call, which
 //! has to be refused then, and to leave everything as it was; without it each call has to succeed.
-//! Then the memory is given back, and the same call has to succeed with the right answer. A line is
+//! Then the memory is given back, and the same call has to succeed with the right result. A line is
 //! printed for each call, and the exit status is 1 where one of them did otherwise.
 #![tactic(auto)]
 

@@ -1,4 +1,4 @@
-//! Encodings that are stored as bytes, and texts that grow behind another text.
+//! Encodings that are stored as bytes, and texts that are appended to another.
 
 ghost use Rattle.std.specs.Prelude.{◌≡◌, ◌↔◌, ◌≤◌, ℕ, List, ◌++◌, length, ⊤, Some, IsOk, IsTrue, OnErr, OnOk};
 ghost use Rattle.std.specs.Borrow.{follows_so, sem};
@@ -50,7 +50,7 @@ pub fn show_nothing<W: fmt::Write>(encoding: &Encoding, f: &mut fmt::Formatter<W
     encoding.encode_display(b"").fmt(f)
 }
 
-/// Writes the text of the data behind what the string holds.
+/// Appends the text of the data to what the string holds.
 pub fn write_behind(encoding: &Encoding, input: &[u8], output: &mut String) -> fmt::Result
     ensures { OnOk result (string_bytes output.new
         ≡ string_bytes output.old ++ text_of encoding.now input.now) }
@@ -104,7 +104,7 @@ pub fn encoded_at_second_try(
     }
 }
 
-/// Finalizes. Where memory was refused, the text is what the encoder that is handed back leaves.
+/// Finalizes. Where memory was refused, the text is what the encoder that is returned leaves.
 pub fn finalized(encoder: Encoder<'_>) -> Result<(), Encoder<'_>>
     ensures* { sem 𝓛 (follows_so (string_row global_row ghosts) (string_row global_row ghosts)
         (output_name encoder.entry) (name_handed_back result)

@@ -18,7 +18,7 @@ use encoding_stream::{Decoder, StreamFault, Watch, decode_stream, encode_stream}
 use std::alloc::{AllocError, Global};
 
 /// Decodes a text that comes in pieces by way of a small buffer: what a piece appends to it is
-/// handed on to the output, and the buffer is cleared. Answers the verdict on the whole text.
+/// appended to the output, and the buffer is cleared. Returns the verdict on the whole text.
 pub fn decode_pieces(
     alloc: Global,
     encoding: &Encoding,

@@ -1,4 +1,4 @@
-//! Texts behind texts, and data that comes in fragments.
+//! Texts that are appended to texts, and data that comes in fragments.
 
 ghost use Rattle.std.specs.Prelude.{◌≤◌, length};
 
@@ -8,7 +8,7 @@ use data_encoding::{ENCODE_LIMIT, Encoding, base64};
 use std::alloc::{AllocError, Global};
 use std::test::Fail;
 
-// What is done with data, and what stands behind `Result: ` then. An encoder takes fragments,
+// What is done with data, and what follows `Result: ` then. An encoder takes fragments,
 // between bars that lean; what it holds at the end is encoded too, or dropped.
 const APPENDED: &str = "\
 append base64|most|check|=||0||||Hello world|SGVsbG8gd29ybGQ=
@@ -108,7 +108,7 @@ fn append_fragments(
     ended
 }
 
-// Whether what stands behind `Result: ` is what the row wants.
+// Whether what follows `Result: ` is what the row wants.
 fn is_appended(alloc: Global, line: &str) -> Result<bool, Fail> {
     let (act, line) = line.split_once(' ').unwrap_or(("", line));
     let case = case_of(alloc, line)?;

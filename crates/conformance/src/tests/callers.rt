@@ -1,4 +1,4 @@
-//! The callers, each with both of its answers where it has two.
+//! The callers, each with both of its results where it has two.
 
 ghost use Rattle.std.specs.Prelude.{◌≤◌, length};
 

@@ -29,7 +29,7 @@ impl Tally {
     }
 }
 
-// An encoding, what its answers are compared with, and how many were.
+// An encoding, what its results are compared with, and how many were.
 #[derive(Drop)]
 pub(super) struct Comparison<'a> {
     pub(super) alloc: Global,
@@ -175,21 +175,21 @@ impl<'a> Comparison<'a> {
         Ok(fault == want.fault && drained == want.bytes)
     }
 
-    // Whether a stream writes and answers what is wanted, which is given so many bytes at a time.
+    // Whether a stream writes and returns what is wanted, which is given this many bytes at a time.
     pub(super) fn is_read_alike(&mut self, want: &Judgement, text: &[u8], most: usize) -> bool {
         self.tally.decodings = self.tally.decodings.wrapping_add(1);
         is_streamed_alike(self.alloc, self.encoding, want, text, most)
     }
 }
 
-// Moves what was appended behind what was drained before.
+// Appends what was appended to what was drained before.
 fn drain(output: &mut Vec<u8>, drained: &mut Vec<u8>) -> Result<(), AllocError> {
     drained.extend_from_slice(output)?;
     output.clear();
     Ok(())
 }
 
-// Whether `decode` answers what the judge does.
+// Whether `decode` returns what the judge does.
 fn is_decoded_alike(alloc: Global, encoding: &Encoding, want: &Judgement, text: &[u8]) -> bool
     requires limit { length text.now ≤ DECODE_LIMIT }
 {

@@ -8,7 +8,7 @@ use encoding_stream::{StreamFault, Watch, decode_stream};
 use std::alloc::{AllocError, Global};
 use std::test::Fail;
 
-// What is written, and behind a slash what is answered; the arrow with two heads is 100,000 line
+// What is written, and after a slash what is returned; the arrow with two heads is 100,000 line
 // feeds.
 const ROWS: &str = "\
 base64|most|check|=||76|←↵|||SG↡Vs|Hel/
@@ -33,7 +33,7 @@ fn decode_slowly(alloc: Global, encoding: &Encoding, text: &[u8], most: usize) -
     decode(encoding, reader_of(text, most), writer)
 }
 
-// Whether a stream writes and answers what the judge does.
+// Whether a stream writes and returns what the judge does.
 pub(super) fn is_streamed_alike(
     alloc: Global,
     encoding: &Encoding,

@@ -96,7 +96,7 @@ base64|most|check||↵|0||||AAAA↵A|4 read, 3 written, invalid length at 5
 base64|most|check|=||76|←↵|||SGVs←↵bG|4 read, 3 written, invalid length at 6
 base64|most|check|=||76|←↵|||A↵===|0 read, 0 written, invalid padding length at 2";
 
-// What `decode` answers.
+// What `decode` returns.
 pub(super) fn decoded(alloc: Global, encoding: &Encoding, text: &[u8]) -> Result<String, Fail>
     requires limit { length text.now ≤ DECODE_LIMIT }
 {
@@ -106,7 +106,7 @@ pub(super) fn decoded(alloc: Global, encoding: &Encoding, text: &[u8]) -> Result
     })
 }
 
-// What `decode_len` answers.
+// What `decode_len` returns.
 fn most(alloc: Global, encoding: &Encoding, len: usize) -> Result<String, Fail>
     requires limit { len ≤ DECODE_LIMIT }
 {
@@ -154,7 +154,7 @@ enum Call {
     DecodeMut,
 }
 
-// What the call answers; of `decode_mut`, where the judge has the same answer.
+// What the call returns; of `decode_mut`, where the judge has the same result.
 fn answer(
     alloc: Global,
     call: Call,
@@ -177,7 +177,7 @@ fn answer(
     }
 }
 
-// Whether the call answers what the row wants.
+// Whether the call returns what the row wants.
 fn answers(alloc: Global, call: Call, line: &str) -> Result<bool, Fail> {
     let row = row_of(alloc, line)?;
     let text = bytes_of(alloc, row.input)?;

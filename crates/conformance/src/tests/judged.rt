@@ -1,11 +1,11 @@
-//! The judge's answers, compared with rows from outside.
+//! The judge's verdicts, compared with rows from outside.
 
 use super::judge::Judge;
 use super::rows::{bytes_of, field_of, row_of};
 use std::alloc::Global;
 use std::test::Fail;
 
-// What the original crate answers, data-encoding 2.11.1, but for what stays single: it has no such
+// What the original crate returns, data-encoding 2.11.1, but for what stays single: it has no such
 // texts, and the rule is that no group follows a padded one.
 const TEXTS: &str = "\
 base64|most|check|=||0||||AAAAAA==|\0\0\0\0

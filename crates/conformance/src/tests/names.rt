@@ -36,7 +36,7 @@ fn callers_take_tokens_of_one_encoding(rt: HostRuntime) -> Result<(), Fail> {
     Ok(())
 }
 
-// What the body is answered: its data, or a line, a column and a kind.
+// What is returned of the body: its data, or a line, a column and a kind.
 fn is_told(
     answer: Result<Vec<u8>, BodyFault>,
     line: usize,

@@ -13,7 +13,7 @@ use data_encoding::{
 use std::alloc::{AllocError, Global};
 use std::test::Fail;
 
-// A name, what is asked, of what, and the answer. Those of nothing come first, and then the vectors
+// A name, what is asked, of what, and the result. Those of nothing come first, and then the vectors
 // of RFC 4648, section 10.
 const ANSWERS: &str = "\
 HEXLOWER|both||
@@ -128,7 +128,7 @@ fn meaning(alloc: Global, encoding: &Encoding, bytes: &[u8]) -> Result<String, A
     }
 }
 
-// What an encoding answers.
+// What an encoding returns.
 fn answer(alloc: Global, encoding: &Encoding, asked: &str, input: &str) -> Result<String, Fail> {
     let input = bytes_of(alloc, input)?;
     if input.len() > DECODE_LIMIT {
@@ -141,7 +141,7 @@ fn answer(alloc: Global, encoding: &Encoding, asked: &str, input: &str) -> Resul
     })
 }
 
-// Whether the encoding answers what the fields of the row say.
+// Whether the encoding returns what the fields of the row say.
 fn does_answer(alloc: Global, encoding: &Encoding, fields: &str) -> Result<bool, Fail> {
     let (asked, fields) = fields.split_once('|').unwrap_or(("", ""));
     let (input, want) = fields.split_once('|').unwrap_or(("", ""));
@@ -151,7 +151,7 @@ fn does_answer(alloc: Global, encoding: &Encoding, fields: &str) -> Result<bool,
     Ok(answer(alloc, encoding, asked, input)?.as_str() == want)
 }
 
-// Whether the answer is that of the row.
+// Whether the result is that of the row.
 fn answers(alloc: Global, line: &str) -> Result<bool, Fail> {
     let (name, fields) = line.split_once('|').unwrap_or(("", ""));
     match named(name) {

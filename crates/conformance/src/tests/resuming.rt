@@ -22,7 +22,7 @@ hex|most|check||-|0||||48-65-6c-6c-|13
 quaternary|least|check|||0||||012301230123|4
 binary|most|check||-|0||||01010011-010|13";
 
-// Whether the rest of a text is answered as the whole, behind so much that was read and written.
+// Whether the rest of a text is judged as the whole, after what was read and written.
 fn is_resumed(
     alloc: Global,
     encoding: &Encoding,

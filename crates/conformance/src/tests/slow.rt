@@ -118,7 +118,7 @@ impl Outcome {
         }
     }
 
-    // That fault was answered, or none; the bytes were written, and flushed once, after the last
+    // That fault was returned, or none; the bytes were written, and flushed once, after the last
     // write.
     pub(super) fn is_whole(&self, fault: Option<StreamFault>, bytes: &[u8]) -> bool {
         self.result.err() == fault
@@ -127,7 +127,7 @@ impl Outcome {
             && self.writer.writes_when_flushed == self.writer.writes
     }
 
-    // The fault was answered, its watch has failed, and a beginning of the bytes was written.
+    // The fault was returned, its watch has failed, and a beginning of the bytes was written.
     pub(super) fn is_fault(&self, fault: StreamFault, bytes: &[u8]) -> bool {
         self.result == Err(fault)
             && self.read_failed == (fault == StreamFault::Read)

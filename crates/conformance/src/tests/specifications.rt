@@ -121,7 +121,7 @@ fn has_sum(alloc: Global, encoding: &Encoding, sum: &str) -> Result<bool, Fail> 
     Ok(encoding.specification(alloc)?.encoding()? == *encoding)
 }
 
-// Whether the row has our answer.
+// Whether the row has our result.
 fn agrees(alloc: Global, line: &str) -> Result<bool, Fail> {
     let row = row_of(alloc, line)?;
     match row.specification.encoding() {

@@ -1,4 +1,4 @@
-//! Encodings that are stored as bytes, and texts that grow behind another text.
+//! Encodings that are stored as bytes, and texts that are appended to another.
 
 use crate::callers::stored::{
     encoded_at_second_try, finalized, is_stored_alike, restored, show_nothing, stands_for_some,
@@ -46,7 +46,7 @@ fn is_finalized(encoding: &Encoding, byte: u8, output: &mut String) -> bool {
     }
 }
 
-// Whether the texts are appended behind the words.
+// Whether the texts are appended to the words.
 fn grows(alloc: Global) -> Result<bool, Fail> {
     let mut output = String::from_str(alloc, "Payload: ")?;
     let is_ok = write_behind(&hexlower(), b"Hello", &mut output).is_ok();

@@ -1,6 +1,6 @@
-//! What the original crate, data-encoding 2.11.1, answers to 200 specifications.
+//! What the original crate, data-encoding 2.11.1, returns for 200 specifications.
 
-// A row has the fields of a specification, and the answer: the text of the refusal, or the length
+// A row has the fields of a specification, and the result: the text of the refusal, or the length
 // of the layout and the sum of its bytes, each times its position from 1, modulo 1000003. A program
 // over the original crate drew the specifications by a generator of pseudo-random numbers and
 // printed these rows.

@@ -182,13 +182,13 @@ fn fails_where_the_writer_does(rt: HostRuntime) -> Result<(), Fail> {
     Ok(())
 }
 
-// The text of the words, behind other words and in a field that is longer.
+// The text of the words, after other words and in a field that is longer.
 fn displayed(alloc: Global, encoding: &Encoding) -> Result<String, AllocError> {
     let shown = encoding.encode_display(b"Hello world");
     format!(in alloc; "Payload: {shown} {shown:*>20}")
 }
 
-// Whether the text is shown behind other words, and in a field that is longer.
+// Whether the text is shown after other words, and in a field that is longer.
 fn displays(alloc: Global) -> Result<bool, Fail> {
     let encoding = case_of(alloc, "base64|most|check|=||0||||")?.encoding;
     Ok(displayed(alloc, &encoding)?.as_str() == "Payload: SGVsbG8gd29ybGQ= SGVsbG8gd29ybGQ=")

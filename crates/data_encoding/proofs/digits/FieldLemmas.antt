@@ -54,13 +54,13 @@ turned : (k a b : ℕ) → a + 2 ^ k * b ≡ b * 2 ^ k + a
 turned k a b = ap (λ n. a + n) (mul_comm (2 ^ k) b) ∙ omega arith
 
 -- the same with the lower part first
-pub and_field : (k a b m n : ℕ) → a < 2 ^ k → m < 2 ^ k
+and_field : (k a b m n : ℕ) → a < 2 ^ k → m < 2 ^ k
     → bit_and (a + 2 ^ k * b) (m + 2 ^ k * n) ≡ bit_and a m + 2 ^ k * bit_and b n
 and_field k a b m n p q =
     (λ j. bit_and (turned k a b j) (turned k m n j)) ∙ and_parts k a b m n p q
     ∙ sym (turned k (bit_and a m) (bit_and b n))
 
-pub or_field : (k a b m n : ℕ) → a < 2 ^ k → m < 2 ^ k
+or_field : (k a b m n : ℕ) → a < 2 ^ k → m < 2 ^ k
     → bit_or (a + 2 ^ k * b) (m + 2 ^ k * n) ≡ bit_or a m + 2 ^ k * bit_or b n
 or_field k a b m n p q =
     (λ j. bit_or (turned k a b j) (turned k m n j)) ∙ or_parts k a b m n p q

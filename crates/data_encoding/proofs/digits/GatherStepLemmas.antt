@@ -10,7 +10,7 @@ use Rattle.data_encoding.specs.Values.{joined}
 use Rattle.data_encoding.specs.Words.{weight}
 use Rattle.data_encoding.proofs.digits.LaneLemmas.{map-same}
 
-pub all-each : {X : Type 0} (P : X → Type 0) (xs : List X) → Each1 P xs → AllByRecursion P xs
+all-each : {X : Type 0} (P : X → Type 0) (xs : List X) → Each1 P xs → AllByRecursion P xs
 all-each P [] h = tt
 all-each P (x ∷ xs) h = (h.0, all-each P xs h.1)
 

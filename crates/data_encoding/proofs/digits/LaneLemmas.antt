@@ -90,7 +90,7 @@ map-same P f g same [] h = refl
 map-same P f g same (v ∷ vs) h = λ i. same v h.0 i ∷ map-same P f g same vs h.1 i
 
 -- what holds of any four lanes
-pub by_four : (P : List ℕ → Type 0) → ((a b c d : ℕ) → P (a ∷ b ∷ c ∷ d ∷ []))
+by_four : (P : List ℕ → Type 0) → ((a b c d : ℕ) → P (a ∷ b ∷ c ∷ d ∷ []))
     → (ws : List ℕ) → length ws ≡ 4 → P ws
 by_four P h [] e = absurd (omega (arith, e))
 by_four P h (a ∷ []) e = absurd (omega (arith, e))

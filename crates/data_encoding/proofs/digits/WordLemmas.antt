@@ -167,7 +167,7 @@ bits_below LeastSignificantFirst front rest = length front
 bits_below MostSignificantFirst front rest = length rest
 
 -- the bits between others, cut out of a word
-pub number-part : (order : BitOrder) (front run rest : List ℕ) → AreBits (front ++ (run ++ rest))
+number-part : (order : BitOrder) (front run rest : List ℕ) → AreBits (front ++ (run ++ rest))
     → number_of order (front ++ (run ++ rest)) / 2 ^ bits_below order front rest % 2 ^ length run
     ≡ number_of order run
 number-part LeastSignificantFirst front run rest h =

@@ -21,7 +21,7 @@ pub(crate) struct GroupFault {
 }
 
 impl Encoding {
-    /// Decodes a group to the front of the output, and answers how many symbols it has. It is the
+    /// Decodes a group to the front of the output, and returns how many symbols it has. It is the
     /// one place where a fault of a group is found.
     #[inline(always)]
     pub(crate) fn decode_group<const WIDTH: usize, const BYTES: usize, const SYMBOLS: usize>(
@@ -63,7 +63,7 @@ impl Encoding {
         Ok(count)
     }
 
-    // How many symbols a group has before its padding, where so many may be.
+    // How many symbols a group has before its padding, where a group may have that many.
     #[inline(always)]
     fn count_symbols<const WIDTH: usize, const BYTES: usize, const SYMBOLS: usize>(
         &self,

@@ -32,7 +32,7 @@ impl Encoding {
         Ok(self.most_bytes(len))
     }
 
-    // Whether a text of so many bytes, none of them ignored, may mean something.
+    // Whether a text of this length, of which no byte is ignored, may mean something.
     fn is_valid_length(&self, len: usize) -> bool
         requires limit { len ≤ DECODE_LIMIT }
         ensures { result ≡ is_valid_length self.now len }

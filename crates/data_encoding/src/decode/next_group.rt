@@ -53,8 +53,8 @@ impl Encoding {
         }
     }
 
-    /// Where a byte stands, by its index among those that are not ignored; the length, where there
-    /// are no more than so many.
+    /// Where a byte stands, by its index among those that are not ignored; the length, where the
+    /// index is not below their number.
     #[inline(never)]
     pub(crate) fn kept_position(&self, part: &[u8], index: usize) -> usize
         ensures found { index < length (kept self.now part.now)

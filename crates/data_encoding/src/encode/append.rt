@@ -1,4 +1,4 @@
-//! Texts behind texts.
+//! Texts that are appended to a string.
 
 ghost use Rattle.std.specs.Prelude.{◌≡◌, ◌+◌, ◌≤◌, ◌++◌, length, IsOk, OnErr, OnOk};
 ghost use Rattle.std.specs.String.{string_bytes, string_capacity, string_len};
@@ -13,7 +13,7 @@ use std::mem;
 impl Encoding {
     /// Appends the text of the data, of at most `ENCODE_LIMIT` bytes, to `output`.
     ///
-    /// The only error is that memory ran out, which is never answered for no data. The bytes and
+    /// The only error is that memory ran out, which is never reported for no data. The bytes and
     /// the capacity of `output` are then what they were.
     pub fn encode_append(&self, input: &[u8], output: &mut String) -> Result<(), AllocError>
         requires limit { length input.now ≤ ENCODE_LIMIT }

@@ -109,7 +109,7 @@ impl<'a> Encoder<'a> {
     /// Takes a fragment, of at most `ENCODE_LIMIT` bytes, and appends the text of the blocks that
     /// are then whole.
     ///
-    /// The only error is that memory ran out, which is never answered where no block is whole: the
+    /// The only error is that memory ran out, which is never reported where no block is whole: the
     /// text, and what is held, are then what they were.
     pub fn append(&mut self, input: &[u8]) -> Result<(), AllocError>
         requires limit { length input.now ≤ ENCODE_LIMIT }
@@ -128,8 +128,8 @@ impl<'a> Encoder<'a> {
     /// Appends the text of what is held, with padding, and with the separator where there are
     /// lines.
     ///
-    /// Where memory ran out, which is never answered where nothing is held, the encoder is handed
-    /// back, and it and the text are what they were.
+    /// Where memory ran out, which is never reported where nothing is held, the encoder is
+    /// returned, and it and the text are what they were.
     pub fn finalize(self) -> Result<(), Encoder<'a>>
         ensures* text { sem 𝓛 (Finalizes self.entry result) }
         ensures unchanged { IfErr result (λ encoder. IsUnchanged self.entry encoder) }

@@ -154,7 +154,7 @@ fn bytes_of_word<const BYTES: usize>(order: BitOrder, word: u64, output: &mut [u
 }
 
 /// Writes the bytes of a group of symbols, or of the fewer that are left, without the bits after
-/// the last whole byte, and answers the bits that any entry has: the highest, and any bytes are
+/// the last whole byte, and returns the bits that any entry has: the highest, and any bytes are
 /// written, where some byte of the input is no symbol.
 #[inline(always)]
 pub(crate) fn decode_entries<const WIDTH: usize, const BYTES: usize, const SYMBOLS: usize>(

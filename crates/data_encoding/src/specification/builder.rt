@@ -28,14 +28,14 @@ pub(crate) struct Parts<'a> {
     pub(crate) to: &'a [u8],
 }
 
-// The number of bits of one of so many symbols, where one has none.
+// The number of bits of a symbol, where there are `count`: a single one has none.
 fn width_of(count: usize) -> Option<usize>
     ensures { result ≡ width_of count }
 {
     SIZES.iter().position(|size| *size == count)
 }
 
-// The number of bits of one of so many symbols, which is not 0.
+// The number of bits of a symbol, where there are `count` symbols: not 0.
 fn bits_of_symbol(count: usize) -> Result<u8, Refusal>
     ensures width { IfOk result (λ width. width_of count ≡ Some width) }
     ensures bits { IfOk result IsWidth }
@@ -49,7 +49,7 @@ fn bits_of_symbol(count: usize) -> Result<u8, Refusal>
     }
 }
 
-// The symbols again and again, until the table is full: what is there is copied behind itself.
+// The symbols again and again, until the table is full: what is there is appended to itself.
 fn repeated(symbols: &[u8], width: u8) -> [u8; 256]
     requires width { IsWidth width }
     requires count { length symbols.now ≡ 2 ^ width }

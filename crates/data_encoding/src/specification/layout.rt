@@ -156,7 +156,7 @@ fn column_of(bytes: &[u8]) -> u8
     bytes[514]
 }
 
-// What stands behind the length of a line.
+// What follows the length of a line.
 fn separator_of(bytes: &[u8]) -> &[u8]
     ensures { result.now ≡ drop 515 bytes.now }
 {
