@@ -25,7 +25,7 @@ use Rattle.data_encoding.proofs.grammar.GroupLemmas.{bytes_in, bytes_of_group-sa
 use Rattle.data_encoding.proofs.grammar.SoundLemmas.{AreSound-append, first-none, sound-all}
 use Rattle.data_encoding.proofs.grammar.MeaningLemmas.{Means-no_fault}
 use Rattle.data_encoding.proofs.decoding.ProgressLemmas.{IsNext, sound_bytes-front}
-use Rattle.data_encoding.proofs.decoding.StopLemmas.{bounds, fault_is, kind-group, kind-next, kind_of, pos, rest_is, sound_len_is, whole}
+use Rattle.data_encoding.proofs.decoding.StopLemmas.{IsAtFault, bounds, fault_is, kind-group, kind-next, kind_of, pos, rest_is, sound_len_is, whole}
 use Rattle.data_encoding.proofs.decoding.GreatestLengthLemmas.{greatest-least, greatest-less, greatest-more, greatest-same, greatest-valid}
 use Rattle.data_encoding.proofs.decoding.IgnoringLemmas.{group-kept}
 use Rattle.data_encoding.proofs.decoding.CutLemmas.{kept-cut}
@@ -111,11 +111,8 @@ module _ (base : Base) (width : IsWidth base.width) (group : List Positioned)
     by true is = short-padded is (nat_lt (length group) dec) refl
     by false is = short-plain is (is_valid_count base.width (length group)) refl
 
-module _ (base : Base) (width : IsWidth base.width) (text : List ℕ) (read written : ℕ)
-    (ended : Bool) (output : List ℕ) (so_far : HasDecodedTo base text read written ended output)
-    (no_length_fault : length_fault base (length text) ≡ None) (stop : ℕ) (group : List Positioned)
-    (error : DecodeError) (next : IsNext base text read stop group)
-    (faulty : fault_after ended base group ≡ Some error)
+module _ (base : Base) (text : List ℕ) (read written : ℕ) (output : List ℕ) (error : DecodeError)
+    (at : IsAtFault base text read written output error)
     (kind : is_length_fault error.kind ≡ true) where
   abbrev size : ℕ
   size = group_symbols base.width
@@ -127,49 +124,47 @@ module _ (base : Base) (width : IsWidth base.width) (text : List ℕ) (read writ
   front = last_run base read text
 
   index : ℕ
-  index = greatest_valid_length base (length group)
+  index = greatest_valid_length base (length at.group)
 
-  not_ended : (ended ≡ false) × (group_fault base group ≡ Some error)
-  not_ended = by ended refl faulty where
-    by : (b : Bool) → ended ≡ b → fault_after b base group ≡ Some error
-        → (ended ≡ false) × (group_fault base group ≡ Some error)
+  not_ended : (at.ended ≡ false) × (group_fault base at.group ≡ Some error)
+  not_ended = by at.ended refl at.faulty where
+    by : (b : Bool) → at.ended ≡ b → fault_after b base at.group ≡ Some error
+        → (at.ended ≡ false) × (group_fault base at.group ≡ Some error)
     by true is h =
-        let other = kind_of (record { position = position_of group 0; kind = PaddingFault }) error
+        let other = kind_of (record { position = position_of at.group 0; kind = PaddingFault }) error
         h refl in
         absurd (false≢true (sym other ∙ kind))
     by false is h = (is, h)
 
-  short : IsShort base group error
+  short : IsShort base at.group error
   short =
-      short-group base width group next.is_part.some next.few error not_ended.1 kind
+      short-group base at.width at.group at.next.is_part.some at.next.few error not_ended.1 kind
 
   -- it is the last one: all that is left
-  group_is : kept_from base read text ≡ group
+  group_is : kept_from base read text ≡ at.group
   group_is =
-      let last : kept_from base stop text ≡ [] =
-      ⊎_elim {C = kept_from base stop text ≡ []}
-      (λ full. absurd (omega (arith, full, short.few))) (λ none. none) next.last in
-      rest_is base width text read written ended output so_far no_length_fault stop group error next
-      faulty
-      ∙ ap (λ l. group ++ l) last ∙ append-nil group
+      let last : kept_from base at.stop text ≡ [] =
+      ⊎_elim {C = kept_from base at.stop text ≡ []}
+      (λ full. absurd (omega (arith, full, short.few))) (λ none. none) at.next.last in
+      rest_is base text read written output error at
+      ∙ ap (λ l. at.group ++ l) last ∙ append-nil at.group
 
-  inside : (read ≤ error.position) × (error.position < stop)
+  inside : (read ≤ error.position) × (error.position < at.stop)
   inside =
-      bounds base width text read written ended output so_far no_length_fault stop group error next
-      faulty
+      bounds base text read written output error at
 
   -- before its fault stand that many of its bytes
   kept_before : kept base (take error.position text)
-      ≡ kept base (take read text) ++ take index group
+      ≡ kept base (take read text) ++ take index at.group
   unfolding index
   kept_before =
-      kept-cut base read text so_far.within index error.position inside.0
-      (omega (arith, inside.1, next.is_part.within))
+      kept-cut base read text at.so_far.within index error.position inside.0
+      (omega (arith, inside.1, at.next.is_part.within))
       (subst (λ g. index < length g) (sym group_is) short.inside)
       (subst (λ g. error.position ≡ position_of g index) (sym group_is) short.position_is)
       ∙ ap (λ g. kept base (take read text) ++ take index g) group_is
 
-  few_kept : length group ≤ length (drop read text)
+  few_kept : length at.group ≤ length (drop read text)
   few_kept =
       omega (
         arith,
@@ -181,18 +176,17 @@ module _ (base : Base) (width : IsWidth base.width) (text : List ℕ) (read writ
 
   index_most : index ≤ len
   unfolding index
-  index_most = greatest-more base width (length group) (length (drop read text)) few_kept
+  index_most = greatest-more base at.width (length at.group) (length (drop read text)) few_kept
 
   no_length : (part : List ℕ) → length_fault base (length part) ≡ None
   no_length part =
       length_fault-none base (length part)
-      (λ none. absurd (false≢true (sym (kind-next base width text read written ended output so_far
-      no_length_fault stop group error next faulty none) ∙ kind)))
+      (λ none. absurd (false≢true (sym (kind-next base text read written output error at none) ∙ kind)))
 
   -- bytes without a fault at the front of what is left are bytes of the group
   run_kept : (count : ℕ) → count ≤ length (drop read text) → count ≤ size
       → group_fault base (positioned (take count (drop read text))) ≡ None
-      → group ≡ positioned_from read (take count (drop read text))
+      → at.group ≡ positioned_from read (take count (drop read text))
       ++ kept_from base (read + count) text
   run_kept count many few sound =
       let run = take count (drop read text) in
@@ -204,11 +198,11 @@ module _ (base : Base) (width : IsWidth base.width) (text : List ℕ) (read writ
       let all : kept_in base read run ≡ positioned_from read run =
       filter-all (λ (k : Positioned). not (is_ignored (meaning base k.byte)))
       (positioned_from read run)
-      (group-kept base width (positioned_from read run) (omega (arith, run_len, few)) here) in
+      (group-kept base at.width (positioned_from read run) (omega (arith, run_len, few)) here) in
       let same : read + count - read ≡ count = omega arith in
       sym group_is
-      ∙ kept_from-more base read text so_far.within (read + count) (omega arith)
-      (omega (arith, length-drop read text, many, so_far.within))
+      ∙ kept_from-more base read text at.so_far.within (read + count) (omega arith)
+      (omega (arith, length-drop read text, many, at.so_far.within))
       ∙ ap (λ n. kept_in base read (take n (drop read text)) ++ kept_from base (read + count) text)
       same
       ∙ ap (λ l. l ++ kept_from base (read + count) text) all
@@ -216,7 +210,7 @@ module _ (base : Base) (width : IsWidth base.width) (text : List ℕ) (read writ
   -- and so no more than it has
   run_few : (count : ℕ) → count ≤ length (drop read text) → count ≤ size
       → group_fault base (positioned (take count (drop read text))) ≡ None
-      → count ≤ length group
+      → count ≤ length at.group
   run_few count many few sound =
       let run = take count (drop read text) in
       omega (
@@ -231,8 +225,7 @@ module _ (base : Base) (width : IsWidth base.width) (text : List ℕ) (read writ
       → read_len base text error ≡ cond sound error.position read
   read_by sound is =
       let read_is : sound_len base text ≡ read =
-      sound_len_is base width text read written ended output so_far no_length_fault stop group error
-      next faulty in
+      sound_len_is base text read written output error at in
       (λ i. cond (kind i && is_sound_run base (drop (read_is i) text)) error.position (read_is i))
       ∙ ap (λ b. cond b error.position read) is
 
@@ -246,8 +239,7 @@ module _ (base : Base) (width : IsWidth base.width) (text : List ℕ) (read writ
       record {
         is_partial =
             ap (partial_by base text)
-            (fault_is base width text read written ended output so_far no_length_fault stop group
-            error next faulty)
+            (fault_is base text read written output error at)
             ∙ ap (λ k. Some (record {
               read = k;
               written = length (sound_bytes base (take k text));
@@ -255,9 +247,9 @@ module _ (base : Base) (width : IsWidth base.width) (text : List ℕ) (read writ
             })) read_is
             ∙ ap (λ k. Some (record { read = end; written = k; error = error })) written_is;
         means = subst (Means base (take end text)) bytes
-            (Means-no_fault base width (take end text) sound);
+            (Means-no_fault base at.width (take end text) sound);
         read_before = before;
-        within = omega (arith, inside.1, next.is_part.within);
+        within = omega (arith, inside.1, at.next.is_part.within);
       }
 
   -- no group but those that were read before
@@ -265,13 +257,13 @@ module _ (base : Base) (width : IsWidth base.width) (text : List ℕ) (read writ
       → fault_of base (take end text) ≡ None
   front_sound end same =
       (λ i. or_else (no_length (take end text) i) (first_after false base (same i)))
-      ∙ first-none base false ended (groups base (take read text)) so_far.sound
+      ∙ first-none base false at.ended (groups base (take read text)) at.so_far.sound
 
   front_bytes : (end : ℕ) → groups base (take end text) ≡ groups base (take read text)
       → sound_bytes base (take end text) ≡ take written output
   front_bytes end same =
       ap (λ gs. flat_map (bytes_of_group base) (sound_after false base gs)) same
-      ∙ sound_bytes-front base width text read written ended output so_far
+      ∙ sound_bytes-front base at.width text read written at.ended output at.so_far
 
   -- where no run is left before the fault, all up to it is read
   pub last-none : len ≡ 0 → (new : List ℕ) → written ≤ length new
@@ -282,10 +274,10 @@ module _ (base : Base) (width : IsWidth base.width) (text : List ℕ) (read writ
       let first : index ≡ 0 = omega (arith, index_most, none) in
       let front_same : groups base (take error.position text) ≡ groups base (take read text) =
       ap (runs size) (kept_before
-      ∙ ap (λ n. kept base (take read text) ++ take n group) first
+      ∙ ap (λ n. kept base (take read text) ++ take n at.group) first
       ∙ append-nil (kept base (take read text))) in
       stops new error.position written
-      (read_by true (sound_run-none base width (drop read text) none)) (omega arith)
+      (read_by true (sound_run-none base at.width (drop read text) none)) (omega arith)
       (front_sound error.position front_same) fits
       (front_bytes error.position front_same ∙ sym same)
 
@@ -299,24 +291,24 @@ module _ (base : Base) (width : IsWidth base.width) (text : List ℕ) (read writ
     unfolding run
     run_len =
         length-positioned_from read front
-        ∙ length-take-le len (drop read text) (greatest-least base width (length (drop read text)))
+        ∙ length-take-le len (drop read text) (greatest-least base at.width (length (drop read text)))
 
     bytes_same : bytes_in run ≡ bytes_in (positioned front)
     unfolding run
     bytes_same = bytes-positioned_from read front ∙ sym (bytes-positioned_from 0 front)
 
     -- they are those before the fault
-    run_is : take index group ≡ run
+    run_is : take index at.group ≡ run
     unfolding run index
     run_is =
         let most : len ≤ length (drop read text) =
-        greatest-least base width (length (drop read text)) in
+        greatest-least base at.width (length (drop read text)) in
         let same_len : greatest_valid_length base len ≡ len =
-        greatest-same base width len (greatest-valid base width (length (drop read text))) in
+        greatest-same base at.width len (greatest-valid base at.width (length (drop read text))) in
         let least : greatest_valid_length base len ≤ index =
-        greatest-more base width len (length group) (run_few len most few sound) in
+        greatest-more base at.width len (length at.group) (run_few len most few sound) in
         let here : index ≡ len = omega (arith, same_len, least, index_most) in
-        ap (λ n. take n group) here ∙ ap (take len) (run_kept len most few sound)
+        ap (λ n. take n at.group) here ∙ ap (take len) (run_kept len most few sound)
         ∙ take_at run (kept_from base (read + len) text) len run_len
 
     groups_more : groups base (take error.position text)
@@ -324,18 +316,16 @@ module _ (base : Base) (width : IsWidth base.width) (text : List ℕ) (read writ
     groups_more =
         ap (runs size) (kept_before ∙ ap (λ l. kept base (take read text) ++ l) run_is)
         ∙ runs-join size (kept base (take read text)) run
-        (pos base width text read written ended output so_far no_length_fault stop group error next
-        faulty)
-        (whole base width text read written ended output so_far no_length_fault stop group error
-        next faulty)
+        (pos base text read written output error at)
+        (whole base text read written output error at)
         ∙ ap (λ l. groups base (take read text) ++ l)
         (runs-short size run (omega (arith, run_len, some)) (omega (arith, run_len, few)))
 
     all_sound : AreSound base false (groups base (take read text) ++ run ∷ [])
         (is_final base run)
     all_sound =
-        AreSound-append base false ended (is_final base run) (groups base (take read text))
-        (run ∷ []) so_far.sound (
+        AreSound-append base false at.ended (is_final base run) (groups base (take read text))
+        (run ∷ []) at.so_far.sound (
           ap (λ b. fault_after b base run) not_ended.0
               ∙ group_fault-none_same base run (positioned front) bytes_same sound,
           refl,
@@ -348,7 +338,7 @@ module _ (base : Base) (width : IsWidth base.width) (text : List ℕ) (read writ
         (record { read = error.position; written = written + count; error = error })
     last-sound count new fits writes =
         stops new error.position (written + count)
-        (read_by true (sound_run-group base width (drop read text) some few sound)) (omega arith)
+        (read_by true (sound_run-group base at.width (drop read text) some few sound)) (omega arith)
         ((λ i. or_else (no_length (take error.position text) i)
         (first_after false base (groups_more i)))
         ∙ first-none base false (is_final base run) (groups base (take read text) ++ run ∷ [])
@@ -359,7 +349,7 @@ module _ (base : Base) (width : IsWidth base.width) (text : List ℕ) (read writ
         (sound-all base false (is_final base run) (groups base (take read text) ++ run ∷ [])
         all_sound)
         ∙ flat_map-append (bytes_of_group base) (groups base (take read text)) (run ∷ [])
-        ∙ (λ i. sym so_far.writes i
+        ∙ (λ i. sym at.so_far.writes i
         ++ (append-nil (bytes_of_group base run)
         ∙ bytes_of_group-same base run (positioned front) bytes_same) i)
         ∙ sym writes)
@@ -381,9 +371,9 @@ module _ (base : Base) (width : IsWidth base.width) (text : List ℕ) (read writ
         by true is =
             let first : group_fault base (positioned (take size front)) ≡ None =
             ap (group_fault base) (sym (take-positioned_from 0 size front))
-            ∙ sound_run-first base width (drop read text) some is in
+            ∙ sound_run-first base at.width (drop read text) some is in
             let most : len ≤ length (drop read text) =
-            greatest-least base width (length (drop read text)) in
+            greatest-least base at.width (length (drop read text)) in
             ⊎_elim {C = is_sound_run base (drop read text) ≡ false}
             (λ (long : size < len).
             let whole : group_fault base (positioned (take size (drop read text))) ≡ None =

@@ -14,7 +14,7 @@ use Rattle.data_encoding.proofs.grammar.MeaningLemmas.{sound_bytes-Means}
 use Rattle.data_encoding.proofs.decoding.GatherLemmas.{HasGathered, gather-ignored, gather-kept, gathered, gathered-few, is-next, next_bytes, none-next, nothing-gathered}
 use Rattle.data_encoding.proofs.decoding.LastRunLemmas.{last-none, last-sound, last-unsound}
 use Rattle.data_encoding.proofs.decoding.ProgressLemmas.{IsNext, after-group, at-end, begin, written_len}
-use Rattle.data_encoding.proofs.decoding.StopLemmas.{at-fault, fault-partial}
+use Rattle.data_encoding.proofs.decoding.StopLemmas.{IsAtFault, at-fault, fault-partial}
 
 -- the next kept bytes of a part, so many or all
 record Gathers (base : Base) (size : ℕ) (part : List ℕ) : Type 0 where
@@ -130,13 +130,25 @@ module _ (base : Base) (width : IsWidth base.width) (text : List ℕ)
         → IsNext base text read stop group → fault_after ended base group ≡ Some error
         → Stops base text
     at_group stop group error next faulty = by (is_length_fault error.kind) refl where
+      here : IsAtFault base text read written output error
+      here = record {
+        width = width;
+        ended = ended;
+        so_far = so_far;
+        no_length_fault = no_length_fault;
+        stop = stop;
+        group = group;
+        next = next;
+        faulty = faulty;
+      }
+
       unsound : is_length_fault error.kind ≡ true → 0 < len
           → (len ≤ size → is_some (group_fault base (positioned front)) ≡ true) → Stops base text
       unsound kind some bad = record {
         output = output;
         partial = record { read = read; written = written; error = error };
-        is = last-unsound base width text read written ended output so_far no_length_fault stop
-            group error next faulty kind some bad output so_far.fits refl;
+        is = last-unsound base text read written output error here kind some bad output
+            so_far.fits refl;
       }
 
       run : is_length_fault error.kind ≡ true → 0 < len → len ≤ size → (o : Option DecodeError)
@@ -151,8 +163,7 @@ module _ (base : Base) (width : IsWidth base.width) (text : List ℕ)
               written = written + length bytes;
               error = error;
             };
-            is = last-sound base width text read written ended output so_far no_length_fault stop
-                group error next faulty kind some few is (length bytes)
+            is = last-sound base text read written output error here kind some few is (length bytes)
                 (take written output ++ bytes)
                 (behind_fits read written ended output so_far bytes)
                 (behind_all read written ended output so_far bytes);
@@ -162,8 +173,7 @@ module _ (base : Base) (width : IsWidth base.width) (text : List ℕ)
       by false kind = record {
         output = output;
         partial = record { read = read; written = written; error = error };
-        is = at-fault base width text read written ended output so_far no_length_fault stop group
-            error next faulty kind;
+        is = at-fault base text read written output error here kind;
       }
       by true kind =
           ⊎_elim {C = Stops base text}
@@ -175,8 +185,8 @@ module _ (base : Base) (width : IsWidth base.width) (text : List ℕ)
           (λ (none : len ≤ 0). record {
             output = output;
             partial = record { read = error.position; written = written; error = error };
-            is = last-none base width text read written ended output so_far no_length_fault stop
-                group error next faulty kind (omega (arith, none)) output so_far.fits refl;
+            is = last-none base text read written output error here kind (omega (arith, none)) output
+                so_far.fits refl;
           })
           (cases_lt 0 len)
 

@@ -27,7 +27,7 @@ use Rattle.data_encoding.proofs.decoding.GreatestLengthLemmas.{greatest-least, g
 use Rattle.data_encoding.proofs.decoding.LastRunLemmas.{last-none, last-sound, last-unsound}
 use Rattle.data_encoding.proofs.decoding.RoomLemmas.{multiples}
 use Rattle.data_encoding.proofs.decoding.ProgressLemmas.{IsNext, after-group, after-run, room-group, room-run, same-output}
-use Rattle.data_encoding.proofs.decoding.StopLemmas.{at-fault}
+use Rattle.data_encoding.proofs.decoding.StopLemmas.{IsAtFault, at-fault}
 use Rattle.data_encoding.proofs.decoding.LoopLemmas.{IsUnderWay, decoded}
 
 -- a text has no more bytes than it is long
@@ -296,6 +296,21 @@ module _ {base : Base} {text : List ℕ} {w bytes symbols read written : ℕ} {o
             (position-next base s.width text read s.so_far.within group span found_here fault.index
             has.inside)
 
+        -- before the group, where that is faulty
+        stands : (new : List ℕ) → HasDecodedTo base text read written false new
+            → (error : DecodeError) → group_fault base placed ≡ Some error
+            → IsAtFault base text read written new error
+        stands new so_far error faulty = record {
+          width = s.width;
+          ended = false;
+          so_far = so_far;
+          no_length_fault = s.no_fault;
+          stop = read + span;
+          group = placed;
+          next = next;
+          faulty = faulty;
+        }
+
         -- where no last run is found
         stops-here : (fault : GroupFault) (new : List ℕ) → written ≤ length new
             → take written new ≡ take written output → (error : DecodeError)
@@ -308,14 +323,15 @@ module _ {base : Base} {text : List ℕ} {w bytes symbols read written : ℕ} {o
                   → StopsAt base text new
                   (record { read = read; written = written; error = error })
               by false is =
-                  at-fault base s.width text read written false new
+                  at-fault base text read written new error
+                  (stands new
                   (same-output base s.width text read written false output new s.so_far fits same)
-                  s.no_fault (read + span) placed error next faulty is
+                  error faulty) is
               by true is =
                   let len = length-front base s.width (drop read text) in
                   let no_run = none (ap is_length_fault kind ∙ is) in
-                  last-unsound base s.width text read written false output s.so_far s.no_fault
-                  (read + span) placed error next faulty is (omega (arith, len, no_run.0))
+                  last-unsound base text read written output error
+                  (stands output s.so_far error faulty) is (omega (arith, len, no_run.0))
                   (λ few. no_run.1 (omega (arith, len, few))) new fits same
 
         -- and where one is
@@ -334,16 +350,16 @@ module _ {base : Base} {text : List ℕ} {w bytes symbols read written : ℕ} {o
             let none : written ≡ written + more = omega (arith, empty.1) in
             subst (λ n. StopsAt base text new
             (record { read = error.position; written = n; error = error })) none
-            (last-none base s.width text read written false output s.so_far s.no_fault
-            (read + span) placed error next faulty kind (sym len ∙ empty.0) new
+            (last-none base text read written output error
+            (stands output s.so_far error faulty) kind (sym len ∙ empty.0) new
             (omega (arith, fits)) same))
             (λ run.
             let count = base.width * run.2 / 8 in
             let bytes : written + more ≡ written + count = ap (λ n. written + n) run.4 in
             subst (λ n. StopsAt base text new
             (record { read = error.position; written = n; error = error })) (sym bytes)
-            (last-sound base s.width text read written false output s.so_far s.no_fault
-            (read + span) placed error next faulty kind
+            (last-sound base text read written output error
+            (stands output s.so_far error faulty) kind
             (omega (arith, len, run.0)) (omega (arith, len, run.1))
             run.3.sound count new (omega (arith, fits, bytes))
             (take-add written count new ∙ (λ i. same i ++ run.3.bytes i))))
@@ -492,11 +508,17 @@ module _ {base : Base} {text : List ℕ} {w bytes symbols read written : ℕ} {o
   final-stops : StopsAt base text output
       (record { read = read; written = written; error = fault_there })
   final-stops =
-      at-fault base s.width text read written true output s.so_far s.no_fault (read + left.1)
-      (next_bytes base text read left.1) fault_there
-      (is-next base s.width text read s.so_far.within left.0 left.1 other left.2)
-      (ap (λ n. Some (record { position = n; kind = PaddingFault }))
-      (position-next base s.width text read s.so_far.within left.0 left.1 other 0 left.2)) refl
+      at-fault base text read written output fault_there (record {
+        width = s.width;
+        ended = true;
+        so_far = s.so_far;
+        no_length_fault = s.no_fault;
+        stop = read + left.1;
+        group = next_bytes base text read left.1;
+        next = is-next base s.width text read s.so_far.within left.0 left.1 other left.2;
+        faulty = ap (λ n. Some (record { position = n; kind = PaddingFault }))
+            (position-next base s.width text read s.so_far.within left.0 left.1 other 0 left.2);
+      }) refl
 
   pub final-stopped : HasStopped base text output
       (record { read = read; written = written; index = 0; kind = PaddingFault })

@@ -103,96 +103,105 @@ kind-group base group error false is valid h =
     (plain_fault base group)) is)
     ∙ h)
 
-module _ (base : Base) (width : IsWidth base.width) (text : List ℕ) (read written : ℕ)
-    (ended : Bool) (output : List ℕ) (so_far : HasDecodedTo base text read written ended output)
-    (no_length_fault : length_fault base (length text) ≡ None) (stop : ℕ) (group : List Positioned)
-    (error : DecodeError) (next : IsNext base text read stop group)
-    (faulty : fault_after ended base group ≡ Some error) where
+-- So much of a text was decoded, and the next group is faulty.
+pub record IsAtFault (base : Base) (text : List ℕ) (read written : ℕ) (output : List ℕ)
+    (error : DecodeError) : Type 0 where
+  pub width : IsWidth base.width
+  pub ended : Bool
+  pub so_far : HasDecodedTo base text read written ended output
+  pub no_length_fault : length_fault base (length text) ≡ None
+  pub stop : ℕ
+  pub group : List Positioned
+  pub next : IsNext base text read stop group
+  pub faulty : fault_after ended base group ≡ Some error
+
+module _ (base : Base) (text : List ℕ) (read written : ℕ) (output : List ℕ) (error : DecodeError)
+    (at : IsAtFault base text read written output error) where
   abbrev dec : ℕ
   dec = group_symbols base.width
 
   pub pos : 0 < dec
-  pos = group_symbols-pos base.width width
+  pos = group_symbols-pos base.width at.width
 
   pub whole : length (kept base (take read text)) % dec ≡ 0
-  whole = whole-before base width text read written ended output stop group so_far next.is_part
+  whole = whole-before base at.width text read written at.ended output at.stop at.group at.so_far at.next.is_part
 
-  pub rest_is : kept_from base read text ≡ group ++ kept_from base stop text
+  pub rest_is : kept_from base read text ≡ at.group ++ kept_from base at.stop text
   rest_is =
-      kept_from-more base read text so_far.within stop next.is_part.after next.is_part.within
-      ∙ ap (λ l. l ++ kept_from base stop text) (sym next.is_part.is_kept)
+      kept_from-more base read text at.so_far.within at.stop at.next.is_part.after at.next.is_part.within
+      ∙ ap (λ l. l ++ kept_from base at.stop text) (sym at.next.is_part.is_kept)
 
   others : List (List Positioned)
-  others = runs dec (kept_from base stop text)
+  others = runs dec (kept_from base at.stop text)
 
-  groups_left : runs dec (group ++ kept_from base stop text) ≡ group ∷ others
+  groups_left : runs dec (at.group ++ kept_from base at.stop text) ≡ at.group ∷ others
   unfolding others
   groups_left =
-      ⊎_elim {C = runs dec (group ++ kept_from base stop text) ≡ group ∷ others}
-      (λ len. runs-append dec group (kept_from base stop text) pos len)
+      ⊎_elim {C = runs dec (at.group ++ kept_from base at.stop text) ≡ at.group ∷ others}
+      (λ len. runs-append dec at.group (kept_from base at.stop text) pos len)
       (λ none.
-      ap (λ l. runs dec (group ++ l)) none ∙ ap (runs dec) (append-nil group)
-      ∙ runs-short dec group next.is_part.some next.few
-      ∙ ap (λ gs. group ∷ gs) (sym (runs-nil {X = Positioned} dec pos) ∙ ap (runs dec) (sym none)))
-      next.last
+      ap (λ l. runs dec (at.group ++ l)) none ∙ ap (runs dec) (append-nil at.group)
+      ∙ runs-short dec at.group at.next.is_part.some at.next.few
+      ∙ ap (λ gs. at.group ∷ gs) (sym (runs-nil {X = Positioned} dec pos) ∙ ap (runs dec) (sym none)))
+      at.next.last
 
-  groups_are : groups base text ≡ groups base (take read text) ++ group ∷ others
+  groups_are : groups base text ≡ groups base (take read text) ++ at.group ∷ others
   groups_are =
-      ap (runs dec) (kept-split base read text so_far.within
+      ap (runs dec) (kept-split base read text at.so_far.within
       ∙ ap (λ l. kept base (take read text) ++ l) rest_is)
-      ∙ runs-join dec (kept base (take read text)) (group ++ kept_from base stop text) pos whole
+      ∙ runs-join dec (kept base (take read text)) (at.group ++ kept_from base at.stop text) pos whole
       ∙ ap (λ l. groups base (take read text) ++ l) groups_left
 
   pub fault_is : fault_of base text ≡ Some error
   fault_is =
-      (λ i. or_else (no_length_fault i) (first_after false base (groups_are i)))
-      ∙ first-AreSound base false ended (groups base (take read text)) (group ∷ others) so_far.sound
-      ∙ ap (λ o. or_else o (first_after (is_final base group) base others)) faulty
+      (λ i. or_else (at.no_length_fault i) (first_after false base (groups_are i)))
+      ∙ first-AreSound base false at.ended (groups base (take read text)) (at.group ∷ others) at.so_far.sound
+      ∙ ap (λ o. or_else o (first_after (is_final base at.group) base others)) at.faulty
 
   sound_are : sound_groups base (groups base text) ≡ groups base (take read text)
   sound_are =
       ap (sound_after false base) groups_are
-      ∙ sound-AreSound base false ended (groups base (take read text)) (group ∷ others) so_far.sound
+      ∙ sound-AreSound base false at.ended (groups base (take read text)) (at.group ∷ others) at.so_far.sound
       ∙ ap (λ o. groups base (take read text) ++ cond (is_some o) []
-      (group ∷ sound_after (is_final base group) base others)) faulty
+      (at.group ∷ sound_after (is_final base at.group) base others)) at.faulty
       ∙ append-nil (groups base (take read text))
 
   pub sound_len_is : sound_len base text ≡ read
   sound_len_is =
       ap (λ gs. position_after (flat_map (λ g. g) gs)) sound_are
-      ∙ ap position_after (flat_map-runs dec (kept base (take read text)) pos) ∙ so_far.ends
+      ∙ ap position_after (flat_map-runs dec (kept base (take read text)) pos) ∙ at.so_far.ends
 
   front_sound : fault_of base (take read text) ≡ None
   front_sound =
       let valid : length_fault base (length (take read text)) ≡ None =
       length_fault-none base (length (take read text))
-      (λ none. whole-length base width (length (take read text))
+      (λ none. whole-length base at.width (length (take read text))
       (ap (λ n. n % dec) (sym (length-kept_plain base (take read text) none)) ∙ whole)) in
       ap (λ o. or_else o (first_after false base (groups base (take read text)))) valid
-      ∙ first-none base false ended (groups base (take read text)) so_far.sound
+      ∙ first-none base false at.ended (groups base (take read text)) at.so_far.sound
 
-  fault_inside : (index : ℕ) × (index < length group) × (error.position ≡ position_of group index)
-  fault_inside = by ended faulty where
-    by : (b : Bool) → fault_after b base group ≡ Some error
-        → (index : ℕ) × (index < length group) × (error.position ≡ position_of group index)
+  fault_inside : (index : ℕ) × (index < length at.group) × (error.position ≡ position_of at.group index)
+  fault_inside = by at.ended at.faulty where
+    by : (b : Bool) → fault_after b base at.group ≡ Some error
+        → (index : ℕ) × (index < length at.group) × (error.position ≡ position_of at.group index)
     by true h =
-        let first : DecodeError = record { position = position_of group 0; kind = PaddingFault } in
+        let first : DecodeError = record { position = position_of at.group 0; kind = PaddingFault } in
         let same : first ≡ error = cc in
-        (0, next.is_part.some, sym (ap (λ (x : DecodeError). x.position) same))
+        (0, at.next.is_part.some, sym (ap (λ (x : DecodeError). x.position) same))
     by false h =
-        group_fault-inside base width group next.is_part.some next.few error h
+        group_fault-inside base at.width at.group at.next.is_part.some at.next.few error h
 
-  pub bounds : (read ≤ error.position) × (error.position < stop)
+  pub bounds : (read ≤ error.position) × (error.position < at.stop)
   bounds =
-      let part = between read stop text in
-      let part_len = length-between base read text so_far.within stop next.is_part.after
-      next.is_part.within in
+      let part = between read at.stop text in
+      let part_len = length-between base read text at.so_far.within at.stop at.next.is_part.after
+      at.next.is_part.within in
       let stands = subst (λ g. fault_inside.0 < length g
-      → (read ≤ position_of g fault_inside.0) × (position_of g fault_inside.0 < stop))
-      (sym next.is_part.is_kept)
-      (kept_in-stands base read stop part fault_inside.0
-      (omega (arith, part_len, next.is_part.after))) fault_inside.1 in
-      subst (λ n. (read ≤ n) × (n < stop)) (sym fault_inside.2) stands
+      → (read ≤ position_of g fault_inside.0) × (position_of g fault_inside.0 < at.stop))
+      (sym at.next.is_part.is_kept)
+      (kept_in-stands base read at.stop part fault_inside.0
+      (omega (arith, part_len, at.next.is_part.after))) fault_inside.1 in
+      subst (λ n. (read ≤ n) × (n < at.stop)) (sym fault_inside.2) stands
 
   -- at a faulty group, the text has its fault
   pub at-fault : is_length_fault error.kind ≡ false
@@ -203,9 +212,9 @@ module _ (base : Base) (width : IsWidth base.width) (text : List ℕ) (read writ
       (sound_len base text)) kind
       ∙ sound_len_is in
       let bytes : sound_bytes base (take read text) ≡ take written output =
-      sound_bytes-front base width text read written ended output so_far in
+      sound_bytes-front base at.width text read written at.ended output at.so_far in
       let written_is : length (sound_bytes base (take read text)) ≡ written =
-      ap length bytes ∙ written_len base width text read written ended output so_far in
+      ap length bytes ∙ written_len base at.width text read written at.ended output at.so_far in
       record {
         is_partial =
             ap (partial_by base text) fault_is
@@ -216,9 +225,9 @@ module _ (base : Base) (width : IsWidth base.width) (text : List ℕ) (read writ
             })) read_is
             ∙ ap (λ k. Some (record { read = read; written = k; error = error })) written_is;
         means = subst (Means base (take read text)) bytes
-            (Means-no_fault base width (take read text) front_sound);
+            (Means-no_fault base at.width (take read text) front_sound);
         read_before = bounds.0;
-        within = omega (arith, bounds.1, next.is_part.within);
+        within = omega (arith, bounds.1, at.next.is_part.within);
       }
 
   module _ (none : ignores_some base ≡ false) where
@@ -226,73 +235,73 @@ module _ (base : Base) (width : IsWidth base.width) (text : List ℕ) (read writ
     read_whole =
         ap (λ n. n % dec)
         (sym (length-kept_plain base (take read text) none
-        ∙ length-take-le read text so_far.within))
+        ∙ length-take-le read text at.so_far.within))
         ∙ whole
 
-    group_len : length group ≡ stop - read
+    group_len : length at.group ≡ at.stop - read
     group_len =
-        ap length next.is_part.is_kept
-        ∙ ap length (filter-plain base none (positioned_from read (between read stop text)))
-        ∙ length-positioned_from read (between read stop text)
-        ∙ length-between base read text so_far.within stop next.is_part.after next.is_part.within
+        ap length at.next.is_part.is_kept
+        ∙ ap length (filter-plain base none (positioned_from read (between read at.stop text)))
+        ∙ length-positioned_from read (between read at.stop text)
+        ∙ length-between base read text at.so_far.within at.stop at.next.is_part.after at.next.is_part.within
 
-    last_stop : kept_from base stop text ≡ [] → read + length group ≡ length text
+    last_stop : kept_from base at.stop text ≡ [] → read + length at.group ≡ length text
     last_stop empty =
-        let left : length (drop stop text) ≡ 0 =
-        sym (length-positioned_from stop (drop stop text))
+        let left : length (drop at.stop text) ≡ 0 =
+        sym (length-positioned_from at.stop (drop at.stop text))
         ∙ ap length
-        (sym (filter-plain base none (positioned_from stop (drop stop text))) ∙ empty) in
+        (sym (filter-plain base none (positioned_from at.stop (drop at.stop text))) ∙ empty) in
         omega (
           arith,
-          length-drop stop text,
+          length-drop at.stop text,
           left,
           group_len,
-          next.is_part.after,
-          next.is_part.within,
+          at.next.is_part.after,
+          at.next.is_part.within,
         )
 
     -- where nothing is ignored, that is no fault of a length
     pub kind-next : is_length_fault error.kind ≡ false
-    kind-next = by ended faulty where
+    kind-next = by at.ended at.faulty where
       whole_or_valid : (b : Bool) → is_padded base ≡ b
-          → cond b (nat_lt (length group) dec ≡ false)
-          (is_valid_count base.width (length group) ≡ true)
+          → cond b (nat_lt (length at.group) dec ≡ false)
+          (is_valid_count base.width (length at.group) ≡ true)
       whole_or_valid true is =
-          ⊎_elim {C = nat_lt (length group) dec ≡ false}
+          ⊎_elim {C = nat_lt (length at.group) dec ≡ false}
           (λ len. grind (arith, nat_tests, len))
           (λ empty.
           let sum = last_stop empty in
           let valid : (length text % dec == 0) ≡ true =
           sym (is_valid_length-by base (length text) true is)
-          ∙ length_fault-valid base (length text) no_length_fault none in
+          ∙ length_fault-valid base (length text) at.no_length_fault none in
           let exact : length text % dec ≡ 0 = grind (arith, nat_tests) in
           let more = multiples dec read (length text) read_whole exact
-          (omega (arith, sum, next.is_part.some)) in
-          let least : dec ≤ length group = omega (arith, more, sum) in
+          (omega (arith, sum, at.next.is_part.some)) in
+          let least : dec ≤ length at.group = omega (arith, more, sum) in
           grind (arith, nat_tests))
-          next.last
+          at.next.last
       whole_or_valid false is =
-          ⊎_elim {C = is_valid_count base.width (length group) ≡ true}
-          (λ len. ap (is_valid_count base.width) len ∙ whole-valid base.width width)
+          ⊎_elim {C = is_valid_count base.width (length at.group) ≡ true}
+          (λ len. ap (is_valid_count base.width) len ∙ whole-valid base.width at.width)
           (λ empty.
           let sum = last_stop empty in
           let valid : is_valid_count base.width (length text) ≡ true =
           sym (is_valid_length-by base (length text) false is)
-          ∙ length_fault-valid base (length text) no_length_fault none in
+          ∙ length_fault-valid base (length text) at.no_length_fault none in
           let all : base.width * length text
-          ≡ base.width * read + base.width * length group =
-          ap (λ n. base.width * n) (sym sum) ∙ mul-add base.width read (length group) in
-          let before = bits base width read read_whole in
-          let same : base.width * length group % 8 ≡ base.width * length text % 8 =
+          ≡ base.width * read + base.width * length at.group =
+          ap (λ n. base.width * n) (sym sum) ∙ mul-add base.width read (length at.group) in
+          let before = bits base at.width read read_whole in
+          let same : base.width * length at.group % 8 ≡ base.width * length text % 8 =
           omega (arith, all, before) in
           ap (λ n. nat_lt n base.width) same ∙ valid)
-          next.last
+          at.next.last
 
-      by : (b : Bool) → fault_after b base group ≡ Some error → is_length_fault error.kind ≡ false
+      by : (b : Bool) → fault_after b base at.group ≡ Some error → is_length_fault error.kind ≡ false
       by true h =
-          kind_of (record { position = position_of group 0; kind = PaddingFault }) error h refl
+          kind_of (record { position = position_of at.group 0; kind = PaddingFault }) error h refl
       by false h =
-          kind-group base group error (is_padded base) refl (whole_or_valid (is_padded base) refl) h
+          kind-group base at.group error (is_padded base) refl (whole_or_valid (is_padded base) refl) h
 
 -- what has a fault means nothing
 pub fault-partial : (base : Base) (text : List ℕ) (partial : DecodePartial)
