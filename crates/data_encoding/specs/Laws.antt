@@ -1,12 +1,12 @@
 -- The laws of the definitions.
-use Rattle.std.specs.Prelude.{◌≡◌, ℕ, ◌+◌, ◌<◌, ◌%◌, ◌/◌, ◌≤◌, ◌==◌, ◌⊎◌, true, false, List, slice_index, ◌++◌, length, take, drop, All, Option, Some, None, Ok}
+use Rattle.std.specs.Prelude.{◌≡◌, ℕ, ◌+◌, ◌<◌, ◌%◌, ◌⊎◌, true, false, List, ◌++◌, length, take, drop, All, Option, Some, None, Ok}
 use Rattle.data_encoding.specs.declared.error.DecodeError.{DecodeError}
 use Rattle.data_encoding.specs.declared.error.DecodePartial.{DecodePartial}
-use Rattle.data_encoding.specs.Base.{Base, IsWidth, meaning, is_padded, is_padding}
+use Rattle.data_encoding.specs.Base.{Base, meaning, is_padded, is_padding}
 use Rattle.data_encoding.specs.Fault.{fault_of, sound_bytes}
 use Rattle.data_encoding.specs.Fields.{base_of, IsSpecified}
 use Rattle.data_encoding.specs.Grammar.{Means}
-use Rattle.data_encoding.specs.Layout.{fields_of, layout}
+use Rattle.data_encoding.specs.Layout.{fields_of}
 use Rattle.data_encoding.specs.Lengths.{alignment, length_fault}
 use Rattle.data_encoding.specs.Order.{KeepsOrder, IsOrdered, IsBroken}
 use Rattle.data_encoding.specs.Partial.{partial_of}
@@ -15,18 +15,6 @@ use Rattle.data_encoding.specs.Text.{text_of}
 -- The base is built from its specification.
 abbrev pub SpecificationAgain : Type 0
 SpecificationAgain = (base : Base) → IsSpecified base → base_of (fields_of base) ≡ Ok base
-
--- What byte 513 of its layout tells of a base.
-pub record HasLayoutFlags (base : Base) (flags : ℕ) : Type 0 where
-  pub is_width : IsWidth base.width
-  pub width : flags % 8 ≡ base.width
-  pub concatenates : (flags / 32 % 2 == 0) ≡ base.concatenates
-
--- The layout of a base tells its width, and whether its texts may be concatenated.
-abbrev pub LayoutFlags : Type 0
-LayoutFlags =
-    (base : Base) → IsSpecified base
-    → (514 ≤ length (layout base)) × HasLayoutFlags base (slice_index (layout base) 513)
 
 -- The text of bytes means the bytes.
 abbrev pub RoundTrip : Type 0

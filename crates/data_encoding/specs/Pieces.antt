@@ -1,5 +1,5 @@
 -- A text that is decoded piece by piece.
-use Rattle.std.specs.Prelude.{◌≡◌, ℕ, ◌+◌, ◌<◌, ◌*◌, ◌/◌, ◌%◌, ◌==◌, ◌&&◌, ◌⊎◌, Bool, true, false, not, if◌then◌else◌, ◌≤◌, List, [], ◌∷◌, ◌++◌, length, map, drop, filter, flat_map, All, Option, Some, None, is_some, Ok, is_ok}
+use Rattle.std.specs.Prelude.{◌≡◌, ℕ, ◌+◌, ◌<◌, ◌*◌, ◌/◌, ◌%◌, ◌==◌, ◌&&◌, ◌⊎◌, Bool, true, false, not, if◌then◌else◌, ◌≤◌, List, [], ◌∷◌, ◌++◌, length, map, drop, filter, flat_map, All, Option, Some, None, is_some, Ok}
 use Rattle.std.specs.List.{list_any}
 use Rattle.std.specs.Simd.{first_chunks}
 use Rattle.data_encoding.specs.declared.error.DecodeError.{DecodeError}
@@ -180,11 +180,6 @@ CountsGroups =
 -- No more bytes are due than the text is long.
 abbrev pub IsNoLonger : Type 0
 IsNoLonger = (base : Base) → IsSpecified base → (len : ℕ) → most_bytes base len ≤ len
-
--- A text of one byte has a length fault exactly where nothing is ignored.
-abbrev pub TellsIgnoring : Type 0
-TellsIgnoring =
-    (base : Base) → IsSpecified base → is_ok (decoded_len base 1) ≡ ignores_some base
 
 -- Where nothing is ignored, each byte of a text is kept.
 abbrev pub KeepsEach : Type 0

@@ -1,7 +1,7 @@
 //! Encodings, and the words that describe them.
 
 ghost use Rattle.std.specs.Prelude.{◌≡◌, ◌<◌, ◌≤◌, length, MatchResult};
-ghost use Rattle.data_encoding.specs.Base.{IsWidth, group_bytes, group_symbols, is_ignored, is_invalid, is_padding, meaning, value_of};
+ghost use Rattle.data_encoding.specs.Base.{IsWidth, group_bytes, group_symbols, ignores_some, is_ignored, is_invalid, is_padding, meaning, value_of};
 ghost use Rattle.data_encoding.specs.Fields.{IsSpecified};
 
 use arrayvec::ArrayVec;
@@ -120,9 +120,33 @@ impl Encoding {
     /// The number of bits of a symbol, from 1 to 6.
     pub fn bit_width(&self) -> usize
         ensures value { result ≡ self.now.width }
+        ensures width { IsWidth result }
         ensures base { IsSpecified self.now }
     {
         self.width as usize
+    }
+
+    /// The number of symbols of a whole group, the fewest of which the bits are whole bytes: 2, 4
+    /// or 8.
+    pub fn group_len(&self) -> usize
+        ensures value { result ≡ group_symbols self.now.width }
+        ensures base { IsSpecified self.now }
+    {
+        group_symbols(self.width) as usize
+    }
+
+    /// Whether a byte is ignored.
+    pub fn ignores_bytes(&self) -> bool
+        ensures { result ≡ ignores_some self.now }
+    {
+        self.ignores
+    }
+
+    /// Whether a text may go on after a padded group. Without padding any text may.
+    pub fn concatenates(&self) -> bool
+        ensures { result ≡ self.now.concatenates }
+    {
+        self.concatenates
     }
 
     /// What a byte means in a text.

@@ -9,7 +9,6 @@ ghost use Rattle.data_encoding.specs.Text.{text_of};
 ghost use Rattle.data_encoding_c.specs.Calls.{decode_len_status, decode_status, encode_len_status, encode_status, over, HasStopped};
 
 use crate::status::{OK, SHORT_BUFFER, TOO_LONG, status_of_kind};
-use data_encoding::laws::steps::layout_flags;
 use data_encoding::{DECODE_LIMIT, DecodeError, DecodePartial, ENCODE_LIMIT, Encoding};
 
 /// The length of the text of `len` bytes.
@@ -131,8 +130,8 @@ pub(crate) fn decode_by(
             return status_of_kind(error.kind);
         }
     };
-    // It tells that a symbol has at most six bits.
-    layout_flags();
+    // A symbol has at most six bits.
+    encoding.bit_width();
     if output.len() < most {
         return SHORT_BUFFER;
     }

@@ -6,7 +6,7 @@ ghost use Rattle.data_encoding.specs.Fields.{IsSpecified};
 ghost use Rattle.data_encoding.specs.Grammar.{Means};
 ghost use Rattle.data_encoding.specs.Lengths.{decoded_len, most_bytes};
 
-use data_encoding::laws::steps::{layout_flags, pieces, whole_groups};
+use data_encoding::laws::steps::{pieces, whole_groups};
 use data_encoding::{DECODE_LIMIT, DecodeError, Encoding};
 
 /// What is kept of a text between its pieces: its length, the first fault of its whole groups, the
@@ -46,19 +46,14 @@ impl<'a> PieceDecoder<'a> {
         ensures base { base_of_pieces result ≡ encoding.now }
         ensures nothing { Keeps encoding.now result.kept [] }
     {
-        let width = encoding.bit_width();
-        let layout = encoding.internal_implementation();
-        layout_flags();
-        let flags = layout[513];
-        let ignores = encoding.decode_len(1).is_ok();
-        let concatenates = flags / 32 % 2 == 0;
+        // The width is that of an encoding that a specification yields.
+        encoding.bit_width();
         pieces();
-        whole_groups();
         PieceDecoder {
             encoding,
-            size: group_size(width),
-            concatenates,
-            ignores,
+            size: encoding.group_len(),
+            concatenates: encoding.concatenates(),
+            ignores: encoding.ignores_bytes(),
             kept: Kept {
                 len: 0,
                 fault: None,
@@ -248,17 +243,5 @@ impl<'a> PieceDecoder<'a> {
             written += self.take(*byte, &mut output[written..]);
         }
         written
-    }
-}
-
-// The number of symbols of a whole group.
-fn group_size(width: usize) -> usize
-    requires width { IsWidth width }
-    ensures { result ≡ group_symbols width }
-{
-    match width {
-        2 | 6 => 4,
-        4 => 2,
-        _ => 8,
     }
 }

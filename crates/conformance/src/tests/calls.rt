@@ -3,7 +3,7 @@
 use super::decoding::begins;
 use super::rows::{bytes_of, bytes_of_length, case_of, described, row_of};
 use super::vectors::is_there_and_back;
-use data_encoding::laws::steps::{layout_flags, pieces};
+use data_encoding::laws::steps::pieces;
 use data_encoding::laws::{
     canonical, join_decode, join_encode, join_fault, not_canonical, one_meaning, resume,
     round_trip, specification_again,
@@ -24,15 +24,18 @@ base64|most|check|=||76|←↵|||!|Invalid None false false true
 base64|most|check|=||76|←↵|||\u{c8}|Invalid None false false true
 01|most|check|||0||ab|0a|b|Symbol { value: 0 } Some(0) false false false";
 
-// The bits of a symbol, and the bytes of a group or of a line.
+// The bits of a symbol, the symbols of a group, the bytes of a group or of a line, whether a byte
+// is ignored, and whether texts may be concatenated.
 const SIZES: &str = "\
-binary|most|check|||0||||1, 1
-quaternary|most|check|||0||||2, 1
-octal|most|check|||0||||3, 3
-hex|most|check|||0||||4, 1
-base32|most|check|||0||||5, 5
-base64|most|check|||0||||6, 3
-base64|most|check|=||76|←↵|||6, 57";
+binary|most|check|||0||||1, 8, 1, false, true
+quaternary|most|check|||0||||2, 4, 1, false, true
+octal|most|check|||0||||3, 8, 3, false, true
+hex|most|check|||0||||4, 2, 1, false, true
+base32|most|check|||0||||5, 8, 5, false, true
+base64|most|check|||0||||6, 4, 3, false, true
+base64|most|check|=||76|←↵|||6, 4, 57, true, true
+base64|most|check||~|0||||6, 4, 3, true, true
+base64|most|single check|=||0||||6, 4, 3, false, false";
 
 // Two rows, and whether their encodings are equal. Concatenation tells two apart where there is
 // padding.
@@ -108,8 +111,12 @@ fn interprets_bytes(rt: HostRuntime) -> Result<(), Fail> {
 // Whether the sizes are those of the row.
 fn is_aligned(alloc: Global, line: &str) -> Result<bool, Fail> {
     let case = case_of(alloc, line)?;
-    let (width, align) = (case.encoding.bit_width(), case.encoding.encode_align());
-    Ok(format!(in alloc; "{width}, {align}")?.as_str() == case.want)
+    let (width, len) = (case.encoding.bit_width(), case.encoding.group_len());
+    let align = case.encoding.encode_align();
+    let ignores = case.encoding.ignores_bytes();
+    let concatenates = case.encoding.concatenates();
+    let sizes = format!(in alloc; "{width}, {len}, {align}, {ignores}, {concatenates}")?;
+    Ok(sizes.as_str() == case.want)
 }
 
 #[test]
@@ -217,7 +224,6 @@ fn calls_laws() {
     join_fault();
     resume();
     pieces();
-    layout_flags();
 }
 
 // Whether so many bytes come back from their text.

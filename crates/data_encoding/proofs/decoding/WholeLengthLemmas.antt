@@ -1,12 +1,10 @@
--- The lengths of whole groups, and what the length of one byte tells.
-use Rattle.std.proofs.Common.{◌≡◌, ℕ, ◌*◌, ◌/◌, ◌%◌, ◌≤◌, ◌==◌, nat_lt, Bool, true, false, not, cond, ◌&&◌, ◌||◌, List, [], ◌∷◌, Some, None, is_none, Ok, is_ok, refl, sym, ap, ◌∙◌, subst, arith}
+-- The lengths of whole groups.
+use Rattle.std.proofs.Common.{◌≡◌, ℕ, ◌*◌, ◌/◌, ◌%◌, ◌≤◌, ◌==◌, nat_lt, Bool, true, false, not, ◌&&◌, ◌||◌, List, [], ◌∷◌, None, is_none, Ok, refl, sym, ap, ◌∙◌, subst, arith}
 use Rattle.std.proofs.Math.Nat.{mul-mod_left}
 use Rattle.std.specs.List.{list_any}
-use Rattle.data_encoding.specs.declared.error.DecodeError.{DecodeError}
-use Rattle.data_encoding.specs.declared.error.DecodeKind.TheVariants.{Length as LengthFault}
-use Rattle.data_encoding.specs.Base.{Base, IsWidth, group_bytes, group_symbols, ignores_some, is_padded, is_padding, meaning}
+use Rattle.data_encoding.specs.Base.{Base, IsWidth, group_bytes, group_symbols, is_padded, is_padding, meaning}
 use Rattle.data_encoding.specs.Grammar.{Positioned, is_final}
-use Rattle.data_encoding.specs.Lengths.{decoded_len, greatest_valid_length, is_valid_count, is_valid_length, most_bytes, unless_fault}
+use Rattle.data_encoding.specs.Lengths.{decoded_len, most_bytes}
 use Rattle.data_encoding.proofs.digits.WidthLemmas.{by_width}
 use Rattle.data_encoding.proofs.grammar.LengthLemmas.{decoded_len-valid, is_valid_length-by, most_bytes-by}
 use Rattle.data_encoding.proofs.judgement.RuleLemmas.{IsRuled}
@@ -50,13 +48,6 @@ plain_most =
     by_width (λ w. (len : ℕ) → w * len / 8 ≤ len) (λ n. omega arith)
     (λ n. omega arith) (λ n. omega arith) (λ n. omega arith) (λ n. omega arith) (λ n. omega arith)
 
--- one symbol is neither a whole byte nor a whole group
-one_is_invalid : (width : ℕ) → IsWidth width
-    → ((1 % group_symbols width == 0) ≡ false) × (is_valid_count width 1 ≡ false)
-one_is_invalid =
-    by_width (λ w. ((1 % group_symbols w == 0) ≡ false) × (is_valid_count w 1 ≡ false))
-    (refl, refl) (refl, refl) (refl, refl) (refl, refl) (refl, refl) (refl, refl)
-
 module _ (base : Base) (width : IsWidth base.width) where
   abbrev size : ℕ
   size = group_symbols base.width
@@ -88,27 +79,6 @@ module _ (base : Base) (width : IsWidth base.width) where
     by false is =
         subst (λ n. n ≤ len) (sym (most_bytes-by base len false is))
         (plain_most base.width width len)
-
-  one_invalid : is_valid_length base 1 ≡ false
-  one_invalid = by (is_padded base) refl where
-    by : (b : Bool) → is_padded base ≡ b → is_valid_length base 1 ≡ false
-    by true is = is_valid_length-by base 1 true is ∙ (one_is_invalid base.width width).0
-    by false is = is_valid_length-by base 1 false is ∙ (one_is_invalid base.width width).1
-
-  -- so a byte of a text is due where some are ignored
-  pub decoded_len-one : is_ok (decoded_len base 1) ≡ ignores_some base
-  decoded_len-one =
-      let fault : DecodeError =
-      record { position = greatest_valid_length base 1; kind = LengthFault } in
-      ap (λ valid. is_ok (unless_fault
-      (cond (not (ignores_some base) && not valid) (Some fault) None) (most_bytes base 1)))
-      one_invalid
-      ∙ by (ignores_some base) fault where
-        by : (b : Bool) (fault : DecodeError)
-            → is_ok (unless_fault (cond (not b && not false) (Some fault) None)
-            (most_bytes base 1)) ≡ b
-        by true fault = refl
-        by false fault = refl
 
 -- where texts may be concatenated, no group is final
 pub none_final-joined : (base : Base) → base.concatenates ≡ true → (gs : List (List Positioned))

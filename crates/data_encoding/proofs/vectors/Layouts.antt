@@ -1,5 +1,5 @@
 -- Worked rows of specifications and layouts, and of what is printed.
-use Rattle.std.proofs.Common.{◌≡◌, ℕ, ◌*◌, true, false, List, [], ◌∷◌, ◌++◌, map, length, drop, codes, replicate, Some, None, Ok, Err, refl, ap, lit<, lit≤}
+use Rattle.std.proofs.Common.{◌≡◌, ℕ, ◌*◌, true, false, List, [], ◌∷◌, ◌++◌, map, length, take, drop, codes, replicate, Some, None, Ok, Err, refl, ap, lit<}
 use Rattle.std.specs.Prelude.{sum_by}
 use Rattle.std.specs.List.{enumerate_from}
 use Rattle.std.proofs.lemmas.Fmt.{decimal_digit}
@@ -16,7 +16,6 @@ use Rattle.data_encoding.specs.Predefined.{unpadded_fields, padded_fields, trans
 use Rattle.data_encoding.specs.Printed.{printed_fault, printed_refusal, printed_kind, printed_error}
 use Rattle.data_encoding.specs.Specification.{no_fields, specified, refusal_of, fields_of_parts, SameTranslate, SameWrap}
 use Rattle.std.specs.String.{string_bytes}
-use Rattle.data_encoding.specs.Laws.{HasLayoutFlags}
 use Rattle.data_encoding.specs.declared.encoding.Character.{Character}
 use Rattle.data_encoding.specs.declared.specification.Specification.{Specification}
 use Rattle.data_encoding.specs.declared.specification.builder.Parts.{Parts}
@@ -231,20 +230,9 @@ translations_told = (refl, refl, refl, refl, refl, refl)
 
 -- byte 513 of a layout
 layout_flags :
-    Has base64_fields (λ base. HasLayoutFlags base 30)
-    × Has single_fields (λ base. HasLayoutFlags base 62)
-layout_flags = (
-  record {
-    is_width = record { some = lit< tt; few = lit≤ tt };
-    width = refl;
-    concatenates = refl;
-  },
-  record {
-    is_width = record { some = lit< tt; few = lit≤ tt };
-    width = refl;
-    concatenates = refl;
-  },
-)
+    (by (λ base. take 1 (drop 513 (layout base))) base64_fields ≡ Some (30 ∷ []))
+    × (by (λ base. take 1 (drop 513 (layout base))) single_fields ≡ Some (62 ∷ []))
+layout_flags = (refl, refl)
 
 -- each of the eighteen is built from its specification
 built_from_fields : Has hexlower_fields IsSpecified

@@ -1,7 +1,6 @@
 //! Steps of a decoder that reads a text in pieces: what it proves of itself one piece at a time.
 
-ghost use Rattle.data_encoding.specs.Laws.{LayoutFlags};
-ghost use Rattle.data_encoding.specs.Pieces.{AreWhole, CountsGroups, EndsNowhere, HoldsPiece, IsNoLonger, JoinsUnpadded, JudgesGroup, KeepsBytes, KeepsEach, KeepsFault, MeansWhole, ReadsGroup, ReadsNothing, ReadsSound, TellsBytes, TellsEnd, TellsFault, TellsIgnoring};
+ghost use Rattle.data_encoding.specs.Pieces.{AreWhole, CountsGroups, EndsNowhere, HoldsPiece, IsNoLonger, JoinsUnpadded, JudgesGroup, KeepsBytes, KeepsEach, KeepsFault, MeansWhole, ReadsGroup, ReadsNothing, ReadsSound, TellsBytes, TellsEnd, TellsFault};
 
 /// A text may be decoded piece by piece, for each encoding that a specification yields: what is
 /// kept of it, and the data of its whole groups, follow from what was kept and the next piece; and
@@ -24,23 +23,16 @@ pub fn pieces()
 
 /// What lengths tell of a text, for each encoding that a specification yields. As `decode_len`
 /// counts them, as many groups of bytes are due as there are whole groups of symbols, and never
-/// more bytes than the text is long; a text of one byte is refused exactly where nothing is
-/// ignored, and there each byte is kept. A text that means whole groups of bytes is whole groups.
-/// Whether one of its groups is final, so that none may follow, is told by the number of bytes and
-/// by whether texts may be concatenated, as they may be wherever there is no padding.
+/// more bytes than the text is long. Where nothing is ignored, each byte is kept. A text that means
+/// whole groups of bytes is whole groups. Whether one of its groups is final, so that none may
+/// follow, follows from the number of bytes and from whether texts may be concatenated, as they may
+/// be wherever there is no padding.
 pub fn whole_groups()
     ensures bytes { CountsGroups }
     ensures most { IsNoLonger }
-    ensures ignores { TellsIgnoring }
     ensures kept { KeepsEach }
     ensures joins { JoinsUnpadded }
     ensures ends_nowhere { EndsNowhere }
     ensures ends { TellsEnd }
     ensures whole { MeansWhole }
-{}
-
-/// The layout of an encoding, as `internal_implementation` yields it, tells by its byte 513 the
-/// number of bits of a symbol, and whether texts may be concatenated.
-pub fn layout_flags()
-    ensures { LayoutFlags }
 {}

@@ -1,5 +1,6 @@
 use Rattle.std.proofs.Common.{◌≡◌, inr, Some, length, take, drop, sym, ◌∙◌, arith, subst, ap}
 use Rattle.std.proofs.lemmas.List.{length-append, length-take-le, take-append-le}
+use Rattle.data_encoding.specs.Base.{IsWidth}
 use Rattle.data_encoding.specs.Grammar.{Means}
 use Rattle.data_encoding_c.proofs.DecodeLemmas.{fault-stopped, front-fits, some-one, status-known}
 use Rattle.data_encoding_c.proofs.convert.decode_by.Goals as goal
@@ -19,7 +20,7 @@ returns-in-Err-decode_mut-clause-within c =
     let partial = c.in-Err-decode_mut.partial in
     let new = c.decode_mut.new.output in
     let fits =
-    front-fits base (c.layout_flags.ensures base c.decode_len.ensures.base).1.is_width partial.read
+    front-fits base (subst IsWidth c.bit_width.ensures.value c.bit_width.ensures.width) partial.read
     partial.written (length c.args.input.now) c.in-Ok.most
     (omega (arith, c.in-Err-decode_mut.ensures.bounds.0, c.in-Err-decode_mut.ensures.bounds.1))
     (sym c.decode_len.ensures.value ∙ c.in-Ok.is) c.in-Err-decode_mut.ensures.most in
@@ -40,7 +41,7 @@ returns-in-Err-decode_mut-clause-fault c = λ partial most long short due is.
     let new = c.decode_mut.new.output in
     let same : told ≡ partial = some-one (sym c.in-Err-decode_mut.ensures.fault ∙ is) in
     let fits =
-    front-fits base (c.layout_flags.ensures base c.decode_len.ensures.base).1.is_width told.read
+    front-fits base (subst IsWidth c.bit_width.ensures.value c.bit_width.ensures.width) told.read
     told.written (length c.args.input.now) c.in-Ok.most
     (omega (arith, c.in-Err-decode_mut.ensures.bounds.0, c.in-Err-decode_mut.ensures.bounds.1))
     (sym c.decode_len.ensures.value ∙ c.in-Ok.is) c.in-Err-decode_mut.ensures.most in

@@ -1,6 +1,6 @@
 use Rattle.data_encoding.specs.Grammar.{positioned}
 use Rattle.data_encoding.proofs.decoding.FinalGroupLemmas.{ends-Means, whole-Means}
-use Rattle.data_encoding.proofs.decoding.WholeLengthLemmas.{decoded_len-one, decoded_len-whole, joins-unpadded, most_bytes-few, none_final-joined}
+use Rattle.data_encoding.proofs.decoding.WholeLengthLemmas.{decoded_len-whole, joins-unpadded, most_bytes-few, none_final-joined}
 use Rattle.data_encoding.proofs.grammar.PositionLemmas.{filter-plain, never_ignored}
 use Rattle.data_encoding.proofs.judgement.RuleLemmas.{IsRuled-yield}
 use Rattle.data_encoding.proofs.laws.steps.whole_groups.Goals as goal
@@ -12,10 +12,6 @@ returns-clause-bytes c base is count =
 pub returns-clause-most : goal.returns-clause-most
 returns-clause-most c base is len =
     most_bytes-few base (IsRuled-yield is.fields base is.yields).is_width len
-
-pub returns-clause-ignores : goal.returns-clause-ignores
-returns-clause-ignores c base is =
-    decoded_len-one base (IsRuled-yield is.fields base is.yields).is_width
 
 pub returns-clause-kept : goal.returns-clause-kept
 returns-clause-kept c base none =
