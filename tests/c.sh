@@ -58,16 +58,12 @@ program 'calls in C' "$cc" "${strict[@]}" tests/c/calls.c "$lib/libdata_encoding
 program 'calls of the shared library' "$cc" "${strict[@]}" tests/c/calls.c "-L$lib" \
     -ldata_encoding "-Wl,-rpath,$lib"
 program 'two threads' "$cc" "${strict[@]}" tests/c/threads.c "$lib/libdata_encoding.a" -pthread
-program 'memory that is refused' "$cc" "${strict[@]}" "-I$glue" tests/c/memory.c \
-    "$lib/libdata_encoding.a"
 begin 'the program of speed' "$cc" -O2 "${strict[@]}" tests/c/speed.c "$lib/libdata_encoding.a" \
     -o "$room/speed"
 echo 'int main(void) { return 0; }' >"$room/empty.c"
 if "$cc" "${sanitized[@]}" "$room/empty.c" -o "$room/empty" 2>/dev/null; then
     program 'calls with sanitizers' "$cc" "${strict[@]}" "${sanitized[@]}" tests/c/calls.c \
         "$glue"/*.c "$lib/libdata_encoding.a"
-    program 'memory that is refused, with sanitizers' "$cc" "${strict[@]}" "${sanitized[@]}" \
-        "-I$glue" tests/c/memory.c "$glue/data_encoding.c" "$lib/libdata_encoding.a"
 else
     skip 'sanitizers: this compiler has none'
 fi

@@ -20,7 +20,6 @@ from typing import List, NamedTuple, Optional, Tuple, Union
 __all__ = ["DecodeError", "Decoder", "Encoding", "Partial"]
 
 _OK = 0
-_OUT_OF_MEMORY = 5
 _NAME_LIMIT = 22
 _KINDS = {6: "length", 7: "symbol", 8: "trailing", 9: "padding"}
 
@@ -54,7 +53,7 @@ class _Specification(ctypes.Structure):
 
 
 class _Held(ctypes.Structure):
-    _fields_ = [("len", ctypes.c_size_t), ("layout", ctypes.c_ubyte * 770)]
+    _fields_ = [("made", ctypes.c_ubyte), ("tables", ctypes.c_ubyte * 775)]
 
 
 def _library() -> ctypes.CDLL:
@@ -173,8 +172,6 @@ class Encoding:
         status = _LIBRARY.de_encoding_new(
             ctypes.addressof(held), ctypes.addressof(asked), ctypes.addressof(detail)
         )
-        if status == _OUT_OF_MEMORY:
-            raise MemoryError(_text_of(status))
         if status != _OK:
             what = _text_of(status)
             if status in (12, 17):

@@ -233,8 +233,14 @@ static void statuses(void) {
 
 static de_status made(const de_specification *asked, size_t *detail) {
     de_encoding encoding;
-    encoding.len = 771;
-    return de_encoding_new(&encoding, asked, detail);
+    de_status status;
+    memset(&encoding, 0xa5, sizeof encoding);
+    status = de_encoding_new(&encoding, asked, detail);
+    if (status != DE_OK) {
+        holds("nothing is made", encoding.made == 0xa5 && encoding.tables[0] == 0xa5 &&
+                                     encoding.tables[DE_TABLES - 1] == 0xa5);
+    }
+    return status;
 }
 
 static void refusals(void) {
@@ -247,6 +253,9 @@ static void refusals(void) {
     is("one symbol", DE_OK, (asked.symbols_len = 2, made(&asked, NULL)));
     asked.symbols = "0\xc3";
     is("no UTF-8", DE_NOT_ASCII, made(&asked, &detail));
+    asked.symbols_len = 1;
+    is("the number of symbols first", DE_SYMBOL_COUNT, made(&asked, &detail));
+    asked.symbols_len = 2;
     asked.symbols = "\xc3\xa9";
     is("two bytes of one character", DE_NOT_ASCII, made(&asked, &detail));
     is("no detail", 77, detail);
@@ -324,16 +333,13 @@ static void own(void) {
     holds("octal", decoded.written == 1 && data[0] == 0xff);
     is("octal", DE_OK, de_encoding_is_canonical(&copy, &given));
     is("octal", 0, given);
-    copy.layout[0] = 'x';
-    is("no layout", DE_NO_ENCODING, de_encoding_encode(&copy, "a", 1, text, 16, &size));
-    copy = encoding;
-    copy.len = 0;
-    is("no layout", DE_NO_ENCODING, de_encoding_encode_len(&copy, 1, &size));
-    copy.len = 771;
-    is("no layout", DE_NO_ENCODING, de_encoding_decode_len(&copy, 1, &size));
-    is("no layout", DE_NO_ENCODING, de_encoding_decode(&copy, "7", 1, data, 16, &decoded));
-    is("no layout", DE_NO_ENCODING, de_encoding_is_canonical(&copy, &given));
-    is("no layout", DE_NO_ENCODING, de_encoding_encode(&copy, "a", 1, text, 16, &size));
+    memset(&copy, 0, sizeof copy);
+    is("not made", DE_NO_ENCODING, de_encoding_encode_len(&copy, 1, &size));
+    is("not made", DE_NO_ENCODING, de_encoding_decode_len(&copy, 1, &size));
+    is("not made", DE_NO_ENCODING, de_encoding_decode(&copy, "7", 1, data, 16, &decoded));
+    is("not made", DE_NO_ENCODING, de_encoding_is_canonical(&copy, &given));
+    is("not made", DE_NO_ENCODING, de_encoding_encode(&copy, "a", 1, text, 16, &size));
+    is("not made", DE_NO_ENCODING, de_encoding_layout(&copy, text, 16, &size));
     is("null", DE_NULL_POINTER, de_encoding_encode_len(NULL, 1, &size));
     is("null", DE_NULL_POINTER, de_encoding_encode(NULL, "a", 1, text, 16, &size));
     is("null", DE_NULL_POINTER, de_encoding_decode_len(NULL, 1, &size));
@@ -344,6 +350,80 @@ static void own(void) {
     is("no bytes at null", DE_OK, de_encoding_encode(&encoding, NULL, 0, NULL, 0, &size));
 }
 
+/* What a layout is read as has this layout again, and encodes alike; a layout of which one byte is
+ * changed is refused, or is that of another encoding. */
+static void layouts(const de_specification *asked) {
+    unsigned char layout[DE_LAYOUT_LIMIT + 1];
+    unsigned char again[DE_LAYOUT_LIMIT];
+    char text[64];
+    char other[64];
+    de_encoding encoding;
+    de_encoding copy;
+    size_t len = 77;
+    size_t size = 77;
+    size_t index;
+    is("made", DE_OK, de_encoding_new(&encoding, asked, NULL));
+    memset(layout, 0xa5, sizeof layout);
+    is("short", DE_SHORT_BUFFER, de_encoding_layout(&encoding, layout, 513, &len));
+    is("no room at null", DE_SHORT_BUFFER, de_encoding_layout(&encoding, NULL, 0, &len));
+    holds("nothing is changed", len == 77 && layout[0] == 0xa5);
+    is("a layout", DE_OK, de_encoding_layout(&encoding, layout, DE_LAYOUT_LIMIT, &len));
+    holds("a layout", len >= 514 && len <= DE_LAYOUT_LIMIT && layout[len] == 0xa5);
+    is("read", DE_OK, de_encoding_read(&copy, layout, len));
+    is("again", DE_OK, de_encoding_layout(&copy, again, len, &size));
+    holds("again", size == len && memcmp(layout, again, len) == 0);
+    is("alike", DE_OK, de_encoding_encode(&encoding, "foobar", 6, text, sizeof text, &size));
+    is("alike", DE_OK, de_encoding_encode(&copy, "foobar", 6, other, sizeof other, &len));
+    holds("alike", size == len && memcmp(text, other, size) == 0);
+    is("a layout", DE_OK, de_encoding_layout(&encoding, layout, DE_LAYOUT_LIMIT, &len));
+    is("too few", DE_NO_ENCODING, de_encoding_read(&copy, layout, 513));
+    is("none", DE_NO_ENCODING, de_encoding_read(&copy, NULL, 0));
+    for (index = 0; index < len; index++) {
+        unsigned char was = layout[index];
+        layout[index] ^= 1;
+        if (de_encoding_read(&copy, layout, len) == DE_OK) {
+            is("another", DE_OK, de_encoding_layout(&copy, again, sizeof again, &size));
+            holds("another", size == len && memcmp(layout, again, len) == 0);
+        } else {
+            is("unchanged", DE_OK, de_encoding_encode_len(&copy, 1, &size));
+        }
+        layout[index] = was;
+    }
+    is("null", DE_NULL_POINTER, de_encoding_read(NULL, layout, len));
+    is("null", DE_NULL_POINTER, de_encoding_read(&copy, NULL, 1));
+    is("null", DE_NULL_POINTER, de_encoding_layout(NULL, layout, len, &size));
+    is("null", DE_NULL_POINTER, de_encoding_layout(&encoding, NULL, 1, &size));
+    is("null", DE_NULL_POINTER, de_encoding_layout(&encoding, layout, len, NULL));
+}
+
+static void stored(void) {
+    de_specification asked = DE_SPECIFICATION;
+    asked.symbols = "ABCDEFGHIJKLMNOPQRSTUVWXYZabcdefghijklmnopqrstuvwxyz0123456789+/";
+    asked.symbols_len = 64;
+    layouts(&asked);
+    asked.padding = '=';
+    asked.concatenate = false;
+    asked.check_trailing_bits = false;
+    asked.wrap_separator = "\r\n";
+    asked.wrap_separator_len = 2;
+    asked.wrap_width = 76;
+    layouts(&asked);
+    asked.symbols = "0123456789abcdef";
+    asked.symbols_len = 16;
+    asked.padding = -1;
+    asked.wrap_width = 0;
+    asked.wrap_separator = "\xff";
+    asked.wrap_separator_len = 1;
+    asked.ignore = " -";
+    asked.ignore_len = 2;
+    asked.translate_from = "ABCDEF";
+    asked.translate_from_len = 6;
+    asked.translate_to = "abcdef";
+    asked.translate_to_len = 6;
+    asked.least_significant_first = true;
+    layouts(&asked);
+}
+
 int main(void) {
     numbers();
     canonical();
@@ -352,6 +432,7 @@ int main(void) {
     statuses();
     refusals();
     own();
+    stored();
     holds("a text", strcmp(de_status_text(DE_INVALID_SYMBOL), "invalid symbol") == 0);
     holds("a text", strcmp(de_status_text(DE_NO_ENCODING), "no encoding") == 0);
     holds("a text", strcmp(de_status_text((de_status)99), "unknown status") == 0);

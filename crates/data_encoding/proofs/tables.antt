@@ -6,4 +6,5 @@ pub mod LayoutLemmas
 pub mod LayoutRuleLemmas
 pub mod OneLayoutLemmas
 pub mod ReadingLemmas
+pub mod PlainLemmas
 pub mod EqualityLemmas

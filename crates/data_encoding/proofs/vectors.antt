@@ -8,3 +8,4 @@ mod Steps
 mod Compared
 mod SameMeanings
 mod Lanes
+mod Plain

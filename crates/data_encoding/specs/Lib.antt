@@ -33,3 +33,5 @@ pub mod FaultStays
 pub mod Lanes
 pub mod Values
 pub mod Affine
+pub mod PlainTables
+pub mod Plain

@@ -1,9 +1,9 @@
 -- What a `Specification` says, with its texts as bytes.
 use Rattle.std.specs.Prelude.{◌≡◌, true, [], None}
 use Rattle.std.specs.String.{string_bytes}
-use Rattle.data_encoding.specs.declared.specification.builder.Parts.{Parts}
 use Rattle.data_encoding.specs.declared.encoding.BitOrder.TheVariants.{MostSignificantFirst}
 use Rattle.data_encoding.specs.declared.specification.meanings.Refusal.{Refusal}
+use Rattle.data_encoding.specs.declared.specification.parts.SpecificationParts.{SpecificationParts}
 use Rattle.data_encoding.specs.declared.specification.Specification.{Specification}
 use Rattle.data_encoding.specs.declared.specification.SpecificationError.{SpecificationError}
 use Rattle.data_encoding.specs.declared.specification.Translate.{Translate}
@@ -28,19 +28,19 @@ specified s = record {
 abbrev pub refusal_of : SpecificationError → Refusal
 refusal_of error = error.refusal
 
--- what the builder is given
-abbrev pub fields_of_parts : Parts → Fields
+-- what a specification of borrowed bytes says
+abbrev pub fields_of_parts : SpecificationParts → Fields
 fields_of_parts p = record {
   symbols = p.symbols.now;
-  order = p.order;
-  checks_trailing_bits = p.check;
+  order = p.bit_order;
+  checks_trailing_bits = p.check_trailing_bits;
   concatenates = p.concatenate;
   padding = p.padding;
-  ignored = p.ignored.now;
-  column = p.column;
-  separator = p.separator.now;
-  from = p.from.now;
-  to = p.to.now;
+  ignored = p.ignore.now;
+  column = p.wrap_width;
+  separator = p.wrap_separator.now;
+  from = p.translate_from.now;
+  to = p.translate_to.now;
 }
 
 -- nothing but the most significant bit first, and trailing bits checked

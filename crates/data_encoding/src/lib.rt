@@ -12,6 +12,7 @@ mod error;
 mod kernel;
 pub mod laws;
 mod memory;
+mod plain;
 mod specification;
 
 pub use decode::DECODE_LIMIT;
@@ -20,6 +21,9 @@ pub use encode::display::Display;
 pub use encode::encoder::Encoder;
 pub use encoding::{BitOrder, Character, Encoding};
 pub use error::{DecodeError, DecodeFault, DecodeKind, DecodePartial};
+pub use plain::PlainEncoding;
+pub use specification::meanings::Refusal;
+pub use specification::parts::SpecificationParts;
 pub use specification::predefined::{
     base32, base32_dnscurve, base32_dnssec, base32_nopad, base32_nopad_nocase, base32_nopad_visual,
     base32hex, base32hex_nopad, base64, base64_mime, base64_mime_permissive, base64_nopad,

@@ -4,6 +4,7 @@ pub(crate) mod builder;
 pub(crate) mod canonical;
 pub(crate) mod layout;
 pub(crate) mod meanings;
+pub(crate) mod parts;
 pub(crate) mod predefined;
 pub(crate) mod tables;
 
@@ -17,8 +18,8 @@ ghost use Rattle.data_encoding.specs.Tables.{HasTables};
 ghost use Rattle.data_encoding.specs.Specification.{specified, no_fields, refusal_of, SameTranslate, SameWrap};
 
 use crate::encoding::{BitOrder, Encoding};
-use crate::specification::builder::{Parts, define};
 use crate::specification::meanings::Refusal;
+use crate::specification::parts::SpecificationParts;
 use crate::specification::tables::{Tables, character, symbol_count};
 use std::alloc::{AllocError, Global};
 use std::error::Error;
@@ -115,22 +116,19 @@ impl Specification {
         ensures refused { IfErr result
             (λ error. base_of (specified self.now) ≡ Err (refusal_of error)) }
     {
-        let parts = Parts {
+        let parts = SpecificationParts {
             symbols: self.symbols.as_bytes(),
-            order: self.bit_order,
-            check: self.check_trailing_bits,
+            bit_order: self.bit_order,
+            check_trailing_bits: self.check_trailing_bits,
             concatenate: self.concatenate,
             padding: self.padding,
-            ignored: self.ignore.as_bytes(),
-            column: self.wrap.width,
-            separator: self.wrap.separator.as_bytes(),
-            from: self.translate.from.as_bytes(),
-            to: self.translate.to.as_bytes(),
+            ignore: self.ignore.as_bytes(),
+            wrap_width: self.wrap.width,
+            wrap_separator: self.wrap.separator.as_bytes(),
+            translate_from: self.translate.from.as_bytes(),
+            translate_to: self.translate.to.as_bytes(),
         };
-        match define(&parts) {
-            Ok(encoding) => Ok(encoding),
-            Err(refusal) => Err(SpecificationError { refusal }),
-        }
+        parts.encoding()
     }
 
     /// A copy, which says the same. The only error is that memory ran out.
@@ -147,6 +145,15 @@ impl Specification {
             wrap: self.wrap.try_clone()?,
             translate: self.translate.try_clone()?,
         })
+    }
+}
+
+impl SpecificationError {
+    /// The first judgement that failed, with the byte or the number that shows it.
+    pub fn refusal(&self) -> Refusal
+        ensures { result ≡ refusal_of self.now }
+    {
+        self.refusal
     }
 }
 

@@ -1,6 +1,8 @@
 /* The calls of data_encoding.h over those that are proved, which take no null pointer. */
 #include "data_encoding.h"
 
+#include <string.h>
+
 typedef unsigned char byte;
 
 struct form {
@@ -21,17 +23,29 @@ unsigned de_numbered_decode(unsigned number, const byte *input, size_t input_len
 unsigned de_numbered_is_canonical(unsigned number, bool *canonical);
 unsigned de_numbered_name(unsigned number, byte *output, size_t output_len, size_t *written);
 unsigned de_named_number(const byte *name, size_t name_len, unsigned *number);
-unsigned de_held_new(const struct form *form, const byte *symbols, size_t symbols_len,
-                     const byte *ignore, size_t ignore_len, const byte *separator,
-                     size_t separator_len, const byte *from, size_t from_len, const byte *to,
-                     size_t to_len, byte *held, size_t held_len, size_t *len, size_t *detail);
-unsigned de_held_encode_len(const byte *held, size_t held_len, size_t len, size_t *text_len);
-unsigned de_held_encode(const byte *held, size_t held_len, const byte *input, size_t input_len,
-                        byte *output, size_t output_len, size_t *written);
-unsigned de_held_decode_len(const byte *held, size_t held_len, size_t len, size_t *most);
-unsigned de_held_decode(const byte *held, size_t held_len, const byte *input, size_t input_len,
-                        byte *output, size_t output_len, de_decoded *decoded);
-unsigned de_held_is_canonical(const byte *held, size_t held_len, bool *canonical);
+/* What the library returns of an encoding that is asked for. */
+struct made {
+    uint32_t status;
+    size_t detail;
+    byte held[DE_TABLES];
+};
+
+struct made de_held_new(const struct form *form, const byte *symbols, size_t symbols_len,
+                        const byte *ignore, size_t ignore_len, const byte *separator,
+                        size_t separator_len, const byte *from, size_t from_len, const byte *to,
+                        size_t to_len);
+struct made de_held_read(const byte *bytes, size_t len);
+unsigned de_held_layout(const byte *held, byte *output, size_t output_len, size_t *written);
+unsigned de_held_encode_len(const byte *held, size_t len, size_t *text_len);
+unsigned de_held_encode(const byte *held, const byte *input, size_t input_len, byte *output,
+                        size_t output_len, size_t *written);
+unsigned de_held_decode_len(const byte *held, size_t len, size_t *most);
+unsigned de_held_decode(const byte *held, const byte *input, size_t input_len, byte *output,
+                        size_t output_len, de_decoded *decoded);
+unsigned de_held_is_canonical(const byte *held, bool *canonical);
+
+/* What marks a de_encoding that was made. */
+#define MADE 0xde
 
 /* What no bytes are read from, and written to. */
 static const byte no_bytes[1];
@@ -50,7 +64,16 @@ static byte *out(void *bytes) {
 }
 
 static bool is_held(const de_encoding *encoding) {
-    return encoding->len <= sizeof encoding->layout;
+    return encoding->made == MADE;
+}
+
+/* Where an encoding is made, it is stored. */
+static de_status stored(de_encoding *encoding, const struct made *made) {
+    if (made->status == DE_OK) {
+        encoding->made = MADE;
+        memcpy(encoding->tables, made->held, sizeof encoding->tables);
+    }
+    return (de_status)made->status;
 }
 
 const char *de_status_text(de_status status) {
@@ -60,7 +83,7 @@ const char *de_status_text(de_status status) {
         "null pointer",
         "too long",
         "output too short",
-        "out of memory",
+        "unknown status",
         "invalid length",
         "invalid symbol",
         "non-zero trailing bits",
@@ -139,8 +162,8 @@ de_status de_number_named(const char *name, size_t name_len, de_number *number) 
 }
 
 de_status de_encoding_new(de_encoding *encoding, const de_specification *asked, size_t *detail) {
-    size_t unread = 0;
     struct form form;
+    struct made made;
     if (encoding == NULL || asked == NULL || is_missing(asked->symbols, asked->symbols_len) ||
         is_missing(asked->ignore, asked->ignore_len) ||
         is_missing(asked->wrap_separator, asked->wrap_separator_len) ||
@@ -155,12 +178,35 @@ de_status de_encoding_new(de_encoding *encoding, const de_specification *asked, 
     form.least_significant_first = asked->least_significant_first;
     form.check_trailing_bits = asked->check_trailing_bits;
     form.concatenate = asked->concatenate;
-    return (de_status)de_held_new(
-        &form, in(asked->symbols), asked->symbols_len, in(asked->ignore), asked->ignore_len,
-        in(asked->wrap_separator), asked->wrap_separator_len, in(asked->translate_from),
-        asked->translate_from_len, in(asked->translate_to), asked->translate_to_len,
-        encoding->layout, sizeof encoding->layout, &encoding->len,
-        detail != NULL ? detail : &unread);
+    made = de_held_new(&form, in(asked->symbols), asked->symbols_len, in(asked->ignore),
+                       asked->ignore_len, in(asked->wrap_separator), asked->wrap_separator_len,
+                       in(asked->translate_from), asked->translate_from_len,
+                       in(asked->translate_to), asked->translate_to_len);
+    if (detail != NULL && (made.status == DE_DUPLICATE || made.status == DE_WRAP_WIDTH ||
+                           made.status == DE_UNDEFINED)) {
+        *detail = made.detail;
+    }
+    return stored(encoding, &made);
+}
+
+de_status de_encoding_layout(const de_encoding *encoding, void *output, size_t output_len,
+                             size_t *written) {
+    if (encoding == NULL || is_missing(output, output_len) || written == NULL) {
+        return DE_NULL_POINTER;
+    }
+    if (!is_held(encoding)) {
+        return DE_NO_ENCODING;
+    }
+    return (de_status)de_held_layout(encoding->tables, out(output), output_len, written);
+}
+
+de_status de_encoding_read(de_encoding *encoding, const void *layout, size_t len) {
+    struct made made;
+    if (encoding == NULL || is_missing(layout, len)) {
+        return DE_NULL_POINTER;
+    }
+    made = de_held_read(in(layout), len);
+    return stored(encoding, &made);
 }
 
 de_status de_encoding_encode_len(const de_encoding *encoding, size_t len, size_t *text_len) {
@@ -170,7 +216,7 @@ de_status de_encoding_encode_len(const de_encoding *encoding, size_t len, size_t
     if (!is_held(encoding)) {
         return DE_NO_ENCODING;
     }
-    return (de_status)de_held_encode_len(encoding->layout, encoding->len, len, text_len);
+    return (de_status)de_held_encode_len(encoding->tables, len, text_len);
 }
 
 de_status de_encoding_encode(const de_encoding *encoding, const void *input, size_t input_len,
@@ -182,7 +228,7 @@ de_status de_encoding_encode(const de_encoding *encoding, const void *input, siz
     if (!is_held(encoding)) {
         return DE_NO_ENCODING;
     }
-    return (de_status)de_held_encode(encoding->layout, encoding->len, in(input), input_len,
+    return (de_status)de_held_encode(encoding->tables, in(input), input_len,
                                      out(output), output_len, written);
 }
 
@@ -193,7 +239,7 @@ de_status de_encoding_decode_len(const de_encoding *encoding, size_t len, size_t
     if (!is_held(encoding)) {
         return DE_NO_ENCODING;
     }
-    return (de_status)de_held_decode_len(encoding->layout, encoding->len, len, most);
+    return (de_status)de_held_decode_len(encoding->tables, len, most);
 }
 
 de_status de_encoding_decode(const de_encoding *encoding, const char *input, size_t input_len,
@@ -205,7 +251,7 @@ de_status de_encoding_decode(const de_encoding *encoding, const char *input, siz
     if (!is_held(encoding)) {
         return DE_NO_ENCODING;
     }
-    return (de_status)de_held_decode(encoding->layout, encoding->len, in(input), input_len,
+    return (de_status)de_held_decode(encoding->tables, in(input), input_len,
                                      out(output), output_len, decoded);
 }
 
@@ -216,5 +262,5 @@ de_status de_encoding_is_canonical(const de_encoding *encoding, bool *canonical)
     if (!is_held(encoding)) {
         return DE_NO_ENCODING;
     }
-    return (de_status)de_held_is_canonical(encoding->layout, encoding->len, canonical);
+    return (de_status)de_held_is_canonical(encoding->tables, canonical);
 }

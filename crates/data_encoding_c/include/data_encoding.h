@@ -5,11 +5,11 @@
  *
  * What a caller owes, and nothing checks: a pointer points to as many bytes as the length behind it
  * says, or to a value of its type; what a call writes to overlaps nothing else that it is given;
- * and nothing writes to any of these while the call runs. A pointer to bytes may be null where its
+ * nothing writes to any of these while the call runs; and a de_encoding is one that de_encoding_new
+ * or de_encoding_read made, or a copy of it. A pointer to bytes may be null where its
  * length is 0. Any other null pointer is refused by DE_NULL_POINTER.
  *
- * Lengths are in bytes. No text that is written ends in a NUL. No call but de_encoding_new takes
- * memory, and none keeps any.
+ * Lengths are in bytes. No text that is written ends in a NUL. No call takes memory.
  */
 #ifndef DATA_ENCODING_H
 #define DATA_ENCODING_H
@@ -42,9 +42,6 @@ typedef enum de_status {
 
     /* The output has no room: de_encode_len and de_decode_len say how much is needed. */
     DE_SHORT_BUFFER = 4,
-
-    /* No memory was found. Of de_encoding_new alone. */
-    DE_OUT_OF_MEMORY = 5,
 
     /* The text has a fault: its length is that of no text; a byte is no symbol; bits that are left
      * after the last byte are not zeros; the number of padding characters is wrong. */
@@ -79,7 +76,7 @@ typedef enum de_status {
     /* A byte is translated to the byte `detail`, which has no meaning. */
     DE_UNDEFINED = 17,
 
-    /* The de_encoding was not made by de_encoding_new. */
+    /* The bytes are no layout; or the de_encoding shows that none was made. */
     DE_NO_ENCODING = 18
 } de_status;
 
@@ -195,19 +192,36 @@ typedef struct de_specification {
 
 #define DE_SPECIFICATION {NULL, 0, NULL, 0, NULL, 0, 0, NULL, 0, NULL, 0, -1, false, true, true}
 
-/* An encoding of a caller's own: plain bytes, which may be copied and stored, and need no end. */
+/* The length of the tables of an encoding. */
+#define DE_TABLES 775
+
+/* An encoding of a caller's own: plain bytes, which may be copied within the program, and need no
+ * end. They are trusted, and not judged again: bytes from elsewhere are read by de_encoding_read.
+ * One that is all zeros is refused by DE_NO_ENCODING. */
 typedef struct de_encoding {
-    size_t len;
-    unsigned char layout[770];
+    unsigned char made;
+    unsigned char tables[DE_TABLES];
 } de_encoding;
 
 /* Writes the encoding that is asked for to *encoding; or, after DE_DUPLICATE, DE_WRAP_WIDTH and
- * DE_UNDEFINED, what these name to *detail, if that is not null. DE_OUT_OF_MEMORY. */
+ * DE_UNDEFINED, what these name to *detail, if that is not null. */
 de_status de_encoding_new(de_encoding *encoding, const de_specification *specification,
                           size_t *detail);
 
-/* The same calls by such an encoding. It is judged anew at each call, which takes about
- * half a microsecond. DE_NO_ENCODING. */
+/* The greatest length of a layout. */
+#define DE_LAYOUT_LIMIT 770
+
+/* Writes the layout of the encoding to the front of output, and its length to *written: bytes that
+ * say all of it, to be stored or sent. What stands in the output behind them stays.
+ * DE_SHORT_BUFFER, which DE_LAYOUT_LIMIT bytes avoid. */
+de_status de_encoding_layout(const de_encoding *encoding, void *output, size_t output_len,
+                             size_t *written);
+
+/* Writes the encoding of a layout to *encoding. Any bytes may be given: DE_NO_ENCODING where they
+ * are no layout. */
+de_status de_encoding_read(de_encoding *encoding, const void *layout, size_t len);
+
+/* The same calls by such an encoding. DE_NO_ENCODING. */
 de_status de_encoding_encode_len(const de_encoding *encoding, size_t len, size_t *text_len);
 de_status de_encoding_encode(const de_encoding *encoding, const void *input, size_t input_len,
                              char *output, size_t output_len, size_t *written);

@@ -1,4 +1,3 @@
 mod DecodeLemmas
 mod NumberLemmas
 mod NameLemmas
-mod HeldLemmas

@@ -1,5 +1,5 @@
 -- A number has one base.
-use Rattle.std.proofs.Common.{◌≡◌, ℕ, Some, None, Result, Ok, sym, ap, ◌∙◌}
+use Rattle.std.proofs.Common.{◌≡◌, ℕ, Some, Result, Ok, sym, ap, ◌∙◌}
 use Rattle.data_encoding.specs.declared.specification.meanings.Refusal.{Refusal}
 use Rattle.data_encoding.specs.Base.{Base}
 use Rattle.data_encoding.specs.Fields.{Fields, base_of}
@@ -16,10 +16,3 @@ pub one-base : (number : ℕ) (one other : Base) → IsNumbered number one → I
 one-base number one other h k =
     let same = some-one (sym h.is_known ∙ k.is_known) in
     ok-one (sym h.is_built ∙ ap base_of same ∙ k.is_built)
-
-pub is-known : (number : ℕ) (base : Base) → IsNumbered number base → fields_numbered number ≡ None
-    → ⊥
-is-known number base h none = absurd (cc (sym h.is_known ∙ none))
-
-pub some-base : {one other : Base} → Some one ≡ Some other → one ≡ other
-some-base is = cc

@@ -16,6 +16,10 @@ use Rattle.data_encoding_c.specs.Status.{ok, too_long, short_buffer, status_of_k
 abbrev pub over : List ℕ → List ℕ → List ℕ
 over bytes old = bytes ++ drop (length bytes) old
 
+-- the status of bytes that are written into so much room
+abbrev pub front_status : List ℕ → ℕ → ℕ
+front_status bytes room = if nat_lt room (length bytes) then short_buffer else ok
+
 -- the status of a length of data
 abbrev pub encode_len_status : ℕ → ℕ
 encode_len_status len = if nat_lt 36028797018963967 len then too_long else ok
@@ -55,6 +59,14 @@ pub record HasStopped (base : Base) (text output : List ℕ) (partial : DecodePa
   pub written : decoded.written ≡ partial.written
   pub position : decoded.position ≡ partial.error.position
   pub means : Means base (take decoded.read text) (take decoded.written output)
+
+-- A call wrote the bytes to the front of the output, or refused and changed nothing.
+pub record WritesFront (bytes output_old output_new : List ℕ)
+    (written_old written_new answer : ℕ) : Type 0 where
+  pub status : answer ≡ front_status bytes (length output_old)
+  pub front : answer ≡ ok → output_new ≡ over bytes output_old
+  pub written : answer ≡ ok → written_new ≡ length bytes
+  pub refused : (answer ≡ ok → ⊥) → (output_new ≡ output_old) × (written_new ≡ written_old)
 
 -- A call told the length of the text of so many bytes, or refused and changed nothing.
 pub record TellsTextLength (base : Base) (len old new answer : ℕ) : Type 0 where

@@ -1,16 +1,14 @@
--- Encodings that a caller holds as bytes.
-use Rattle.std.specs.Prelude.{◌≡◌, ℕ, Bool, List, take, Option, Some, None, Ok, if◌then◌else◌}
+-- Encodings of a caller's own: the specification that is asked for, and what is made of it.
+use Rattle.std.specs.Prelude.{◌≡◌, ℕ, Bool, List, Option, Some, None, if◌then◌else◌, Result, Ok, Err}
 use Rattle.data_encoding.specs.declared.encoding.BitOrder.{BitOrder}
 use Rattle.data_encoding.specs.declared.encoding.BitOrder.TheVariants.{MostSignificantFirst, LeastSignificantFirst}
+use Rattle.data_encoding.specs.declared.specification.meanings.Refusal.{Refusal}
 use Rattle.data_encoding.specs.Base.{Base}
-use Rattle.data_encoding.specs.Fields.{Fields, IsSpecified, base_of}
-use Rattle.data_encoding.specs.Layout.{layout}
+use Rattle.data_encoding.specs.Fields.{Fields}
+use Rattle.data_encoding.specs.Plain.{base_of_plain}
 use Rattle.data_encoding_c.specs.declared.make.Form.{Form}
-
--- The bytes are the layout of an encoding with this base.
-pub record IsHeld (base : Base) (held : List ℕ) : Type 0 where
-  pub specified : IsSpecified base
-  pub is_layout : layout base ≡ held
+use Rattle.data_encoding_c.specs.declared.make.Made.{Made}
+use Rattle.data_encoding_c.specs.Status.{ok, status_of_refusal, detail_of_refusal}
 
 abbrev pub order_asked : Bool → BitOrder
 order_asked least = if least then LeastSignificantFirst else MostSignificantFirst
@@ -33,8 +31,8 @@ fields_asked form symbols ignored separator from to = record {
   to = to;
 }
 
--- The bytes at the front, so many, are the layout of the encoding of the specification.
-pub record Makes (fields : Fields) (held : List ℕ) (len : ℕ) : Type 0 where
-  pub base : Base
-  pub is_built : base_of fields ≡ Ok base
-  pub is_layout : take len held ≡ layout base
+-- What was made of a specification: its encoding, or the status of its refusal.
+abbrev pub Makes : Result Base Refusal → Made → Type 0
+Makes (Ok base) made = (made.status ≡ ok) × (base_of_plain made.held ≡ base)
+Makes (Err refusal) made =
+    (made.status ≡ status_of_refusal refusal) × (made.detail ≡ detail_of_refusal refusal)

@@ -3,6 +3,8 @@ use Rattle.std.specs.Prelude.{ℕ, Option, Some, None}
 use Rattle.data_encoding.specs.declared.error.DecodeKind.{DecodeKind}
 use Rattle.data_encoding.specs.declared.error.DecodeKind.TheVariants.{Length, Symbol, Trailing, Padding}
 use Rattle.data_encoding.specs.declared.error.DecodeError.{DecodeError}
+use Rattle.data_encoding.specs.declared.specification.meanings.Refusal.{Refusal}
+use Rattle.data_encoding.specs.declared.specification.meanings.Refusal.TheVariants.{BadSize, NotAscii, Duplicate, ExtraPadding, WrapLength, WrapWidth, FromTo, Undefined}
 
 abbrev pub ok : ℕ
 ok = 0
@@ -16,6 +18,9 @@ too_long = 3
 abbrev pub short_buffer : ℕ
 short_buffer = 4
 
+abbrev pub no_encoding : ℕ
+no_encoding = 18
+
 abbrev pub status_of_kind : DecodeKind → ℕ
 status_of_kind Length = 6
 status_of_kind Symbol = 7
@@ -26,3 +31,21 @@ status_of_kind Padding = 9
 abbrev pub status_of_fault : Option DecodeError → ℕ
 status_of_fault None = ok
 status_of_fault (Some error) = status_of_kind error.kind
+
+-- the status of a specification that is refused
+abbrev pub status_of_refusal : Refusal → ℕ
+status_of_refusal BadSize = 10
+status_of_refusal NotAscii = 11
+status_of_refusal (Duplicate byte) = 12
+status_of_refusal ExtraPadding = 13
+status_of_refusal WrapLength = 14
+status_of_refusal (WrapWidth count) = 15
+status_of_refusal FromTo = 16
+status_of_refusal (Undefined byte) = 17
+
+-- the byte or the number that a refusal names, or 0
+abbrev pub detail_of_refusal : Refusal → ℕ
+detail_of_refusal (Duplicate byte) = byte
+detail_of_refusal (WrapWidth count) = count
+detail_of_refusal (Undefined byte) = byte
+detail_of_refusal _ = 0

@@ -11,5 +11,5 @@ mod make;
 mod names;
 mod numbered;
 mod numbers;
-mod refusal;
 mod status;
+mod stored;

@@ -1,17 +1,12 @@
-//! An encoding of a caller's own from a specification, as the bytes that name it.
+//! An encoding of a caller's own from a specification.
 
-ghost use Rattle.std.specs.Prelude.{◌≡◌, ◌⊎◌, ◌≤◌, length, IfOk, IfErr, Ok};
-ghost use Rattle.std.specs.String.{string_bytes};
-ghost use Rattle.data_encoding.specs.Base.{Base};
+ghost use Rattle.std.specs.Prelude.{◌≡◌};
 ghost use Rattle.data_encoding.specs.Fields.{base_of};
-ghost use Rattle.data_encoding.specs.Layout.{layout};
-ghost use Rattle.data_encoding.specs.Specification.{specified};
+ghost use Rattle.data_encoding.specs.Plain.{base_of_plain};
 ghost use Rattle.data_encoding_c.specs.Held.{Makes, fields_asked, order_asked, padding_asked};
 
-use crate::refusal::status_of_refusal;
-use crate::status::{NOT_ASCII, OK, OUT_OF_MEMORY, SHORT_BUFFER};
-use data_encoding::{BitOrder, Specification, Translate, Wrap};
-use std::alloc::Global;
+use crate::status::{OK, detail_of_refusal, status_of_refusal};
+use data_encoding::{BitOrder, Encoding, PlainEncoding, SpecificationParts, hexlower};
 
 /// What a specification says in numbers.
 #[repr(C)]
@@ -36,92 +31,75 @@ pub struct Form {
     pub concatenate: bool,
 }
 
-/// Writes the layout of the encoding that is asked for to the front of `held`, and its length, at
-/// most 770, to `len`; or the byte or the number that the refusal names, if any, to `detail`.
-#[unsafe(no_mangle)]
-pub extern "C" fn de_held_new(
-    alloc: Global,
-    form: &Form,
-    symbols: &[u8],
-    ignore: &[u8],
-    separator: &[u8],
-    from: &[u8],
-    to: &[u8],
-    held: &mut [u8],
-    len: &mut usize,
-    detail: &mut usize,
-) -> u32
-    ensures made { result ≡ OK → Makes (fields_asked form.now symbols.now ignore.now separator.now
-        from.now to.now) held.new len.new }
-    ensures refused { (result ≡ OK → ⊥) → (held.new ≡ held.old) × (len.new ≡ len.old) }
-    ensures accepted { (base : Base) → base_of (fields_asked form.now symbols.now ignore.now
-        separator.now from.now to.now) ≡ Ok base → length (layout base) ≤ length held.old
-        → (result ≡ OK) ⊎ (result ≡ NOT_ASCII) ⊎ (result ≡ OUT_OF_MEMORY) }
-{
-    let specification = match asked(alloc, form, symbols, ignore, separator, from, to) {
-        Ok(specification) => specification,
-        Err(status) => return status,
-    };
-    match specification.encoding() {
-        Ok(encoding) => {
-            let bytes = encoding.internal_implementation();
-            let bytes = bytes.as_slice();
-            if held.len() < bytes.len() {
-                return SHORT_BUFFER;
-            }
-            held[..bytes.len()].copy_from_slice(bytes);
-            *len = bytes.len();
-            OK
-        }
-        Err(error) => status_of_refusal(alloc, error, detail),
-    }
+/// What is made of a specification, or of a layout.
+#[repr(C)]
+#[derive(Clone, Copy, Drop)]
+pub struct Made {
+    /// Whether an encoding is made, or why not.
+    pub status: u32,
+
+    /// The byte or the number that a refusal names, or 0.
+    pub detail: usize,
+
+    /// The encoding, where one is made; any other where none is.
+    pub held: PlainEncoding,
 }
 
-// The specification that is asked for, or the status of what it lacks.
-fn asked(
-    alloc: Global,
+/// The encoding that is asked for, or why there is none.
+#[unsafe(no_mangle)]
+pub extern "C" fn de_held_new(
     form: &Form,
     symbols: &[u8],
     ignore: &[u8],
     separator: &[u8],
     from: &[u8],
     to: &[u8],
-) -> Result<Specification, u32>
-    ensures fields { IfOk result (λ asked. specified asked ≡ fields_asked form.now symbols.now
-        ignore.now separator.now from.now to.now) }
-    ensures refused { IfErr result
-        (λ status. (status ≡ NOT_ASCII) ⊎ (status ≡ OUT_OF_MEMORY)) }
+) -> Made
+    ensures { Makes (base_of (fields_asked form.now symbols.now ignore.now separator.now from.now
+        to.now)) result }
 {
-    Ok(Specification {
-        symbols: text_of_bytes(alloc, symbols)?,
+    let parts = SpecificationParts {
+        symbols,
         bit_order: bit_order(form.least_significant_first),
         check_trailing_bits: form.check_trailing_bits,
         concatenate: form.concatenate,
         padding: padding(form.has_padding, form.padding),
-        ignore: text_of_bytes(alloc, ignore)?,
-        wrap: Wrap {
-            width: form.wrap_width,
-            separator: text_of_bytes(alloc, separator)?,
-        },
-        translate: Translate {
-            from: text_of_bytes(alloc, from)?,
-            to: text_of_bytes(alloc, to)?,
-        },
-    })
+        ignore,
+        wrap_width: form.wrap_width,
+        wrap_separator: separator,
+        translate_from: from,
+        translate_to: to,
+    };
+    match parts.encoding() {
+        Ok(encoding) => accepted(&encoding),
+        Err(error) => {
+            let refusal = error.refusal();
+            refused(status_of_refusal(refusal), detail_of_refusal(refusal))
+        }
+    }
 }
 
-// The bytes as text. Where they are no UTF-8, one of them is not ASCII.
-fn text_of_bytes(alloc: Global, bytes: &[u8]) -> Result<String, u32>
-    ensures text { IfOk result (λ text. string_bytes text ≡ bytes.now) }
-    ensures refused { IfErr result
-        (λ status. (status ≡ NOT_ASCII) ⊎ (status ≡ OUT_OF_MEMORY)) }
+/// That this encoding is made.
+pub(crate) fn accepted(encoding: &Encoding) -> Made
+    ensures status { result.status ≡ OK }
+    ensures held { base_of_plain result.held ≡ encoding.now }
 {
-    let Ok(text) = str::from_utf8(bytes) else {
-        return Err(NOT_ASCII);
-    };
-    match String::from_str(alloc, text) {
-        Ok(text) => Ok(text),
-        Err(_) => Err(OUT_OF_MEMORY),
+    Made {
+        status: OK,
+        detail: 0,
+        held: encoding.to_plain(),
+    }
+}
+
+/// That none is made.
+pub(crate) fn refused(status: u32, detail: usize) -> Made
+    ensures status { result.status ≡ status }
+    ensures detail { result.detail ≡ detail }
+{
+    Made {
+        status,
+        detail,
+        held: hexlower().to_plain(),
     }
 }
 

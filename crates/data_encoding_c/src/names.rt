@@ -2,7 +2,8 @@
 
 ghost use Rattle.std.specs.Prelude.{◌≡◌, ◌≤◌, ℕ, List, length, IfSome, None, Some};
 ghost use Rattle.std.specs.String.{string_bytes};
-ghost use Rattle.data_encoding_c.specs.Names.{WritesName, name_numbered, number_named};
+ghost use Rattle.data_encoding_c.specs.Calls.{WritesFront};
+ghost use Rattle.data_encoding_c.specs.Names.{name_numbered, number_named};
 
 use crate::status::{OK, SHORT_BUFFER, UNKNOWN_ENCODING};
 
@@ -11,7 +12,7 @@ use crate::status::{OK, SHORT_BUFFER, UNKNOWN_ENCODING};
 #[unsafe(no_mangle)]
 pub extern "C" fn de_numbered_name(number: u32, output: &mut [u8], written: &mut usize) -> u32
     ensures known { (name : List ℕ) → name_numbered number ≡ Some name
-        → WritesName name output.old output.new written.old written.new result }
+        → WritesFront name output.old output.new written.old written.new result }
     ensures unknown { name_numbered number ≡ None
         → (result ≡ UNKNOWN_ENCODING) × (output.new ≡ output.old) × (written.new ≡ written.old) }
     ensures fits { 22 ≤ length output.old → result ≡ SHORT_BUFFER → ⊥ }

@@ -18,7 +18,7 @@ use Rattle.data_encoding.specs.Specification.{no_fields, specified, refusal_of, 
 use Rattle.std.specs.String.{string_bytes}
 use Rattle.data_encoding.specs.declared.encoding.Character.{Character}
 use Rattle.data_encoding.specs.declared.specification.Specification.{Specification}
-use Rattle.data_encoding.specs.declared.specification.builder.Parts.{Parts}
+use Rattle.data_encoding.specs.declared.specification.parts.SpecificationParts.{SpecificationParts}
 use Rattle.data_encoding.specs.declared.specification.Translate.{Translate as TranslateTexts}
 use Rattle.data_encoding.specs.declared.specification.Wrap.{Wrap}
 use Rattle.data_encoding.proofs.vectors.Examples.{Hold, by, Has, octal_fields, reversed, unchecked, ignoring, wrapped, nopad_ignoring_lf_fields, lines_of_8_fields, single_fields}
@@ -248,7 +248,7 @@ specification_said s symbols column separator = (symbols, column, separator)
 copies_same : (t : TranslateTexts) (w : Wrap) → SameTranslate t t × SameWrap w w
 copies_same t w = (record { from = refl; to = refl }, record { width = refl; separator = refl })
 
-parts_said : (p : Parts) → p.symbols.now ≡ codes "01" → p.column ≡ 8
+parts_said : (p : SpecificationParts) → p.symbols.now ≡ codes "01" → p.wrap_width ≡ 8
     → ((fields_of_parts p).symbols ≡ codes "01") × ((fields_of_parts p).column ≡ 8)
 parts_said p symbols column = (symbols, column)
 

@@ -6,27 +6,13 @@ ghost use Rattle.data_encoding.specs.Base.{IsWidth};
 ghost use Rattle.data_encoding.specs.Fields.{Fields, base_of, base_by, judgements, meanings_after, no_meanings, width_of, wraps};
 ghost use Rattle.data_encoding.specs.Specification.{fields_of_parts};
 
-use crate::encoding::{BitOrder, Encoding};
+use crate::encoding::Encoding;
 use crate::specification::meanings::{Meanings, Refusal, wraps};
+use crate::specification::parts::SpecificationParts;
 use arrayvec::ArrayVec;
 
 // The numbers of symbols, in order of their bits; one symbol has none.
 const SIZES: [usize; 7] = [1, 2, 4, 8, 16, 32, 64];
-
-// The fields of a specification, its texts as bytes.
-#[derive(Drop)]
-pub(crate) struct Parts<'a> {
-    pub(crate) symbols: &'a [u8],
-    pub(crate) order: BitOrder,
-    pub(crate) check: bool,
-    pub(crate) concatenate: bool,
-    pub(crate) padding: Option<char>,
-    pub(crate) ignored: &'a [u8],
-    pub(crate) column: usize,
-    pub(crate) separator: &'a [u8],
-    pub(crate) from: &'a [u8],
-    pub(crate) to: &'a [u8],
-}
 
 // The number of bits of a symbol, where there are `count`: a single one has none.
 fn width_of(count: usize) -> Option<usize>
@@ -115,7 +101,7 @@ fn separator_bytes(column: usize, separator: &[u8]) -> ArrayVec<u8, 255>
 }
 
 // What the bytes mean after all judgements.
-fn judge(parts: &Parts<'_>, width: u8) -> Result<Meanings, Refusal>
+fn judge(parts: &SpecificationParts<'_>, width: u8) -> Result<Meanings, Refusal>
     requires width { IsWidth width }
     requires count { 2 ^ width ≡ length parts.now.symbols.now }
     ensures meanings { IfOk result (λ meanings.
@@ -128,14 +114,14 @@ fn judge(parts: &Parts<'_>, width: u8) -> Result<Meanings, Refusal>
     let mut meanings = Meanings::new();
     meanings.define_symbols(parts.symbols)?;
     meanings.define_padding(width, parts.padding)?;
-    meanings.define_ignored(parts.ignored)?;
-    meanings.define_wrapping(width, parts.column, parts.separator)?;
-    meanings.translate(parts.from, parts.to)?;
+    meanings.define_ignored(parts.ignore)?;
+    meanings.define_wrapping(width, parts.wrap_width, parts.wrap_separator)?;
+    meanings.translate(parts.translate_from, parts.translate_to)?;
     Ok(meanings)
 }
 
 // The encoding of what was judged.
-fn assembled(parts: &Parts<'_>, width: u8, meanings: Meanings) -> Encoding
+fn assembled(parts: &SpecificationParts<'_>, width: u8, meanings: Meanings) -> Encoding
     requires sized { width_of (length parts.now.symbols.now) ≡ Some width }
     requires width { IsWidth width }
     requires count { 2 ^ width ≡ length parts.now.symbols.now }
@@ -148,18 +134,18 @@ fn assembled(parts: &Parts<'_>, width: u8, meanings: Meanings) -> Encoding
         symbols: repeated(parts.symbols, width),
         values: meanings.into_values(),
         width,
-        order: parts.order,
-        checks_trailing_bits: checks_trailing_bits(parts.check, width),
+        order: parts.bit_order,
+        checks_trailing_bits: checks_trailing_bits(parts.check_trailing_bits, width),
         concatenates: concatenates(parts.concatenate, parts.padding),
         padding: padding_byte(parts.padding),
         ignores,
-        column: column_byte(parts.column, parts.separator),
-        separator: separator_bytes(parts.column, parts.separator),
+        column: column_byte(parts.wrap_width, parts.wrap_separator),
+        separator: separator_bytes(parts.wrap_width, parts.wrap_separator),
     }
 }
 
 // The encoding that is built from the fields, or the first refusal.
-pub(crate) fn define(parts: &Parts<'_>) -> Result<Encoding, Refusal>
+pub(crate) fn define(parts: &SpecificationParts<'_>) -> Result<Encoding, Refusal>
     ensures yields { IfOk result (λ base. base_of (fields_of_parts parts.now) ≡ Ok base) }
     ensures refused { IfErr result
         (λ refusal. base_of (fields_of_parts parts.now) ≡ Err refusal) }

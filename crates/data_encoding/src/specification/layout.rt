@@ -8,7 +8,8 @@ ghost use Rattle.data_encoding.specs.Fields.{IsSpecified};
 ghost use Rattle.data_encoding.specs.Layout.{layout, order_flag};
 
 use crate::encoding::{BitOrder, Encoding, INVALID};
-use crate::specification::builder::{Parts, define};
+use crate::specification::builder::define;
+use crate::specification::parts::SpecificationParts;
 use crate::specification::tables::{Tables, character, symbol_count};
 use arrayvec::ArrayVec;
 
@@ -112,17 +113,17 @@ fn described(bytes: &[u8]) -> Option<Encoding>
     };
     let ignored = tables.ignored();
     let translations = tables.translations();
-    let parts = Parts {
+    let parts = SpecificationParts {
         symbols: tables.symbols,
-        order: order_of(flags),
-        check: flags / 16 % 2 == 1,
+        bit_order: order_of(flags),
+        check_trailing_bits: flags / 16 % 2 == 1,
         concatenate: flags / 32 % 2 == 0,
         padding: character(tables.padding),
-        ignored: ignored.as_slice(),
-        column: column_of(bytes) as usize,
-        separator: separator_of(bytes),
-        from: translations.from.as_slice(),
-        to: translations.to.as_slice(),
+        ignore: ignored.as_slice(),
+        wrap_width: column_of(bytes) as usize,
+        wrap_separator: separator_of(bytes),
+        translate_from: translations.from.as_slice(),
+        translate_to: translations.to.as_slice(),
     };
     define(&parts).ok()
 }

@@ -1,15 +1,14 @@
-use Rattle.std.proofs.Common.{subst, sym, ◌∙◌}
+use Rattle.std.proofs.Common.{subst}
 use Rattle.data_encoding_c.specs.Calls.{Decodes}
-use Rattle.data_encoding_c.proofs.NumberLemmas.{some-base}
 use Rattle.data_encoding_c.proofs.held.de_held_decode.Goals as goal
 
-pub returns-clause-known : goal.returns-clause-known
-returns-clause-known c = λ base is.
+pub returns : goal.returns
+returns c =
     let told = c.decode_by.ensures in
     subst
     (λ b. Decodes b c.args.input.now c.args.output.now c.decode_by.new.output
     c.args.decoded.now c.decode_by.new.decoded c.decode_by.result)
-    (some-base (sym c.in-Some.is ∙ c.encoding_held.ensures.known base is))
+    c.encoding.ensures
     (record {
       status = told.status;
       means = told.means;

@@ -1,14 +1,13 @@
-use Rattle.std.proofs.Common.{subst, sym, ◌∙◌}
+use Rattle.std.proofs.Common.{subst}
 use Rattle.data_encoding_c.specs.Calls.{TellsMost}
-use Rattle.data_encoding_c.proofs.NumberLemmas.{some-base}
 use Rattle.data_encoding_c.proofs.held.de_held_decode_len.Goals as goal
 
-pub returns-clause-known : goal.returns-clause-known
-returns-clause-known c = λ base is.
+pub returns : goal.returns
+returns c =
     let told = c.decode_len_by.ensures in
     subst
     (λ b. TellsMost b c.args.len c.args.most.now c.decode_len_by.new.most c.decode_len_by.result)
-    (some-base (sym c.in-Some.is ∙ c.encoding_held.ensures.known base is))
+    c.encoding.ensures
     (record {
       status = told.status;
       value = told.value;

@@ -1,0 +1,33 @@
+-- Worked rows: an encoding as plain data.
+use Rattle.std.proofs.Common.{◌≡◌, true, false, [], ◌∷◌, Some, None, refl}
+use Rattle.data_encoding.specs.declared.encoding.BitOrder.TheVariants.{MostSignificantFirst, LeastSignificantFirst}
+use Rattle.data_encoding.specs.declared.plain.PlainEncoding.{PlainEncoding}
+use Rattle.data_encoding.specs.declared.plain.PlainFields.{PlainFields}
+use Rattle.data_encoding.specs.Plain.{base_of_plain}
+use Rattle.data_encoding.specs.PlainTables.{order_by, padding_by, plain_tables}
+
+-- what is kept beside the tables of BASE64_MIME
+abbrev plain_mime : PlainFields
+plain_mime = record {
+  symbols = [];
+  values = [];
+  separator = 13 ∷ 10 ∷ 0 ∷ [];
+  separator_len = 2;
+  width = 6;
+  column = 76;
+  padding = 61;
+  least_significant_first = false;
+  checks_trailing_bits = true;
+  concatenates = true;
+  ignores = true;
+}
+
+plain_read :
+    ((plain_tables plain_mime).separator.items ≡ 13 ∷ 10 ∷ [])
+    × ((plain_tables plain_mime).padding ≡ Some 61)
+    × ((plain_tables plain_mime).order ≡ MostSignificantFirst)
+    × (padding_by 128 ≡ None) × (order_by true ≡ LeastSignificantFirst)
+plain_read = (refl, refl, refl, refl, refl)
+
+plain_seen : (plain : PlainEncoding) → plain.fields.width ≡ 6 → (base_of_plain plain).width ≡ 6
+plain_seen plain width = width

@@ -1,0 +1,9 @@
+-- What a contract sees of a `PlainEncoding`.
+use Rattle.data_encoding.specs.declared.plain.PlainEncoding.{PlainEncoding}
+use Rattle.data_encoding.specs.Base.{Base}
+use Rattle.data_encoding.specs.Encoding.{base_of_tables}
+use Rattle.data_encoding.specs.PlainTables.{plain_tables}
+
+-- the encoding
+abbrev pub base_of_plain : PlainEncoding → Base
+base_of_plain plain = base_of_tables (plain_tables plain.fields)

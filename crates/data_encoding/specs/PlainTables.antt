@@ -1,0 +1,28 @@
+-- The tables of an encoding as plain data.
+use Rattle.std.specs.Prelude.{ℕ, nat_lt, Bool, take, Option, Some, None, if◌then◌else◌}
+use Rattle.data_encoding.specs.declared.encoding.BitOrder.{BitOrder}
+use Rattle.data_encoding.specs.declared.encoding.BitOrder.TheVariants.{MostSignificantFirst, LeastSignificantFirst}
+use Rattle.data_encoding.specs.declared.encoding.Encoding.TheInside.{Inside}
+use Rattle.data_encoding.specs.declared.plain.PlainFields.{PlainFields}
+
+abbrev pub order_by : Bool → BitOrder
+order_by least = if least then LeastSignificantFirst else MostSignificantFirst
+
+-- a padding character is ASCII
+abbrev pub padding_by : ℕ → Option ℕ
+padding_by entry = if nat_lt entry 128 then Some entry else None
+
+-- the tables that plain fields stand for
+abbrev pub plain_tables : PlainFields → Inside
+plain_tables f = record {
+  symbols = f.symbols;
+  values = f.values;
+  width = f.width;
+  order = order_by f.least_significant_first;
+  checks_trailing_bits = f.checks_trailing_bits;
+  concatenates = f.concatenates;
+  padding = padding_by f.padding;
+  ignores = f.ignores;
+  column = f.column;
+  separator = record { items = take f.separator_len f.separator };
+}
