@@ -103,6 +103,15 @@ module _ {e : Inside} {seen : Base} (rules : KeepsRules e) (is : base_of_tables 
       (sym ends-is)
       (IsByPieces-blocks seen ruled lines wrapped count any))
 
+  pub IsByPieces-line : {size ends : ℕ} → size ≡ alignment seen → ends ≡ length e.separator.items
+      → IsByPieces (text_of seen) size (e.column + ends)
+  IsByPieces-line {size} {ends} size-is ends-is =
+      let one : (n : ℕ) → 1 * n ≡ n = λ n. omega arith in
+      let some : 0 < 1 = omega arith in
+      subst (λ n. IsByPieces (text_of seen) n (e.column + ends)) (one size)
+      (subst (λ n. IsByPieces (text_of seen) (1 * size) n) (one (e.column + ends))
+      (IsByPieces-text some size-is ends-is))
+
   -- as many lines as there is room for
   module _ (room : ℕ) where
     pub lines-few : room / e.column ≤ room
