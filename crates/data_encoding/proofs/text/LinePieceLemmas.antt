@@ -14,7 +14,7 @@ use Rattle.data_encoding.proofs.judgement.RuleLemmas.{AreLines, IsRuled}
 use Rattle.data_encoding.proofs.lists.PartLemmas.{groups-within}
 use Rattle.data_encoding.proofs.lists.PieceLemmas.{IsByPieces}
 use Rattle.data_encoding.proofs.lists.RunLemmas.{ended-short, runs-join, runs-nil}
-use Rattle.data_encoding.proofs.text.LineLemmas.{IsRuled-seen, alignment-some, are, column-some, padded-lines, short-lines, text_of-nil, whole-lines, wrapping-seen}
+use Rattle.data_encoding.proofs.text.LineLemmas.{IsRuled-seen, alignment-some, are, column-some, padded-lines, short-lines, text-most, text_of-nil, whole-lines, wrapping-seen}
 use Rattle.data_encoding.proofs.text.TextJoinLemmas.{text_of-join, whole-parts}
 
 pub IsByPieces-lines : (column : ℕ) (separator : List ℕ) → 0 < column
@@ -80,6 +80,9 @@ module _ {e : Inside} {seen : Base} (rules : KeepsRules e) (is : base_of_tables 
 
   pub columns-some : 0 < e.column
   columns-some = lines-are.some
+
+  pub text-few : (input : List ℕ) → length (text_of seen input) ≤ 263 * length input
+  text-few = text-most seen ruled
 
   pub line-few : {ends : ℕ} → ends ≡ length e.separator.items → e.column + ends ≤ 510
   line-few ends-is =

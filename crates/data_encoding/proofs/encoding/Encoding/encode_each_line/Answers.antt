@@ -1,7 +1,6 @@
 use Rattle.std.proofs.Common.{◌∙◌, arith}
 use Rattle.data_encoding.proofs.lists.PieceLemmas.{before, length-part, part-begins, piece-begins, piece-few, piece-last, piece-next, piece-some, written-first}
-use Rattle.data_encoding.proofs.text.LineLemmas.{IsRuled-seen, text-most}
-use Rattle.data_encoding.proofs.text.LinePieceLemmas.{IsByPieces-line, line-few}
+use Rattle.data_encoding.proofs.text.LinePieceLemmas.{IsByPieces-line, line-few, text-few}
 use Rattle.data_encoding.proofs.encoding.Encoding.encode_each_line.Goals as goal
 
 pub loop-index-init : goal.loop-index-init
@@ -10,6 +9,17 @@ loop-index-init g c =
     (IsByPieces-line c.self.invariant c.self.view_is c.requires.lines
     c.encode_align-line_bytes.ensures.value c.len.ensures.value)
     c.requires.exact
+
+pub overflow_mul-written : goal.overflow_mul-written
+overflow_mul-written g c =
+    record {
+      fits = omega (
+        arith,
+        piece-begins c.loop-index.invariant c.div_ceil-index-end.ensures c.loop-index-test.true,
+        text-few c.self.invariant c.self.view_is c.requires.lines c.args.input.now,
+        c.requires.limit,
+      );
+    }
 
 pub overflow_add-read : goal.overflow_add-read
 overflow_add-read g c =
@@ -22,28 +32,13 @@ overflow_add-read g c =
       );
     }
 
-pub overflow_mul-written : goal.overflow_mul-written
-overflow_mul-written g c =
-    record {
-      fits = omega (
-        arith,
-        piece-begins c.loop-index.invariant c.div_ceil-index-end.ensures c.loop-index-test.true,
-        text-most c.args.self.now
-            (IsRuled-seen c.self.inside c.self.invariant c.args.self.now c.self.view_is)
-            c.args.input.now,
-        c.requires.limit,
-      );
-    }
-
 pub overflow_add-written : goal.overflow_add-written
 overflow_add-written g c =
     record {
       fits = omega (
         arith,
         piece-begins c.loop-index.invariant c.div_ceil-index-end.ensures c.loop-index-test.true,
-        text-most c.args.self.now
-            (IsRuled-seen c.self.inside c.self.invariant c.args.self.now c.self.view_is)
-            c.args.input.now,
+        text-few c.self.invariant c.self.view_is c.requires.lines c.args.input.now,
         line-few c.self.invariant c.self.view_is c.requires.lines c.len.ensures.value,
         c.requires.limit,
       );
