@@ -131,8 +131,8 @@ module _ (base : Base) (text : List ℕ) (read written : ℕ) (output : List ℕ
     by : (b : Bool) → at.ended ≡ b → fault_after b base at.group ≡ Some error
         → (at.ended ≡ false) × (group_fault base at.group ≡ Some error)
     by true is h =
-        let other = kind_of (record { position = position_of at.group 0; kind = PaddingFault }) error
-        h refl in
+        let other =
+        kind_of (record { position = position_of at.group 0; kind = PaddingFault }) error h refl in
         absurd (false≢true (sym other ∙ kind))
     by false is h = (is, h)
 
@@ -181,7 +181,8 @@ module _ (base : Base) (text : List ℕ) (read written : ℕ) (output : List ℕ
   no_length : (part : List ℕ) → length_fault base (length part) ≡ None
   no_length part =
       length_fault-none base (length part)
-      (λ none. absurd (false≢true (sym (kind-next base text read written output error at none) ∙ kind)))
+      (λ none.
+      absurd (false≢true (sym (kind-next base text read written output error at none) ∙ kind)))
 
   -- bytes without a fault at the front of what is left are bytes of the group
   run_kept : (count : ℕ) → count ≤ length (drop read text) → count ≤ size
@@ -291,7 +292,8 @@ module _ (base : Base) (text : List ℕ) (read written : ℕ) (output : List ℕ
     unfolding run
     run_len =
         length-positioned_from read front
-        ∙ length-take-le len (drop read text) (greatest-least base at.width (length (drop read text)))
+        ∙ length-take-le len (drop read text)
+        (greatest-least base at.width (length (drop read text)))
 
     bytes_same : bytes_in run ≡ bytes_in (positioned front)
     unfolding run

@@ -185,8 +185,8 @@ module _ (base : Base) (width : IsWidth base.width) (text : List ℕ)
           (λ (none : len ≤ 0). record {
             output = output;
             partial = record { read = error.position; written = written; error = error };
-            is = last-none base text read written output error here kind (omega (arith, none)) output
-                so_far.fits refl;
+            is = last-none base text read written output error here kind (omega (arith, none))
+                output so_far.fits refl;
           })
           (cases_lt 0 len)
 

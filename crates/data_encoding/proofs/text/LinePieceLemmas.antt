@@ -14,7 +14,7 @@ use Rattle.data_encoding.proofs.judgement.RuleLemmas.{AreLines, IsRuled}
 use Rattle.data_encoding.proofs.lists.PartLemmas.{groups-within}
 use Rattle.data_encoding.proofs.lists.PieceLemmas.{IsByPieces}
 use Rattle.data_encoding.proofs.lists.RunLemmas.{ended-short, runs-join, runs-nil}
-use Rattle.data_encoding.proofs.text.LineLemmas.{IsRuled-seen, alignment-some, are, column-some, padded-lines, short-lines, text_of-nil, whole-lines, wrapping-seen}
+use Rattle.data_encoding.proofs.text.LineLemmas.{IsRuled-seen, alignment-some, are, column-some, padded-lines, short-lines, text-most, text_of-nil, whole-lines, wrapping-seen}
 use Rattle.data_encoding.proofs.text.TextJoinLemmas.{text_of-join, whole-parts}
 
 pub IsByPieces-lines : (column : ℕ) (separator : List ℕ) → 0 < column
@@ -81,6 +81,9 @@ module _ {e : Inside} {seen : Base} (rules : KeepsRules e) (is : base_of_tables 
   pub columns-some : 0 < e.column
   columns-some = lines-are.some
 
+  pub text-few : (input : List ℕ) → length (text_of seen input) ≤ 263 * length input
+  text-few = text-most seen ruled
+
   pub line-few : {ends : ℕ} → ends ≡ length e.separator.items → e.column + ends ≤ 510
   line-few ends-is =
       let columns : e.column < 256 = lines-are.short in
@@ -102,6 +105,15 @@ module _ {e : Inside} {seen : Base} (rules : KeepsRules e) (is : base_of_tables 
       (subst (λ n. IsByPieces (text_of seen) (count * alignment seen) (count * (e.column + n)))
       (sym ends-is)
       (IsByPieces-blocks seen ruled lines wrapped count any))
+
+  pub IsByPieces-line : {size ends : ℕ} → size ≡ alignment seen → ends ≡ length e.separator.items
+      → IsByPieces (text_of seen) size (e.column + ends)
+  IsByPieces-line {size} {ends} size-is ends-is =
+      let one : (n : ℕ) → 1 * n ≡ n = λ n. omega arith in
+      let some : 0 < 1 = omega arith in
+      subst (λ n. IsByPieces (text_of seen) n (e.column + ends)) (one size)
+      (subst (λ n. IsByPieces (text_of seen) (1 * size) n) (one (e.column + ends))
+      (IsByPieces-text some size-is ends-is))
 
   -- as many lines as there is room for
   module _ (room : ℕ) where

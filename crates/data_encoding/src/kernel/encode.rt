@@ -8,9 +8,38 @@ use crate::encoding::BitOrder;
 use crate::kernel::lanes::encode::encode_eight;
 use crate::kernel::words::encode_group;
 
-// By lanes as far as they reach, and then what is left. Inlined, so that the order is a constant.
+// The order is a constant from here on: each digit then stands at a known bit of its word.
 #[inline(always)]
 pub(crate) fn encode_plain<const WIDTH: usize, const BYTES: usize, const SYMBOLS: usize>(
+    symbols: &[u8; 256],
+    order: BitOrder,
+    input: &[u8],
+    output: &mut [u8],
+)
+    requires group { IsGroup WIDTH BYTES SYMBOLS }
+    requires limit { length input.now ≤ ENCODE_LIMIT }
+    requires exact { length output.old ≡ (8 * length input.now + (WIDTH - 1)) / WIDTH }
+    ensures { IsTextBy symbols.now WIDTH order input.now output.new }
+{
+    match order {
+        BitOrder::MostSignificantFirst => encode_in_order::<WIDTH, BYTES, SYMBOLS>(
+            symbols,
+            BitOrder::MostSignificantFirst,
+            input,
+            output,
+        ),
+        BitOrder::LeastSignificantFirst => encode_in_order::<WIDTH, BYTES, SYMBOLS>(
+            symbols,
+            BitOrder::LeastSignificantFirst,
+            input,
+            output,
+        ),
+    }
+}
+
+// By lanes as far as they reach, and then what is left.
+#[inline(always)]
+fn encode_in_order<const WIDTH: usize, const BYTES: usize, const SYMBOLS: usize>(
     symbols: &[u8; 256],
     order: BitOrder,
     input: &[u8],

@@ -1,8 +1,7 @@
 use Rattle.std.proofs.Common.{◌+◌, ◌/◌, ◌∙◌, arith}
 use Rattle.std.proofs.lemmas.Nat.{mul-le}
 use Rattle.data_encoding.proofs.lists.PieceLemmas.{before, length-part, part-begins, piece-begins, piece-few, piece-last, piece-next, written-first}
-use Rattle.data_encoding.proofs.text.LineLemmas.{IsRuled-seen, text-most}
-use Rattle.data_encoding.proofs.text.LinePieceLemmas.{IsByPieces-text, columns-some, line-few, lines-few, lines-fit, lines-some}
+use Rattle.data_encoding.proofs.text.LinePieceLemmas.{IsByPieces-text, columns-some, line-few, lines-few, lines-fit, lines-some, text-few}
 use Rattle.data_encoding.proofs.encoding.Encoding.encode_blocks.Goals as goal
 
 pub nonzero_div-lines : goal.nonzero_div-lines
@@ -51,9 +50,7 @@ overflow_mul-written g c =
       fits = omega (
         arith,
         piece-begins c.loop-index.invariant c.div_ceil-index-end.ensures c.loop-index-test.true,
-        text-most c.args.self.now
-            (IsRuled-seen c.self.inside c.self.invariant c.args.self.now c.self.view_is)
-            c.args.input.now,
+        text-few c.self.invariant c.self.view_is c.requires.lines c.args.input.now,
         c.requires.limit,
       );
     }
@@ -64,9 +61,7 @@ overflow_add-written g c =
       fits = omega (
         arith,
         piece-begins c.loop-index.invariant c.div_ceil-index-end.ensures c.loop-index-test.true,
-        text-most c.args.self.now
-            (IsRuled-seen c.self.inside c.self.invariant c.args.self.now c.self.view_is)
-            c.args.input.now,
+        text-few c.self.invariant c.self.view_is c.requires.lines c.args.input.now,
         mul-le (1024 / c.self.inside.column) (c.self.inside.column + c.len.result) 1024 510
             (lines-few c.self.invariant c.self.view_is c.requires.lines 1024)
             (line-few c.self.invariant c.self.view_is c.requires.lines c.len.ensures.value),

@@ -18,29 +18,29 @@ ascii e rules seen is input output written =
 pub returns-in-1-clause-ascii : goal.returns-in-1-clause-ascii
 returns-in-1-clause-ascii c =
     ascii c.self.inside c.self.invariant c.args.self.now c.self.view_is c.args.input.now
-    c.encode_in_order.new.output c.encode_in_order.ensures
+    c.encode_by_width.new.output c.encode_by_width.ensures
 
 pub returns-in-2-clause-ascii : goal.returns-in-2-clause-ascii
 returns-in-2-clause-ascii c =
     ascii c.self.inside c.self.invariant c.args.self.now c.self.view_is c.args.input.now
-    c.encode_in_order-in-2.new.output c.encode_in_order-in-2.ensures
+    c.encode_by_width-in-2.new.output c.encode_by_width-in-2.ensures
 
 pub returns-in-3-clause-ascii : goal.returns-in-3-clause-ascii
 returns-in-3-clause-ascii c =
     ascii c.self.inside c.self.invariant c.args.self.now c.self.view_is c.args.input.now
-    c.encode_in_order-in-3.new.output c.encode_in_order-in-3.ensures
+    c.encode_by_width-in-3.new.output c.encode_by_width-in-3.ensures
 
 pub returns-in-4-clause-ascii : goal.returns-in-4-clause-ascii
 returns-in-4-clause-ascii c =
     ascii c.self.inside c.self.invariant c.args.self.now c.self.view_is c.args.input.now
-    c.encode_in_order-in-4.new.output c.encode_in_order-in-4.ensures
+    c.encode_by_width-in-4.new.output c.encode_by_width-in-4.ensures
 
 pub returns-in-5-clause-ascii : goal.returns-in-5-clause-ascii
 returns-in-5-clause-ascii c =
     ascii c.self.inside c.self.invariant c.args.self.now c.self.view_is c.args.input.now
-    c.encode_in_order-in-5.new.output c.encode_in_order-in-5.ensures
+    c.encode_by_width-in-5.new.output c.encode_by_width-in-5.ensures
 
 pub returns-in_default-clause-ascii : goal.returns-in_default-clause-ascii
 returns-in_default-clause-ascii c =
     ascii c.self.inside c.self.invariant c.args.self.now c.self.view_is c.args.input.now
-    c.encode_in_order-in_default.new.output c.encode_in_order-in_default.ensures
+    c.encode_by_width-in_default.new.output c.encode_by_width-in_default.ensures

@@ -1,17 +1,13 @@
-use Rattle.std.proofs.Common.{◌++◌, drop, sym, ap, ◌∙◌, subst}
+use Rattle.std.proofs.Common.{◌++◌, drop, sym, ap, ◌∙◌}
 use Rattle.data_encoding.specs.Base.{Base}
-use Rattle.data_encoding.specs.Tables.{Writes}
 use Rattle.data_encoding.proofs.tables.TableLemmas.{Writes-tables}
 use Rattle.data_encoding.proofs.encoding.Encoding.encode_padded.Goals as goal
 
 pub returns : goal.returns
 returns g c =
-    let e = c.self.inside in
     let seen = c.args.self.now in
     let width = ap (λ (b : Base). b.width) c.self.view_is ∙ c.requires.width in
-    let order = ap (λ (b : Base). b.order) c.self.view_is ∙ c.requires.order in
-    let writes = subst (Writes seen e.symbols g.row.WIDTH) order
-    (Writes-tables e c.self.invariant seen c.self.view_is g.row.WIDTH width) in
     ap (λ l. l ++ drop c.pad-count.result c.pad-count.new.output)
-    (c.encode_plain.ensures seen writes)
+    (c.encode_plain.ensures seen
+    (Writes-tables c.self.inside c.self.invariant seen c.self.view_is g.row.WIDTH width))
     ∙ sym c.pad-count.ensures.padding

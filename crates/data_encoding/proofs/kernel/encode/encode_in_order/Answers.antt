@@ -2,7 +2,7 @@ use Rattle.std.proofs.Common.{◌-◌, ◌+◌, ◌*◌, ◌/◌, length, sym, a
 use Rattle.data_encoding.proofs.lists.PartLemmas.{length-rest}
 use Rattle.data_encoding.proofs.text.PlainLoopLemmas.{IsWhole-eight}
 use Rattle.data_encoding.proofs.text.PlainRestLemmas.{leaves_rest, written-rest}
-use Rattle.data_encoding.proofs.kernel.encode.encode_plain.Goals as goal
+use Rattle.data_encoding.proofs.kernel.encode.encode_in_order.Goals as goal
 
 pub slice_bounds-encode_groups-count-2 : goal.slice_bounds-encode_groups-count-2
 slice_bounds-encode_groups-count-2 g c =

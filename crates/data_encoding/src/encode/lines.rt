@@ -1,0 +1,184 @@
+//! Texts in lines.
+
+ghost use Rattle.std.specs.Prelude.{◌≡◌, ℕ, ◌+◌, ◌<◌, ◌≤◌, List, ◌++◌, length, flat_map, IsSome};
+ghost use Rattle.data_encoding.specs.Bits.{runs};
+ghost use Rattle.data_encoding.specs.Lengths.{alignment};
+ghost use Rattle.data_encoding.specs.Tables.{IsGroup};
+ghost use Rattle.data_encoding.specs.Text.{padded_text, text_of};
+
+use crate::encode::ENCODE_LIMIT;
+use crate::encoding::Encoding;
+
+// The greatest length of a block of lines without their separators, of four lines at least.
+const BLOCK_LEN: usize = 1024;
+
+// The greatest number of lines that take less time one by one.
+const FEW_LINES: usize = 4;
+
+impl Encoding {
+    // Few lines go one by one, and more of them by blocks. One line is no turn of a loop, before
+    // which all that lines use would be loaded. Not inlined, so that texts without lines do not pay
+    // for it.
+    #[inline(never)]
+    pub(super) fn encode_lines<const WIDTH: usize, const BYTES: usize, const SYMBOLS: usize>(
+        &self,
+        input: &[u8],
+        output: &mut [u8],
+    )
+        requires group { IsGroup WIDTH BYTES SYMBOLS }
+        requires width { self.now.width ≡ WIDTH }
+        requires lines { IsSome self.now.wrapping }
+        requires limit { length input.now ≤ ENCODE_LIMIT }
+        requires exact { length output.old ≡ length (text_of self.now input.now) }
+        ensures { output.new ≡ text_of self.now input.now }
+    {
+        let line_bytes = self.encode_align();
+        if !input.is_empty() && input.len() <= line_bytes {
+            self.encode_line::<WIDTH, BYTES, SYMBOLS>(input, output);
+        } else if input.len() <= FEW_LINES * line_bytes {
+            self.encode_each_line::<WIDTH, BYTES, SYMBOLS>(input, output);
+        } else {
+            self.encode_blocks::<WIDTH, BYTES, SYMBOLS>(input, output);
+        }
+    }
+
+    // Line after line, the last perhaps shorter.
+    #[inline(always)]
+    fn encode_each_line<const WIDTH: usize, const BYTES: usize, const SYMBOLS: usize>(
+        &self,
+        input: &[u8],
+        output: &mut [u8],
+    )
+        requires group { IsGroup WIDTH BYTES SYMBOLS }
+        requires width { self.now.width ≡ WIDTH }
+        requires lines { IsSome self.now.wrapping }
+        requires limit { length input.now ≤ ENCODE_LIMIT }
+        requires exact { length output.old ≡ length (text_of self.now input.now) }
+        ensures { output.new ≡ text_of self.now input.now }
+    {
+        let line_bytes = self.encode_align();
+        let line_len = self.column as usize + self.separator.len();
+        for index in 0..input.len().div_ceil(line_bytes) {
+            let read = index * line_bytes;
+            let read_end = input.len().min(read + line_bytes);
+            let written = index * line_len;
+            let written_end = output.len().min(written + line_len);
+            self.encode_line::<WIDTH, BYTES, SYMBOLS>(
+                &input[read..read_end],
+                &mut output[written..written_end],
+            );
+        }
+    }
+
+    // Block after block of whole lines, the last perhaps shorter. The text of a block is made
+    // without separators, so that most of its groups go by lanes, and then copied line by line.
+    #[inline(always)]
+    fn encode_blocks<const WIDTH: usize, const BYTES: usize, const SYMBOLS: usize>(
+        &self,
+        input: &[u8],
+        output: &mut [u8],
+    )
+        requires group { IsGroup WIDTH BYTES SYMBOLS }
+        requires width { self.now.width ≡ WIDTH }
+        requires lines { IsSome self.now.wrapping }
+        requires limit { length input.now ≤ ENCODE_LIMIT }
+        requires exact { length output.old ≡ length (text_of self.now input.now) }
+        ensures { output.new ≡ text_of self.now input.now }
+    {
+        let mut symbols = [0; BLOCK_LEN];
+        let lines = BLOCK_LEN / self.column as usize;
+        let block_bytes = lines * self.encode_align();
+        let block_len = lines * (self.column as usize + self.separator.len());
+        for index in 0..input.len().div_ceil(block_bytes) {
+            let read = index * block_bytes;
+            let read_end = input.len().min(read + block_bytes);
+            let written = index * block_len;
+            let written_end = output.len().min(written + block_len);
+            self.encode_block::<WIDTH, BYTES, SYMBOLS>(
+                &input[read..read_end],
+                &mut symbols,
+                &mut output[written..written_end],
+            );
+        }
+    }
+
+    // The text in lines, for whose characters without separators there is room in `symbols`.
+    #[inline(always)]
+    fn encode_block<const WIDTH: usize, const BYTES: usize, const SYMBOLS: usize>(
+        &self,
+        input: &[u8],
+        symbols: &mut [u8; BLOCK_LEN],
+        output: &mut [u8],
+    )
+        requires group { IsGroup WIDTH BYTES SYMBOLS }
+        requires width { self.now.width ≡ WIDTH }
+        requires lines { IsSome self.now.wrapping }
+        requires limit { length input.now ≤ ENCODE_LIMIT }
+        requires room { length (padded_text self.now input.now) ≤ BLOCK_LEN }
+        requires exact { length output.old ≡ length (text_of self.now input.now) }
+        ensures { output.new ≡ text_of self.now input.now }
+    {
+        let count = self.padded_len(input.len());
+        self.encode_padded::<WIDTH, BYTES, SYMBOLS>(input, &mut symbols[..count]);
+        wrap(
+            self.column as usize,
+            self.separator.as_slice(),
+            &symbols[..count],
+            output,
+        );
+    }
+
+    // The text of at most a line, and the separator.
+    #[inline(always)]
+    fn encode_line<const WIDTH: usize, const BYTES: usize, const SYMBOLS: usize>(
+        &self,
+        input: &[u8],
+        output: &mut [u8],
+    )
+        requires group { IsGroup WIDTH BYTES SYMBOLS }
+        requires width { self.now.width ≡ WIDTH }
+        requires limit { length input.now ≤ ENCODE_LIMIT }
+        requires some { 0 < length input.now }
+        requires line { length input.now ≤ alignment self.now }
+        requires exact { length output.old ≡ length (text_of self.now input.now) }
+        ensures { output.new ≡ text_of self.now input.now }
+    {
+        let end = output.len() - self.separator.len();
+        self.encode_padded::<WIDTH, BYTES, SYMBOLS>(input, &mut output[..end]);
+        output[end..].copy_from_slice(self.separator.as_slice());
+    }
+}
+
+// The text in lines of `column` characters, the last perhaps shorter, each followed by the
+// separator.
+fn wrap(column: usize, separator: &[u8], text: &[u8], output: &mut [u8])
+    requires some { 0 < column }
+    requires few { column < 256 }
+    requires limit { length text.now ≤ BLOCK_LEN }
+    requires short { length separator.now < 256 }
+    requires exact { length output.old
+        ≡ length (flat_map (λ line. line ++ separator.now) (runs column text.now)) }
+    ensures { output.new ≡ flat_map (λ line. line ++ separator.now) (runs column text.now) }
+{
+    let line_len = column + separator.len();
+    for index in 0..text.len().div_ceil(column) {
+        let read = index * column;
+        let read_end = text.len().min(read + column);
+        let written = index * line_len;
+        let written_end = output.len().min(written + line_len);
+        write_line(
+            &text[read..read_end],
+            separator,
+            &mut output[written..written_end],
+        );
+    }
+}
+
+// A line, and the separator behind it.
+fn write_line(line: &[u8], separator: &[u8], output: &mut [u8])
+    requires exact { length output.old ≡ length (line.now ++ separator.now) }
+    ensures { output.new ≡ line.now ++ separator.now }
+{
+    output[..line.len()].copy_from_slice(line);
+    output[line.len()..].copy_from_slice(separator);
+}
