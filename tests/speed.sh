@@ -23,10 +23,31 @@ is 'too many words' 2 $?
 benches/speed --original /nowhere 2>/dev/null
 is 'no original' 2 $?
 
-# The table of README.md has the same rows.
+# benches/memory proves and builds a library, which takes too long here.
+benches/memory --original /nowhere 2>/dev/null
+is 'no original in memory' 2 $?
+benches/memory 1 2>/dev/null
+is 'a number in memory' 2 $?
+
+# The tables of README.md have the same rows.
 rows() {
-    grep -E '^\| (en|de)code [A-Z0-9_]+ \|' | cut -d '|' -f 2
+    cut -d '|' -f 2 | grep -E '^ (encode |decode |)[A-Z0-9_]+ $'
 }
-is 'the rows of README.md' "$(rows <<<"$table")" "$(rows <README.md)"
+names=$(sed -n '/names\[NAMES\] = /,/;/p' benches/memory.c | grep -o '"[A-Z0-9_]*"' | tr -d '"')
+is 'the rows of README.md' "$(rows <<<"$table")"$'\n'"$(sed 's/.*/ & /' <<<"$names")" \
+    "$(sed -n '/^## Speed/,/^## What/p' README.md | rows)"
+
+for number in 0.70 0.40 0.50; do
+    printf '%s\n' '| data | one | other |' '|---|---|---|' "| encode X | $number | - |" \
+        >"$room/$number"
+done
+is 'medians' '| data | one | other |
+|---|---|---|
+| encode X | 0.50(0.40-0.70) | - |' "$(benches/median "$room"/0.*)"
+printf '%s\n' '| data | one | other |' >"$room/short"
+benches/median "$room/0.40" "$room/short" >"$room/output" 2>/dev/null
+is 'tables of other rows' '1 0' "$? $(stat -c %s "$room/output")"
+benches/median 2>/dev/null
+is 'medians of nothing' 2 $?
 
 finish

@@ -85,7 +85,7 @@ impl Encoding {
     }
 }
 
-// The bytes, and zeros behind them.
+// The bytes, followed by zeros.
 fn filled(bytes: &[u8]) -> [u8; 255]
     requires { length bytes.now ≤ 255 }
     ensures { take (length bytes.now) result ≡ bytes.now }

@@ -3,7 +3,7 @@
  * C99, and C++. Each function returns a status, tests every length itself, and can be called by
  * any number of threads at once, also with one encoding.
  *
- * What a caller owes, and nothing checks: a pointer points to as many bytes as the length behind it
+ * What a caller owes, and nothing checks: a pointer points to as many bytes as the length after it
  * says, or to a value of its type; what a call writes to overlaps nothing else that it is given;
  * nothing writes to any of these while the call runs; and a de_encoding is one that de_encoding_new
  * or de_encoding_read made, or a copy of it. A pointer to bytes may be null where its
@@ -124,7 +124,7 @@ typedef struct de_decoded {
 de_status de_encode_len(de_number number, size_t len, size_t *text_len);
 
 /* Writes the text of the data to the front of output, and its length to *written. What stands in
- * the output behind the text stays. DE_TOO_LONG, DE_SHORT_BUFFER. */
+ * the output after the text stays. DE_TOO_LONG, DE_SHORT_BUFFER. */
 de_status de_encode(de_number number, const void *input, size_t input_len, char *output,
                     size_t output_len, size_t *written);
 
@@ -135,7 +135,7 @@ de_status de_decode_len(de_number number, size_t len, size_t *most);
 /* Writes the data that the text means to the front of output, which has room for as many bytes as
  * de_decode_len says, and to *decoded how far it came. A text that means nothing has one fault: one
  * of the four statuses DE_INVALID_. Then what was read means what was written; what the output has
- * behind these, within what de_decode_len says, is not said. Where the length alone is the fault,
+ * after these, within what de_decode_len says, is not said. Where the length alone is the fault,
  * nothing is read. DE_TOO_LONG, DE_SHORT_BUFFER. */
 de_status de_decode(de_number number, const char *input, size_t input_len, void *output,
                     size_t output_len, de_decoded *decoded);
@@ -147,7 +147,7 @@ de_status de_is_canonical(de_number number, bool *canonical);
 #define DE_NAME_LIMIT 22
 
 /* Writes the name of the encoding, as "BASE64_NOPAD" that of DE_BASE64_NOPAD, to the front of
- * output, and its length to *written. What stands in the output behind the name stays.
+ * output, and its length to *written. What stands in the output after the name stays.
  * DE_SHORT_BUFFER, which DE_NAME_LIMIT bytes avoid. */
 de_status de_name(de_number number, char *output, size_t output_len, size_t *written);
 
@@ -212,7 +212,7 @@ de_status de_encoding_new(de_encoding *encoding, const de_specification *specifi
 #define DE_LAYOUT_LIMIT 770
 
 /* Writes the layout of the encoding to the front of output, and its length to *written: bytes that
- * say all of it, to be stored or sent. What stands in the output behind them stays.
+ * say all of it, to be stored or sent. What stands in the output after them stays.
  * DE_SHORT_BUFFER, which DE_LAYOUT_LIMIT bytes avoid. */
 de_status de_encoding_layout(const de_encoding *encoding, void *output, size_t output_len,
                              size_t *written);

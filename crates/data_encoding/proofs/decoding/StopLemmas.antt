@@ -124,11 +124,14 @@ module _ (base : Base) (text : List ℕ) (read written : ℕ) (output : List ℕ
   pos = group_symbols-pos base.width at.width
 
   pub whole : length (kept base (take read text)) % dec ≡ 0
-  whole = whole-before base at.width text read written at.ended output at.stop at.group at.so_far at.next.is_part
+  whole =
+      whole-before base at.width text read written at.ended output at.stop at.group at.so_far
+      at.next.is_part
 
   pub rest_is : kept_from base read text ≡ at.group ++ kept_from base at.stop text
   rest_is =
-      kept_from-more base read text at.so_far.within at.stop at.next.is_part.after at.next.is_part.within
+      kept_from-more base read text at.so_far.within at.stop at.next.is_part.after
+      at.next.is_part.within
       ∙ ap (λ l. l ++ kept_from base at.stop text) (sym at.next.is_part.is_kept)
 
   others : List (List Positioned)
@@ -142,26 +145,30 @@ module _ (base : Base) (text : List ℕ) (read written : ℕ) (output : List ℕ
       (λ none.
       ap (λ l. runs dec (at.group ++ l)) none ∙ ap (runs dec) (append-nil at.group)
       ∙ runs-short dec at.group at.next.is_part.some at.next.few
-      ∙ ap (λ gs. at.group ∷ gs) (sym (runs-nil {X = Positioned} dec pos) ∙ ap (runs dec) (sym none)))
+      ∙ ap (λ gs. at.group ∷ gs)
+      (sym (runs-nil {X = Positioned} dec pos) ∙ ap (runs dec) (sym none)))
       at.next.last
 
   groups_are : groups base text ≡ groups base (take read text) ++ at.group ∷ others
   groups_are =
       ap (runs dec) (kept-split base read text at.so_far.within
       ∙ ap (λ l. kept base (take read text) ++ l) rest_is)
-      ∙ runs-join dec (kept base (take read text)) (at.group ++ kept_from base at.stop text) pos whole
+      ∙ runs-join dec (kept base (take read text)) (at.group ++ kept_from base at.stop text) pos
+      whole
       ∙ ap (λ l. groups base (take read text) ++ l) groups_left
 
   pub fault_is : fault_of base text ≡ Some error
   fault_is =
       (λ i. or_else (at.no_length_fault i) (first_after false base (groups_are i)))
-      ∙ first-AreSound base false at.ended (groups base (take read text)) (at.group ∷ others) at.so_far.sound
+      ∙ first-AreSound base false at.ended (groups base (take read text)) (at.group ∷ others)
+      at.so_far.sound
       ∙ ap (λ o. or_else o (first_after (is_final base at.group) base others)) at.faulty
 
   sound_are : sound_groups base (groups base text) ≡ groups base (take read text)
   sound_are =
       ap (sound_after false base) groups_are
-      ∙ sound-AreSound base false at.ended (groups base (take read text)) (at.group ∷ others) at.so_far.sound
+      ∙ sound-AreSound base false at.ended (groups base (take read text)) (at.group ∷ others)
+      at.so_far.sound
       ∙ ap (λ o. groups base (take read text) ++ cond (is_some o) []
       (at.group ∷ sound_after (is_final base at.group) base others)) at.faulty
       ∙ append-nil (groups base (take read text))
@@ -180,12 +187,15 @@ module _ (base : Base) (text : List ℕ) (read written : ℕ) (output : List ℕ
       ap (λ o. or_else o (first_after false base (groups base (take read text)))) valid
       ∙ first-none base false at.ended (groups base (take read text)) at.so_far.sound
 
-  fault_inside : (index : ℕ) × (index < length at.group) × (error.position ≡ position_of at.group index)
+  fault_inside : (index : ℕ) × (index < length at.group)
+      × (error.position ≡ position_of at.group index)
   fault_inside = by at.ended at.faulty where
     by : (b : Bool) → fault_after b base at.group ≡ Some error
-        → (index : ℕ) × (index < length at.group) × (error.position ≡ position_of at.group index)
+        → (index : ℕ) × (index < length at.group)
+        × (error.position ≡ position_of at.group index)
     by true h =
-        let first : DecodeError = record { position = position_of at.group 0; kind = PaddingFault } in
+        let first : DecodeError =
+        record { position = position_of at.group 0; kind = PaddingFault } in
         let same : first ≡ error = cc in
         (0, at.next.is_part.some, sym (ap (λ (x : DecodeError). x.position) same))
     by false h =
@@ -243,7 +253,8 @@ module _ (base : Base) (text : List ℕ) (read written : ℕ) (output : List ℕ
         ap length at.next.is_part.is_kept
         ∙ ap length (filter-plain base none (positioned_from read (between read at.stop text)))
         ∙ length-positioned_from read (between read at.stop text)
-        ∙ length-between base read text at.so_far.within at.stop at.next.is_part.after at.next.is_part.within
+        ∙ length-between base read text at.so_far.within at.stop at.next.is_part.after
+        at.next.is_part.within
 
     last_stop : kept_from base at.stop text ≡ [] → read + length at.group ≡ length text
     last_stop empty =
@@ -297,11 +308,13 @@ module _ (base : Base) (text : List ℕ) (read written : ℕ) (output : List ℕ
           ap (λ n. nat_lt n base.width) same ∙ valid)
           at.next.last
 
-      by : (b : Bool) → fault_after b base at.group ≡ Some error → is_length_fault error.kind ≡ false
+      by : (b : Bool) → fault_after b base at.group ≡ Some error
+          → is_length_fault error.kind ≡ false
       by true h =
           kind_of (record { position = position_of at.group 0; kind = PaddingFault }) error h refl
       by false h =
-          kind-group base at.group error (is_padded base) refl (whole_or_valid (is_padded base) refl) h
+          kind-group base at.group error (is_padded base) refl
+          (whole_or_valid (is_padded base) refl) h
 
 -- what has a fault means nothing
 pub fault-partial : (base : Base) (text : List ℕ) (partial : DecodePartial)
