@@ -1,6 +1,6 @@
 //! A text that is decoded piece by piece, into buffers: what is kept of it, and how it is read on.
 
-ghost use Rattle.std.specs.Prelude.{◌≡◌, if◌then◌else◌, ℕ, ◌+◌, ◌<◌, ◌≤◌, ◌*◌, ◌/◌, ◌%◌, true, false, List, [], length, take, IsOk, None};
+ghost use Rattle.std.specs.Prelude.{◌≡◌, if◌then◌else◌, ℕ, ◌+◌, ◌<◌, ◌≤◌, ◌*◌, ◌/◌, ◌%◌, true, false, List, [], length, take, IsOk, IsSome, None};
 ghost use Rattle.data_encoding.specs.Base.{IsWidth, group_bytes, group_symbols, ignores_some};
 ghost use Rattle.data_encoding.specs.Fields.{IsSpecified};
 ghost use Rattle.data_encoding.specs.Grammar.{Means};
@@ -76,13 +76,6 @@ impl<'a> PieceDecoder<'a> {
         ensures within { result ≤ length output.new }
         ensures len { length output.new ≡ length output.old }
     {
-        if self.kept.fault.is_some() {
-            // It tells that the laws of pieces hold of the encoding.
-            self.encoding.bit_width();
-            pieces();
-            self.kept.len += piece.len();
-            return 0;
-        }
         let (first_read, first) = self.read_group(piece, output);
         let (run_read, run) = self.read_run(&piece[first_read..], &mut output[first..]);
         let read = first_read + run_read;
@@ -228,7 +221,7 @@ impl<'a> PieceDecoder<'a> {
         written % bytes == 0
     }
 
-    // Reads byte by byte.
+    // Reads byte by byte, up to a fault.
     fn read_each(&mut self, piece: &[u8], output: &mut [u8]) -> usize
         requires limit { self.old.kept.len + length piece.now ≤ DECODE_LIMIT }
         requires room { self.old.kept.count + length piece.now ≤ length output.old }
@@ -238,10 +231,30 @@ impl<'a> PieceDecoder<'a> {
         ensures within { result ≤ length output.new }
         ensures len { length output.new ≡ length output.old }
     {
+        let mut read = 0;
         let mut written = 0;
-        for byte in piece {
-            written += self.take(*byte, &mut output[written..]);
+        while read < piece.len() && self.kept.fault.is_none() {
+            written += self.take(piece[read], &mut output[written..]);
+            read += 1;
         }
+        if read == piece.len() {
+            return written;
+        }
+        self.pass(&piece[read..]);
         written
+    }
+
+    // Counts what follows a fault.
+    fn pass(&mut self, piece: &[u8])
+        requires limit { self.old.kept.len + length piece.now ≤ DECODE_LIMIT }
+        requires fault { IsSome self.old.kept.fault }
+        ensures base { base_of_pieces self.new ≡ base_of_pieces self.old }
+        ensures reads { ReadsOn (base_of_pieces self.old) self.old.kept self.new.kept piece.now
+            [] }
+    {
+        // The laws hold of an encoding that a specification yields.
+        self.encoding.bit_width();
+        pieces();
+        self.kept.len += piece.len();
     }
 }
