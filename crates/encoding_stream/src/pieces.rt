@@ -1,6 +1,6 @@
 //! A text that is decoded piece by piece, into buffers: what is kept of it, and how it is read on.
 
-ghost use Rattle.std.specs.Prelude.{◌≡◌, if◌then◌else◌, ℕ, ◌+◌, ◌<◌, ◌≤◌, ◌*◌, ◌/◌, ◌%◌, true, false, List, [], length, take, IsOk, IsSome, None};
+ghost use Rattle.std.specs.Prelude.{◌≡◌, if◌then◌else◌, ℕ, ◌+◌, ◌<◌, ◌≤◌, ◌*◌, ◌/◌, ◌%◌, true, false, List, [], ◌∷◌, length, take, IsOk, IsSome, None};
 ghost use Rattle.data_encoding.specs.Base.{IsWidth, group_bytes, group_symbols, ignores_some};
 ghost use Rattle.data_encoding.specs.Fields.{IsSpecified};
 ghost use Rattle.data_encoding.specs.Grammar.{Means};
@@ -242,6 +242,45 @@ impl<'a> PieceDecoder<'a> {
         }
         self.pass(&piece[read..]);
         written
+    }
+
+    // Reads a byte, writes the bytes of the group that it makes whole, where that has no fault, to
+    // the front of the output, and returns how many bytes they are.
+    fn take(&mut self, byte: u8, output: &mut [u8]) -> usize
+        requires limit { self.old.kept.len < DECODE_LIMIT }
+        requires room { self.old.kept.count < length output.old }
+        ensures base { base_of_pieces self.new ≡ base_of_pieces self.old }
+        ensures reads { ReadsOn (base_of_pieces self.old) self.old.kept self.new.kept (byte ∷ [])
+            (take result output.new) }
+        ensures within { result ≤ length output.new }
+        ensures len { length output.new ≡ length output.old }
+    {
+        // It tells that the laws hold of the encoding.
+        self.encoding.bit_width();
+        pieces();
+        let position = self.kept.len;
+        self.kept.len += 1;
+        if self.kept.fault.is_some() || self.encoding.interpret_byte(byte).is_ignored() {
+            return 0;
+        }
+        let index = self.kept.count;
+        self.kept.positions[index] = position;
+        self.kept.bytes[index] = byte;
+        if index + 1 < self.size {
+            self.kept.count = index + 1;
+            return 0;
+        }
+        self.kept.count = 0;
+        match self.judge(self.size, output) {
+            Ok(written) => {
+                self.kept.ended = self.is_final();
+                written
+            }
+            Err(error) => {
+                self.kept.fault = Some(error);
+                0
+            }
+        }
     }
 
     // Counts what follows a fault.

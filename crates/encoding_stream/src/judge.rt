@@ -1,59 +1,19 @@
-//! One group of a text that is decoded piece by piece: its bytes, or its fault.
+//! The judgement of one group of a text that is decoded piece by piece, and the end of the text.
 
-ghost use Rattle.std.specs.Prelude.{◌≡◌, ℕ, ◌+◌, ◌<◌, ◌≤◌, List, [], ◌∷◌, ◌++◌, length, slice_index, take, None, Some, IfOk, IfErr};
+ghost use Rattle.std.specs.Prelude.{◌≡◌, ℕ, ◌<◌, ◌≤◌, List, ◌++◌, length, slice_index, take, None, Some, IfOk, IfErr};
 ghost use Rattle.data_encoding.specs.Base.{group_bytes, group_symbols};
 ghost use Rattle.data_encoding.specs.Fault.{bytes_of_group, fault_after, fault_of, or_else, sound_bytes};
 ghost use Rattle.data_encoding.specs.Grammar.{is_final};
 ghost use Rattle.data_encoding.specs.Pieces.{held_fault, whole_bytes};
 ghost use Rattle.encoding_stream.specs.Pieces.{at_positions, base_of_pieces, held, verdict_of, Keeps, NoneIgnored};
-ghost use Rattle.encoding_stream.specs.Reading.{ReadsOn};
 
 use crate::pieces::PieceDecoder;
 use data_encoding::laws::steps::pieces;
 use data_encoding::{DECODE_LIMIT, DecodeError, DecodeKind};
 
 impl PieceDecoder<'_> {
-    /// Reads a byte, writes the bytes of the group that it makes whole, where that has no fault,
-    /// to the front of the output, and answers how many bytes they are.
-    pub(crate) fn take(&mut self, byte: u8, output: &mut [u8]) -> usize
-        requires limit { self.old.kept.len < DECODE_LIMIT }
-        requires room { self.old.kept.count < length output.old }
-        ensures base { base_of_pieces self.new ≡ base_of_pieces self.old }
-        ensures reads { ReadsOn (base_of_pieces self.old) self.old.kept self.new.kept (byte ∷ [])
-            (take result output.new) }
-        ensures within { result ≤ length output.new }
-        ensures len { length output.new ≡ length output.old }
-    {
-        // It tells that the laws hold of the encoding.
-        self.encoding.bit_width();
-        pieces();
-        let position = self.kept.len;
-        self.kept.len += 1;
-        if self.kept.fault.is_some() || self.encoding.interpret_byte(byte).is_ignored() {
-            return 0;
-        }
-        let index = self.kept.count;
-        self.kept.positions[index] = position;
-        self.kept.bytes[index] = byte;
-        if index + 1 < self.size {
-            self.kept.count = index + 1;
-            return 0;
-        }
-        self.kept.count = 0;
-        match self.judge(self.size, output) {
-            Ok(written) => {
-                self.kept.ended = self.is_final();
-                written
-            }
-            Err(error) => {
-                self.kept.fault = Some(error);
-                0
-            }
-        }
-    }
-
-    // Whether the group that is whole is final.
-    fn is_final(&self) -> bool
+    /// Whether the group that is whole is final.
+    pub(crate) fn is_final(&self) -> bool
         ensures { result ≡ is_final (base_of_pieces self.now) (at_positions self.now.size
             self.now.kept.positions self.now.kept.bytes) }
     {
@@ -63,8 +23,8 @@ impl PieceDecoder<'_> {
         !self.concatenates && is_padded
     }
 
-    // Judges the first bytes that are kept as the next group: its fault, or its bytes.
-    fn judge(&self, count: usize, output: &mut [u8]) -> Result<usize, DecodeError>
+    /// Judges the first bytes that are kept as the next group: its fault, or its bytes.
+    pub(crate) fn judge(&self, count: usize, output: &mut [u8]) -> Result<usize, DecodeError>
         requires some { 0 < count }
         requires few { count ≤ group_symbols (base_of_pieces self.now).width }
         requires room { group_bytes (base_of_pieces self.now).width ≤ length output.old }
