@@ -1,11 +1,12 @@
 //! The judgement of one group of a text that is decoded piece by piece, and the end of the text.
 
-ghost use Rattle.std.specs.Prelude.{◌≡◌, ℕ, ◌<◌, ◌≤◌, List, ◌++◌, length, slice_index, take, None, Some, IfOk, IfErr};
+ghost use Rattle.std.specs.Prelude.{◌≡◌, ℕ, ◌<◌, ◌≤◌, List, ◌++◌, length, slice_index, take, IfOk, IfErr};
 ghost use Rattle.data_encoding.specs.Base.{group_bytes, group_symbols};
-ghost use Rattle.data_encoding.specs.Fault.{bytes_of_group, fault_after, fault_of, or_else, sound_bytes};
+ghost use Rattle.data_encoding.specs.Fault.{fault_of, sound_bytes};
 ghost use Rattle.data_encoding.specs.Grammar.{is_final};
-ghost use Rattle.data_encoding.specs.Pieces.{held_fault, whole_bytes};
-ghost use Rattle.encoding_stream.specs.Pieces.{at_positions, base_of_pieces, held, verdict_of, Keeps, NoneIgnored};
+ghost use Rattle.data_encoding.specs.Pieces.{whole_bytes};
+ghost use Rattle.encoding_stream.specs.Judged.{EndsFaulty, EndsSound, JudgesFaulty, JudgesSound};
+ghost use Rattle.encoding_stream.specs.Pieces.{at_positions, base_of_pieces, verdict_of, Keeps};
 
 use crate::pieces::PieceDecoder;
 use data_encoding::laws::steps::pieces;
@@ -28,15 +29,10 @@ impl PieceDecoder<'_> {
         requires some { 0 < count }
         requires few { count ≤ group_symbols (base_of_pieces self.now).width }
         requires room { group_bytes (base_of_pieces self.now).width ≤ length output.old }
-        ensures sound { IfOk result (λ written. let group = at_positions count
-            self.now.kept.positions self.now.kept.bytes in
-            NoneIgnored (base_of_pieces self.now) group
-            → (fault_after self.now.kept.ended (base_of_pieces self.now) group ≡ None)
-            × (bytes_of_group (base_of_pieces self.now) group ≡ take written output.new)) }
-        ensures fault { IfErr result (λ error. let group = at_positions count
-            self.now.kept.positions self.now.kept.bytes in
-            NoneIgnored (base_of_pieces self.now) group
-            → fault_after self.now.kept.ended (base_of_pieces self.now) group ≡ Some error) }
+        ensures sound { IfOk result (λ written. JudgesSound (base_of_pieces self.now) self.now.kept
+            count (take written output.new)) }
+        ensures fault { IfErr result (λ error. JudgesFaulty (base_of_pieces self.now)
+            self.now.kept count error) }
         ensures few { IfOk result (λ written.
             written ≤ group_bytes (base_of_pieces self.now).width) }
         ensures len { length output.new ≡ length output.old }
@@ -103,16 +99,10 @@ impl PieceDecoder<'_> {
     // the first fault of the groups, or the bytes of the last.
     fn judge_last(&self, output: &mut [u8]) -> Result<usize, DecodeError>
         requires room { 8 ≤ length output.old }
-        ensures sound { IfOk result (λ written. (text : List ℕ)
-            → Keeps (base_of_pieces self.now) self.now.kept text
-            → (or_else self.now.kept.fault (held_fault self.now.kept.ended
-            (base_of_pieces self.now) (held self.now.kept)) ≡ None)
-            × (bytes_of_group (base_of_pieces self.now) (held self.now.kept)
-            ≡ take written output.new)) }
-        ensures fault { IfErr result (λ error. (text : List ℕ)
-            → Keeps (base_of_pieces self.now) self.now.kept text
-            → or_else self.now.kept.fault (held_fault self.now.kept.ended
-            (base_of_pieces self.now) (held self.now.kept)) ≡ Some error) }
+        ensures sound { IfOk result (λ written. EndsSound (base_of_pieces self.now) self.now.kept
+            (take written output.new)) }
+        ensures fault { IfErr result (λ error. EndsFaulty (base_of_pieces self.now)
+            self.now.kept error) }
         ensures few { IfOk result (λ written. written ≤ 8) }
         ensures len { length output.new ≡ length output.old }
     {

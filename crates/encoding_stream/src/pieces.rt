@@ -39,7 +39,7 @@ pub(crate) struct PieceDecoder<'a> {
 
 impl<'a> PieceDecoder<'a> {
     ghost use Rattle.encoding_stream.specs.Pieces.{base_of_pieces, FillsGroups, Keeps};
-    ghost use Rattle.encoding_stream.specs.Reading.{AreWholeGroups, ReadsOn};
+    ghost use Rattle.encoding_stream.specs.Reading.{whole_len, AreWholeGroups, ReadsAllGroups, ReadsOn};
 
     /// One that has read nothing.
     pub(crate) fn new(encoding: &'a Encoding) -> PieceDecoder<'a>
@@ -126,12 +126,9 @@ impl<'a> PieceDecoder<'a> {
         ensures base { base_of_pieces self.new ≡ base_of_pieces self.old }
         ensures reads { ReadsOn (base_of_pieces self.old) self.old.kept self.new.kept
             (take result.0 piece.now) (take result.1 output.new) }
-        ensures all { let whole = length piece.now / group_symbols (base_of_pieces self.old).width
-            * group_symbols (base_of_pieces self.old).width in
-            self.old.kept.count ≡ 0 → self.old.kept.fault ≡ None → self.old.kept.ended ≡ false
-            → ignores_some (base_of_pieces self.old) ≡ false
-            → (base_of_pieces self.old).concatenates ≡ true → (bytes : List ℕ)
-            → Means (base_of_pieces self.old) (take whole piece.now) bytes → result.0 ≡ whole }
+        ensures all { self.old.kept.count ≡ 0 → self.old.kept.fault ≡ None
+            → self.old.kept.ended ≡ false → (base_of_pieces self.old).concatenates ≡ true
+            → ReadsAllGroups (base_of_pieces self.old) piece.now result.0 }
         ensures read { result.0 ≤ length piece.now }
         ensures within { result.1 ≤ length output.new }
         ensures len { length output.new ≡ length output.old }
@@ -155,10 +152,7 @@ impl<'a> PieceDecoder<'a> {
         ensures means { Means (base_of_pieces self.now) (take result.0 piece.now)
             (take result.1 output.new) }
         ensures most { result.1 ≤ most_bytes (base_of_pieces self.now) result.0 }
-        ensures all { let whole = length piece.now / group_symbols (base_of_pieces self.now).width
-            * group_symbols (base_of_pieces self.now).width in
-            ignores_some (base_of_pieces self.now) ≡ false → (bytes : List ℕ)
-            → Means (base_of_pieces self.now) (take whole piece.now) bytes → result.0 ≡ whole }
+        ensures all { ReadsAllGroups (base_of_pieces self.now) piece.now result.0 }
         ensures read { result.0 ≤ length piece.now }
         ensures within { result.1 ≤ length output.new }
         ensures len { length output.new ≡ length output.old }
@@ -179,8 +173,7 @@ impl<'a> PieceDecoder<'a> {
     fn run_len(&self, len: usize) -> usize
         requires limit { len ≤ DECODE_LIMIT }
         ensures value { result ≡ (if ignores_some (base_of_pieces self.now) then len
-            else len / group_symbols (base_of_pieces self.now).width
-            * group_symbols (base_of_pieces self.now).width) }
+            else whole_len (base_of_pieces self.now) len) }
         ensures few { result ≤ len }
         ensures due { IsOk (decoded_len (base_of_pieces self.now) result) }
         ensures specified { IsSpecified (base_of_pieces self.now) }
