@@ -91,7 +91,7 @@ impl Encoding {
         }
     }
 
-    /// Does what `encode_mut` does, on the same conditions, and answers the output as text.
+    /// Does what `encode_mut` does, on the same conditions, and returns the output as text.
     pub fn encode_mut_str<'a>(&self, input: &[u8], output: &'a mut [u8]) -> &'a str
         requires limit { length input.now ≤ ENCODE_LIMIT }
         requires exact { length output.old ≡ length (text_of self.now input.now) }
@@ -104,7 +104,7 @@ impl Encoding {
     /// The text of the data, of at most `ENCODE_LIMIT` bytes: its symbols, and padding that fills
     /// the last group; in lines, where the encoding has them, each followed by the separator.
     ///
-    /// The only error is that memory ran out, which is never answered for no data.
+    /// The only error is that memory ran out, which is never reported for no data.
     pub fn encode(&self, alloc: Global, input: &[u8]) -> Result<String, AllocError>
         requires limit { length input.now ≤ ENCODE_LIMIT }
         ensures text { IfOk result (λ text. string_bytes text ≡ text_of self.now input.now) }
@@ -155,7 +155,7 @@ impl Encoding {
         );
     }
 
-    // Writes the padding of the text to the end of `output`, and answers how many symbols come
+    // Writes the padding of the text to the end of `output`, and returns how many symbols come
     // before it.
     #[inline(always)]
     fn pad<const WIDTH: usize>(&self, input: &[u8], output: &mut [u8]) -> usize

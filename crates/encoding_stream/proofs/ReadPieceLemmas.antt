@@ -215,3 +215,15 @@ reads-rest base other same a b c piece output part read written more first secon
     (subst (λ whole. ReadsOn base a c whole (take written output ++ take more part))
     (take-append-drop read piece)
     (reads-join base a b c _ _ _ _ first here))
+
+-- what follows decodes to nothing
+pub reads-behind : (base other : Base) → other ≡ base → (a b c : Kept) (piece bytes : List ℕ)
+    (read : ℕ) → ReadsOn base a b (take read piece) bytes
+    → ReadsOn other b c (take (length piece - read) (drop read piece)) []
+    → ReadsOn base a c piece bytes
+reads-behind base other same a b c piece bytes read first second =
+    let here = subst (λ k. ReadsOn k b c (drop read piece) []) same
+    (rw (take_rest piece read) at second) in
+    subst (ReadsOn base a c piece) (append-nil bytes)
+    (subst (λ whole. ReadsOn base a c whole (bytes ++ [])) (take-append-drop read piece)
+    (reads-join base a b c _ _ _ _ first here))

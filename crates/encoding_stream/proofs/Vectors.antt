@@ -7,11 +7,12 @@ use Rattle.data_encoding.specs.declared.specification.meanings.Refusal.{Refusal}
 use Rattle.data_encoding.specs.Base.{Base}
 use Rattle.data_encoding.specs.Fields.{Fields, base_of}
 use Rattle.data_encoding.specs.Grammar.{positioned_from}
-use Rattle.data_encoding.specs.Predefined.{base64_fields, base64_mime_fields}
+use Rattle.data_encoding.specs.Predefined.{base64_fields, base64_mime_fields, base64_nopad_fields}
 use Rattle.data_encoding.specs.Pieces.{whole_bytes}
 use Rattle.std.proofs.lemmas.List.{append-nil}
 use Rattle.encoding_stream.specs.Decoded.{DecodesAll, DecodesFront, answer_of}
-use Rattle.encoding_stream.specs.Reading.{AppendsPiece, ReadsOn, AreWholeGroups}
+use Rattle.encoding_stream.specs.Judged.{fault_with_held, next_group, EndsFaulty, EndsSound, JudgesFaulty, JudgesSound}
+use Rattle.encoding_stream.specs.Reading.{whole_len, AppendsPiece, AreWholeGroups, ReadsAllGroups, ReadsOn}
 use Rattle.encoding_stream.specs.Pieces.{base_of_pieces, paired, at_positions, held, NoneIgnored, Keeps, FillsGroups, verdict_of}
 use Rattle.encoding_stream.specs.declared.pieces.PieceDecoder.{PieceDecoder}
 use Rattle.encoding_stream.specs.declared.decoder.Decoder.{Decoder}
@@ -128,6 +129,36 @@ groups_filled = record { groups = 1; symbols = lit≤ tt; bytes = lit≤ tt }
 
 whole_groups_alone : Has base64_fields (λ base. AreWholeGroups base (codes "SGVsbG8="))
 whole_groups_alone = record { whole = refl; not_final = refl }
+
+-- the nine bytes begin with two whole groups
+all_groups_read : Has base64_fields (λ base. (whole_len base 9 ≡ 8)
+    × ReadsAllGroups base (codes "SGVsbG8=S") 8)
+all_groups_read = (refl, λ _ bytes means. refl)
+
+-- a group at 4 to 7
+abbrev kept_group : List ℕ → Kept
+kept_group bytes = record {
+  len = 8;
+  fault = None;
+  positions = 4 ∷ 5 ∷ 6 ∷ 7 ∷ replicate 4 0;
+  bytes = bytes ++ replicate 4 0;
+  count = 3;
+  ended = false;
+}
+
+groups_judged :
+    Has base64_fields (λ base. JudgesSound base (kept_group (codes "bG8=")) 4 (codes "lo"))
+    × Has base64_fields (λ base. JudgesFaulty base (kept_group (codes "!G8=")) 4 symbol_at_4)
+    × (next_group (kept_group (codes "bG8=")) 2 ≡ positioned_from 4 (codes "bG"))
+groups_judged = (λ _. (refl, refl), λ _. refl, refl)
+
+-- of base64 without padding `bG8` is a last group, and `!G8` is none
+ends_judged :
+    Has base64_nopad_fields (λ base. EndsSound base (kept_group (codes "bG8")) (codes "lo"))
+    × Has base64_nopad_fields (λ base. EndsFaulty base (kept_group (codes "!G8")) symbol_at_4)
+    × Has base64_nopad_fields (λ base.
+    fault_with_held base (kept_group (codes "!G8")) ≡ Some symbol_at_4)
+ends_judged = (λ _ _. (refl, refl), λ _ _. refl, refl)
 
 pushed_by : (base : Base) (text : List ℕ) → Keeps base kept_so_far text
     → (decoder : Decoder) → base_of_decoder decoder ≡ base → decoder.pieces.kept ≡ kept_so_far

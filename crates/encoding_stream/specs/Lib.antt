@@ -1,6 +1,7 @@
 pub mod Watch
 pub mod Printed
 pub mod Encoded
+pub mod Judged
 pub mod Pieces
 pub mod Reading
 pub mod Decoder

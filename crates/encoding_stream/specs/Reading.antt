@@ -1,8 +1,8 @@
 -- How a decoder by pieces reads on.
-use Rattle.std.specs.Prelude.{◌≡◌, ℕ, ◌+◌, ◌%◌, false, List, ◌++◌, length}
+use Rattle.std.specs.Prelude.{◌≡◌, ℕ, ◌+◌, ◌*◌, ◌/◌, ◌%◌, false, List, ◌++◌, length, take}
 use Rattle.std.specs.List.{list_any}
-use Rattle.data_encoding.specs.Base.{Base, group_symbols}
-use Rattle.data_encoding.specs.Grammar.{groups, is_final, kept}
+use Rattle.data_encoding.specs.Base.{Base, group_symbols, ignores_some}
+use Rattle.data_encoding.specs.Grammar.{Means, groups, is_final, kept}
 use Rattle.data_encoding.specs.Pieces.{whole_bytes}
 use Rattle.encoding_stream.specs.declared.pieces.Kept.{Kept}
 use Rattle.encoding_stream.specs.Pieces.{FillsGroups, Keeps}
@@ -27,3 +27,14 @@ pub record AppendsPiece (base : Base) (old new : Kept) (piece output_old output_
 pub record AreWholeGroups (base : Base) (text : List ℕ) : Type 0 where
   pub whole : length (kept base text) % group_symbols base.width ≡ 0
   pub not_final : list_any (is_final base) (groups base text) ≡ false
+
+-- the length of the whole groups of this many bytes
+abbrev pub whole_len : Base → ℕ → ℕ
+whole_len base len = len / group_symbols base.width * group_symbols base.width
+
+-- Where nothing is ignored, and the whole groups of a piece mean something, all of them were read.
+abbrev pub ReadsAllGroups : Base → List ℕ → ℕ → Type 0
+ReadsAllGroups base piece read =
+    ignores_some base ≡ false → (bytes : List ℕ)
+    → Means base (take (whole_len base (length piece)) piece) bytes
+    → read ≡ whole_len base (length piece)

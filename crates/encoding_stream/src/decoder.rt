@@ -33,10 +33,10 @@ pub struct Decoder<'a> {
     ghost limit: { pieces.kept.len ≤ DECODE_LIMIT },
 }
 
-/// What `Decoder::finish` tells of the whole text.
+/// What `Decoder::finish` returns of the whole text.
 #[derive(Clone, Copy, Debug, PartialEq, Eq)]
 pub struct Finished {
-    /// What `Encoding::decode` tells of it: its fault, if it has one.
+    /// What `Encoding::decode` returns of it: its fault, if it has one.
     pub verdict: Result<(), DecodeError>,
 }
 
@@ -74,7 +74,7 @@ impl<'a> Decoder<'a> {
     /// the first faulty one, whatever the output holds: it may be drained or exchanged between
     /// pieces. The text has at most `DECODE_LIMIT` bytes with it.
     ///
-    /// The only error is that memory ran out, which is never answered where no byte is to be
+    /// The only error is that memory ran out, which is never reported where no byte is to be
     /// appended: the decoder and the output are then what they were.
     pub fn push(&mut self, piece: &[u8], output: &mut Vec<u8>) -> Result<(), AllocError>
         requires limit { decoder_len self.old + length piece.now ≤ DECODE_LIMIT }
@@ -106,7 +106,7 @@ impl<'a> Decoder<'a> {
     /// Ends the text: appends the bytes of a last group, where neither it nor one before has a
     /// fault, and tells the verdict on the whole text.
     ///
-    /// Where memory ran out, which is never answered where no byte is to be appended, the decoder
+    /// Where memory ran out, which is never reported where no byte is to be appended, the decoder
     /// is handed back, and it and the output are what they were.
     pub fn finish(self, output: &mut Vec<u8>) -> Result<Finished, Decoder<'a>>
         ensures verdict { IfOk result (λ finished. (text : List ℕ) → StandsAfter self.entry text
@@ -188,7 +188,7 @@ fn append_last<A: Allocator + Copy>(
     Ok(verdict)
 }
 
-// Reads until bytes are decoded, which stand at the front of the buffer, or to the end; answers how
+// Reads until bytes are decoded, which stand at the front of the buffer, or to the end; returns how
 // many bytes were read, and how many decoded.
 fn read_first(pieces: &mut PieceDecoder<'_>, piece: &[u8], buffer: &mut [u8]) -> (usize, usize)
     requires limit { pieces.old.kept.len + length piece.now ≤ DECODE_LIMIT }

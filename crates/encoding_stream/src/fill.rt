@@ -8,7 +8,7 @@ use crate::watch::Watch;
 use std::io;
 use std::io::Read;
 
-/// Reads until the buffer is full or the reader is at its end, and answers how many bytes were
+/// Reads until the buffer is full or the reader is at its end, and returns how many bytes were
 /// read. The first call that fails ends it, an interrupted one too.
 pub(crate) fn fill<R: Read>(reader: &mut Watch<R>, buffer: &mut [u8]) -> io::Result<usize>
     requires works { has_failed reader.old ≡ false }

@@ -4,17 +4,17 @@
 //! contracts and callers can tell whether a call of them failed.
 #![tactic(auto)]
 
-mod decode;
+mod decode_reader;
 mod decoder;
-mod encode;
+mod encode_reader;
 mod error;
 mod fill;
-mod group;
+mod judge;
 mod pieces;
 mod watch;
 
-pub use decode::decode_stream;
+pub use decode_reader::decode_stream;
 pub use decoder::{Decoder, Finished};
-pub use encode::encode_stream;
+pub use encode_reader::encode_stream;
 pub use error::StreamFault;
 pub use watch::Watch;

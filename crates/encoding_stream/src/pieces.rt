@@ -1,6 +1,6 @@
 //! A text that is decoded piece by piece, into buffers: what is kept of it, and how it is read on.
 
-ghost use Rattle.std.specs.Prelude.{◌≡◌, if◌then◌else◌, ℕ, ◌+◌, ◌<◌, ◌≤◌, ◌*◌, ◌/◌, ◌%◌, true, false, List, [], length, take, IsOk, None};
+ghost use Rattle.std.specs.Prelude.{◌≡◌, if◌then◌else◌, ℕ, ◌+◌, ◌<◌, ◌≤◌, ◌*◌, ◌/◌, ◌%◌, true, false, List, [], ◌∷◌, length, take, IsOk, IsSome, None};
 ghost use Rattle.data_encoding.specs.Base.{IsWidth, group_bytes, group_symbols, ignores_some};
 ghost use Rattle.data_encoding.specs.Fields.{IsSpecified};
 ghost use Rattle.data_encoding.specs.Grammar.{Means};
@@ -39,7 +39,7 @@ pub(crate) struct PieceDecoder<'a> {
 
 impl<'a> PieceDecoder<'a> {
     ghost use Rattle.encoding_stream.specs.Pieces.{base_of_pieces, FillsGroups, Keeps};
-    ghost use Rattle.encoding_stream.specs.Reading.{AreWholeGroups, ReadsOn};
+    ghost use Rattle.encoding_stream.specs.Reading.{whole_len, AreWholeGroups, ReadsAllGroups, ReadsOn};
 
     /// One that has read nothing.
     pub(crate) fn new(encoding: &'a Encoding) -> PieceDecoder<'a>
@@ -66,7 +66,7 @@ impl<'a> PieceDecoder<'a> {
     }
 
     /// Reads a piece, writes the bytes of the groups that are then whole to the front of the
-    /// output, up to the first faulty one, and answers how many bytes they are.
+    /// output, up to the first faulty one, and returns how many bytes they are.
     pub(crate) fn read(&mut self, piece: &[u8], output: &mut [u8]) -> usize
         requires limit { self.old.kept.len + length piece.now ≤ DECODE_LIMIT }
         requires room { self.old.kept.count + length piece.now ≤ length output.old }
@@ -76,13 +76,6 @@ impl<'a> PieceDecoder<'a> {
         ensures within { result ≤ length output.new }
         ensures len { length output.new ≡ length output.old }
     {
-        if self.kept.fault.is_some() {
-            // It tells that the laws of pieces hold of the encoding.
-            self.encoding.bit_width();
-            pieces();
-            self.kept.len += piece.len();
-            return 0;
-        }
         let (first_read, first) = self.read_group(piece, output);
         let (run_read, run) = self.read_run(&piece[first_read..], &mut output[first..]);
         let read = first_read + run_read;
@@ -90,7 +83,7 @@ impl<'a> PieceDecoder<'a> {
         written + self.read_each(&piece[read..], &mut output[written..])
     }
 
-    /// The greatest number of bytes that so many more of the text may complete.
+    /// The greatest number of bytes that this many more of the text may complete.
     pub(crate) fn most(&self, len: usize) -> usize
         requires limit { self.now.kept.len + len ≤ DECODE_LIMIT }
         ensures { result ≡ (self.now.kept.count + len)
@@ -133,12 +126,9 @@ impl<'a> PieceDecoder<'a> {
         ensures base { base_of_pieces self.new ≡ base_of_pieces self.old }
         ensures reads { ReadsOn (base_of_pieces self.old) self.old.kept self.new.kept
             (take result.0 piece.now) (take result.1 output.new) }
-        ensures all { let whole = length piece.now / group_symbols (base_of_pieces self.old).width
-            * group_symbols (base_of_pieces self.old).width in
-            self.old.kept.count ≡ 0 → self.old.kept.fault ≡ None → self.old.kept.ended ≡ false
-            → ignores_some (base_of_pieces self.old) ≡ false
-            → (base_of_pieces self.old).concatenates ≡ true → (bytes : List ℕ)
-            → Means (base_of_pieces self.old) (take whole piece.now) bytes → result.0 ≡ whole }
+        ensures all { self.old.kept.count ≡ 0 → self.old.kept.fault ≡ None
+            → self.old.kept.ended ≡ false → (base_of_pieces self.old).concatenates ≡ true
+            → ReadsAllGroups (base_of_pieces self.old) piece.now result.0 }
         ensures read { result.0 ≤ length piece.now }
         ensures within { result.1 ≤ length output.new }
         ensures len { length output.new ≡ length output.old }
@@ -162,10 +152,7 @@ impl<'a> PieceDecoder<'a> {
         ensures means { Means (base_of_pieces self.now) (take result.0 piece.now)
             (take result.1 output.new) }
         ensures most { result.1 ≤ most_bytes (base_of_pieces self.now) result.0 }
-        ensures all { let whole = length piece.now / group_symbols (base_of_pieces self.now).width
-            * group_symbols (base_of_pieces self.now).width in
-            ignores_some (base_of_pieces self.now) ≡ false → (bytes : List ℕ)
-            → Means (base_of_pieces self.now) (take whole piece.now) bytes → result.0 ≡ whole }
+        ensures all { ReadsAllGroups (base_of_pieces self.now) piece.now result.0 }
         ensures read { result.0 ≤ length piece.now }
         ensures within { result.1 ≤ length output.new }
         ensures len { length output.new ≡ length output.old }
@@ -181,13 +168,12 @@ impl<'a> PieceDecoder<'a> {
         }
     }
 
-    // How much of so many bytes is decoded as a text of its own: where nothing is ignored, as many
+    // How many of `len` bytes are decoded as a text of their own: where nothing is ignored, as many
     // as are whole groups, of which the length is no fault.
     fn run_len(&self, len: usize) -> usize
         requires limit { len ≤ DECODE_LIMIT }
         ensures value { result ≡ (if ignores_some (base_of_pieces self.now) then len
-            else len / group_symbols (base_of_pieces self.now).width
-            * group_symbols (base_of_pieces self.now).width) }
+            else whole_len (base_of_pieces self.now) len) }
         ensures few { result ≤ len }
         ensures due { IsOk (decoded_len (base_of_pieces self.now) result) }
         ensures specified { IsSpecified (base_of_pieces self.now) }
@@ -201,7 +187,7 @@ impl<'a> PieceDecoder<'a> {
         len / self.size * self.size
     }
 
-    // Whether a text of this length that means so many bytes is whole groups of which none is
+    // Whether a text of this length that means this many bytes is whole groups of which none is
     // final: the number of bytes tells it, or its length, where nothing is ignored and no group is
     // final.
     fn are_whole(&self, read: usize, written: usize) -> bool
@@ -228,7 +214,7 @@ impl<'a> PieceDecoder<'a> {
         written % bytes == 0
     }
 
-    // Reads byte by byte.
+    // Reads byte by byte, up to a fault.
     fn read_each(&mut self, piece: &[u8], output: &mut [u8]) -> usize
         requires limit { self.old.kept.len + length piece.now ≤ DECODE_LIMIT }
         requires room { self.old.kept.count + length piece.now ≤ length output.old }
@@ -238,10 +224,69 @@ impl<'a> PieceDecoder<'a> {
         ensures within { result ≤ length output.new }
         ensures len { length output.new ≡ length output.old }
     {
+        let mut read = 0;
         let mut written = 0;
-        for byte in piece {
-            written += self.take(*byte, &mut output[written..]);
+        while read < piece.len() && self.kept.fault.is_none() {
+            written += self.take(piece[read], &mut output[written..]);
+            read += 1;
         }
+        if read == piece.len() {
+            return written;
+        }
+        self.pass(&piece[read..]);
         written
+    }
+
+    // Reads a byte, writes the bytes of the group that it makes whole, where that has no fault, to
+    // the front of the output, and returns how many bytes they are.
+    fn take(&mut self, byte: u8, output: &mut [u8]) -> usize
+        requires limit { self.old.kept.len < DECODE_LIMIT }
+        requires room { self.old.kept.count < length output.old }
+        ensures base { base_of_pieces self.new ≡ base_of_pieces self.old }
+        ensures reads { ReadsOn (base_of_pieces self.old) self.old.kept self.new.kept (byte ∷ [])
+            (take result output.new) }
+        ensures within { result ≤ length output.new }
+        ensures len { length output.new ≡ length output.old }
+    {
+        // It tells that the laws hold of the encoding.
+        self.encoding.bit_width();
+        pieces();
+        let position = self.kept.len;
+        self.kept.len += 1;
+        if self.kept.fault.is_some() || self.encoding.interpret_byte(byte).is_ignored() {
+            return 0;
+        }
+        let index = self.kept.count;
+        self.kept.positions[index] = position;
+        self.kept.bytes[index] = byte;
+        if index + 1 < self.size {
+            self.kept.count = index + 1;
+            return 0;
+        }
+        self.kept.count = 0;
+        match self.judge(self.size, output) {
+            Ok(written) => {
+                self.kept.ended = self.is_final();
+                written
+            }
+            Err(error) => {
+                self.kept.fault = Some(error);
+                0
+            }
+        }
+    }
+
+    // Counts what follows a fault.
+    fn pass(&mut self, piece: &[u8])
+        requires limit { self.old.kept.len + length piece.now ≤ DECODE_LIMIT }
+        requires fault { IsSome self.old.kept.fault }
+        ensures base { base_of_pieces self.new ≡ base_of_pieces self.old }
+        ensures reads { ReadsOn (base_of_pieces self.old) self.old.kept self.new.kept piece.now
+            [] }
+    {
+        // The laws hold of an encoding that a specification yields.
+        self.encoding.bit_width();
+        pieces();
+        self.kept.len += piece.len();
     }
 }

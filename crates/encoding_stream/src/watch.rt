@@ -10,7 +10,7 @@ use std::io::{Read, Write};
 
 /// Passes each call on to a reader or a writer, and remembers whether one of them failed.
 ///
-/// A call fails where it answers an error of any kind, an interruption too, and where a write of
+/// A call fails where it returns an error of any kind, an interruption too, and where a write of
 /// one or more bytes takes none. Once a call has failed, `failed` stays `true`.
 #[derive(Debug, Drop)]
 pub struct Watch<T> {

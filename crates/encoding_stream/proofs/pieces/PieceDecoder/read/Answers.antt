@@ -1,13 +1,8 @@
-use Rattle.std.proofs.Common.{◌+◌, ◌-◌, length, rules, ◌∙◌}
+use Rattle.std.proofs.Common.{◌+◌, ◌-◌, length, ◌∙◌}
 use borrow.Rule.Slice.PartMut.{put_mid}
 use Rattle.encoding_stream.specs.Pieces.{base_of_pieces}
-use Rattle.encoding_stream.proofs.ReadPieceLemmas.{length-written, reads-fault, reads-part, reads-rest, rest-room, within-left, within-written}
+use Rattle.encoding_stream.proofs.ReadPieceLemmas.{length-written, reads-part, reads-rest, rest-room, within-left, within-written}
 use Rattle.encoding_stream.proofs.pieces.PieceDecoder.read.Goals as goal
-
-pub returns-then-is_some-clause-reads : goal.returns-then-is_some-clause-reads
-returns-then-is_some-clause-reads c =
-    reads-fault (base_of_pieces c.args.self.now) c.bit_width.ensures.base c.pieces.ensures.faulty
-    c.args.self.now.kept (search rules) c.args.piece.now
 
 pub read_run-run_read-requires-clause-room : goal.read_run-run_read-requires-clause-room
 read_run-run_read-requires-clause-room c =

@@ -30,7 +30,7 @@ returns-clause-reads c =
 pub returns-then-not-are_whole-clause-all : goal.returns-then-not-are_whole-clause-all
 returns-then-not-are_whole-clause-all c =
     let symbols = group_symbols (base_of_pieces c.args.self.now).width in
-    λ _ _ _ none joins bytes means.
+    λ _ _ _ joins none bytes means.
     let read-is = c.decode_run-read.ensures.all none bytes means in
     let divides : c.decode_run-read.result.0 % symbols ≡ 0 =
     rw read-is (mul-mod_left (length c.args.piece.now / symbols) symbols) in

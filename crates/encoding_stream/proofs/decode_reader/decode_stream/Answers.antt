@@ -7,7 +7,7 @@ use Rattle.encoding_stream.specs.Decoded.{answer_of, EndsText}
 use Rattle.encoding_stream.specs.Pieces.{base_of_pieces, Keeps}
 use Rattle.encoding_stream.specs.Watch.{has_failed, inner_of}
 use Rattle.encoding_stream.proofs.DecodedLemmas.{decoded-front, decoded-more, decoded-nothing, decoded-only, decoded-past, end-error, end-ok, end-other, end-write, ended-all, ended-front, front-all, not-both, on-works, past-few, reads-buffer}
-use Rattle.encoding_stream.proofs.decode.decode_stream.Goals as goal
+use Rattle.encoding_stream.proofs.decode_reader.decode_stream.Goals as goal
 
 pub loop-count-init : goal.loop-count-init
 loop-count-init g c = record {

@@ -51,7 +51,7 @@ pub fn encode_stream<R: Read, W: Write>(
         (R.remaining (inner_of reader.old)) (R.remaining (inner_of reader.new))
         (W.contents (inner_of writer.old)) (W.contents (inner_of writer.new)) }
 
-    // Each fault is answered exactly for its cause.
+    // Each fault is returned exactly for its cause.
     ensures succeeds { IfSome (R.remaining (inner_of reader.old)) (λ bytes.
         length bytes < 2 ^ 64 → has_failed reader.new ≡ false → has_failed writer.new ≡ false
         → IsOk result) }

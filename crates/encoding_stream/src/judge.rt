@@ -1,59 +1,20 @@
-//! One group of a text that is decoded piece by piece: its bytes, or its fault.
+//! The judgement of one group of a text that is decoded piece by piece, and the end of the text.
 
-ghost use Rattle.std.specs.Prelude.{◌≡◌, ℕ, ◌+◌, ◌<◌, ◌≤◌, List, [], ◌∷◌, ◌++◌, length, slice_index, take, None, Some, IfOk, IfErr};
+ghost use Rattle.std.specs.Prelude.{◌≡◌, ℕ, ◌<◌, ◌≤◌, List, ◌++◌, length, slice_index, take, IfOk, IfErr};
 ghost use Rattle.data_encoding.specs.Base.{group_bytes, group_symbols};
-ghost use Rattle.data_encoding.specs.Fault.{bytes_of_group, fault_after, fault_of, or_else, sound_bytes};
+ghost use Rattle.data_encoding.specs.Fault.{fault_of, sound_bytes};
 ghost use Rattle.data_encoding.specs.Grammar.{is_final};
-ghost use Rattle.data_encoding.specs.Pieces.{held_fault, whole_bytes};
-ghost use Rattle.encoding_stream.specs.Pieces.{at_positions, base_of_pieces, held, verdict_of, Keeps, NoneIgnored};
-ghost use Rattle.encoding_stream.specs.Reading.{ReadsOn};
+ghost use Rattle.data_encoding.specs.Pieces.{whole_bytes};
+ghost use Rattle.encoding_stream.specs.Judged.{EndsFaulty, EndsSound, JudgesFaulty, JudgesSound};
+ghost use Rattle.encoding_stream.specs.Pieces.{at_positions, base_of_pieces, verdict_of, Keeps};
 
 use crate::pieces::PieceDecoder;
 use data_encoding::laws::steps::pieces;
 use data_encoding::{DECODE_LIMIT, DecodeError, DecodeKind};
 
 impl PieceDecoder<'_> {
-    /// Reads a byte, writes the bytes of the group that it makes whole, where that has no fault,
-    /// to the front of the output, and answers how many bytes they are.
-    pub(crate) fn take(&mut self, byte: u8, output: &mut [u8]) -> usize
-        requires limit { self.old.kept.len < DECODE_LIMIT }
-        requires room { self.old.kept.count < length output.old }
-        ensures base { base_of_pieces self.new ≡ base_of_pieces self.old }
-        ensures reads { ReadsOn (base_of_pieces self.old) self.old.kept self.new.kept (byte ∷ [])
-            (take result output.new) }
-        ensures within { result ≤ length output.new }
-        ensures len { length output.new ≡ length output.old }
-    {
-        // It tells that the laws hold of the encoding.
-        self.encoding.bit_width();
-        pieces();
-        let position = self.kept.len;
-        self.kept.len += 1;
-        if self.kept.fault.is_some() || self.encoding.interpret_byte(byte).is_ignored() {
-            return 0;
-        }
-        let index = self.kept.count;
-        self.kept.positions[index] = position;
-        self.kept.bytes[index] = byte;
-        if index + 1 < self.size {
-            self.kept.count = index + 1;
-            return 0;
-        }
-        self.kept.count = 0;
-        match self.judge(self.size, output) {
-            Ok(written) => {
-                self.kept.ended = self.is_final();
-                written
-            }
-            Err(error) => {
-                self.kept.fault = Some(error);
-                0
-            }
-        }
-    }
-
-    // Whether the group that is whole is final.
-    fn is_final(&self) -> bool
+    /// Whether the group that is whole is final.
+    pub(crate) fn is_final(&self) -> bool
         ensures { result ≡ is_final (base_of_pieces self.now) (at_positions self.now.size
             self.now.kept.positions self.now.kept.bytes) }
     {
@@ -63,20 +24,15 @@ impl PieceDecoder<'_> {
         !self.concatenates && is_padded
     }
 
-    // Judges the first bytes that are kept as the next group: its fault, or its bytes.
-    fn judge(&self, count: usize, output: &mut [u8]) -> Result<usize, DecodeError>
+    /// Judges the first bytes that are kept as the next group: its fault, or its bytes.
+    pub(crate) fn judge(&self, count: usize, output: &mut [u8]) -> Result<usize, DecodeError>
         requires some { 0 < count }
         requires few { count ≤ group_symbols (base_of_pieces self.now).width }
         requires room { group_bytes (base_of_pieces self.now).width ≤ length output.old }
-        ensures sound { IfOk result (λ written. let group = at_positions count
-            self.now.kept.positions self.now.kept.bytes in
-            NoneIgnored (base_of_pieces self.now) group
-            → (fault_after self.now.kept.ended (base_of_pieces self.now) group ≡ None)
-            × (bytes_of_group (base_of_pieces self.now) group ≡ take written output.new)) }
-        ensures fault { IfErr result (λ error. let group = at_positions count
-            self.now.kept.positions self.now.kept.bytes in
-            NoneIgnored (base_of_pieces self.now) group
-            → fault_after self.now.kept.ended (base_of_pieces self.now) group ≡ Some error) }
+        ensures sound { IfOk result (λ written. JudgesSound (base_of_pieces self.now) self.now.kept
+            count (take written output.new)) }
+        ensures fault { IfErr result (λ error. JudgesFaulty (base_of_pieces self.now)
+            self.now.kept count error) }
         ensures few { IfOk result (λ written.
             written ≤ group_bytes (base_of_pieces self.now).width) }
         ensures len { length output.new ≡ length output.old }
@@ -114,7 +70,7 @@ impl PieceDecoder<'_> {
     }
 
     /// Ends the text: writes the bytes of a last group, where neither it nor one before has a
-    /// fault, to the front of the output, and answers how many bytes they are and the verdict on
+    /// fault, to the front of the output, and returns how many bytes they are and the verdict on
     /// the whole text.
     pub(crate) fn finish(&self, output: &mut [u8]) -> (usize, Result<(), DecodeError>)
         requires limit { self.now.kept.len ≤ DECODE_LIMIT }
@@ -143,16 +99,10 @@ impl PieceDecoder<'_> {
     // the first fault of the groups, or the bytes of the last.
     fn judge_last(&self, output: &mut [u8]) -> Result<usize, DecodeError>
         requires room { 8 ≤ length output.old }
-        ensures sound { IfOk result (λ written. (text : List ℕ)
-            → Keeps (base_of_pieces self.now) self.now.kept text
-            → (or_else self.now.kept.fault (held_fault self.now.kept.ended
-            (base_of_pieces self.now) (held self.now.kept)) ≡ None)
-            × (bytes_of_group (base_of_pieces self.now) (held self.now.kept)
-            ≡ take written output.new)) }
-        ensures fault { IfErr result (λ error. (text : List ℕ)
-            → Keeps (base_of_pieces self.now) self.now.kept text
-            → or_else self.now.kept.fault (held_fault self.now.kept.ended
-            (base_of_pieces self.now) (held self.now.kept)) ≡ Some error) }
+        ensures sound { IfOk result (λ written. EndsSound (base_of_pieces self.now) self.now.kept
+            (take written output.new)) }
+        ensures fault { IfErr result (λ error. EndsFaulty (base_of_pieces self.now)
+            self.now.kept error) }
         ensures few { IfOk result (λ written. written ≤ 8) }
         ensures len { length output.new ≡ length output.old }
     {

@@ -4,7 +4,7 @@ use Rattle.std.proofs.lemmas.Result.{on_ok_weaker}
 use Rattle.data_encoding.specs.Lengths.{alignment}
 use Rattle.encoding_stream.specs.Watch.{inner_of}
 use Rattle.encoding_stream.proofs.EncodedLemmas.{blocks-few, blocks-whole, written-all, written-front, written-more, written-none, written-piece}
-use Rattle.encoding_stream.proofs.encode.write_text.Goals as goal
+use Rattle.encoding_stream.proofs.encode_reader.write_text.Goals as goal
 
 pub loop-output-init : goal.loop-output-init
 loop-output-init g c = record {

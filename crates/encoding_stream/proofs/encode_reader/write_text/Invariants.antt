@@ -1,7 +1,7 @@
 use Rattle.std.proofs.Common.{◌≡◌, length, false}
 use Rattle.encoding_stream.specs.Watch.{has_failed, inner_of}
 use Rattle.encoding_stream.proofs.EncodedLemmas.{IsWrittenBefore}
-use Rattle.encoding_stream.proofs.encode.write_text.Given as goal
+use Rattle.encoding_stream.proofs.encode_reader.write_text.Given as goal
 
 abbrev pub invariant-loop-output : goal.invariant-loop-output
 invariant-loop-output g l = record {

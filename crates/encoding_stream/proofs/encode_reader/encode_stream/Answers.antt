@@ -10,7 +10,7 @@ use Rattle.encoding_stream.specs.Watch.{inner_of}
 use Rattle.encoding_stream.proofs.WriteLemmas.{AppendsFront-nothing}
 use Rattle.encoding_stream.proofs.EncodedLemmas.{all-front, all-known, blocks-few, blocks-whole, encoded-all, encoded-front, encoded-more, encoded-nothing, encoded-past, front-nothing, front-of_rest}
 use Rattle.encoding_stream.proofs.DecodedLemmas.{not-both, past-few}
-use Rattle.encoding_stream.proofs.encode.encode_stream.Goals as goal
+use Rattle.encoding_stream.proofs.encode_reader.encode_stream.Goals as goal
 
 -- a full buffer has whole blocks
 full-whole : (base : Base) (size : ℕ) → size ≡ alignment base → (buffer : List ℕ)

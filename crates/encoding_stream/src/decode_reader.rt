@@ -25,7 +25,7 @@ const ROOM: usize = CHUNK + 8;
 /// Reads a text to the end, writes what it decodes to, and then flushes once. It takes no memory.
 ///
 /// The text is read to its end also where it has a fault: the bytes of the groups before the first
-/// faulty one are written, the writer is flushed, and the fault of the whole text is answered. The
+/// faulty one are written, the writer is flushed, and the fault of the whole text is returned. The
 /// first call of the reader or the writer that fails ends it, an interrupted one too. More than
 /// `DECODE_LIMIT` bytes are too long. Where it ends early, a beginning of what the text decodes to
 /// is written, and where a read failed or the input is too long, nothing is flushed.
@@ -37,7 +37,7 @@ pub fn decode_stream<R: Read, W: Write>(
     requires reader_works { has_failed reader.old ≡ false }
     requires writer_works { has_failed writer.old ≡ false }
 
-    // Where it answers Ok, or the fault of the text, all was read, and what it decodes to written.
+    // Where it returns Ok, or the fault of the text, all was read, and what it decodes to written.
     ensures all_read { OnOk result (IsAtEnd (R.remaining (inner_of reader.new))) }
     ensures whole { OnOk result (DecodesAll encoding.now None
         (R.remaining (inner_of reader.old)) (R.remaining (inner_of reader.new))
@@ -52,7 +52,7 @@ pub fn decode_stream<R: Read, W: Write>(
         (R.remaining (inner_of reader.old)) (R.remaining (inner_of reader.new))
         (W.contents (inner_of writer.old)) (W.contents (inner_of writer.new)) }
 
-    // Each answer is given exactly for its cause.
+    // Each result is returned exactly for its cause.
     ensures judges { IfSome (R.remaining (inner_of reader.old)) (λ text.
         length text ≤ DECODE_LIMIT → has_failed reader.new ≡ false
         → has_failed writer.new ≡ false
@@ -89,7 +89,7 @@ pub fn decode_stream<R: Read, W: Write>(
     }
 }
 
-// Writes what the last group decodes to, flushes, and answers the verdict.
+// Writes what the last group decodes to, flushes, and returns the verdict.
 fn end<W: Write>(
     pieces: &PieceDecoder<'_>,
     output: &mut [u8],
