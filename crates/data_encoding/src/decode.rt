@@ -4,6 +4,7 @@ pub(crate) mod group;
 pub(crate) mod length;
 pub(crate) mod next_group;
 pub(crate) mod steps;
+pub(crate) mod text;
 
 ghost use Rattle.std.specs.Prelude.{◌≡◌, ℕ, List, true, ◌+◌, ◌-◌, ◌*◌, ◌/◌, ◌<◌, ◌≤◌, ◌⊎◌, length, take, drop, None, Some, Ok, Err, IfOk, IfErr, IfSome, IsOk, IsOkAnd};
 ghost use Rattle.data_encoding.specs.Decoding.{HasNoLastRun, HasRoom, IsLastRun, IsStop, fault_of_stop};
@@ -75,7 +76,7 @@ impl Encoding {
         ensures len { length output.new ≡ length output.old }
     {
         let mut stop = Stop::new(0, 0, 0, DecodeKind::Length);
-        if self.decode_by_width(input, output, &mut stop) {
+        if self.decode_by_length(input, output, &mut stop) {
             return Ok(stop.written);
         }
         Err(self.stopped(input, output, stop))

@@ -3,5 +3,5 @@
 
 pub(crate) mod decode;
 pub(crate) mod encode;
-mod lanes;
+pub(crate) mod lanes;
 pub(crate) mod words;

@@ -1,16 +1,16 @@
 //! Decoding step by step: a run of whole groups, and the group that follows it.
 
-ghost use Rattle.std.specs.Prelude.{◌≡◌, ℕ, List, true, false, ◌*◌, ◌/◌, ◌<◌, ◌≤◌, length, Ok, IsTrue};
-ghost use Rattle.data_encoding.specs.Base.{IsWidth};
-ghost use Rattle.data_encoding.specs.Decoding.{HasDecodedTo, HasStopped, IsDecoded, IsGathered, IsLongest, IsRun};
+ghost use Rattle.std.specs.Prelude.{◌≡◌, ℕ, List, true, false, ◌<◌, ◌≤◌, length, Ok, IsTrue, IfSome};
+ghost use Rattle.data_encoding.specs.Decoding.{HasDecodedTo, HasStopped, IsDecoded, IsGathered};
 ghost use Rattle.data_encoding.specs.Grammar.{kept};
 ghost use Rattle.data_encoding.specs.Lengths.{decoded_len};
-ghost use Rattle.data_encoding.specs.Tables.{IsGroup};
+ghost use Rattle.data_encoding.specs.Tables.{IsGroup, Reads};
 
 use crate::decode::{DECODE_LIMIT, Stop};
 use crate::encoding::{BitOrder, Encoding};
 use crate::error::DecodeKind;
 use crate::kernel::decode::decode_run;
+use crate::kernel::lanes::look_up::LookUp;
 
 // How a step ended.
 #[derive(Clone, Copy, Drop)]
@@ -26,51 +26,45 @@ pub(crate) enum Step {
 }
 
 impl Encoding {
-    /// Decodes a text as far as it has no fault, and answers whether it has none.
-    // Apart from `decode_mut`, which is then small enough to be part of its callers.
+    /// What is left of a text, with the order as a constant again. Not inlined: with the search in
+    // the same function the loop over lanes was slower by a fifth.
     #[inline(never)]
-    pub(crate) fn decode_by_width(&self, input: &[u8], output: &mut [u8], stop: &mut Stop) -> bool
-        requires limit { length input.now ≤ DECODE_LIMIT }
-        requires exact { decoded_len self.now (length input.now) ≡ Ok (length output.old) }
-        ensures decoded { IsTrue result
-            → IsDecoded self.now input.now stop.new.written output.new }
-        ensures stopped { result ≡ false → HasStopped self.now input.now output.new stop.new }
-        ensures width { IsWidth self.now.width }
-    {
-        match self.width {
-            1 => self.decode_in_order::<1, 1, 8>(input, output, stop),
-            2 => self.decode_in_order::<2, 1, 4>(input, output, stop),
-            3 => self.decode_in_order::<3, 3, 8>(input, output, stop),
-            4 => self.decode_in_order::<4, 1, 2>(input, output, stop),
-            5 => self.decode_in_order::<5, 5, 8>(input, output, stop),
-            _ => self.decode_in_order::<6, 3, 4>(input, output, stop),
-        }
-    }
-
-    // With the width as a constant, and the sizes of a group.
-    #[inline(always)]
-    fn decode_in_order<const WIDTH: usize, const BYTES: usize, const SYMBOLS: usize>(
+    pub(crate) fn decode_from<
+        L: LookUp,
+        const WIDTH: usize,
+        const BYTES: usize,
+        const SYMBOLS: usize,
+    >(
         &self,
+        values: &[u8; 256],
+        look_up: &L,
         input: &[u8],
         output: &mut [u8],
         stop: &mut Stop,
     ) -> bool
         requires group { IsGroup WIDTH BYTES SYMBOLS }
-        requires width { self.now.width ≡ WIDTH }
+        requires reads { Reads self.now values.now WIDTH self.now.order }
+        requires held { L.holds values.now look_up.now }
         requires limit { length input.now ≤ DECODE_LIMIT }
         requires exact { decoded_len self.now (length input.now) ≡ Ok (length output.old) }
+        requires so_far { HasDecodedTo self.now input.now stop.old.read stop.old.written false
+            output.old }
         ensures decoded { IsTrue result
             → IsDecoded self.now input.now stop.new.written output.new }
         ensures stopped { result ≡ false → HasStopped self.now input.now output.new stop.new }
     {
         match self.order {
-            BitOrder::MostSignificantFirst => self.decode_text::<WIDTH, BYTES, SYMBOLS>(
+            BitOrder::MostSignificantFirst => self.decode_steps::<L, WIDTH, BYTES, SYMBOLS>(
+                values,
+                look_up,
                 BitOrder::MostSignificantFirst,
                 input,
                 output,
                 stop,
             ),
-            BitOrder::LeastSignificantFirst => self.decode_text::<WIDTH, BYTES, SYMBOLS>(
+            BitOrder::LeastSignificantFirst => self.decode_steps::<L, WIDTH, BYTES, SYMBOLS>(
+                values,
+                look_up,
                 BitOrder::LeastSignificantFirst,
                 input,
                 output,
@@ -79,41 +73,20 @@ impl Encoding {
         }
     }
 
-    // With the order as a constant too. Most texts end with the first step.
+    // Step after step, to the end of the text.
     #[inline(always)]
-    fn decode_text<const WIDTH: usize, const BYTES: usize, const SYMBOLS: usize>(
+    fn decode_steps<L: LookUp, const WIDTH: usize, const BYTES: usize, const SYMBOLS: usize>(
         &self,
+        values: &[u8; 256],
+        look_up: &L,
         order: BitOrder,
         input: &[u8],
         output: &mut [u8],
         stop: &mut Stop,
     ) -> bool
         requires group { IsGroup WIDTH BYTES SYMBOLS }
-        requires width { self.now.width ≡ WIDTH }
-        requires order { self.now.order ≡ order }
-        requires limit { length input.now ≤ DECODE_LIMIT }
-        requires exact { decoded_len self.now (length input.now) ≡ Ok (length output.old) }
-        ensures decoded { IsTrue result
-            → IsDecoded self.now input.now stop.new.written output.new }
-        ensures stopped { result ≡ false → HasStopped self.now input.now output.new stop.new }
-    {
-        match self.step::<WIDTH, BYTES, SYMBOLS>(order, 0, 0, input, output, stop) {
-            Step::More => self.decode_groups::<WIDTH, BYTES, SYMBOLS>(input, output, stop),
-            Step::Ended => true,
-            Step::Faulty => false,
-        }
-    }
-
-    // The steps that follow: padded texts in a row, or bytes that are ignored.
-    #[inline(never)]
-    fn decode_groups<const WIDTH: usize, const BYTES: usize, const SYMBOLS: usize>(
-        &self,
-        input: &[u8],
-        output: &mut [u8],
-        stop: &mut Stop,
-    ) -> bool
-        requires group { IsGroup WIDTH BYTES SYMBOLS }
-        requires width { self.now.width ≡ WIDTH }
+        requires reads { Reads self.now values.now WIDTH order }
+        requires held { L.holds values.now look_up.now }
         requires limit { length input.now ≤ DECODE_LIMIT }
         requires exact { decoded_len self.now (length input.now) ≡ Ok (length output.old) }
         requires so_far { HasDecodedTo self.now input.now stop.old.read stop.old.written false
@@ -125,8 +98,15 @@ impl Encoding {
         while stop.read < input.len() {
             let read = stop.read;
             let written = stop.written;
-            match self.step::<WIDTH, BYTES, SYMBOLS>(
-                self.order, read, written, input, output, stop,
+            match self.step::<L, WIDTH, BYTES, SYMBOLS>(
+                values,
+                Some(look_up),
+                order,
+                read,
+                written,
+                input,
+                output,
+                stop,
             ) {
                 Step::More => {}
                 Step::Ended => return true,
@@ -136,11 +116,14 @@ impl Encoding {
         true
     }
 
-    // A run of whole groups, and the group that follows it, which is judged alone. What is told of
-    // a fault is made by the caller, since a result with room for it makes short texts slower.
+    /// A run of whole groups, and the group that follows it, which is judged alone. Where the text
+    /// has no look-up, the run finds its own.
+    // A fault is described by the caller, since a result with room for it makes short texts slower.
     #[inline(always)]
-    fn step<const WIDTH: usize, const BYTES: usize, const SYMBOLS: usize>(
+    pub(crate) fn step<L: LookUp, const WIDTH: usize, const BYTES: usize, const SYMBOLS: usize>(
         &self,
+        values: &[u8; 256],
+        look_up: Option<&L>,
         order: BitOrder,
         read: usize,
         written: usize,
@@ -149,8 +132,8 @@ impl Encoding {
         stop: &mut Stop,
     ) -> Step
         requires group { IsGroup WIDTH BYTES SYMBOLS }
-        requires width { self.now.width ≡ WIDTH }
-        requires order { self.now.order ≡ order }
+        requires reads { Reads self.now values.now WIDTH order }
+        requires held { IfSome look_up (λ look_up. L.holds values.now look_up.now) }
         requires limit { length input.now ≤ DECODE_LIMIT }
         requires exact { decoded_len self.now (length input.now) ≡ Ok (length output.old) }
         requires so_far { HasDecodedTo self.now input.now read written false output.old }
@@ -162,9 +145,10 @@ impl Encoding {
         ensures faulty { result ≡ Step.Faulty
             → HasStopped self.now input.now output.new stop.new }
     {
-        let count = self.run::<WIDTH, BYTES, SYMBOLS>(
+        let count = decode_run::<L, WIDTH, BYTES, SYMBOLS>(
+            values,
+            look_up,
             order,
-            read == 0,
             &input[read..],
             &mut output[written..],
         );
@@ -201,26 +185,6 @@ impl Encoding {
             return Step::Ended;
         }
         Step::More
-    }
-
-    // The next run, by the tables of the encoding.
-    #[inline(always)]
-    fn run<const WIDTH: usize, const BYTES: usize, const SYMBOLS: usize>(
-        &self,
-        order: BitOrder,
-        is_first: bool,
-        input: &[u8],
-        output: &mut [u8],
-    ) -> usize
-        requires group { IsGroup WIDTH BYTES SYMBOLS }
-        requires width { self.now.width ≡ WIDTH }
-        requires order { self.now.order ≡ order }
-        requires room { length input.now / SYMBOLS * BYTES ≤ length output.old }
-        ensures run { IsRun self.now input.now result output.old output.new }
-        ensures longest { IsLongest self.now input.now result }
-        ensures within { result * SYMBOLS ≤ length input.now }
-    {
-        decode_run::<WIDTH, BYTES, SYMBOLS>(&self.values, order, is_first, input, output)
     }
 
     // Whether no byte is left that is not ignored.

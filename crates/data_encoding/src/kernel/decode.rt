@@ -1,74 +1,38 @@
 //! Runs of whole groups that are symbols alone, decoded without a judgement.
 
-ghost use Rattle.std.specs.Prelude.{◌≡◌, ℕ, ◌*◌, ◌/◌, ◌≤◌, List, length, IsTrue};
+ghost use Rattle.std.specs.Prelude.{◌≡◌, ℕ, ◌*◌, ◌/◌, ◌≤◌, List, length, IsTrue, IfSome};
 ghost use Rattle.data_encoding.specs.Decoding.{IsLongestBy, IsRunBy};
 ghost use Rattle.data_encoding.specs.Tables.{IsGroup};
 
 use crate::encoding::BitOrder;
-use crate::kernel::lanes::affine::{Affine, affine_of};
 use crate::kernel::lanes::decode::decode_eight;
 use crate::kernel::lanes::look_up::LookUp;
 use crate::kernel::lanes::rows::{Rows, rows_of};
 use crate::kernel::words::{decode_entries, decode_symbols, entry_of};
 
-// The length of a run from which finding the affine form of a table takes less time than it saves.
-const AFFINE_FROM: usize = 704;
-
 /// Decodes whole groups in a row, from the front of the input to the front of the output, up to the
 /// first that has a byte that is no symbol, and returns how many they are. What the output holds
-/// after their bytes is not said. `is_first` tells the first run of a text: those that follow stand
-/// between ignored bytes or padded groups, and are too short for a search.
-// Part of its caller, since a call costs more than a short text.
+/// after their bytes is not said. Without a look-up, one is prepared where there are eight groups.
+// Part of its caller, since a call costs more than a short text; the order is a constant there.
 #[inline(always)]
-pub(crate) fn decode_run<const WIDTH: usize, const BYTES: usize, const SYMBOLS: usize>(
+pub(crate) fn decode_run<L: LookUp, const WIDTH: usize, const BYTES: usize, const SYMBOLS: usize>(
     values: &[u8; 256],
+    look_up: Option<&L>,
     order: BitOrder,
-    is_first: bool,
     input: &[u8],
     output: &mut [u8],
 ) -> usize
     requires group { IsGroup WIDTH BYTES SYMBOLS }
+    requires held { IfSome look_up (λ look_up. L.holds values.now look_up.now) }
     requires room { length input.now / SYMBOLS * BYTES ≤ length output.old }
     ensures run { IsRunBy values.now WIDTH order input.now result output.old output.new }
     ensures longest { IsLongestBy values.now WIDTH order input.now result }
     ensures within { result * SYMBOLS ≤ length input.now }
 {
-    match order {
-        BitOrder::MostSignificantFirst => decode_groups::<WIDTH, BYTES, SYMBOLS>(
-            values,
-            BitOrder::MostSignificantFirst,
-            is_first,
-            input,
-            output,
-        ),
-        BitOrder::LeastSignificantFirst => decode_groups::<WIDTH, BYTES, SYMBOLS>(
-            values,
-            BitOrder::LeastSignificantFirst,
-            is_first,
-            input,
-            output,
-        ),
-    }
-}
-
-// With the order as a constant, once this is part of its caller: several groups at a time, and then
-// group by group.
-#[inline(always)]
-fn decode_groups<const WIDTH: usize, const BYTES: usize, const SYMBOLS: usize>(
-    values: &[u8; 256],
-    order: BitOrder,
-    is_first: bool,
-    input: &[u8],
-    output: &mut [u8],
-) -> usize
-    requires group { IsGroup WIDTH BYTES SYMBOLS }
-    requires room { length input.now / SYMBOLS * BYTES ≤ length output.old }
-    ensures run { IsRunBy values.now WIDTH order input.now result output.old output.new }
-    ensures longest { IsLongestBy values.now WIDTH order input.now result }
-    ensures within { result ≤ length input.now / SYMBOLS }
-{
     let count = input.len() / SYMBOLS;
-    let first = decode_by_several::<WIDTH, BYTES, SYMBOLS>(values, order, is_first, input, output);
+    let first = decode_by_several::<L, WIDTH, BYTES, SYMBOLS>(
+        values, look_up, order, input, output,
+    );
     for index in first..count {
         let read = index * SYMBOLS;
         let written = index * BYTES;
@@ -86,14 +50,15 @@ fn decode_groups<const WIDTH: usize, const BYTES: usize, const SYMBOLS: usize>(
 
 // By lanes, where there are eight groups, and else four at a time.
 #[inline(always)]
-fn decode_by_several<const WIDTH: usize, const BYTES: usize, const SYMBOLS: usize>(
+fn decode_by_several<L: LookUp, const WIDTH: usize, const BYTES: usize, const SYMBOLS: usize>(
     values: &[u8; 256],
+    look_up: Option<&L>,
     order: BitOrder,
-    is_first: bool,
     input: &[u8],
     output: &mut [u8],
 ) -> usize
     requires group { IsGroup WIDTH BYTES SYMBOLS }
+    requires held { IfSome look_up (λ look_up. L.holds values.now look_up.now) }
     requires room { length input.now / SYMBOLS * BYTES ≤ length output.old }
     ensures run { IsRunBy values.now WIDTH order input.now result output.old output.new }
     ensures within { result ≤ length input.now / SYMBOLS }
@@ -106,47 +71,16 @@ fn decode_by_several<const WIDTH: usize, const BYTES: usize, const SYMBOLS: usiz
     if 8 % WIDTH != 0 && entry_of(values, input[eight - 1]) >= 128 {
         return 0;
     }
-    if is_first && input.len() >= AFFINE_FROM {
-        return decode_long::<WIDTH, BYTES, SYMBOLS>(values, order, input, output);
-    }
-    decode_by_lanes::<WIDTH, BYTES, SYMBOLS>(values, order, input, output)
-}
-
-// By the affine form of the table, where it has one. Not inlined, so that shorter runs do not pay
-// for the room that the search takes.
-#[inline(never)]
-fn decode_long<const WIDTH: usize, const BYTES: usize, const SYMBOLS: usize>(
-    values: &[u8; 256],
-    order: BitOrder,
-    input: &[u8],
-    output: &mut [u8],
-) -> usize
-    requires group { IsGroup WIDTH BYTES SYMBOLS }
-    requires room { length input.now / SYMBOLS * BYTES ≤ length output.old }
-    ensures run { IsRunBy values.now WIDTH order input.now result output.old output.new }
-    ensures within { result ≤ length input.now / SYMBOLS }
-{
-    let Some(affine) = affine_of(values, 1 << WIDTH) else {
-        return decode_by_lanes::<WIDTH, BYTES, SYMBOLS>(values, order, input, output);
-    };
-    match order {
-        BitOrder::MostSignificantFirst => decode_eights::<Affine, WIDTH, BYTES, SYMBOLS>(
-            &affine,
-            BitOrder::MostSignificantFirst,
-            input,
-            output,
-        ),
-        BitOrder::LeastSignificantFirst => decode_eights::<Affine, WIDTH, BYTES, SYMBOLS>(
-            &affine,
-            BitOrder::LeastSignificantFirst,
-            input,
-            output,
-        ),
+    match look_up {
+        Some(look_up) => {
+            decode_eights::<L, WIDTH, BYTES, SYMBOLS>(look_up, order, input, output)
+        }
+        None => decode_by_lanes::<WIDTH, BYTES, SYMBOLS>(values, order, input, output),
     }
 }
 
-// By rows of the table, with the order as a constant again. Not inlined, so that short texts do not
-// pay for the room that lanes take.
+// By rows of the table, with the order as a constant again. Not inlined, so that shorter texts do
+// not pay for the room that lanes take.
 #[inline(never)]
 fn decode_by_lanes<const WIDTH: usize, const BYTES: usize, const SYMBOLS: usize>(
     values: &[u8; 256],
@@ -175,7 +109,8 @@ fn decode_by_lanes<const WIDTH: usize, const BYTES: usize, const SYMBOLS: usize>
     }
 }
 
-// Eight groups at a time; the eight with a byte that is no symbol are left.
+// Eight groups at a time; the eight with a byte that is no symbol are left. The look-up is copied,
+// so that it stays in registers.
 #[inline(always)]
 fn decode_eights<L: LookUp, const WIDTH: usize, const BYTES: usize, const SYMBOLS: usize>(
     look_up: &L,
@@ -189,12 +124,13 @@ fn decode_eights<L: LookUp, const WIDTH: usize, const BYTES: usize, const SYMBOL
         → IsRunBy values WIDTH order input.now result output.old output.new }
     ensures within { result ≤ length input.now / SYMBOLS }
 {
+    let held = *look_up;
     let count = input.len() / SYMBOLS / 8;
     for index in 0..count {
         let read = 8 * index * SYMBOLS;
         let written = 8 * index * BYTES;
         if !decode_eight::<L, WIDTH, BYTES, SYMBOLS>(
-            look_up,
+            &held,
             order,
             &input[read..read + 8 * SYMBOLS],
             &mut output[written..written + 8 * BYTES],

@@ -28,7 +28,9 @@ pub(crate) struct Affine {
 pub(crate) fn affine_of(values: &[u8; 256], limit: u8) -> Option<Affine>
     ensures { IfSome result (HoldsAffine values.now) }
 {
-    let affine = guess(values, limit);
+    let Some(affine) = guess(values, limit) else {
+        return None;
+    };
     for row in 0..8 {
         if !agrees_in_row(&affine, values, row) {
             return None;
@@ -37,10 +39,10 @@ pub(crate) fn affine_of(values: &[u8; 256], limit: u8) -> Option<Affine>
     Some(affine)
 }
 
-// What the table's rows say, if it is affine: the constant of a row is that of its first symbol,
-// and the odd one is the first that has another.
+// What the table's rows say, if it is affine; nothing where two symbols have a constant of their
+// own.
 #[inline(always)]
-fn guess(values: &[u8; 256], limit: u8) -> Affine {
+fn guess(values: &[u8; 256], limit: u8) -> Option<Affine> {
     let mut symbols = u8x16::splat(0);
     let mut deltas = [0; 16];
     let mut odd = 0;
@@ -50,36 +52,46 @@ fn guess(values: &[u8; 256], limit: u8) -> Affine {
         let entries = u8x16::from_slice(&values[start..start + 16]);
         let are_symbols = entries.simd_lt(u8x16::splat(limit));
         symbols = symbols | are_symbols.select(u8x16::splat(1 << row), u8x16::splat(0));
-        let added = entries - bytes_of_row(row);
-        let (delta, other) = first_and_other(added, are_symbols.to_bitmask());
+        let (delta, others) = constant_and_others(
+            entries - bytes_of_row(row),
+            are_symbols.to_bitmask(),
+        );
         deltas[row] = delta;
-        if let Some(place) = other {
+        if others != 0 {
+            if odd_value != 255 || others & (others - 1) != 0 {
+                return None;
+            }
+            let place = others.trailing_zeros() as usize % 16;
             odd = (start + place) as u8;
             odd_value = values[start + place];
         }
     }
-    Affine {
+    Some(Affine {
         symbols,
         deltas: u8x16::from_array(deltas),
         odd,
         odd_value,
-    }
+    })
 }
 
-// The number at the first of these places, and the first of them that has another.
+// The constant of a row, by the numbers at its symbols' places, and the places that have another.
+// It is the first number, or the last, where the first stands alone.
 #[inline(always)]
-fn first_and_other(numbers: u8x16, places: u64) -> (u8, Option<usize>)
-    ensures { IfSome result.1 (λ place. place < 16) }
-{
+fn constant_and_others(numbers: u8x16, places: u64) -> (u8, u64) {
     if places == 0 {
-        return (0, None);
+        return (0, 0);
     }
+    let behind = places & (places - 1);
     let first = numbers.to_array()[places.trailing_zeros() as usize % 16];
     let others = places & numbers.simd_ne(u8x16::splat(first)).to_bitmask();
-    if others == 0 {
-        return (first, None);
+    if others == 0 || others != behind {
+        return (first, others);
     }
-    (first, Some(others.trailing_zeros() as usize % 16))
+    let last = numbers.to_array()[places.ilog2() as usize % 16];
+    (
+        last,
+        places & numbers.simd_ne(u8x16::splat(last)).to_bitmask(),
+    )
 }
 
 // The bytes of a row.

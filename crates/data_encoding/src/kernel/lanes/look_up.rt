@@ -13,7 +13,7 @@ use std::simd::prelude::*;
 
 /// What finds the entries that a table has at bytes: where each that is found is below 128, they
 /// are the table's.
-pub(crate) trait LookUp {
+pub(crate) trait LookUp: Copy {
     ghost holds: { List ℕ → Self → Type 0 };
 
     fn look_up_16(&self, bytes: u8x16) -> u8x16

@@ -7,20 +7,23 @@ use Rattle.data_encoding.proofs.digits.WidthLemmas.{group_symbols-few}
 use Rattle.data_encoding.proofs.encoding.Encoding.step.Goals as goal
 use Rattle.data_encoding.proofs.encoding.Encoding.step.Goals.{else-count-group-via-then-count-group+else-not-self, else-count-group-via-else-count-group}
 
-pub run-count-requires-clause-room : goal.run-count-requires-clause-room
-run-count-requires-clause-room g c =
-    room-next_run (under_way c.requires.group c.requires.width c.requires.exact c.requires.so_far)
+pub decode_run-count-requires-clause-room : goal.decode_run-count-requires-clause-room
+decode_run-count-requires-clause-room g c =
+    room-next_run (under_way c.requires.group c.requires.reads.width_is c.requires.exact
+    c.requires.so_far)
 
 pub overflow_mul-written : goal.overflow_mul-written
 overflow_mul-written g c =
-    let now = after_run (under_way c.requires.group c.requires.width c.requires.exact
-    c.requires.so_far) c.run-count.auto.output c.run-count.ensures.run in
+    let now = after_run (under_way c.requires.group c.requires.reads.width_is c.requires.exact
+    c.requires.so_far) c.decode_run-count.auto.output
+    (c.decode_run-count.ensures.run c.args.self.now c.requires.reads) in
     record { fits = omega (arith, written-few now, c.requires.limit) }
 
 pub overflow_add-written : goal.overflow_add-written
 overflow_add-written g c =
-    let now = after_run (under_way c.requires.group c.requires.width c.requires.exact
-    c.requires.so_far) c.run-count.auto.output c.run-count.ensures.run in
+    let now = after_run (under_way c.requires.group c.requires.reads.width_is c.requires.exact
+    c.requires.so_far) c.decode_run-count.auto.output
+    (c.decode_run-count.ensures.run c.args.self.now c.requires.reads) in
     record { fits = omega (arith, written-few now, c.requires.limit) }
 
 pub next_group-group-requires : goal.next_group-group-requires
@@ -30,20 +33,23 @@ next_group-group-requires g c =
 
 pub returns-then-read-input-clause-ended : goal.returns-then-read-input-clause-ended
 returns-then-read-input-clause-ended g c =
-    let now = after_run (under_way c.requires.group c.requires.width c.requires.exact
-    c.requires.so_far) c.run-count.auto.output c.run-count.ensures.run in
+    let now = after_run (under_way c.requires.group c.requires.reads.width_is c.requires.exact
+    c.requires.so_far) c.decode_run-count.auto.output
+    (c.decode_run-count.ensures.run c.args.self.now c.requires.reads) in
     λ _. decoded-all now (omega (arith, c.if-read-input.true))
 
 pub returns-then-is_empty-clause-ended : goal.returns-then-is_empty-clause-ended
 returns-then-is_empty-clause-ended g c =
-    let now = after_run (under_way c.requires.group c.requires.width c.requires.exact
-    c.requires.so_far) c.run-count.auto.output c.run-count.ensures.run in
+    let now = after_run (under_way c.requires.group c.requires.reads.width_is c.requires.exact
+    c.requires.so_far) c.decode_run-count.auto.output
+    (c.decode_run-count.ensures.run c.args.self.now c.requires.reads) in
     λ _. decoded-none now c.next_group-group.ensures c.is_empty.ensures c.if-is_empty.true
 
 pub slice_bounds-rest-count : goal.slice_bounds-rest-count
 slice_bounds-rest-count g c =
-    let now = after_run (under_way c.requires.group c.requires.width c.requires.exact
-    c.requires.so_far) c.run-count.auto.output c.run-count.ensures.run in
+    let now = after_run (under_way c.requires.group c.requires.reads.width_is c.requires.exact
+    c.requires.so_far) c.decode_run-count.auto.output
+    (c.decode_run-count.ensures.run c.args.self.now c.requires.reads) in
     omega (arith, now.so_far.fits)
 
 pub slice_bounds-rest-start : goal.slice_bounds-rest-start
@@ -52,8 +58,9 @@ slice_bounds-rest-start g c =
 
 pub decode_group-requires-clause-room : goal.decode_group-requires-clause-room
 decode_group-requires-clause-room g c =
-    let now = after_run (under_way c.requires.group c.requires.width c.requires.exact
-    c.requires.so_far) c.run-count.auto.output c.run-count.ensures.run in
+    let now = after_run (under_way c.requires.group c.requires.reads.width_is c.requires.exact
+    c.requires.so_far) c.decode_run-count.auto.output
+    (c.decode_run-count.ensures.run c.args.self.now c.requires.reads) in
     room-next_group now c.next_group-group.ensures
 
 pub overflow_mul-written-2 : goal.overflow_mul-written-2
@@ -71,8 +78,9 @@ overflow_mul-written-2 g c =
 
 pub overflow_add-written-2 : goal.overflow_add-written-2
 overflow_add-written-2 g c =
-    let now = after_run (under_way c.requires.group c.requires.width c.requires.exact
-    c.requires.so_far) c.run-count.auto.output c.run-count.ensures.run in
+    let now = after_run (under_way c.requires.group c.requires.reads.width_is c.requires.exact
+    c.requires.so_far) c.decode_run-count.auto.output
+    (c.decode_run-count.ensures.run c.args.self.now c.requires.reads) in
     let some = some-group c.next_group-group.ensures c.is_empty.ensures c.if-is_empty.false in
     let few = written-few (after_group now c.next_group-group.ensures some
     c.decode_group.auto.output c.in-Ok.ensures.sound refl) in
@@ -85,8 +93,9 @@ is_end-requires-clause-few g c =
 
 pub returns-then-is_end-clause-ended : goal.returns-then-is_end-clause-ended
 returns-then-is_end-clause-ended g c =
-    let now = after_run (under_way c.requires.group c.requires.width c.requires.exact
-    c.requires.so_far) c.run-count.auto.output c.run-count.ensures.run in
+    let now = after_run (under_way c.requires.group c.requires.reads.width_is c.requires.exact
+    c.requires.so_far) c.decode_run-count.auto.output
+    (c.decode_run-count.ensures.run c.args.self.now c.requires.reads) in
     let some = some-group c.next_group-group.ensures c.is_empty.ensures c.if-is_empty.false in
     let last = after_group now c.next_group-group.ensures some c.decode_group.auto.output
     c.in-Ok.ensures.sound refl in
@@ -94,8 +103,9 @@ returns-then-is_end-clause-ended g c =
 
 pub returns-then-not-self-clause-faulty : goal.returns-then-not-self-clause-faulty
 returns-then-not-self-clause-faulty g c =
-    let now = after_run (under_way c.requires.group c.requires.width c.requires.exact
-    c.requires.so_far) c.run-count.auto.output c.run-count.ensures.run in
+    let now = after_run (under_way c.requires.group c.requires.reads.width_is c.requires.exact
+    c.requires.so_far) c.decode_run-count.auto.output
+    (c.decode_run-count.ensures.run c.args.self.now c.requires.reads) in
     let some = some-group c.next_group-group.ensures c.is_empty.ensures c.if-is_empty.false in
     let last = group-final now c.next_group-group.ensures some c.decode_group.auto.output
     c.in-Ok.ensures.sound c.self.view_is c.if-not-self.true c.if-count-group.true in
@@ -103,8 +113,9 @@ returns-then-not-self-clause-faulty g c =
 
 pub returns-then-read-input-2-clause-ended : goal.returns-then-read-input-2-clause-ended
 returns-then-read-input-2-clause-ended g c =
-    let now = after_run (under_way c.requires.group c.requires.width c.requires.exact
-    c.requires.so_far) c.run-count.auto.output c.run-count.ensures.run in
+    let now = after_run (under_way c.requires.group c.requires.reads.width_is c.requires.exact
+    c.requires.so_far) c.decode_run-count.auto.output
+    (c.decode_run-count.ensures.run c.args.self.now c.requires.reads) in
     let some = some-group c.next_group-group.ensures c.is_empty.ensures c.if-is_empty.false in
     let more = group-more now c.next_group-group.ensures some c.decode_group.auto.output
     c.in-Ok.ensures.sound c.self.view_is (elim c.else-count-group.branch [
@@ -115,8 +126,9 @@ returns-then-read-input-2-clause-ended g c =
 
 pub returns-clause-more : goal.returns-clause-more
 returns-clause-more g c =
-    let now = after_run (under_way c.requires.group c.requires.width c.requires.exact
-    c.requires.so_far) c.run-count.auto.output c.run-count.ensures.run in
+    let now = after_run (under_way c.requires.group c.requires.reads.width_is c.requires.exact
+    c.requires.so_far) c.decode_run-count.auto.output
+    (c.decode_run-count.ensures.run c.args.self.now c.requires.reads) in
     let some = some-group c.next_group-group.ensures c.is_empty.ensures c.if-is_empty.false in
     let more = group-more now c.next_group-group.ensures some c.decode_group.auto.output
     c.in-Ok.ensures.sound c.self.view_is (elim c.else-count-group.branch [
@@ -133,8 +145,9 @@ returns-clause-further g c =
 
 pub returns-in-Err-clause-faulty : goal.returns-in-Err-clause-faulty
 returns-in-Err-clause-faulty g c =
-    let now = after_run (under_way c.requires.group c.requires.width c.requires.exact
-    c.requires.so_far) c.run-count.auto.output c.run-count.ensures.run in
+    let now = after_run (under_way c.requires.group c.requires.reads.width_is c.requires.exact
+    c.requires.so_far) c.decode_run-count.auto.output
+    (c.decode_run-count.ensures.run c.args.self.now c.requires.reads) in
     let some = some-group c.next_group-group.ensures c.is_empty.ensures c.if-is_empty.false in
     λ _. rw c.new.ensures (group-stopped now c.next_group-group.ensures some
     c.in-Err.ensures.fault _ c.decode_group.auto.output)

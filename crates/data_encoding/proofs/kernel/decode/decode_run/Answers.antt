@@ -1,54 +1,154 @@
-use Rattle.std.proofs.Common.{length, arith}
+use Rattle.std.proofs.Common.{◌≡◌, ℕ, ◌+◌, ◌*◌, ◌/◌, ◌<◌, ◌≤◌, length, refl, sym, ap, ◌∙◌, subst, arith}
+use Rattle.data_encoding.specs.Decoding.{IsRun}
+use Rattle.data_encoding.proofs.grammar.PositionLemmas.{bytes-positioned_from}
+use Rattle.data_encoding.proofs.decoding.SymbolRunLemmas.{group-next, run-all, run-kept, run-longest}
+use Rattle.data_encoding.proofs.lists.PartLemmas.{IsWhole-group, group-before, length-part, one-more}
 use Rattle.std.proofs.Math.Nat.{mul-le-mul_right}
-use Rattle.data_encoding.proofs.lists.PartLemmas.{groups-within}
 use Rattle.data_encoding.proofs.kernel.decode.decode_run.Goals as goal
 
-pub returns-in-MostSignificantFirst-clause-within :
-    goal.returns-in-MostSignificantFirst-clause-within
-returns-in-MostSignificantFirst-clause-within g c =
+-- a group before the last one ends within what all groups take
+ends_within : (n size i : ℕ) → i < n → i * size + size ≤ n * size
+ends_within n size i h =
+    let next : i + 1 ≤ n = omega (arith, h) in
+    omega (arith, one-more i size, mul-le-mul_right size next)
+
+pub nonzero_div-count : goal.nonzero_div-count
+nonzero_div-count g c =
+    (IsWhole-group g.row.WIDTH g.row.BYTES g.row.SYMBOLS c.requires.group).some_symbols
+
+pub slice_bounds-decode_symbols-end : goal.slice_bounds-decode_symbols-end
+slice_bounds-decode_symbols-end g c =
+    group-before (length c.args.input.now) g.row.SYMBOLS c.loop-index.index c.loop-index-test.true
+
+pub overflow_mul-read : goal.overflow_mul-read
+overflow_mul-read g c = omega (arith, slice_bounds-decode_symbols-end g c)
+
+pub overflow_add-read : goal.overflow_add-read
+overflow_add-read g c = omega (arith, slice_bounds-decode_symbols-end g c)
+
+pub overflow_mul-written : goal.overflow_mul-written
+overflow_mul-written g c =
     omega (
       arith,
-      mul-le-mul_right g.row.SYMBOLS c.decode_groups.ensures.within,
-      groups-within (length c.args.input.now) g.row.SYMBOLS,
+      ends_within (length c.args.input.now / g.row.SYMBOLS) g.row.BYTES c.loop-index.index
+          c.loop-index-test.true,
+      c.requires.room,
     )
 
-pub returns-in-LeastSignificantFirst-clause-within :
-    goal.returns-in-LeastSignificantFirst-clause-within
-returns-in-LeastSignificantFirst-clause-within g c =
+pub slice_bounds-decode_symbols-end-in-loop-index :
+    goal.slice_bounds-decode_symbols-end-in-loop-index
+slice_bounds-decode_symbols-end-in-loop-index g c =
     omega (
       arith,
-      mul-le-mul_right g.row.SYMBOLS c.decode_groups-in-LeastSignificantFirst.ensures.within,
-      groups-within (length c.args.input.now) g.row.SYMBOLS,
+      ends_within (length c.args.input.now / g.row.SYMBOLS) g.row.BYTES c.loop-index.index
+          c.loop-index-test.true,
+      c.requires.room,
+      c.loop-index.auto.output,
     )
 
-pub decode_groups-requires-clause-group : goal.decode_groups-requires-clause-group
-decode_groups-requires-clause-group g c = c.requires.group
+pub overflow_add-written : goal.overflow_add-written
+overflow_add-written g c = omega (arith, slice_bounds-decode_symbols-end-in-loop-index g c)
 
-pub decode_groups-requires-clause-room : goal.decode_groups-requires-clause-room
-decode_groups-requires-clause-room g c = c.requires.room
+pub decode_by_several-first-requires-clause-group :
+    goal.decode_by_several-first-requires-clause-group
+decode_by_several-first-requires-clause-group g c = c.requires.group
 
-pub decode_groups-requires-in-LeastSignificantFirst-clause-group :
-    goal.decode_groups-requires-in-LeastSignificantFirst-clause-group
-decode_groups-requires-in-LeastSignificantFirst-clause-group g c = c.requires.group
+pub decode_by_several-first-requires-clause-room : goal.decode_by_several-first-requires-clause-room
+decode_by_several-first-requires-clause-room g c = c.requires.room
 
-pub decode_groups-requires-in-LeastSignificantFirst-clause-room :
-    goal.decode_groups-requires-in-LeastSignificantFirst-clause-room
-decode_groups-requires-in-LeastSignificantFirst-clause-room g c = c.requires.room
+pub decode_symbols-requires-clause-group : goal.decode_symbols-requires-clause-group
+decode_symbols-requires-clause-group g c = c.requires.group
 
-pub returns-in-MostSignificantFirst-clause-run : goal.returns-in-MostSignificantFirst-clause-run
-returns-in-MostSignificantFirst-clause-run g c =
-    rw c.in-MostSignificantFirst.is c.decode_groups.ensures.run
+pub returns-then-not-decode_symbols-clause-run : goal.returns-then-not-decode_symbols-clause-run
+returns-then-not-decode_symbols-clause-run g c = λ base reads.
+    let i = c.loop-index.index in
+    let room : i * g.row.BYTES + g.row.BYTES ≤ length c.loop-index.output =
+    omega (
+      arith,
+      ends_within (length c.args.input.now / g.row.SYMBOLS) g.row.BYTES i c.loop-index-test.true,
+      c.requires.room,
+      c.loop-index.auto.output,
+    ) in
+    run-kept base reads.holds.is_width g.row.WIDTH g.row.BYTES g.row.SYMBOLS c.requires.group
+    reads.width_is
+    c.args.input.now _ c.loop-index.output c.decode_symbols.new.output i _ (omega (arith, room))
+    (c.loop-index.invariant.run base reads)
 
-pub returns-in-MostSignificantFirst-clause-longest :
-    goal.returns-in-MostSignificantFirst-clause-longest
-returns-in-MostSignificantFirst-clause-longest g c =
-    rw c.in-MostSignificantFirst.is c.decode_groups.ensures.longest
+pub returns-then-not-decode_symbols-clause-longest :
+    goal.returns-then-not-decode_symbols-clause-longest
+returns-then-not-decode_symbols-clause-longest g c = λ base reads.
+    run-longest base reads.holds.is_width g.row.WIDTH g.row.BYTES g.row.SYMBOLS c.requires.group
+    reads.width_is
+    c.args.values.now c.args.input.now c.loop-index.index _ refl reads.holds
+    (λ j. (c.type_inv.input j).fits)
+    (λ all. sym c.if-not-decode_symbols.true ∙ c.decode_symbols.ensures.symbols.1 all)
 
-pub returns-in-LeastSignificantFirst-clause-run : goal.returns-in-LeastSignificantFirst-clause-run
-returns-in-LeastSignificantFirst-clause-run g c =
-    rw c.in-LeastSignificantFirst.is c.decode_groups-in-LeastSignificantFirst.ensures.run
+pub returns-clause-longest : goal.returns-clause-longest
+returns-clause-longest g c = λ base reads.
+    run-all base reads.holds.is_width g.row.WIDTH g.row.BYTES g.row.SYMBOLS c.requires.group
+    reads.width_is
+    c.args.input.now
 
-pub returns-in-LeastSignificantFirst-clause-longest :
-    goal.returns-in-LeastSignificantFirst-clause-longest
-returns-in-LeastSignificantFirst-clause-longest g c =
-    rw c.in-LeastSignificantFirst.is c.decode_groups-in-LeastSignificantFirst.ensures.longest
+pub loop-index-preserved : goal.loop-index-preserved
+loop-index-preserved g c =
+    let i = c.loop-index.index in
+    let input = c.args.input.now in
+    let output = c.loop-index.output in
+    let enc = g.row.BYTES in
+    let dec = g.row.SYMBOLS in
+    let within : i * dec + dec ≤ length input =
+    group-before (length input) dec i c.loop-index-test.true in
+    let room : i * enc + enc ≤ length output =
+    omega (
+      arith,
+      ends_within (length input / dec) enc i c.loop-index-test.true,
+      c.requires.room,
+      c.loop-index.auto.output,
+    ) in
+    let shown_len : length c.decode_symbols.new.output ≡ enc =
+    c.decode_symbols.auto.output ∙ length-part (i * enc) enc output room in
+    record {
+      run = λ base reads.
+          group-next base reads.holds.is_width g.row.WIDTH enc dec c.requires.group
+          reads.width_is c.args.values.now
+          input _ output c.decode_symbols.new.output i _ _ refl within (omega (arith, room))
+          shown_len reads.holds (c.loop-index.invariant.run base reads)
+          (λ j. (c.type_inv.input j).fits)
+          (c.decode_symbols.ensures.symbols.0 c.if-not-decode_symbols.false)
+          (c.decode_symbols.ensures.bytes base _ reads (bytes-positioned_from 0 _)
+          c.if-not-decode_symbols.false);
+    }
+
+pub returns-clause-run : goal.returns-clause-run
+returns-clause-run g c = λ base reads.
+    let all : c.loop-index.index ≡ length c.args.input.now / g.row.SYMBOLS =
+    omega (arith, c.loop-index-test.false, c.loop-index.auto.index-end) in
+    subst (λ n. IsRun base c.args.input.now n c.args.output.now c.loop-index.output) all
+    (c.loop-index.invariant.run base reads)
+
+pub loop-index-init : goal.loop-index-init
+loop-index-init g c = record { run = c.decode_by_several-first.ensures.run }
+
+pub decode_symbols-requires-clause-few : goal.decode_symbols-requires-clause-few
+decode_symbols-requires-clause-few g c =
+    omega (
+      arith,
+      length-part (c.loop-index.index * g.row.SYMBOLS) g.row.SYMBOLS c.args.input.now
+          (group-before _ g.row.SYMBOLS c.loop-index.index c.loop-index-test.true),
+    )
+
+pub decode_symbols-requires-clause-exact : goal.decode_symbols-requires-clause-exact
+decode_symbols-requires-clause-exact g c =
+    let i = c.loop-index.index in
+    let count = length c.args.input.now / g.row.SYMBOLS in
+    let read = length-part (i * g.row.SYMBOLS) g.row.SYMBOLS c.args.input.now
+    (group-before _ g.row.SYMBOLS i c.loop-index-test.true) in
+    let wrote = length-part (i * g.row.BYTES) g.row.BYTES c.loop-index.output
+    (omega (
+      arith,
+      ends_within count g.row.BYTES i c.loop-index-test.true,
+      c.requires.room,
+      c.loop-index.auto.output,
+    )) in
+    let same = (IsWhole-group g.row.WIDTH g.row.BYTES g.row.SYMBOLS c.requires.group).same_bits in
+    omega (arith, wrote, ap (λ n. g.row.WIDTH * n) read, same)

@@ -1,6 +1,6 @@
 use Rattle.std.proofs.Common.{◌-◌, false, length}
 use Rattle.data_encoding.specs.Decoding.{HasDecodedTo}
-use Rattle.data_encoding.proofs.encoding.Encoding.decode_groups.Given as goal
+use Rattle.data_encoding.proofs.encoding.Encoding.decode_steps.Given as goal
 
 abbrev pub invariant-loop-stop : goal.invariant-loop-stop
 invariant-loop-stop g l = HasDecodedTo l.self l.input l.stop.read l.stop.written false l.output

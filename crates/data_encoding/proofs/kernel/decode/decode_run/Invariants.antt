@@ -1,5 +1,5 @@
 use Rattle.data_encoding.specs.Decoding.{IsRunBy}
-use Rattle.data_encoding.proofs.kernel.decode.decode_groups.Given as goal
+use Rattle.data_encoding.proofs.kernel.decode.decode_run.Given as goal
 
 abbrev pub invariant-loop-index : goal.invariant-loop-index
 invariant-loop-index g l = record {
