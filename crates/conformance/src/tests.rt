@@ -19,6 +19,7 @@ mod lanes_encoded;
 mod layouts;
 mod names;
 mod order;
+mod parts;
 mod predefined;
 mod resuming;
 mod rewritten;

@@ -5,6 +5,7 @@ ghost use Rattle.data_encoding.specs.Encoding.{KeepsRules};
 ghost use Rattle.data_encoding.specs.PlainTables.{order_by, padding_by, plain_tables};
 
 use crate::encoding::{BitOrder, Encoding, INVALID, copied};
+use crate::specification::layout::padding_of;
 
 // The tables of an encoding, with numbers in place of what does not cross to C.
 #[repr(C)]
@@ -125,11 +126,4 @@ fn order_of(least_significant_first: bool) -> BitOrder
     } else {
         BitOrder::MostSignificantFirst
     }
-}
-
-// The padding character of its entry.
-fn padding_of(entry: u8) -> Option<u8>
-    ensures { result ≡ padding_by entry }
-{
-    if entry < 128 { Some(entry) } else { None }
 }

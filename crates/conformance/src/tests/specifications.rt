@@ -6,7 +6,7 @@ use data_encoding::Encoding;
 use std::alloc::{AllocError, Global};
 use std::test::Fail;
 
-const JUDGEMENTS: &str = "\
+pub(super) const JUDGEMENTS: &str = "\
 |most|check|||0||||invalid number of symbols
 010|most|check|||0||||invalid number of symbols
 é|most|check|||0||||non-ascii character
@@ -55,7 +55,7 @@ base64|most|check|||7|\
 
 // The last field is that specification of the encoding: whether texts stay single, its check,
 // padding, ignored bytes, lines and translation.
-const DESCRIPTIONS: &str = "\
+pub(super) const DESCRIPTIONS: &str = "\
 binary|most||||0||||true/None//0///
 octal|most||||0||||false/None//0///
 octal|most|check|||0||||true/None//0///

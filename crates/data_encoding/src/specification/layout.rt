@@ -129,7 +129,7 @@ fn described(bytes: &[u8]) -> Option<Encoding>
 }
 
 // The padding character of its entry.
-fn padding_of(entry: u8) -> Option<u8>
+pub(crate) fn padding_of(entry: u8) -> Option<u8>
     ensures { result ≡ (if nat_lt entry 128 then Some entry else None) }
 {
     if entry < 128 { Some(entry) } else { None }
