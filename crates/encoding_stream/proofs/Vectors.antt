@@ -12,7 +12,7 @@ use Rattle.data_encoding.specs.Pieces.{whole_bytes}
 use Rattle.std.proofs.lemmas.List.{append-nil}
 use Rattle.encoding_stream.specs.Decoded.{DecodesAll, DecodesFront, answer_of}
 use Rattle.encoding_stream.specs.Judged.{fault_with_held, next_group, EndsFaulty, EndsSound, JudgesFaulty, JudgesSound}
-use Rattle.encoding_stream.specs.Reading.{whole_len, AppendsPiece, AreWholeGroups, ReadsAllGroups, ReadsOn}
+use Rattle.encoding_stream.specs.Reading.{whole_len, AppendsPiece, AreWholeGroups, CompletesNothing, HasNoLastBytes, ReadsAllGroups, ReadsOn}
 use Rattle.encoding_stream.specs.Pieces.{base_of_pieces, paired, at_positions, held, NoneIgnored, Keeps, FillsGroups, verdict_of}
 use Rattle.encoding_stream.specs.declared.pieces.PieceDecoder.{PieceDecoder}
 use Rattle.encoding_stream.specs.declared.decoder.Decoder.{Decoder}
@@ -129,6 +129,12 @@ groups_filled = record { groups = 1; symbols = lit≤ tt; bytes = lit≤ tt }
 
 whole_groups_alone : Has base64_fields (λ base. AreWholeGroups base (codes "SGVsbG8="))
 whole_groups_alone = record { whole = refl; not_final = refl }
+
+-- `8` completes no group behind `SGVsbG`, and there is no last one behind `SGVs`
+nothing_completed :
+    Has base64_fields (λ base. CompletesNothing base (codes "SGVsbG") (codes "8")
+    × HasNoLastBytes base (codes "SGVs"))
+nothing_completed = (refl, refl)
 
 -- the nine bytes begin with two whole groups
 all_groups_read : Has base64_fields (λ base. (whole_len base 9 ≡ 8)

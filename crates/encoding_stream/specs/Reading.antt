@@ -2,9 +2,11 @@
 use Rattle.std.specs.Prelude.{◌≡◌, ℕ, ◌+◌, ◌*◌, ◌/◌, ◌%◌, false, List, ◌++◌, length, take}
 use Rattle.std.specs.List.{list_any}
 use Rattle.data_encoding.specs.Base.{Base, group_symbols, ignores_some}
+use Rattle.data_encoding.specs.Fault.{sound_bytes}
 use Rattle.data_encoding.specs.Grammar.{Means, groups, is_final, kept}
 use Rattle.data_encoding.specs.Pieces.{whole_bytes}
 use Rattle.encoding_stream.specs.declared.pieces.Kept.{Kept}
+use Rattle.encoding_stream.specs.Appending.{AppendsDecoded}
 use Rattle.encoding_stream.specs.Pieces.{FillsGroups, Keeps}
 
 -- Of each text of which the first is kept, the second is kept with this piece behind it, and the
@@ -38,3 +40,18 @@ ReadsAllGroups base piece read =
     ignores_some base ≡ false → (bytes : List ℕ)
     → Means base (take (whole_len base (length piece)) piece) bytes
     → read ≡ whole_len base (length piece)
+
+-- Behind the text, the piece decodes to nothing more.
+abbrev pub CompletesNothing : Base → List ℕ → List ℕ → Type 0
+CompletesNothing base text piece =
+    whole_bytes base (text ++ piece) ≡ whole_bytes base text
+
+-- At its end, the text decodes to nothing more.
+abbrev pub HasNoLastBytes : Base → List ℕ → Type 0
+HasNoLastBytes base text = sound_bytes base text ≡ whole_bytes base text
+
+-- Where this is kept of a text, the bytes of its last group were appended.
+abbrev pub AppendsLast : Base → Kept → List ℕ → List ℕ → Type 0
+AppendsLast base kept output_old output_new =
+    (text : List ℕ) → Keeps base kept text
+    → AppendsDecoded (whole_bytes base text) (sound_bytes base text) output_old output_new

@@ -4,11 +4,9 @@ ghost use Rattle.std.specs.Prelude.{◌≡◌, ℕ, ◌+◌, ◌*◌, ◌/◌, �
 ghost use Rattle.data_encoding.specs.declared.decode.TheConstants.{DECODE_LIMIT};
 ghost use Rattle.data_encoding.specs.Base.{group_bytes, group_symbols};
 ghost use Rattle.data_encoding.specs.Fields.{IsSpecified};
-ghost use Rattle.data_encoding.specs.Fault.{fault_of, sound_bytes};
-ghost use Rattle.data_encoding.specs.Pieces.{whole_bytes};
-ghost use Rattle.encoding_stream.specs.Appending.{AppendsDecoded};
+ghost use Rattle.data_encoding.specs.Fault.{fault_of};
 ghost use Rattle.encoding_stream.specs.Pieces.{base_of_pieces, verdict_of, Keeps};
-ghost use Rattle.encoding_stream.specs.Reading.{AppendsPiece, ReadsOn};
+ghost use Rattle.encoding_stream.specs.Reading.{AppendsLast, AppendsPiece, CompletesNothing, HasNoLastBytes, ReadsOn};
 
 use crate::pieces::PieceDecoder;
 use data_encoding::laws::steps;
@@ -146,8 +144,7 @@ fn append_piece<A: Allocator + Copy>(
     ensures unchanged { OnErr result (output.new.items ≡ output.old.items) }
     ensures no_group { (text : List ℕ)
         → Keeps (base_of_pieces pieces.old) pieces.old.kept text
-        → whole_bytes (base_of_pieces pieces.old) (text ++ piece.now)
-        ≡ whole_bytes (base_of_pieces pieces.old) text → IsOk result }
+        → CompletesNothing (base_of_pieces pieces.old) text piece.now → IsOk result }
 {
     let mut buffer = [0; ROOM];
     let (read, written) = read_first(pieces, piece, &mut buffer);
@@ -170,15 +167,12 @@ fn append_last<A: Allocator + Copy>(
     ensures verdict { IfOk result (λ verdict. (text : List ℕ)
         → Keeps (base_of_pieces pieces.now) pieces.now.kept text
         → verdict ≡ verdict_of (fault_of (base_of_pieces pieces.now) text)) }
-    ensures appends { OnOk result ((text : List ℕ)
-        → Keeps (base_of_pieces pieces.now) pieces.now.kept text
-        → AppendsDecoded (whole_bytes (base_of_pieces pieces.now) text)
-        (sound_bytes (base_of_pieces pieces.now) text) output.old.items output.new.items) }
+    ensures appends { OnOk result (AppendsLast (base_of_pieces pieces.now) pieces.now.kept
+        output.old.items output.new.items) }
     ensures unchanged { OnErr result (output.new.items ≡ output.old.items) }
     ensures no_bytes { (text : List ℕ)
         → Keeps (base_of_pieces pieces.now) pieces.now.kept text
-        → sound_bytes (base_of_pieces pieces.now) text
-        ≡ whole_bytes (base_of_pieces pieces.now) text → IsOk result }
+        → HasNoLastBytes (base_of_pieces pieces.now) text → IsOk result }
 {
     let mut bytes = [0; 8];
     let (count, verdict) = pieces.finish(&mut bytes);
