@@ -9,6 +9,7 @@ mod comparison;
 mod decode_streams;
 mod decoders;
 mod decoding;
+mod drawn_tables;
 mod each_length;
 mod encoding;
 mod ignored;
