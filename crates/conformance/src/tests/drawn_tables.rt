@@ -23,7 +23,7 @@ impl Draw {
         (self.state >> 33) as usize % bound.max(1)
     }
 
-    // So many bytes.
+    // As many bytes.
     fn bytes(&mut self, alloc: Global, count: usize) -> Result<Vec<u8>, AllocError> {
         let mut bytes = Vec::with_capacity(alloc, count)?;
         for _ in 0..count {
@@ -119,7 +119,7 @@ impl Sweep<'_> {
     }
 }
 
-// Whether data of so many groups, and a byte, have the text of the judge, and it means them, and
+// Whether data of this many groups, and a byte, have the text of the judge, and it means them, and
 // what it means with each byte at some positions.
 fn is_alike(
     alloc: Global,
