@@ -56,7 +56,7 @@ impl Encoding {
         match self.order {
             BitOrder::MostSignificantFirst => self.decode_steps::<L, WIDTH, BYTES, SYMBOLS>(
                 values,
-                look_up,
+                Some(look_up),
                 BitOrder::MostSignificantFirst,
                 input,
                 output,
@@ -64,7 +64,7 @@ impl Encoding {
             ),
             BitOrder::LeastSignificantFirst => self.decode_steps::<L, WIDTH, BYTES, SYMBOLS>(
                 values,
-                look_up,
+                Some(look_up),
                 BitOrder::LeastSignificantFirst,
                 input,
                 output,
@@ -73,12 +73,17 @@ impl Encoding {
         }
     }
 
-    // Step after step, to the end of the text.
+    /// Step after step, to the end of the text.
     #[inline(always)]
-    fn decode_steps<L: LookUp, const WIDTH: usize, const BYTES: usize, const SYMBOLS: usize>(
+    pub(crate) fn decode_steps<
+        L: LookUp,
+        const WIDTH: usize,
+        const BYTES: usize,
+        const SYMBOLS: usize,
+    >(
         &self,
         values: &[u8; 256],
-        look_up: &L,
+        look_up: Option<&L>,
         order: BitOrder,
         input: &[u8],
         output: &mut [u8],
@@ -86,7 +91,7 @@ impl Encoding {
     ) -> bool
         requires group { IsGroup WIDTH BYTES SYMBOLS }
         requires reads { Reads self.now values.now WIDTH order }
-        requires held { L.holds values.now look_up.now }
+        requires held { IfSome look_up (λ look_up. L.holds values.now look_up.now) }
         requires limit { length input.now ≤ DECODE_LIMIT }
         requires exact { decoded_len self.now (length input.now) ≡ Ok (length output.old) }
         requires so_far { HasDecodedTo self.now input.now stop.old.read stop.old.written false
@@ -99,14 +104,7 @@ impl Encoding {
             let read = stop.read;
             let written = stop.written;
             match self.step::<L, WIDTH, BYTES, SYMBOLS>(
-                values,
-                Some(look_up),
-                order,
-                read,
-                written,
-                input,
-                output,
-                stop,
+                values, look_up, order, read, written, input, output, stop,
             ) {
                 Step::More => {}
                 Step::Ended => return true,

@@ -34,8 +34,8 @@ impl Encoding {
         self.decode_by_width(input, output, stop)
     }
 
-    // Part of `decode_by_length`, since a call costs more than a short text.
-    #[inline(always)]
+    // A short text. In the same function as the test of the length it took more time.
+    #[inline(never)]
     fn decode_short(&self, input: &[u8], output: &mut [u8], stop: &mut Stop) -> bool
         requires limit { length input.now ≤ DECODE_LIMIT }
         requires exact { decoded_len self.now (length input.now) ≡ Ok (length output.old) }
@@ -54,7 +54,7 @@ impl Encoding {
         }
     }
 
-    // A text of some length. Not inlined, since short texts were slower in the same function.
+    // A text of some length.
     #[inline(never)]
     fn decode_by_width(&self, input: &[u8], output: &mut [u8], stop: &mut Stop) -> bool
         requires limit { length input.now ≤ DECODE_LIMIT }
@@ -140,7 +140,8 @@ impl Encoding {
         }
     }
 
-    // The steps that follow: padded texts in a row, or bytes that are ignored.
+    // The steps that follow: padded texts in a row, or bytes that are ignored. Most are too few to
+    // prepare a look-up for them.
     #[inline(never)]
     fn decode_rest<const WIDTH: usize, const BYTES: usize, const SYMBOLS: usize>(
         &self,
@@ -158,8 +159,24 @@ impl Encoding {
             → IsDecoded self.now input.now stop.new.written output.new }
         ensures stopped { result ≡ false → HasStopped self.now input.now output.new stop.new }
     {
-        let rows = rows_of(&self.values);
-        self.decode_from::<Rows, WIDTH, BYTES, SYMBOLS>(&self.values, &rows, input, output, stop)
+        match self.order {
+            BitOrder::MostSignificantFirst => self.decode_steps::<Rows, WIDTH, BYTES, SYMBOLS>(
+                &self.values,
+                None,
+                BitOrder::MostSignificantFirst,
+                input,
+                output,
+                stop,
+            ),
+            BitOrder::LeastSignificantFirst => self.decode_steps::<Rows, WIDTH, BYTES, SYMBOLS>(
+                &self.values,
+                None,
+                BitOrder::LeastSignificantFirst,
+                input,
+                output,
+                stop,
+            ),
+        }
     }
 
     // By the affine form of the table, where it has one, and else by its rows. Not inlined, so that

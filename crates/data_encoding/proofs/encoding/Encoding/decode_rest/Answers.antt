@@ -1,8 +1,17 @@
-use Rattle.std.proofs.Common.{refl}
+use Rattle.std.proofs.Common.{sym, ap, ◌∙◌}
+use Rattle.data_encoding.specs.Base.{Base}
 use Rattle.data_encoding.proofs.tables.TableLemmas.{Reads-seen}
 use Rattle.data_encoding.proofs.encoding.Encoding.decode_rest.Goals as goal
 
-pub decode_from-requires-clause-reads : goal.decode_from-requires-clause-reads
-decode_from-requires-clause-reads g c =
-    Reads-seen c.self.inside c.self.invariant c.args.self.now c.self.view_is g.row.WIDTH
-    c.args.self.now.order c.requires.width refl
+pub decode_steps-requires-clause-reads : goal.decode_steps-requires-clause-reads
+decode_steps-requires-clause-reads g c =
+    Reads-seen c.self.inside c.self.invariant c.args.self.now c.self.view_is g.row.WIDTH _
+    c.requires.width
+    (ap (λ (base : Base). base.order) (sym c.self.view_is) ∙ c.in-MostSignificantFirst.is)
+
+pub decode_steps-requires-in-LeastSignificantFirst-clause-reads :
+    goal.decode_steps-requires-in-LeastSignificantFirst-clause-reads
+decode_steps-requires-in-LeastSignificantFirst-clause-reads g c =
+    Reads-seen c.self.inside c.self.invariant c.args.self.now c.self.view_is g.row.WIDTH _
+    c.requires.width
+    (ap (λ (base : Base). base.order) (sym c.self.view_is) ∙ c.in-LeastSignificantFirst.is)
