@@ -2,6 +2,8 @@
 
 pub(crate) mod affine;
 pub(crate) mod decode;
+pub(crate) mod digits;
 pub(crate) mod encode;
+pub(crate) mod groups;
 pub(crate) mod look_up;
 pub(crate) mod rows;
