@@ -29,6 +29,12 @@ base64|least|check|||0||||";
 // One or two turns of eight groups, with a group less, as many, and one more.
 const GROUPS: [usize; 7] = [7, 8, 9, 15, 16, 17, 33];
 
+// As many characters as are looked up by the affine form of a table, where it has one.
+const LONG: usize = 704;
+
+// The room for the data of a text, in bytes.
+const ROOM: usize = 576;
+
 // Bytes that are no symbol of some, among them those next to ranges of symbols.
 const DAMAGE: [u8; 11] = [128, 255, b'/', b':', b'@', b'[', b'`', b'{', b'=', b'\n', 0];
 
@@ -44,12 +50,12 @@ fn is_alike(
         return Ok(false);
     }
     let want = judge.decode(alloc, text)?;
-    let mut output = [0; 165];
+    let mut output = [0; ROOM];
     let len = match encoding.decode_len(text.len()) {
         Ok(len) => len,
         Err(error) => return Ok(want.fault == Some(error)),
     };
-    if len > 165 {
+    if len > ROOM {
         return Ok(false);
     }
     let (read, written, fault) = match encoding.decode_mut(text, &mut output[..len]) {
@@ -90,7 +96,7 @@ fn is_refused_there(
     let Ok(len) = encoding.decode_len(text.len()) else {
         return false;
     };
-    if len > 165 {
+    if len > ROOM {
         return false;
     }
     let before = position / group * group;
@@ -98,7 +104,7 @@ fn is_refused_there(
         position,
         kind: DecodeKind::Symbol,
     };
-    let mut output = [0; 165];
+    let mut output = [0; ROOM];
     match encoding.decode_mut(text, &mut output[..len]) {
         Ok(_) => false,
         Err(partial) => {
@@ -137,18 +143,32 @@ fn is_alike_damaged(
     is_alike(alloc, encoding, judge, text)
 }
 
+// Whether damage is found in a text of this many groups.
+fn is_found(alloc: Global, line: &str, groups: usize) -> Result<bool, Fail> {
+    let specification = row_of(alloc, line)?.specification;
+    let encoding = specification.encoding()?;
+    let judge = Judge::of(&specification);
+    let len = groups.wrapping_mul(judge.group_len());
+    let mut text = text_of(alloc, judge.symbols, len)?;
+    Ok(is_alike_damaged(alloc, &encoding, judge, &mut text)?)
+}
+
 #[test]
 fn damaged_groups_are_found(rt: HostRuntime) -> Result<(), Fail> {
     for line in ENCODINGS.split('\n') {
-        let specification = row_of(rt.alloc(), line)?.specification;
-        let encoding = specification.encoding()?;
-        let judge = Judge::of(&specification);
         for groups in GROUPS {
-            let len = groups.wrapping_mul(judge.group_len());
-            let mut text = text_of(rt.alloc(), judge.symbols, len)?;
-            let is_found = is_alike_damaged(rt.alloc(), &encoding, judge, &mut text)?;
-            assert!(rt; is_found, "{line}: {groups}");
+            assert!(rt; is_found(rt.alloc(), line, groups)?, "{line}: {groups}");
         }
+    }
+    Ok(())
+}
+
+#[test]
+fn damaged_groups_of_long_texts_are_found(rt: HostRuntime) -> Result<(), Fail> {
+    for line in ENCODINGS.split('\n') {
+        let specification = row_of(rt.alloc(), line)?.specification;
+        let groups = (LONG / Judge::of(&specification).group_len()).wrapping_add(9);
+        assert!(rt; is_found(rt.alloc(), line, groups)?, "{line}");
     }
     Ok(())
 }
@@ -162,12 +182,12 @@ fn is_refused(
     ends: (usize, usize),
 ) -> Result<bool, Fail> {
     let encoding = row_of(alloc, line)?.specification.encoding()?;
-    let mut output = [0; 165];
+    let mut output = [0; ROOM];
     if text.len() > DECODE_LIMIT {
         return Ok(false);
     }
     let len = encoding.decode_len(text.len())?;
-    if len > 165 {
+    if len > ROOM {
         return Ok(false);
     }
     Ok(match encoding.decode_mut(text, &mut output[..len]) {

@@ -1,12 +1,15 @@
-//! Data of each length up to 200 bytes, by every width and both orders, padded where a group has
-//! room for padding or not, in lines or not: their texts are those of lists of bits, and mean the
-//! data.
+//! Data of each length up to 200 bytes, and of 200 lengths whose texts are looked up by the affine
+//! form of a table, by every width and both orders, padded where a group has room for padding or
+//! not, in lines or not: their texts are those of lists of bits, and mean the data.
 
 use super::judge::Judge;
 use super::rows::row_of;
 use data_encoding::{DECODE_LIMIT, ENCODE_LIMIT, Encoding, Specification};
 use std::alloc::Global;
 use std::test::Fail;
+
+// As many characters as are looked up by the affine form of a table, where it has one.
+const LONG: usize = 704;
 
 // In the longest lines of whole groups.
 const ENCODINGS: &str = "\
@@ -48,15 +51,16 @@ fn is_alike(
     Ok(text.as_bytes() == want.as_slice() && decoded.as_slice() == data)
 }
 
-// Whether that holds of each beginning of the data.
+// Whether that holds of each beginning of the data that has this length or more.
 fn fronts_are_alike(
     alloc: Global,
     specification: &Specification,
-    data: &[u8; 200],
+    data: &[u8],
+    least: usize,
 ) -> Result<bool, Fail> {
     let encoding = specification.encoding()?;
     let judge = Judge::of(specification);
-    for len in 0..=200 {
+    for len in least..data.len() + 1 {
         if !is_alike(alloc, &encoding, judge, &data[..len])? {
             return Ok(false);
         }
@@ -64,18 +68,33 @@ fn fronts_are_alike(
     Ok(true)
 }
 
+// Whether it holds of data of each length up to 200, and of lengths whose texts are long.
+fn lengths_are_alike(
+    alloc: Global,
+    specification: &Specification,
+    data: &[u8; 728],
+) -> Result<bool, Fail> {
+    let width = specification.symbols.len().trailing_zeros() as usize;
+    let long = LONG.wrapping_mul(width) / 8;
+    let end = long.wrapping_add(200);
+    Ok(
+        fronts_are_alike(alloc, specification, &data[..200], 0)?
+            && fronts_are_alike(alloc, specification, data.get(..end).unwrap_or(&[]), long)?,
+    )
+}
+
 // Whether it holds where each byte is another, in lines and not.
 fn are_counted_alike(alloc: Global, line: &str) -> Result<bool, Fail> {
     let mut specification = row_of(alloc, line)?.specification;
-    let mut data = [0; 200];
-    for index in 0..200 {
-        data[index] = index as u8;
+    let mut data = [0; 728];
+    for index in 0..728 {
+        data[index] = (index % 256) as u8;
     }
-    if !fronts_are_alike(alloc, &specification, &data)? {
+    if !lengths_are_alike(alloc, &specification, &data)? {
         return Ok(false);
     }
     specification.wrap.width = 0;
-    fronts_are_alike(alloc, &specification, &data)
+    lengths_are_alike(alloc, &specification, &data)
 }
 
 // Whether it holds of zeros and of ones.
@@ -85,8 +104,8 @@ fn are_equal_bytes_alike(alloc: Global, line: &str) -> Result<bool, Fail> {
     if specification.padding.is_some() {
         return Ok(true);
     }
-    let are_zeros = fronts_are_alike(alloc, &specification, &[0; 200])?;
-    Ok(are_zeros && fronts_are_alike(alloc, &specification, &[255; 200])?)
+    let are_zeros = lengths_are_alike(alloc, &specification, &[0; 728])?;
+    Ok(are_zeros && lengths_are_alike(alloc, &specification, &[255; 728])?)
 }
 
 #[test]
