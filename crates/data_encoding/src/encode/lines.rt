@@ -145,7 +145,7 @@ impl Encoding {
     {
         let end = output.len() - self.separator.len();
         self.encode_padded::<WIDTH, BYTES, SYMBOLS>(input, &mut output[..end]);
-        output[end..].copy_from_slice(self.separator.as_slice());
+        write_separator(self.separator.as_slice(), &mut output[end..]);
     }
 }
 
@@ -180,5 +180,19 @@ fn write_line(line: &[u8], separator: &[u8], output: &mut [u8])
     ensures { output.new ≡ line.now ++ separator.now }
 {
     output[..line.len()].copy_from_slice(line);
-    output[line.len()..].copy_from_slice(separator);
+    write_separator(separator, &mut output[line.len()..]);
+}
+
+// CR LF takes less time as two stores than by a call that copies any number of bytes.
+#[inline(always)]
+fn write_separator(separator: &[u8], output: &mut [u8])
+    requires { length output.old ≡ length separator.now }
+    ensures { output.new ≡ separator.now }
+{
+    if separator.len() == 2 {
+        output[0] = separator[0];
+        output[1] = separator[1];
+    } else {
+        output.copy_from_slice(separator);
+    }
 }

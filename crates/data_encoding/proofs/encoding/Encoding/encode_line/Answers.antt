@@ -83,8 +83,8 @@ encode_padded-requires-clause-exact g c =
     c.requires.line)
     c.requires.exact c.len.result c.len.ensures.value
 
-pub copy_from_slice-requires : goal.copy_from_slice-requires
-copy_from_slice-requires g c =
+pub write_separator-requires : goal.write_separator-requires
+write_separator-requires g c =
     let seen = c.args.self.now in
     let input = c.args.input.now in
     room (text_of seen input) (padded_text seen input) c.self.inside.separator.items
@@ -104,5 +104,5 @@ returns g c =
     (text-is c.self.inside c.self.invariant seen c.self.view_is input c.requires.some
     c.requires.line)
     c.requires.exact c.len.result c.len.ensures.value c.encode_padded.new.output
-    c.copy_from_slice.new.self c.encode_padded.ensures
-    (c.copy_from_slice.ensures.after ∙ c.as_slice.ensures.value)
+    c.write_separator.new.output c.encode_padded.ensures
+    (c.write_separator.ensures ∙ c.as_slice.ensures.value)
