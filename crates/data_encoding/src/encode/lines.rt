@@ -13,7 +13,7 @@ use crate::encoding::Encoding;
 const BLOCK_LEN: usize = 1024;
 
 // The greatest number of lines that take less time one by one.
-const FEW_LINES: usize = 4;
+const FEW_LINES: usize = 3;
 
 impl Encoding {
     // Few lines go one by one, and more of them by blocks. One line is no turn of a loop, before
