@@ -1,14 +1,15 @@
 -- What the parts of a decoding promise: a run of whole groups, the next group, and its judgement.
 use Rattle.std.specs.Prelude.{◌≡◌, ℕ, ◌+◌, ◌-◌, ◌*◌, ◌/◌, ◌%◌, ◌<◌, ◌≤◌, ◌⊎◌, ◌&&◌, not, nat_lt, Bool, true, false, List, [], ◌∷◌, length, map, take, drop, flat_map, if◌then◌else◌, Some, None, is_some, slice_index}
+use Rattle.std.specs.List.{list_any}
 use Rattle.data_encoding.specs.declared.encoding.BitOrder.{BitOrder}
 use Rattle.data_encoding.specs.declared.error.DecodePartial.{DecodePartial}
 use Rattle.data_encoding.specs.declared.decode.Stop.{Stop}
 use Rattle.data_encoding.specs.declared.decode.group.GroupFault.{GroupFault}
-use Rattle.data_encoding.specs.Base.{Base, meaning, is_symbol, is_ignored, is_padded, group_bytes, group_symbols}
+use Rattle.data_encoding.specs.Base.{Base, meaning, is_symbol, is_ignored, is_padded, is_padding, group_bytes, group_symbols}
 use Rattle.data_encoding.specs.Bits.{runs}
-use Rattle.data_encoding.specs.Grammar.{Positioned, Means, groups, kept, kept_from, positioned, is_final}
+use Rattle.data_encoding.specs.Grammar.{Means, Positioned, groups, is_final, kept, kept_from, positioned}
 use Rattle.data_encoding.specs.Lengths.{greatest_valid_length, is_valid_count}
-use Rattle.data_encoding.specs.Fault.{bytes_of_group, count_before_padding, fault_after, fault_of, group_fault, position_of, sound_bytes, symbols_fault}
+use Rattle.data_encoding.specs.Fault.{bytes_of_group, count_before_padding, fault_after, fault_of, group_fault, position_of, sound_bytes, symbol_bytes, symbols_fault}
 use Rattle.data_encoding.specs.Tables.{Reads}
 use Rattle.data_encoding.specs.Partial.{StopsAt, is_length_fault, position_after}
 
@@ -63,29 +64,26 @@ pub record HasDecodedTo (base : Base) (text : List ℕ) (read written : ℕ) (en
 pub record IsDecodedGroup (base : Base) (group : List ℕ) (count : ℕ) (new : List ℕ)
     : Type 0 where
   pub within : count ≤ length group
-  pub sound : group_fault base (positioned group) ≡ None
-  pub final : is_final base (positioned group)
-      ≡ (not base.concatenates && nat_lt count (length group))
-  pub bytes : take (base.width * count / 8) new ≡ bytes_of_group base (positioned group)
+  pub sound : group_fault base group ≡ None
+  pub final : list_any is_padding (map (meaning base) group) ≡ nat_lt count (length group)
+  pub bytes : take (base.width * count / 8) new ≡ symbol_bytes base (map (meaning base) group)
 
 -- how many symbols a group may have: those before its padding, or all
-abbrev pub most_symbols : Base → List Positioned → ℕ
+abbrev pub most_symbols : Base → List ℕ → ℕ
 most_symbols base group =
-    if is_padded base then count_before_padding base group else length group
+    if is_padded base then count_before_padding (map (meaning base) group) else length group
 
 -- A group of a valid number of symbols, whose fault is that of its symbols.
 pub record HasSymbols (base : Base) (group : List ℕ) (count : ℕ) : Type 0 where
-  pub count_is : count ≡ most_symbols base (positioned group)
+  pub count_is : count ≡ most_symbols base group
   pub within : count ≤ length group
   pub valid : is_valid_count base.width count ≡ true
-  pub fault_is : group_fault base (positioned group)
-      ≡ symbols_fault base (positioned (take count group))
+  pub fault_is : group_fault base group ≡ symbols_fault base (map (meaning base) (take count group))
 
--- A group has a fault of that kind, at that byte.
+-- A group has that fault, at one of its bytes.
 pub record HasFault (base : Base) (group : List ℕ) (fault : GroupFault) : Type 0 where
   pub inside : fault.index < length group
-  pub is_fault : group_fault base (positioned group)
-      ≡ Some (record { position = fault.index; kind = fault.kind })
+  pub is_fault : group_fault base group ≡ Some fault
 
 -- The bytes of a part that are not ignored, up to the end of one of them: so many, or all.
 pub record IsGathered (base : Base) (size : ℕ) (part bytes : List ℕ) (span : ℕ) : Type 0 where
@@ -113,7 +111,7 @@ abbrev pub HasNoLastRun : Base → List ℕ → Type 0
 HasNoLastRun base rest =
     (0 < length (valid_front base rest))
     × (length (valid_front base rest) ≤ group_symbols base.width
-    → is_some (group_fault base (positioned (valid_front base rest))) ≡ true)
+    → is_some (group_fault base (valid_front base rest)) ≡ true)
 
 -- What is told of a faulty group, before which so much was read and written: only where it is too
 -- short may a last run be read too.

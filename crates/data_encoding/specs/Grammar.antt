@@ -1,6 +1,7 @@
 -- Which texts mean which data (RFC 4648, sections 3.2 to 3.5).
 use Rattle.std.specs.Prelude.{◌≡◌, ℕ, ◌<◌, Bool, true, ◌&&◌, List, [], ◌∷◌, ◌++◌, map, length, drop, flat_map, filter, replicate, All, Option, Some, None, not}
 use Rattle.std.specs.List.{enumerate_from, list_any}
+use Rattle.data_encoding.specs.declared.encoding.Character.{Character}
 use Rattle.data_encoding.specs.declared.encoding.Character.TheVariants.{Symbol, Padding}
 use Rattle.data_encoding.specs.Base.{Base, meaning, is_padding, is_ignored, group_symbols}
 use Rattle.data_encoding.specs.Bits.{bits_of_bytes, bits_of, runs}
@@ -35,12 +36,19 @@ kept_from base read text = kept_in base read (drop read text)
 abbrev pub groups : Base → List ℕ → List (List Positioned)
 groups base text = runs (group_symbols base.width) (kept base text)
 
+-- the bytes of a group, without their positions, and what each means
+abbrev pub bytes_in : List Positioned → List ℕ
+bytes_in group = map (λ k. k.byte) group
+
+abbrev pub meanings_in : Base → List Positioned → List Character
+meanings_in base group = map (meaning base) (bytes_in group)
+
 -- Symbols alone mean the bytes: their bits are those of the bytes, and then fewer than a symbol's,
 -- which are zeros where that is checked.
-pub record PlainMeans (base : Base) (characters : List Positioned) (bytes : List ℕ) : Type 0 where
+pub record PlainMeans (base : Base) (characters : List Character) (bytes : List ℕ) : Type 0 where
   pub values : List ℕ
   pub rest : List ℕ
-  pub are_symbols : map (λ k. meaning base k.byte) characters ≡ map (λ value. Symbol value) values
+  pub are_symbols : characters ≡ map (λ value. Symbol value) values
   pub same_bits : flat_map (bits_of base.order base.width) values
       ≡ bits_of_bytes base.order bytes ++ rest
   pub rest_is_short : length rest < base.width
@@ -48,30 +56,29 @@ pub record PlainMeans (base : Base) (characters : List Positioned) (bytes : List
   pub are_bytes : All (λ byte. byte < 256) bytes
 
 -- A whole group of one or more symbols, and then padding alone, means what its symbols mean.
-pub record GroupMeans (base : Base) (group : List Positioned) (bytes : List ℕ) : Type 0 where
-  pub symbols : List Positioned
-  pub padding : List Positioned
-  pub is_group : group ≡ symbols ++ padding
+pub record GroupMeans (base : Base) (group : List Character) (bytes : List ℕ) : Type 0 where
+  pub symbols : List Character
+  pub padding : ℕ
+  pub is_group : group ≡ symbols ++ replicate padding Padding
   pub is_whole : length group ≡ group_symbols base.width
   pub is_begun : 0 < length symbols
-  pub is_padding : map (λ k. meaning base k.byte) padding ≡ replicate (length padding) Padding
   pub means : PlainMeans base symbols bytes
 
 -- a group that no other may follow: it has padding, and texts may not be concatenated
 abbrev pub is_final : Base → List Positioned → Bool
 is_final base group =
-    not base.concatenates && list_any (λ k. is_padding (meaning base k.byte)) group
+    not base.concatenates && list_any is_padding (meanings_in base group)
 
 -- Each group means a piece, a final one is the last, and the bytes are the pieces joined.
 abbrev pub GroupsMean : Base → List (List Positioned) → List ℕ → Type 0
 GroupsMean base [] bytes = bytes ≡ []
 GroupsMean base (group ∷ others) bytes =
     (piece more : List ℕ) × (bytes ≡ piece ++ more)
-    × GroupMeans base group piece × (is_final base group ≡ true → others ≡ [])
+    × GroupMeans base (meanings_in base group) piece × (is_final base group ≡ true → others ≡ [])
     × GroupsMean base others more
 
 abbrev pub MeansBy : Option ℕ → Base → List ℕ → List ℕ → Type 0
-MeansBy None base text bytes = PlainMeans base (kept base text) bytes
+MeansBy None base text bytes = PlainMeans base (meanings_in base (kept base text)) bytes
 MeansBy (Some character) base text bytes = GroupsMean base (groups base text) bytes
 
 -- The text means the data.

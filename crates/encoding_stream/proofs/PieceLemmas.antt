@@ -7,7 +7,7 @@ use Rattle.data_encoding.specs.declared.error.DecodeError.{DecodeError}
 use Rattle.data_encoding.specs.Base.{Base, IsWidth, group_symbols, is_ignored, is_padding, meaning}
 use Rattle.data_encoding.specs.Fault.{bytes_of_group, fault_after, position_of}
 use Rattle.data_encoding.specs.Fields.{IsSpecified}
-use Rattle.data_encoding.specs.Grammar.{Positioned, is_final, kept, positioned}
+use Rattle.data_encoding.specs.Grammar.{Positioned, is_final, kept, positioned, meanings_in}
 use Rattle.data_encoding.specs.Pieces.{bytes_unless, held_with, unfinished, whole_bytes, HasRead, HoldsPiece, KeepsFault, ReadsGroup}
 use Rattle.encoding_stream.specs.Pieces.{at_positions, paired, NoneIgnored}
 use Rattle.encoding_stream.proofs.SizeLemmas.{symbols-few}
@@ -63,19 +63,14 @@ pub any-final : (base : Base) (n : ℕ) (ps bs : List ℕ) → n ≤ length ps �
     → list_any (λ b. is_padding (meaning base b)) (take n bs)
     ≡ is_final base (at_positions n ps bs)
 any-final base n ps bs h k alone =
-    any n ps bs h k
-    ∙ ap (λ joins. not joins
-    && list_any (λ (q : Positioned). is_padding (meaning base q.byte)) (at_positions n ps bs))
+    any (take n bs)
+    ∙ ap (λ l. list_any is_padding (map (meaning base) l)) (sym (positions-bytes n ps bs h k))
+    ∙ ap (λ joins. not joins && list_any is_padding (meanings_in base (at_positions n ps bs)))
     (sym alone) where
-      any : (n : ℕ) (ps bs : List ℕ) → n ≤ length ps → n ≤ length bs
-          → list_any (λ b. is_padding (meaning base b)) (take n bs)
-          ≡ list_any (λ (q : Positioned). is_padding (meaning base q.byte)) (at_positions n ps bs)
-      any zero ps bs h k = refl
-      any (suc n) [] bs h k = absurd (omega (arith, h))
-      any (suc n) (p ∷ ps) [] h k = absurd (omega (arith, k))
-      any (suc n) (p ∷ ps) (b ∷ bs) h k =
-          ap (λ found. is_padding (meaning base b) || found)
-          (any n ps bs (omega (arith, h)) (omega (arith, k)))
+      any : (bytes : List ℕ) → list_any (λ b. is_padding (meaning base b)) bytes
+          ≡ list_any is_padding (map (meaning base) bytes)
+      any [] = refl
+      any (b ∷ bytes) = ap (λ found. is_padding (meaning base b) || found) (any bytes)
 
 -- None of what is held is ignored.
 module _ (base : Base) where

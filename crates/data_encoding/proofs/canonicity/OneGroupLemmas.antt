@@ -5,12 +5,11 @@ use Rattle.std.specs.Prelude.{All}
 use Rattle.data_encoding.specs.declared.encoding.Character.TheVariants.{Symbol}
 use Rattle.data_encoding.specs.Base.{Base, IsWidth, meaning, is_ignored, is_padded, group_symbols}
 use Rattle.data_encoding.specs.Bits.{missing, runs}
-use Rattle.data_encoding.specs.Grammar.{GroupsMean, Means, MeansBy, PlainMeans, Positioned, kept, positioned}
+use Rattle.data_encoding.specs.Grammar.{GroupMeans, GroupsMean, Means, MeansBy, PlainMeans, bytes_in, kept, positioned}
 use Rattle.data_encoding.specs.Text.{padded_text, plain_text, text_of, with_padding}
 use Rattle.data_encoding.proofs.digits.WidthLemmas.{group_bytes-pos, group_symbols-few}
-use Rattle.data_encoding.proofs.grammar.GroupLemmas.{bytes_in}
 use Rattle.data_encoding.proofs.grammar.PositionLemmas.{bytes-positioned_from, length-positioned_from}
-use Rattle.data_encoding.proofs.grammar.SameBytesLemmas.{bytes-kept_in, GroupsMean-same, Means-same, PlainMeans-same}
+use Rattle.data_encoding.proofs.grammar.SameBytesLemmas.{GroupsMean-alike, Means-same, bytes-kept_in}
 use Rattle.data_encoding.proofs.lists.EachLemmas.{all_joined}
 use Rattle.data_encoding.proofs.lists.ListLemmas.{AllFail}
 use Rattle.data_encoding.proofs.lists.RunLemmas.{runs-short}
@@ -21,15 +20,15 @@ use Rattle.data_encoding.proofs.text.PlainTextLemmas.{length-plain_text}
 use Rattle.data_encoding.proofs.text.TextMeaningLemmas.{Means-text_of, few_symbols, some_symbols}
 
 -- symbols are not ignored
-symbols_kept : (base : Base) (ks : List Positioned) (values : List ℕ)
-    → map (λ k. meaning base k.byte) ks ≡ map (λ value. Symbol value) values
-    → AllFail (λ byte. is_ignored (meaning base byte)) (bytes_in ks)
+symbols_kept : (base : Base) (text values : List ℕ)
+    → map (meaning base) text ≡ map (λ value. Symbol value) values
+    → AllFail (λ byte. is_ignored (meaning base byte)) text
 symbols_kept base [] values h = tt
-symbols_kept base (k ∷ ks) [] h = cc
-symbols_kept base (k ∷ ks) (value ∷ values) h =
-    let here : meaning base k.byte ≡ Symbol value = cc in
-    let others : map (λ k. meaning base k.byte) ks ≡ map (λ value. Symbol value) values = cc in
-    (ap is_ignored here, symbols_kept base ks values others)
+symbols_kept base (byte ∷ text) [] h = cc
+symbols_kept base (byte ∷ text) (value ∷ values) h =
+    let here : meaning base byte ≡ Symbol value = cc in
+    let others : map (meaning base) text ≡ map (λ value. Symbol value) values = cc in
+    (ap is_ignored here, symbols_kept base text values others)
 
 -- nor is padding
 fillers_kept : (base : Base) (fillers : List ℕ) → AreFillers base fillers
@@ -62,12 +61,10 @@ module _ (base : Base) (ruled : IsRuled base) where
       (Means-text_of base ruled bytes below)
 
   -- symbols that mean bytes, few enough for a group
-  module _ (text bytes : List ℕ) (means : PlainMeans base (positioned text) bytes)
+  module _ (text bytes : List ℕ) (means : PlainMeans base (map (meaning base) text) bytes)
       (some : 0 < length text) (few : length text ≤ group_symbols base.width) where
     symbols : keeps_all text
-    symbols =
-        subst keeps_all (bytes-positioned_from 0 text)
-        (symbols_kept base (positioned text) means.values means.are_symbols)
+    symbols = symbols_kept base text means.values means.are_symbols
 
     -- with padding up to a whole group, of any bytes that mean it
     pub Means-fillers : is_padded base ≡ true → (fillers : List ℕ) → AreFillers base fillers
@@ -93,7 +90,9 @@ module _ (base : Base) (ruled : IsRuled base) where
                 bytes,
                 [],
                 sym (append-nil bytes),
-                GroupMeans-fillers base text fillers bytes means some whole all,
+                subst (λ l. GroupMeans base (map (meaning base) l) bytes)
+                    (sym (bytes-positioned_from 0 filled))
+                    (GroupMeans-fillers base text fillers bytes means some whole all),
                 (λ final. refl),
                 refl,
               )
@@ -101,8 +100,9 @@ module _ (base : Base) (ruled : IsRuled base) where
           by : (o : Option ℕ) → (o ≡ None → ⊥) → MeansBy o base filled bytes
           by None h = absurd (h refl)
           by (Some own) h =
-              GroupsMean-same base width padded (positioned filled) (kept base filled) bytes
-              (bytes-positioned_from 0 filled ∙ sym (all_kept filled keeps)) one
+              GroupsMean-alike base width (positioned filled) (kept base filled) bytes
+              (ap (map (meaning base)) (bytes-positioned_from 0 filled
+              ∙ sym (all_kept filled keeps))) one
 
     -- with the padding character
     pub Means-group : Means base (with_padding base.padding (group_symbols base.width) text) bytes
@@ -111,8 +111,8 @@ module _ (base : Base) (ruled : IsRuled base) where
           → Means base (with_padding o size text) bytes
       by None is h =
           subst (λ o. MeansBy o base text bytes) (sym is)
-          (PlainMeans-same base (positioned text) (kept base text) bytes
-          (bytes-positioned_from 0 text ∙ sym (all_kept text symbols)) means)
+          (subst (λ l. PlainMeans base (map (meaning base) l) bytes) (sym (all_kept text symbols))
+          means)
       by (Some character) is h =
           let count = missing size (length text) in
           Means-fillers (ap is_some is) (replicate count character)

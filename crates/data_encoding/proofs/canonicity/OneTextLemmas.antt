@@ -1,29 +1,29 @@
 -- Where there is no cause of a second text but a translated byte, the own form of a text that means
 -- data is the text of the data; and where there is no cause at all, the text is.
-use Rattle.std.proofs.Common.{◌≡◌, ◌↔◌, ℕ, ◌+◌, ◌*◌, ◌%◌, ◌<◌, ◌==◌, Bool, true, false, not, ◌&&◌, List, [], ◌∷◌, ◌++◌, length, map, replicate, Option, Some, None, is_some, unwrap_or, refl, sym, ap, ◌∙◌, subst, arith, length-append}
+use Rattle.std.proofs.Common.{◌≡◌, ◌↔◌, ℕ, ◌+◌, ◌*◌, ◌%◌, ◌<◌, ◌==◌, Bool, true, false, not, ◌&&◌, List, [], ◌∷◌, ◌++◌, length, map, replicate, Option, Some, None, is_some, unwrap_or, refl, sym, ap, ◌∙◌, subst, arith, length-append, zero, suc, nat_lt, take, drop, length-take-le, take-append-drop}
 use Rattle.std.proofs.lemmas.Bool.{and_parts, eqb-true, false≢true}
 use Rattle.std.proofs.lemmas.List.{append-nil, length-map, map-append, nil_from_length}
 use Rattle.std.proofs.Math.Nat.{mod_self, mul-mod_left, mul_comm}
 use Rattle.std.specs.Prelude.{flat_map}
-use Rattle.std.specs.List.{AllByRecursion, list_any}
+use Rattle.std.specs.List.{list_any}
+use Rattle.std.proofs.lemmas.Bool.Decides.{nat_tests}
 use Rattle.data_encoding.specs.declared.encoding.Character.TheVariants.{Padding}
 use Rattle.data_encoding.specs.Base.{Base, IsWidth, meaning, is_padded, is_padding, ignores_some, group_symbols}
 use Rattle.data_encoding.specs.Bits.{runs}
 use Rattle.data_encoding.specs.Canonical.{has_one_text}
-use Rattle.data_encoding.specs.Grammar.{Positioned, GroupMeans, GroupsMean, Means, MeansBy, kept, positioned, is_final}
+use Rattle.data_encoding.specs.Grammar.{Positioned, GroupMeans, GroupsMean, Means, MeansBy, kept, positioned, is_final, PlainMeans, bytes_in, meanings_in}
 use Rattle.data_encoding.specs.Layout.{own_character, translated_bytes}
 use Rattle.data_encoding.specs.SameMeaning.{has_one_own_form, own_form}
 use Rattle.data_encoding.specs.Text.{filled_with, plain_text, text_of, with_padding}
 use Rattle.data_encoding.proofs.canonicity.OwnTextLemmas.{missing-is, own_form-itself, own_form-meaning, paddings_are, plain_is}
 use Rattle.data_encoding.proofs.digits.WidthLemmas.{group_bits, group_symbols-pos}
-use Rattle.data_encoding.proofs.grammar.GroupLemmas.{bytes_in}
+use Rattle.data_encoding.proofs.grammar.GroupLemmas.{GroupMeans-length, GroupMeans-padding}
 use Rattle.data_encoding.proofs.grammar.MeaningLemmas.{sound_bytes-Means}
 use Rattle.data_encoding.proofs.grammar.PositionLemmas.{bytes-positioned_from, filter-plain}
 use Rattle.data_encoding.proofs.grammar.SameMeaningLemmas.{Means-translated}
 use Rattle.data_encoding.proofs.grammar.TightLemmas.{no_lines-plain}
 use Rattle.data_encoding.proofs.grammar.UnpaddedGroupLemmas.{PlainMeans-count}
-use Rattle.data_encoding.proofs.lists.EachLemmas.{all_parts}
-use Rattle.data_encoding.proofs.lists.ListLemmas.{AllFail-list_any}
+use Rattle.data_encoding.proofs.lists.ListLemmas.{parts_same}
 use Rattle.data_encoding.proofs.lists.RunLemmas.{flat_map-runs}
 use Rattle.data_encoding.proofs.judgement.RuleLemmas.{IsRuled}
 use Rattle.data_encoding.proofs.text.PaddedTextLemmas.{text_of-unwrapped}
@@ -81,59 +81,74 @@ module _ (base : Base) (ruled : IsRuled base) (one : HasOneForm base) where
     joins = second_false (is_padded base) base.concatenates one.alone (ap is_some some)
 
     -- a group that has padding is final
-    final : (group symbols padding : List Positioned) (k : Positioned)
-        → group ≡ symbols ++ k ∷ padding → meaning base k.byte ≡ Padding
+    final : (group : List Positioned) (piece : List ℕ)
+        → (means : GroupMeans base (meanings_in base group) piece) → 0 < means.padding
         → is_final base group ≡ true
-    final group symbols padding k is pads =
-        by (list_any (λ j. is_padding (meaning base j.byte)) group) refl where
-          by : (b : Bool) → list_any (λ j. is_padding (meaning base j.byte)) group ≡ b
-              → is_final base group ≡ true
-          by true any = ap (λ c. not c && list_any (λ j. is_padding (meaning base j.byte)) group)
-              joins ∙ any
-          by false none =
-              let Fails : Positioned → Type 0 = λ j. is_padding (meaning base j.byte) ≡ false in
-              let all =
-              AllFail-list_any (λ (j : Positioned). is_padding (meaning base j.byte)) group none in
-              let parts =
-              all_parts Fails symbols (k ∷ padding) (subst (AllByRecursion Fails) is all) in
-              absurd (false≢true (sym parts.1.0 ∙ ap is_padding pads))
+    final group piece means some =
+        let pads : nat_lt 0 means.padding ≡ true = grind (arith, nat_tests) in
+        ap (λ b. not b && list_any is_padding (meanings_in base group)) joins
+        ∙ GroupMeans-padding base (meanings_in base group) piece means ∙ pads
 
-    module _ (group : List Positioned) (piece : List ℕ) (means : GroupMeans base group piece) where
-      symbols_are : own_in means.symbols ≡ plain_text base piece
-      symbols_are = plain_is base ruled one.checks means.symbols piece means.means
+    module _ (group : List Positioned) (piece : List ℕ)
+        (means : GroupMeans base (meanings_in base group) piece) where
+      abbrev text : List ℕ
+      text = bytes_in group
+
+      abbrev front : List ℕ
+      front = take (length means.symbols) text
+
+      abbrev back : List ℕ
+      back = drop (length means.symbols) text
+
+      abbrev stands_for : ℕ → ℕ
+      stands_for byte = unwrap_or (own_character base (meaning base byte)) byte
+
+      whole : length means.symbols + means.padding ≡ size
+      whole = GroupMeans-length base (meanings_in base group) piece means
+
+      front_len : length front ≡ length means.symbols
+      front_len =
+          length-take-le (length means.symbols) text
+          (omega (arith, whole, means.is_whole, length-map text (meaning base)))
+
+      parts : (map (meaning base) front ≡ means.symbols)
+          × (map (meaning base) back ≡ replicate means.padding Padding)
+      parts =
+          parts_same (map (meaning base) front) (map (meaning base) back) means.symbols
+          (replicate means.padding Padding)
+          (sym (map-append (meaning base) front back)
+          ∙ ap (map (meaning base)) (take-append-drop (length means.symbols) text)
+          ∙ means.is_group)
+          (length-map front (meaning base) ∙ front_len)
+
+      symbols_are : own_form base front ≡ plain_text base piece
+      symbols_are =
+          plain_is base ruled one.checks front piece
+          (subst (λ ms. PlainMeans base ms piece) (sym parts.0) means.means)
 
       count : length (plain_text base piece) ≡ length means.symbols
-      count =
-          let stands_for : ℕ → ℕ =
-          λ byte. unwrap_or (own_character base (meaning base byte)) byte in
-          sym (ap length symbols_are) ∙ length-map (bytes_in means.symbols) stands_for
-          ∙ length-map means.symbols (λ (k : Positioned). k.byte)
+      count = sym (ap length symbols_are) ∙ length-map front stands_for ∙ front_len
 
-      whole : length means.symbols + length means.padding ≡ size
-      whole =
-          sym (length-append means.symbols means.padding) ∙ sym (ap length means.is_group)
-          ∙ means.is_whole
-
-      group_is : own_in group
-          ≡ plain_text base piece ++ replicate (length means.padding) character
+      group_is : own_in group ≡ plain_text base piece ++ replicate means.padding character
       group_is =
-          ap own_in means.is_group ∙ own_in-append means.symbols means.padding
+          ap (own_form base) (sym (take-append-drop (length means.symbols) text))
+          ∙ map-append stands_for front back
           ∙ (λ i. symbols_are i
-          ++ paddings_are base ruled means.padding character some means.is_padding i)
+          ++ paddings_are base ruled back means.padding character some parts.1 i)
 
-      -- where it has padding, it is the text of the last bytes
+    -- where it has padding, it is the text of the last bytes
       last : own_in group ≡ filled piece
       last =
-          let total : (length (plain_text base piece) + length means.padding) % size ≡ 0 =
-          ap (λ n. (n + length means.padding) % size) count ∙ ap (λ n. n % size) whole
+          let total : (length (plain_text base piece) + means.padding) % size ≡ 0 =
+          ap (λ n. (n + means.padding) % size) count ∙ ap (λ n. n % size) whole
           ∙ mod_self size in
-          let short : length means.padding < size = omega (arith, whole, means.is_begun) in
+          let short : means.padding < size = omega (arith, whole, means.is_begun) in
           group_is
           ∙ ap (λ n. plain_text base piece ++ replicate n character)
-          (missing-is size (length (plain_text base piece)) (length means.padding) short total)
+          (missing-is size (length (plain_text base piece)) (means.padding) short total)
 
       -- and else that of bytes behind which others may stand
-      first : length means.padding ≡ 0 → (more : List ℕ)
+      first : means.padding ≡ 0 → (more : List ℕ)
           → own_in group ++ filled more ≡ filled (piece ++ more)
       first none more =
           let text = plain_text base piece in
@@ -167,17 +182,11 @@ module _ (base : Base) (ruled : IsRuled base) (one : HasOneForm base) where
         own_in-append group (flat_map (λ g. g) gs)
         ∙ ap (λ l. own_in group ++ l) (groups_are gs means.1 means.5)
         ∙ by means.3.padding refl ∙ ap filled (sym means.2) where
-          by : (padding : List Positioned) → means.3.padding ≡ padding
+          by : (padding : ℕ) → means.3.padding ≡ padding
               → own_in group ++ filled means.1 ≡ filled (means.0 ++ means.1)
-          by [] is = first group means.0 means.3 (ap length is) means.1
-          by (k ∷ padding) is =
-              let each : map (λ j. meaning base j.byte) (k ∷ padding)
-              ≡ replicate (length (k ∷ padding)) Padding =
-              subst (λ l. map (λ j. meaning base j.byte) l ≡ replicate (length l) Padding) is
-              means.3.is_padding in
-              let pads : meaning base k.byte ≡ Padding = cc in
-              let ends = means.4 (final group means.3.symbols padding k
-              (means.3.is_group ∙ ap (λ l. means.3.symbols ++ l) is) pads) in
+          by zero is = first group means.0 means.3 is means.1
+          by (suc padding) is =
+              let ends = means.4 (final group means.0 means.3 (omega (arith, is))) in
               let none : means.1 ≡ [] = subst (λ l. GroupsMean base l means.1) ends means.5 in
               (λ i. last group means.0 means.3 i ++ filled_none means.1 none i)
               ∙ append-nil (filled means.0)
@@ -195,7 +204,7 @@ module _ (base : Base) (ruled : IsRuled base) (one : HasOneForm base) where
         by : (o : Option ℕ) → base.padding ≡ o → MeansBy o base text bytes
             → own_in (kept base text)
             ≡ with_padding o (group_symbols base.width) (plain_text base bytes)
-        by None is h = plain_is base ruled one.checks (kept base text) bytes h
+        by None is h = plain_is base ruled one.checks (bytes_in (kept base text)) bytes h
         by (Some character) is h =
             ap own_in (sym (flat_map-runs (group_symbols base.width) (kept base text)
             (group_symbols-pos base.width width)))

@@ -1,5 +1,5 @@
 -- What the bytes of a text stand for is decided by what they mean.
-use Rattle.std.proofs.Common.{◌≡◌, ℕ, ◌+◌, ◌-◌, ◌%◌, ◌^◌, ◌<◌, ◌≤◌, ◌==◌, true, not, List, [], ◌∷◌, ◌++◌, length, map, replicate, Option, Some, None, unwrap_or, refl, sym, ap, ◌∙◌, subst, arith, ⊎_elim, length-append}
+use Rattle.std.proofs.Common.{◌≡◌, ℕ, ◌+◌, ◌-◌, ◌%◌, ◌^◌, ◌<◌, ◌≤◌, ◌==◌, true, not, List, [], ◌∷◌, ◌++◌, length, map, replicate, Option, Some, None, unwrap_or, refl, sym, ap, ◌∙◌, subst, arith, ⊎_elim, length-append, zero, suc}
 use Rattle.std.proofs.lemmas.Bool.{cases_eq, cases_lt, ltb-true, ne_eqb}
 use Rattle.std.proofs.lemmas.Nat.{mod_below}
 use Rattle.std.proofs.lemmas.List.{get_or_past}
@@ -11,14 +11,13 @@ use Rattle.data_encoding.specs.declared.encoding.Character.{Character}
 use Rattle.data_encoding.specs.declared.encoding.Character.TheVariants.{Symbol, Padding, Ignored, Invalid}
 use Rattle.data_encoding.specs.Base.{Base, IsWidth, meaning, symbol}
 use Rattle.data_encoding.specs.Bits.{bits_of, bits_of_bytes, missing, number_of, runs}
-use Rattle.data_encoding.specs.Grammar.{Positioned, PlainMeans}
+use Rattle.data_encoding.specs.Grammar.{PlainMeans}
 use Rattle.data_encoding.specs.Layout.{is_translated, own_character, translated_bytes}
 use Rattle.data_encoding.specs.SameMeaning.{own_form}
 use Rattle.data_encoding.specs.Text.{filled_with, plain_text}
 use Rattle.data_encoding.proofs.canonicity.TranslatedLemmas.{not_translated}
 use Rattle.data_encoding.proofs.digits.BitLemmas.{length-bits_of, number_of-bits_of}
 use Rattle.data_encoding.proofs.digits.WordLemmas.{map-twice}
-use Rattle.data_encoding.proofs.grammar.GroupLemmas.{bytes_in}
 use Rattle.data_encoding.proofs.grammar.UnpaddedGroupLemmas.{length-bits_of_values}
 use Rattle.data_encoding.proofs.lists.EachLemmas.{passes_at}
 use Rattle.data_encoding.proofs.lists.RunLemmas.{runs-flat_map}
@@ -89,16 +88,15 @@ module _ (base : Base) (ruled : IsRuled base) where
       let here = sym (ap (is_within (length base.symbols)) is) ∙ test in
       omega (arith, ltb-true value (length base.symbols) here, ruled.count)
 
-  values_below : (ks : List Positioned) (values : List ℕ)
-      → map (λ k. meaning base k.byte) ks ≡ map (λ value. Symbol value) values
+  values_below : (text values : List ℕ) → map (meaning base) text ≡ map (λ value. Symbol value) values
       → AllByRecursion (λ value. value < 2 ^ base.width) values
   values_below [] [] h = tt
   values_below [] (value ∷ values) h = cc
-  values_below (k ∷ ks) [] h = tt
-  values_below (k ∷ ks) (value ∷ values) h =
-      let here : meaning base k.byte ≡ Symbol value = cc in
-      let others : map (λ k. meaning base k.byte) ks ≡ map (λ value. Symbol value) values = cc in
-      (value_below k.byte value here, values_below ks values others)
+  values_below (byte ∷ text) [] h = tt
+  values_below (byte ∷ text) (value ∷ values) h =
+      let here : meaning base byte ≡ Symbol value = cc in
+      let others : map (meaning base) text ≡ map (λ value. Symbol value) values = cc in
+      (value_below byte value here, values_below text values others)
 
   -- what a symbol and padding stand for
   symbol_is : (byte value : ℕ) → meaning base byte ≡ Symbol value
@@ -110,30 +108,31 @@ module _ (base : Base) (ruled : IsRuled base) where
   padding_is byte character some is =
       ap (λ m. unwrap_or (own_character base m) byte) is ∙ ap (λ o. unwrap_or o byte) some
 
-  symbols_are : (ks : List Positioned) (values : List ℕ)
-      → map (λ k. meaning base k.byte) ks ≡ map (λ value. Symbol value) values
-      → own_form base (bytes_in ks) ≡ map (symbol base) values
+  symbols_are : (text values : List ℕ) → map (meaning base) text ≡ map (λ value. Symbol value) values
+      → own_form base text ≡ map (symbol base) values
   symbols_are [] [] h = refl
   symbols_are [] (value ∷ values) h = cc
-  symbols_are (k ∷ ks) [] h = cc
-  symbols_are (k ∷ ks) (value ∷ values) h =
-      let here : meaning base k.byte ≡ Symbol value = cc in
-      let others : map (λ k. meaning base k.byte) ks ≡ map (λ value. Symbol value) values = cc in
-      (λ i. symbol_is k.byte value here i ∷ symbols_are ks values others i)
+  symbols_are (byte ∷ text) [] h = cc
+  symbols_are (byte ∷ text) (value ∷ values) h =
+      let here : meaning base byte ≡ Symbol value = cc in
+      let others : map (meaning base) text ≡ map (λ value. Symbol value) values = cc in
+      (λ i. symbol_is byte value here i ∷ symbols_are text values others i)
 
-  pub paddings_are : (ks : List Positioned) (character : ℕ) → base.padding ≡ Some character
-      → map (λ k. meaning base k.byte) ks ≡ replicate (length ks) Padding
-      → own_form base (bytes_in ks) ≡ replicate (length ks) character
-  paddings_are [] character some h = refl
-  paddings_are (k ∷ ks) character some h =
-      let here : meaning base k.byte ≡ Padding = cc in
-      let others : map (λ k. meaning base k.byte) ks ≡ replicate (length ks) Padding = cc in
-      (λ i. padding_is k.byte character some here i ∷ paddings_are ks character some others i)
+  pub paddings_are : (text : List ℕ) (count character : ℕ) → base.padding ≡ Some character
+      → map (meaning base) text ≡ replicate count Padding
+      → own_form base text ≡ replicate count character
+  paddings_are [] zero character some h = refl
+  paddings_are [] (suc count) character some h = cc
+  paddings_are (byte ∷ text) zero character some h = cc
+  paddings_are (byte ∷ text) (suc count) character some h =
+      let here : meaning base byte ≡ Padding = cc in
+      let others : map (meaning base) text ≡ replicate count Padding = cc in
+      (λ i. padding_is byte character some here i ∷ paddings_are text count character some others i)
 
   -- the own form of symbols that mean bytes is their text, where trailing bits are checked
-  pub plain_is : base.checks_trailing_bits ≡ true → (ks : List Positioned) (bytes : List ℕ)
-      → PlainMeans base ks bytes → own_form base (bytes_in ks) ≡ plain_text base bytes
-  plain_is checks ks bytes means =
+  pub plain_is : base.checks_trailing_bits ≡ true → (text bytes : List ℕ)
+      → PlainMeans base (map (meaning base) text) bytes → own_form base text ≡ plain_text base bytes
+  plain_is checks text bytes means =
       let octets = bits_of_bytes base.order bytes in
       let bits = flat_map (bits_of base.order base.width) means.values in
       let show = map (λ run. symbol base (number_of base.order run)) in
@@ -148,8 +147,8 @@ module _ (base : Base) (ruled : IsRuled base) where
       let filled : bits ≡ filled_with 0 base.width octets =
       means.same_bits
       ∙ ap (λ l. octets ++ l) (means.rest_is_zero checks ∙ ap (λ n. replicate n 0) lack) in
-      let below = values_below ks means.values means.are_symbols in
-      symbols_are ks means.values means.are_symbols
+      let below = values_below text means.values means.are_symbols in
+      symbols_are text means.values means.are_symbols
       ∙ ap (map (symbol base)) (sym (numbers_again base.order base.width means.values below))
       ∙ map-twice (symbol base) (number_of base.order)
       (map (bits_of base.order base.width) means.values)

@@ -9,13 +9,11 @@ use Rattle.data_encoding.specs.declared.encoding.Character.TheVariants.{Symbol}
 use Rattle.data_encoding.specs.Base.{Base, IsWidth, meaning, symbol, group_symbols, value_of}
 use Rattle.data_encoding.specs.Bits.{bits_of, bits_of_bytes, missing}
 use Rattle.data_encoding.specs.Canonical.{AreTwoTexts, last_bit, trailing_text}
-use Rattle.data_encoding.specs.Grammar.{PlainMeans, Positioned, positioned}
+use Rattle.data_encoding.specs.Grammar.{PlainMeans}
 use Rattle.data_encoding.specs.Text.{padded_text, with_padding}
 use Rattle.data_encoding.proofs.canonicity.ConcatenatedTextLemmas.{zero_byte}
 use Rattle.data_encoding.proofs.canonicity.OneGroupLemmas.{Means-group, Means-padded_text, length-group, length-zero}
 use Rattle.data_encoding.proofs.digits.WidthLemmas.{by_width}
-use Rattle.data_encoding.proofs.digits.WordLemmas.{map-twice}
-use Rattle.data_encoding.proofs.grammar.PositionLemmas.{bytes-positioned_from}
 use Rattle.data_encoding.proofs.judgement.RuleLemmas.{IsRuled}
 use Rattle.data_encoding.proofs.text.SymbolMeaningLemmas.{own_meaning}
 use Rattle.data_encoding.proofs.text.PlainTextLemmas.{text_by}
@@ -151,14 +149,11 @@ module _ (base : Base) (ruled : IsRuled base) (unchecked : base.checks_trailing_
       length-append (replicate (8 / base.width) (symbol base 0)) (symbol base last ∷ [])
       ∙ ap (λ n. n + 1) (length-replicate (8 / base.width) (symbol base 0))
 
-  means : PlainMeans base (positioned text) (0 ∷ [])
+  means : PlainMeans base (map (meaning base) text) (0 ∷ [])
   means = record {
     values = values_with base.width last;
     rest = trailing_bits base.order base.width;
-    are_symbols =
-        sym (map-twice (meaning base) (λ (k : Positioned). k.byte) (positioned text))
-        ∙ ap (map (meaning base)) (bytes-positioned_from 0 text)
-        ∙ symbols_mean base (8 / base.width) 0 last zero_meaning last_meaning;
+    are_symbols = symbols_mean base (8 / base.width) 0 last zero_meaning last_meaning;
     same_bits = facts.same_bits;
     rest_is_short = facts.short;
     rest_is_zero = λ checks. absurd (false≢true (sym unchecked ∙ checks));

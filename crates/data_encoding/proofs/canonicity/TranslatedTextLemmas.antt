@@ -8,7 +8,7 @@ use Rattle.data_encoding.specs.declared.encoding.Character.TheVariants.{Symbol, 
 use Rattle.data_encoding.specs.Base.{Base, IsWidth, meaning, symbol, group_bytes, group_symbols}
 use Rattle.data_encoding.specs.Bits.{bits_of, missing, number_of, runs}
 use Rattle.data_encoding.specs.Canonical.{PaddingIsSecond, SymbolIsSecond, text_ending_in}
-use Rattle.data_encoding.specs.Grammar.{Means, PlainMeans, Positioned, positioned}
+use Rattle.data_encoding.specs.Grammar.{Means, PlainMeans}
 use Rattle.data_encoding.specs.Text.{padded_text, plain_text, with_padding}
 use Rattle.data_encoding.proofs.canonicity.ConcatenatedTextLemmas.{padded-partly, zero_byte}
 use Rattle.data_encoding.proofs.canonicity.OneGroupLemmas.{Means-fillers, Means-group, Means-padded_text, length-zero, zero_few, zero_some}
@@ -16,8 +16,6 @@ use Rattle.data_encoding.proofs.canonicity.OwnTextLemmas.{value_below}
 use Rattle.data_encoding.proofs.digits.BitLemmas.{AreBits-bits_of, AreBits-flat_map}
 use Rattle.data_encoding.proofs.digits.ValueLemmas.{AreValuesOf, AreValuesOf-runs}
 use Rattle.data_encoding.proofs.digits.WidthLemmas.{by_width, group_bits, group_symbols-few, group_symbols-pos}
-use Rattle.data_encoding.proofs.digits.WordLemmas.{map-twice}
-use Rattle.data_encoding.proofs.grammar.PositionLemmas.{bytes-positioned_from}
 use Rattle.data_encoding.proofs.grammar.UnpaddedGroupLemmas.{length-bits_of_values}
 use Rattle.data_encoding.proofs.lists.EachLemmas.{all_joined}
 use Rattle.data_encoding.proofs.lists.ListLemmas.{parts_same}
@@ -99,13 +97,11 @@ module _ (base : Base) (ruled : IsRuled base) where
         let text = replicate size byte in
         let len : length text ≡ size = length-replicate size byte in
         let positive = group_symbols-pos base.width width in
-        let means : PlainMeans base (positioned text) bytes = record {
+        let means : PlainMeans base (map (meaning base) text) bytes = record {
           values = replicate size value;
           rest = [];
           are_symbols =
-              sym (map-twice (meaning base) (λ (k : Positioned). k.byte) (positioned text))
-              ∙ ap (map (meaning base)) (bytes-positioned_from 0 text)
-              ∙ map-replicate (meaning base) (Symbol value) size byte is
+              map-replicate (meaning base) (Symbol value) size byte is
               ∙ sym (map-replicate (λ v. Symbol v) (Symbol value) size value refl);
           same_bits = sym are_bytes.same_bits ∙ sym (append-nil _);
           rest_is_short = width.some;
@@ -196,8 +192,7 @@ module _ (base : Base) (ruled : IsRuled base) where
     second_means is =
         subst (λ l. Means base l (0 ∷ [])) (sym second_text)
         (Means-fillers base ruled zero_text (0 ∷ [])
-        (PlainMeans-plain_text base ruled (0 ∷ []) zero_byte (positioned zero_text)
-        (bytes-positioned_from 0 zero_text))
+        (PlainMeans-plain_text base ruled (0 ∷ []) zero_byte)
         (zero_some base ruled) (zero_few base ruled) (ap is_some some) fillers
         (all_joined (λ b. meaning base b ≡ Padding) (replicate count character) (byte ∷ [])
         (AreFillers-replicate base count character (own_padding character some)) (is, tt))

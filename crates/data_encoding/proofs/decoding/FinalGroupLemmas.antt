@@ -1,16 +1,19 @@
 -- What the number of bytes that a text means tells of its groups.
-use Rattle.std.proofs.Common.{◌≡◌, ℕ, ◌+◌, ◌*◌, ◌%◌, ◌<◌, ◌==◌, Bool, true, false, not, ◌&&◌, ◌||◌, List, [], ◌∷◌, length, map, replicate, Option, Some, None, is_some, refl, sym, ap, ◌∙◌, subst, arith, length-append}
+use Rattle.std.proofs.Common.{◌≡◌, ℕ, ◌+◌, ◌*◌, ◌%◌, ◌<◌, ◌==◌, Bool, true, false, not, ◌&&◌, ◌||◌, List, [], ◌∷◌, length, replicate, Option, Some, None, is_some, refl, sym, ap, ◌∙◌, subst, arith, length-append, nat_lt, ◌++◌}
 use Rattle.std.proofs.Math.Nat.{add-mod_left, zero-mod}
 use Rattle.std.proofs.lemmas.Bool.{false≢true}
 use Rattle.std.proofs.lemmas.Bool.Decides.{nat_tests}
 use Rattle.std.proofs.lemmas.List.Folds.{list_any-append}
 use Rattle.std.specs.List.{list_any}
+use Rattle.std.proofs.lemmas.List.{length-replicate}
+use Rattle.data_encoding.proofs.grammar.PositionLemmas.{length-meanings}
+use Rattle.data_encoding.specs.declared.encoding.Character.{Character}
 use Rattle.data_encoding.specs.declared.encoding.Character.TheVariants.{Padding}
-use Rattle.data_encoding.specs.Base.{Base, IsWidth, group_bytes, group_symbols, is_padding, meaning}
-use Rattle.data_encoding.specs.Grammar.{GroupMeans, GroupsMean, Means, MeansBy, Positioned, groups, is_final, kept}
+use Rattle.data_encoding.specs.Base.{Base, IsWidth, group_bytes, group_symbols, is_padding}
+use Rattle.data_encoding.specs.Grammar.{GroupMeans, GroupsMean, Means, MeansBy, Positioned, groups, is_final, kept, meanings_in}
 use Rattle.data_encoding.proofs.decoding.WholeLengthLemmas.{joins-unpadded, none_final-joined}
 use Rattle.data_encoding.proofs.digits.WidthLemmas.{by_width}
-use Rattle.data_encoding.proofs.grammar.GroupLemmas.{fail-meanings, symbols_alone}
+use Rattle.data_encoding.proofs.grammar.GroupLemmas.{GroupMeans-length, GroupMeans-padding}
 use Rattle.data_encoding.proofs.grammar.JoinLemmas.{whole-padded}
 use Rattle.data_encoding.proofs.grammar.UnpaddedGroupLemmas.{PlainMeans-count}
 use Rattle.data_encoding.proofs.lists.ListLemmas.{AllFail, list_any-none}
@@ -55,83 +58,53 @@ some_is : (n : ℕ) → 0 < n → not (n == 0) ≡ true
 some_is n h = grind (arith, nat_tests)
 
 module _ (base : Base) where
-  abbrev pads : Positioned → Bool
-  pads k = is_padding (meaning base k.byte)
-
-  padding_pads : (padding : List Positioned)
-      → map (λ k. meaning base k.byte) padding ≡ replicate (length padding) Padding
-      → list_any pads padding ≡ not (length padding == 0)
-  padding_pads [] h = refl
-  padding_pads (k ∷ padding) h =
-      let first : meaning base k.byte ≡ Padding = cc in
-      ap (λ m. is_padding m || list_any pads padding) first
-      ∙ sym (some_is (length (k ∷ padding)) (omega arith))
-
-  -- a group has padding where its symbols are fewer
-  group_pads : (group : List Positioned) (bytes : List ℕ) (means : GroupMeans base group bytes)
-      → list_any pads group ≡ not (length means.padding == 0)
-  group_pads group bytes means =
-      let alone = subst (AllFail is_padding) (sym means.means.are_symbols)
-      (symbols_alone means.means.values) in
-      ap (list_any pads) means.is_group ∙ list_any-append pads means.symbols means.padding
-      ∙ ap (λ b. b || list_any pads means.padding)
-      (list_any-none pads means.symbols (fail-meanings base means.symbols alone))
-      ∙ padding_pads means.padding means.is_padding
-
   module _ (width : IsWidth base.width) where
     abbrev size : ℕ
     size = group_bytes base.width
 
-    count_in : (group : List Positioned) (bytes : List ℕ) (means : GroupMeans base group bytes)
-        → length means.symbols + length means.padding ≡ group_symbols base.width
-    count_in group bytes means =
-        sym (length-append means.symbols means.padding) ∙ ap length (sym means.is_group)
-        ∙ means.is_whole
-
-    group_full : (group : List Positioned) (bytes : List ℕ) → GroupMeans base group bytes
-        → list_any pads group ≡ false → length bytes ≡ size
+    group_full : (group : List Character) (bytes : List ℕ) → GroupMeans base group bytes
+        → list_any is_padding group ≡ false → length bytes ≡ size
     group_full group bytes means none =
-        let test : not (length means.padding == 0) ≡ false =
-        sym (group_pads group bytes means) ∙ none in
-        let no_padding : length means.padding ≡ 0 = grind (arith, nat_tests) in
+        let test : nat_lt 0 means.padding ≡ false = sym (GroupMeans-padding base group bytes means) ∙ none in
+        let no_padding : means.padding ≡ 0 = grind (arith, nat_tests) in
         let all : length means.symbols ≡ group_symbols base.width =
-        omega (arith, count_in group bytes means, no_padding) in
+        omega (arith, GroupMeans-length base group bytes means, no_padding) in
         bytes_full base.width width (length bytes) (length means.means.rest)
         (ap (λ n. base.width * n) (sym all)
         ∙ PlainMeans-count base width means.symbols bytes means.means)
         means.means.rest_is_short
 
-    group_part : (group : List Positioned) (bytes : List ℕ) → GroupMeans base group bytes
-        → list_any pads group ≡ true → 0 < length bytes % size
+    group_part : (group : List Character) (bytes : List ℕ) → GroupMeans base group bytes
+        → list_any is_padding group ≡ true → 0 < length bytes % size
     group_part group bytes means some =
-        let test : not (length means.padding == 0) ≡ true =
-        sym (group_pads group bytes means) ∙ some in
-        let padded : 0 < length means.padding = grind (arith, nat_tests) in
+        let test : nat_lt 0 means.padding ≡ true = sym (GroupMeans-padding base group bytes means) ∙ some in
+        let padded : 0 < means.padding = grind (arith, nat_tests) in
         let few : length means.symbols < group_symbols base.width =
-        omega (arith, count_in group bytes means, padded) in
+        omega (arith, GroupMeans-length base group bytes means, padded) in
         bytes_part base.width width (length means.symbols) (length bytes)
         (length means.means.rest) means.is_begun few
         (PlainMeans-count base width means.symbols bytes means.means) means.means.rest_is_short
 
     -- Where texts may not be concatenated, padding is in the last group alone.
     module _ (apart : base.concatenates ≡ false) where
-      final_is : (group : List Positioned) → is_final base group ≡ list_any pads group
-      final_is group = ap (λ b. not b && list_any pads group) apart
+      final_is : (group : List Positioned)
+          → is_final base group ≡ list_any is_padding (meanings_in base group)
+      final_is group = ap (λ b. not b && list_any is_padding (meanings_in base group)) apart
 
       groups_end : (gs : List (List Positioned)) (bytes : List ℕ) → GroupsMean base gs bytes
           → list_any (is_final base) gs ≡ not (length bytes % size == 0)
       groups_end [] bytes h =
           sym (ap (λ n. not (n == 0)) (ap (λ l. length l % size) h ∙ zero-mod size))
       groups_end (g ∷ gs) bytes h =
-          by (list_any pads g) refl (groups_end gs h.1 h.5) where
+          by (list_any is_padding (meanings_in base g)) refl (groups_end gs h.1 h.5) where
             len : length bytes ≡ length h.0 + length h.1
             len = ap length h.2 ∙ length-append h.0 h.1
 
-            by : (b : Bool) → list_any pads g ≡ b
+            by : (b : Bool) → list_any is_padding (meanings_in base g) ≡ b
                 → list_any (is_final base) gs ≡ not (length h.1 % size == 0)
                 → list_any (is_final base) (g ∷ gs) ≡ not (length bytes % size == 0)
             by false none others =
-                let full = group_full g h.0 h.3 none in
+                let full = group_full (meanings_in base g) h.0 h.3 none in
                 ap (λ b. b || list_any (is_final base) gs) (final_is g ∙ none) ∙ others
                 ∙ ap (λ n. not (n == 0)) (sym (ap (λ n. n % size) (len
                 ∙ ap (λ n. n + length h.1) full) ∙ add-mod_left size (length h.1)))
@@ -139,7 +112,7 @@ module _ (base : Base) where
                 let last = h.4 (final_is g ∙ some) in
                 let nothing = subst (λ l. GroupsMean base l h.1) last h.5 in
                 let all : length bytes ≡ length h.0 = omega (arith, len, ap length nothing) in
-                let part = subst (λ n. 0 < n % size) (sym all) (group_part g h.0 h.3 some) in
+                let part = subst (λ n. 0 < n % size) (sym all) (group_part (meanings_in base g) h.0 h.3 some) in
                 ap (λ b. b || list_any (is_final base) gs) (final_is g ∙ some)
                 ∙ sym (some_is (length bytes % size) part)
 
@@ -166,9 +139,9 @@ module _ (base : Base) (ruled : IsRuled base) (text bytes : List ℕ) where
         → length bytes % group_bytes base.width ≡ 0
         → length (kept base text) % group_symbols base.width ≡ 0
     by None is means exact =
-        symbols_whole base.width ruled.is_width (length (kept base text)) (length bytes)
-        (length means.rest)
-        (PlainMeans-count base ruled.is_width (kept base text) bytes means)
-        means.rest_is_short exact
+        let meant = meanings_in base (kept base text) in
+        ap (λ n. n % group_symbols base.width) (sym (length-meanings base (kept base text)))
+        ∙ symbols_whole base.width ruled.is_width (length meant) (length bytes) (length means.rest)
+        (PlainMeans-count base ruled.is_width meant bytes means) means.rest_is_short exact
     by (Some character) is means exact =
         whole-padded base ruled text [] bytes [] (ap is_some is) means

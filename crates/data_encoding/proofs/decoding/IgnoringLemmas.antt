@@ -1,20 +1,22 @@
 -- The base with each ignored byte invalid judges groups as the base does.
-use Rattle.std.proofs.Common.{◌≡◌, ℕ, zero, suc, ◌-◌, ◌*◌, ◌/◌, ◌≤◌, ◌==◌, Bool, true, false, not, cond, ◌&&◌, ◌||◌, nat_lt, List, [], ◌∷◌, length, map, take, drop, reverse, replicate, get_or, Option, None, refl, sym, ap, ◌∙◌, subst}
-use Rattle.std.specs.Prelude.{flat_map, take_while}
-use Rattle.std.specs.List.{list_any, filter_map, position}
+use Rattle.std.proofs.Common.{◌≡◌, ℕ, zero, suc, ◌+◌, ◌-◌, ◌*◌, ◌/◌, ◌≤◌, ◌==◌, Bool, true, false, not, cond, ◌&&◌, ◌||◌, nat_lt, List, [], ◌∷◌, length, map, take, drop, replicate, get_or, None, Some, refl, sym, ap, ◌∙◌, subst, arith}
+use Rattle.std.proofs.lemmas.List.{length-map, take-map}
+use Rattle.std.specs.Prelude.{flat_map}
+use Rattle.std.specs.List.{cons_option, filter_map, list_any, prefix_len}
 use Rattle.data_encoding.specs.declared.encoding.Character.{Character}
 use Rattle.data_encoding.specs.declared.encoding.Character.TheVariants.{Symbol, Padding, Ignored, Invalid}
-use Rattle.data_encoding.specs.declared.error.DecodeError.{DecodeError}
 use Rattle.data_encoding.specs.declared.error.DecodeKind.TheVariants.{Length as LengthFault, Trailing as TrailingFault, Padding as PaddingFault}
 use Rattle.data_encoding.specs.Base.{Base, meaning, is_symbol, value_of, is_padding, is_ignored, is_padded, ignores_some, group_symbols, IsWidth}
 use Rattle.data_encoding.specs.Bits.{bits_of}
-use Rattle.data_encoding.specs.Grammar.{Positioned}
+use Rattle.data_encoding.specs.Grammar.{Positioned, bytes_in, meanings_in}
 use Rattle.data_encoding.specs.Lengths.{is_valid_count, greatest_valid_count}
-use Rattle.data_encoding.specs.Fault.{fault_at, fault_at_first, padded_fault_at, plain_fault, count_before_padding, group_fault}
+use Rattle.data_encoding.specs.Fault.{character_fault, count_before_padding, fault_at_first, faulty_at, group_fault, padded_fault_at, plain_fault, symbols_fault}
 use Rattle.data_encoding.specs.Partial.{ignoring_nothing}
+use Rattle.data_encoding.proofs.digits.WordLemmas.{map-twice}
 use Rattle.data_encoding.proofs.lists.EachLemmas.{all_joined}
-use Rattle.data_encoding.proofs.lists.EndLemmas.{AllSo}
+use Rattle.data_encoding.proofs.lists.EndLemmas.{AllSo, count_before_end, count_before_end-map}
 use Rattle.data_encoding.proofs.lists.ListLemmas.{AllFail, list_any-none}
+use Rattle.data_encoding.proofs.grammar.PositionLemmas.{length-meanings}
 use Rattle.data_encoding.proofs.grammar.UnpaddedGroupLemmas.{PlainMeans-sound}
 use Rattle.data_encoding.proofs.grammar.GroupLemmas.{GroupMeans-sound}
 
@@ -56,32 +58,23 @@ none_strict : (meanings : List Character) → AllFail is_ignored (map strict mea
 none_strict [] = tt
 none_strict (m ∷ meanings) = (strict_kept m, none_strict meanings)
 
--- The fault of a group, by what its bytes are.
-module _ (base : Base) (symbols : ℕ → Bool) (values : ℕ → Option ℕ) (paddings : ℕ → Bool) where
-  abbrev bits_by : List Positioned → List ℕ
-  bits_by group =
-      flat_map (bits_of base.order base.width) (filter_map (λ k. values k.byte) group)
+-- what is found of strict meanings is what is found of the meanings
+symbols-strict : (ms : List Character)
+    → prefix_len (λ m. not (not (is_symbol m))) (map strict ms)
+    ≡ prefix_len (λ m. not (not (is_symbol m))) ms
+symbols-strict [] = refl
+symbols-strict (m ∷ ms) =
+    λ i. cond (not (not (strict_symbol m i))) (1 + symbols-strict ms i) 0
 
-  abbrev symbols_by : List Positioned → Option DecodeError
-  symbols_by group =
-      fault_at_first (position (λ k. not (symbols k.byte)) group) group
-      (cond (base.checks_trailing_bits
-      && list_any (λ bit. not (bit == 0)) (drop (length (bits_by group) / 8 * 8) (bits_by group)))
-      (fault_at TrailingFault group (length group - 1)) None)
+values-strict : (ms : List Character) → filter_map value_of (map strict ms) ≡ filter_map value_of ms
+values-strict [] = refl
+values-strict (m ∷ ms) = λ i. cons_option (strict_value m i) (values-strict ms i)
 
-  abbrev padded_by : List Positioned → ℕ → Option DecodeError
-  padded_by group count =
-      cond (nat_lt (length group) (group_symbols base.width)) (fault_at LengthFault group 0)
-      (cond (count == 0 || not (is_valid_count base.width count))
-      (fault_at PaddingFault group count) (symbols_by (take count group)))
-
-  abbrev fault_by : List Positioned → Option DecodeError
-  fault_by group =
-      cond (is_padded base)
-      (padded_by group
-      (length group - length (take_while (λ k. paddings k.byte) (reverse group))))
-      (cond (is_valid_count base.width (length group)) (symbols_by group)
-      (fault_at LengthFault group (greatest_valid_count base.width (length group))))
+paddings-strict : (ms : List Character)
+    → count_before_padding (map strict ms) ≡ count_before_padding ms
+paddings-strict ms =
+    count_before_end-map is_padding strict ms
+    ∙ ap (λ test. count_before_end test ms) (λ i m. strict_padding m i)
 
 module _ (base : Base) where
   -- nothing is ignored
@@ -89,54 +82,81 @@ module _ (base : Base) where
   ignores_none-strict =
       list_any-none is_ignored (map strict base.meanings) (none_strict base.meanings)
 
+  fault-strict : (ms : List Character) → symbols_fault base (map strict ms) ≡ symbols_fault base ms
+  fault-strict ms =
+      let place = symbols-strict ms in
+      let len = length-map ms strict in
+      let bits : List ℕ → List ℕ = flat_map (bits_of base.order base.width) in
+      λ i. fault_at_first (cond (nat_lt (place i) (len i)) (Some (place i)) None)
+      (cond (base.checks_trailing_bits && list_any (λ bit. not (bit == 0))
+      (drop (length (bits (values-strict ms i)) / 8 * 8) (bits (values-strict ms i))))
+      (faulty_at TrailingFault (len i - 1)) None)
+
+  padded-strict : (ms : List Character) (count : ℕ)
+      → padded_fault_at base (map strict ms) count ≡ padded_fault_at base ms count
+  padded-strict ms count =
+      let few = ap (symbols_fault base) (take-map strict count ms) ∙ fault-strict (take count ms) in
+      λ i. cond (nat_lt (length-map ms strict i) (group_symbols base.width))
+      (faulty_at LengthFault 0)
+      (cond (count == 0 || not (is_valid_count base.width count)) (faulty_at PaddingFault count)
+      (few i))
+
+  characters-strict : (ms : List Character)
+      → character_fault base (map strict ms) ≡ character_fault base ms
+  characters-strict ms =
+      let len = length-map ms strict in
+      let padded = padded-strict ms (count_before_padding (map strict ms))
+      ∙ ap (padded_fault_at base ms) (paddings-strict ms) in
+      λ i. cond (is_padded base) (padded i)
+      (cond (is_valid_count base.width (len i)) (fault-strict ms i)
+      (faulty_at LengthFault (greatest_valid_count base.width (len i))))
+
   -- a group has the same fault
-  pub group_fault-strict : (group : List Positioned)
-      → group_fault (ignoring_nothing base) group ≡ group_fault base group
-  group_fault-strict group = λ i.
-      fault_by base
-      (λ byte. (ap is_symbol (strict_at base.meanings byte)
-      ∙ strict_symbol (meaning base byte)) i)
-      (λ byte. (ap value_of (strict_at base.meanings byte)
-      ∙ strict_value (meaning base byte)) i)
-      (λ byte. (ap is_padding (strict_at base.meanings byte)
-      ∙ strict_padding (meaning base byte)) i)
-      group
+  pub group_fault-strict : (bytes : List ℕ)
+      → group_fault (ignoring_nothing base) bytes ≡ group_fault base bytes
+  group_fault-strict bytes =
+      ap (character_fault base)
+      (ap (λ means. map means bytes) (λ i byte. strict_at base.meanings byte i)
+      ∙ sym (map-twice strict (meaning base) bytes))
+      ∙ characters-strict (map (meaning base) bytes)
+
+-- none of them is ignored
+abbrev AreKept : List Character → Type 0
+AreKept meanings = AllSo (λ m. not (is_ignored m)) meanings
 
 -- symbols and padding are kept
-symbols_kept : (base : Base) (ks : List Positioned) (values : List ℕ)
-    → map (λ k. meaning base k.byte) ks ≡ map (λ value. Symbol value) values
-    → AllSo (λ k. not (is_ignored (meaning base k.byte))) ks
-symbols_kept base [] values h = tt
-symbols_kept base (k ∷ ks) [] h = cc
-symbols_kept base (k ∷ ks) (value ∷ values) h =
-    let here : meaning base k.byte ≡ Symbol value = cc in
-    let others : map (λ k. meaning base k.byte) ks ≡ map (λ value. Symbol value) values = cc in
-    (ap (λ m. not (is_ignored m)) here, symbols_kept base ks values others)
+symbols_kept : (values : List ℕ) → AreKept (map (λ value. Symbol value) values)
+symbols_kept [] = tt
+symbols_kept (value ∷ values) = (refl, symbols_kept values)
 
-padding_kept : (base : Base) (ks : List Positioned)
-    → map (λ k. meaning base k.byte) ks ≡ replicate (length ks) Padding
+padding_kept : (count : ℕ) → AreKept (replicate count Padding)
+padding_kept zero = tt
+padding_kept (suc count) = (refl, padding_kept count)
+
+bytes_kept : (base : Base) (ks : List Positioned)
+    → AreKept (meanings_in base ks)
     → AllSo (λ k. not (is_ignored (meaning base k.byte))) ks
-padding_kept base [] h = tt
-padding_kept base (k ∷ ks) h =
-    let here : meaning base k.byte ≡ Padding = cc in
-    let others : map (λ k. meaning base k.byte) ks ≡ replicate (length ks) Padding = cc in
-    (ap (λ m. not (is_ignored m)) here, padding_kept base ks others)
+bytes_kept base [] h = tt
+bytes_kept base (k ∷ ks) h = (h.0, bytes_kept base ks h.1)
 
 -- each byte of a group without a fault is kept
 pub group-kept : (base : Base) → IsWidth base.width → (group : List Positioned)
-    → length group ≤ group_symbols base.width → group_fault base group ≡ None
+    → length group ≤ group_symbols base.width → group_fault base (bytes_in group) ≡ None
     → AllSo (λ k. not (is_ignored (meaning base k.byte))) group
-group-kept base width group few h = by (is_padded base) refl where
-  by : (b : Bool) → is_padded base ≡ b → AllSo (λ k. not (is_ignored (meaning base k.byte))) group
+group-kept base width group few h = bytes_kept base group (by (is_padded base) refl) where
+  by : (b : Bool) → is_padded base ≡ b → AreKept (meanings_in base group)
   by true is =
-      let means = GroupMeans-sound base width is group few h in
-      subst (AllSo (λ k. not (is_ignored (meaning base k.byte)))) (sym means.is_group)
-      (all_joined (λ k. not (is_ignored (meaning base k.byte)) ≡ true) means.symbols means.padding
-      (symbols_kept base means.symbols means.means.values means.means.are_symbols)
-      (padding_kept base means.padding means.is_padding))
+      let meant = meanings_in base group in
+      let means = GroupMeans-sound base width is meant
+      (omega (arith, few, length-meanings base group)) h in
+      subst AreKept (sym means.is_group)
+      (all_joined (λ m. not (is_ignored m) ≡ true) means.symbols (replicate means.padding Padding)
+      (subst AreKept (sym means.means.are_symbols) (symbols_kept means.means.values))
+      (padding_kept means.padding))
   by false is =
-      let plain : plain_fault base group ≡ None =
-      sym (ap (λ b. cond b (padded_fault_at base group (count_before_padding base group))
-      (plain_fault base group)) is) ∙ h in
-      let means = PlainMeans-sound base width group plain in
-      symbols_kept base group means.values means.are_symbols
+      let meant = meanings_in base group in
+      let plain : plain_fault base meant ≡ None =
+      sym (ap (λ b. cond b (padded_fault_at base meant (count_before_padding meant))
+      (plain_fault base meant)) is) ∙ h in
+      let means = PlainMeans-sound base width meant plain in
+      subst AreKept (sym means.are_symbols) (symbols_kept means.values)

@@ -1,31 +1,33 @@
 -- Where a decoding stops at a last group that is too short.
-use Rattle.std.proofs.Common.{◌≡◌, ℕ, ◌+◌, ◌-◌, ◌*◌, ◌<◌, ◌≤◌, ◌==◌, Bool, true, false, not, cond, ◌&&◌, ◌||◌, nat_lt, List, [], ◌∷◌, ◌++◌, length, take, drop, Option, Some, None, is_some, refl, sym, ap, ◌∙◌, subst, arith, length-append, length-take-le, ⊎_elim}
+use Rattle.std.proofs.Common.{◌≡◌, ℕ, ◌+◌, ◌-◌, ◌*◌, ◌<◌, ◌≤◌, ◌==◌, Bool, true, false, not, cond, ◌&&◌, ◌||◌, nat_lt, List, [], ◌∷◌, ◌++◌, length, take, drop, Option, Some, None, is_some, refl, sym, ap, ◌∙◌, subst, arith, length-append, length-take-le, ⊎_elim, map}
 use Rattle.std.proofs.lemmas.Bool.{cases_lt, false≢true}
 use Rattle.std.proofs.lemmas.Bool.Decides.{nat_tests}
 use Rattle.std.proofs.lemmas.List.{append-nil, length-drop, take-take, take_all, take_at}
 use Rattle.std.proofs.lemmas.List.Concat.{flat_map-append}
 use Rattle.std.proofs.Math.Nat.{div-eq_of_lt, zero-mul}
 use Rattle.std.specs.Prelude.{flat_map}
+use Rattle.data_encoding.specs.declared.encoding.Character.{Character}
+use Rattle.data_encoding.specs.declared.decode.group.GroupFault.{GroupFault}
 use Rattle.data_encoding.specs.declared.error.DecodeError.{DecodeError}
 use Rattle.data_encoding.specs.declared.error.DecodeKind.{DecodeKind}
 use Rattle.data_encoding.specs.declared.error.DecodeKind.TheVariants.{Length as LengthFault, Padding as PaddingFault}
 use Rattle.data_encoding.specs.Base.{Base, meaning, is_ignored, is_padded, group_symbols, IsWidth}
 use Rattle.data_encoding.specs.Bits.{runs}
-use Rattle.data_encoding.specs.Grammar.{Positioned, positioned, positioned_from, kept, groups, is_final, Means, kept_in, kept_from}
+use Rattle.data_encoding.specs.Grammar.{Positioned, positioned_from, kept, groups, is_final, Means, kept_in, kept_from, bytes_in, meanings_in}
 use Rattle.data_encoding.specs.Lengths.{is_valid_count, greatest_valid_count, greatest_valid_length, length_fault}
-use Rattle.data_encoding.specs.Fault.{position_of, fault_at, symbols_fault, plain_fault, padded_fault_at, count_before_padding, group_fault, fault_after, bytes_of_group, or_else, first_after, sound_after, fault_of, sound_bytes}
+use Rattle.data_encoding.specs.Fault.{bytes_of_group, count_before_padding, fault_after, fault_at, fault_of, faulty_at, first_after, group_fault, located, or_else, padded_fault_at, plain_fault, position_of, sound_after, sound_bytes, symbol_bytes, symbols_fault}
 use Rattle.data_encoding.specs.Partial.{StopsAt, sound_len, read_len, is_length_fault, is_sound_run, partial_by}
 use Rattle.data_encoding.specs.Decoding.{AreSound}
 use Rattle.data_encoding.proofs.lists.ListLemmas.{filter-all, length-filter}
 use Rattle.data_encoding.proofs.lists.RunLemmas.{runs-join, runs-short}
-use Rattle.data_encoding.proofs.grammar.PositionLemmas.{bytes-positioned_from, length-positioned_from, take-positioned_from}
+use Rattle.data_encoding.proofs.grammar.PositionLemmas.{bytes-positioned_from, length-positioned_from, length-meanings}
 use Rattle.data_encoding.proofs.grammar.KeptLemmas.{kept_from-more}
 use Rattle.data_encoding.proofs.grammar.LengthLemmas.{greatest_valid_length-by, is_valid_length-by, length_fault-none}
-use Rattle.data_encoding.proofs.grammar.GroupLemmas.{bytes_in, bytes_of_group-same, group_fault-none_same, whole-valid}
+use Rattle.data_encoding.proofs.grammar.GroupLemmas.{whole-valid}
 use Rattle.data_encoding.proofs.grammar.SoundLemmas.{AreSound-append, first-none, sound-all}
 use Rattle.data_encoding.proofs.grammar.MeaningLemmas.{Means-no_fault}
 use Rattle.data_encoding.proofs.decoding.ProgressLemmas.{sound_bytes-front}
-use Rattle.data_encoding.proofs.decoding.StopLemmas.{IsAtFault, bounds, fault_is, kind-group, kind-next, kind_of, pos, rest_is, sound_len_is, whole}
+use Rattle.data_encoding.proofs.decoding.StopLemmas.{IsAtFault, bounds, fault_is, kind-located, kind-next, kind_of, other-group, pos, rest_is, sound_len_is, whole}
 use Rattle.data_encoding.proofs.decoding.GreatestLengthLemmas.{greatest-least, greatest-less, greatest-more, greatest-same, greatest-valid}
 use Rattle.data_encoding.proofs.decoding.IgnoringLemmas.{group-kept}
 use Rattle.data_encoding.proofs.decoding.CutLemmas.{kept-cut}
@@ -52,7 +54,7 @@ position-fault kind group index error h =
 
 module _ (base : Base) (width : IsWidth base.width) (group : List Positioned)
     (some : 0 < length group) (most : length group ≤ group_symbols base.width)
-    (error : DecodeError) (fault : group_fault base group ≡ Some error)
+    (error : DecodeError) (fault : fault_after false base group ≡ Some error)
     (kind : is_length_fault error.kind ≡ true) where
   abbrev dec : ℕ
   dec = group_symbols base.width
@@ -60,17 +62,26 @@ module _ (base : Base) (width : IsWidth base.width) (group : List Positioned)
   not_other : is_length_fault error.kind ≡ false → ⊥
   not_other other = false≢true (sym other ∙ kind)
 
-  short-padded : is_padded base ≡ true → (c : Bool) → nat_lt (length group) dec ≡ c
+  abbrev meant : List Character
+  meant = meanings_in base group
+
+  meant_len : length meant ≡ length group
+  meant_len = length-meanings base group
+
+  short-padded : is_padded base ≡ true → (c : Bool) → nat_lt (length meant) dec ≡ c
       → IsShort base group error
-  short-padded is false long = absurd (not_other (kind-group base group error true is long fault))
+  short-padded is false long =
+      absurd (not_other (kind-located group (group_fault base (bytes_in group)) error
+      (other-group base meant true is long) fault))
   short-padded is true short =
-      let few : length group < dec = grind (arith, nat_tests) in
-      let count = count_before_padding base group in
+      let few : length group < dec = grind (arith, nat_tests, meant_len) in
+      let count = count_before_padding meant in
       let here : fault_at LengthFault group 0 ≡ Some error =
-      sym (ap (λ b. cond b (fault_at LengthFault group 0)
+      sym (ap (λ b. located group (cond b (padded_fault_at base meant count)
+      (plain_fault base meant))) is
+      ∙ ap (λ b. located group (cond b (faulty_at LengthFault 0)
       (cond (count == 0 || not (is_valid_count base.width count))
-      (fault_at PaddingFault group count) (symbols_fault base (take count group)))) short)
-      ∙ sym (ap (λ b. cond b (padded_fault_at base group count) (plain_fault base group)) is)
+      (faulty_at PaddingFault count) (symbols_fault base (take count meant))))) short)
       ∙ fault in
       let none : greatest_valid_length base (length group) ≡ 0 =
       greatest_valid_length-by base (length group) true is
@@ -82,34 +93,40 @@ module _ (base : Base) (width : IsWidth base.width) (group : List Positioned)
             ∙ ap (position_of group) (sym none);
       }
 
-  short-plain : is_padded base ≡ false → (c : Bool) → is_valid_count base.width (length group) ≡ c
+  short-plain : is_padded base ≡ false → (c : Bool) → is_valid_count base.width (length meant) ≡ c
       → IsShort base group error
-  short-plain is true valid = absurd (not_other (kind-group base group error false is valid fault))
+  short-plain is true valid =
+      absurd (not_other (kind-located group (group_fault base (bytes_in group)) error
+      (other-group base meant false is valid) fault))
   short-plain is false invalid =
-      let count = greatest_valid_count base.width (length group) in
+      let count = greatest_valid_count base.width (length meant) in
+      let not_valid : is_valid_count base.width (length group) ≡ false =
+      ap (is_valid_count base.width) (sym meant_len) ∙ invalid in
       let here : fault_at LengthFault group count ≡ Some error =
-      sym (ap (λ b. cond b (symbols_fault base group) (fault_at LengthFault group count)) invalid)
-      ∙ sym (ap (λ b. cond b (padded_fault_at base group (count_before_padding base group))
-      (plain_fault base group)) is)
+      sym (ap (λ b. located group (cond b (padded_fault_at base meant (count_before_padding meant))
+      (plain_fault base meant))) is
+      ∙ ap (λ b. located group (cond b (symbols_fault base meant) (faulty_at LengthFault count)))
+      invalid)
       ∙ fault in
       record {
         few = ⊎_elim {C = length group < dec} (λ less. less)
             (λ all.
             let same : length group ≡ dec = omega (arith, all, most) in
-            absurd (false≢true (sym invalid ∙ ap (is_valid_count base.width) same
+            absurd (false≢true (sym not_valid ∙ ap (is_valid_count base.width) same
             ∙ whole-valid base.width width)))
             (cases_lt (length group) dec);
         inside = greatest-less base width (length group)
-            (is_valid_length-by base (length group) false is ∙ invalid);
+            (is_valid_length-by base (length group) false is ∙ not_valid);
         position_is = position-fault LengthFault group count error here
-            ∙ ap (position_of group) (sym (greatest_valid_length-by base (length group) false is));
+            ∙ ap (position_of group) (ap (greatest_valid_count base.width) meant_len
+            ∙ sym (greatest_valid_length-by base (length group) false is));
       }
 
   short-group : IsShort base group error
   short-group = by (is_padded base) refl where
     by : (b : Bool) → is_padded base ≡ b → IsShort base group error
-    by true is = short-padded is (nat_lt (length group) dec) refl
-    by false is = short-plain is (is_valid_count base.width (length group)) refl
+    by true is = short-padded is (nat_lt (length meant) dec) refl
+    by false is = short-plain is (is_valid_count base.width (length meant)) refl
 
 module _ (base : Base) (text : List ℕ) (read written : ℕ) (output : List ℕ) (error : DecodeError)
     (at : IsAtFault base text read written output error)
@@ -126,10 +143,10 @@ module _ (base : Base) (text : List ℕ) (read written : ℕ) (output : List ℕ
   index : ℕ
   index = greatest_valid_length base (length at.group)
 
-  not_ended : (at.ended ≡ false) × (group_fault base at.group ≡ Some error)
+  not_ended : (at.ended ≡ false) × (fault_after false base at.group ≡ Some error)
   not_ended = by at.ended refl at.faulty where
     by : (b : Bool) → at.ended ≡ b → fault_after b base at.group ≡ Some error
-        → (at.ended ≡ false) × (group_fault base at.group ≡ Some error)
+        → (at.ended ≡ false) × (fault_after false base at.group ≡ Some error)
     by true is h =
         let other =
         kind_of (record { position = position_of at.group 0; kind = PaddingFault }) error h refl in
@@ -186,16 +203,15 @@ module _ (base : Base) (text : List ℕ) (read written : ℕ) (output : List ℕ
 
   -- bytes without a fault at the front of what is left are bytes of the group
   run_kept : (count : ℕ) → count ≤ length (drop read text) → count ≤ size
-      → group_fault base (positioned (take count (drop read text))) ≡ None
+      → group_fault base (take count (drop read text)) ≡ None
       → at.group ≡ positioned_from read (take count (drop read text))
       ++ kept_from base (read + count) text
   run_kept count many few sound =
       let run = take count (drop read text) in
       let run_len : length (positioned_from read run) ≡ count =
       length-positioned_from read run ∙ length-take-le count (drop read text) many in
-      let here : group_fault base (positioned_from read run) ≡ None =
-      group_fault-none_same base (positioned_from read run) (positioned run)
-      (bytes-positioned_from read run ∙ sym (bytes-positioned_from 0 run)) sound in
+      let here : group_fault base (bytes_in (positioned_from read run)) ≡ None =
+      ap (group_fault base) (bytes-positioned_from read run) ∙ sound in
       let all : kept_in base read run ≡ positioned_from read run =
       filter-all (λ (k : Positioned). not (is_ignored (meaning base k.byte)))
       (positioned_from read run)
@@ -210,7 +226,7 @@ module _ (base : Base) (text : List ℕ) (read written : ℕ) (output : List ℕ
 
   -- and so no more than it has
   run_few : (count : ℕ) → count ≤ length (drop read text) → count ≤ size
-      → group_fault base (positioned (take count (drop read text))) ≡ None
+      → group_fault base (take count (drop read text)) ≡ None
       → count ≤ length at.group
   run_few count many few sound =
       let run = take count (drop read text) in
@@ -284,7 +300,7 @@ module _ (base : Base) (text : List ℕ) (read written : ℕ) (output : List ℕ
 
   -- and a run without a fault is read and written too
   module _ (some : 0 < len) (few : len ≤ size)
-      (sound : group_fault base (positioned front) ≡ None) where
+      (sound : group_fault base front ≡ None) where
     run : List Positioned
     run = positioned_from read front
 
@@ -295,9 +311,9 @@ module _ (base : Base) (text : List ℕ) (read written : ℕ) (output : List ℕ
         ∙ length-take-le len (drop read text)
         (greatest-least base at.width (length (drop read text)))
 
-    bytes_same : bytes_in run ≡ bytes_in (positioned front)
+    bytes_same : bytes_in run ≡ front
     unfolding run
-    bytes_same = bytes-positioned_from read front ∙ sym (bytes-positioned_from 0 front)
+    bytes_same = bytes-positioned_from read front
 
     -- they are those before the fault
     run_is : take index at.group ≡ run
@@ -329,13 +345,13 @@ module _ (base : Base) (text : List ℕ) (read written : ℕ) (output : List ℕ
         AreSound-append base false at.ended (is_final base run) (groups base (take read text))
         (run ∷ []) at.so_far.sound (
           ap (λ b. fault_after b base run) not_ended.0
-              ∙ group_fault-none_same base run (positioned front) bytes_same sound,
+              ∙ ap (λ l. located run (group_fault base l)) bytes_same ∙ ap (located run) sound,
           refl,
         )
 
     pub last-sound : (count : ℕ) (new : List ℕ) → written + count ≤ length new
         → take (written + count) new
-        ≡ take written output ++ bytes_of_group base (positioned front)
+        ≡ take written output ++ symbol_bytes base (map (meaning base) front)
         → StopsAt base text new
         (record { read = error.position; written = written + count; error = error })
     last-sound count new fits writes =
@@ -353,33 +369,32 @@ module _ (base : Base) (text : List ℕ) (read written : ℕ) (output : List ℕ
         ∙ flat_map-append (bytes_of_group base) (groups base (take read text)) (run ∷ [])
         ∙ (λ i. sym at.so_far.writes i
         ++ (append-nil (bytes_of_group base run)
-        ∙ bytes_of_group-same base run (positioned front) bytes_same) i)
+        ∙ ap (λ l. symbol_bytes base (map (meaning base) l)) bytes_same) i)
         ∙ sym writes)
 
   -- but none with a fault is
   pub last-unsound : 0 < len
-      → (len ≤ size → is_some (group_fault base (positioned front)) ≡ true)
+      → (len ≤ size → is_some (group_fault base front) ≡ true)
       → (new : List ℕ) → written ≤ length new → take written new ≡ take written output
       → StopsAt base text new (record { read = read; written = written; error = error })
   last-unsound some bad new fits same =
       stops new read written (read_by false unsound) inside.0 (front_sound read refl) fits
       (front_bytes read refl ∙ sym same) where
-        none_none : (o : Option DecodeError) → o ≡ None → is_some o ≡ true → ⊥
+        none_none : (o : Option GroupFault) → o ≡ None → is_some o ≡ true → ⊥
         none_none o h k = false≢true (sym (ap is_some h) ∙ k)
 
         by : (b : Bool) → is_sound_run base (drop read text) ≡ b
             → is_sound_run base (drop read text) ≡ false
         by false is = is
         by true is =
-            let first : group_fault base (positioned (take size front)) ≡ None =
-            ap (group_fault base) (sym (take-positioned_from 0 size front))
-            ∙ sound_run-first base at.width (drop read text) some is in
+            let first : group_fault base (take size front) ≡ None =
+            sound_run-first base at.width (drop read text) some is in
             let most : len ≤ length (drop read text) =
             greatest-least base at.width (length (drop read text)) in
             ⊎_elim {C = is_sound_run base (drop read text) ≡ false}
             (λ (long : size < len).
-            let whole : group_fault base (positioned (take size (drop read text))) ≡ None =
-            ap (λ run. group_fault base (positioned run))
+            let whole : group_fault base (take size (drop read text)) ≡ None =
+            ap (group_fault base)
             (sym (take-take size len (drop read text) (omega (arith, long)))) ∙ first in
             absurd (omega (
               arith,
@@ -389,9 +404,8 @@ module _ (base : Base) (text : List ℕ) (read written : ℕ) (output : List ℕ
             (λ (few : len ≤ size).
             let front_len : length front ≤ size =
             omega (arith, length-take-le len (drop read text) most, few) in
-            absurd (none_none (group_fault base (positioned front))
-            (ap (λ run. group_fault base (positioned run)) (sym (take_all size front front_len))
-            ∙ first) (bad few)))
+            absurd (none_none (group_fault base front)
+            (ap (group_fault base) (sym (take_all size front front_len)) ∙ first) (bad few)))
             (cases_lt size len)
 
         unsound : is_sound_run base (drop read text) ≡ false

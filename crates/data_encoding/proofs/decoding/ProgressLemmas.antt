@@ -8,7 +8,7 @@ use Rattle.std.proofs.lemmas.Nat.{div-add-mod'}
 use Rattle.std.specs.Prelude.{flat_map}
 use Rattle.data_encoding.specs.Base.{Base, meaning, is_symbol, is_padded, group_bytes, group_symbols, IsWidth}
 use Rattle.data_encoding.specs.Bits.{runs}
-use Rattle.data_encoding.specs.Grammar.{Positioned, positioned, positioned_from, kept, groups, is_final, Means, kept_in, kept_from}
+use Rattle.data_encoding.specs.Grammar.{Positioned, positioned, positioned_from, kept, groups, is_final, Means, kept_in, kept_from, bytes_in, meanings_in}
 use Rattle.data_encoding.specs.Lengths.{length_fault, most_bytes}
 use Rattle.data_encoding.specs.Fault.{fault_after, group_fault, bytes_of_group, fault_of, or_else, first_after, sound_after, sound_bytes}
 use Rattle.data_encoding.specs.Partial.{position_after}
@@ -16,7 +16,7 @@ use Rattle.data_encoding.specs.Decoding.{AreSound, HasDecodedTo}
 use Rattle.data_encoding.proofs.digits.WidthLemmas.{group_bits, group_symbols-pos}
 use Rattle.data_encoding.proofs.lists.RunLemmas.{runs-nil, runs-join, runs-short, flat_map-runs}
 use Rattle.data_encoding.proofs.lists.EndLemmas.{AllSo}
-use Rattle.data_encoding.proofs.grammar.PositionLemmas.{length-kept, length-positioned_from, bytes-positioned_from}
+use Rattle.data_encoding.proofs.grammar.PositionLemmas.{length-kept, length-positioned_from, bytes-positioned_from, length-meanings}
 use Rattle.data_encoding.proofs.grammar.KeptLemmas.{between, kept-split, kept-more, kept_from-more, position_after-append, position_after-positioned}
 use Rattle.data_encoding.proofs.grammar.LengthLemmas.{most_bytes-by}
 use Rattle.data_encoding.proofs.grammar.GroupLemmas.{GroupMeans-sound}
@@ -244,12 +244,14 @@ module _ (base : Base) (width : IsWidth base.width) (text : List ℕ) where
       (writes ∙ ap (λ l. take written old ++ l)
       (sym (append-nil (bytes_of_group base group))
       ∙ ap (flat_map (bytes_of_group base)) (sym one))) where
-        by : (b : Bool) → is_padded base ≡ b → group_fault base group ≡ None
+        by : (b : Bool) → is_padded base ≡ b → group_fault base (bytes_in group) ≡ None
             → (length group % dec ≡ 0)
             ⊎ ((kept_from base stop text ≡ []) × (is_padded base ≡ false))
         by true is h =
-            inl (ap (λ n. n % dec) (GroupMeans-sound base width is group next.few h).is_whole
-            ∙ mod_self dec)
+            let len = length-meanings base group in
+            let means = GroupMeans-sound base width is (meanings_in base group)
+            (omega (arith, len, next.few)) h in
+            inl (ap (λ n. n % dec) (sym len ∙ means.is_whole) ∙ mod_self dec)
         by false is h =
             ⊎_elim {C = (length group % dec ≡ 0)
             ⊎ ((kept_from base stop text ≡ []) × (is_padded base ≡ false))}

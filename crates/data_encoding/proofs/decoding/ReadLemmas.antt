@@ -1,14 +1,15 @@
 -- What is read of a text with a fault means bytes.
-use Rattle.std.proofs.Common.{◌≡◌, ℕ, zero, suc, ◌+◌, ◌<◌, ◌≤◌, ◌⊎◌, Bool, true, false, List, [], ◌++◌, length, set, take, drop, get_or, replicate, Option, Some, None, is_some, refl, sym, ap, ◌∙◌, subst, arith, length-append, ⊎_elim, inl, inr}
+use Rattle.std.proofs.Common.{◌≡◌, ℕ, zero, suc, ◌+◌, ◌<◌, ◌≤◌, ◌⊎◌, Bool, true, false, List, [], ◌++◌, length, set, take, drop, get_or, replicate, Option, Some, None, is_some, refl, sym, ap, ◌∙◌, subst, arith, length-append, ⊎_elim, inl, inr, map}
 use Rattle.std.proofs.lemmas.Bool.{cases_lt}
 use Rattle.std.proofs.lemmas.List.{length-replicate, length-set, take_all}
+use Rattle.data_encoding.specs.declared.decode.group.GroupFault.{GroupFault}
 use Rattle.data_encoding.specs.declared.error.DecodeError.{DecodeError}
 use Rattle.data_encoding.specs.declared.error.DecodePartial.{DecodePartial}
 use Rattle.data_encoding.specs.Base.{Base, IsWidth, meaning, is_ignored, group_symbols}
 use Rattle.data_encoding.specs.Decoding.{IsGathered, valid_front, HasDecodedTo}
-use Rattle.data_encoding.specs.Grammar.{Positioned, Means, is_final, positioned}
+use Rattle.data_encoding.specs.Grammar.{Positioned, Means, is_final}
 use Rattle.data_encoding.specs.Lengths.{greatest_valid_length, length_fault}
-use Rattle.data_encoding.specs.Fault.{bytes_of_group, fault_after, fault_of, group_fault, sound_bytes}
+use Rattle.data_encoding.specs.Fault.{bytes_of_group, fault_after, fault_of, group_fault, sound_bytes, symbol_bytes}
 use Rattle.data_encoding.specs.Partial.{StopsAt, is_length_fault, partial_of}
 use Rattle.data_encoding.proofs.grammar.MeaningLemmas.{sound_bytes-Means}
 use Rattle.data_encoding.proofs.decoding.GatherLemmas.{HasGathered, gather-ignored, gather-kept, gathered, gathered-few, is-next, next_bytes, none-next, nothing-gathered}
@@ -143,7 +144,7 @@ module _ (base : Base) (width : IsWidth base.width) (text : List ℕ)
       }
 
       unsound : is_length_fault error.kind ≡ true → 0 < len
-          → (len ≤ size → is_some (group_fault base (positioned front)) ≡ true) → Stops base text
+          → (len ≤ size → is_some (group_fault base front) ≡ true) → Stops base text
       unsound kind some bad = record {
         output = output;
         partial = record { read = read; written = written; error = error };
@@ -151,11 +152,11 @@ module _ (base : Base) (width : IsWidth base.width) (text : List ℕ)
             so_far.fits refl;
       }
 
-      run : is_length_fault error.kind ≡ true → 0 < len → len ≤ size → (o : Option DecodeError)
-          → group_fault base (positioned front) ≡ o → Stops base text
+      run : is_length_fault error.kind ≡ true → 0 < len → len ≤ size → (o : Option GroupFault)
+          → group_fault base front ≡ o → Stops base text
       run kind some few (Some other) is = unsound kind some (λ _. ap is_some is)
       run kind some few None is =
-          let bytes = bytes_of_group base (positioned front) in
+          let bytes = symbol_bytes base (map (meaning base) front) in
           record {
             output = take written output ++ bytes;
             partial = record {
@@ -180,7 +181,7 @@ module _ (base : Base) (width : IsWidth base.width) (text : List ℕ)
           (λ (some : 0 < len).
           ⊎_elim {C = Stops base text}
           (λ (long : size < len). unsound kind some (λ few. absurd (omega (arith, long, few))))
-          (λ (few : len ≤ size). run kind some few (group_fault base (positioned front)) refl)
+          (λ (few : len ≤ size). run kind some few (group_fault base front) refl)
           (cases_lt size len))
           (λ (none : len ≤ 0). record {
             output = output;

@@ -6,12 +6,13 @@ use Rattle.std.proofs.lemmas.Nat.{div-add-mod'}
 use Rattle.std.proofs.lemmas.List.{length-map}
 use Rattle.std.specs.Prelude.{flat_map}
 use Rattle.std.specs.List.{filter_map, cons_option}
-use Rattle.data_encoding.specs.Base.{Base, meaning, value_of}
+use Rattle.data_encoding.proofs.grammar.PositionLemmas.{length-meanings}
+use Rattle.data_encoding.specs.Base.{Base, value_of}
 use Rattle.data_encoding.specs.Bits.{number_of, runs}
-use Rattle.data_encoding.specs.Grammar.{Positioned}
+use Rattle.data_encoding.specs.Grammar.{Positioned, meanings_in}
 use Rattle.data_encoding.specs.Fault.{symbol_bits, bytes_of_group}
 use Rattle.data_encoding.proofs.lists.RunLemmas.{length-runs}
-use Rattle.data_encoding.proofs.grammar.UnpaddedGroupLemmas.{values_in, length-bits_of_values}
+use Rattle.data_encoding.proofs.grammar.UnpaddedGroupLemmas.{length-bits_of_values}
 
 -- between two multiples there is a whole group or more
 pub multiples : (size m n : ℕ) → m % size ≡ 0 → n % size ≡ 0 → m < n → m + size ≤ n
@@ -40,17 +41,19 @@ length-filter_map {X = X} {Y = Y} f (x ∷ xs) = by (f x) (length-filter_map f x
 length-bytes_of_group : (base : Base) (group : List Positioned)
     → 8 * length (bytes_of_group base group) ≤ base.width * length group
 length-bytes_of_group base group =
-    let bits = symbol_bits base group in
+    let meant = meanings_in base group in
+    let values = filter_map value_of meant in
+    let bits = symbol_bits base meant in
     let front = take (length bits / 8 * 8) bits in
     let front_len : length front ≡ length bits / 8 * 8 =
     length-take-le (length bits / 8 * 8) bits (omega arith) in
     let count : length (bytes_of_group base group) ≡ (length front + 7) / 8 =
     length-map (runs 8 front) (number_of base.order) ∙ length-runs 8 front in
-    let all : length bits ≡ base.width * length (values_in base group) =
-    length-bits_of_values base.order base.width (values_in base group) in
-    let few : base.width * length (values_in base group) ≤ base.width * length group =
+    let all : length bits ≡ base.width * length values =
+    length-bits_of_values base.order base.width values in
+    let few : base.width * length values ≤ base.width * length group =
     mul-le-mul_left base.width
-    (length-filter_map (λ (k : Positioned). value_of (meaning base k.byte)) group) in
+    (omega (arith, length-filter_map value_of meant, length-meanings base group)) in
     omega (arith, count, front_len, all, few)
 
 -- as many bits at most as symbols have

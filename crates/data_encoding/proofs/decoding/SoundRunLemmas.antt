@@ -1,17 +1,18 @@
 -- Whether the greatest front of valid length means something as it stands.
 use Rattle.std.proofs.Common.{◌≡◌, ℕ, ◌<◌, ◌≤◌, true, false, List, ◌∷◌, length, take, drop, Option, Some, None, is_none, refl, sym, ap, ◌∙◌, arith, length-take-le}
+use Rattle.std.proofs.lemmas.List.{take-map}
 use Rattle.data_encoding.specs.declared.error.DecodeError.{DecodeError}
 use Rattle.data_encoding.specs.Base.{Base, group_symbols, IsWidth}
 use Rattle.data_encoding.specs.Bits.{runs}
-use Rattle.data_encoding.specs.Grammar.{Positioned, positioned, is_final}
+use Rattle.data_encoding.specs.Grammar.{Positioned, positioned, is_final, bytes_in}
 use Rattle.data_encoding.specs.Lengths.{is_valid_length, greatest_valid_length, length_fault}
-use Rattle.data_encoding.specs.Fault.{group_fault, fault_of, or_else, first_after}
+use Rattle.data_encoding.specs.Fault.{group_fault, fault_of, or_else, first_after, fault_after, located}
 use Rattle.data_encoding.specs.Partial.{ignoring_nothing, is_sound_run}
 use Rattle.data_encoding.proofs.digits.WidthLemmas.{group_symbols-pos}
 use Rattle.data_encoding.proofs.lists.RunLemmas.{runs-nil, runs-short, runs-first}
-use Rattle.data_encoding.proofs.grammar.PositionLemmas.{filter-plain, length-positioned_from}
+use Rattle.data_encoding.proofs.grammar.PositionLemmas.{filter-plain, length-positioned_from, bytes-positioned_from}
 use Rattle.data_encoding.proofs.grammar.LengthLemmas.{length_fault-none}
-use Rattle.data_encoding.proofs.grammar.SoundLemmas.{neither_fault}
+use Rattle.data_encoding.proofs.grammar.SoundLemmas.{neither_fault, fault_after-none}
 use Rattle.data_encoding.proofs.decoding.GreatestLengthLemmas.{greatest-least, greatest-valid}
 use Rattle.data_encoding.proofs.decoding.IgnoringLemmas.{ignores_none-strict, group_fault-strict}
 
@@ -58,18 +59,19 @@ module _ (base : Base) (width : IsWidth base.width) (bytes : List ℕ) where
 
   module _ (some : 0 < len) where
     -- a group without a fault means something
-    pub sound_run-group : len ≤ dec → group_fault base (positioned front) ≡ None
-        → is_sound_run base bytes ≡ true
+    pub sound_run-group : len ≤ dec → group_fault base front ≡ None → is_sound_run base bytes ≡ true
     sound_run-group few sound =
+        let group = positioned front in
         ap is_none (strict_fault
         ∙ ap (first_after false strict)
-        (runs-short dec (positioned front) (omega (arith, front_len, some))
-        (omega (arith, front_len, few)))
-        ∙ ap (λ o. or_else o None) (group_fault-strict base (positioned front) ∙ sound))
+        (runs-short dec group (omega (arith, front_len, some)) (omega (arith, front_len, few)))
+        ∙ ap (λ o. or_else (located group o) None)
+        (ap (group_fault strict) (bytes-positioned_from 0 front) ∙ group_fault-strict base front
+        ∙ sound))
 
     -- and what means something begins with one
     pub sound_run-first : is_sound_run base bytes ≡ true
-        → group_fault base (take dec (positioned front)) ≡ None
+        → group_fault base (take dec front) ≡ None
     sound_run-first h =
         let group = take dec (positioned front) in
         let first = runs-first dec (positioned front) (group_symbols-pos base.width width)
@@ -78,7 +80,10 @@ module _ (base : Base) (width : IsWidth base.width) (bytes : List ℕ) where
         ≡ None =
         ap (first_after false strict) (sym first) ∙ sym strict_fault
         ∙ is_none-none (fault_of strict front) h in
-        sym (group_fault-strict base group)
-        ∙ (neither_fault (group_fault strict group)
-        (first_after (is_final strict group) strict (runs dec (drop dec (positioned front))))
-        none).0
+        let sound = neither_fault (fault_after false strict group)
+        (first_after (is_final strict group) strict (runs dec (drop dec (positioned front)))) none in
+        let same : bytes_in group ≡ take dec front =
+        sym (take-map (λ (k : Positioned). k.byte) dec (positioned front))
+        ∙ ap (take dec) (bytes-positioned_from 0 front) in
+        ap (group_fault base) (sym same) ∙ sym (group_fault-strict base (bytes_in group))
+        ∙ (fault_after-none strict false group sound.0).1

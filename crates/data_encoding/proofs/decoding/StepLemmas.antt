@@ -1,26 +1,26 @@
 -- A step of a decoding: what a run, a group and the end do to it.
-use Rattle.std.proofs.Common.{◌≡◌, ℕ, ◌+◌, ◌-◌, ◌*◌, ◌/◌, ◌%◌, ◌<◌, ◌≤◌, Bool, true, false, not, nat_lt, ◌&&◌, ◌==◌, ◌⊎◌, List, ◌++◌, length, take, drop, Some, refl, sym, ap, ◌∙◌, subst, arith, length-take-le, ⊎_elim}
+use Rattle.std.proofs.Common.{◌≡◌, ℕ, ◌+◌, ◌-◌, ◌*◌, ◌/◌, ◌%◌, ◌<◌, ◌≤◌, Bool, true, false, not, nat_lt, ◌&&◌, ◌==◌, ◌⊎◌, List, ◌++◌, length, take, drop, Some, refl, sym, ap, ◌∙◌, subst, arith, length-take-le, ⊎_elim, map}
 use Rattle.std.proofs.Math.Nat.{mul-le-mul_left, mul-le-mul_right, mul-zero, zero-mod}
 use Rattle.std.proofs.Math.Seq.{take-add}
 use Rattle.std.proofs.lemmas.Bool.{cases_lt, eqb-true, false≢true}
 use Rattle.std.proofs.lemmas.Bool.Decides.{nat_tests}
-use Rattle.std.proofs.lemmas.List.{length-drop, take_rest}
+use Rattle.std.proofs.lemmas.List.{length-drop, take_rest, length-map}
 use Rattle.std.proofs.lemmas.Nat.{div-add-mod'}
 use Rattle.std.proofs.lemmas.Slice.{take-put_mid_below}
+use Rattle.std.specs.List.{list_any}
 use Rattle.data_encoding.specs.declared.error.DecodeKind.TheVariants.{Padding as PaddingFault}
 use Rattle.data_encoding.specs.declared.error.DecodeError.{DecodeError}
 use Rattle.data_encoding.specs.declared.error.DecodePartial.{DecodePartial}
 use Rattle.data_encoding.specs.declared.decode.group.GroupFault.{GroupFault}
-use Rattle.data_encoding.specs.Base.{Base, IsWidth, group_bytes, group_symbols, is_padded}
+use Rattle.data_encoding.specs.Base.{Base, IsWidth, group_bytes, group_symbols, is_padded, is_padding, meaning}
 use Rattle.data_encoding.specs.Decoding.{HasFault, HasNoLastRun, IsDecoded, IsDecodedGroup, IsGathered, IsLastRun, IsRun, IsStop, HasStopped, valid_front, HasDecodedTo}
-use Rattle.data_encoding.specs.Fault.{group_fault, position_of}
-use Rattle.data_encoding.specs.Grammar.{Means, Positioned, kept, positioned}
+use Rattle.data_encoding.specs.Fault.{fault_after, group_fault, located, position_of, symbol_bytes}
+use Rattle.data_encoding.specs.Grammar.{Means, Positioned, kept}
 use Rattle.data_encoding.specs.Lengths.{greatest_valid_length, most_bytes}
 use Rattle.data_encoding.specs.Partial.{StopsAt, is_length_fault}
 use Rattle.data_encoding.proofs.digits.WidthLemmas.{group_bits, group_bytes-few}
 use Rattle.data_encoding.proofs.grammar.LengthLemmas.{is_valid_length-by, most_bytes-by}
-use Rattle.data_encoding.proofs.grammar.GroupLemmas.{GroupMeans-sound, bytes_of_group-same, group_fault-none_same, group_fault-same, is_final-same}
-use Rattle.data_encoding.proofs.grammar.PositionLemmas.{bytes-positioned_from, length-positioned_from, position_of-positioned_from}
+use Rattle.data_encoding.proofs.grammar.GroupLemmas.{GroupMeans-sound}
 use Rattle.data_encoding.proofs.lists.WriteLemmas.{length-rewritten, length-rewritten_same, rewritten, take-rewritten}
 use Rattle.data_encoding.proofs.decoding.GatherLemmas.{bytes-next, gathered-few, gathered-some, is-next, next_bytes, none-next, nothing-kept, position-next}
 use Rattle.data_encoding.proofs.decoding.GreatestLengthLemmas.{greatest-least, greatest-valid}
@@ -280,25 +280,22 @@ module _ {base : Base} {text : List ℕ} {w bytes symbols read written : ℕ} {o
         next = is-next base s.width text read s.so_far.within group span found_here some
 
         fault_here : (fault : GroupFault) → HasFault base group fault
-            → group_fault base placed
+            → fault_after false base placed
             ≡ Some (record {
               position = read + position_of (kept base (drop read text)) fault.index;
               kind = fault.kind;
             })
         fault_here fault has =
-            let zero_up : 0 + fault.index ≡ fault.index = omega arith in
-            group_fault-same base s.width placed 0 group fault.kind fault.index
-            (bytes-next base s.width text read s.so_far.within group span found_here) has.inside
-            found_here.few
-            (has.is_fault ∙ sym (ap (λ n. Some (record { position = n; kind = fault.kind }))
-            (position_of-positioned_from 0 group fault.index has.inside ∙ zero_up)))
+            ap (λ l. located placed (group_fault base l))
+            (bytes-next base s.width text read s.so_far.within group span found_here)
+            ∙ ap (located placed) has.is_fault
             ∙ ap (λ n. Some (record { position = n; kind = fault.kind }))
             (position-next base s.width text read s.so_far.within group span found_here fault.index
             has.inside)
 
         -- before the group, where that is faulty
         stands : (new : List ℕ) → HasDecodedTo base text read written false new
-            → (error : DecodeError) → group_fault base placed ≡ Some error
+            → (error : DecodeError) → fault_after false base placed ≡ Some error
             → IsAtFault base text read written new error
         stands new so_far error faulty = record {
           width = s.width;
@@ -314,7 +311,7 @@ module _ {base : Base} {text : List ℕ} {w bytes symbols read written : ℕ} {o
         -- where no last run is found
         stops-here : (fault : GroupFault) (new : List ℕ) → written ≤ length new
             → take written new ≡ take written output → (error : DecodeError)
-            → group_fault base placed ≡ Some error → fault.kind ≡ error.kind
+            → fault_after false base placed ≡ Some error → fault.kind ≡ error.kind
             → (is_length_fault fault.kind ≡ true → HasNoLastRun base (drop read text))
             → StopsAt base text new (record { read = read; written = written; error = error })
         stops-here fault new fits same error faulty kind none =
@@ -336,7 +333,7 @@ module _ {base : Base} {text : List ℕ} {w bytes symbols read written : ℕ} {o
 
         -- and where one is
         stops-after : (new : List ℕ) → take written new ≡ take written output
-            → (error : DecodeError) → group_fault base placed ≡ Some error
+            → (error : DecodeError) → fault_after false base placed ≡ Some error
             → is_length_fault error.kind ≡ true → (more : ℕ) → written + more ≤ length new
             → IsLastRun base (drop read text) more (drop written new)
             → StopsAt base text new
@@ -430,9 +427,9 @@ module _ {base : Base} {text : List ℕ} {w bytes symbols read written : ℕ} {o
             (has : IsDecodedGroup base group count rest) where
           whole : is_padded base ≡ true → length group ≡ symbols
           whole padded =
-              let len = length-positioned_from 0 group in
+              let len = length-map group (meaning base) in
               sym len
-              ∙ (GroupMeans-sound base s.width padded (positioned group)
+              ∙ (GroupMeans-sound base s.width padded (map (meaning base) group)
               (omega (arith, len, found_here.few)) has.sound).is_whole
               ∙ sym s.symbols_is
 
@@ -445,20 +442,20 @@ module _ {base : Base} {text : List ℕ} {w bytes symbols read written : ℕ} {o
           group_done =
               let new = rewritten written output rest in
               let fits = length-rewritten written output rest s.so_far.fits in
-              let same = bytes-next base s.width text read s.so_far.within group span found_here
-              ∙ sym (bytes-positioned_from 0 group) in
-              let final = is_final-same base placed (positioned group) same ∙ has.final in
+              let same = bytes-next base s.width text read s.so_far.within group span found_here in
+              let final = ap (λ b. not base.concatenates && b)
+              (ap (λ l. list_any is_padding (map (meaning base) l)) same ∙ has.final) in
               subst
               (λ b. HasDecodedTo base text (read + span) (written + w * count / 8) b new)
               final
               (after-group base s.width text read written (read + span) (w * count / 8) false
               placed output new s.so_far next
-              (group_fault-none_same base placed (positioned group) same has.sound)
+              (ap (λ l. located placed (group_fault base l)) same ∙ ap (located placed) has.sound)
               (omega (arith, few, fits))
               (take-rewritten written output rest s.so_far.fits (w * count / 8)
               ∙ ap (λ l. take written output ++ l)
               (ap (λ n. take (n * count / 8) rest) (sym s.w_is) ∙ has.bytes
-              ∙ sym (bytes_of_group-same base placed (positioned group) same))))
+              ∙ ap (λ l. symbol_bytes base (map (meaning base) l)) (sym same))))
 
           pub after_group : {final : Bool}
               → (not base.concatenates && nat_lt count (length group)) ≡ final

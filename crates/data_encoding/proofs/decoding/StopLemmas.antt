@@ -6,22 +6,24 @@ use Rattle.std.proofs.lemmas.List.{length-drop, append-nil}
 use Rattle.std.proofs.Math.Nat.{mul-add, mul_left_comm}
 use Rattle.std.specs.Prelude.{flat_map}
 use Rattle.std.specs.List.{list_any, position}
+use Rattle.data_encoding.specs.declared.encoding.Character.{Character}
+use Rattle.data_encoding.specs.declared.decode.group.GroupFault.{GroupFault}
 use Rattle.data_encoding.specs.declared.error.DecodeError.{DecodeError}
 use Rattle.data_encoding.specs.declared.error.DecodeKind.TheVariants.{Length as LengthFault, Symbol as SymbolFault, Trailing as TrailingFault, Padding as PaddingFault}
 use Rattle.data_encoding.specs.declared.error.DecodePartial.{DecodePartial}
-use Rattle.data_encoding.specs.Base.{Base, meaning, is_symbol, is_padded, ignores_some, group_bytes, group_symbols, IsWidth}
+use Rattle.data_encoding.specs.Base.{Base, is_symbol, is_padded, ignores_some, group_bytes, group_symbols, IsWidth}
 use Rattle.data_encoding.specs.Bits.{runs}
-use Rattle.data_encoding.specs.Grammar.{Positioned, positioned_from, kept, groups, is_final, Means, kept_from}
+use Rattle.data_encoding.specs.Grammar.{Positioned, positioned_from, kept, groups, is_final, Means, kept_from, bytes_in, meanings_in}
 use Rattle.data_encoding.specs.Lengths.{is_valid_count, is_valid_length, length_fault, decoded_len}
-use Rattle.data_encoding.specs.Fault.{position_of, fault_at, fault_at_first, trailing_bits, symbols_fault, plain_fault, padded_fault_at, count_before_padding, group_fault, fault_after, or_else, first_after, sound_after, fault_of, sound_groups, sound_bytes}
+use Rattle.data_encoding.specs.Fault.{character_fault, count_before_padding, fault_after, fault_at_first, fault_of, faulty_at, first_after, group_fault, located, or_else, padded_fault_at, plain_fault, position_of, sound_after, sound_bytes, sound_groups, symbols_fault, trailing_bits}
 use Rattle.data_encoding.specs.Partial.{StopsAt, position_after, sound_len, read_len, is_length_fault, is_sound_run, partial_at, partial_by, partial_of}
 use Rattle.data_encoding.specs.Decoding.{HasDecodedTo}
 use Rattle.data_encoding.proofs.digits.WidthLemmas.{group_bits, group_symbols-pos}
 use Rattle.data_encoding.proofs.lists.RunLemmas.{runs-nil, runs-append, runs-join, runs-short, flat_map-runs}
-use Rattle.data_encoding.proofs.grammar.PositionLemmas.{length-kept_plain, length-positioned_from, filter-plain}
+use Rattle.data_encoding.proofs.grammar.PositionLemmas.{length-kept_plain, length-positioned_from, filter-plain, length-meanings}
 use Rattle.data_encoding.proofs.grammar.KeptLemmas.{between, kept-split, kept_from-more, kept_in-stands, length-between}
 use Rattle.data_encoding.proofs.grammar.LengthLemmas.{length_fault-none, length_fault-valid, is_valid_length-by}
-use Rattle.data_encoding.proofs.grammar.GroupLemmas.{group_fault-inside, plain_fault-valid, whole-valid}
+use Rattle.data_encoding.proofs.grammar.GroupLemmas.{group_fault-inside, plain_fault-valid, whole-valid, located-inside}
 use Rattle.data_encoding.proofs.grammar.SoundLemmas.{first-AreSound, sound-AreSound, first-none}
 use Rattle.data_encoding.proofs.grammar.MeaningLemmas.{Means-no_fault, sound_bytes-Means, decoded_len-Means}
 use Rattle.data_encoding.proofs.decoding.RoomLemmas.{multiples}
@@ -58,50 +60,51 @@ pub kind_of : (fault error : DecodeError) → Some fault ≡ Some error
 kind_of fault error h k =
     let same : fault ≡ error = cc in subst (λ x. is_length_fault x.kind ≡ false) same k
 
-kind_by : (o : Option ℕ) (trails : Bool) (group : List Positioned) (last : ℕ) (error : DecodeError)
-    → fault_at_first o group (cond trails (fault_at TrailingFault group last) None) ≡ Some error
-    → is_length_fault error.kind ≡ false
-kind_by (Some index) trails group last error h =
-    kind_of (record { position = position_of group index; kind = SymbolFault }) error h refl
-kind_by None true group last error h =
-    kind_of (record { position = position_of group last; kind = TrailingFault }) error h refl
-kind_by None false group last error h = cc
+-- a fault that is none of a length
+abbrev pub IsOther : Option GroupFault → Type 0
+IsOther None = Unit {0}
+IsOther (Some fault) = is_length_fault fault.kind ≡ false
 
-kind-symbols : (base : Base) (group : List Positioned) (error : DecodeError)
-    → symbols_fault base group ≡ Some error → is_length_fault error.kind ≡ false
-kind-symbols base group error h =
-    kind_by (position (λ k. not (is_symbol (meaning base k.byte))) group)
-    (base.checks_trailing_bits && list_any (λ bit. not (bit == 0)) (trailing_bits base group)) group
-    (length group - 1) error h
+other-symbols : (base : Base) (group : List Character) → IsOther (symbols_fault base group)
+other-symbols base group =
+    by (position (λ m. not (is_symbol m)) group)
+    (base.checks_trailing_bits && list_any (λ bit. not (bit == 0)) (trailing_bits base group)) where
+      by : (o : Option ℕ) (trails : Bool) → IsOther (fault_at_first o
+          (cond trails (faulty_at TrailingFault (length group - 1)) None))
+      by (Some index) trails = refl
+      by None true = refl
+      by None false = tt
 
-kind-padding : (base : Base) (group : List Positioned) (bad : Bool) (count : ℕ)
-    (error : DecodeError)
-    → cond bad (fault_at PaddingFault group count) (symbols_fault base (take count group))
-    ≡ Some error
-    → is_length_fault error.kind ≡ false
-kind-padding base group true count error h =
-    kind_of (record { position = position_of group count; kind = PaddingFault }) error h refl
-kind-padding base group false count error h = kind-symbols base (take count group) error h
+other-padding : (base : Base) (group : List Character) (bad : Bool) (count : ℕ)
+    → IsOther (cond bad (faulty_at PaddingFault count) (symbols_fault base (take count group)))
+other-padding base group true count = refl
+other-padding base group false count = other-symbols base (take count group)
 
 -- a whole group has no fault of a length, nor has an unpadded one of a valid number
-pub kind-group : (base : Base) (group : List Positioned) (error : DecodeError) (b : Bool)
-    → is_padded base ≡ b
+pub other-group : (base : Base) (group : List Character) (b : Bool) → is_padded base ≡ b
     → cond b (nat_lt (length group) (group_symbols base.width) ≡ false)
     (is_valid_count base.width (length group) ≡ true)
-    → group_fault base group ≡ Some error → is_length_fault error.kind ≡ false
-kind-group base group error true is whole h =
-    let count = count_before_padding base group in
+    → IsOther (character_fault base group)
+other-group base group true is whole =
+    let count = count_before_padding group in
     let bad = count == 0 || not (is_valid_count base.width count) in
-    kind-padding base group bad count error
-    (sym (ap (λ b. cond b (fault_at LengthFault group 0)
-    (cond bad (fault_at PaddingFault group count) (symbols_fault base (take count group)))) whole)
-    ∙ sym (ap (λ b. cond b (padded_fault_at base group count) (plain_fault base group)) is) ∙ h)
-kind-group base group error false is valid h =
-    kind-symbols base group error
-    (sym (plain_fault-valid base group valid)
-    ∙ sym (ap (λ b. cond b (padded_fault_at base group (count_before_padding base group))
-    (plain_fault base group)) is)
-    ∙ h)
+    subst IsOther
+    (sym (ap (λ b. cond b (padded_fault_at base group count) (plain_fault base group)) is
+    ∙ ap (λ b. cond b (faulty_at LengthFault 0)
+    (cond bad (faulty_at PaddingFault count) (symbols_fault base (take count group)))) whole))
+    (other-padding base group bad count)
+other-group base group false is valid =
+    subst IsOther
+    (sym (ap (λ b. cond b (padded_fault_at base group (count_before_padding group))
+    (plain_fault base group)) is
+    ∙ plain_fault-valid base group valid))
+    (other-symbols base group)
+
+pub kind-located : (group : List Positioned) (o : Option GroupFault) (error : DecodeError)
+    → IsOther o → located group o ≡ Some error → is_length_fault error.kind ≡ false
+kind-located group None error other h = cc
+kind-located group (Some fault) error other h =
+    kind_of (record { position = position_of group fault.index; kind = fault.kind }) error h other
 
 -- So much of a text was decoded, and the next group is faulty.
 pub record IsAtFault (base : Base) (text : List ℕ) (read written : ℕ) (output : List ℕ)
@@ -199,7 +202,8 @@ module _ (base : Base) (text : List ℕ) (read written : ℕ) (output : List ℕ
         let same : first ≡ error = cc in
         (0, at.next.is_part.some, sym (ap (λ (x : DecodeError). x.position) same))
     by false h =
-        group_fault-inside base at.width at.group at.next.is_part.some at.next.few error h
+        located-inside at.group (group_fault base (bytes_in at.group)) error
+        (group_fault-inside base at.width at.group at.next.is_part.some at.next.few) h
 
   pub bounds : (read ≤ error.position) × (error.position < at.stop)
   bounds =
@@ -313,8 +317,11 @@ module _ (base : Base) (text : List ℕ) (read written : ℕ) (output : List ℕ
       by true h =
           kind_of (record { position = position_of at.group 0; kind = PaddingFault }) error h refl
       by false h =
-          kind-group base at.group error (is_padded base) refl
-          (whole_or_valid (is_padded base) refl) h
+          kind-located at.group (group_fault base (bytes_in at.group)) error
+          (other-group base (meanings_in base at.group) (is_padded base) refl
+          (subst (λ n. cond (is_padded base) (nat_lt n dec ≡ false)
+          (is_valid_count base.width n ≡ true))
+          (sym (length-meanings base at.group)) (whole_or_valid (is_padded base) refl))) h
 
 -- what has a fault means nothing
 pub fault-partial : (base : Base) (text : List ℕ) (partial : DecodePartial)

@@ -1,4 +1,4 @@
--- Groups of bytes as positioned characters: the first that is no symbol, and the bits left over.
+-- The bytes of a group: the first that is no symbol, and the bits left over.
 use Rattle.std.proofs.Common.{◌≡◌, ℕ, zero, suc, ◌+◌, ◌-◌, ◌*◌, ◌/◌, ◌%◌, ◌^◌, ◌<◌, ◌≤◌, ◌==◌, Bool, true, false, not, cond, ◌&&◌, ◌||◌, nat_lt, List, [], ◌∷◌, ◌++◌, length, map, take, drop, reverse, slice_index, Some, None, refl, sym, ap, ◌∙◌, subst, arith, length-append}
 use Rattle.std.proofs.lemmas.Bool.Decides.{nat_tests}
 use Rattle.std.proofs.lemmas.List.{length-map, length-reverse, reverse-append, map-append, append-nil, drop_at, take_more, take_all}
@@ -10,23 +10,17 @@ use Rattle.std.proofs.Math.Nat.{div-lt_iff_lt-mul, mod-lt, mul-add, mul_comm}
 use Rattle.std.proofs.Math.Seq.{drop-append-add}
 use Rattle.std.specs.Prelude.{flat_map, slice_get}
 use Rattle.std.specs.List.{list_any, position, prefix_len}
-use Rattle.data_encoding.specs.declared.error.DecodeError.{DecodeError}
-use Rattle.data_encoding.specs.declared.error.DecodeKind.TheVariants.{Symbol as SymbolFault, Trailing as TrailingFault}
 use Rattle.data_encoding.specs.declared.encoding.BitOrder.{BitOrder}
 use Rattle.data_encoding.specs.declared.encoding.BitOrder.TheVariants.{MostSignificantFirst, LeastSignificantFirst}
 use Rattle.data_encoding.specs.Base.{Base, meaning, is_symbol}
 use Rattle.data_encoding.specs.Bits.{bits_of, low_bits, number_of_low_bits}
-use Rattle.data_encoding.specs.Grammar.{Positioned, positioned_from}
 use Rattle.data_encoding.specs.Lengths.{is_valid_count}
 use Rattle.data_encoding.specs.Tables.{HoldsValues}
-use Rattle.data_encoding.specs.Fault.{fault_at, fault_at_first, invalid_symbol_fault, plain_fault, trailing_bits}
+use Rattle.data_encoding.specs.Fault.{trailing_bits}
 use Rattle.data_encoding.proofs.digits.BitLemmas.{length-low_bits, low_bits-add, low_bits-mod, number-low_bits}
-use Rattle.data_encoding.proofs.grammar.PositionLemmas.{bytes-positioned_from, length-by_bytes, position_of-positioned_from}
-use Rattle.data_encoding.proofs.grammar.GroupLemmas.{plain_fault-valid, symbols_fault-symbol, symbols_fault-symbols}
 use Rattle.data_encoding.proofs.grammar.UnpaddedGroupLemmas.{length-bits_of_values}
 use Rattle.data_encoding.proofs.digits.KernelLemmas.{values_in-table, entries_below}
 
--- a fault that is found stands, whatever would be judged next
 module _ (base : Base) (values : List ℕ) (holds : HoldsValues base values) where
   -- So many bytes are symbols, and the next, if there is one, is none.
   pub record StopsAfter (group : List ℕ) (index : ℕ) : Type 0 where
@@ -35,20 +29,16 @@ module _ (base : Base) (values : List ℕ) (holds : HoldsValues base values) whe
     pub inside : index ≤ length group
     pub there : index < length group → 128 ≤ slice_index values (slice_index group index)
 
-  symbols_len : (place : ℕ) (group : List ℕ) (index : ℕ) → StopsAfter group index
-      → prefix_len (λ (k : Positioned). not (not (is_symbol (meaning base k.byte))))
-      (positioned_from place group)
-      ≡ index
-  symbols_len place [] index s = omega (arith, s.inside)
-  symbols_len place (byte ∷ group) zero s =
-      let rest = prefix_len (λ (k : Positioned). not (not (is_symbol (meaning base k.byte))))
-      (positioned_from (place + 1) group) in
+  symbols_len : (group : List ℕ) (index : ℕ) → StopsAfter group index
+      → prefix_len (λ m. not (not (is_symbol m))) (map (meaning base) group) ≡ index
+  symbols_len [] index s = omega (arith, s.inside)
+  symbols_len (byte ∷ group) zero s =
+      let rest = prefix_len (λ m. not (not (is_symbol m))) (map (meaning base) group) in
       ap (λ b. cond (not (not b)) (1 + rest) 0)
       (holds.others byte (s.are_bytes 0) (s.there (omega arith)))
-  symbols_len place (byte ∷ group) (suc index) s =
-      let rest = prefix_len (λ (k : Positioned). not (not (is_symbol (meaning base k.byte))))
-      (positioned_from (place + 1) group) in
-      let others : rest ≡ index = symbols_len (place + 1) group index (record {
+  symbols_len (byte ∷ group) (suc index) s =
+      let rest = prefix_len (λ m. not (not (is_symbol m))) (map (meaning base) group) in
+      let others : rest ≡ index = symbols_len group index (record {
         are_bytes = λ k. s.are_bytes (suc k);
         before = λ k h. s.before (suc k) (omega (arith, h));
         inside = omega (arith, s.inside);
@@ -58,34 +48,27 @@ module _ (base : Base) (values : List ℕ) (holds : HoldsValues base values) whe
       (holds.symbols byte (s.are_bytes 0) (s.before 0 (omega arith)))
       ∙ ap (λ n. 1 + n) others ∙ omega arith
 
-  module _ (place : ℕ) (group : List ℕ) where
+  module _ (group : List ℕ) where
     position_is : (index : ℕ) → StopsAfter group index
-        → position (λ k. not (is_symbol (meaning base k.byte))) (positioned_from place group)
+        → position (λ m. not (is_symbol m)) (map (meaning base) group)
         ≡ cond (nat_lt index (length group)) (Some index) None
     position_is index s = λ i.
-        cond
-        (nat_lt (symbols_len place group index s i)
-        (length-by_bytes (positioned_from place group) group (bytes-positioned_from place group) i))
-        (Some (symbols_len place group index s i)) None
+        cond (nat_lt (symbols_len group index s i) (length-map group (meaning base) i))
+        (Some (symbols_len group index s i)) None
 
-    -- where each byte is a symbol there is no fault
-    pub invalid_symbol_fault-none : StopsAfter group (length group)
-        → invalid_symbol_fault base (positioned_from place group) ≡ None
-    invalid_symbol_fault-none s =
+    -- where each byte is a symbol none is found
+    pub no_symbol-none : StopsAfter group (length group)
+        → position (λ m. not (is_symbol m)) (map (meaning base) group) ≡ None
+    no_symbol-none s =
         let past : nat_lt (length group) (length group) ≡ false = grind (arith, nat_tests) in
-        ap (λ o. fault_at_first o (positioned_from place group) None)
-        (position_is (length group) s ∙ ap (λ b. cond b (Some (length group)) None) past)
+        position_is (length group) s ∙ ap (λ b. cond b (Some (length group)) None) past
 
-    -- or else it is at the first that is none
-    pub invalid_symbol_fault-some : (index : ℕ) → StopsAfter group index → index < length group
-        → invalid_symbol_fault base (positioned_from place group)
-        ≡ Some (record { position = place + index; kind = SymbolFault })
-    invalid_symbol_fault-some index s h =
+    -- or else the first that is none
+    pub no_symbol-some : (index : ℕ) → StopsAfter group index → index < length group
+        → position (λ m. not (is_symbol m)) (map (meaning base) group) ≡ Some index
+    no_symbol-some index s h =
         let here : nat_lt index (length group) ≡ true = grind (arith, nat_tests) in
-        ap (λ o. fault_at_first o (positioned_from place group) None)
-        (position_is index s ∙ ap (λ b. cond b (Some index) None) here)
-        ∙ ap (λ n. Some (record { position = n; kind = SymbolFault }))
-        (position_of-positioned_from place group index h)
+        position_is index s ∙ ap (λ b. cond b (Some index) None) here
 
 -- whether some bit is not zero
 abbrev some_bit : List ℕ → Bool
@@ -197,28 +180,27 @@ split_last xs x h =
     sym (take_all (last + 1) xs (omega arith)) ∙ take_more xs last 0 inside
     ∙ ap (λ y. take last xs ++ y ∷ []) (get_or_from_slice_get xs last x 0 (sym h))
 
--- Bytes that are all symbols, of a valid number: the last of them has the bits that are left.
-module _ (base : Base) (width : ℕ) (values group : List ℕ) (ks : List Positioned)
-    (width_is : base.width ≡ width) (holds : HoldsValues base values)
-    (same : map (λ (k : Positioned). k.byte) ks ≡ group)
-    (are_bytes : (k : ℕ) → slice_index group k < 256)
-    (low : (k : ℕ) → k < length group → slice_index values (slice_index group k) < 128)
-    (valid : is_valid_count width (length group) ≡ true)
-    (last : ℕ) (is_last : Some last ≡ slice_get group (length group - 1)) where
+-- Bytes that are all symbols, of a valid number, and the last of them.
+pub record EndsWith (values group : List ℕ) (width last : ℕ) : Type 0 where
+  pub are_bytes : (k : ℕ) → slice_index group k < 256
+  pub low : (k : ℕ) → k < length group → slice_index values (slice_index group k) < 128
+  pub valid : is_valid_count width (length group) ≡ true
+  pub is_last : Some last ≡ slice_get group (length group - 1)
+
+-- The last has the bits that are left.
+module _ (base : Base) (width : ℕ) (values group : List ℕ) (width_is : base.width ≡ width)
+    (holds : HoldsValues base values) (last : ℕ) (ends : EndsWith values group width last) where
   few_bits : width * length group % 8 < width
-  few_bits = grind (arith, nat_tests)
+  few_bits = let valid = ends.valid in grind (arith, nat_tests)
 
   trailing_bits-last : (order : BitOrder) → base.order ≡ order
-      → trailing_bits base ks
+      → trailing_bits base (map (meaning base) group)
       ≡ drop (width - width * length group % 8) (bits_of order width (slice_index values last))
   trailing_bits-last order order_is =
       let front = take (length group - 1) group in
-      let split = split_last group last is_last in
-      let found = values_in-table base values ks holds
-      (subst (λ l. (k : ℕ) → slice_index l k < 256) (sym same) are_bytes)
-      (subst (λ l. (k : ℕ) → k < length l → slice_index values (slice_index l k) < 128)
-      (sym same) low)
-      ∙ ap (map (slice_index values)) (same ∙ split)
+      let split = split_last group last ends.is_last in
+      let found = values_in-table base values group holds ends.are_bytes ends.low
+      ∙ ap (map (slice_index values)) split
       ∙ map-append (slice_index values) front (last ∷ []) in
       let count : length group ≡ length (map (slice_index values) front) + 1 =
       ap length split ∙ length-append front (last ∷ [])
@@ -229,7 +211,7 @@ module _ (base : Base) (width : ℕ) (values group : List ℕ) (ks : List Positi
 
   pub some_trailing-most : base.order ≡ MostSignificantFirst
       → not (slice_index values last % 2 ^ (width * length group % 8) == 0)
-      ≡ list_any (λ bit. not (bit == 0)) (trailing_bits base ks)
+      ≡ list_any (λ bit. not (bit == 0)) (trailing_bits base (map (meaning base) group))
   some_trailing-most order_is =
       sym (ap some_bit (trailing_bits-last MostSignificantFirst order_is)
       ∙ last_most width (width * length group % 8) (slice_index values last)
@@ -237,55 +219,14 @@ module _ (base : Base) (width : ℕ) (values group : List ℕ) (ks : List Positi
 
   pub some_trailing-least : base.order ≡ LeastSignificantFirst
       → not (slice_index values last / 2 ^ (width - width * length group % 8) == 0)
-      ≡ list_any (λ bit. not (bit == 0)) (trailing_bits base ks)
+      ≡ list_any (λ bit. not (bit == 0)) (trailing_bits base (map (meaning base) group))
   some_trailing-least order_is =
       let place = length group - 1 in
       let below : slice_index values last < 2 ^ width =
       subst (λ byte. slice_index values byte < 2 ^ width)
-      (get_or_from_slice_get group place last 0 (sym is_last))
-      (entries_below base width values group are_bytes low width_is holds place
-      (last_inside group place last is_last)) in
+      (get_or_from_slice_get group place last 0 (sym ends.is_last))
+      (entries_below base width values group ends.are_bytes ends.low width_is holds place
+      (last_inside group place last ends.is_last)) in
       sym (ap some_bit (trailing_bits-last LeastSignificantFirst order_is)
       ∙ last_least width (width * length group % 8) (slice_index values last)
       (omega (arith, few_bits)) below)
-
--- The fault of a group of valid length: that of its symbols, or else that of the bits left over.
-module _ (base : Base) (width place : ℕ) (group : List ℕ) (width_is : base.width ≡ width)
-    (valid : is_valid_count width (length group) ≡ true) where
-  length_is : length (positioned_from place group) ≡ length group
-  length_is =
-      length-by_bytes (positioned_from place group) group (bytes-positioned_from place group)
-
-  valid_here : is_valid_count base.width (length (positioned_from place group)) ≡ true
-  valid_here = (λ i. is_valid_count (width_is i) (length_is i)) ∙ valid
-
-  pub positioned-symbol : (error : DecodeError)
-      → invalid_symbol_fault base (positioned_from place group) ≡ Some error
-      → plain_fault base (positioned_from place group) ≡ Some error
-  positioned-symbol error h =
-      plain_fault-valid base (positioned_from place group) valid_here
-      ∙ symbols_fault-symbol base (positioned_from place group) error h
-
-  pub positioned-trailing : invalid_symbol_fault base (positioned_from place group) ≡ None
-      → base.checks_trailing_bits ≡ true
-      → list_any (λ bit. not (bit == 0)) (trailing_bits base (positioned_from place group)) ≡ true
-      → 0 < length group
-      → plain_fault base (positioned_from place group)
-      ≡ Some (record { position = place + length group - 1; kind = TrailingFault })
-  positioned-trailing h checks some inside =
-      let ks = positioned_from place group in
-      plain_fault-valid base ks valid_here ∙ symbols_fault-symbols base ks h
-      ∙ (λ i. cond (checks i && some i) (fault_at TrailingFault ks (length ks - 1)) None)
-      ∙ ap (λ n. fault_at TrailingFault ks (n - 1)) length_is
-      ∙ ap (λ n. Some (record { position = n; kind = TrailingFault }))
-      (position_of-positioned_from place group (length group - 1) (omega arith) ∙ omega arith)
-
-  pub positioned-none : invalid_symbol_fault base (positioned_from place group) ≡ None
-      → (base.checks_trailing_bits
-      && list_any (λ bit. not (bit == 0)) (trailing_bits base (positioned_from place group)))
-      ≡ false
-      → plain_fault base (positioned_from place group) ≡ None
-  positioned-none h quiet =
-      let ks = positioned_from place group in
-      plain_fault-valid base ks valid_here ∙ symbols_fault-symbols base ks h
-      ∙ ap (λ b. cond b (fault_at TrailingFault ks (length ks - 1)) None) quiet

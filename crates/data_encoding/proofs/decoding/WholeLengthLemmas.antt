@@ -2,8 +2,8 @@
 use Rattle.std.proofs.Common.{◌≡◌, ℕ, ◌*◌, ◌/◌, ◌%◌, ◌≤◌, ◌==◌, nat_lt, Bool, true, false, not, ◌&&◌, ◌||◌, List, [], ◌∷◌, None, is_none, Ok, refl, sym, ap, ◌∙◌, subst, arith}
 use Rattle.std.proofs.Math.Nat.{mul-mod_left}
 use Rattle.std.specs.List.{list_any}
-use Rattle.data_encoding.specs.Base.{Base, IsWidth, group_bytes, group_symbols, is_padded, is_padding, meaning}
-use Rattle.data_encoding.specs.Grammar.{Positioned, is_final}
+use Rattle.data_encoding.specs.Base.{Base, IsWidth, group_bytes, group_symbols, is_padded, is_padding}
+use Rattle.data_encoding.specs.Grammar.{Positioned, is_final, meanings_in}
 use Rattle.data_encoding.specs.Lengths.{decoded_len, most_bytes}
 use Rattle.data_encoding.proofs.digits.WidthLemmas.{by_width}
 use Rattle.data_encoding.proofs.grammar.LengthLemmas.{decoded_len-valid, is_valid_length-by, most_bytes-by}
@@ -85,7 +85,7 @@ pub none_final-joined : (base : Base) → base.concatenates ≡ true → (gs : L
     → list_any (is_final base) gs ≡ false
 none_final-joined base joins [] = refl
 none_final-joined base joins (g ∷ gs) = λ i.
-    (not (joins i) && list_any (λ k. is_padding (meaning base k.byte)) g)
+    (not (joins i) && list_any is_padding (meanings_in base g))
     || none_final-joined base joins gs i
 
 -- and texts without padding may be

@@ -11,7 +11,7 @@ use Rattle.std.specs.Simd.{first_chunks}
 use Rattle.data_encoding.specs.declared.encoding.BitOrder.{BitOrder}
 use Rattle.data_encoding.specs.Base.{Base, meaning, symbol, value_of}
 use Rattle.data_encoding.specs.Bits.{bits_of, number_of, bits_of_bytes, missing, runs}
-use Rattle.data_encoding.specs.Fault.{bytes_of_group}
+use Rattle.data_encoding.specs.Fault.{bytes_of_group, symbol_bytes}
 use Rattle.data_encoding.specs.Grammar.{Positioned}
 use Rattle.data_encoding.specs.Tables.{HoldsValues, IsGroup, Reads, Writes}
 use Rattle.data_encoding.specs.Text.{plain_text}
@@ -179,19 +179,16 @@ bytes_by-word order width bytes count n values same few is =
     ∙ ap (λ m. map (number_of order) (first_chunks 8 m front)) (sym count_of)
 
 -- the values of symbols are what the table says of them
-pub values_in-table : (base : Base) (values : List ℕ) (ks : List Positioned) → HoldsValues base
-    values
-    → ((k : ℕ) → slice_index (map (λ (p : Positioned). p.byte) ks) k < 256)
-    → ((k : ℕ) → k < length (map (λ (p : Positioned). p.byte) ks)
-    → slice_index values (slice_index (map (λ (p : Positioned). p.byte) ks) k) < 128)
-    → filter_map (λ k. value_of (meaning base k.byte)) ks
-    ≡ map (slice_index values) (map (λ (p : Positioned). p.byte) ks)
+pub values_in-table : (base : Base) (values input : List ℕ) → HoldsValues base values
+    → ((k : ℕ) → slice_index input k < 256)
+    → ((k : ℕ) → k < length input → slice_index values (slice_index input k) < 128)
+    → filter_map value_of (map (meaning base) input) ≡ map (slice_index values) input
 values_in-table base values [] holds fits low = refl
-values_in-table base values (k ∷ ks) holds fits low =
-    ap (λ m. cons_option (value_of m) (filter_map (λ j. value_of (meaning base j.byte)) ks))
-    (holds.symbols k.byte (fits 0) (low 0 (omega arith)))
-    ∙ ap (λ l. slice_index values k.byte ∷ l)
-    (values_in-table base values ks holds (λ j. fits (suc j))
+values_in-table base values (byte ∷ input) holds fits low =
+    ap (λ m. cons_option (value_of m) (filter_map value_of (map (meaning base) input)))
+    (holds.symbols byte (fits 0) (low 0 (omega arith)))
+    ∙ ap (λ l. slice_index values byte ∷ l)
+    (values_in-table base values input holds (λ j. fits (suc j))
     (λ j below. low (suc j) (omega arith)))
 
 -- the first bytes of the word of the symbols of a group are the bytes of the group
@@ -208,16 +205,11 @@ bytes_of_group-word base order width bytes count n values input ks group few is 
     let same = group_same_bits width bytes count group in
     let len : length (map (slice_index values) input) ≡ length input =
     length-map input (slice_index values) in
-    let found : filter_map (λ (k : Positioned). value_of (meaning base k.byte)) ks
-    ≡ map (slice_index values) input =
-    values_in-table base values ks reads.holds
-    (subst (λ l. (k : ℕ) → slice_index l k < 256) (sym e) fits)
-    (subst (λ l. (k : ℕ) → k < length l → slice_index values (slice_index l k) < 128) (sym e)
-    low)
-    ∙ ap (map (slice_index values)) e in
+    let found = values_in-table base values input reads.holds fits low in
     bytes_by-word order width bytes count n (map (slice_index values) input) same (omega arith)
     (is ∙ ap (λ m. width * m / 8) (sym len))
     ∙ sym (λ i. bytes_by (reads.order_is i) (reads.width_is i) (found i))
+    ∙ ap (λ l. symbol_bytes base (map (meaning base) l)) (sym e)
 
 -- entries below 128 are values
 pub entries_below : (base : Base) (width : ℕ) (values input : List ℕ)

@@ -2,18 +2,18 @@
 use Rattle.std.proofs.Common.{◌≡◌, ℕ, zero, suc, ◌+◌, ◌*◌, ◌/◌, ◌%◌, ◌<◌, ◌≤◌, ◌==◌, nat_lt, Bool, true, false, not, cond, ◌&&◌, List, [], ◌∷◌, ◌++◌, map, length, Option, Some, None, is_some, refl, sym, ap, ◌∙◌, subst, arith, length-append}
 use Rattle.std.proofs.lemmas.List.Concat.{flat_map-append}
 use Rattle.std.specs.Prelude.{flat_map}
-use Rattle.std.specs.List.{AllByRecursion}
+use Rattle.std.specs.List.{AllByRecursion, list_any}
 use Rattle.data_encoding.specs.declared.error.DecodeError.{DecodeError}
 use Rattle.data_encoding.specs.declared.error.DecodeKind.TheVariants.{Length as LengthFault, Padding as PaddingFault}
-use Rattle.data_encoding.specs.Base.{Base, IsWidth, meaning, is_ignored, is_padded, ignores_some, group_symbols}
+use Rattle.data_encoding.specs.Base.{Base, IsWidth, meaning, is_ignored, is_padded, ignores_some, group_symbols, is_padding}
 use Rattle.data_encoding.specs.Bits.{runs}
-use Rattle.data_encoding.specs.Grammar.{Positioned, kept, groups, is_final, Means, kept_in}
+use Rattle.data_encoding.specs.Grammar.{Positioned, kept, groups, is_final, Means, kept_in, bytes_in}
 use Rattle.data_encoding.specs.Lengths.{greatest_valid_count, greatest_valid_length, is_valid_count, is_valid_length, length_fault}
-use Rattle.data_encoding.specs.Fault.{bytes_of_group, fault_after, fault_of, first_after, first_fault, or_else, position_of, sound_after, sound_bytes}
+use Rattle.data_encoding.specs.Fault.{bytes_of_group, fault_after, fault_of, first_after, first_fault, or_else, position_of, sound_after, sound_bytes, group_fault, located, symbol_bytes}
 use Rattle.data_encoding.specs.Laws.{MayBeFollowed, further}
 use Rattle.data_encoding.specs.Decoding.{AreSound}
 use Rattle.data_encoding.proofs.digits.WidthLemmas.{by_width, group_symbols-pos}
-use Rattle.data_encoding.proofs.grammar.GroupLemmas.{bytes_in, bytes_of_group-same, group_fault-further, is_final-same}
+use Rattle.data_encoding.proofs.grammar.GroupLemmas.{group_fault-inside, located-further}
 use Rattle.data_encoding.proofs.grammar.JoinLemmas.{followed, joined}
 use Rattle.data_encoding.proofs.grammar.LengthLemmas.{greatest_valid_length-by, is_valid_length-by}
 use Rattle.data_encoding.proofs.grammar.MeaningLemmas.{no_fault-Means, sound_bytes-Means}
@@ -166,13 +166,15 @@ module _ (base : Base) (width : IsWidth base.width) where
       ap (λ n. Some (record { position = n; kind = PaddingFault }))
       (position_of-moved count group 0 some)
   fault_after-moved count false group some few =
-      group_fault-further base width group (moved count group) count (bytes-moved count group)
-      (position_of-moved count group) some few
+      ap (λ l. located (moved count group) (group_fault base l)) (bytes-moved count group)
+      ∙ located-further group (moved count group) count (group_fault base (bytes_in group))
+      (group_fault-inside base width group some few) (position_of-moved count group)
 
   pub final-moved : (count : ℕ) (group : List Positioned)
       → is_final base (moved count group) ≡ is_final base group
   final-moved count group =
-      is_final-same base (moved count group) group (bytes-moved count group)
+      ap (λ l. not base.concatenates && list_any is_padding (map (meaning base) l))
+      (bytes-moved count group)
 
   pub first-moved : (count : ℕ) (ended : Bool) (gs : List (List Positioned)) → AreFew gs
       → first_after ended base (map (moved count) gs) ≡ further count (first_after ended base gs)
@@ -195,7 +197,7 @@ module _ (base : Base) (width : IsWidth base.width) where
       ≡ is_some (fault_after ended base g) =
       ap is_some (fault_after-moved count ended g few.0.0 few.0.1)
       ∙ is_some-further count (fault_after ended base g) in
-      let here = bytes_of_group-same base (moved count g) g (bytes-moved count g) in
+      let here = ap (λ l. symbol_bytes base (map (meaning base) l)) (bytes-moved count g) in
       (λ i. flat_map (bytes_of_group base) (cond (faulty i) []
       (moved count g ∷ sound_after (final-moved count g i) base (map (moved count) gs))))
       ∙ by (is_some (fault_after ended base g)) here

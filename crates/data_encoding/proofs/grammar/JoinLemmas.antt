@@ -1,19 +1,21 @@
 -- Texts one after the other.
-use Rattle.std.proofs.Common.{◌≡◌, ℕ, ◌⊎◌, flat_map, ◌+◌, ◌*◌, ◌%◌, ◌<◌, ◌==◌, Bool, true, false, not, ◌&&◌, List, [], ◌∷◌, ◌++◌, length, Option, Some, None, is_some, inl, inr, refl, sym, ap, ◌∙◌, subst, arith, append_assoc, ⊎_elim}
+use Rattle.std.proofs.Common.{◌≡◌, ℕ, ◌⊎◌, flat_map, ◌+◌, ◌*◌, ◌%◌, ◌<◌, ◌==◌, Bool, true, false, not, ◌&&◌, List, [], ◌∷◌, ◌++◌, length, Option, Some, None, is_some, inl, inr, refl, sym, ap, ◌∙◌, subst, arith, append_assoc, ⊎_elim, map}
 use Rattle.std.proofs.Math.Nat.{mul-mod_left}
 use Rattle.std.proofs.lemmas.Bool.{false≢true}
 use Rattle.std.proofs.lemmas.List.Elements.{All-filter, recursion_from_All}
 use Rattle.std.specs.Prelude.{All}
 use Rattle.std.specs.List.{filter, list_any}
+use Rattle.data_encoding.proofs.grammar.PositionLemmas.{length-meanings, meanings-append}
+use Rattle.data_encoding.specs.declared.encoding.Character.{Character}
 use Rattle.data_encoding.specs.Base.{Base, IsWidth, meaning, is_ignored, is_padded, is_padding, group_symbols}
 use Rattle.data_encoding.specs.Bits.{runs}
-use Rattle.data_encoding.specs.Grammar.{Positioned, kept, groups, PlainMeans, GroupsMean, Means, MeansBy, is_final, kept_in}
+use Rattle.data_encoding.specs.Grammar.{Positioned, kept, groups, PlainMeans, GroupsMean, Means, MeansBy, is_final, kept_in, bytes_in, meanings_in}
 use Rattle.data_encoding.specs.Laws.{MayBeFollowed}
 use Rattle.data_encoding.proofs.digits.WidthLemmas.{by_width, group_symbols-pos}
-use Rattle.data_encoding.proofs.grammar.GroupLemmas.{bytes_in, fail-meanings, symbols_alone}
+use Rattle.data_encoding.proofs.grammar.GroupLemmas.{symbols_alone}
 use Rattle.data_encoding.proofs.grammar.KeptLemmas.{kept_in-append}
 use Rattle.data_encoding.proofs.grammar.PaddedMeaningLemmas.{length-groups}
-use Rattle.data_encoding.proofs.grammar.SameBytesLemmas.{bytes-kept_in, GroupsMean-same, PlainMeans-same}
+use Rattle.data_encoding.proofs.grammar.SameBytesLemmas.{GroupsMean-alike, bytes-kept_in}
 use Rattle.data_encoding.proofs.grammar.UnpaddedGrammarLemmas.{PlainMeans-append}
 use Rattle.data_encoding.proofs.grammar.UnpaddedGroupLemmas.{PlainMeans-count}
 use Rattle.data_encoding.proofs.lists.EachLemmas.{all_parts}
@@ -70,26 +72,27 @@ module _ (base : Base) (ruled : IsRuled base) where
       → AllFail (is_final base) gs
   never_final joins [] = tt
   never_final joins (g ∷ gs) =
-      (ap (λ b. not b && list_any (λ k. pads k.byte) g) joins, never_final joins gs)
+      (ap (λ b. not b && list_any is_padding (meanings_in base g)) joins, never_final joins gs)
 
   no_padding : (b : Bool) → (b && false) ≡ false
   no_padding true = refl
   no_padding false = refl
 
   no_final : (gs : List (List Positioned))
-      → AllFail (λ k. pads k.byte) (flat_map (λ g. g) gs) → AllFail (is_final base) gs
+      → AllFail is_padding (meanings_in base (flat_map (λ g. g) gs)) → AllFail (is_final base) gs
   no_final [] h = tt
   no_final (g ∷ gs) h =
       let others = flat_map (λ g. g) gs in
-      let parts = all_parts (λ (k : Positioned). pads k.byte ≡ false) g others h in (
-        ap (λ b. not base.concatenates && b) (list_any-none (λ k. pads k.byte) g parts.0)
+      let parts = all_parts (λ m. is_padding m ≡ false) (meanings_in base g)
+      (meanings_in base others) (subst (AllFail is_padding) (meanings-append base g others) h) in (
+        ap (λ b. not base.concatenates && b) (list_any-none is_padding (meanings_in base g) parts.0)
             ∙ no_padding (not base.concatenates),
         no_final gs parts.1,
       )
 
-  of_bytes : (ks : List Positioned) → AllFail pads (bytes_in ks) → AllFail (λ k. pads k.byte) ks
+  of_bytes : (bytes : List ℕ) → AllFail pads bytes → AllFail is_padding (map (meaning base) bytes)
   of_bytes [] h = tt
-  of_bytes (k ∷ ks) h = (h.0, of_bytes ks h.1)
+  of_bytes (byte ∷ bytes) h = (h.0, of_bytes bytes h.1)
 
   module _ (text after bytes more : List ℕ) where
     abbrev rest : List Positioned
@@ -101,19 +104,20 @@ module _ (base : Base) (ruled : IsRuled base) where
     same : bytes_in (kept base after) ≡ bytes_in rest
     same = bytes-kept_in base 0 after ∙ sym (bytes-kept_in base (0 + length text) after)
 
-    none_kept : All (λ byte. pads byte ≡ false) text → AllFail (λ k. pads k.byte) (kept base text)
+    none_kept : All (λ byte. pads byte ≡ false) text
+        → AllFail is_padding (meanings_in base (kept base text))
     none_kept h =
         let keeps : ℕ → Bool = λ byte. not (is_ignored (meaning base byte)) in
-        of_bytes (kept base text)
+        of_bytes (bytes_in (kept base text))
         (subst (AllFail pads) (sym (bytes-kept_in base 0 text))
         (recursion_from_All (λ byte. pads byte ≡ false) (filter keeps text)
         (All-filter keeps (λ byte. pads byte ≡ false) text h)))
 
-    none_final-kept : AllFail (λ k. pads k.byte) (kept base text)
+    none_final-kept : AllFail is_padding (meanings_in base (kept base text))
         → AllFail (is_final base) (groups base text)
     none_final-kept h =
         no_final (groups base text)
-        (subst (AllFail (λ k. pads k.byte))
+        (subst (λ ks. AllFail is_padding (meanings_in base ks))
         (sym (flat_map-runs size (kept base text) (group_symbols-pos base.width width))) h)
 
     none_final : (base.concatenates ≡ true) ⊎ All (λ byte. pads byte ≡ false) text
@@ -122,17 +126,21 @@ module _ (base : Base) (ruled : IsRuled base) where
         ⊎_elim (λ joins. never_final joins (groups base text))
         (λ unpadded. none_final-kept (none_kept unpadded)) h
 
-    plain_join : 8 % base.width ≡ 0 → PlainMeans base (kept base text) bytes
-        → PlainMeans base (kept base after) more
-        → PlainMeans base (kept base (text ++ after)) (bytes ++ more)
+    abbrev meant : List Character
+    meant = meanings_in base (kept base text)
+
+    plain_join : 8 % base.width ≡ 0 → PlainMeans base (meanings_in base (kept base text)) bytes
+        → PlainMeans base (meanings_in base (kept base after)) more
+        → PlainMeans base (meanings_in base (kept base (text ++ after))) (bytes ++ more)
     plain_join divides first second =
-        let count = PlainMeans-count base width (kept base text) bytes first in
-        let none = none_left base.width width (length (kept base text)) (length bytes)
-        (length first.rest) divides count first.rest_is_short in
-        subst (λ ks. PlainMeans base ks (bytes ++ more)) (sym joined)
-        (PlainMeans-append base width (kept base text) rest bytes more (length bytes)
+        let count = PlainMeans-count base width meant bytes first in
+        let none = none_left base.width width (length meant) (length bytes) (length first.rest)
+        divides count first.rest_is_short in
+        subst (λ ms. PlainMeans base ms (bytes ++ more))
+        (sym (ap (meanings_in base) joined ∙ meanings-append base (kept base text) rest))
+        (PlainMeans-append base width meant (meanings_in base rest) bytes more (length bytes)
         (omega (arith, count, none)) first
-        (PlainMeans-same base (kept base after) rest more same second))
+        (subst (λ l. PlainMeans base (map (meaning base) l) more) same second))
 
     pub whole-padded : is_padded base ≡ true → GroupsMean base (groups base text) bytes
         → length (kept base text) % size ≡ 0
@@ -140,14 +148,14 @@ module _ (base : Base) (ruled : IsRuled base) where
         ap (λ n. n % size) (length-groups base width padded text bytes means)
         ∙ mul-mod_left (length (groups base text)) size
 
-    pub whole-plain : 8 % base.width ≡ 0 → PlainMeans base (kept base text) bytes
+    pub whole-plain : 8 % base.width ≡ 0 → PlainMeans base (meanings_in base (kept base text)) bytes
         → length (kept base text) % size ≡ 0
     whole-plain divides means =
-        let count = PlainMeans-count base width (kept base text) bytes means in
-        let none = none_left base.width width (length (kept base text)) (length bytes)
-        (length means.rest) divides count means.rest_is_short in
-        whole_symbols base.width width (length (kept base text)) (length bytes)
-        (omega (arith, count, none))
+        let count = PlainMeans-count base width meant bytes means in
+        let none = none_left base.width width (length meant) (length bytes) (length means.rest)
+        divides count means.rest_is_short in
+        ap (λ n. n % size) (sym (length-meanings base (kept base text)))
+        ∙ whole_symbols base.width width (length meant) (length bytes) (omega (arith, count, none))
 
     -- where another text may follow, the groups are whole and none is final
     pub followed : MayBeFollowed base text → Means base text bytes
@@ -160,8 +168,8 @@ module _ (base : Base) (ruled : IsRuled base) where
           absurd (false≢true (sym (ap is_some is) ∙ follows.0))
       by None is h (inr divides) means = (
         whole-plain divides means,
-        none_final-kept (fail-meanings base (kept base text)
-            (subst (AllFail is_padding) (sym means.are_symbols) (symbols_alone means.values))),
+        none_final-kept
+            (subst (AllFail is_padding) (sym means.are_symbols) (symbols_alone means.values)),
       )
       by (Some character) is h (inl follows) means =
           (whole-padded (ap is_some is) means, none_final follows.1)
@@ -178,7 +186,8 @@ module _ (base : Base) (ruled : IsRuled base) where
         (sym (ap (runs size) joined
         ∙ runs-join size (kept base text) rest (group_symbols-pos base.width width) exact))
         (GroupsMean-append (groups base text) (runs size rest) bytes more (none_final follows) first
-        (GroupsMean-same base width padded (kept base after) rest more same second))
+        (GroupsMean-alike base width (kept base after) rest more (ap (map (meaning base)) same)
+        second))
 
     pub Means-join : MayBeFollowed base text → Means base text bytes → Means base after more
         → Means base (text ++ after) (bytes ++ more)

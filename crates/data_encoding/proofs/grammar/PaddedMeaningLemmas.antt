@@ -1,20 +1,22 @@
 -- A text of a padded base means something exactly where it has no fault.
-use Rattle.std.proofs.Common.{◌≡◌, ℕ, zero, suc, ◌+◌, ◌*◌, ◌/◌, ◌%◌, ◌≤◌, Bool, true, false, List, [], ◌∷◌, ◌++◌, length, drop, None, refl, sym, ap, ◌∙◌, subst, arith, length-append, length-take}
+use Rattle.std.proofs.Common.{◌≡◌, ℕ, zero, suc, ◌+◌, ◌*◌, ◌/◌, ◌%◌, ◌≤◌, Bool, true, false, List, [], ◌∷◌, ◌++◌, length, drop, None, refl, sym, ap, ◌∙◌, subst, arith, length-append, length-take, replicate}
 use Rattle.std.proofs.lemmas.Bool.Decides.{nat_tests}
 use Rattle.std.proofs.Math.Nat.{mul-mod_left, mul-le-mul_right, mul-le-mul_left, add_comm, zero-mul, suc-mul, le-div_iff_mul-le}
 use Rattle.std.specs.Prelude.{flat_map}
 use Rattle.std.specs.Simd.{first_chunks}
 use Rattle.std.specs.List.{AllByRecursion}
+use Rattle.data_encoding.specs.declared.encoding.Character.TheVariants.{Padding}
+use Rattle.data_encoding.specs.declared.encoding.Character.{Character}
 use Rattle.data_encoding.specs.Base.{Base, is_padded, group_symbols, group_bytes, IsWidth}
-use Rattle.data_encoding.specs.Grammar.{Positioned, kept, groups, GroupMeans, GroupsMean, is_final}
+use Rattle.data_encoding.specs.Grammar.{Positioned, kept, groups, GroupMeans, GroupsMean, is_final, meanings_in}
 use Rattle.data_encoding.specs.Lengths.{length_fault, most_bytes}
-use Rattle.data_encoding.specs.Fault.{bytes_of_group, fault_after, fault_of, first_fault, or_else, sound_bytes}
+use Rattle.data_encoding.specs.Fault.{bytes_of_group, fault_after, fault_of, first_fault, or_else, sound_bytes, located}
 use Rattle.data_encoding.specs.Decoding.{AreSound}
 use Rattle.data_encoding.proofs.digits.WidthLemmas.{group_bits, group_symbols-pos}
 use Rattle.data_encoding.proofs.lists.RunLemmas.{flat_map-runs}
 use Rattle.data_encoding.proofs.grammar.UnpaddedGroupLemmas.{PlainMeans-count}
 use Rattle.data_encoding.proofs.grammar.GroupLemmas.{GroupMeans-sound, GroupMeans-no_fault, GroupMeans-bytes}
-use Rattle.data_encoding.proofs.grammar.PositionLemmas.{length-kept, length-kept_plain}
+use Rattle.data_encoding.proofs.grammar.PositionLemmas.{length-kept, length-kept_plain, length-meanings}
 use Rattle.data_encoding.proofs.grammar.LengthLemmas.{length_fault-none, is_valid_length-by, most_bytes-by}
 use Rattle.data_encoding.proofs.grammar.SoundLemmas.{AreSound-none, ends_after, fault_after-none, neither_fault, first-none, sound-all}
 
@@ -43,7 +45,8 @@ module _ (base : Base) (width : IsWidth base.width) (padded : is_padded base ≡
     bytes_of_group base g,
     flat_map (bytes_of_group base) gs,
     refl,
-    GroupMeans-sound base width padded g few.0 (fault_after-none base begun g h.0).1,
+    GroupMeans-sound base width padded (meanings_in base g)
+        (omega (arith, few.0, length-meanings base g)) (fault_after-none base begun g h.0).1,
     (λ final. none_follow base ended gs (subst (λ b. AreSound base b gs ended) final h.1)),
     GroupsMean-sound (is_final base g) ended gs few.1 h.1,
   )
@@ -57,13 +60,15 @@ module _ (base : Base) (width : IsWidth base.width) (padded : is_padded base ≡
       (here begun last, sound-GroupsMean (is_final base g) gs h.1 h.4 h.5) where
         here : (b : Bool) → (b ≡ true → g ∷ gs ≡ []) → fault_after b base g ≡ None
         here true none = let never = none refl in cc
-        here false none = GroupMeans-no_fault base width padded g h.0 h.3
+        here false none =
+            ap (located g) (GroupMeans-no_fault base width padded (meanings_in base g) h.0 h.3)
 
   bytes-GroupsMean : (gs : List (List Positioned)) (bytes : List ℕ) → GroupsMean base gs bytes
       → flat_map (bytes_of_group base) gs ≡ bytes
   bytes-GroupsMean [] bytes h = sym h
   bytes-GroupsMean (g ∷ gs) bytes h =
-      (λ i. GroupMeans-bytes base width padded g h.0 h.3 i ++ bytes-GroupsMean gs h.1 h.5 i)
+      (λ i. GroupMeans-bytes base width padded (meanings_in base g) h.0 h.3 i
+      ++ bytes-GroupsMean gs h.1 h.5 i)
       ∙ sym h.2
 
   -- they are whole
@@ -72,19 +77,19 @@ module _ (base : Base) (width : IsWidth base.width) (padded : is_padded base ≡
   whole-GroupsMean [] bytes h = sym (zero-mul (group_symbols base.width))
   whole-GroupsMean (g ∷ gs) bytes h =
       length-append g (flat_map (λ x. x) gs)
-      ∙ (λ i. h.3.is_whole i + whole-GroupsMean gs h.1 h.5 i)
+      ∙ (λ i. (sym (length-meanings base g) ∙ h.3.is_whole) i + whole-GroupsMean gs h.1 h.5 i)
       ∙ add_comm (group_symbols base.width) (length gs * group_symbols base.width)
       ∙ sym (suc-mul (length gs) (group_symbols base.width))
 
   -- and each means at most the bytes of a whole group
-  most-GroupMeans : (g : List Positioned) (bytes : List ℕ) → GroupMeans base g bytes
+  most-GroupMeans : (g : List Character) (bytes : List ℕ) → GroupMeans base g bytes
       → length bytes ≤ group_bytes base.width
   most-GroupMeans g bytes means =
       let count = PlainMeans-count base width means.symbols bytes means.means in
       let few : length means.symbols ≤ group_symbols base.width =
       omega (
         arith,
-        sym (length-append means.symbols means.padding) ∙ ap length (sym means.is_group),
+        sym (length-append means.symbols (replicate means.padding Padding)) ∙ ap length (sym means.is_group),
         means.is_whole,
       ) in
       let bits = mul-le-mul_left base.width few in
@@ -98,7 +103,7 @@ module _ (base : Base) (width : IsWidth base.width) (padded : is_padded base ≡
         arith,
         ap length h.2,
         length-append h.0 h.1,
-        most-GroupMeans g h.0 h.3,
+        most-GroupMeans (meanings_in base g) h.0 h.3,
         most-GroupsMean gs h.1 h.5,
         suc-mul (length gs) (group_bytes base.width),
       )

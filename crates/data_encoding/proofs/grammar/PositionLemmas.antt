@@ -6,9 +6,12 @@ use Rattle.std.specs.List.{AllByRecursion, enumerate_from, filter}
 use Rattle.data_encoding.specs.declared.encoding.Character.{Character}
 use Rattle.data_encoding.specs.declared.encoding.Character.TheVariants.{Invalid}
 use Rattle.data_encoding.specs.Base.{Base, meaning, is_ignored, ignores_some}
-use Rattle.data_encoding.specs.Grammar.{Positioned, positioned, positioned_from, kept}
+use Rattle.data_encoding.specs.Grammar.{Positioned, bytes_in, positioned, positioned_from, kept, meanings_in}
 use Rattle.data_encoding.specs.Fault.{position_of}
+use Rattle.data_encoding.specs.Bits.{runs}
+use Rattle.data_encoding.proofs.digits.WordLemmas.{map-twice}
 use Rattle.data_encoding.proofs.lists.ListLemmas.{AllFail, AllFail-list_any, filter-all, length-filter}
+use Rattle.data_encoding.proofs.lists.RunLemmas.{runs-map}
 
 enumerate_from-append : (n : ℕ) (xs ys : List ℕ)
     → enumerate_from n (xs ++ ys) ≡ enumerate_from n xs ++ enumerate_from (n + length xs) ys
@@ -32,13 +35,25 @@ length-positioned_from place text =
     length-map (enumerate_from place text) (λ (p : ℕ × ℕ). record { position = p.0; byte = p.1 })
     ∙ length-enumerate_from place text
 
-pub take-positioned_from : (place count : ℕ) (group : List ℕ)
-    → take count (positioned_from place group) ≡ positioned_from place (take count group)
-take-positioned_from place zero group = refl
-take-positioned_from place (suc count) [] = refl
-take-positioned_from place (suc count) (byte ∷ group) =
-    ap (λ l. record { position = place; byte = byte } ∷ l)
-    (take-positioned_from (place + 1) count group)
+-- what the bytes of a group mean is as long as the group
+pub length-meanings : (base : Base) (ks : List Positioned)
+    → length (meanings_in base ks) ≡ length ks
+length-meanings base ks =
+    length-map (bytes_in ks) (meaning base) ∙ length-map ks (λ (k : Positioned). k.byte)
+
+pub meanings-append : (base : Base) (ks js : List Positioned)
+    → meanings_in base (ks ++ js) ≡ meanings_in base ks ++ meanings_in base js
+meanings-append base [] js = refl
+meanings-append base (k ∷ ks) js = ap (λ l. meaning base k.byte ∷ l) (meanings-append base ks js)
+
+-- of each run of some bytes, what its bytes mean
+pub runs-meanings : (base : Base) (size : ℕ) (ks : List Positioned) → 0 < size
+    → runs size (meanings_in base ks) ≡ map (meanings_in base) (runs size ks)
+runs-meanings base size ks some =
+    let byte_of : Positioned → ℕ = λ k. k.byte in
+    runs-map size (meaning base) (bytes_in ks) some
+    ∙ ap (map (map (meaning base))) (runs-map size byte_of ks some)
+    ∙ map-twice (map (meaning base)) (map byte_of) (runs size ks)
 
 -- the characters of a group are its bytes, each at its place
 pub bytes-positioned_from : (place : ℕ) (group : List ℕ)

@@ -1,18 +1,37 @@
 -- Texts whose bytes mean the same one by one mean the same, and have the same fault.
-use Rattle.std.proofs.Common.{◌≡◌, ℕ, ◌+◌, Bool, true, false, not, cond, List, [], ◌∷◌, length, map, refl, sym, ap, ◌∙◌}
+use Rattle.std.proofs.Common.{◌≡◌, ℕ, ◌+◌, ◌&&◌, Bool, true, false, not, cond, List, [], ◌∷◌, length, map, Option, Some, None, get_or, refl, sym, ap, ◌∙◌}
 use Rattle.std.proofs.lemmas.List.{length-map}
+use Rattle.std.proofs.Math.ListN.{get_or-map}
+use Rattle.std.specs.List.{list_any}
+use Rattle.data_encoding.specs.declared.decode.group.GroupFault.{GroupFault}
 use Rattle.data_encoding.specs.declared.encoding.Character.{Character}
+use Rattle.data_encoding.specs.declared.error.DecodeKind.{DecodeKind}
 use Rattle.data_encoding.specs.declared.error.DecodeKind.TheVariants.{Padding as PaddingFault}
-use Rattle.data_encoding.specs.Base.{Base, IsWidth, meaning, is_ignored, group_symbols}
+use Rattle.data_encoding.specs.Base.{Base, IsWidth, meaning, is_ignored, is_padding, group_symbols}
 use Rattle.data_encoding.specs.Bits.{runs}
-use Rattle.data_encoding.specs.Grammar.{Positioned, Means, groups, is_final, kept, kept_in}
-use Rattle.data_encoding.specs.Fault.{fault_after, fault_of, first_after, or_else}
+use Rattle.data_encoding.specs.Grammar.{Positioned, Means, bytes_in, groups, is_final, kept, kept_in, meanings_in}
+use Rattle.data_encoding.specs.Fault.{character_fault, fault_after, fault_at, fault_of, first_after, group_fault, located, or_else}
 use Rattle.data_encoding.specs.Lengths.{length_fault}
 use Rattle.data_encoding.proofs.digits.WidthLemmas.{group_symbols-pos}
 use Rattle.data_encoding.proofs.digits.WordLemmas.{map-twice}
-use Rattle.data_encoding.proofs.grammar.GroupLemmas.{fault_at-alike, group_fault-alike, is_final-alike, meanings_in}
 use Rattle.data_encoding.proofs.grammar.SameBytesLemmas.{Means-alike}
 use Rattle.data_encoding.proofs.lists.RunLemmas.{runs-map}
+
+-- Members that stand at the same positions have their faults there.
+module _ (ks js : List Positioned)
+    (stand : map (λ (k : Positioned). k.position) ks ≡ map (λ (k : Positioned). k.position) js)
+  where
+    fault_at-alike : (kind : DecodeKind) (index : ℕ) → fault_at kind ks index ≡ fault_at kind js index
+    fault_at-alike kind index =
+        let first : Positioned = record { position = 0; byte = 0 } in
+        ap (λ n. Some (record { position = n; kind = kind }))
+        (sym (get_or-map (λ (k : Positioned). k.position) ks index first)
+        ∙ ap (λ l. get_or l index 0) stand
+        ∙ get_or-map (λ (k : Positioned). k.position) js index first)
+
+    located-alike : (o : Option GroupFault) → located ks o ≡ located js o
+    located-alike None = refl
+    located-alike (Some fault) = fault_at-alike fault.kind fault.index
 
 module _ (base : Base) where
   -- the position of a byte, and what the byte means
@@ -32,7 +51,9 @@ module _ (base : Base) where
       → meanings_in base ks ≡ meanings_in base js
   meanings-seen ks js same =
       let second : ℕ × Character → Character = λ p. p.1 in
-      sym (map-twice second seen ks) ∙ ap (map second) same ∙ map-twice second seen js
+      let byte_of : Positioned → ℕ = λ k. k.byte in
+      map-twice (meaning base) byte_of ks ∙ sym (map-twice second seen ks) ∙ ap (map second) same
+      ∙ map-twice second seen js ∙ sym (map-twice (meaning base) byte_of js)
 
   kept_one : (b : Bool) (k : Positioned) (ks : List Positioned)
       → seen_in (cond b (k ∷ ks) ks) ≡ cond b (seen k ∷ seen_in ks) (seen_in ks)
@@ -60,8 +81,9 @@ module _ (base : Base) where
       → fault_after ended base ks ≡ fault_after ended base js
   fault_after-seen ended ks js same =
       let stand = positions-seen ks js same in
-      λ i. cond ended (fault_at-alike PaddingFault 0 ks js stand i)
-      (group_fault-alike base ks js stand (meanings-seen ks js same) i)
+      λ i. cond ended (fault_at-alike ks js stand PaddingFault 0 i)
+      ((located-alike ks js stand (group_fault base (bytes_in ks))
+      ∙ ap (λ ms. located js (character_fault base ms)) (meanings-seen ks js same)) i)
 
   -- the first faulty group has the same fault
   first_after-seen : (ended : Bool) (gs hs : List (List Positioned))
@@ -73,7 +95,7 @@ module _ (base : Base) where
       let here : seen_in ks ≡ seen_in js = cc in
       let others : map seen_in gs ≡ map seen_in hs = cc in
       (λ i. or_else (fault_after-seen ended ks js here i)
-      (first_after (is_final-alike base ks js (meanings-seen ks js here) i) base gs))
+      (first_after (not base.concatenates && list_any is_padding (meanings-seen ks js here i)) base gs))
       ∙ ap (or_else (fault_after ended base js))
       (first_after-seen (is_final base js) gs hs others)
 

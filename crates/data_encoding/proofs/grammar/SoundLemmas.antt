@@ -1,14 +1,17 @@
 -- Groups without a fault, one after the other.
 use Rattle.std.proofs.Common.{◌≡◌, ℕ, Bool, true, false, not, cond, ◌&&◌, List, [], ◌∷◌, ◌++◌, map, Option, Some, None, is_some, refl, sym, ap, ◌∙◌, subst}
 use Rattle.std.proofs.lemmas.List.{append-nil}
+use Rattle.std.specs.List.{list_any}
 use Rattle.data_encoding.specs.declared.error.DecodeError.{DecodeError}
+use Rattle.data_encoding.specs.declared.decode.group.GroupFault.{GroupFault}
+use Rattle.data_encoding.specs.declared.encoding.Character.{Character}
 use Rattle.data_encoding.specs.declared.encoding.Character.TheVariants.{Symbol}
-use Rattle.data_encoding.specs.Base.{Base, meaning, is_padding}
-use Rattle.data_encoding.specs.Grammar.{Positioned, is_final}
-use Rattle.data_encoding.specs.Fault.{fault_after, group_fault, or_else, first_after, sound_after}
+use Rattle.data_encoding.specs.Base.{Base, is_padding}
+use Rattle.data_encoding.specs.Grammar.{Positioned, bytes_in, is_final}
+use Rattle.data_encoding.specs.Fault.{fault_after, first_after, group_fault, located, or_else, sound_after}
 use Rattle.data_encoding.specs.Decoding.{AreSound}
 use Rattle.data_encoding.proofs.lists.ListLemmas.{AllFail, list_any-none}
-use Rattle.data_encoding.proofs.grammar.GroupLemmas.{symbols_alone, fail-meanings}
+use Rattle.data_encoding.proofs.grammar.GroupLemmas.{symbols_alone}
 
 -- whether one ended after them, sound or not
 abbrev pub ends_after : Base → Bool → List (List Positioned) → Bool
@@ -17,18 +20,21 @@ ends_after base begun (group ∷ others) = ends_after base (is_final base group)
 
 -- one without a fault stands after none that ended
 pub fault_after-none : (base : Base) (begun : Bool) (group : List Positioned)
-    → fault_after begun base group ≡ None → (begun ≡ false) × (group_fault base group ≡ None)
+    → fault_after begun base group ≡ None
+    → (begun ≡ false) × (group_fault base (bytes_in group) ≡ None)
 fault_after-none base true group h = cc
-fault_after-none base false group h = (refl, h)
+fault_after-none base false group h = (refl, none (group_fault base (bytes_in group)) h) where
+  none : (o : Option GroupFault) → located group o ≡ None → o ≡ None
+  none None e = refl
+  none (Some fault) e = cc
 
 -- symbols alone end nothing
-pub symbols-not_final : (base : Base) (group : List Positioned) (values : List ℕ)
-    → map (λ k. meaning base k.byte) group ≡ map (λ value. Symbol value) values
-    → is_final base group ≡ false
+pub symbols-not_final : (base : Base) (group : List Character) (values : List ℕ)
+    → group ≡ map (λ value. Symbol value) values
+    → (not base.concatenates && list_any is_padding group) ≡ false
 symbols-not_final base group values h =
     ap (λ b. not base.concatenates && b)
-    (list_any-none (λ k. is_padding (meaning base k.byte)) group
-    (fail-meanings base group (subst (AllFail is_padding) (sym h) (symbols_alone values))))
+    (list_any-none is_padding group (subst (AllFail is_padding) (sym h) (symbols_alone values)))
     ∙ none (not base.concatenates) where
       none : (b : Bool) → (b && false) ≡ false
       none true = refl

@@ -5,12 +5,12 @@ use Rattle.std.proofs.lemmas.Bool.{false≢true}
 use Rattle.std.specs.List.{AllByRecursion}
 use Rattle.data_encoding.specs.declared.encoding.Character.TheVariants.{Ignored}
 use Rattle.data_encoding.specs.Base.{Base, IsWidth, Wrapping, ignores_some, is_ignored, meaning}
-use Rattle.data_encoding.specs.Grammar.{GroupsMean, Means, MeansBy, PlainMeans, Positioned, groups, kept}
+use Rattle.data_encoding.specs.Grammar.{GroupsMean, Means, MeansBy, PlainMeans, Positioned, groups, kept, meanings_in}
 use Rattle.data_encoding.specs.Lengths.{most_bytes}
 use Rattle.data_encoding.specs.Text.{text_of}
 use Rattle.data_encoding.proofs.digits.WidthLemmas.{by_width}
 use Rattle.data_encoding.proofs.grammar.LengthLemmas.{most_bytes-by}
-use Rattle.data_encoding.proofs.grammar.PositionLemmas.{length-kept_plain, never_ignored}
+use Rattle.data_encoding.proofs.grammar.PositionLemmas.{length-kept_plain, never_ignored, length-meanings}
 use Rattle.data_encoding.proofs.grammar.UnpaddedGroupLemmas.{PlainMeans-count}
 use Rattle.data_encoding.proofs.lists.RunLemmas.{run_count}
 use Rattle.data_encoding.proofs.judgement.RuleLemmas.{IsRuled, IsRuledWrapping}
@@ -47,12 +47,13 @@ pub length-plain_text_of : (base : Base) → IsRuled base → base.padding ≡ N
     → ignores_some base ≡ false → (text bytes others : List ℕ) → Means base text bytes
     → length others ≡ length bytes → length text ≡ length (text_of base others)
 length-plain_text_of base ruled unpadded none text bytes others means same =
-    let plain : PlainMeans base (kept base text) bytes =
+    let meant = meanings_in base (kept base text) in
+    let plain : PlainMeans base meant bytes =
     subst (λ o. MeansBy o base text bytes) unpadded means in
-    let count = symbols_of base.width ruled.is_width (length (kept base text)) (length bytes)
-    (length plain.rest) (PlainMeans-count base ruled.is_width (kept base text) bytes plain)
+    let count = symbols_of base.width ruled.is_width (length meant) (length bytes)
+    (length plain.rest) (PlainMeans-count base ruled.is_width meant bytes plain)
     plain.rest_is_short in
-    sym (length-kept_plain base text none) ∙ sym count
+    sym (length-meanings base (kept base text) ∙ length-kept_plain base text none) ∙ sym count
     ∙ ap (λ n. run_count base.width (8 * n)) (sym same)
     ∙ sym (ap length (text_of-unwrapped base others (no_lines-plain base ruled none))
     ∙ length-unpadded base others ruled.is_width (ap is_some unpadded))
@@ -61,11 +62,13 @@ pub most-Means : (base : Base) → IsWidth base.width → base.padding ≡ None
     → ignores_some base ≡ false → (text bytes : List ℕ) → Means base text bytes
     → length bytes ≡ most_bytes base (length text)
 most-Means base width unpadded none text bytes means =
-    let plain : PlainMeans base (kept base text) bytes =
+    let meant = meanings_in base (kept base text) in
+    let plain : PlainMeans base meant bytes =
     subst (λ o. MeansBy o base text bytes) unpadded means in
-    let count = PlainMeans-count base width (kept base text) bytes plain in
-    let all : base.width * length (kept base text) ≡ base.width * length text =
-    ap (λ n. base.width * n) (length-kept_plain base text none) in
+    let count = PlainMeans-count base width meant bytes plain in
+    let all : base.width * length meant ≡ base.width * length text =
+    ap (λ n. base.width * n)
+    (length-meanings base (kept base text) ∙ length-kept_plain base text none) in
     let most : length bytes ≡ base.width * length text / 8 =
     omega (arith, count, all, plain.rest_is_short, width.few) in
     most ∙ sym (most_bytes-by base (length text) false (ap is_some unpadded))

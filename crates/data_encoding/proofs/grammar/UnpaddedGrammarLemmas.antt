@@ -8,19 +8,16 @@ use Rattle.std.specs.Prelude.{flat_map}
 use Rattle.std.specs.List.{AllByRecursion}
 use Rattle.data_encoding.specs.declared.encoding.Character.{Character}
 use Rattle.data_encoding.specs.declared.encoding.Character.TheVariants.{Symbol}
-use Rattle.data_encoding.specs.Base.{Base, meaning, group_bytes, group_symbols, IsWidth}
+use Rattle.data_encoding.specs.Base.{Base, group_bytes, group_symbols, IsWidth}
 use Rattle.data_encoding.specs.Bits.{bits_of, bits_of_bytes, runs}
-use Rattle.data_encoding.specs.Grammar.{Positioned, PlainMeans}
-use Rattle.data_encoding.specs.Fault.{bytes_of_group, plain_fault}
+use Rattle.data_encoding.specs.Grammar.{PlainMeans}
+use Rattle.data_encoding.specs.Fault.{plain_fault, symbol_bytes}
 use Rattle.data_encoding.proofs.grammar.UnpaddedGroupLemmas.{PlainMeans-count, PlainMeans-sound, PlainMeans-no_fault, length-bits_of_bytes, length-bits_of_values}
 use Rattle.data_encoding.proofs.lists.ListLemmas.{parts_same}
 use Rattle.data_encoding.proofs.lists.RunLemmas.{runs-first, runs-nil, runs-short}
 use Rattle.data_encoding.proofs.digits.WidthLemmas.{group_bits, group_symbols-pos}
 
 module _ (base : Base) (width : IsWidth base.width) where
-  abbrev m : Positioned → Character
-  m k = meaning base k.byte
-
   abbrev bits : List ℕ → List ℕ
   bits values = flat_map (bits_of base.order base.width) values
 
@@ -36,7 +33,7 @@ module _ (base : Base) (width : IsWidth base.width) where
   }
 
   -- symbols of so many whole bytes and others mean their bytes joined
-  pub PlainMeans-append : (group others : List Positioned) (bytes more : List ℕ) (whole : ℕ)
+  pub PlainMeans-append : (group others : List Character) (bytes more : List ℕ) (whole : ℕ)
       → base.width * length group ≡ 8 * whole → PlainMeans base group bytes
       → PlainMeans base others more → PlainMeans base (group ++ others) (bytes ++ more)
   PlainMeans-append group others bytes more whole all first second =
@@ -49,8 +46,7 @@ module _ (base : Base) (width : IsWidth base.width) where
         values = first.values ++ second.values;
         rest = second.rest;
         are_symbols =
-            map-append m group others
-            ∙ (λ i. first.are_symbols i ++ second.are_symbols i)
+            (λ i. first.are_symbols i ++ second.are_symbols i)
             ∙ sym (map-append (λ value. Symbol value) first.values second.values);
         same_bits =
             flat_map-append (bits_of base.order base.width) first.values second.values
@@ -63,7 +59,7 @@ module _ (base : Base) (width : IsWidth base.width) where
         are_bytes = All-append (λ byte. byte < 256) bytes more first.are_bytes second.are_bytes;
       }
 
-  PlainMeans-join : (group others : List Positioned) (bytes more : List ℕ)
+  PlainMeans-join : (group others : List Character) (bytes more : List ℕ)
       → length group ≡ group_symbols base.width → PlainMeans base group bytes
       → PlainMeans base others more → PlainMeans base (group ++ others) (bytes ++ more)
   PlainMeans-join group others bytes more whole first second =
@@ -71,11 +67,11 @@ module _ (base : Base) (width : IsWidth base.width) where
       (ap (λ n. base.width * n) whole ∙ group_bits base.width width) first second
 
   -- what a whole group and others mean is joined of what each means
-  record AreJoined (group others : List Positioned) (bytes : List ℕ) : Type 0 where
+  record AreJoined (group others : List Character) (bytes : List ℕ) : Type 0 where
     first : PlainMeans base group (take (group_bytes base.width) bytes)
     second : PlainMeans base others (drop (group_bytes base.width) bytes)
 
-  PlainMeans-split : (group others : List Positioned) (bytes : List ℕ)
+  PlainMeans-split : (group others : List Character) (bytes : List ℕ)
       → length group ≡ group_symbols base.width → PlainMeans base (group ++ others) bytes
       → AreJoined group others bytes
   PlainMeans-split group others bytes whole means =
@@ -91,18 +87,17 @@ module _ (base : Base) (width : IsWidth base.width) where
       let enough : enc ≤ length bytes =
       omega (arith, total, full, means.rest_is_short, width.few) in
       let values_len : length means.values ≡ length (group ++ others) =
-      sym (length-map means.values (λ value. Symbol value)) ∙ ap length (sym means.are_symbols)
-      ∙ length-map (group ++ others) m in
+      sym (length-map means.values (λ value. Symbol value)) ∙ ap length (sym means.are_symbols) in
       let v = take dec means.values in
       let vs = drop dec means.values in
       let v_len : length v ≡ dec = length-take-le dec means.values
       (omega (arith, values_len, many)) in
-      let symbols = parts_same (map m group) (map m others) (map (λ value. Symbol value) v)
+      let symbols = parts_same group others (map (λ value. Symbol value) v)
       (map (λ value. Symbol value) vs)
-      (sym (map-append m group others) ∙ means.are_symbols
+      (means.are_symbols
       ∙ ap (map (λ value. Symbol value)) (sym (take-append-drop dec means.values))
       ∙ map-append (λ value. Symbol value) v vs)
-      (length-map group m ∙ whole ∙ sym v_len ∙ sym (length-map v (λ value. Symbol value))) in
+      (whole ∙ sym v_len ∙ sym (length-map v (λ value. Symbol value))) in
       let front = take enc bytes in
       let back = drop enc bytes in
       let same = parts_same (bits v) (bits vs) (bits_of_bytes base.order front)
@@ -136,23 +131,23 @@ module _ (base : Base) (width : IsWidth base.width) where
         };
       }
 
-  abbrev pub ArePlain : List (List Positioned) → Type 0
+  abbrev pub ArePlain : List (List Character) → Type 0
   ArePlain groups = AllByRecursion (λ group. plain_fault base group ≡ None) groups
 
-  abbrev groups_of : List Positioned → List (List Positioned)
+  abbrev groups_of : List Character → List (List Character)
   groups_of ks = runs (group_symbols base.width) ks
 
-  abbrev bytes_of : List (List Positioned) → List ℕ
-  bytes_of groups = flat_map (bytes_of_group base) groups
+  abbrev bytes_of : List (List Character) → List ℕ
+  bytes_of groups = flat_map (symbol_bytes base) groups
 
   dec-pos : 0 < group_symbols base.width
   dec-pos = group_symbols-pos base.width width
 
-  joined_groups : (n : ℕ) (ks : List Positioned) → length ks ≤ n → ArePlain (groups_of ks)
+  joined_groups : (n : ℕ) (ks : List Character) → length ks ≤ n → ArePlain (groups_of ks)
       → PlainMeans base ks (bytes_of (groups_of ks))
   joined_groups n [] e sound =
       subst (λ groups. PlainMeans base [] (bytes_of groups))
-      (sym (runs-nil {X = Positioned} (group_symbols base.width) dec-pos)) PlainMeans-nil
+      (sym (runs-nil {X = Character} (group_symbols base.width) dec-pos)) PlainMeans-nil
   joined_groups zero (k ∷ ks) e sound = absurd (omega (arith, e))
   joined_groups (suc n) (k ∷ ks) e sound =
       let dec = group_symbols base.width in
@@ -164,14 +159,14 @@ module _ (base : Base) (width : IsWidth base.width) where
       let one = runs-short dec all some (omega arith) in
       let fine = subst ArePlain one sound in
       subst (λ groups. PlainMeans base all (bytes_of groups)) (sym one)
-      (subst (PlainMeans base all) (sym (append-nil (bytes_of_group base all)))
+      (subst (PlainMeans base all) (sym (append-nil (symbol_bytes base all)))
       (PlainMeans-sound base width all fine.0)))
       (λ (long : dec ≤ length all).
       let first = runs-first dec all pos some in
       let fine = subst ArePlain first sound in
       let rest_len : length (drop dec all) ≤ n = omega (arith, length-drop dec all, e) in
       subst (λ groups. PlainMeans base all (bytes_of groups)) (sym first)
-      (subst (λ l. PlainMeans base l (bytes_of_group base (take dec all)
+      (subst (λ l. PlainMeans base l (symbol_bytes base (take dec all)
       ++ bytes_of (groups_of (drop dec all)))) (take-append-drop dec all)
       (PlainMeans-join (take dec all) (drop dec all) _ _ (length-take-le dec all long)
       (PlainMeans-sound base width (take dec all) fine.0)
@@ -179,14 +174,14 @@ module _ (base : Base) (width : IsWidth base.width) where
       (cases_lt (length all) dec)
 
   -- groups with no fault mean their bytes joined
-  pub PlainMeans-from_groups : (ks : List Positioned) → ArePlain (groups_of ks)
+  pub PlainMeans-from_groups : (ks : List Character) → ArePlain (groups_of ks)
       → PlainMeans base ks (bytes_of (groups_of ks))
   PlainMeans-from_groups ks sound = joined_groups (length ks) ks (omega arith) sound
 
-  split_groups : (n : ℕ) (ks : List Positioned) (bytes : List ℕ) → length ks ≤ n
+  split_groups : (n : ℕ) (ks : List Character) (bytes : List ℕ) → length ks ≤ n
       → PlainMeans base ks bytes → ArePlain (groups_of ks)
   split_groups n [] bytes e means =
-      subst ArePlain (sym (runs-nil {X = Positioned} (group_symbols base.width) dec-pos)) tt
+      subst ArePlain (sym (runs-nil {X = Character} (group_symbols base.width) dec-pos)) tt
   split_groups zero (k ∷ ks) bytes e means = absurd (omega (arith, e))
   split_groups (suc n) (k ∷ ks) bytes e means =
       let dec = group_symbols base.width in
@@ -208,6 +203,6 @@ module _ (base : Base) (width : IsWidth base.width) where
       (cases_lt (length all) dec)
 
   -- the groups of what means something have no fault
-  pub groups-PlainMeans : (ks : List Positioned) (bytes : List ℕ) → PlainMeans base ks bytes
+  pub groups-PlainMeans : (ks : List Character) (bytes : List ℕ) → PlainMeans base ks bytes
       → ArePlain (groups_of ks)
   groups-PlainMeans ks bytes means = split_groups (length ks) ks bytes (omega arith) means

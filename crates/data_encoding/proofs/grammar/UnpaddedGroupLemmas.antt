@@ -7,19 +7,19 @@ use Rattle.std.proofs.lemmas.Nat.{div-add-mod'}
 use Rattle.std.specs.Prelude.{flat_map}
 use Rattle.std.specs.List.{AllByRecursion, list_any, filter_map, position}
 use Rattle.std.proofs.lemmas.List.Elements.{All-from_recursion, recursion_from_All}
-use Rattle.data_encoding.specs.declared.error.DecodeError.{DecodeError}
+use Rattle.data_encoding.specs.declared.decode.group.GroupFault.{GroupFault}
 use Rattle.data_encoding.specs.declared.encoding.BitOrder.{BitOrder}
 use Rattle.data_encoding.specs.declared.encoding.Character.{Character}
 use Rattle.data_encoding.specs.declared.encoding.Character.TheVariants.{Symbol, Padding, Ignored, Invalid}
-use Rattle.data_encoding.specs.Base.{Base, meaning, is_symbol, value_of, IsWidth}
+use Rattle.data_encoding.specs.Base.{Base, is_symbol, value_of, IsWidth}
 use Rattle.data_encoding.specs.Bits.{bits_of, number_of, bits_of_bytes, runs}
-use Rattle.data_encoding.specs.Grammar.{Positioned, PlainMeans}
+use Rattle.data_encoding.specs.Grammar.{PlainMeans}
 use Rattle.data_encoding.specs.Lengths.{is_valid_count, greatest_valid_count}
-use Rattle.data_encoding.specs.Fault.{symbol_bits, trailing_bits, bytes_of_group, plain_fault, symbols_fault, trailing_fault, fault_at_first, fault_at}
+use Rattle.data_encoding.specs.Fault.{symbol_bits, trailing_bits, symbol_bytes, plain_fault, symbols_fault, trailing_fault, fault_at_first, faulty_at}
 use Rattle.data_encoding.specs.declared.error.DecodeKind.TheVariants.{Length as LengthFault}
 use Rattle.data_encoding.proofs.digits.BitLemmas.{AreBits, AreBits-take, AreBits-flat_map, AreBits-bits_of, length-bits_of, length-pieces, number_of-bits_of}
 use Rattle.data_encoding.proofs.digits.ValueLemmas.{AreValuesOf-runs}
-use Rattle.data_encoding.proofs.lists.ListLemmas.{AllFail, position-none, AllFail-position, list_any-none, AllFail-list_any, filter_map-map, zeros}
+use Rattle.data_encoding.proofs.lists.ListLemmas.{AllFail, position-none, AllFail-position, list_any-none, AllFail-list_any, zeros}
 use Rattle.data_encoding.proofs.lists.RunLemmas.{runs-flat_map}
 
 numbers_back : (order : BitOrder) (bytes : List ℕ) → AllByRecursion (λ byte. byte < 256) bytes
@@ -46,14 +46,14 @@ length-bits_of_values order width values =
     length-pieces width (bits_of order width) values (length-bits_of order width)
 
 -- symbols have the values that were found
-values-symbols : (meanings : List Character) → AllByRecursion (λ m. is_symbol m ≡ true) meanings
+values-symbols : (meanings : List Character) → AllFail (λ m. not (is_symbol m)) meanings
     → meanings ≡ map (λ value. Symbol value) (filter_map value_of meanings)
 values-symbols [] h = refl
 values-symbols (Symbol value ∷ meanings) h =
     ap (λ l. Symbol value ∷ l) (values-symbols meanings h.1)
-values-symbols (Padding ∷ meanings) h = absurd (false≢true h.0)
-values-symbols (Ignored ∷ meanings) h = absurd (false≢true h.0)
-values-symbols (Invalid ∷ meanings) h = absurd (false≢true h.0)
+values-symbols (Padding ∷ meanings) h = absurd (false≢true (sym h.0))
+values-symbols (Ignored ∷ meanings) h = absurd (false≢true (sym h.0))
+values-symbols (Invalid ∷ meanings) h = absurd (false≢true (sym h.0))
 
 symbols-values : (values : List ℕ)
     → filter_map value_of (map (λ value. Symbol value) values) ≡ values
@@ -65,62 +65,19 @@ symbols_pass : (values : List ℕ)
 symbols_pass [] = tt
 symbols_pass (value ∷ values) = (refl, symbols_pass values)
 
-fail-map : {X Y : Type 0} (test : Y → Bool) (f : X → Y) (xs : List X) → AllFail test (map f xs)
-    → AllFail (λ x. test (f x)) xs
-fail-map test f [] h = tt
-fail-map test f (x ∷ xs) h = (h.0, fail-map test f xs h.1)
-
-pass-map : {X Y : Type 0} (test : Y → Bool) (f : X → Y) (xs : List X)
-    → AllFail (λ x. not (test (f x))) xs → AllByRecursion (λ y. test y ≡ true) (map f xs)
-pass-map test f [] h = tt
-pass-map test f (x ∷ xs) h = (twice (test (f x)) h.0, pass-map test f xs h.1) where
-  twice : (b : Bool) → not b ≡ false → b ≡ true
-  twice true e = refl
-  twice false e = cc
-
-module _ (base : Base) where
-  -- the values of the symbols of a group
-  abbrev pub values_in : List Positioned → List ℕ
-  values_in group = filter_map (λ k. value_of (meaning base k.byte)) group
-
-  -- the meanings of a group
-  abbrev pub meanings_in : List Positioned → List Character
-  meanings_in group = map (λ k. meaning base k.byte) group
-
-  values_in-symbols : (group : List Positioned) (values : List ℕ)
-      → meanings_in group ≡ map (λ value. Symbol value) values → values_in group ≡ values
-  values_in-symbols group values h =
-      sym (filter_map-map value_of (λ (k : Positioned). meaning base k.byte) group)
-      ∙ ap (filter_map value_of) h ∙ symbols-values values
-
-  -- nothing is found that is no symbol
-  symbols_found : (group : List Positioned) (values : List ℕ)
-      → meanings_in group ≡ map (λ value. Symbol value) values
-      → position (λ k. not (is_symbol (meaning base k.byte))) group ≡ None
-  symbols_found group values h =
-      position-none (λ (k : Positioned). not (is_symbol (meaning base k.byte))) group
-      (fail-map (λ m. not (is_symbol m)) (λ (k : Positioned). meaning base k.byte) group
-      (subst (AllFail (λ m. not (is_symbol m))) (sym h) (symbols_pass values)))
-
-  pub are_symbols : (group : List Positioned)
-      → position (λ k. not (is_symbol (meaning base k.byte))) group ≡ None
-      → meanings_in group ≡ map (λ value. Symbol value) (values_in group)
-  are_symbols group h =
-      values-symbols (meanings_in group)
-      (pass-map is_symbol (λ (k : Positioned). meaning base k.byte) group
-      (AllFail-position (λ (k : Positioned). not (is_symbol (meaning base k.byte))) group h))
-      ∙ ap (map (λ value. Symbol value))
-      (filter_map-map value_of (λ (k : Positioned). meaning base k.byte) group)
+pub are_symbols : (meanings : List Character) → position (λ m. not (is_symbol m)) meanings ≡ None
+    → meanings ≡ map (λ value. Symbol value) (filter_map value_of meanings)
+are_symbols meanings h = values-symbols meanings (AllFail-position (λ m. not (is_symbol m)) meanings h)
 
 valid_and_sound : {A : Type 0} (valid : Bool) (sound : Option A) (fault : A)
     → cond valid sound (Some fault) ≡ None → (valid ≡ true) × (sound ≡ None)
 valid_and_sound true sound fault h = (refl, h)
 valid_and_sound false sound fault h = cc
 
-none_found : (o : Option ℕ) (group : List Positioned) (otherwise : Option DecodeError)
-    → fault_at_first o group otherwise ≡ None → (o ≡ None) × (otherwise ≡ None)
-none_found None group otherwise h = (refl, h)
-none_found (Some index) group otherwise h = cc
+none_found : (o : Option ℕ) (otherwise : Option GroupFault)
+    → fault_at_first o otherwise ≡ None → (o ≡ None) × (otherwise ≡ None)
+none_found None otherwise h = (refl, h)
+none_found (Some index) otherwise h = cc
 
 unless : {A : Type 0} (b : Bool) (fault : A) → cond b (Some fault) None ≡ None → b ≡ false
 unless true fault h = cc
@@ -176,34 +133,32 @@ split_bits bits front rest count h e short =
       is_rest = (λ i. drop (whole i) (h i)) ∙ drop_at front rest (length front) refl;
     }
 
-module _ (base : Base) (width : IsWidth base.width) where
+module _ (base : Base) (width : IsWidth base.width) (group : List Character) where
   -- a group with no fault means its bytes
-  pub PlainMeans-sound : (group : List Positioned) → plain_fault base group ≡ None
-      → PlainMeans base group (bytes_of_group base group)
-  PlainMeans-sound group h =
+  pub PlainMeans-sound : plain_fault base group ≡ None → PlainMeans base group (symbol_bytes base group)
+  PlainMeans-sound h =
       let valid = valid_and_sound (is_valid_count base.width (length group))
       (symbols_fault base group) _ h in
-      let none = none_found (position (λ k. not (is_symbol (meaning base k.byte))) group) group
-      (trailing_fault base group) valid.1 in
+      let none = none_found (position (λ m. not (is_symbol m)) group) (trailing_fault base group)
+      valid.1 in
+      let values = filter_map value_of group in
       let bits = symbol_bits base group in
       let whole = length bits / 8 * 8 in
       let rest = trailing_bits base group in
       let zero_rest = unless (base.checks_trailing_bits && list_any (λ bit. not (bit == 0)) rest)
       _ none.1 in
-      let are_bits : AreBits bits = AreBits-flat_map (bits_of base.order base.width)
-      (values_in base group) (AreBits-bits_of base.order base.width) in
+      let are_bits : AreBits bits = AreBits-flat_map (bits_of base.order base.width) values
+      (AreBits-bits_of base.order base.width) in
       let front_len : length (take whole bits) ≡ whole = length-take-le whole bits (omega arith) in
       let bytes = AreValuesOf-runs (length bits / 8) base.order 8 (take whole bits) (omega arith)
       (AreBits-take whole bits are_bits) (omega (arith, front_len)) in
-      let symbols = are_symbols base group none.0 in
-      let many : length (values_in base group) ≡ length group =
-      sym (length-map (values_in base group) (λ value. Symbol value)) ∙ ap length (sym symbols)
-      ∙ length-map group (λ (k : Positioned). meaning base k.byte) in
+      let symbols = are_symbols group none.0 in
       let bits_len : length bits ≡ base.width * length group =
-      length-bits_of_values base.order base.width (values_in base group)
-      ∙ ap (λ n. base.width * n) many in
+      length-bits_of_values base.order base.width values
+      ∙ ap (λ n. base.width * n)
+      (sym (length-map values (λ value. Symbol value)) ∙ ap length (sym symbols)) in
       record {
-        values = values_in base group;
+        values = values;
         rest = rest;
         are_symbols = symbols;
         same_bits = sym (take-append-drop whole bits) ∙ ap (λ l. l ++ rest) (sym bytes.same_bits);
@@ -212,15 +167,15 @@ module _ (base : Base) (width : IsWidth base.width) where
             λ e. zeros rest
             (zero_bits rest (AllFail-list_any (λ bit. not (bit == 0)) rest
             (both_false base.checks_trailing_bits _ zero_rest e)));
-        are_bytes = All-from_recursion (λ byte. byte < 256) (bytes_of_group base group) bytes.below;
+        are_bytes = All-from_recursion (λ byte. byte < 256) (symbol_bytes base group) bytes.below;
       }
 
-  module _ (group : List Positioned) (bytes : List ℕ) (means : PlainMeans base group bytes) where
-    values_are : values_in base group ≡ means.values
-    values_are = values_in-symbols base group means.values means.are_symbols
-
+  module _ (bytes : List ℕ) (means : PlainMeans base group bytes) where
     bits_are : symbol_bits base group ≡ bits_of_bytes base.order bytes ++ means.rest
-    bits_are = ap (flat_map (bits_of base.order base.width)) values_are ∙ means.same_bits
+    bits_are =
+        ap (symbol_bits base) means.are_symbols
+        ∙ ap (flat_map (bits_of base.order base.width)) (symbols-values means.values)
+        ∙ means.same_bits
 
     split : AreSplit (symbol_bits base group) (bits_of_bytes base.order bytes) means.rest
     split =
@@ -233,8 +188,7 @@ module _ (base : Base) (width : IsWidth base.width) where
     pub PlainMeans-count : base.width * length group ≡ 8 * length bytes + length means.rest
     PlainMeans-count =
         let many : length means.values ≡ length group =
-        sym (length-map means.values (λ value. Symbol value)) ∙ ap length (sym means.are_symbols)
-        ∙ length-map group (λ (k : Positioned). meaning base k.byte) in
+        sym (length-map means.values (λ value. Symbol value)) ∙ ap length (sym means.are_symbols) in
         ap (λ n. base.width * n) (sym many)
         ∙ sym (length-bits_of_values base.order base.width means.values)
         ∙ ap length means.same_bits
@@ -246,7 +200,7 @@ module _ (base : Base) (width : IsWidth base.width) where
         valid_by (base.width * length group) base.width (length bytes) (length means.rest)
         PlainMeans-count means.rest_is_short width.few
 
-    pub PlainMeans-bytes : bytes_of_group base group ≡ bytes
+    pub PlainMeans-bytes : symbol_bytes base group ≡ bytes
     PlainMeans-bytes =
         ap (λ l. map (number_of base.order) (runs 8 l)) split.is_front
         ∙ bytes-bits base.order bytes
@@ -264,8 +218,9 @@ module _ (base : Base) (width : IsWidth base.width) where
     pub PlainMeans-no_fault : plain_fault base group ≡ None
     PlainMeans-no_fault =
         ap (λ b. cond b (symbols_fault base group)
-        (fault_at LengthFault group (greatest_valid_count base.width (length group))))
+        (faulty_at LengthFault (greatest_valid_count base.width (length group))))
         PlainMeans-valid
-        ∙ ap (λ o. fault_at_first o group (trailing_fault base group))
-        (symbols_found base group means.values means.are_symbols)
+        ∙ ap (λ o. fault_at_first o (trailing_fault base group))
+        (ap (position (λ m. not (is_symbol m))) means.are_symbols
+        ∙ position-none (λ m. not (is_symbol m)) _ (symbols_pass means.values))
         ∙ no_trailing

@@ -3,88 +3,94 @@ use Rattle.std.proofs.Common.{◌≡◌, ℕ, zero, suc, ◌+◌, ◌-◌, ◌*�
 use Rattle.std.proofs.Math.Nat.{zero-mul, suc-mul}
 use Rattle.std.proofs.lemmas.List.{length-map, length-drop, drop_all, append-nil, nil_from_length}
 use Rattle.std.specs.Prelude.{flat_map}
-use Rattle.std.specs.List.{list_any, position}
+use Rattle.std.specs.List.{filter_map, list_any, position}
 use Rattle.data_encoding.specs.declared.encoding.Character.{Character}
 use Rattle.data_encoding.specs.declared.encoding.Character.TheVariants.{Symbol, Padding, Ignored, Invalid}
 use Rattle.data_encoding.specs.declared.error.DecodeKind.TheVariants.{Trailing as TrailingFault}
-use Rattle.data_encoding.specs.Base.{Base, meaning, is_symbol, is_ignored, is_padded, group_symbols, group_bytes, IsWidth}
+use Rattle.data_encoding.specs.Base.{Base, meaning, is_symbol, is_ignored, is_padded, group_symbols, group_bytes, value_of, IsWidth}
 use Rattle.data_encoding.specs.Bits.{runs}
-use Rattle.data_encoding.specs.Grammar.{Positioned, positioned_from, is_final, kept_in}
+use Rattle.data_encoding.specs.Grammar.{Positioned, bytes_in, is_final, kept_in, meanings_in, positioned_from}
 use Rattle.data_encoding.specs.Lengths.{is_valid_count}
-use Rattle.data_encoding.specs.Fault.{symbol_bits, trailing_bits, bytes_of_group, fault_at, fault_at_first, trailing_fault, plain_fault, padded_fault_at, count_before_padding, group_fault}
+use Rattle.data_encoding.specs.Fault.{bytes_of_group, count_before_padding, fault_at_first, faulty_at, group_fault, located, padded_fault_at, plain_fault, symbol_bits, symbol_bytes, trailing_bits, trailing_fault}
 use Rattle.data_encoding.specs.Decoding.{AreSound}
 use Rattle.data_encoding.proofs.digits.WidthLemmas.{group_bits, group_symbols-pos}
 use Rattle.data_encoding.proofs.lists.EachLemmas.{all_parts}
 use Rattle.data_encoding.proofs.lists.EndLemmas.{AllSo}
 use Rattle.data_encoding.proofs.lists.ListLemmas.{AllFail, position-none, filter-all}
 use Rattle.data_encoding.proofs.lists.RunLemmas.{runs-nil, runs-append, runs-map}
-use Rattle.data_encoding.proofs.grammar.UnpaddedGroupLemmas.{values_in, meanings_in, are_symbols, length-bits_of_values, PlainMeans-sound}
-use Rattle.data_encoding.proofs.grammar.GroupLemmas.{bytes_in, bytes_of_group-same, plain_fault-valid, whole-valid, GroupMeans-no_fault}
+use Rattle.data_encoding.proofs.grammar.UnpaddedGroupLemmas.{are_symbols, length-bits_of_values, PlainMeans-sound}
+use Rattle.data_encoding.proofs.grammar.GroupLemmas.{plain_fault-valid, whole-valid, GroupMeans-no_fault}
+use Rattle.data_encoding.proofs.grammar.PositionLemmas.{length-meanings}
 use Rattle.data_encoding.proofs.grammar.SoundLemmas.{symbols-not_final}
 
 none_other : (base : Base) (ks : List Positioned) → AllSo (λ k. is_symbol (meaning base k.byte)) ks
-    → AllFail (λ k. not (is_symbol (meaning base k.byte))) ks
+    → AllFail (λ m. not (is_symbol m)) (meanings_in base ks)
 none_other base [] h = tt
 none_other base (k ∷ ks) h = (ap not h.0, none_other base ks h.1)
 
-never : {A : Type 0} (b : Bool) (fault : A) → cond (b && false) (Some fault) None ≡ None
-never true fault = refl
-never false fault = refl
+no_fault : {A : Type 0} (b : Bool) (fault : A) → cond (b && false) (Some fault) None ≡ None
+no_fault true fault = refl
+no_fault false fault = refl
 
 module _ (base : Base) (width : IsWidth base.width) (group : List Positioned)
     (len : length group ≡ group_symbols base.width)
     (symbols : AllSo (λ k. is_symbol (meaning base k.byte)) group) where
-  none : position (λ k. not (is_symbol (meaning base k.byte))) group ≡ None
-  none =
-      position-none (λ (k : Positioned). not (is_symbol (meaning base k.byte))) group
-      (none_other base group symbols)
+  abbrev meant : List Character
+  meant = meanings_in base group
 
-  meanings : meanings_in base group ≡ map (λ value. Symbol value) (values_in base group)
-  meanings = are_symbols base group none
+  abbrev values : List ℕ
+  values = filter_map value_of meant
 
-  none_trail : trailing_fault base group ≡ None
+  meant_len : length meant ≡ group_symbols base.width
+  meant_len = length-meanings base group ∙ len
+
+  none : position (λ m. not (is_symbol m)) meant ≡ None
+  none = position-none (λ m. not (is_symbol m)) meant (none_other base group symbols)
+
+  meanings : meant ≡ map (λ value. Symbol value) values
+  meanings = are_symbols meant none
+
+  none_trail : trailing_fault base meant ≡ None
   none_trail =
-      let many : length (values_in base group) ≡ group_symbols base.width =
-      sym (length-map (values_in base group) (λ value. Symbol value)) ∙ ap length (sym meanings)
-      ∙ length-map group (λ (k : Positioned). meaning base k.byte) ∙ len in
-      let bits : length (symbol_bits base group) ≡ 8 * group_bytes base.width =
-      length-bits_of_values base.order base.width (values_in base group)
+      let many : length values ≡ group_symbols base.width =
+      sym (length-map values (λ value. Symbol value)) ∙ ap length (sym meanings) ∙ meant_len in
+      let bits : length (symbol_bits base meant) ≡ 8 * group_bytes base.width =
+      length-bits_of_values base.order base.width values
       ∙ ap (λ n. base.width * n) many ∙ group_bits base.width width in
-      let rest : trailing_bits base group ≡ [] =
-      drop_all (length (symbol_bits base group) / 8 * 8) (symbol_bits base group)
+      let rest : trailing_bits base meant ≡ [] =
+      drop_all (length (symbol_bits base meant) / 8 * 8) (symbol_bits base meant)
       (omega (arith, bits)) in
       ap (λ l. cond (base.checks_trailing_bits && list_any (λ bit. not (bit == 0)) l)
-      (fault_at TrailingFault group (length group - 1)) None) rest
-      ∙ never base.checks_trailing_bits _
+      (faulty_at TrailingFault (length meant - 1)) None) rest
+      ∙ no_fault base.checks_trailing_bits _
 
-  plain : plain_fault base group ≡ None
+  plain : plain_fault base meant ≡ None
   plain =
-      plain_fault-valid base group
-      (ap (is_valid_count base.width) len ∙ whole-valid base.width width)
-      ∙ ap (λ o. fault_at_first o group (trailing_fault base group)) none ∙ none_trail
+      plain_fault-valid base meant
+      (ap (is_valid_count base.width) meant_len ∙ whole-valid base.width width)
+      ∙ ap (λ o. fault_at_first o (trailing_fault base meant)) none ∙ none_trail
 
   -- a whole group of symbols has no fault, and may be followed
-  pub group_fault-symbols : group_fault base group ≡ None
+  pub group_fault-symbols : group_fault base (bytes_in group) ≡ None
   group_fault-symbols = by (is_padded base) refl where
-    by : (b : Bool) → is_padded base ≡ b → group_fault base group ≡ None
+    by : (b : Bool) → is_padded base ≡ b → group_fault base (bytes_in group) ≡ None
     by true is =
-        GroupMeans-no_fault base width is group (bytes_of_group base group)
+        GroupMeans-no_fault base width is meant (symbol_bytes base meant)
         (record {
-          symbols = group;
-          padding = [];
-          is_group = sym (append-nil group);
-          is_whole = len;
-          is_begun = subst (λ n. 0 < n) (sym len) (group_symbols-pos base.width width);
-          is_padding = refl;
-          means = PlainMeans-sound base width group plain;
+          symbols = meant;
+          padding = 0;
+          is_group = sym (append-nil meant);
+          is_whole = meant_len;
+          is_begun = subst (λ n. 0 < n) (sym meant_len) (group_symbols-pos base.width width);
+          means = PlainMeans-sound base width meant plain;
         })
     by false is =
-        ap (λ b. cond b (padded_fault_at base group (count_before_padding base group))
-        (plain_fault base group)) is
+        ap (λ b. cond b (padded_fault_at base meant (count_before_padding meant))
+        (plain_fault base meant)) is
         ∙ plain
 
   pub is_final-symbols : is_final base group ≡ false
-  is_final-symbols = symbols-not_final base group (values_in base group) meanings
+  is_final-symbols = symbols-not_final base meant values meanings
 
 symbol_kept : (m : Character) → is_symbol m ≡ true → not (is_ignored m) ≡ true
 symbol_kept (Symbol value) h = refl
@@ -137,27 +143,25 @@ AreSound-symbols base width (suc count) ks len symbols =
     subst (λ gs. AreSound base false gs false)
     (sym (runs-append dec front back (group_symbols-pos base.width width) front_len)
     ∙ ap (runs dec) (take-append-drop dec ks)) (
-      group_fault-symbols base width front front_len parts.0,
+      ap (located front) (group_fault-symbols base width front front_len parts.0),
       subst (λ b. AreSound base b (runs dec back) false)
           (sym (is_final-symbols base width front front_len parts.0))
           (AreSound-symbols base width count back back_len parts.1),
     )
 
 -- groups of the same bytes mean the same, wherever they stand
-joined-same : (base : Base) (gs hs : List (List Positioned)) → map bytes_in gs ≡ map bytes_in hs
-    → flat_map (bytes_of_group base) gs ≡ flat_map (bytes_of_group base) hs
-joined-same base [] [] h = refl
-joined-same base [] (js ∷ hs) h = cc
-joined-same base (ks ∷ gs) [] h = cc
-joined-same base (ks ∷ gs) (js ∷ hs) h =
-    let here : bytes_in ks ≡ bytes_in js = cc in
-    let others : map bytes_in gs ≡ map bytes_in hs = cc in
-    (λ i. bytes_of_group-same base ks js here i ++ joined-same base gs hs others i)
+joined-by : (base : Base) (gs : List (List Positioned))
+    → flat_map (bytes_of_group base) gs
+    ≡ flat_map (λ bytes. symbol_bytes base (map (meaning base) bytes)) (map bytes_in gs)
+joined-by base [] = refl
+joined-by base (group ∷ gs) = ap (λ l. bytes_of_group base group ++ l) (joined-by base gs)
 
 pub bytes_of_runs-same : (base : Base) (size : ℕ) (ks js : List Positioned) → 0 < size
     → bytes_in ks ≡ bytes_in js
     → flat_map (bytes_of_group base) (runs size ks) ≡ flat_map (bytes_of_group base) (runs size js)
 bytes_of_runs-same base size ks js pos same =
-    joined-same base (runs size ks) (runs size js)
+    joined-by base (runs size ks)
+    ∙ ap (flat_map (λ bytes. symbol_bytes base (map (meaning base) bytes)))
     (sym (runs-map size (λ (k : Positioned). k.byte) ks pos) ∙ ap (runs size) same
     ∙ runs-map size (λ (k : Positioned). k.byte) js pos)
+    ∙ sym (joined-by base (runs size js))

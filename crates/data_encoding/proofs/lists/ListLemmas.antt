@@ -82,11 +82,6 @@ length-filter test [] = omega arith
 length-filter test (x ∷ xs) =
     shorter (test x) x xs (filter test xs) (length-filter test xs)
 
-pub filter_map-map : {X Y Z : Type 0} (f : Y → Option Z) (g : X → Y) (xs : List X)
-    → filter_map f (map g xs) ≡ filter_map (λ x. f (g x)) xs
-filter_map-map f g [] = refl
-filter_map-map f g (x ∷ xs) = ap (cons_option (f (g x))) (filter_map-map f g xs)
-
 -- two lists that are joined alike at the same place have the same parts
 pub parts_same : {X : Type 0} (xs ys zs ws : List X) → xs ++ ys ≡ zs ++ ws
     → length xs ≡ length zs → (xs ≡ zs) × (ys ≡ ws)
@@ -96,13 +91,6 @@ parts_same xs ys zs ws h e = (
   sym (drop_at xs ys (length xs) refl) ∙ ap (drop (length xs)) h
       ∙ drop_at zs ws (length xs) (sym e),
 )
-
--- nothing is given
-pub filter_map-none : {X Y : Type 0} (f : X → Option Y) (xs : List X)
-    → AllByRecursion (λ x. f x ≡ None) xs → filter_map f xs ≡ []
-filter_map-none f [] h = refl
-filter_map-none f (x ∷ xs) h =
-    ap (λ o. cons_option o (filter_map f xs)) h.0 ∙ filter_map-none f xs h.1
 
 -- zeros
 pub zeros : (xs : List ℕ) → AllByRecursion (λ x. x ≡ 0) xs → xs ≡ replicate (length xs) 0

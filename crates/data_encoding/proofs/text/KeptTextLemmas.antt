@@ -6,9 +6,8 @@ use Rattle.std.specs.List.{AllByRecursion, filter}
 use Rattle.data_encoding.specs.declared.encoding.Character.TheVariants.{Ignored}
 use Rattle.data_encoding.specs.Base.{Base, Wrapping, meaning, is_ignored, group_symbols}
 use Rattle.data_encoding.specs.Bits.{missing, runs}
-use Rattle.data_encoding.specs.Grammar.{kept}
+use Rattle.data_encoding.specs.Grammar.{kept, bytes_in}
 use Rattle.data_encoding.specs.Text.{in_lines, padded_text, plain_text, text_of, with_padding}
-use Rattle.data_encoding.proofs.grammar.GroupLemmas.{bytes_in}
 use Rattle.data_encoding.proofs.grammar.SameBytesLemmas.{bytes-kept_in}
 use Rattle.data_encoding.proofs.lists.EachLemmas.{all_joined}
 use Rattle.data_encoding.proofs.lists.ListLemmas.{AllFail}

@@ -1,14 +1,14 @@
 -- A group of symbols, and of padding behind them.
 use Rattle.std.proofs.Common.{◌≡◌, ℕ, ◌+◌, ◌*◌, ◌<◌, ◌≤◌, List, [], ◌∷◌, ◌++◌, length, map, replicate, refl, sym, ap, ◌∙◌, subst, arith}
 use Rattle.std.proofs.Math.Nat.{div-eq_of_lt-le}
+use Rattle.std.proofs.lemmas.List.{length-map, map-append}
 use Rattle.std.proofs.lemmas.List.Elements.{All-replicate, recursion_from_All}
 use Rattle.std.specs.List.{AllByRecursion}
 use Rattle.data_encoding.specs.declared.encoding.Character.TheVariants.{Padding}
 use Rattle.data_encoding.specs.Base.{Base, meaning, group_symbols}
-use Rattle.data_encoding.specs.Grammar.{GroupMeans, PlainMeans, Positioned, positioned, positioned_from}
+use Rattle.data_encoding.specs.Grammar.{GroupMeans, PlainMeans}
 use Rattle.data_encoding.specs.Text.{filled_with}
 use Rattle.data_encoding.proofs.digits.KernelLemmas.{filled_count}
-use Rattle.data_encoding.proofs.grammar.PositionLemmas.{length-positioned_from, positioned_from-append}
 use Rattle.data_encoding.proofs.lists.RunLemmas.{run_count}
 use Rattle.data_encoding.proofs.text.PaddedTextLemmas.{length-filled_with}
 
@@ -28,12 +28,10 @@ module _ (base : Base) where
   abbrev pub AreFillers : List ℕ → Type 0
   AreFillers fillers = AllByRecursion (λ byte. meaning base byte ≡ Padding) fillers
 
-  padding_at : (start : ℕ) (fillers : List ℕ) → AreFillers fillers
-      → map (λ (k : Positioned). meaning base k.byte) (positioned_from start fillers)
-      ≡ replicate (length fillers) Padding
-  padding_at start [] all = refl
-  padding_at start (filler ∷ fillers) all =
-      (λ i. all.0 i ∷ padding_at (start + 1) fillers all.1 i)
+  padding_of : (fillers : List ℕ) → AreFillers fillers
+      → map (meaning base) fillers ≡ replicate (length fillers) Padding
+  padding_of [] all = refl
+  padding_of (filler ∷ fillers) all = λ i. all.0 i ∷ padding_of fillers all.1 i
 
   pub AreFillers-replicate : (count character : ℕ) → meaning base character ≡ Padding
       → AreFillers (replicate count character)
@@ -43,21 +41,15 @@ module _ (base : Base) where
 
   -- symbols that mean bytes, with padding up to a whole group, are a group that means them
   pub GroupMeans-fillers : (text fillers bytes : List ℕ)
-      → PlainMeans base (positioned text) bytes → 0 < length text
+      → PlainMeans base (map (meaning base) text) bytes → 0 < length text
       → length (text ++ fillers) ≡ group_symbols base.width → AreFillers fillers
-      → GroupMeans base (positioned (text ++ fillers)) bytes
-  GroupMeans-fillers text fillers bytes means some whole all =
-      let padding = positioned_from (0 + length text) fillers in
-      let padding_len : length padding ≡ length fillers =
-      length-positioned_from (0 + length text) fillers in
-      record {
-        symbols = positioned text;
-        padding = padding;
-        is_group = positioned_from-append 0 text fillers;
-        is_whole = length-positioned_from 0 (text ++ fillers) ∙ whole;
-        is_begun = subst (λ n. 0 < n) (sym (length-positioned_from 0 text)) some;
-        is_padding =
-            padding_at (0 + length text) fillers all
-            ∙ ap (λ n. replicate n Padding) (sym padding_len);
-        means = means;
-      }
+      → GroupMeans base (map (meaning base) (text ++ fillers)) bytes
+  GroupMeans-fillers text fillers bytes means some whole all = record {
+    symbols = map (meaning base) text;
+    padding = length fillers;
+    is_group = map-append (meaning base) text fillers
+        ∙ ap (λ l. map (meaning base) text ++ l) (padding_of fillers all);
+    is_whole = length-map (text ++ fillers) (meaning base) ∙ whole;
+    is_begun = subst (λ n. 0 < n) (sym (length-map text (meaning base))) some;
+    means = means;
+  }

@@ -7,13 +7,12 @@ use Rattle.std.specs.List.{AllByRecursion}
 use Rattle.data_encoding.specs.declared.encoding.Character.TheVariants.{Symbol}
 use Rattle.data_encoding.specs.Base.{Base, IsWidth, meaning, symbol, is_ignored}
 use Rattle.data_encoding.specs.Bits.{bits_of, bits_of_bytes, number_of, missing, runs}
-use Rattle.data_encoding.specs.Grammar.{Positioned, PlainMeans}
+use Rattle.data_encoding.specs.Grammar.{PlainMeans}
 use Rattle.data_encoding.specs.Text.{filled_with, plain_text}
 use Rattle.data_encoding.proofs.digits.BitLemmas.{AreBits-append, AreBits-flat_map, AreBits-bits_of}
 use Rattle.data_encoding.proofs.digits.KernelLemmas.{filled_count}
 use Rattle.data_encoding.proofs.digits.ValueLemmas.{AreValuesOf, AreValuesOf-runs}
 use Rattle.data_encoding.proofs.digits.WordLemmas.{AreBits-zeros, map-twice}
-use Rattle.data_encoding.proofs.grammar.GroupLemmas.{bytes_in}
 use Rattle.data_encoding.proofs.lists.ListLemmas.{AllFail}
 use Rattle.data_encoding.proofs.lists.RunLemmas.{run_count}
 use Rattle.data_encoding.proofs.judgement.RuleLemmas.{IsRuled}
@@ -72,15 +71,14 @@ module _ (base : Base) (ruled : IsRuled base) where
         subst (AllFail (λ byte. is_ignored (meaning base byte))) (sym text_is)
         (none_ignored values are_values.below)
 
-    pub PlainMeans-plain_text : All (λ byte. byte < 256) bytes → (ks : List Positioned)
-        → bytes_in ks ≡ plain_text base bytes → PlainMeans base ks bytes
-    PlainMeans-plain_text below ks same =
+    pub PlainMeans-plain_text : All (λ byte. byte < 256) bytes
+        → PlainMeans base (map (meaning base) (plain_text base bytes)) bytes
+    PlainMeans-plain_text below =
         let rest_len = length-replicate lack 0 in record {
           values = values;
           rest = replicate lack 0;
           are_symbols =
-              sym (map-twice (meaning base) (λ (k : Positioned). k.byte) ks)
-              ∙ ap (map (meaning base)) (same ∙ text_is) ∙ own_meanings values are_values.below;
+              ap (map (meaning base)) text_is ∙ own_meanings values are_values.below;
           same_bits = are_values.same_bits;
           rest_is_short =
               subst (λ n. n < base.width) (sym rest_len)

@@ -1,19 +1,18 @@
 -- The text of bytes means the bytes.
-use Rattle.std.proofs.Common.{◌≡◌, ℕ, zero, suc, ◌+◌, ◌-◌, ◌*◌, ◌%◌, ◌<◌, ◌≤◌, true, List, [], ◌++◌, length, take, drop, replicate, Option, Some, None, is_some, refl, sym, ap, ◌∙◌, subst, arith, ⊎_elim, append_assoc, length-append, take-append-drop, length-take-le}
+use Rattle.std.proofs.Common.{◌≡◌, ℕ, zero, suc, ◌+◌, ◌-◌, ◌*◌, ◌%◌, ◌<◌, ◌≤◌, true, List, [], ◌++◌, length, take, drop, replicate, Option, Some, None, is_some, refl, sym, ap, ◌∙◌, subst, arith, ⊎_elim, append_assoc, length-append, take-append-drop, length-take-le, map}
 use Rattle.std.proofs.Math.Nat.{add-mod_left, mod-eq_of_lt}
 use Rattle.std.proofs.lemmas.Bool.{cases_lt, false≢true}
-use Rattle.std.proofs.lemmas.List.{append-nil, length-drop, nil_from_length}
+use Rattle.std.proofs.lemmas.List.{append-nil, length-drop, nil_from_length, length-map}
 use Rattle.std.proofs.lemmas.List.Elements.{All-take, All-drop}
 use Rattle.std.specs.Prelude.{All}
 use Rattle.data_encoding.specs.declared.encoding.Character.TheVariants.{Padding}
 use Rattle.data_encoding.specs.Base.{Base, IsWidth, meaning, is_padded, group_bytes, group_symbols}
 use Rattle.data_encoding.specs.Bits.{missing, runs}
-use Rattle.data_encoding.specs.Grammar.{GroupMeans, GroupsMean, Means, MeansBy, PlainMeans, kept, positioned, positioned_from}
+use Rattle.data_encoding.specs.Grammar.{GroupMeans, GroupsMean, Means, MeansBy, PlainMeans, kept, positioned, positioned_from, bytes_in, meanings_in}
 use Rattle.data_encoding.specs.Text.{filled_with, plain_text, text_of, with_padding}
 use Rattle.data_encoding.proofs.digits.WidthLemmas.{by_width, group_bytes-pos, group_symbols-pos}
-use Rattle.data_encoding.proofs.grammar.GroupLemmas.{bytes_in}
 use Rattle.data_encoding.proofs.grammar.PositionLemmas.{bytes-positioned_from, length-positioned_from, positioned_from-append}
-use Rattle.data_encoding.proofs.grammar.SameBytesLemmas.{GroupsMean-same}
+use Rattle.data_encoding.proofs.grammar.SameBytesLemmas.{GroupsMean-alike}
 use Rattle.data_encoding.proofs.grammar.SoundLemmas.{symbols-not_final}
 use Rattle.data_encoding.proofs.lists.RunLemmas.{run_count, runs-append, runs-nil, runs-short}
 use Rattle.data_encoding.proofs.judgement.RuleLemmas.{IsRuled, IsRuledPadding}
@@ -71,35 +70,39 @@ module _ (base : Base) (ruled : IsRuled base) where
     filled bytes = filled_with character size (plain_text base bytes)
 
     plain_means : (bytes : List ℕ) → All (λ byte. byte < 256) bytes
-        → PlainMeans base (positioned (plain_text base bytes)) bytes
-    plain_means bytes below =
-        PlainMeans-plain_text base ruled bytes below (positioned (plain_text base bytes))
-        (bytes-positioned_from 0 (plain_text base bytes))
+        → PlainMeans base (map (meaning base) (plain_text base bytes)) bytes
+    plain_means bytes below = PlainMeans-plain_text base ruled bytes below
+
+    -- a group that stands there
+    placed : (text bytes : List ℕ) → GroupMeans base (map (meaning base) text) bytes
+        → GroupMeans base (meanings_in base (positioned text)) bytes
+    placed text bytes =
+        subst (λ l. GroupMeans base (map (meaning base) l) bytes)
+        (sym (bytes-positioned_from 0 text))
 
     -- a whole group of symbols, which another may follow
     whole_group : (bytes : List ℕ) → All (λ byte. byte < 256) bytes
         → length bytes ≡ group_bytes base.width
-        → GroupMeans base (positioned (plain_text base bytes)) bytes
+        → GroupMeans base (map (meaning base) (plain_text base bytes)) bytes
     whole_group bytes below e =
-        let group = positioned (plain_text base bytes) in
+        let group = map (meaning base) (plain_text base bytes) in
         let len : length group ≡ size =
-        length-positioned_from 0 (plain_text base bytes)
+        length-map (plain_text base bytes) (meaning base)
         ∙ length-plain_text base bytes width.some ∙ ap (λ n. run_count base.width (8 * n)) e
         ∙ whole_symbols base.width width in
         record {
           symbols = group;
-          padding = [];
+          padding = 0;
           is_group = sym (append-nil group);
           is_whole = len;
           is_begun = subst (λ n. 0 < n) (sym len) (group_symbols-pos base.width width);
-          is_padding = refl;
           means = plain_means bytes below;
         }
 
     -- the last group
     last_group : (bytes : List ℕ) → All (λ byte. byte < 256) bytes → 0 < length bytes
         → length bytes ≤ group_bytes base.width
-        → GroupMeans base (positioned (filled bytes)) bytes
+        → GroupMeans base (map (meaning base) (filled bytes)) bytes
     last_group bytes below some few =
         let text = plain_text base bytes in
         let len = length-plain_text base bytes width.some in
@@ -131,11 +134,19 @@ module _ (base : Base) (ruled : IsRuled base) where
     last_meant bytes below some few =
         let group = positioned (filled bytes) in
         let means = last_group bytes below some few in
+        let len : length group ≡ size =
+        length-positioned_from 0 (filled bytes) ∙ sym (length-map (filled bytes) (meaning base))
+        ∙ means.is_whole in
         let positive = group_symbols-pos base.width width in
         subst (λ gs. GroupsMean base gs bytes)
-        (sym (runs-short size group (subst (λ n. 0 < n) (sym means.is_whole) positive)
-        (omega (arith, means.is_whole))))
-        (bytes, [], sym (append-nil bytes), means, (λ final. refl), refl)
+        (sym (runs-short size group (subst (λ n. 0 < n) (sym len) positive) (omega (arith, len)))) (
+          bytes,
+          [],
+          sym (append-nil bytes),
+          placed (filled bytes) bytes means,
+          (λ final. refl),
+          refl,
+        )
 
     -- a whole group, and those of the others
     next_meant : (bytes : List ℕ) → All (λ byte. byte < 256) bytes
@@ -149,7 +160,7 @@ module _ (base : Base) (ruled : IsRuled base) where
         let front_len : length front ≡ count = length-take-le count bytes long in
         let means = whole_group front (All-take (λ byte. byte < 256) count bytes below) front_len in
         let text_len : length text ≡ size =
-        sym (length-positioned_from 0 text) ∙ means.is_whole in
+        sym (length-map text (meaning base)) ∙ means.is_whole in
         let joined : plain_text base bytes ≡ text ++ plain_text base rest =
         ap (plain_text base) (sym (take-append-drop count bytes))
         ∙ plain_text-join base front rest width.some
@@ -163,17 +174,18 @@ module _ (base : Base) (ruled : IsRuled base) where
         subst (λ gs. GroupsMean base gs bytes)
         (sym (ap (runs size) parts
         ∙ runs-append size (positioned text) behind (group_symbols-pos base.width width)
-        means.is_whole)) (
+        (length-positioned_from 0 text ∙ text_len))) (
           front,
           rest,
           sym (take-append-drop count bytes),
-          means,
+          placed text front means,
           (λ final. absurd (false≢true
-              (sym (symbols-not_final base (positioned text) symbols.values symbols.are_symbols)
+              (sym (symbols-not_final base (meanings_in base (positioned text)) symbols.values
+              (ap (map (meaning base)) (bytes-positioned_from 0 text) ∙ symbols.are_symbols))
               ∙ final))),
-          GroupsMean-same base width padded (positioned (filled rest)) behind rest
-              (bytes-positioned_from 0 (filled rest)
-              ∙ sym (bytes-positioned_from (0 + length text) (filled rest)))
+          GroupsMean-alike base width (positioned (filled rest)) behind rest
+              (ap (map (meaning base)) (bytes-positioned_from 0 (filled rest)
+              ∙ sym (bytes-positioned_from (0 + length text) (filled rest))))
               others,
         )
 
@@ -206,9 +218,10 @@ module _ (base : Base) (ruled : IsRuled base) where
             ≡ with_padding o (group_symbols base.width) (plain_text base bytes)
             → MeansBy o base (text_of base bytes) bytes
         by None is h same =
-            PlainMeans-plain_text base ruled bytes below (kept base (text_of base bytes)) same
+            subst (λ l. PlainMeans base (map (meaning base) l) bytes) (sym same)
+            (PlainMeans-plain_text base ruled bytes below)
         by (Some character) is h same =
             let text = filled_with character (group_symbols base.width) (plain_text base bytes) in
-            GroupsMean-same base width (ap is_some is) (positioned text)
-            (kept base (text_of base bytes)) bytes (bytes-positioned_from 0 text ∙ sym same)
+            GroupsMean-alike base width (positioned text) (kept base (text_of base bytes)) bytes
+            (ap (map (meaning base)) (bytes-positioned_from 0 text ∙ sym same))
             (groups_meant (ap is_some is) character h.1 (length bytes) bytes (omega arith) below)

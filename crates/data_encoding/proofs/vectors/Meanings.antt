@@ -1,7 +1,8 @@
 -- Worked rows of what texts mean.
-use Rattle.std.proofs.Common.{◌≡◌, ℕ, ◌<◌, false, List, [], ◌∷◌, ◌++◌, length, codes, Some, None, refl, ap, lit<, arith, lit≤, ◌≤◌, sym, inl, inr, subst, ◌∙◌, ⊎_elim, ◌+◌, zero, suc}
+use Rattle.std.proofs.Common.{◌≡◌, ℕ, ◌<◌, false, List, [], ◌∷◌, ◌++◌, length, codes, Some, None, refl, ap, lit<, arith, lit≤, ◌≤◌, sym, inl, inr, subst, ◌∙◌, ⊎_elim, ◌+◌, zero, suc, map}
 use Rattle.std.proofs.lemmas.Bool.{false≢true}
 use Rattle.std.proofs.lemmas.List.Elements.{All-from_recursion}
+use Rattle.data_encoding.specs.declared.encoding.Character.TheVariants.{Symbol as SymbolCharacter}
 use Rattle.data_encoding.specs.declared.encoding.BitOrder.TheVariants.{LeastSignificantFirst, MostSignificantFirst}
 use Rattle.data_encoding.specs.declared.error.DecodeKind.TheVariants.{Symbol}
 use Rattle.data_encoding.specs.Base.{Base, is_padding, IsWidth, meaning}
@@ -31,7 +32,7 @@ use Rattle.data_encoding.proofs.vectors.Examples.{built, by, Has, unchecked, sin
 
 -- symbols alone, a group with padding, and the next one
 plain_symbols :
-    Has base64_fields (λ base. PlainMeans base (positioned (codes "AA")) (0 ∷ []))
+    Has base64_fields (λ base. PlainMeans base (map (meaning base) (codes "AA")) (0 ∷ []))
 plain_symbols = record {
   values = 0 ∷ 0 ∷ [];
   rest = 0 ∷ 0 ∷ 0 ∷ 0 ∷ [];
@@ -43,26 +44,24 @@ plain_symbols = record {
 }
 
 padded_group :
-    Has base64_fields (λ base. GroupMeans base (positioned (codes "AA==")) (0 ∷ []))
+    Has base64_fields (λ base. GroupMeans base (map (meaning base) (codes "AA==")) (0 ∷ []))
 padded_group = record {
-  symbols = positioned (codes "AA");
-  padding = positioned_from 2 (codes "==");
+  symbols = SymbolCharacter 0 ∷ SymbolCharacter 0 ∷ [];
+  padding = 2;
   is_group = refl;
   is_whole = refl;
   is_begun = lit< tt;
-  is_padding = refl;
   means = plain_symbols;
 }
 
 next_group :
-    Has base64_fields (λ base. GroupMeans base (positioned_from 4 (codes "AAA=")) (0 ∷ 0 ∷ []))
+    Has base64_fields (λ base. GroupMeans base (map (meaning base) (codes "AAA=")) (0 ∷ 0 ∷ []))
 next_group = record {
-  symbols = positioned_from 4 (codes "AAA");
-  padding = positioned_from 7 (codes "=");
+  symbols = SymbolCharacter 0 ∷ SymbolCharacter 0 ∷ SymbolCharacter 0 ∷ [];
+  padding = 1;
   is_group = refl;
   is_whole = refl;
   is_begun = lit< tt;
-  is_padding = refl;
   means = record {
     values = 0 ∷ 0 ∷ 0 ∷ [];
     rest = 0 ∷ 0 ∷ [];

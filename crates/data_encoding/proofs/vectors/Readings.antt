@@ -1,7 +1,8 @@
 -- Worked rows of what is decoded: data, faults, lengths.
 use Rattle.std.proofs.Common.{◌≡◌, ℕ, true, false, List, [], ◌∷◌, ◌++◌, map, drop, codes, replicate, Option, Some, None, Result, Ok, Err, refl, lit<, arith}
+use Rattle.data_encoding.specs.declared.decode.group.GroupFault.{GroupFault}
 use Rattle.data_encoding.specs.declared.specification.meanings.Refusal.{Refusal}
-use Rattle.data_encoding.specs.declared.encoding.Character.TheVariants.{Symbol as SymbolCharacter, Invalid}
+use Rattle.data_encoding.specs.declared.encoding.Character.TheVariants.{Symbol as SymbolCharacter, Padding as PaddingCharacter, Invalid}
 use Rattle.data_encoding.specs.declared.error.DecodeError.{DecodeError}
 use Rattle.data_encoding.specs.declared.error.DecodeFault.{DecodeFault}
 use Rattle.data_encoding.specs.declared.error.DecodeFault.TheVariants.{Error, OutOfMemory}
@@ -10,9 +11,9 @@ use Rattle.data_encoding.specs.declared.error.DecodeKind.TheVariants.{Length, Sy
 use Rattle.data_encoding.specs.declared.error.DecodePartial.{DecodePartial}
 use Rattle.data_encoding.specs.Base.{Base, meaning}
 use Rattle.data_encoding.specs.Canonical.{has_one_text}
-use Rattle.data_encoding.specs.Fault.{IsRefusal, symbol_bits, trailing_bits, bytes_of_group, position_of, fault_at, trailing_fault, fault_at_first, invalid_symbol_fault, symbols_fault, plain_fault, count_before_padding, padded_fault_at, group_fault, or_else, fault_after, sound_after, sound_groups, first_after, first_fault}
+use Rattle.data_encoding.specs.Fault.{IsRefusal, bytes_of_group, character_fault, count_before_padding, fault_after, fault_at, fault_at_first, faulty_at, first_after, first_fault, group_fault, located, or_else, padded_fault_at, plain_fault, position_of, sound_after, sound_groups, symbol_bits, symbol_bytes, symbols_fault, trailing_bits, trailing_fault}
 use Rattle.data_encoding.specs.Fields.{Fields, base_of}
-use Rattle.data_encoding.specs.Grammar.{Positioned, positioned_from, positioned, kept, groups, is_final, kept_from, kept_in}
+use Rattle.data_encoding.specs.Grammar.{Positioned, positioned_from, positioned, kept, groups, is_final, kept_from, kept_in, bytes_in, meanings_in}
 use Rattle.data_encoding.specs.Layout.{layout, fields_of}
 use Rattle.data_encoding.specs.Lengths.{alignment, decoded_len, greatest_valid_count, is_valid_count, is_valid_length, greatest_valid_length, length_fault, most_bytes, unless_fault, align_by}
 use Rattle.data_encoding.specs.Partial.{partial_of, position_after, position_after_first, sound_len, ignoring_nothing, is_sound_run, is_length_fault, read_len, partial_at, partial_by}
@@ -232,47 +233,60 @@ final_groups = (refl, refl)
 
 -- the bits of `AB`, the bytes of them and what is left
 bits_of_groups :
-    (by (λ base. symbol_bits base (positioned (codes "AB"))) base64_nopad_fields
+    (by (λ base. symbol_bits base (map (meaning base) (codes "AB"))) base64_nopad_fields
     ≡ Some (replicate 11 0 ++ 1 ∷ []))
-    × (by (λ base. bytes_of_group base (positioned (codes "AB"))) base64_nopad_fields
+    × (by (λ base. symbol_bytes base (map (meaning base) (codes "AB"))) base64_nopad_fields
     ≡ Some (0 ∷ []))
-    × (by (λ base. trailing_bits base (positioned (codes "AB"))) base64_nopad_fields
+    × (by (λ base. bytes_of_group base (positioned_from 4 (codes "AB"))) base64_nopad_fields
+    ≡ Some (0 ∷ []))
+    × (by (λ base. trailing_bits base (map (meaning base) (codes "AB"))) base64_nopad_fields
     ≡ Some (0 ∷ 0 ∷ 0 ∷ 1 ∷ []))
-bits_of_groups = (refl, refl, refl)
+    × (bytes_in (positioned_from 4 (codes "AB")) ≡ codes "AB")
+    × (by (λ base. meanings_in base (positioned_from 4 (codes "A="))) base64_fields
+    ≡ Some (SymbolCharacter 0 ∷ PaddingCharacter ∷ []))
+bits_of_groups = (refl, refl, refl, refl, refl, refl)
 
 abbrev at : DecodeKind → ℕ → Option DecodeError
 at kind position = Some (record { position = position; kind = kind })
 
--- the faults of groups that begin at 4
+-- the faults of groups, by index
 faults_of_symbols : Hold (λ text.
-    by {A = Option DecodeError × Option DecodeError × Option DecodeError} (λ base. (
-      invalid_symbol_fault base (positioned_from 4 text),
-      trailing_fault base (positioned_from 4 text),
-      symbols_fault base (positioned_from 4 text),
+    by {A = Option GroupFault × Option GroupFault} (λ base. (
+      trailing_fault base (map (meaning base) text),
+      symbols_fault base (map (meaning base) text),
     )) base64_nopad_fields) (
-    (codes "AA", Some (None, None, None))
-    ∷ (codes "AB", Some (None, at Trailing 5, at Trailing 5))
-    ∷ (codes "A!", Some (at Symbol 5, None, at Symbol 5))
+    (codes "AA", Some (None, None))
+    ∷ (codes "AB", Some (faulty_at Trailing 1, faulty_at Trailing 1))
+    ∷ (codes "A!", Some (None, faulty_at Symbol 1))
     ∷ []
     )
 faults_of_symbols = refl
 
 faults_of_groups :
+    (fault_at_first (Some 1) None ≡ Some (record { index = 1; kind = Symbol }))
+    × (fault_at_first None (faulty_at Trailing 1) ≡ faulty_at Trailing 1)
+    × (by (λ base. plain_fault base (map (meaning base) (codes "A"))) base64_nopad_fields
+    ≡ Some (faulty_at Length 0))
+    × (by (λ base. count_before_padding (map (meaning base) (codes "A==="))) base64_fields ≡ Some 1)
+    × (by (λ base. padded_fault_at base (map (meaning base) (codes "A===")) 1) base64_fields
+    ≡ Some (faulty_at Padding 1))
+    × (by (λ base. character_fault base (map (meaning base) (codes "A==="))) base64_fields
+    ≡ Some (faulty_at Padding 1))
+    × (by (λ base. group_fault base (codes "A===")) base64_fields ≡ Some (faulty_at Padding 1))
+    × (by (λ base. group_fault base (codes "A")) base64_nopad_fields ≡ Some (faulty_at Length 0))
+faults_of_groups = (refl, refl, refl, refl, refl, refl, refl, refl)
+
+-- and at the positions of a group that begins at 4
+located_faults :
     (position_of (positioned_from 4 (codes "AA==")) 2 ≡ 6)
     × (fault_at Padding (positioned_from 4 (codes "AA==")) 2 ≡ at Padding 6)
-    × (fault_at_first (Some 1) (positioned_from 4 (codes "A!")) None ≡ at Symbol 5)
-    × (fault_at_first None (positioned_from 4 (codes "AA")) (at Trailing 5) ≡ at Trailing 5)
-    × (by (λ base. plain_fault base (positioned_from 4 (codes "A"))) base64_nopad_fields
-    ≡ Some (at Length 4))
-    × (by (λ base. count_before_padding base (positioned_from 4 (codes "A==="))) base64_fields
-    ≡ Some 1)
-    × (by (λ base. padded_fault_at base (positioned_from 4 (codes "A===")) 1) base64_fields
+    × (located (positioned_from 4 (codes "A!")) (faulty_at Symbol 1) ≡ at Symbol 5)
+    × (located (positioned_from 4 (codes "AA")) None ≡ None)
+    × (by (λ base. fault_after false base (positioned_from 4 (codes "A==="))) base64_fields
     ≡ Some (at Padding 5))
-    × (by (λ base. group_fault base (positioned_from 4 (codes "A==="))) base64_fields
-    ≡ Some (at Padding 5))
-    × (by (λ base. group_fault base (positioned_from 4 (codes "A"))) base64_nopad_fields
+    × (by (λ base. fault_after false base (positioned_from 4 (codes "A"))) base64_nopad_fields
     ≡ Some (at Length 4))
-faults_of_groups = (refl, refl, refl, refl, refl, refl, refl, refl, refl)
+located_faults = (refl, refl, refl, refl, refl, refl)
 
 -- the second of three groups has a fault; behind a final one any group has
 faults_of_lists :

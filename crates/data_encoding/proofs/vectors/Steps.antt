@@ -110,7 +110,7 @@ group_decoded :
     IsDecodedGroup base (codes "QQ==") 2 (65 ∷ 0 ∷ 0 ∷ [])
     × HasSymbols base (codes "QR==") 2
     × HasFault base (codes "QR==") (record { index = 1; kind = Trailing })
-    × (most_symbols base (positioned (codes "QR==")) ≡ 2))
+    × (most_symbols base (codes "QR==") ≡ 2))
 group_decoded = (
   record { within = lit≤ tt; sound = refl; final = refl; bytes = refl },
   record { count_is = refl; within = lit≤ tt; valid = refl; fault_is = refl },

@@ -1,11 +1,10 @@
 //! The judgement of one group of a text: its bytes, or its fault.
 
-ghost use Rattle.std.specs.Prelude.{◌≡◌, ℕ, ◌*◌, ◌/◌, ◌<◌, ◌≤◌, ◌==◌, not, true, List, length, map, IsTrue, slice_index, IfOk, IfErr};
+ghost use Rattle.std.specs.Prelude.{◌≡◌, ℕ, ◌*◌, ◌/◌, ◌<◌, ◌≤◌, ◌==◌, not, true, length, map, IsTrue, slice_index, IfOk, IfErr};
 ghost use Rattle.std.specs.List.{list_any};
-ghost use Rattle.data_encoding.specs.Base.{Base, is_padded};
+ghost use Rattle.data_encoding.specs.Base.{Base, meaning, is_padded};
 ghost use Rattle.data_encoding.specs.Decoding.{HasFault, HasSymbols, IsDecodedGroup};
 ghost use Rattle.data_encoding.specs.Fault.{count_before_padding, trailing_bits};
-ghost use Rattle.data_encoding.specs.Grammar.{Positioned, positioned};
 ghost use Rattle.data_encoding.specs.Lengths.{is_valid_count};
 ghost use Rattle.data_encoding.specs.Tables.{HoldsValues, IsGroup, Reads};
 
@@ -105,7 +104,7 @@ fn faulty(index: usize, kind: DecodeKind) -> GroupFault
 // How many bytes of a group come before the padding at its end.
 fn before_padding(values: &[u8; 256], group: &[u8]) -> usize
     ensures count { (base : Base) → HoldsValues base values.now
-        → result ≡ count_before_padding base (positioned group.now) }
+        → result ≡ count_before_padding (map (meaning base) group.now) }
     ensures within { result ≤ length group.now }
 {
     for padding in 0..group.len() {
@@ -124,9 +123,9 @@ fn has_trailing<const WIDTH: usize>(values: &[u8; 256], order: BitOrder, symbols
     requires symbols { (k : ℕ) → k < length symbols.now
         → slice_index values.now (slice_index symbols.now k) < 128 }
     requires valid { is_valid_count WIDTH (length symbols.now) ≡ true }
-    ensures any { (base : Base) (ks : List Positioned) → Reads base values.now WIDTH order
-        → map (λ k. k.byte) ks ≡ symbols.now
-        → result ≡ list_any (λ bit. not (bit == 0)) (trailing_bits base ks) }
+    ensures any { (base : Base) → Reads base values.now WIDTH order
+        → result ≡ list_any (λ bit. not (bit == 0))
+        (trailing_bits base (map (meaning base) symbols.now)) }
     ensures some { IsTrue result → 0 < length symbols.now }
 {
     let Some(last) = symbols.last() else {

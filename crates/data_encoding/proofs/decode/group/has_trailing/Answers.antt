@@ -10,18 +10,24 @@ overflow_mul-trailing g c =
     record { fits = omega (arith, most) }
 
 pub returns-in-MostSignificantFirst-clause-any : goal.returns-in-MostSignificantFirst-clause-any
-returns-in-MostSignificantFirst-clause-any g c base ks reads e =
+returns-in-MostSignificantFirst-clause-any g c base reads =
     let few = g.row.WIDTH * length c.args.symbols.now % 8 in
     ap (λ n. not (slice_index c.args.values.now c.in-Some.last.now % n == 0))
     (one_shl few 8 (omega arith))
-    ∙ some_trailing-most base g.row.WIDTH c.args.values.now c.args.symbols.now ks
-    reads.width_is reads.holds e
-    (λ k. (c.type_inv.symbols k).fits) c.requires.symbols c.requires.valid c.in-Some.last.now
-    c.in-Some.ensures.value (reads.order_is ∙ c.in-MostSignificantFirst.is)
+    ∙ some_trailing-most base g.row.WIDTH c.args.values.now c.args.symbols.now reads.width_is
+    reads.holds c.in-Some.last.now (record {
+      are_bytes = λ k. (c.type_inv.symbols k).fits;
+      low = c.requires.symbols;
+      valid = c.requires.valid;
+      is_last = c.in-Some.ensures.value;
+    }) (reads.order_is ∙ c.in-MostSignificantFirst.is)
 
 pub returns-in-LeastSignificantFirst-clause-any : goal.returns-in-LeastSignificantFirst-clause-any
-returns-in-LeastSignificantFirst-clause-any g c base ks reads e =
-    some_trailing-least base g.row.WIDTH c.args.values.now c.args.symbols.now ks
-    reads.width_is reads.holds e
-    (λ k. (c.type_inv.symbols k).fits) c.requires.symbols c.requires.valid c.in-Some.last.now
-    c.in-Some.ensures.value (reads.order_is ∙ c.in-LeastSignificantFirst.is)
+returns-in-LeastSignificantFirst-clause-any g c base reads =
+    some_trailing-least base g.row.WIDTH c.args.values.now c.args.symbols.now reads.width_is
+    reads.holds c.in-Some.last.now (record {
+      are_bytes = λ k. (c.type_inv.symbols k).fits;
+      low = c.requires.symbols;
+      valid = c.requires.valid;
+      is_last = c.in-Some.ensures.value;
+    }) (reads.order_is ∙ c.in-LeastSignificantFirst.is)

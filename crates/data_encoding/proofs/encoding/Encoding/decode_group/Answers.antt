@@ -1,10 +1,10 @@
-use Rattle.std.proofs.Common.{◌≡◌, ◌*◌, ◌/◌, ◌<◌, ◌≤◌, ◌==◌, ◌&&◌, false, not, length, take, drop, refl, sym, ap, ◌∙◌, subst, arith, length-take-le, ⊎_elim}
+use Rattle.std.proofs.Common.{◌≡◌, ◌*◌, ◌/◌, ◌<◌, ◌≤◌, ◌==◌, ◌&&◌, false, not, length, map, take, drop, refl, sym, ap, ◌∙◌, subst, arith, length-take-le, ⊎_elim}
 use Rattle.std.proofs.Math.Nat.{mul-le-mul_left}
 use Rattle.std.proofs.lemmas.Bool.{cases_lt, false≢true}
 use Rattle.std.specs.List.{list_any}
-use Rattle.data_encoding.specs.Base.{Base}
+use Rattle.data_encoding.specs.Base.{Base, meaning}
 use Rattle.data_encoding.specs.Decoding.{HasFault}
-use Rattle.data_encoding.specs.Fault.{trailing_bits}
+use Rattle.data_encoding.specs.Fault.{symbol_bytes, trailing_bits}
 use Rattle.data_encoding.specs.Grammar.{positioned}
 use Rattle.data_encoding.proofs.decoding.GroupJudgementLemmas.{group-sound, symbol-fault, trailing-fault}
 use Rattle.data_encoding.proofs.digits.WidthLemmas.{group_symbols-few}
@@ -93,10 +93,9 @@ returns-then-has_trailing-clause-fault g c =
     (trailing-fault seen c.self.inside.values holds group (λ k. (c.type_inv.group k).fits) count
     c.in-Ok.ensures.symbols (c.if-not-decode_symbols.ensures.symbols.0 refl)
     (ap (λ (b : Base). b.checks_trailing_bits) (sym c.self.view_is) ∙ c.if-self.true)
-    (sym (c.if-has_trailing.ensures.any seen (positioned (take count group))
+    (sym (c.if-has_trailing.ensures.any seen
     (Reads-seen c.self.inside c.self.invariant seen c.self.view_is g.row.WIDTH c.args.order
-    c.requires.width c.requires.order)
-    (bytes-positioned_from 0 (take count group))))
+    c.requires.width c.requires.order)))
     (c.if-has_trailing.ensures.some refl))
 
 pub returns-clause-sound : goal.returns-clause-sound
@@ -104,21 +103,21 @@ returns-clause-sound g c =
     let seen = c.args.self.now in
     let group = c.args.group.now in
     let count = c.in-Ok.count in
-    let ks = positioned (take count group) in
+    let symbols = take count group in
+    let judged = map (meaning seen) symbols in
     let few = c.in-Ok.ensures.symbols.within in
     let most = mul-le-mul_left g.row.WIDTH few in
     let reads = Reads-seen c.self.inside c.self.invariant seen c.self.view_is g.row.WIDTH
     c.args.order c.requires.width c.requires.order in
     let checks = ap (λ (b : Base). b.checks_trailing_bits) (sym c.self.view_is) in
     let quiet : (seen.checks_trailing_bits
-    && list_any (λ bit. not (bit == 0)) (trailing_bits seen ks)) ≡ false =
+    && list_any (λ bit. not (bit == 0)) (trailing_bits seen judged)) ≡ false =
     elim c.else-self.branch [
       | else-self-via-then-self+else-has_trailing w ↦
           (λ i. (checks ∙ w.if-self.true) i
-          && sym (w.if-has_trailing.ensures.any seen ks reads
-          (bytes-positioned_from 0 (take count group))) i)
+          && sym (w.if-has_trailing.ensures.any seen reads) i)
       | else-self-via-else-self w ↦
-          ap (λ b. b && list_any (λ bit. not (bit == 0)) (trailing_bits seen ks))
+          ap (λ b. b && list_any (λ bit. not (bit == 0)) (trailing_bits seen judged))
           (checks ∙ w.if-self.false)
     ] in
     let room = c.requires.room c.in-Ok.ensures.whole in
@@ -128,5 +127,6 @@ returns-clause-sound g c =
     (c.decode_symbols.auto.output
     ∙ length-take-le (g.row.WIDTH * count / 8) c.args.output.now (omega (arith, most, room))
     ∙ ap (λ w. w * count / 8) (sym c.requires.width))
-    (c.if-not-decode_symbols.ensures.bytes seen ks reads
-    (bytes-positioned_from 0 (take count group)) refl)
+    (c.if-not-decode_symbols.ensures.bytes seen (positioned symbols) reads
+    (bytes-positioned_from 0 symbols) refl
+    ∙ ap (λ l. symbol_bytes seen (map (meaning seen) l)) (bytes-positioned_from 0 symbols))

@@ -1,8 +1,20 @@
 use Rattle.std.proofs.Common.{◌≡◌, ◌*◌, ◌/◌, ◌≤◌, length, take, sym, ap, ◌∙◌, subst, arith, length-take-le, inr}
 use Rattle.std.proofs.Math.Nat.{mul-le-mul_left}
+use Rattle.std.proofs.lemmas.Nat.{mul-le}
 use Rattle.data_encoding.specs.Base.{group_symbols}
 use Rattle.data_encoding.specs.Decoding.{IsDecodedGroup, valid_front}
+use Rattle.data_encoding.proofs.digits.WidthLemmas.{group_symbols-few}
 use Rattle.data_encoding.proofs.encoding.Encoding.decode_last_run.Goals as goal
+
+pub overflow_mul-result : goal.overflow_mul-result
+overflow_mul-result g c =
+    let group = c.requires.group in
+    let len = c.greatest_valid_length-len.result in
+    let taken = length-take-le len c.args.rest.now c.greatest_valid_length-len.ensures.most in
+    let few = group_symbols-few g.row.WIDTH group.is_width in
+    let most = mul-le g.row.WIDTH c.in-Ok.count 6 8 group.is_width.few
+    (omega (arith, few, c.in-Ok.ensures.sound.within, taken, c.if-len.false, group.has_symbols)) in
+    record { fits = omega (arith, most) }
 
 pub returns-in-Ok-clause-run : goal.returns-in-Ok-clause-run
 returns-in-Ok-clause-run g c =
