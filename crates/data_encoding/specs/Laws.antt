@@ -65,14 +65,14 @@ Order =
 abbrev pub NoOrder : Type 0
 NoOrder = (base : Base) → IsSpecified base → base.wrapping ≡ None → IsBroken base
 
--- a fault so many bytes further on
+-- a fault that is found this many bytes further on
 abbrev pub further : ℕ → Option DecodeError → Option DecodeError
 further count None = None
 further count (Some fault) =
     Some (record { position = count + fault.position; kind = fault.kind })
 
 -- Behind a text that means bytes and may be followed, another text has the fault that it has alone,
--- further on, and its bytes stand behind those.
+-- further on, and its bytes follow those.
 abbrev pub JoinFault : Type 0
 JoinFault =
     (base : Base) → IsSpecified base → (text after bytes : List ℕ)
