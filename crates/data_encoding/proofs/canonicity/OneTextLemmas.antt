@@ -175,7 +175,8 @@ module _ (base : Base) (ruled : IsRuled base) (one : HasOneForm base) where
         ap filled none ∙ ap (filled_with character size) (plain_text-nil base width.some)
         ∙ filled-nil character size (group_symbols-pos base.width width)
 
-    groups_are : (gs : List (List Positioned)) (bytes : List ℕ) → GroupsMean base gs bytes
+    groups_are : (gs : List (List Positioned)) (bytes : List ℕ)
+        → GroupsMean base (map (meanings_in base) gs) bytes
         → own_in (flat_map (λ g. g) gs) ≡ filled bytes
     groups_are [] bytes means = sym (filled_none bytes means)
     groups_are (group ∷ gs) bytes means =

@@ -1,5 +1,5 @@
 -- What the number of bytes that a text means tells of its groups.
-use Rattle.std.proofs.Common.{◌≡◌, ℕ, ◌+◌, ◌*◌, ◌%◌, ◌<◌, ◌==◌, Bool, true, false, not, ◌&&◌, ◌||◌, List, [], ◌∷◌, length, replicate, Option, Some, None, is_some, refl, sym, ap, ◌∙◌, subst, arith, length-append, nat_lt, ◌++◌}
+use Rattle.std.proofs.Common.{◌≡◌, ℕ, ◌+◌, ◌*◌, ◌%◌, ◌<◌, ◌==◌, Bool, true, false, not, ◌&&◌, ◌||◌, List, [], ◌∷◌, length, replicate, Option, Some, None, is_some, refl, sym, ap, ◌∙◌, subst, arith, length-append, nat_lt, ◌++◌, map}
 use Rattle.std.proofs.Math.Nat.{add-mod_left, zero-mod}
 use Rattle.std.proofs.lemmas.Bool.{false≢true}
 use Rattle.std.proofs.lemmas.Bool.Decides.{nat_tests}
@@ -91,7 +91,8 @@ module _ (base : Base) where
           → is_final base group ≡ list_any is_padding (meanings_in base group)
       final_is group = ap (λ b. not b && list_any is_padding (meanings_in base group)) apart
 
-      groups_end : (gs : List (List Positioned)) (bytes : List ℕ) → GroupsMean base gs bytes
+      groups_end : (gs : List (List Positioned)) (bytes : List ℕ)
+          → GroupsMean base (map (meanings_in base) gs) bytes
           → list_any (is_final base) gs ≡ not (length bytes % size == 0)
       groups_end [] bytes h =
           sym (ap (λ n. not (n == 0)) (ap (λ l. length l % size) h ∙ zero-mod size))
