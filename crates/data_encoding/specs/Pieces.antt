@@ -171,7 +171,7 @@ MeansWhole =
     → length bytes % group_bytes base.width ≡ 0
     → length (kept base text) % group_symbols base.width ≡ 0
 
--- For so many whole groups of symbols, as many whole groups of bytes are due.
+-- For a number of whole groups of symbols, as many whole groups of bytes are due.
 abbrev pub CountsGroups : Type 0
 CountsGroups =
     (base : Base) → IsSpecified base → (count : ℕ)

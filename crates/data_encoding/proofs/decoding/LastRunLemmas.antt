@@ -17,7 +17,7 @@ use Rattle.data_encoding.specs.Grammar.{Positioned, positioned_from, kept, group
 use Rattle.data_encoding.specs.Lengths.{is_valid_count, greatest_valid_count, greatest_valid_length, length_fault}
 use Rattle.data_encoding.specs.Fault.{bytes_of_group, count_before_padding, fault_after, fault_at, fault_of, faulty_at, first_after, group_fault, located, or_else, padded_fault_at, plain_fault, position_of, sound_after, sound_bytes, symbol_bytes, symbols_fault}
 use Rattle.data_encoding.specs.Partial.{StopsAt, sound_len, read_len, is_length_fault, is_sound_run, partial_by}
-use Rattle.data_encoding.specs.Decoding.{AreSound, HasDecodedTo}
+use Rattle.data_encoding.specs.Decoding.{AreSound}
 use Rattle.data_encoding.proofs.lists.ListLemmas.{filter-all, length-filter}
 use Rattle.data_encoding.proofs.lists.RunLemmas.{runs-join, runs-short}
 use Rattle.data_encoding.proofs.grammar.PositionLemmas.{bytes-positioned_from, length-positioned_from, length-meanings}
@@ -26,7 +26,7 @@ use Rattle.data_encoding.proofs.grammar.LengthLemmas.{greatest_valid_length-by, 
 use Rattle.data_encoding.proofs.grammar.GroupLemmas.{whole-valid}
 use Rattle.data_encoding.proofs.grammar.SoundLemmas.{AreSound-append, first-none, sound-all}
 use Rattle.data_encoding.proofs.grammar.MeaningLemmas.{Means-no_fault}
-use Rattle.data_encoding.proofs.decoding.ProgressLemmas.{IsNext, sound_bytes-front}
+use Rattle.data_encoding.proofs.decoding.ProgressLemmas.{sound_bytes-front}
 use Rattle.data_encoding.proofs.decoding.StopLemmas.{IsAtFault, bounds, fault_is, kind-located, kind-next, kind_of, other-group, pos, rest_is, sound_len_is, whole}
 use Rattle.data_encoding.proofs.decoding.GreatestLengthLemmas.{greatest-least, greatest-less, greatest-more, greatest-same, greatest-valid}
 use Rattle.data_encoding.proofs.decoding.IgnoringLemmas.{group-kept}

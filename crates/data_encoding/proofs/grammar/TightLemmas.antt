@@ -6,7 +6,7 @@ use Rattle.std.specs.List.{AllByRecursion}
 use Rattle.data_encoding.specs.declared.encoding.Character.{Character}
 use Rattle.data_encoding.specs.declared.encoding.Character.TheVariants.{Ignored}
 use Rattle.data_encoding.specs.Base.{Base, IsWidth, Wrapping, ignores_some, is_ignored, meaning}
-use Rattle.data_encoding.specs.Grammar.{GroupsMean, Means, MeansBy, PlainMeans, Positioned, groups, kept, meanings_in}
+use Rattle.data_encoding.specs.Grammar.{GroupsMean, Means, MeansBy, PlainMeans, groups, kept, meanings_in}
 use Rattle.data_encoding.specs.Lengths.{most_bytes}
 use Rattle.data_encoding.specs.Text.{text_of}
 use Rattle.data_encoding.proofs.digits.WidthLemmas.{by_width}
