@@ -1,5 +1,5 @@
 -- What the parts of a decoding promise: a run of whole groups, the next group, and its judgement.
-use Rattle.std.specs.Prelude.{◌≡◌, ℕ, ◌+◌, ◌-◌, ◌*◌, ◌/◌, ◌%◌, ◌<◌, ◌≤◌, ◌⊎◌, ◌&&◌, not, nat_lt, Bool, true, false, List, [], ◌∷◌, length, map, take, drop, flat_map, if◌then◌else◌, Some, None, is_some, slice_index}
+use Rattle.std.specs.Prelude.{◌≡◌, ℕ, ◌+◌, ◌-◌, ◌*◌, ◌/◌, ◌%◌, ◌<◌, ◌≤◌, ◌⊎◌, nat_lt, Bool, true, false, List, [], ◌∷◌, length, map, take, drop, flat_map, if◌then◌else◌, Some, None, is_some, slice_index}
 use Rattle.std.specs.List.{list_any}
 use Rattle.data_encoding.specs.declared.encoding.BitOrder.{BitOrder}
 use Rattle.data_encoding.specs.declared.error.DecodePartial.{DecodePartial}
@@ -7,22 +7,25 @@ use Rattle.data_encoding.specs.declared.decode.Stop.{Stop}
 use Rattle.data_encoding.specs.declared.decode.group.GroupFault.{GroupFault}
 use Rattle.data_encoding.specs.Base.{Base, meaning, is_symbol, is_ignored, is_padded, is_padding, group_bytes, group_symbols}
 use Rattle.data_encoding.specs.Bits.{runs}
-use Rattle.data_encoding.specs.Grammar.{Means, Positioned, groups, is_final, kept, kept_from, positioned}
+use Rattle.data_encoding.specs.Grammar.{Means, Positioned, groups, is_final, kept, kept_from}
 use Rattle.data_encoding.specs.Lengths.{greatest_valid_length, is_valid_count}
 use Rattle.data_encoding.specs.Fault.{bytes_of_group, count_before_padding, fault_after, fault_of, group_fault, position_of, sound_bytes, symbol_bytes, symbols_fault}
 use Rattle.data_encoding.specs.Tables.{Reads}
 use Rattle.data_encoding.specs.Partial.{StopsAt, is_length_fault, position_after}
 
--- So many whole groups in a row, from the front of a part of a text, are symbols alone; their bytes
--- stand at the front of the output, which keeps its length.
+-- the bytes of groups of symbols in a row
+abbrev pub run_bytes : Base → List ℕ → List ℕ
+run_bytes base part =
+    flat_map (symbol_bytes base) (runs (group_symbols base.width) (map (meaning base) part))
+
+-- This many whole groups in a row, from the front of a part of a text, are symbols alone; their
+-- bytes stand at the front of the output, which keeps its length.
 pub record IsRun (base : Base) (part : List ℕ) (count : ℕ) (old new : List ℕ) : Type 0 where
   pub within : count * group_symbols base.width ≤ length part
   pub are_symbols : (k : ℕ) → k < count * group_symbols base.width
       → is_symbol (meaning base (slice_index part k)) ≡ true
   pub bytes : take (count * group_bytes base.width) new
-      ≡ flat_map (bytes_of_group base)
-      (runs (group_symbols base.width)
-      (positioned (take (count * group_symbols base.width) part)))
+      ≡ run_bytes base (take (count * group_symbols base.width) part)
 
 -- No longer run stands there: it has all whole groups, or the next has a byte that is no symbol.
 abbrev pub IsLongest : Base → List ℕ → ℕ → Type 0
@@ -48,7 +51,7 @@ AreSound base begun [] ended = begun ≡ ended
 AreSound base begun (group ∷ others) ended =
     (fault_after begun base group ≡ None) × AreSound base (is_final base group) others ended
 
--- So much of the text was read and so many bytes written: whole groups without a fault, or all
+-- The text was read and bytes were written up to here: whole groups without a fault, or all
 -- groups, where the last of an unpadded text may be shorter.
 pub record HasDecodedTo (base : Base) (text : List ℕ) (read written : ℕ) (ended : Bool)
     (output : List ℕ) : Type 0 where
@@ -60,7 +63,7 @@ pub record HasDecodedTo (base : Base) (text : List ℕ) (read written : ℕ) (en
   pub fits : written ≤ length output
   pub writes : take written output ≡ flat_map (bytes_of_group base) (groups base (take read text))
 
--- A group without a fault: it has so many symbols, whose bytes stand at the front of the output.
+-- A group without a fault: it has this many symbols, whose bytes stand at the front of the output.
 pub record IsDecodedGroup (base : Base) (group : List ℕ) (count : ℕ) (new : List ℕ)
     : Type 0 where
   pub within : count ≤ length group
@@ -85,7 +88,7 @@ pub record HasFault (base : Base) (group : List ℕ) (fault : GroupFault) : Type
   pub inside : fault.index < length group
   pub is_fault : group_fault base group ≡ Some fault
 
--- The bytes of a part that are not ignored, up to the end of one of them: so many, or all.
+-- The bytes of a part that are not ignored, up to the end of one of them: this many, or all.
 pub record IsGathered (base : Base) (size : ℕ) (part bytes : List ℕ) (span : ℕ) : Type 0 where
   pub within : span ≤ length part
   pub bytes_are : map (λ k. k.byte) (kept base (take span part)) ≡ bytes
@@ -97,7 +100,7 @@ pub record IsGathered (base : Base) (size : ℕ) (part bytes : List ℕ) (span :
 abbrev pub valid_front : Base → List ℕ → List ℕ
 valid_front base rest = take (greatest_valid_length base (length rest)) rest
 
--- The front of valid length decodes as it stands, to so many bytes: it is empty, or one group.
+-- The front of valid length decodes as it stands, to this many bytes: it is empty, or one group.
 abbrev pub IsLastRun : Base → List ℕ → ℕ → List ℕ → Type 0
 IsLastRun base rest written new =
     ((length (valid_front base rest) ≡ 0) × (written ≡ 0))
@@ -113,8 +116,8 @@ HasNoLastRun base rest =
     × (length (valid_front base rest) ≤ group_symbols base.width
     → is_some (group_fault base (valid_front base rest)) ≡ true)
 
--- What is told of a faulty group, before which so much was read and written: only where it is too
--- short may a last run be read too.
+-- What is reported of a faulty group, and of what was read and written before it: only where it is
+-- too short may a last run be read too.
 pub record IsStop (base : Base) (rest : List ℕ) (read written : ℕ) (fault : GroupFault)
     (new : List ℕ) (partial : DecodePartial) : Type 0 where
   pub error_is : partial.error ≡ record {
@@ -136,8 +139,8 @@ HasRoom base rest room =
 abbrev pub fault_of_stop : Stop → GroupFault
 fault_of_stop stop = record { index = stop.index; kind = stop.kind }
 
--- A decoding stopped before a faulty group: what is told of that group says how the decoding of the
--- text stopped.
+-- A decoding stopped before a faulty group: what is reported of that group says how the decoding of
+-- the text stopped.
 pub record HasStopped (base : Base) (text output : List ℕ) (stop : Stop) : Type 0 where
   pub within : stop.read ≤ length text
   pub fits : stop.written ≤ length output

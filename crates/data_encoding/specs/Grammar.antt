@@ -65,21 +65,24 @@ pub record GroupMeans (base : Base) (group : List Character) (bytes : List ℕ) 
   pub means : PlainMeans base symbols bytes
 
 -- a group that no other may follow: it has padding, and texts may not be concatenated
+abbrev pub ends_text : Base → List Character → Bool
+ends_text base group = not base.concatenates && list_any is_padding group
+
 abbrev pub is_final : Base → List Positioned → Bool
-is_final base group =
-    not base.concatenates && list_any is_padding (meanings_in base group)
+is_final base group = ends_text base (meanings_in base group)
 
 -- Each group means a piece, a final one is the last, and the bytes are the pieces joined.
-abbrev pub GroupsMean : Base → List (List Positioned) → List ℕ → Type 0
+abbrev pub GroupsMean : Base → List (List Character) → List ℕ → Type 0
 GroupsMean base [] bytes = bytes ≡ []
 GroupsMean base (group ∷ others) bytes =
     (piece more : List ℕ) × (bytes ≡ piece ++ more)
-    × GroupMeans base (meanings_in base group) piece × (is_final base group ≡ true → others ≡ [])
+    × GroupMeans base group piece × (ends_text base group ≡ true → others ≡ [])
     × GroupsMean base others more
 
 abbrev pub MeansBy : Option ℕ → Base → List ℕ → List ℕ → Type 0
 MeansBy None base text bytes = PlainMeans base (meanings_in base (kept base text)) bytes
-MeansBy (Some character) base text bytes = GroupsMean base (groups base text) bytes
+MeansBy (Some character) base text bytes =
+    GroupsMean base (map (meanings_in base) (groups base text)) bytes
 
 -- The text means the data.
 abbrev pub Means : Base → List ℕ → List ℕ → Type 0

@@ -65,7 +65,11 @@ Order =
 abbrev pub NoOrder : Type 0
 NoOrder = (base : Base) → IsSpecified base → base.wrapping ≡ None → IsBroken base
 
+<<<<<<< HEAD
 -- a fault that is found this many bytes further on
+=======
+-- a fault this many bytes further on
+>>>>>>> h3
 abbrev pub further : ℕ → Option DecodeError → Option DecodeError
 further count None = None
 further count (Some fault) =
@@ -80,8 +84,8 @@ JoinFault =
     → (fault_of base (text ++ after) ≡ further (length text) (fault_of base after))
     × (sound_bytes base (text ++ after) ≡ bytes ++ sound_bytes base after)
 
--- So much of a piece means these bytes, and what is left of it, before what follows, has the
--- meaning and the fault of the whole.
+-- The front of a piece, as far as it was read, means these bytes, and what is left of it, before
+-- what follows, has the meaning and the fault of the whole.
 pub record Resumes (base : Base) (piece next : List ℕ) (read : ℕ) (bytes : List ℕ) : Type 0 where
   pub read_means : Means base (take read piece) bytes
   pub rest_means : (more : List ℕ) → Means base (drop read piece ++ next) more

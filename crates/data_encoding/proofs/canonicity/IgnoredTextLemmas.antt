@@ -1,9 +1,9 @@
 -- An ignored byte gives a second text.
-use Rattle.std.proofs.Common.{ℕ, ◌<◌, not, cond, [], ◌∷◌, Option, Some, None, refl, sym, ap, ◌∙◌, subst, arith}
+use Rattle.std.proofs.Common.{ℕ, ◌<◌, not, cond, [], ◌∷◌, Option, Some, None, refl, sym, ap, ◌∙◌, subst, arith, map}
 use Rattle.std.proofs.lemmas.List.Elements.{All-from_recursion}
 use Rattle.data_encoding.specs.Base.{Base, group_symbols}
 use Rattle.data_encoding.specs.Canonical.{IgnoredIsSecond}
-use Rattle.data_encoding.specs.Grammar.{GroupsMean, Means, MeansBy, Positioned}
+use Rattle.data_encoding.specs.Grammar.{GroupsMean, Means, MeansBy, Positioned, meanings_in}
 use Rattle.data_encoding.proofs.digits.WidthLemmas.{group_symbols-pos}
 use Rattle.data_encoding.proofs.grammar.SameBytesLemmas.{bytes-kept_in, Means-same}
 use Rattle.data_encoding.proofs.lists.RunLemmas.{runs-nil}
@@ -24,7 +24,7 @@ module _ (base : Base) (ruled : IsRuled base) where
       are_bytes = All-from_recursion (λ byte. byte < 256) [] tt;
     }
     by (Some character) =
-        subst (λ gs. GroupsMean base gs [])
+        subst (λ gs. GroupsMean base (map (meanings_in base) gs) [])
         (sym (runs-nil {X = Positioned} (group_symbols base.width)
         (group_symbols-pos base.width ruled.is_width))) refl
 

@@ -5,11 +5,11 @@ use Rattle.std.specs.Prelude.{All}
 use Rattle.data_encoding.specs.declared.encoding.Character.TheVariants.{Symbol}
 use Rattle.data_encoding.specs.Base.{Base, IsWidth, meaning, is_ignored, is_padded, group_symbols}
 use Rattle.data_encoding.specs.Bits.{missing, runs}
-use Rattle.data_encoding.specs.Grammar.{GroupMeans, GroupsMean, Means, MeansBy, PlainMeans, bytes_in, kept, positioned}
+use Rattle.data_encoding.specs.Grammar.{GroupMeans, GroupsMean, Means, MeansBy, PlainMeans, bytes_in, kept}
 use Rattle.data_encoding.specs.Text.{padded_text, plain_text, text_of, with_padding}
-use Rattle.data_encoding.proofs.digits.WidthLemmas.{group_bytes-pos, group_symbols-few}
-use Rattle.data_encoding.proofs.grammar.PositionLemmas.{bytes-positioned_from, length-positioned_from}
-use Rattle.data_encoding.proofs.grammar.SameBytesLemmas.{GroupsMean-alike, Means-same, bytes-kept_in}
+use Rattle.data_encoding.proofs.digits.WidthLemmas.{group_bytes-pos, group_symbols-few, group_symbols-pos}
+use Rattle.data_encoding.proofs.grammar.PositionLemmas.{runs-meanings}
+use Rattle.data_encoding.proofs.grammar.SameBytesLemmas.{Means-same, bytes-kept_in}
 use Rattle.data_encoding.proofs.lists.EachLemmas.{all_joined}
 use Rattle.data_encoding.proofs.lists.ListLemmas.{AllFail}
 use Rattle.data_encoding.proofs.lists.RunLemmas.{runs-short}
@@ -74,35 +74,28 @@ module _ (base : Base) (ruled : IsRuled base) where
           filled : List ℕ
           filled = text ++ fillers
 
-          whole_group : length (positioned filled) ≡ size
-          whole_group = length-positioned_from 0 filled ∙ whole
-
           keeps : keeps_all filled
           keeps =
               all_joined (λ byte. is_ignored (meaning base byte) ≡ false) text fillers symbols
               (fillers_kept base fillers all)
 
-          one : GroupsMean base (runs size (positioned filled)) bytes
+          means_all : GroupMeans base (map (meaning base) filled) bytes
+          means_all = GroupMeans-fillers base text fillers bytes means some whole all
+
+          one : GroupsMean base (runs size (map (meaning base) filled)) bytes
           one =
               subst (λ gs. GroupsMean base gs bytes)
-              (sym (runs-short size (positioned filled) (omega (arith, whole_group, some, few))
-              (omega (arith, whole_group)))) (
-                bytes,
-                [],
-                sym (append-nil bytes),
-                subst (λ l. GroupMeans base (map (meaning base) l) bytes)
-                    (sym (bytes-positioned_from 0 filled))
-                    (GroupMeans-fillers base text fillers bytes means some whole all),
-                (λ final. refl),
-                refl,
-              )
+              (sym (runs-short size (map (meaning base) filled)
+              (omega (arith, means_all.is_whole, some, few)) (omega (arith, means_all.is_whole))))
+              (bytes, [], sym (append-nil bytes), means_all, (λ final. refl), refl)
 
           by : (o : Option ℕ) → (o ≡ None → ⊥) → MeansBy o base filled bytes
           by None h = absurd (h refl)
           by (Some own) h =
-              GroupsMean-alike base width (positioned filled) (kept base filled) bytes
-              (ap (map (meaning base)) (bytes-positioned_from 0 filled
-              ∙ sym (all_kept filled keeps))) one
+              subst (λ gs. GroupsMean base gs bytes)
+              (ap (λ l. runs size (map (meaning base) l)) (sym (all_kept filled keeps))
+              ∙ runs-meanings base size (kept base filled) (group_symbols-pos base.width width))
+              one
 
     -- with the padding character
     pub Means-group : Means base (with_padding base.padding (group_symbols base.width) text) bytes

@@ -1,7 +1,7 @@
 -- Where there is no cause of a second text but a translated byte, the own form of a text that means
 -- data is the text of the data; and where there is no cause at all, the text is.
-use Rattle.std.proofs.Common.{◌≡◌, ◌↔◌, ℕ, ◌+◌, ◌*◌, ◌%◌, ◌<◌, ◌==◌, Bool, true, false, not, ◌&&◌, List, [], ◌∷◌, ◌++◌, length, map, replicate, Option, Some, None, is_some, unwrap_or, refl, sym, ap, ◌∙◌, subst, arith, length-append, zero, suc, nat_lt, take, drop, length-take-le, take-append-drop}
-use Rattle.std.proofs.lemmas.Bool.{and_parts, eqb-true, false≢true}
+use Rattle.std.proofs.Common.{◌≡◌, ◌↔◌, ℕ, ◌+◌, ◌*◌, ◌%◌, ◌<◌, ◌==◌, Bool, true, false, not, ◌&&◌, List, [], ◌∷◌, ◌++◌, length, map, replicate, Option, Some, None, is_some, unwrap_or, refl, sym, ap, ◌∙◌, subst, arith, zero, suc, nat_lt, take, drop, length-take-le, take-append-drop}
+use Rattle.std.proofs.lemmas.Bool.{and_parts, eqb-true}
 use Rattle.std.proofs.lemmas.List.{append-nil, length-map, map-append, nil_from_length}
 use Rattle.std.proofs.Math.Nat.{mod_self, mul-mod_left, mul_comm}
 use Rattle.std.specs.Prelude.{flat_map}
@@ -136,7 +136,7 @@ module _ (base : Base) (ruled : IsRuled base) (one : HasOneForm base) where
           ∙ (λ i. symbols_are i
           ++ paddings_are base ruled back means.padding character some parts.1 i)
 
-    -- where it has padding, it is the text of the last bytes
+      -- where it has padding, it is the text of the last bytes
       last : own_in group ≡ filled piece
       last =
           let total : (length (plain_text base piece) + means.padding) % size ≡ 0 =
@@ -175,7 +175,8 @@ module _ (base : Base) (ruled : IsRuled base) (one : HasOneForm base) where
         ap filled none ∙ ap (filled_with character size) (plain_text-nil base width.some)
         ∙ filled-nil character size (group_symbols-pos base.width width)
 
-    groups_are : (gs : List (List Positioned)) (bytes : List ℕ) → GroupsMean base gs bytes
+    groups_are : (gs : List (List Positioned)) (bytes : List ℕ)
+        → GroupsMean base (map (meanings_in base) gs) bytes
         → own_in (flat_map (λ g. g) gs) ≡ filled bytes
     groups_are [] bytes means = sym (filled_none bytes means)
     groups_are (group ∷ gs) bytes means =

@@ -6,17 +6,18 @@ use Rattle.std.proofs.Math.Nat.{add-mul, mod-eq_of_lt, mul-div_cancel_left, mul-
 use Rattle.std.specs.Prelude.{flat_map}
 use Rattle.std.specs.List.{AllByRecursion, range_with_len}
 use Rattle.std.specs.Simd.{first_chunks}
+use Rattle.data_encoding.specs.declared.encoding.Character.{Character}
 use Rattle.data_encoding.specs.declared.encoding.BitOrder.{BitOrder}
-use Rattle.data_encoding.specs.Base.{Base, IsWidth, group_bytes, group_symbols, is_symbol}
+use Rattle.data_encoding.specs.Base.{Base, IsWidth, group_bytes, group_symbols, is_symbol, meaning}
 use Rattle.data_encoding.specs.Bits.{runs}
 use Rattle.data_encoding.specs.Decoding.{IsRun}
-use Rattle.data_encoding.specs.Fault.{bytes_of_group}
-use Rattle.data_encoding.specs.Grammar.{Positioned, positioned}
+use Rattle.data_encoding.specs.Fault.{symbol_bytes}
+use Rattle.data_encoding.specs.Grammar.{positioned}
 use Rattle.data_encoding.specs.Tables.{IsGroup, Reads}
 use Rattle.data_encoding.specs.Words.{digit, word_of}
 use Rattle.data_encoding.proofs.digits.KernelLemmas.{bytes_of_group-word}
 use Rattle.data_encoding.proofs.digits.WidthLemmas.{by_width, symbols-few}
-use Rattle.data_encoding.proofs.grammar.PositionLemmas.{bytes-positioned_from, length-positioned_from}
+use Rattle.data_encoding.proofs.grammar.PositionLemmas.{bytes-positioned_from}
 use Rattle.data_encoding.proofs.lists.EachLemmas.{all-at}
 use Rattle.data_encoding.proofs.lists.PartLemmas.{IsWhole, IsWhole-group, groups-within}
 use Rattle.data_encoding.proofs.lists.RunLemmas.{runs-first, runs-nil}
@@ -27,30 +28,27 @@ module _ (base : Base) (values : List ℕ) (width bytes symbols : ℕ) (order : 
   abbrev word_bytes : ℕ → List ℕ
   word_bytes word = map (digit order 8 bytes word) (range_with_len 0 bytes)
 
-  abbrev byte_of : Positioned → ℕ
-  byte_of k = k.byte
-
-  abbrev words : ℕ → List Positioned → List ℕ
-  words n ks =
-      map (word_of order width symbols)
-      (first_chunks symbols n (map (slice_index values) (map byte_of ks)))
+  abbrev words : ℕ → List ℕ → List ℕ
+  words n xs =
+      map (word_of order width symbols) (first_chunks symbols n (map (slice_index values) xs))
 
   whole : IsWhole width bytes symbols
   whole = IsWhole-group width bytes symbols group
 
   -- a group of symbols
-  group-bytes : (ks : List Positioned) → length ks ≡ symbols
-      → ((j : ℕ) → slice_index (map byte_of ks) j < 256)
-      → ((j : ℕ) → j < symbols → slice_index values (slice_index (map byte_of ks) j) < 128)
-      → word_bytes (word_of order width symbols (map (slice_index values) (map byte_of ks)))
-      ≡ bytes_of_group base ks
-  group-bytes ks long fits low =
-      let len : length (map byte_of ks) ≡ symbols = length-map ks byte_of ∙ long in
-      let count : bytes ≡ width * length (map byte_of ks) / 8 =
+  group-bytes : (xs : List ℕ) → length xs ≡ symbols
+      → ((j : ℕ) → slice_index xs j < 256)
+      → ((j : ℕ) → j < symbols → slice_index values (slice_index xs j) < 128)
+      → word_bytes (word_of order width symbols (map (slice_index values) xs))
+      ≡ symbol_bytes base (map (meaning base) xs)
+  group-bytes xs len fits low =
+      let count : bytes ≡ width * length xs / 8 =
       sym (ap (λ n. width * n / 8) len ∙ ap (λ n. n / 8) whole.same_bits
       ∙ mul-div_cancel_left bytes (omega arith)) in
-      bytes_of_group-word base order width bytes symbols bytes values (map byte_of ks) ks group
-      (omega (arith, len)) count fits (λ j h. low j (omega (arith, h, len))) reads refl
+      bytes_of_group-word base order width bytes symbols bytes values xs (positioned xs) group
+      (omega (arith, len)) count fits (λ j h. low j (omega (arith, h, len))) reads
+      (bytes-positioned_from 0 xs)
+      ∙ ap (λ l. symbol_bytes base (map (meaning base) l)) (bytes-positioned_from 0 xs)
 
   fits-front : (n : ℕ) (xs : List ℕ) → ((j : ℕ) → slice_index xs j < 256) → (j : ℕ)
       → slice_index (take n xs) j < 256
@@ -64,53 +62,40 @@ module _ (base : Base) (values : List ℕ) (width bytes symbols : ℕ) (order : 
       omega (arith, none))
       (cases_lt j n)
 
-  pub words-run : (n : ℕ) (ks : List Positioned) → length ks ≡ n * symbols
-      → ((j : ℕ) → slice_index (map byte_of ks) j < 256)
-      → ((j : ℕ) → j < length ks → slice_index values (slice_index (map byte_of ks) j) < 128)
-      → flat_map word_bytes (words n ks) ≡ flat_map (bytes_of_group base) (runs symbols ks)
-  words-run zero ks long fits low =
-      let none : ks ≡ [] = nil_from_length ks (omega (arith, long)) in
-      sym (ap (λ l. flat_map (bytes_of_group base) (runs symbols l)) none
-      ∙ ap (flat_map (bytes_of_group base)) (runs-nil {X = Positioned} symbols whole.some_symbols))
-  words-run (suc n) ks long fits low =
+  words-run : (n : ℕ) (xs : List ℕ) → length xs ≡ n * symbols
+      → ((j : ℕ) → slice_index xs j < 256)
+      → ((j : ℕ) → j < length xs → slice_index values (slice_index xs j) < 128)
+      → flat_map word_bytes (words n xs)
+      ≡ flat_map (symbol_bytes base) (runs symbols (map (meaning base) xs))
+  words-run zero xs long fits low =
+      let none : xs ≡ [] = nil_from_length xs (omega (arith, long)) in
+      sym (ap (λ l. flat_map (symbol_bytes base) (runs symbols (map (meaning base) l))) none
+      ∙ ap (flat_map (symbol_bytes base)) (runs-nil {X = Character} symbols whole.some_symbols))
+  words-run (suc n) xs long fits low =
       let more : suc n * symbols ≡ symbols + n * symbols = omega arith in
-      let front = take symbols ks in
-      let rest = drop symbols ks in
-      let enough : symbols ≤ length ks = omega (arith, long, more) in
-      let front_len : length front ≡ symbols = length-take-le symbols ks enough in
+      let front = take symbols xs in
+      let rest = drop symbols xs in
+      let enough : symbols ≤ length xs = omega (arith, long, more) in
       let rest_len : length rest ≡ n * symbols =
-      length-drop symbols ks ∙ omega (arith, long, more) in
-      let front_is : map byte_of front ≡ take symbols (map byte_of ks) =
-      sym (take-map byte_of symbols ks) in
-      let rest_is : map byte_of rest ≡ drop symbols (map byte_of ks) =
-      sym (drop-map byte_of symbols ks) in
-      let first = group-bytes front front_len
-      (λ j. subst (λ l. slice_index l j < 256) (sym front_is)
-      (fits-front symbols (map byte_of ks) fits j))
-      (λ j h. subst (λ l. slice_index values (slice_index l j) < 128) (sym front_is)
-      (subst (λ b. slice_index values b < 128)
-      (sym (get_or-take symbols (map byte_of ks) j 0 h)) (low j (omega (arith, h, enough))))) in
+      length-drop symbols xs ∙ omega (arith, long, more) in
+      let some : 0 < length (map (meaning base) xs) =
+      omega (arith, length-map xs (meaning base), enough, whole.some_symbols) in
+      let first = group-bytes front (length-take-le symbols xs enough)
+      (fits-front symbols xs fits)
+      (λ j h. subst (λ b. slice_index values b < 128) (sym (get_or-take symbols xs j 0 h))
+      (low j (omega (arith, h, enough)))) in
       let others = words-run n rest rest_len
-      (λ j. subst (λ l. slice_index l j < 256) (sym rest_is)
-      (subst (λ b. b < 256) (sym (get_or-drop symbols (map byte_of ks) j 0))
-      (fits (symbols + j))))
-      (λ j h. subst (λ l. slice_index values (slice_index l j) < 128) (sym rest_is)
-      (subst (λ b. slice_index values b < 128) (sym (get_or-drop symbols (map byte_of ks) j 0))
-      (low (symbols + j) (omega (arith, h, long, rest_len, more))))) in
-      let entries_front : take symbols (map (slice_index values) (map byte_of ks))
-      ≡ map (slice_index values) (map byte_of front) =
-      take-map (slice_index values) symbols (map byte_of ks)
-      ∙ ap (map (slice_index values)) (sym front_is) in
-      let entries_rest : drop symbols (map (slice_index values) (map byte_of ks))
-      ≡ map (slice_index values) (map byte_of rest) =
-      drop-map (slice_index values) symbols (map byte_of ks)
-      ∙ ap (map (slice_index values)) (sym rest_is) in
-      (λ i. word_bytes (word_of order width symbols (entries_front i))
+      (λ j. subst (λ b. b < 256) (sym (get_or-drop symbols xs j 0)) (fits (symbols + j)))
+      (λ j h. subst (λ b. slice_index values b < 128) (sym (get_or-drop symbols xs j 0))
+      (low (symbols + j) (omega (arith, h, long, rest_len, more)))) in
+      (λ i. word_bytes (word_of order width symbols (take-map (slice_index values) symbols xs i))
       ++ flat_map word_bytes (map (word_of order width symbols)
-      (first_chunks symbols n (entries_rest i))))
+      (first_chunks symbols n (drop-map (slice_index values) symbols xs i))))
       ∙ (λ i. first i ++ others i)
-      ∙ sym (ap (flat_map (bytes_of_group base))
-      (runs-first symbols ks whole.some_symbols (omega (arith, enough, whole.some_symbols))))
+      ∙ sym (ap (flat_map (symbol_bytes base))
+      (runs-first symbols (map (meaning base) xs) whole.some_symbols some
+      ∙ (λ i. take-map (meaning base) symbols xs i
+      ∷ runs symbols (drop-map (meaning base) symbols xs i))))
 
   -- eight groups of symbols are a run
   pub eight-run : (input old new : List ℕ) → length input ≡ 8 * symbols → length new ≡ 8 * bytes
@@ -127,9 +112,6 @@ module _ (base : Base) (values : List ℕ) (width bytes symbols : ℕ) (order : 
       let all_symbols : 8 * group_symbols base.width ≡ length input =
       ap (λ n. 8 * n) size ∙ sym long in
       let all_bytes : 8 * group_bytes base.width ≡ length new = ap (λ n. 8 * n) count ∙ sym exact in
-      let ks = positioned input in
-      let bytes_are : map byte_of ks ≡ input = bytes-positioned_from 0 input in
-      let ks_len : length ks ≡ length input = length-positioned_from 0 input in
       record {
         within = omega (arith, all_symbols);
         are_symbols = λ k h.
@@ -137,15 +119,9 @@ module _ (base : Base) (values : List ℕ) (width bytes symbols : ℕ) (order : 
             (low k (omega (arith, h, all_symbols))));
         bytes = take_all (8 * group_bytes base.width) new (omega (arith, all_bytes))
             ∙ is
-            ∙ ap (λ l. flat_map word_bytes (map (word_of order width symbols)
-            (first_chunks symbols 8 (map (slice_index values) l)))) (sym bytes_are)
-            ∙ words-run 8 ks (ks_len ∙ long)
-            (λ j. subst (λ l. slice_index l j < 256) (sym bytes_are) (fits j))
-            (λ j h. subst (λ l. slice_index values (slice_index l j) < 128) (sym bytes_are)
-            (low j (omega (arith, h, ks_len))))
-            ∙ (λ i. flat_map (bytes_of_group base) (runs (sym size i)
-            (positioned (sym (take_all (8 * group_symbols base.width) input
-            (omega (arith, all_symbols))) i))));
+            ∙ words-run 8 input long fits low
+            ∙ (λ i. flat_map (symbol_bytes base) (runs (sym size i) (map (meaning base)
+            (sym (take_all (8 * group_symbols base.width) input (omega (arith, all_symbols))) i))));
       }
 
 -- the sizes of groups

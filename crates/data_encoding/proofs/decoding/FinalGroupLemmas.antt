@@ -1,14 +1,11 @@
 -- What the number of bytes that a text means tells of its groups.
-use Rattle.std.proofs.Common.{◌≡◌, ℕ, ◌+◌, ◌*◌, ◌%◌, ◌<◌, ◌==◌, Bool, true, false, not, ◌&&◌, ◌||◌, List, [], ◌∷◌, length, replicate, Option, Some, None, is_some, refl, sym, ap, ◌∙◌, subst, arith, length-append, nat_lt, ◌++◌}
+use Rattle.std.proofs.Common.{◌≡◌, ℕ, ◌+◌, ◌*◌, ◌%◌, ◌<◌, ◌==◌, Bool, true, false, not, ◌&&◌, ◌||◌, List, [], ◌∷◌, length, Option, Some, None, is_some, refl, sym, ap, ◌∙◌, subst, arith, length-append, nat_lt, map}
 use Rattle.std.proofs.Math.Nat.{add-mod_left, zero-mod}
 use Rattle.std.proofs.lemmas.Bool.{false≢true}
 use Rattle.std.proofs.lemmas.Bool.Decides.{nat_tests}
-use Rattle.std.proofs.lemmas.List.Folds.{list_any-append}
 use Rattle.std.specs.List.{list_any}
-use Rattle.std.proofs.lemmas.List.{length-replicate}
 use Rattle.data_encoding.proofs.grammar.PositionLemmas.{length-meanings}
 use Rattle.data_encoding.specs.declared.encoding.Character.{Character}
-use Rattle.data_encoding.specs.declared.encoding.Character.TheVariants.{Padding}
 use Rattle.data_encoding.specs.Base.{Base, IsWidth, group_bytes, group_symbols, is_padding}
 use Rattle.data_encoding.specs.Grammar.{GroupMeans, GroupsMean, Means, MeansBy, Positioned, groups, is_final, kept, meanings_in}
 use Rattle.data_encoding.proofs.decoding.WholeLengthLemmas.{joins-unpadded, none_final-joined}
@@ -16,7 +13,6 @@ use Rattle.data_encoding.proofs.digits.WidthLemmas.{by_width}
 use Rattle.data_encoding.proofs.grammar.GroupLemmas.{GroupMeans-length, GroupMeans-padding}
 use Rattle.data_encoding.proofs.grammar.JoinLemmas.{whole-padded}
 use Rattle.data_encoding.proofs.grammar.UnpaddedGroupLemmas.{PlainMeans-count}
-use Rattle.data_encoding.proofs.lists.ListLemmas.{AllFail, list_any-none}
 use Rattle.data_encoding.proofs.judgement.RuleLemmas.{IsRuled}
 
 -- symbols of whole groups of bytes, and fewer bits than a symbol's, are whole groups
@@ -91,7 +87,8 @@ module _ (base : Base) where
           → is_final base group ≡ list_any is_padding (meanings_in base group)
       final_is group = ap (λ b. not b && list_any is_padding (meanings_in base group)) apart
 
-      groups_end : (gs : List (List Positioned)) (bytes : List ℕ) → GroupsMean base gs bytes
+      groups_end : (gs : List (List Positioned)) (bytes : List ℕ)
+          → GroupsMean base (map (meanings_in base) gs) bytes
           → list_any (is_final base) gs ≡ not (length bytes % size == 0)
       groups_end [] bytes h =
           sym (ap (λ n. not (n == 0)) (ap (λ l. length l % size) h ∙ zero-mod size))

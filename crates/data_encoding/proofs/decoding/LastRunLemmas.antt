@@ -2,10 +2,11 @@
 use Rattle.std.proofs.Common.{◌≡◌, ℕ, ◌+◌, ◌-◌, ◌*◌, ◌<◌, ◌≤◌, ◌==◌, Bool, true, false, not, cond, ◌&&◌, ◌||◌, nat_lt, List, [], ◌∷◌, ◌++◌, length, take, drop, Option, Some, None, is_some, refl, sym, ap, ◌∙◌, subst, arith, length-append, length-take-le, ⊎_elim, map}
 use Rattle.std.proofs.lemmas.Bool.{cases_lt, false≢true}
 use Rattle.std.proofs.lemmas.Bool.Decides.{nat_tests}
-use Rattle.std.proofs.lemmas.List.{append-nil, length-drop, take-take, take_all, take_at}
+use Rattle.std.proofs.lemmas.List.{append-nil, length-drop, take-take, take_all, take_at, length-map}
 use Rattle.std.proofs.lemmas.List.Concat.{flat_map-append}
 use Rattle.std.proofs.Math.Nat.{div-eq_of_lt, zero-mul}
 use Rattle.std.specs.Prelude.{flat_map}
+use Rattle.data_encoding.proofs.decoding.GroupJudgementLemmas.{fault-length, valid-whole, whole-less}
 use Rattle.data_encoding.specs.declared.encoding.Character.{Character}
 use Rattle.data_encoding.specs.declared.decode.group.GroupFault.{GroupFault}
 use Rattle.data_encoding.specs.declared.error.DecodeError.{DecodeError}
@@ -14,7 +15,7 @@ use Rattle.data_encoding.specs.declared.error.DecodeKind.TheVariants.{Length as 
 use Rattle.data_encoding.specs.Base.{Base, meaning, is_ignored, is_padded, group_symbols, IsWidth}
 use Rattle.data_encoding.specs.Bits.{runs}
 use Rattle.data_encoding.specs.Grammar.{Positioned, positioned_from, kept, groups, is_final, Means, kept_in, kept_from, bytes_in, meanings_in}
-use Rattle.data_encoding.specs.Lengths.{is_valid_count, greatest_valid_count, greatest_valid_length, length_fault}
+use Rattle.data_encoding.specs.Lengths.{is_valid_count, greatest_valid_count, greatest_valid_length, length_fault, is_valid_length}
 use Rattle.data_encoding.specs.Fault.{bytes_of_group, count_before_padding, fault_after, fault_at, fault_of, faulty_at, first_after, group_fault, located, or_else, padded_fault_at, plain_fault, position_of, sound_after, sound_bytes, symbol_bytes, symbols_fault}
 use Rattle.data_encoding.specs.Partial.{StopsAt, sound_len, read_len, is_length_fault, is_sound_run, partial_by}
 use Rattle.data_encoding.specs.Decoding.{AreSound}
@@ -22,8 +23,7 @@ use Rattle.data_encoding.proofs.lists.ListLemmas.{filter-all, length-filter}
 use Rattle.data_encoding.proofs.lists.RunLemmas.{runs-join, runs-short}
 use Rattle.data_encoding.proofs.grammar.PositionLemmas.{bytes-positioned_from, length-positioned_from, length-meanings}
 use Rattle.data_encoding.proofs.grammar.KeptLemmas.{kept_from-more}
-use Rattle.data_encoding.proofs.grammar.LengthLemmas.{greatest_valid_length-by, is_valid_length-by, length_fault-none}
-use Rattle.data_encoding.proofs.grammar.GroupLemmas.{whole-valid}
+use Rattle.data_encoding.proofs.grammar.LengthLemmas.{length_fault-none}
 use Rattle.data_encoding.proofs.grammar.SoundLemmas.{AreSound-append, first-none, sound-all}
 use Rattle.data_encoding.proofs.grammar.MeaningLemmas.{Means-no_fault}
 use Rattle.data_encoding.proofs.decoding.ProgressLemmas.{sound_bytes-front}
@@ -56,77 +56,35 @@ module _ (base : Base) (width : IsWidth base.width) (group : List Positioned)
     (some : 0 < length group) (most : length group ≤ group_symbols base.width)
     (error : DecodeError) (fault : fault_after false base group ≡ Some error)
     (kind : is_length_fault error.kind ≡ true) where
-  abbrev dec : ℕ
-  dec = group_symbols base.width
+  bytes_len : length (bytes_in group) ≡ length group
+  bytes_len = length-map group (λ (k : Positioned). k.byte)
 
-  not_other : is_length_fault error.kind ≡ false → ⊥
-  not_other other = false≢true (sym other ∙ kind)
-
-  abbrev meant : List Character
-  meant = meanings_in base group
-
-  meant_len : length meant ≡ length group
-  meant_len = length-meanings base group
-
-  short-padded : is_padded base ≡ true → (c : Bool) → nat_lt (length meant) dec ≡ c
-      → IsShort base group error
-  short-padded is false long =
-      absurd (not_other (kind-located group (group_fault base (bytes_in group)) error
-      (other-group base meant true is long) fault))
-  short-padded is true short =
-      let few : length group < dec = grind (arith, nat_tests, meant_len) in
-      let count = count_before_padding meant in
-      let here : fault_at LengthFault group 0 ≡ Some error =
-      sym (ap (λ b. located group (cond b (padded_fault_at base meant count)
-      (plain_fault base meant))) is
-      ∙ ap (λ b. located group (cond b (faulty_at LengthFault 0)
-      (cond (count == 0 || not (is_valid_count base.width count))
-      (faulty_at PaddingFault count) (symbols_fault base (take count meant))))) short)
-      ∙ fault in
-      let none : greatest_valid_length base (length group) ≡ 0 =
-      greatest_valid_length-by base (length group) true is
-      ∙ ap (λ n. n * dec) (div-eq_of_lt few) ∙ zero-mul dec in
-      record {
-        few = few;
-        inside = omega (arith, none, some);
-        position_is = position-fault LengthFault group 0 error here
-            ∙ ap (position_of group) (sym none);
-      }
-
-  short-plain : is_padded base ≡ false → (c : Bool) → is_valid_count base.width (length meant) ≡ c
-      → IsShort base group error
-  short-plain is true valid =
-      absurd (not_other (kind-located group (group_fault base (bytes_in group)) error
-      (other-group base meant false is valid) fault))
-  short-plain is false invalid =
-      let count = greatest_valid_count base.width (length meant) in
-      let not_valid : is_valid_count base.width (length group) ≡ false =
-      ap (is_valid_count base.width) (sym meant_len) ∙ invalid in
-      let here : fault_at LengthFault group count ≡ Some error =
-      sym (ap (λ b. located group (cond b (padded_fault_at base meant (count_before_padding meant))
-      (plain_fault base meant))) is
-      ∙ ap (λ b. located group (cond b (symbols_fault base meant) (faulty_at LengthFault count)))
-      invalid)
-      ∙ fault in
-      record {
-        few = ⊎_elim {C = length group < dec} (λ less. less)
-            (λ all.
-            let same : length group ≡ dec = omega (arith, all, most) in
-            absurd (false≢true (sym not_valid ∙ ap (is_valid_count base.width) same
-            ∙ whole-valid base.width width)))
-            (cases_lt (length group) dec);
-        inside = greatest-less base width (length group)
-            (is_valid_length-by base (length group) false is ∙ not_valid);
-        position_is = position-fault LengthFault group count error here
-            ∙ ap (position_of group) (ap (greatest_valid_count base.width) meant_len
-            ∙ sym (greatest_valid_length-by base (length group) false is));
-      }
+  -- it has a fault of its length only where that is not valid
+  invalid : is_valid_length base (length group) ≡ false
+  invalid = by (is_valid_length base (length group)) refl where
+    by : (b : Bool) → is_valid_length base (length group) ≡ b
+        → is_valid_length base (length group) ≡ false
+    by false is = is
+    by true is =
+        let whole = subst (λ n. cond (is_padded base) (nat_lt n (group_symbols base.width) ≡ false)
+        (is_valid_count base.width n ≡ true)) (sym (length-meanings base group))
+        (valid-whole base (length group) some is) in
+        absurd (false≢true (sym (kind-located group (group_fault base (bytes_in group)) error
+        (other-group base (meanings_in base group) (is_padded base) refl whole) fault) ∙ kind))
 
   short-group : IsShort base group error
-  short-group = by (is_padded base) refl where
-    by : (b : Bool) → is_padded base ≡ b → IsShort base group error
-    by true is = short-padded is (nat_lt (length meant) dec) refl
-    by false is = short-plain is (is_valid_count base.width (length meant)) refl
+  short-group =
+      let index = greatest_valid_length base (length group) in
+      let here : fault_at LengthFault group index ≡ Some error =
+      sym (ap (located group) (fault-length base width (bytes_in group)
+      (omega (arith, some, bytes_len)) (omega (arith, most, bytes_len))
+      (ap (is_valid_length base) bytes_len ∙ invalid))
+      ∙ ap (λ n. fault_at LengthFault group (greatest_valid_length base n)) bytes_len) ∙ fault in
+      record {
+        few = whole-less base width (length group) most invalid;
+        inside = greatest-less base width (length group) invalid;
+        position_is = position-fault LengthFault group index error here;
+      }
 
 module _ (base : Base) (text : List ℕ) (read written : ℕ) (output : List ℕ) (error : DecodeError)
     (at : IsAtFault base text read written output error)

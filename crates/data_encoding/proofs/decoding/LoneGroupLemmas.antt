@@ -6,6 +6,7 @@ use Rattle.std.proofs.lemmas.Bool.Decides.{nat_tests}
 use Rattle.std.proofs.lemmas.List.{append-nil, length-map}
 use Rattle.std.specs.Prelude.{flat_map}
 use Rattle.std.specs.List.{AllByRecursion}
+use Rattle.data_encoding.proofs.decoding.GroupJudgementLemmas.{fault-length}
 use Rattle.data_encoding.specs.declared.encoding.Character.{Character}
 use Rattle.data_encoding.specs.declared.decode.group.GroupFault.{GroupFault}
 use Rattle.data_encoding.specs.declared.error.DecodeError.{DecodeError}
@@ -33,11 +34,6 @@ invalid_from true valid fault error h = cc
 invalid_from false true fault error h = cc
 invalid_from false false fault error h = (refl, h)
 
-whole_is_valid : (width : ℕ) → IsWidth width
-    → (group_symbols width % group_symbols width == 0) ≡ true
-whole_is_valid =
-    by_width (λ w. (group_symbols w % group_symbols w == 0) ≡ true) refl refl refl refl refl refl
-
 module _ (base : Base) (width : IsWidth base.width) (group : List Positioned)
     (plain : AllByRecursion (λ k. is_ignored (meaning base k.byte) ≡ false) group)
     (some : 0 < length group) (few : length group ≤ group_symbols base.width) where
@@ -46,9 +42,6 @@ module _ (base : Base) (width : IsWidth base.width) (group : List Positioned)
 
   abbrev bytes : List ℕ
   bytes = bytes_in group
-
-  abbrev meant : List Character
-  meant = map (meaning base) bytes
 
   abbrev alone : List Positioned
   alone = positioned bytes
@@ -74,58 +67,16 @@ module _ (base : Base) (width : IsWidth base.width) (group : List Positioned)
       ∙ runs-short size alone (omega (arith, count, alone_count, some))
       (omega (arith, count, alone_count, few))
 
-  length-padded : is_padded base ≡ true → is_valid_length base (length bytes) ≡ false
-      → group_fault base bytes ≡ faulty_at LengthFault (greatest_valid_length base (length bytes))
-  length-padded padded invalid =
-      let n = length bytes in
-      let before = count_before_padding meant in
-      let not_whole : (n % size == 0) ≡ false =
-      sym (is_valid_length-by base n true padded) ∙ invalid in
-      let short : n < size =
-      ⊎_elim {C = n < size} (λ (less : n < size). less)
-      (λ (all : size ≤ n).
-      let same : n ≡ size = omega (arith, all, few, count) in
-      absurd (false≢true (sym not_whole ∙ ap (λ k. k % size == 0) same
-      ∙ whole_is_valid base.width width)))
-      (cases_lt n size) in
-      let len : length meant ≡ n = length-map bytes (meaning base) in
-      let is_short : nat_lt (length meant) size ≡ true = grind (arith, nat_tests) in
-      let greatest : greatest_valid_length base n ≡ 0 =
-      greatest_valid_length-by base n true padded ∙ ap (λ q. q * size) (div-eq_of_lt short)
-      ∙ zero-mul size in
-      ap (λ b. cond b (padded_fault_at base meant before) (plain_fault base meant)) padded
-      ∙ ap (λ b. cond b (faulty_at LengthFault 0)
-      (cond (before == 0 || not (is_valid_count base.width before))
-      (faulty_at PaddingFault before) (symbols_fault base (take before meant)))) is_short
-      ∙ ap (faulty_at LengthFault) (sym greatest)
-
-  length-plain : is_padded base ≡ false → is_valid_length base (length bytes) ≡ false
-      → group_fault base bytes ≡ faulty_at LengthFault (greatest_valid_length base (length bytes))
-  length-plain unpadded invalid =
-      let n = length bytes in
-      let not_valid : is_valid_count base.width n ≡ false =
-      sym (is_valid_length-by base n false unpadded) ∙ invalid in
-      ap (λ b. cond b (padded_fault_at base meant (count_before_padding meant))
-      (plain_fault base meant)) unpadded
-      ∙ ap (λ k. cond (is_valid_count base.width k) (symbols_fault base meant)
-      (faulty_at LengthFault (greatest_valid_count base.width k))) (length-map bytes (meaning base))
-      ∙ ap (λ b. cond b (symbols_fault base meant)
-      (faulty_at LengthFault (greatest_valid_count base.width n))) not_valid
-      ∙ ap (faulty_at LengthFault) (sym (greatest_valid_length-by base n false unpadded))
-
-  -- a group whose length is not valid has the fault of its length
+  -- a group of no valid length has the fault of the length of the text
   length-group : is_valid_length base (length bytes) ≡ false
       → located alone (group_fault base bytes)
       ≡ Some (record { position = greatest_valid_length base (length bytes); kind = LengthFault })
   length-group invalid =
-      ap (located alone) (by (is_padded base) refl)
+      ap (located alone)
+      (fault-length base width bytes (omega (arith, some, count)) (omega (arith, few, count)) invalid)
       ∙ ap (λ p. Some (record { position = p; kind = LengthFault }))
       (position_of-positioned_from 0 bytes (greatest_valid_length base (length bytes))
-      (greatest-less base width (length bytes) invalid) ∙ omega arith) where
-        by : (b : Bool) → is_padded base ≡ b → group_fault base bytes
-            ≡ faulty_at LengthFault (greatest_valid_length base (length bytes))
-        by true is = length-padded is invalid
-        by false is = length-plain is invalid
+      (greatest-less base width (length bytes) invalid) ∙ omega arith)
 
   -- the text has the fault of the group
   fault_of-alone : fault_of base bytes ≡ located alone (group_fault base bytes)

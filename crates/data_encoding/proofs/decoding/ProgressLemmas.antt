@@ -6,23 +6,24 @@ use Rattle.std.proofs.lemmas.List.Concat.{flat_map-append}
 use Rattle.std.proofs.Math.Nat.{zero-mod, mul-le-mul_left, mul-mod_left, add-mul, zero-mul, suc-mul, mod_self}
 use Rattle.std.proofs.lemmas.Nat.{div-add-mod'}
 use Rattle.std.specs.Prelude.{flat_map}
+use Rattle.data_encoding.specs.declared.encoding.Character.{Character}
 use Rattle.data_encoding.specs.Base.{Base, meaning, is_symbol, is_padded, group_bytes, group_symbols, IsWidth}
 use Rattle.data_encoding.specs.Bits.{runs}
-use Rattle.data_encoding.specs.Grammar.{Positioned, positioned, positioned_from, kept, groups, is_final, Means, kept_in, kept_from, bytes_in, meanings_in}
+use Rattle.data_encoding.specs.Grammar.{Positioned, positioned_from, kept, groups, is_final, Means, kept_in, kept_from, bytes_in, meanings_in}
 use Rattle.data_encoding.specs.Lengths.{length_fault, most_bytes}
-use Rattle.data_encoding.specs.Fault.{fault_after, group_fault, bytes_of_group, fault_of, or_else, first_after, sound_after, sound_bytes}
+use Rattle.data_encoding.specs.Fault.{fault_after, group_fault, bytes_of_group, fault_of, or_else, first_after, sound_after, sound_bytes, symbol_bytes}
 use Rattle.data_encoding.specs.Partial.{position_after}
-use Rattle.data_encoding.specs.Decoding.{AreSound, HasDecodedTo}
+use Rattle.data_encoding.specs.Decoding.{AreSound, HasDecodedTo, run_bytes}
 use Rattle.data_encoding.proofs.digits.WidthLemmas.{group_bits, group_symbols-pos}
 use Rattle.data_encoding.proofs.lists.RunLemmas.{runs-nil, runs-join, runs-short, flat_map-runs}
 use Rattle.data_encoding.proofs.lists.EndLemmas.{AllSo}
-use Rattle.data_encoding.proofs.grammar.PositionLemmas.{length-kept, length-positioned_from, bytes-positioned_from, length-meanings}
+use Rattle.data_encoding.proofs.grammar.PositionLemmas.{length-kept, length-positioned_from, length-meanings}
 use Rattle.data_encoding.proofs.grammar.KeptLemmas.{between, kept-split, kept-more, kept_from-more, position_after-append, position_after-positioned}
 use Rattle.data_encoding.proofs.grammar.LengthLemmas.{most_bytes-by}
 use Rattle.data_encoding.proofs.grammar.GroupLemmas.{GroupMeans-sound}
 use Rattle.data_encoding.proofs.grammar.MeaningLemmas.{Means-no_fault}
 use Rattle.data_encoding.proofs.grammar.SoundLemmas.{AreSound-append, fault_after-none, first-none, sound-all}
-use Rattle.data_encoding.proofs.grammar.WholeGroupLemmas.{AreSound-symbols, symbols-positioned, kept_in-symbols, bytes_of_runs-same}
+use Rattle.data_encoding.proofs.grammar.WholeGroupLemmas.{AreSound-symbols, symbols-positioned, kept_in-symbols, run_bytes-positioned}
 use Rattle.data_encoding.proofs.decoding.RoomLemmas.{length-bytes_of_groups, room-bits, room-plain, room-whole}
 
 -- These are the kept bytes from one position to another, which is just after the last of them.
@@ -162,16 +163,15 @@ module _ (base : Base) (width : IsWidth base.width) (text : List ℕ) where
   -- nothing more
   after-none : (read written : ℕ) (old new : List ℕ)
       → HasDecodedTo base text read written false old → written + 0 * enc ≤ length new
-      → take (written + 0 * enc) new ≡ take written old ++ flat_map (bytes_of_group base)
-      (runs dec (positioned (take (0 * dec) (drop read text))))
+      → take (written + 0 * enc) new
+      ≡ take written old ++ run_bytes base (take (0 * dec) (drop read text))
       → HasDecodedTo base text (read + 0 * dec) (written + 0 * enc) false new
   after-none read written old new so_far fits writes =
       let same_read : read ≡ read + 0 * dec = omega (arith, zero-mul dec) in
       let same_written : written + 0 * enc ≡ written = omega (arith, zero-mul enc) in
-      let no_bytes : flat_map (bytes_of_group base)
-      (runs dec (positioned (take (0 * dec) (drop read text)))) ≡ [] =
-      ap (λ n. flat_map (bytes_of_group base) (runs dec (positioned (take n (drop read text)))))
-      (zero-mul dec) ∙ ap (flat_map (bytes_of_group base)) no_groups in
+      let no_bytes : run_bytes base (take (0 * dec) (drop read text)) ≡ [] =
+      ap (λ n. run_bytes base (take n (drop read text))) (zero-mul dec)
+      ∙ ap (flat_map (symbol_bytes base)) (runs-nil {X = Character} dec pos) in
       let kept_front : take written new ≡ take written old =
       ap (λ n. take n new) (sym same_written) ∙ writes ∙ ap (λ l. take written old ++ l) no_bytes
       ∙ append-nil (take written old) in
@@ -188,8 +188,7 @@ module _ (base : Base) (width : IsWidth base.width) (text : List ℕ) where
       → is_symbol (meaning base (get_or (drop read text) k 0)) ≡ true)
       → written + count * enc ≤ length new
       → take (written + count * enc) new
-      ≡ take written old ++ flat_map (bytes_of_group base)
-      (runs dec (positioned (take (count * dec) (drop read text))))
+      ≡ take written old ++ run_bytes base (take (count * dec) (drop read text))
       → HasDecodedTo base text (read + count * dec) (written + count * enc) false new
   after-run read written zero old new so_far room symbols fits writes =
       after-none read written old new so_far fits writes
@@ -222,9 +221,7 @@ module _ (base : Base) (width : IsWidth base.width) (text : List ℕ) where
       (symbols-positioned base read part all))
       (inl (ap (λ m. m % dec) len ∙ mul-mod_left (suc count) dec))
       fits
-      (writes ∙ ap (λ l. take written old ++ l)
-      (bytes_of_runs-same base dec (positioned part) (positioned_from read part) pos
-      (bytes-positioned_from 0 part ∙ sym (bytes-positioned_from read part))))
+      (writes ∙ ap (λ l. take written old ++ l) (run_bytes-positioned base width read part))
 
   -- a group more
   pub after-group : (read written stop count : ℕ) (begun : Bool) (group : List Positioned)

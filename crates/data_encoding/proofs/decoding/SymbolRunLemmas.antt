@@ -1,23 +1,23 @@
 -- Runs of whole groups of symbols, one after the other.
-use Rattle.std.proofs.Common.{◌≡◌, ℕ, ◌+◌, ◌-◌, ◌*◌, ◌/◌, ◌%◌, ◌<◌, ◌≤◌, true, false, List, ◌++◌, length, take, drop, get_or, slice_index, refl, sym, ap, ◌∙◌, subst, arith, length-take-le, ⊎_elim}
+use Rattle.std.proofs.Common.{◌≡◌, ℕ, ◌+◌, ◌-◌, ◌*◌, ◌/◌, ◌%◌, ◌<◌, ◌≤◌, true, false, List, ◌++◌, length, take, drop, get_or, slice_index, refl, sym, ap, ◌∙◌, subst, arith, length-take-le, ⊎_elim, map}
 use Rattle.std.proofs.Math.Seq.{take-add}
 use Rattle.std.proofs.Math.Nat.{add-mul, mul-mod_left, zero-mul}
 use Rattle.std.proofs.lemmas.Bool.{cases_lt, false≢true}
-use Rattle.std.proofs.lemmas.List.{append-nil, get_or-take, get_or-drop, length-drop, length-take, take_all, take_at}
+use Rattle.std.proofs.lemmas.List.{append-nil, get_or-take, get_or-drop, length-drop, length-take, take_all, take_at, length-map, map-append}
 use Rattle.std.proofs.lemmas.List.Concat.{flat_map-append}
 use Rattle.std.proofs.lemmas.Slice.{take-put_mid}
 use borrow.Rule.Slice.PartMut.{put_mid}
 use Rattle.std.specs.Prelude.{flat_map}
+use Rattle.data_encoding.specs.declared.encoding.Character.{Character}
 use Rattle.data_encoding.specs.Base.{Base, IsWidth, meaning, is_symbol, group_bytes, group_symbols}
 use Rattle.data_encoding.specs.Bits.{runs}
-use Rattle.data_encoding.specs.Decoding.{IsLongest, IsRun}
-use Rattle.data_encoding.specs.Fault.{bytes_of_group}
+use Rattle.data_encoding.specs.Decoding.{IsLongest, IsRun, run_bytes}
+use Rattle.data_encoding.specs.Fault.{bytes_of_group, symbol_bytes}
 use Rattle.data_encoding.specs.Tables.{HoldsValues, IsGroup}
-use Rattle.data_encoding.specs.Grammar.{Positioned, positioned, positioned_from}
+use Rattle.data_encoding.specs.Grammar.{positioned}
 use Rattle.data_encoding.proofs.digits.WidthLemmas.{group_symbols-pos}
 use Rattle.data_encoding.proofs.lists.RunLemmas.{runs-nil, runs-join, runs-short}
-use Rattle.data_encoding.proofs.grammar.PositionLemmas.{positioned_from-append, length-positioned_from, bytes-positioned_from}
-use Rattle.data_encoding.proofs.grammar.WholeGroupLemmas.{bytes_of_runs-same}
+use Rattle.data_encoding.proofs.grammar.PositionLemmas.{bytes-positioned_from}
 
 module _ (base : Base) (width : IsWidth base.width) where
   abbrev enc : ℕ
@@ -29,17 +29,14 @@ module _ (base : Base) (width : IsWidth base.width) where
   pos : 0 < dec
   pos = group_symbols-pos base.width width
 
-  abbrev bytes_of : List Positioned → List ℕ
-  bytes_of ks = flat_map (bytes_of_group base) (runs dec ks)
-
   -- no group
   pub run-none : (part old new : List ℕ) → IsRun base part 0 old new
   run-none part old new = record {
     within = omega (arith, zero-mul dec);
     are_symbols = λ k h. absurd (omega (arith, h, zero-mul dec));
     bytes = ap (λ n. take n new) (zero-mul enc)
-        ∙ sym (ap (λ n. bytes_of (positioned (take n part))) (zero-mul dec)
-        ∙ ap (flat_map (bytes_of_group base)) (runs-nil {X = Positioned} dec pos));
+        ∙ sym (ap (λ n. run_bytes base (take n part)) (zero-mul dec)
+        ∙ ap (flat_map (symbol_bytes base)) (runs-nil {X = Character} dec pos));
   }
 
   kept : (part old output piece : List ℕ) (i k : ℕ) → IsRun base part i old output
@@ -70,9 +67,9 @@ module _ (base : Base) (width : IsWidth base.width) where
       (cases_lt k (i * dec))
 
   bytes-more : (part : List ℕ) (i m : ℕ) → (i + m) * dec ≤ length part
-      → bytes_of (positioned (take (i * dec) part))
-      ++ bytes_of (positioned (take (m * dec) (take (m * dec) (drop (i * dec) part))))
-      ≡ bytes_of (positioned (take ((i + m) * dec) part))
+      → run_bytes base (take (i * dec) part)
+      ++ run_bytes base (take (m * dec) (take (m * dec) (drop (i * dec) part)))
+      ≡ run_bytes base (take ((i + m) * dec) part)
   bytes-more part i m within =
       let front = take (i * dec) part in
       let back = take (m * dec) (drop (i * dec) part) in
@@ -82,21 +79,17 @@ module _ (base : Base) (width : IsWidth base.width) where
       let back_len : length back ≡ m * dec =
       length-take-le (m * dec) (drop (i * dec) part)
       (omega (arith, within, sum, length-drop (i * dec) part)) in
-      let ks = positioned front in
-      let js = positioned_from (0 + length front) back in
-      let whole : length ks % dec ≡ 0 =
-      ap (λ n. n % dec) (length-positioned_from 0 front ∙ front_len) ∙ mul-mod_left i dec in
+      let ms = map (meaning base) front in
+      let ns = map (meaning base) back in
+      let whole : length ms % dec ≡ 0 =
+      ap (λ n. n % dec) (length-map front (meaning base) ∙ front_len) ∙ mul-mod_left i dec in
       let again : take (m * dec) back ≡ back = take_all (m * dec) back (omega (arith, back_len)) in
-      let moved : bytes_of (positioned (take (m * dec) back)) ≡ bytes_of js =
-      bytes_of_runs-same base dec (positioned (take (m * dec) back)) js pos
-      (bytes-positioned_from 0 (take (m * dec) back) ∙ again
-      ∙ sym (bytes-positioned_from (0 + length front) back)) in
-      ap (λ l. bytes_of ks ++ l) moved
-      ∙ sym (flat_map-append (bytes_of_group base) (runs dec ks) (runs dec js))
-      ∙ ap (flat_map (bytes_of_group base)) (sym (runs-join dec ks js pos whole))
-      ∙ ap (λ l. bytes_of l) (sym (positioned_from-append 0 front back))
-      ∙ ap (λ l. bytes_of (positioned l)) (sym (take-add (i * dec) (m * dec) part))
-      ∙ ap (λ n. bytes_of (positioned (take n part))) (sym sum)
+      ap (λ l. run_bytes base front ++ run_bytes base l) again
+      ∙ sym (flat_map-append (symbol_bytes base) (runs dec ms) (runs dec ns))
+      ∙ ap (flat_map (symbol_bytes base)) (sym (runs-join dec ms ns pos whole)
+      ∙ ap (runs dec) (sym (map-append (meaning base) front back)))
+      ∙ ap (run_bytes base) (sym (take-add (i * dec) (m * dec) part))
+      ∙ ap (λ n. run_bytes base (take n part)) (sym sum)
 
   more : (part old output before piece : List ℕ) (i m k : ℕ) → (i + m) * dec ≤ length part
       → i * enc ≤ length output → length piece ≡ m * enc → IsRun base part i old output
@@ -117,21 +110,21 @@ module _ (base : Base) (width : IsWidth base.width) where
 
   one : (group old piece : List ℕ) → length group ≡ dec
       → ((k : ℕ) → k < length group → is_symbol (meaning base (slice_index group k)) ≡ true)
-      → length piece ≡ enc → piece ≡ bytes_of_group base (positioned group)
+      → length piece ≡ enc → piece ≡ symbol_bytes base (map (meaning base) group)
       → IsRun base group 1 old piece
   one group old piece len symbols piece_len is =
       let all : take (1 * dec) group ≡ group =
       take_all (1 * dec) group (omega (arith, len)) in
-      let ks = positioned group in
-      let ks_len : length ks ≡ dec = length-positioned_from 0 group ∙ len in
+      let ms = map (meaning base) group in
+      let ms_len : length ms ≡ dec = length-map group (meaning base) ∙ len in
       record {
         within = omega (arith, len);
         are_symbols = λ k h. symbols k (omega (arith, h, len));
         bytes = take_all (1 * enc) piece (omega (arith, piece_len)) ∙ is
-            ∙ sym (ap (λ l. bytes_of (positioned l)) all
-            ∙ ap (flat_map (bytes_of_group base))
-            (runs-short dec ks (omega (arith, ks_len, pos)) (omega (arith, ks_len)))
-            ∙ append-nil (bytes_of_group base ks));
+            ∙ sym (ap (run_bytes base) all
+            ∙ ap (flat_map (symbol_bytes base))
+            (runs-short dec ms (omega (arith, ms_len, pos)) (omega (arith, ms_len)))
+            ∙ append-nil (symbol_bytes base ms));
       }
 
 -- the same, with the sizes of a group as they are called elsewhere
@@ -171,7 +164,7 @@ module _ (base : Base) (width : IsWidth base.width) (w bytes symbols : ℕ)
   -- a group of symbols is a run
   run-one : (part piece : List ℕ) → length part ≡ symbols
       → ((k : ℕ) → k < length part → is_symbol (meaning base (slice_index part k)) ≡ true)
-      → length piece ≡ bytes → piece ≡ bytes_of_group base (positioned part)
+      → length piece ≡ bytes → piece ≡ symbol_bytes base (map (meaning base) part)
       → IsRun base part 1 piece piece
   run-one part piece len are_symbols piece_len is_bytes =
       one base width part piece piece (len ∙ sym same_symbols) are_symbols
@@ -220,7 +213,8 @@ module _ (base : Base) (width : IsWidth base.width) (w bytes symbols : ℕ)
       (omega (arith, h, sub_len, size))
       ∙ get_or-drop (i * symbols) part j 0)) (bytes_fit (i * symbols + j)) in
       ap is_symbol (holds.symbols (slice_index sub j) is_byte (entries j h)))
-      len is_bytes)
+      len (is_bytes
+      ∙ ap (λ l. symbol_bytes base (map (meaning base) l)) (bytes-positioned_from 0 sub)))
 
   -- a group that is not one of symbols alone ends the longest run
   pub run-longest : (values part : List ℕ) (i stop : ℕ) → stop ≡ i * symbols + symbols

@@ -11,13 +11,13 @@ use Rattle.data_encoding.specs.declared.decode.group.GroupFault.{GroupFault}
 use Rattle.data_encoding.specs.declared.encoding.Character.{Character}
 use Rattle.data_encoding.specs.declared.encoding.Character.TheVariants.{Symbol, Padding, Ignored, Invalid}
 use Rattle.data_encoding.specs.declared.error.DecodeError.{DecodeError}
-use Rattle.data_encoding.specs.declared.error.DecodeKind.TheVariants.{Length as LengthFault, Symbol as SymbolFault, Trailing as TrailingFault, Padding as PaddingFault}
+use Rattle.data_encoding.specs.declared.error.DecodeKind.TheVariants.{Length as LengthFault, Trailing as TrailingFault, Padding as PaddingFault}
 use Rattle.data_encoding.specs.Base.{Base, is_symbol, is_padding, is_padded, value_of, group_symbols, IsWidth}
 use Rattle.data_encoding.specs.Bits.{bits_of, number_of, runs}
 use Rattle.data_encoding.specs.Grammar.{Positioned, PlainMeans, GroupMeans, bytes_in, meanings_in}
 use Rattle.data_encoding.specs.Laws.{further}
 use Rattle.data_encoding.specs.Lengths.{is_valid_count, greatest_valid_count}
-use Rattle.data_encoding.specs.Fault.{character_fault, count_before_padding, fault_at_first, faulty_at, group_fault, located, padded_fault_at, plain_fault, position_of, symbol_bits, symbol_bytes, symbols_fault, trailing_bits, trailing_fault}
+use Rattle.data_encoding.specs.Fault.{character_fault, count_before_padding, fault_at_first, faulty_at, group_fault, located, padded_fault_at, plain_fault, position_of, symbol_bytes, symbols_fault, trailing_bits, trailing_fault}
 use Rattle.data_encoding.proofs.digits.WidthLemmas.{by_width}
 use Rattle.data_encoding.proofs.grammar.PositionLemmas.{length-meanings}
 use Rattle.data_encoding.proofs.grammar.UnpaddedGroupLemmas.{PlainMeans-sound, PlainMeans-valid, PlainMeans-bytes, PlainMeans-no_fault}

@@ -15,7 +15,7 @@ use Rattle.data_encoding.proofs.digits.WidthLemmas.{by_width, group_symbols-pos}
 use Rattle.data_encoding.proofs.grammar.GroupLemmas.{symbols_alone}
 use Rattle.data_encoding.proofs.grammar.KeptLemmas.{kept_in-append}
 use Rattle.data_encoding.proofs.grammar.PaddedMeaningLemmas.{length-groups}
-use Rattle.data_encoding.proofs.grammar.SameBytesLemmas.{GroupsMean-alike, bytes-kept_in}
+use Rattle.data_encoding.proofs.grammar.SameBytesLemmas.{bytes-kept_in, runs-alike}
 use Rattle.data_encoding.proofs.grammar.UnpaddedGrammarLemmas.{PlainMeans-append}
 use Rattle.data_encoding.proofs.grammar.UnpaddedGroupLemmas.{PlainMeans-count}
 use Rattle.data_encoding.proofs.lists.EachLemmas.{all_parts}
@@ -54,10 +54,11 @@ module _ (base : Base) (ruled : IsRuled base) where
 
   -- groups of which none is final, and others
   GroupsMean-append : (gs hs : List (List Positioned)) (bytes more : List ℕ)
-      → AllFail (is_final base) gs → GroupsMean base gs bytes → GroupsMean base hs more
-      → GroupsMean base (gs ++ hs) (bytes ++ more)
+      → AllFail (is_final base) gs → GroupsMean base (map (meanings_in base) gs) bytes
+      → GroupsMean base (map (meanings_in base) hs) more
+      → GroupsMean base (map (meanings_in base) (gs ++ hs)) (bytes ++ more)
   GroupsMean-append [] hs bytes more none first second =
-      subst (λ l. GroupsMean base hs (l ++ more)) (sym first) second
+      subst (λ l. GroupsMean base (map (meanings_in base) hs) (l ++ more)) (sym first) second
   GroupsMean-append (g ∷ gs) hs bytes more none first second = (
     first.0,
     first.1 ++ more,
@@ -142,7 +143,8 @@ module _ (base : Base) (ruled : IsRuled base) where
         (omega (arith, count, none)) first
         (subst (λ l. PlainMeans base (map (meaning base) l) more) same second))
 
-    pub whole-padded : is_padded base ≡ true → GroupsMean base (groups base text) bytes
+    pub whole-padded : is_padded base ≡ true
+        → GroupsMean base (map (meanings_in base) (groups base text)) bytes
         → length (kept base text) % size ≡ 0
     whole-padded padded means =
         ap (λ n. n % size) (length-groups base width padded text bytes means)
@@ -178,16 +180,17 @@ module _ (base : Base) (ruled : IsRuled base) where
 
     padded_join : is_padded base ≡ true
         → (base.concatenates ≡ true) ⊎ All (λ byte. pads byte ≡ false) text
-        → GroupsMean base (groups base text) bytes → GroupsMean base (groups base after) more
-        → GroupsMean base (groups base (text ++ after)) (bytes ++ more)
+        → GroupsMean base (map (meanings_in base) (groups base text)) bytes
+        → GroupsMean base (map (meanings_in base) (groups base after)) more
+        → GroupsMean base (map (meanings_in base) (groups base (text ++ after))) (bytes ++ more)
     padded_join padded follows first second =
         let exact = whole-padded padded first in
-        subst (λ gs. GroupsMean base gs (bytes ++ more))
+        subst (λ gs. GroupsMean base (map (meanings_in base) gs) (bytes ++ more))
         (sym (ap (runs size) joined
         ∙ runs-join size (kept base text) rest (group_symbols-pos base.width width) exact))
         (GroupsMean-append (groups base text) (runs size rest) bytes more (none_final follows) first
-        (GroupsMean-alike base width (kept base after) rest more (ap (map (meaning base)) same)
-        second))
+        (subst (λ gs. GroupsMean base gs more)
+        (runs-alike base width (kept base after) rest (ap (map (meaning base)) same)) second))
 
     pub Means-join : MayBeFollowed base text → Means base text bytes → Means base after more
         → Means base (text ++ after) (bytes ++ more)

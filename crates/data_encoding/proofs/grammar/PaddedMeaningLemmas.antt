@@ -1,5 +1,5 @@
 -- A text of a padded base means something exactly where it has no fault.
-use Rattle.std.proofs.Common.{◌≡◌, ℕ, zero, suc, ◌+◌, ◌*◌, ◌/◌, ◌%◌, ◌≤◌, Bool, true, false, List, [], ◌∷◌, ◌++◌, length, drop, None, refl, sym, ap, ◌∙◌, subst, arith, length-append, length-take, replicate}
+use Rattle.std.proofs.Common.{◌≡◌, ℕ, zero, suc, ◌+◌, ◌*◌, ◌/◌, ◌%◌, ◌≤◌, Bool, true, false, List, [], ◌∷◌, ◌++◌, length, drop, None, refl, sym, ap, ◌∙◌, subst, arith, length-append, length-take, replicate, map}
 use Rattle.std.proofs.lemmas.Bool.Decides.{nat_tests}
 use Rattle.std.proofs.Math.Nat.{mul-mod_left, mul-le-mul_right, mul-le-mul_left, add_comm, zero-mul, suc-mul, le-div_iff_mul-le}
 use Rattle.std.specs.Prelude.{flat_map}
@@ -39,7 +39,8 @@ module _ (base : Base) (width : IsWidth base.width) (padded : is_padded base ≡
 
   -- groups without a fault mean their bytes joined
   GroupsMean-sound : (begun ended : Bool) (gs : List (List Positioned)) → AreFew gs
-      → AreSound base begun gs ended → GroupsMean base gs (flat_map (bytes_of_group base) gs)
+      → AreSound base begun gs ended
+      → GroupsMean base (map (meanings_in base) gs) (flat_map (bytes_of_group base) gs)
   GroupsMean-sound begun ended [] few h = refl
   GroupsMean-sound begun ended (g ∷ gs) few h = (
     bytes_of_group base g,
@@ -47,23 +48,27 @@ module _ (base : Base) (width : IsWidth base.width) (padded : is_padded base ≡
     refl,
     GroupMeans-sound base width padded (meanings_in base g)
         (omega (arith, few.0, length-meanings base g)) (fault_after-none base begun g h.0).1,
-    (λ final. none_follow base ended gs (subst (λ b. AreSound base b gs ended) final h.1)),
+    (λ final. ap (map (meanings_in base))
+        (none_follow base ended gs (subst (λ b. AreSound base b gs ended) final h.1))),
     GroupsMean-sound (is_final base g) ended gs few.1 h.1,
   )
 
   -- and groups that mean something have none
   sound-GroupsMean : (begun : Bool) (gs : List (List Positioned)) (bytes : List ℕ)
-      → (begun ≡ true → gs ≡ []) → GroupsMean base gs bytes
+      → (begun ≡ true → map (meanings_in base) gs ≡ [])
+      → GroupsMean base (map (meanings_in base) gs) bytes
       → AreSound base begun gs (ends_after base begun gs)
   sound-GroupsMean begun [] bytes last h = refl
   sound-GroupsMean begun (g ∷ gs) bytes last h =
       (here begun last, sound-GroupsMean (is_final base g) gs h.1 h.4 h.5) where
-        here : (b : Bool) → (b ≡ true → g ∷ gs ≡ []) → fault_after b base g ≡ None
+        here : (b : Bool) → (b ≡ true → map (meanings_in base) (g ∷ gs) ≡ [])
+            → fault_after b base g ≡ None
         here true none = let never = none refl in cc
         here false none =
             ap (located g) (GroupMeans-no_fault base width padded (meanings_in base g) h.0 h.3)
 
-  bytes-GroupsMean : (gs : List (List Positioned)) (bytes : List ℕ) → GroupsMean base gs bytes
+  bytes-GroupsMean : (gs : List (List Positioned)) (bytes : List ℕ)
+      → GroupsMean base (map (meanings_in base) gs) bytes
       → flat_map (bytes_of_group base) gs ≡ bytes
   bytes-GroupsMean [] bytes h = sym h
   bytes-GroupsMean (g ∷ gs) bytes h =
@@ -72,7 +77,8 @@ module _ (base : Base) (width : IsWidth base.width) (padded : is_padded base ≡
       ∙ sym h.2
 
   -- they are whole
-  whole-GroupsMean : (gs : List (List Positioned)) (bytes : List ℕ) → GroupsMean base gs bytes
+  whole-GroupsMean : (gs : List (List Positioned)) (bytes : List ℕ)
+      → GroupsMean base (map (meanings_in base) gs) bytes
       → length (flat_map (λ g. g) gs) ≡ length gs * group_symbols base.width
   whole-GroupsMean [] bytes h = sym (zero-mul (group_symbols base.width))
   whole-GroupsMean (g ∷ gs) bytes h =
@@ -95,7 +101,8 @@ module _ (base : Base) (width : IsWidth base.width) (padded : is_padded base ≡
       let bits = mul-le-mul_left base.width few in
       omega (arith, count, bits, group_bits base.width width)
 
-  most-GroupsMean : (gs : List (List Positioned)) (bytes : List ℕ) → GroupsMean base gs bytes
+  most-GroupsMean : (gs : List (List Positioned)) (bytes : List ℕ)
+      → GroupsMean base (map (meanings_in base) gs) bytes
       → length bytes ≤ length gs * group_bytes base.width
   most-GroupsMean [] bytes h = omega (arith, ap length h)
   most-GroupsMean (g ∷ gs) bytes h =
@@ -110,17 +117,17 @@ module _ (base : Base) (width : IsWidth base.width) (padded : is_padded base ≡
 
   module _ (text : List ℕ) where
     pub padded-no_fault : fault_of base text ≡ None
-        → GroupsMean base (groups base text) (sound_bytes base text)
+        → GroupsMean base (map (meanings_in base) (groups base text)) (sound_bytes base text)
     padded-no_fault h =
         let gs = groups base text in
         let none = neither_fault (length_fault base (length text)) (first_fault base gs) h in
         let sound = AreSound-none base false gs none.1 in
-        subst (λ l. GroupsMean base gs (flat_map (bytes_of_group base) l))
+        subst (λ l. GroupsMean base (map (meanings_in base) gs) (flat_map (bytes_of_group base) l))
         (sym (sound-all base false (ends_after base false gs) gs sound))
         (GroupsMean-sound false (ends_after base false gs) gs
         (few_in_chunks (group_symbols base.width) _ (kept base text)) sound)
 
-    module _ (bytes : List ℕ) (means : GroupsMean base (groups base text) bytes) where
+    module _ (bytes : List ℕ) (means : GroupsMean base (map (meanings_in base) (groups base text)) bytes) where
       pub length-groups : length (kept base text)
           ≡ length (groups base text) * group_symbols base.width
       length-groups =

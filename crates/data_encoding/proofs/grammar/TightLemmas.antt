@@ -1,11 +1,12 @@
 -- What a text means is bytes, and how many, where there is no padding and no ignored byte.
-use Rattle.std.proofs.Common.{◌≡◌, ℕ, ◌+◌, ◌*◌, ◌/◌, false, ◌<◌, List, [], ◌∷◌, length, All, Option, Some, None, is_some, refl, sym, ap, ◌∙◌, subst, arith}
+use Rattle.std.proofs.Common.{◌≡◌, ℕ, ◌+◌, ◌*◌, ◌/◌, false, ◌<◌, List, [], ◌∷◌, length, All, Option, Some, None, is_some, refl, sym, ap, ◌∙◌, subst, arith, map}
 use Rattle.std.proofs.lemmas.List.Elements.{All-append, All-from_recursion}
 use Rattle.std.proofs.lemmas.Bool.{false≢true}
 use Rattle.std.specs.List.{AllByRecursion}
+use Rattle.data_encoding.specs.declared.encoding.Character.{Character}
 use Rattle.data_encoding.specs.declared.encoding.Character.TheVariants.{Ignored}
 use Rattle.data_encoding.specs.Base.{Base, IsWidth, Wrapping, ignores_some, is_ignored, meaning}
-use Rattle.data_encoding.specs.Grammar.{GroupsMean, Means, MeansBy, PlainMeans, Positioned, groups, kept, meanings_in}
+use Rattle.data_encoding.specs.Grammar.{GroupsMean, Means, MeansBy, PlainMeans, groups, kept, meanings_in}
 use Rattle.data_encoding.specs.Lengths.{most_bytes}
 use Rattle.data_encoding.specs.Text.{text_of}
 use Rattle.data_encoding.proofs.digits.WidthLemmas.{by_width}
@@ -73,7 +74,7 @@ most-Means base width unpadded none text bytes means =
     omega (arith, count, all, plain.rest_is_short, width.few) in
     most ∙ sym (most_bytes-by base (length text) false (ap is_some unpadded))
 
-each-bytes : (base : Base) (gs : List (List Positioned)) (bytes : List ℕ)
+each-bytes : (base : Base) (gs : List (List Character)) (bytes : List ℕ)
     → GroupsMean base gs bytes → All (λ byte. byte < 256) bytes
 each-bytes base [] bytes none =
     subst (All (λ byte. byte < 256)) (sym none) (All-from_recursion (λ byte. byte < 256) [] tt)
@@ -87,4 +88,5 @@ pub are_bytes-Means : (base : Base) (text bytes : List ℕ) → Means base text 
 are_bytes-Means base text bytes = by base.padding where
   by : (o : Option ℕ) → MeansBy o base text bytes → All (λ byte. byte < 256) bytes
   by None plain = plain.are_bytes
-  by (Some character) means = each-bytes base (groups base text) bytes means
+  by (Some character) means =
+      each-bytes base (map (meanings_in base) (groups base text)) bytes means

@@ -1,7 +1,8 @@
 -- A text of an unpadded base means something exactly where it has no fault.
-use Rattle.std.proofs.Common.{◌≡◌, ℕ, ◌*◌, ◌/◌, ◌≤◌, Bool, false, cond, List, [], ◌∷◌, length, None, refl, sym, ap, ◌∙◌, subst, arith, map, ◌++◌}
+use Rattle.std.proofs.Common.{◌≡◌, ℕ, ◌*◌, ◌/◌, ◌≤◌, Bool, false, cond, List, [], ◌∷◌, length, None, refl, sym, ap, ◌∙◌, subst, arith, map}
 use Rattle.std.proofs.Math.Nat.{mul-le-mul_left}
 use Rattle.std.specs.Prelude.{flat_map}
+use Rattle.data_encoding.proofs.grammar.WholeGroupLemmas.{joined-meanings}
 use Rattle.data_encoding.proofs.digits.WidthLemmas.{group_symbols-pos}
 use Rattle.data_encoding.specs.Bits.{runs}
 use Rattle.data_encoding.specs.declared.encoding.Character.{Character}
@@ -15,12 +16,6 @@ use Rattle.data_encoding.proofs.grammar.UnpaddedGrammarLemmas.{ArePlain, PlainMe
 use Rattle.data_encoding.proofs.grammar.PositionLemmas.{length-kept, length-kept_plain, length-meanings, runs-meanings}
 use Rattle.data_encoding.proofs.grammar.LengthLemmas.{length_fault-none, is_valid_length-by, most_bytes-by}
 use Rattle.data_encoding.proofs.grammar.SoundLemmas.{AreSound-none, ends_after, fault_after-none, neither_fault, first-none, sound-all, symbols-not_final}
-
--- the bytes of groups are those of what their bytes mean
-joined-meanings : (base : Base) (gs : List (List Positioned))
-    → flat_map (symbol_bytes base) (map (meanings_in base) gs) ≡ flat_map (bytes_of_group base) gs
-joined-meanings base [] = refl
-joined-meanings base (g ∷ gs) = ap (λ l. bytes_of_group base g ++ l) (joined-meanings base gs)
 
 module _ (base : Base) (width : IsWidth base.width) (unpadded : is_padded base ≡ false) where
   group_fault-plain : (group : List Positioned)

@@ -12,15 +12,15 @@ use Rattle.data_encoding.specs.Bits.{runs}
 use Rattle.data_encoding.specs.Grammar.{Positioned, bytes_in, is_final, kept_in, meanings_in, positioned_from}
 use Rattle.data_encoding.specs.Lengths.{is_valid_count}
 use Rattle.data_encoding.specs.Fault.{bytes_of_group, count_before_padding, fault_at_first, faulty_at, group_fault, located, padded_fault_at, plain_fault, symbol_bits, symbol_bytes, trailing_bits, trailing_fault}
-use Rattle.data_encoding.specs.Decoding.{AreSound}
+use Rattle.data_encoding.specs.Decoding.{AreSound, run_bytes}
 use Rattle.data_encoding.proofs.digits.WidthLemmas.{group_bits, group_symbols-pos}
 use Rattle.data_encoding.proofs.lists.EachLemmas.{all_parts}
 use Rattle.data_encoding.proofs.lists.EndLemmas.{AllSo}
 use Rattle.data_encoding.proofs.lists.ListLemmas.{AllFail, position-none, filter-all}
-use Rattle.data_encoding.proofs.lists.RunLemmas.{runs-nil, runs-append, runs-map}
+use Rattle.data_encoding.proofs.lists.RunLemmas.{runs-nil, runs-append}
 use Rattle.data_encoding.proofs.grammar.UnpaddedGroupLemmas.{are_symbols, length-bits_of_values, PlainMeans-sound}
 use Rattle.data_encoding.proofs.grammar.GroupLemmas.{plain_fault-valid, whole-valid, GroupMeans-no_fault}
-use Rattle.data_encoding.proofs.grammar.PositionLemmas.{length-meanings}
+use Rattle.data_encoding.proofs.grammar.PositionLemmas.{bytes-positioned_from, length-meanings, runs-meanings}
 use Rattle.data_encoding.proofs.grammar.SoundLemmas.{symbols-not_final}
 
 none_other : (base : Base) (ks : List Positioned) → AllSo (λ k. is_symbol (meaning base k.byte)) ks
@@ -149,19 +149,20 @@ AreSound-symbols base width (suc count) ks len symbols =
           (AreSound-symbols base width count back back_len parts.1),
     )
 
--- groups of the same bytes mean the same, wherever they stand
-joined-by : (base : Base) (gs : List (List Positioned))
-    → flat_map (bytes_of_group base) gs
-    ≡ flat_map (λ bytes. symbol_bytes base (map (meaning base) bytes)) (map bytes_in gs)
-joined-by base [] = refl
-joined-by base (group ∷ gs) = ap (λ l. bytes_of_group base group ++ l) (joined-by base gs)
+-- the bytes of groups are those of what their bytes mean
+pub joined-meanings : (base : Base) (gs : List (List Positioned))
+    → flat_map (symbol_bytes base) (map (meanings_in base) gs) ≡ flat_map (bytes_of_group base) gs
+joined-meanings base [] = refl
+joined-meanings base (g ∷ gs) = ap (λ l. bytes_of_group base g ++ l) (joined-meanings base gs)
 
-pub bytes_of_runs-same : (base : Base) (size : ℕ) (ks js : List Positioned) → 0 < size
-    → bytes_in ks ≡ bytes_in js
-    → flat_map (bytes_of_group base) (runs size ks) ≡ flat_map (bytes_of_group base) (runs size js)
-bytes_of_runs-same base size ks js pos same =
-    joined-by base (runs size ks)
-    ∙ ap (flat_map (λ bytes. symbol_bytes base (map (meaning base) bytes)))
-    (sym (runs-map size (λ (k : Positioned). k.byte) ks pos) ∙ ap (runs size) same
-    ∙ runs-map size (λ (k : Positioned). k.byte) js pos)
-    ∙ sym (joined-by base (runs size js))
+-- so are those of a run, wherever it stands
+pub run_bytes-positioned : (base : Base) → IsWidth base.width → (start : ℕ) (part : List ℕ)
+    → run_bytes base part
+    ≡ flat_map (bytes_of_group base) (runs (group_symbols base.width) (positioned_from start part))
+run_bytes-positioned base width start part =
+    let size = group_symbols base.width in
+    let ks = positioned_from start part in
+    ap (run_bytes base) (sym (bytes-positioned_from start part))
+    ∙ ap (flat_map (symbol_bytes base))
+    (runs-meanings base size ks (group_symbols-pos base.width width))
+    ∙ joined-meanings base (runs size ks)

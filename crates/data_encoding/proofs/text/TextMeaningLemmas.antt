@@ -2,17 +2,16 @@
 use Rattle.std.proofs.Common.{◌≡◌, ℕ, zero, suc, ◌+◌, ◌-◌, ◌*◌, ◌%◌, ◌<◌, ◌≤◌, true, List, [], ◌++◌, length, take, drop, replicate, Option, Some, None, is_some, refl, sym, ap, ◌∙◌, subst, arith, ⊎_elim, append_assoc, length-append, take-append-drop, length-take-le, map}
 use Rattle.std.proofs.Math.Nat.{add-mod_left, mod-eq_of_lt}
 use Rattle.std.proofs.lemmas.Bool.{cases_lt, false≢true}
-use Rattle.std.proofs.lemmas.List.{append-nil, length-drop, nil_from_length, length-map}
+use Rattle.std.proofs.lemmas.List.{append-nil, length-drop, nil_from_length, length-map, map-append}
 use Rattle.std.proofs.lemmas.List.Elements.{All-take, All-drop}
 use Rattle.std.specs.Prelude.{All}
 use Rattle.data_encoding.specs.declared.encoding.Character.TheVariants.{Padding}
 use Rattle.data_encoding.specs.Base.{Base, IsWidth, meaning, is_padded, group_bytes, group_symbols}
 use Rattle.data_encoding.specs.Bits.{missing, runs}
-use Rattle.data_encoding.specs.Grammar.{GroupMeans, GroupsMean, Means, MeansBy, PlainMeans, kept, positioned, positioned_from, bytes_in, meanings_in}
+use Rattle.data_encoding.specs.Grammar.{GroupMeans, GroupsMean, Means, MeansBy, PlainMeans, bytes_in, kept}
 use Rattle.data_encoding.specs.Text.{filled_with, plain_text, text_of, with_padding}
 use Rattle.data_encoding.proofs.digits.WidthLemmas.{by_width, group_bytes-pos, group_symbols-pos}
-use Rattle.data_encoding.proofs.grammar.PositionLemmas.{bytes-positioned_from, length-positioned_from, positioned_from-append}
-use Rattle.data_encoding.proofs.grammar.SameBytesLemmas.{GroupsMean-alike}
+use Rattle.data_encoding.proofs.grammar.PositionLemmas.{runs-meanings}
 use Rattle.data_encoding.proofs.grammar.SoundLemmas.{symbols-not_final}
 use Rattle.data_encoding.proofs.lists.RunLemmas.{run_count, runs-append, runs-nil, runs-short}
 use Rattle.data_encoding.proofs.judgement.RuleLemmas.{IsRuled, IsRuledPadding}
@@ -73,13 +72,6 @@ module _ (base : Base) (ruled : IsRuled base) where
         → PlainMeans base (map (meaning base) (plain_text base bytes)) bytes
     plain_means bytes below = PlainMeans-plain_text base ruled bytes below
 
-    -- a group that stands there
-    placed : (text bytes : List ℕ) → GroupMeans base (map (meaning base) text) bytes
-        → GroupMeans base (meanings_in base (positioned text)) bytes
-    placed text bytes =
-        subst (λ l. GroupMeans base (map (meaning base) l) bytes)
-        (sym (bytes-positioned_from 0 text))
-
     -- a whole group of symbols, which another may follow
     whole_group : (bytes : List ℕ) → All (λ byte. byte < 256) bytes
         → length bytes ≡ group_bytes base.width
@@ -116,7 +108,7 @@ module _ (base : Base) (ruled : IsRuled base) where
         (AreFillers-replicate base count character means_padding)
 
     abbrev AreMeant : List ℕ → Type 0
-    AreMeant bytes = GroupsMean base (runs size (positioned (filled bytes))) bytes
+    AreMeant bytes = GroupsMean base (runs size (map (meaning base) (filled bytes))) bytes
 
     none_meant : (bytes : List ℕ) → length bytes ≤ 0 → AreMeant bytes
     none_meant bytes few =
@@ -127,26 +119,17 @@ module _ (base : Base) (ruled : IsRuled base) where
         ∙ ap (filled_with character size) (plain_text-nil base width.some)
         ∙ filled-nil character size positive in
         subst (λ gs. GroupsMean base gs bytes)
-        (sym (ap (λ l. runs size (positioned l)) empty ∙ runs-nil size positive)) none
+        (sym (ap (λ l. runs size (map (meaning base) l)) empty ∙ runs-nil size positive)) none
 
     last_meant : (bytes : List ℕ) → All (λ byte. byte < 256) bytes → 0 < length bytes
         → length bytes ≤ group_bytes base.width → AreMeant bytes
     last_meant bytes below some few =
-        let group = positioned (filled bytes) in
         let means = last_group bytes below some few in
-        let len : length group ≡ size =
-        length-positioned_from 0 (filled bytes) ∙ sym (length-map (filled bytes) (meaning base))
-        ∙ means.is_whole in
         let positive = group_symbols-pos base.width width in
         subst (λ gs. GroupsMean base gs bytes)
-        (sym (runs-short size group (subst (λ n. 0 < n) (sym len) positive) (omega (arith, len)))) (
-          bytes,
-          [],
-          sym (append-nil bytes),
-          placed (filled bytes) bytes means,
-          (λ final. refl),
-          refl,
-        )
+        (sym (runs-short size (map (meaning base) (filled bytes))
+        (subst (λ n. 0 < n) (sym means.is_whole) positive) (omega (arith, means.is_whole))))
+        (bytes, [], sym (append-nil bytes), means, (λ final. refl), refl)
 
     -- a whole group, and those of the others
     next_meant : (bytes : List ℕ) → All (λ byte. byte < 256) bytes
@@ -166,27 +149,24 @@ module _ (base : Base) (ruled : IsRuled base) where
         ∙ plain_text-join base front rest width.some
         (ap (λ n. 8 * n % base.width) front_len ∙ whole_bits base.width width) in
         let symbols = plain_means front (All-take (λ byte. byte < 256) count bytes below) in
-        let behind = positioned_from (0 + length text) (filled rest) in
-        let parts : positioned (filled bytes) ≡ positioned text ++ behind =
-        ap (λ l. positioned (filled_with character size l)) joined
-        ∙ ap positioned (filled-behind character size text (plain_text base rest) text_len)
-        ∙ positioned_from-append 0 text (filled rest) in
+        let parts : map (meaning base) (filled bytes)
+        ≡ map (meaning base) text ++ map (meaning base) (filled rest) =
+        ap (λ l. map (meaning base) (filled_with character size l)) joined
+        ∙ ap (map (meaning base)) (filled-behind character size text (plain_text base rest) text_len)
+        ∙ map-append (meaning base) text (filled rest) in
         subst (λ gs. GroupsMean base gs bytes)
         (sym (ap (runs size) parts
-        ∙ runs-append size (positioned text) behind (group_symbols-pos base.width width)
-        (length-positioned_from 0 text ∙ text_len))) (
+        ∙ runs-append size (map (meaning base) text) (map (meaning base) (filled rest))
+        (group_symbols-pos base.width width) means.is_whole)) (
           front,
           rest,
           sym (take-append-drop count bytes),
-          placed text front means,
+          means,
           (λ final. absurd (false≢true
-              (sym (symbols-not_final base (meanings_in base (positioned text)) symbols.values
-              (ap (map (meaning base)) (bytes-positioned_from 0 text) ∙ symbols.are_symbols))
+              (sym (symbols-not_final base (map (meaning base) text) symbols.values
+              symbols.are_symbols)
               ∙ final))),
-          GroupsMean-alike base width (positioned (filled rest)) behind rest
-              (ap (map (meaning base)) (bytes-positioned_from 0 (filled rest)
-              ∙ sym (bytes-positioned_from (0 + length text) (filled rest))))
-              others,
+          others,
         )
 
     -- group after group
@@ -222,6 +202,9 @@ module _ (base : Base) (ruled : IsRuled base) where
             (PlainMeans-plain_text base ruled bytes below)
         by (Some character) is h same =
             let text = filled_with character (group_symbols base.width) (plain_text base bytes) in
-            GroupsMean-alike base width (positioned text) (kept base (text_of base bytes)) bytes
-            (ap (map (meaning base)) (bytes-positioned_from 0 text ∙ sym same))
+            let size = group_symbols base.width in
+            let kept_bytes = kept base (text_of base bytes) in
+            subst (λ gs. GroupsMean base gs bytes)
+            (ap (λ l. runs size (map (meaning base) l)) (sym same)
+            ∙ runs-meanings base size kept_bytes (group_symbols-pos base.width width))
             (groups_meant (ap is_some is) character h.1 (length bytes) bytes (omega arith) below)

@@ -7,7 +7,7 @@ use Rattle.data_encoding.specs.declared.encoding.BitOrder.TheVariants.{LeastSign
 use Rattle.data_encoding.specs.declared.error.DecodeKind.TheVariants.{Symbol}
 use Rattle.data_encoding.specs.Base.{Base, is_padding, IsWidth, meaning}
 use Rattle.data_encoding.specs.Fault.{fault_of, sound_bytes}
-use Rattle.data_encoding.specs.Grammar.{Means, positioned_from, positioned, groups, PlainMeans, GroupMeans, GroupsMean, MeansBy}
+use Rattle.data_encoding.specs.Grammar.{Means, positioned_from, groups, PlainMeans, GroupMeans, GroupsMean, MeansBy, meanings_in}
 use Rattle.data_encoding.specs.Predefined.{unpadded_fields, translated_fields, hexlower_fields, hexlower_permissive_fields, base64_fields, base64_nopad_fields, base64_mime_fields, base64_mime_permissive_fields}
 use Rattle.data_encoding.specs.Partial.{StopsAt}
 use Rattle.data_encoding.specs.Lengths.{IsBlockLength}
@@ -76,7 +76,7 @@ next_group = record {
 
 groups_mean :
     Has base64_fields (λ base.
-    GroupsMean base (groups base (codes "AA==AAA=")) (0 ∷ 0 ∷ 0 ∷ []))
+    GroupsMean base (map (meanings_in base) (groups base (codes "AA==AAA="))) (0 ∷ 0 ∷ 0 ∷ []))
 groups_mean = (
   0 ∷ [],
   0 ∷ 0 ∷ [],

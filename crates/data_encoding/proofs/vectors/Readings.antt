@@ -13,7 +13,7 @@ use Rattle.data_encoding.specs.Base.{Base, meaning}
 use Rattle.data_encoding.specs.Canonical.{has_one_text}
 use Rattle.data_encoding.specs.Fault.{IsRefusal, bytes_of_group, character_fault, count_before_padding, fault_after, fault_at, fault_at_first, faulty_at, first_after, first_fault, group_fault, located, or_else, padded_fault_at, plain_fault, position_of, sound_after, sound_groups, symbol_bits, symbol_bytes, symbols_fault, trailing_bits, trailing_fault}
 use Rattle.data_encoding.specs.Fields.{Fields, base_of}
-use Rattle.data_encoding.specs.Grammar.{Positioned, positioned_from, positioned, kept, groups, is_final, kept_from, kept_in, bytes_in, meanings_in}
+use Rattle.data_encoding.specs.Grammar.{Positioned, positioned_from, positioned, kept, groups, is_final, kept_from, kept_in, bytes_in, meanings_in, ends_text}
 use Rattle.data_encoding.specs.Layout.{layout, fields_of}
 use Rattle.data_encoding.specs.Lengths.{alignment, decoded_len, greatest_valid_count, is_valid_count, is_valid_length, greatest_valid_length, length_fault, most_bytes, unless_fault, align_by}
 use Rattle.data_encoding.specs.Partial.{partial_of, position_after, position_after_first, sound_len, ignoring_nothing, is_sound_run, is_length_fault, read_len, partial_at, partial_by}
@@ -229,7 +229,9 @@ final_groups :
     (by (λ base. is_final base (positioned (codes "AA=="))) base64_fields ≡ Some false)
     × (by (λ base. map (is_final base) (groups base (codes "AAAAAA=="))) single_fields
     ≡ Some (false ∷ true ∷ []))
-final_groups = (refl, refl)
+    × (by (λ base. ends_text base (SymbolCharacter 0 ∷ PaddingCharacter ∷ [])) single_fields
+    ≡ Some true)
+final_groups = (refl, refl, refl)
 
 -- the bits of `AB`, the bytes of them and what is left
 bits_of_groups :

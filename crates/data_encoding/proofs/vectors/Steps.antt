@@ -17,7 +17,7 @@ use Rattle.data_encoding.specs.Encoding.{base_of_tables, KeepsRules, wrapping_by
 use Rattle.data_encoding.specs.Entries.{meaning_of_entry, is_entry_of, HoldsEntries}
 use Rattle.data_encoding.specs.Meanings.{meanings_of_table, HasEntries}
 use Rattle.data_encoding.specs.Tables.{HasTables, HoldsSymbols, HoldsValues, IsGroup, Reads, Writes}
-use Rattle.data_encoding.specs.Decoding.{AreSound, HasDecodedTo, IsLongest, IsRun, IsDecodedGroup, most_symbols, HasSymbols, HasFault, IsGathered, valid_front, IsLastRun, HasNoLastRun, HasRoom, IsStop, IsDecoded, fault_of_stop}
+use Rattle.data_encoding.specs.Decoding.{AreSound, HasDecodedTo, IsLongest, IsRun, IsDecodedGroup, most_symbols, HasSymbols, HasFault, IsGathered, valid_front, IsLastRun, HasNoLastRun, HasRoom, IsStop, IsDecoded, fault_of_stop, run_bytes}
 use Rattle.data_encoding.proofs.tables.TableLemmas.{Reads-seen, Writes-tables}
 use Rattle.std.specs.Borrow.{Bor}
 use Rattle.data_encoding.specs.declared.specification.predefined.Predefined.{Predefined}
@@ -209,8 +209,9 @@ are_all_symbols (suc (suc (suc (suc k)))) h = absurd (omega (arith, h))
 
 group_run :
     Has base64_nopad_fields (λ base.
-    IsRun base (codes "QUJD!") 1 (0 ∷ 0 ∷ 0 ∷ []) (65 ∷ 66 ∷ 67 ∷ []))
-group_run = record { within = lit≤ tt; are_symbols = are_all_symbols; bytes = refl }
+    IsRun base (codes "QUJD!") 1 (0 ∷ 0 ∷ 0 ∷ []) (65 ∷ 66 ∷ 67 ∷ [])
+    × (run_bytes base (codes "QUJDREVG") ≡ codes "ABCDEF"))
+group_run = (record { within = lit≤ tt; are_symbols = are_all_symbols; bytes = refl }, refl)
 
 longest_run :
     Has base64_nopad_fields (λ base.
