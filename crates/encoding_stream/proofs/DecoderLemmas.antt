@@ -1,73 +1,46 @@
 -- A text that comes in pieces, and what is appended of it.
-use Rattle.std.proofs.Common.{◌≡◌, ℕ, ◌+◌, ◌*◌, ◌/◌, ◌<◌, ◌≤◌, List, [], ◌++◌, length, take, drop, ◌-◌, refl, sym, ap, ◌∙◌, subst, arith, append-nil, append_assoc, length-append, length-take-le, length-take}
-use Rattle.std.proofs.Math.Nat.{add-mul, div-mul-le_self, le-div_iff_mul-le}
+use Rattle.std.proofs.Common.{◌≡◌, ℕ, ◌+◌, ◌≤◌, List, [], ◌++◌, length, take, drop, ◌-◌, refl, sym, ap, ◌∙◌, subst, arith, append-nil, append_assoc, length-append, length-take-le, length-take}
 use Rattle.std.proofs.Math.Logic.{∥∥₁_elim}
 use Rattle.std.proofs.lemmas.List.{length-drop, take-append-drop, take-take, take_rest, drop-take}
-use Rattle.std.proofs.lemmas.Nat.{mul-le}
 use Rattle.std.specs.Coded.{le_prop}
-use Rattle.data_encoding.specs.Base.{Base, group_bytes, group_symbols}
+use Rattle.data_encoding.specs.Base.{Base}
 use Rattle.data_encoding.specs.Fields.{IsSpecified}
 use Rattle.data_encoding.specs.Pieces.{whole_bytes, KeepsBytes}
 use Rattle.encoding_stream.specs.declared.pieces.Kept.{Kept}
-use Rattle.encoding_stream.specs.declared.pieces.PieceDecoder.{PieceDecoder}
+use Rattle.encoding_stream.specs.declared.pieces.BufferDecoder.{BufferDecoder}
 use Rattle.encoding_stream.specs.Appending.{AppendsDecoded}
-use Rattle.encoding_stream.specs.Pieces.{base_of_pieces, FillsGroups, Keeps}
+use Rattle.encoding_stream.specs.Pieces.{base_of_pieces, most_completed, Keeps}
 use Rattle.encoding_stream.specs.Reading.{AppendsPiece, ReadsOn}
-use Rattle.encoding_stream.proofs.ReadPieceLemmas.{reads-join, reads-nothing}
+use Rattle.encoding_stream.proofs.ReadPieceLemmas.{most-short, reads-join, reads-nothing}
 use Rattle.encoding_stream.proofs.SizeLemmas.{symbols-few}
 
--- what groups that are complete may still have, before and after some of their bytes
-fewer-left : (base : Base) (old len new written rest : ℕ)
-    → 0 < group_symbols base.width → FillsGroups base old len new written
-    → written + (new + rest) / group_symbols base.width * group_bytes base.width
-    ≤ (old + (len + rest)) / group_symbols base.width * group_bytes base.width
-fewer-left base old len new written rest some fills =
-    let size = group_symbols base.width in
-    let each = group_bytes base.width in
-    let left : ℕ = (new + rest) / size in
-    let back : left * size ≤ new + rest = div-mul-le_self (new + rest) size in
-    let both : (fills.groups + left) * size ≤ old + (len + rest) =
-    omega (arith, back, fills.symbols, add-mul fills.groups left size) in
-    let all : fills.groups + left ≤ (old + (len + rest)) / size =
-    (le-div_iff_mul-le some).1 both in
-    omega (
-      arith,
-      fills.bytes,
-      add-mul fills.groups left each,
-      mul-le (fills.groups + left) each ((old + (len + rest)) / size) each all (omega arith),
-    )
-
 -- room for the rest of a piece is room for a part and what is left then
-pub room-left : (base : Base) (pieces : PieceDecoder) → base_of_pieces pieces ≡ base
-    → (piece : List ℕ) (read end new written : ℕ) → read ≤ end → end ≤ length piece
-    → FillsGroups (base_of_pieces pieces) pieces.kept.count
-    (length (take (end - read) (drop read piece))) new written
-    → written + (new + (length piece - end)) / group_symbols base.width * group_bytes base.width
-    ≤ (pieces.kept.count + (length piece - read)) / group_symbols base.width
-    * group_bytes base.width
-room-left base pieces is piece read end new written within inside fills =
+pub room-left : (base : Base) (a b : Kept) (piece : List ℕ) (read end written : ℕ) → read ≤ end
+    → end ≤ length piece
+    → ((more : ℕ) → written + most_completed base b more
+    ≤ most_completed base a (length (take (end - read) (drop read piece)) + more))
+    → written + most_completed base b (length piece - end)
+    ≤ most_completed base a (length piece - read)
+room-left base a b piece read end written within inside few =
     let part = take (end - read) (drop read piece) in
     let length-part : length part ≡ end - read =
     length-take-le (end - read) (drop read piece)
     (omega (arith, length-drop read piece, within, inside)) in
     let left : length part + (length piece - end) ≡ length piece - read =
     omega (arith, length-part, within, inside) in
-    let some : 0 < group_symbols (base_of_pieces pieces).width =
-    omega (arith, pieces.short, pieces.group) in
-    subst (λ n. written + (new + (length piece - end)) / group_symbols base.width
-    * group_bytes base.width
-    ≤ (pieces.kept.count + n) / group_symbols base.width * group_bytes base.width) left
-    (fewer-left base pieces.kept.count (length part) new written (length piece - end)
-    (subst (λ b. 0 < group_symbols b.width) is some)
-    (subst (λ b. FillsGroups b pieces.kept.count (length part) new written) is fills))
+    subst (λ n. written + most_completed base b (length piece - end) ≤ most_completed base a n)
+    left (few (length piece - end))
 
 -- room for a part of a piece behind what is held
-pub room-part : (pieces : PieceDecoder) (piece : List ℕ) (read end most room : ℕ)
+pub room-part : (pieces : BufferDecoder) (piece : List ℕ) (read end most room : ℕ)
     → end ≤ read + most → most + 8 ≤ room
-    → pieces.kept.count + length (take (end - read) (drop read piece)) ≤ room
+    → most_completed (base_of_pieces pieces) pieces.kept
+    (length (take (end - read) (drop read piece))) ≤ room
 room-part pieces piece read end most room part fits =
     omega (
       arith,
+      most-short (base_of_pieces pieces) pieces.width pieces.kept
+          (length (take (end - read) (drop read piece))),
       pieces.short,
       pieces.group,
       symbols-few (base_of_pieces pieces).width pieces.width,

@@ -9,4 +9,5 @@ pub mod JudgedLemmas
 pub mod DecoderLemmas
 pub mod DecodedLemmas
 pub mod FinishLemmas
+pub mod ResumedLemmas
 mod Vectors

@@ -163,7 +163,7 @@ pub no-fault : (fault : Option DecodeError) → is_some fault ≡ false → faul
 no-fault None h = refl
 no-fault (Some error) h = absurd (cc h)
 
--- `PieceDecoder::take`, over what it keeps of a text: the encoding's base, the length, the first
+-- `BufferDecoder::take`, over what it keeps of a text: the encoding's base, the length, the first
 -- fault, the bytes of the unfinished group with their positions, and whether a group was final.
 module _ (base : Base) (is : IsSpecified base) (len : ℕ) (fault : Option DecodeError)
     (positions bytes : List ℕ) (count : ℕ) (ended : Bool) (byte : ℕ)

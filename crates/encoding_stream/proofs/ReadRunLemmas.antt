@@ -1,5 +1,5 @@
 -- Lemmas on whole groups that are decoded where they lie.
-use Rattle.std.proofs.Common.{◌≡◌, inr, ℕ, ◌+◌, ◌*◌, ◌/◌, ◌%◌, ◌<◌, ◌≤◌, ◌==◌, Bool, true, false, not, ◌&&◌, if◌then◌else◌, List, [], ◌++◌, Option, None, Some, Ok, is_some, length, take, drop, refl, sym, subst, ap, ◌∙◌, arith, length-take-le, IsOkAnd}
+use Rattle.std.proofs.Common.{◌≡◌, inr, ℕ, ◌+◌, ◌*◌, ◌/◌, ◌%◌, ◌<◌, ◌≤◌, ◌==◌, Bool, true, false, not, ◌&&◌, if◌then◌else◌, List, [], ◌++◌, Option, None, Some, Result, Ok, is_some, length, take, drop, refl, sym, subst, ap, ◌∙◌, arith, length-take-le, IsOkAnd}
 use Rattle.std.proofs.Math.Nat.{div-mul-le_self, le-div_iff_mul-le, le_of_mul-le-mul_left, mul-le-mul_left, mul-le-mul_right}
 use Rattle.std.proofs.lemmas.List.{take-append-le, take-take}
 use Rattle.data_encoding.specs.declared.error.DecodeError.{DecodeError}
@@ -9,9 +9,10 @@ use Rattle.data_encoding.specs.Grammar.{Means, Positioned}
 use Rattle.data_encoding.specs.Lengths.{decoded_len, length_fault, most_bytes, unless_fault}
 use Rattle.data_encoding.specs.Pieces.{whole_bytes, AreWhole, CountsGroups, EndsNowhere, HasRead, MeansWhole, ReadsSound, TellsEnd}
 use Rattle.encoding_stream.specs.declared.pieces.Kept.{Kept}
-use Rattle.encoding_stream.specs.Pieces.{at_positions, held, FillsGroups, Keeps}
-use Rattle.encoding_stream.specs.Reading.{AreWholeGroups, ReadsOn}
+use Rattle.encoding_stream.specs.Pieces.{at_positions, bytes_due, held, FillsGroups, Keeps}
+use Rattle.encoding_stream.specs.Reading.{whole_len, AreWholeGroups, ReadsOn}
 use Rattle.encoding_stream.proofs.PieceLemmas.{no-fault}
+use Rattle.encoding_stream.proofs.ReadPieceLemmas.{fills-few}
 use Rattle.encoding_stream.proofs.SizeLemmas.{bytes-some, due-most}
 
 -- nothing is held
@@ -31,12 +32,12 @@ run-read base is law text piece bytes len fault held ended f h e means whole rea
     let next = law base is text piece bytes len start means whole.whole in
     (rw (f, h, e) (rw whole.not_final at next.0), next.1)
 
-pub reads-run : (base : Base) → IsSpecified base → ReadsSound → (old : Kept)
-    → old.count ≡ 0 → is_some old.fault ≡ false → old.ended ≡ false → (piece bytes : List ℕ)
+pub reads-run : (base : Base) → IsWidth base.width → IsSpecified base → ReadsSound
+    → (old : Kept) → old.count ≡ 0 → is_some old.fault ≡ false → old.ended ≡ false → (piece bytes : List ℕ)
     → Means base piece bytes → AreWholeGroups base piece
     → FillsGroups base 0 (length piece) 0 (length bytes)
     → ReadsOn base old (record old { len = old.len + length piece }) piece bytes
-reads-run base is law old count fault ended piece bytes means whole few =
+reads-run base width is law old count fault ended piece bytes means whole few =
     let next = λ (text : List ℕ) (keeps : Keeps base old text).
     run-read base is law text piece bytes old.len old.fault (held old) old.ended
     (no-fault old.fault fault) (nothing-held old.count old.positions old.bytes count) ended
@@ -45,7 +46,10 @@ reads-run base is law old count fault ended piece bytes means whole few =
       keeps = λ text keeps. (next text keeps).0;
       decodes = λ text keeps. (next text keeps).1;
       counted = refl;
-      few = subst (λ n. FillsGroups base n (length piece) n (length bytes)) (sym count) few;
+      few =
+          fills-few base width old.fault old.fault old.count (length piece) old.count
+          (length bytes) fault
+          (subst (λ n. FillsGroups base n (length piece) n (length bytes)) (sym count) few);
     }
 
 pub due-group : (base : Base) → IsSpecified base → CountsGroups → (size : ℕ)
@@ -55,6 +59,17 @@ due-group base is law size same =
     let bytes : 1 * group_bytes base.width ≡ group_bytes base.width = omega arith in
     subst (λ n. decoded_len base n ≡ Ok (group_bytes base.width)) symbols
     (subst (λ n. decoded_len base (1 * group_symbols base.width) ≡ Ok n) bytes (law base is 1))
+
+one-due : (due : Result ℕ DecodeError) (m n : ℕ) → due ≡ Ok m → due ≡ Ok n → m ≡ n
+one-due due m n one other = cc (one, other)
+
+-- what is due for so many whole groups
+pub due-whole : (base : Base) → IsSpecified base → CountsGroups → (count size due : ℕ)
+    → size ≡ group_symbols base.width → decoded_len base (count * size) ≡ Ok due
+    → due ≡ count * group_bytes base.width
+due-whole base is law count size due same found =
+    one-due (decoded_len base (count * size)) due (count * group_bytes base.width) found
+    (ap (λ n. decoded_len base (count * n)) same ∙ law base is count)
 
 -- no group is final where the bytes are whole groups
 not-both : (a b : Bool) → b ≡ true → (a && not b) ≡ false
@@ -158,33 +173,43 @@ stopped-within base read written len most some few due is =
     let all = due-most base len most due in
     omega (arith, here, grows, all)
 
--- A front of a piece, decoded as a text of its own into as much of the output as is due for it.
-module _ (base : Base) (len most : ℕ) (piece output : List ℕ) (few : len ≤ length piece)
-    (room : length piece ≤ length output) (due : decoded_len base len ≡ Ok most)
-    (less : most_bytes base len ≤ len) where
-  pub run-room : most ≤ length output
-  run-room = omega (arith, due-most base len most due, less, few, room)
+-- The whole groups of a piece, decoded as a text of their own into as much of the output as is due
+-- for them.
+module _ (base : Base) (specified : IsSpecified base) (law : CountsGroups) (len most : ℕ)
+    (piece output : List ℕ) (whole : len ≡ whole_len base (length piece))
+    (room : bytes_due base (length piece) ≤ length output) (due : decoded_len base len ≡ Ok most)
+  where
+    pub run-few : len ≤ length piece
+    run-few = omega (arith, whole, div-mul-le_self (length piece) (group_symbols base.width))
 
-  pub run-part : length (take most output) ≡ most
-  run-part = length-take-le most output run-room
+    run-most : most ≡ bytes_due base (length piece)
+    run-most =
+        due-whole base specified law (length piece / group_symbols base.width)
+        (group_symbols base.width) most refl (sym (ap (decoded_len base) whole) ∙ due)
 
-  pub run-exact : decoded_len base (length (take len piece)) ≡ Ok (length (take most output))
-  run-exact = rw (length-take-le len piece few, run-part) due
+    pub run-room : most ≤ length output
+    run-room = omega (arith, run-most, room)
 
-  -- where it stops
-  module _ (new : List ℕ) (same : length new ≡ length (take most output)) (read at written : ℕ)
-      (some : 0 < group_symbols base.width) (before : read ≤ at)
-      (inside : at < length (take len piece))
-      (is : IsOkAnd (decoded_len base read) (λ n. written ≤ n)) where
-    begun : read ≤ len
-    begun = omega (arith, before, inside, length-take-le len piece few)
+    pub run-part : length (take most output) ≡ most
+    run-part = length-take-le most output run-room
 
-    pub stopped-fits : written ≤ length new
-    stopped-fits =
-        omega (arith, same, run-part, stopped-within base read written len most some begun due is)
+    pub run-exact : decoded_len base (length (take len piece)) ≡ Ok (length (take most output))
+    run-exact = rw (length-take-le len piece run-few, run-part) due
 
-    pub stopped-means : Means base (take read (take len piece)) (take written new)
-        → Means base (take read piece) (take written (new ++ drop most output))
-    stopped-means means =
-        let front = rw (take-take read len piece begun) at means in
-        rw (take-append-le written new (drop most output) stopped-fits) front
+    -- where it stops
+    module _ (new : List ℕ) (same : length new ≡ length (take most output)) (read at written : ℕ)
+        (some : 0 < group_symbols base.width) (before : read ≤ at)
+        (inside : at < length (take len piece))
+        (is : IsOkAnd (decoded_len base read) (λ n. written ≤ n)) where
+      begun : read ≤ len
+      begun = omega (arith, before, inside, length-take-le len piece run-few)
+
+      pub stopped-fits : written ≤ length new
+      stopped-fits =
+          omega (arith, same, run-part, stopped-within base read written len most some begun due is)
+
+      pub stopped-means : Means base (take read (take len piece)) (take written new)
+          → Means base (take read piece) (take written (new ++ drop most output))
+      stopped-means means =
+          let front = rw (take-take read len piece begun) at means in
+          rw (take-append-le written new (drop most output) stopped-fits) front

@@ -1,5 +1,5 @@
 -- Worked rows of what streams and decoders have done.
-use Rattle.std.proofs.Common.{◌∙◌, ◌≡◌, ℕ, true, false, List, [], ◌∷◌, ◌++◌, map, codes, replicate, Some, None, Result, Ok, Err, refl, zero, suc, sym, ap, subst, lit<, lit≤, arith}
+use Rattle.std.proofs.Common.{◌∙◌, ◌≡◌, ℕ, ◌+◌, ◌≤◌, zero-add, true, false, List, [], ◌∷◌, ◌++◌, map, codes, replicate, Some, None, Result, Ok, Err, refl, zero, suc, sym, ap, subst, lit<, lit≤, arith}
 use Rattle.std.proofs.lemmas.Fmt.{decimal_digit}
 use Rattle.data_encoding.specs.declared.error.DecodeError.{DecodeError}
 use Rattle.data_encoding.specs.declared.error.DecodeKind.TheVariants.{Symbol}
@@ -13,8 +13,8 @@ use Rattle.std.proofs.lemmas.List.{append-nil}
 use Rattle.encoding_stream.specs.Decoded.{DecodesAll, DecodesFront, answer_of}
 use Rattle.encoding_stream.specs.Judged.{fault_with_held, next_group, EndsFaulty, EndsSound, JudgesFaulty, JudgesSound}
 use Rattle.encoding_stream.specs.Reading.{whole_len, AppendsPiece, AreWholeGroups, CompletesNothing, HasNoLastBytes, ReadsAllGroups, ReadsOn}
-use Rattle.encoding_stream.specs.Pieces.{base_of_pieces, paired, at_positions, held, NoneIgnored, Keeps, FillsGroups, verdict_of}
-use Rattle.encoding_stream.specs.declared.pieces.PieceDecoder.{PieceDecoder}
+use Rattle.encoding_stream.specs.Pieces.{base_of_pieces, paired, at_positions, held, NoneIgnored, Keeps, FillsGroups, GoesOn, bytes_due, kept_by, most_completed, verdict_of}
+use Rattle.encoding_stream.specs.declared.pieces.BufferDecoder.{BufferDecoder}
 use Rattle.encoding_stream.specs.declared.decoder.Decoder.{Decoder}
 use Rattle.encoding_stream.specs.declared.error.StreamFault.TheVariants.{Read, Write, Decode, TooLong}
 use Rattle.encoding_stream.specs.declared.pieces.Kept.{Kept}
@@ -176,9 +176,22 @@ pushed_by base text keeps decoder is kept_is = (
 )
 
 -- the encoding of a decoder by pieces
-base_of_decoding : (base : Base) (pieces : PieceDecoder) → pieces.encoding.now ≡ base
+base_of_decoding : (base : Base) (pieces : BufferDecoder) → pieces.encoding.now ≡ base
     → base_of_pieces pieces ≡ base
 base_of_decoding base pieces is = is
+
+-- ten symbols of base64 make two groups whole; behind two that are held, five more of a text may
+-- complete one, and behind a fault none
+most_bytes_completed :
+    Has base64_fields (λ base. (bytes_due base 10 ≡ 6)
+    × (most_completed base kept_so_far 5 ≡ 3)
+    × (most_completed base (record kept_so_far { fault = Some symbol_at_4 }) 5 ≡ 0))
+most_bytes_completed = (refl, refl, refl)
+
+-- a decoder that goes on from what is kept
+gone_on : (base : Base) (pieces : BufferDecoder) → pieces.encoding.now ≡ base
+    → pieces.kept ≡ kept_so_far → GoesOn base kept_so_far pieces × (kept_by pieces ≡ kept_so_far)
+gone_on base pieces is kept_is = (record { base_is = is; kept_is = kept_is }, kept_is)
 
 -- a piece of no bytes leaves all as it was
 no_piece : (base : Base) → ReadsOn base kept_so_far kept_so_far [] []
@@ -191,7 +204,9 @@ no_piece base =
           ap (λ those. whole_bytes base those) (append-nil text)
           ∙ sym (append-nil (whole_bytes base text));
       counted = refl;
-      few = record { groups = 0; symbols = omega arith; bytes = omega arith };
+      few = λ more.
+          subst (λ n. 0 + most_completed base kept_so_far more
+          ≤ most_completed base kept_so_far n) (sym (zero-add more)) (omega arith);
     } in
     (reads, record { bytes = []; reads = reads; appended = refl })
 

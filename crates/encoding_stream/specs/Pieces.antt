@@ -1,15 +1,19 @@
 -- What is kept of a text that is decoded piece by piece.
-use Rattle.std.specs.Prelude.{◌≡◌, ℕ, ◌+◌, ◌*◌, ◌≤◌, false, List, [], ◌∷◌, take, All, Option, Some, None, Result, Ok, Err}
+use Rattle.std.specs.Prelude.{◌≡◌, ℕ, ◌+◌, ◌*◌, ◌/◌, ◌≤◌, if◌then◌else◌, false, List, [], ◌∷◌, take, All, Option, Some, None, is_some, Result, Ok, Err}
 use Rattle.data_encoding.specs.declared.error.DecodeError.{DecodeError}
 use Rattle.data_encoding.specs.Base.{Base, group_bytes, group_symbols, is_ignored, meaning}
 use Rattle.data_encoding.specs.Grammar.{Positioned}
 use Rattle.data_encoding.specs.Pieces.{HasRead}
 use Rattle.encoding_stream.specs.declared.pieces.Kept.{Kept}
-use Rattle.encoding_stream.specs.declared.pieces.PieceDecoder.{PieceDecoder}
+use Rattle.encoding_stream.specs.declared.pieces.BufferDecoder.{BufferDecoder}
 
 -- the encoding
-abbrev pub base_of_pieces : PieceDecoder → Base
+abbrev pub base_of_pieces : BufferDecoder → Base
 base_of_pieces pieces = pieces.encoding.now
+
+-- what it keeps of its text
+abbrev pub kept_by : BufferDecoder → Kept
+kept_by pieces = pieces.kept
 
 -- bytes at their positions
 abbrev pub paired : List ℕ → List ℕ → List Positioned
@@ -32,6 +36,20 @@ NoneIgnored base group = All (λ k. is_ignored (meaning base k.byte) ≡ false) 
 -- This is kept of the text.
 abbrev pub Keeps : Base → Kept → List ℕ → Type 0
 Keeps base kept text = HasRead base text kept.len kept.fault (held kept) kept.ended
+
+-- A decoder of this encoding keeps this.
+pub record GoesOn (base : Base) (kept : Kept) (pieces : BufferDecoder) : Type 0 where
+  pub base_is : base_of_pieces pieces ≡ base
+  pub kept_is : kept_by pieces ≡ kept
+
+-- the bytes of as many groups as this many symbols make whole
+abbrev pub bytes_due : Base → ℕ → ℕ
+bytes_due base len = len / group_symbols base.width * group_bytes base.width
+
+-- the greatest number of bytes that so many more of the text may complete
+abbrev pub most_completed : Base → Kept → ℕ → ℕ
+most_completed base kept len =
+    if is_some kept.fault then 0 else bytes_due base (kept.count + len)
 
 -- So many bytes of a text, behind some that are held, fill some groups and leave others held; the
 -- groups have at most so many bytes.

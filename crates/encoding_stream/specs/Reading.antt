@@ -1,5 +1,5 @@
 -- How a decoder by pieces reads on.
-use Rattle.std.specs.Prelude.{◌≡◌, ℕ, ◌+◌, ◌*◌, ◌/◌, ◌%◌, false, List, ◌++◌, length, take}
+use Rattle.std.specs.Prelude.{◌≡◌, ℕ, ◌+◌, ◌*◌, ◌/◌, ◌≤◌, ◌%◌, false, List, ◌++◌, length, take}
 use Rattle.std.specs.List.{list_any}
 use Rattle.data_encoding.specs.Base.{Base, group_symbols, ignores_some}
 use Rattle.data_encoding.specs.Fault.{sound_bytes}
@@ -7,16 +7,17 @@ use Rattle.data_encoding.specs.Grammar.{Means, groups, is_final, kept}
 use Rattle.data_encoding.specs.Pieces.{whole_bytes}
 use Rattle.encoding_stream.specs.declared.pieces.Kept.{Kept}
 use Rattle.encoding_stream.specs.Appending.{AppendsDecoded}
-use Rattle.encoding_stream.specs.Pieces.{FillsGroups, Keeps}
+use Rattle.encoding_stream.specs.Pieces.{most_completed, Keeps}
 
 -- Of each text of which the first is kept, the second is kept with this piece behind it, and the
--- groups that are then whole append these bytes.
+-- groups that are then whole append these bytes, which leave the room for what may follow.
 pub record ReadsOn (base : Base) (old new : Kept) (piece bytes : List ℕ) : Type 0 where
   pub keeps : (text : List ℕ) → Keeps base old text → Keeps base new (text ++ piece)
   pub decodes : (text : List ℕ) → Keeps base old text
       → whole_bytes base (text ++ piece) ≡ whole_bytes base text ++ bytes
   pub counted : new.len ≡ old.len + length piece
-  pub few : FillsGroups base old.count (length piece) new.count (length bytes)
+  pub few : (more : ℕ) → length bytes + most_completed base new more
+      ≤ most_completed base old (length piece + more)
 
 -- A piece was read on, and the bytes of the groups that are then whole were appended.
 pub record AppendsPiece (base : Base) (old new : Kept) (piece output_old output_new : List ℕ)

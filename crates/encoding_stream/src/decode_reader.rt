@@ -10,7 +10,7 @@ ghost use Rattle.encoding_stream.specs.Watch.{has_failed, inner_of};
 
 use crate::error::StreamFault;
 use crate::fill::fill;
-use crate::pieces::PieceDecoder;
+use crate::pieces::BufferDecoder;
 use crate::watch::Watch;
 use data_encoding::laws::steps;
 use data_encoding::{DECODE_LIMIT, DecodeError, Encoding};
@@ -66,7 +66,7 @@ pub fn decode_stream<R: Read, W: Write>(
     // It tells that the base is built from a specification.
     encoding.bit_width();
     steps::pieces();
-    let mut pieces = PieceDecoder::new(encoding);
+    let mut pieces = BufferDecoder::new(encoding);
     let mut buffer = [0; CHUNK];
     let mut output = [0; ROOM];
     loop {
@@ -91,11 +91,10 @@ pub fn decode_stream<R: Read, W: Write>(
 
 // Writes what the last group decodes to, flushes, and returns the verdict.
 fn end<W: Write>(
-    pieces: &PieceDecoder<'_>,
+    pieces: &BufferDecoder<'_>,
     output: &mut [u8],
     writer: &mut Watch<W>,
 ) -> Result<(), StreamFault>
-    requires limit { pieces.now.kept.len ≤ DECODE_LIMIT }
     requires room { 8 ≤ length output.old }
     requires works { has_failed writer.old ≡ false }
     ensures last { EndsText (base_of_pieces pieces.now) pieces.now.kept

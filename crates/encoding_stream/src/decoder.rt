@@ -1,14 +1,13 @@
 //! Text that comes in pieces, decoded as it comes.
 
-ghost use Rattle.std.specs.Prelude.{◌≡◌, ℕ, ◌+◌, ◌*◌, ◌/◌, ◌≤◌, List, ◌++◌, length, take, vec_capacity, vec_len, IfOk, IsOk, OnErr, OnOk};
+ghost use Rattle.std.specs.Prelude.{◌≡◌, ℕ, ◌+◌, ◌≤◌, List, ◌++◌, length, take, vec_capacity, vec_len, IfOk, IsOk, OnErr, OnOk};
 ghost use Rattle.data_encoding.specs.declared.decode.TheConstants.{DECODE_LIMIT};
-ghost use Rattle.data_encoding.specs.Base.{group_bytes, group_symbols};
 ghost use Rattle.data_encoding.specs.Fields.{IsSpecified};
 ghost use Rattle.data_encoding.specs.Fault.{fault_of};
-ghost use Rattle.encoding_stream.specs.Pieces.{base_of_pieces, verdict_of, Keeps};
+ghost use Rattle.encoding_stream.specs.Pieces.{base_of_pieces, most_completed, verdict_of, Keeps};
 ghost use Rattle.encoding_stream.specs.Reading.{AppendsLast, AppendsPiece, CompletesNothing, HasNoLastBytes, ReadsOn};
 
-use crate::pieces::PieceDecoder;
+use crate::pieces::BufferDecoder;
 use data_encoding::laws::steps;
 use data_encoding::{DECODE_LIMIT, DecodeError, Encoding};
 use std::alloc::{AllocError, Allocator};
@@ -26,9 +25,8 @@ const ROOM: usize = CHUNK + 8;
 /// takes no memory of its own.
 #[derive(Debug, Drop)]
 pub struct Decoder<'a> {
-    pieces: PieceDecoder<'a>,
+    pieces: BufferDecoder<'a>,
     ghost specified: { ∥ IsSpecified (base_of_pieces pieces) ∥₁ },
-    ghost limit: { pieces.kept.len ≤ DECODE_LIMIT },
 }
 
 /// What `Decoder::finish` returns of the whole text.
@@ -56,7 +54,7 @@ impl<'a> Decoder<'a> {
         encoding.bit_width();
         steps::pieces();
         Decoder {
-            pieces: PieceDecoder::new(encoding),
+            pieces: BufferDecoder::new(encoding),
         }
     }
 
@@ -132,7 +130,7 @@ impl<'a> Decoder<'a> {
 // Reads a piece, and appends the bytes of the groups that are then whole, in any memory. All growth
 // comes first; where it is refused, the decoder is of no more use.
 fn append_piece<A: Allocator + Copy>(
-    pieces: &mut PieceDecoder<'_>,
+    pieces: &mut BufferDecoder<'_>,
     piece: &[u8],
     output: &mut Vec<u8, A>,
 ) -> Result<(), AllocError>
@@ -160,10 +158,9 @@ fn append_piece<A: Allocator + Copy>(
 
 // What `Decoder::finish` does, into any memory.
 fn append_last<A: Allocator + Copy>(
-    pieces: &PieceDecoder<'_>,
+    pieces: &BufferDecoder<'_>,
     output: &mut Vec<u8, A>,
 ) -> Result<Result<(), DecodeError>, AllocError>
-    requires limit { pieces.now.kept.len ≤ DECODE_LIMIT }
     ensures verdict { IfOk result (λ verdict. (text : List ℕ)
         → Keeps (base_of_pieces pieces.now) pieces.now.kept text
         → verdict ≡ verdict_of (fault_of (base_of_pieces pieces.now) text)) }
@@ -184,7 +181,7 @@ fn append_last<A: Allocator + Copy>(
 
 // Reads until bytes are decoded, which stand at the front of the buffer, or to the end; returns how
 // many bytes were read, and how many decoded.
-fn read_first(pieces: &mut PieceDecoder<'_>, piece: &[u8], buffer: &mut [u8]) -> (usize, usize)
+fn read_first(pieces: &mut BufferDecoder<'_>, piece: &[u8], buffer: &mut [u8]) -> (usize, usize)
     requires limit { pieces.old.kept.len + length piece.now ≤ DECODE_LIMIT }
     requires room { length buffer.old ≡ ROOM }
     ensures base { base_of_pieces pieces.new ≡ base_of_pieces pieces.old }
@@ -207,16 +204,15 @@ fn read_first(pieces: &mut PieceDecoder<'_>, piece: &[u8], buffer: &mut [u8]) ->
 
 // Reads to the end, and appends what is decoded, for which the output has room.
 fn append_rest<A: Allocator + Copy>(
-    pieces: &mut PieceDecoder<'_>,
+    pieces: &mut BufferDecoder<'_>,
     piece: &[u8],
     buffer: &mut [u8],
     output: &mut Vec<u8, A>,
 )
     requires limit { pieces.old.kept.len + length piece.now ≤ DECODE_LIMIT }
     requires room { length buffer.old ≡ ROOM }
-    requires capacity { vec_len output.old + (pieces.old.kept.count + length piece.now)
-        / group_symbols (base_of_pieces pieces.old).width
-        * group_bytes (base_of_pieces pieces.old).width ≤ vec_capacity output.old }
+    requires capacity { vec_len output.old + most_completed (base_of_pieces pieces.old)
+        pieces.old.kept (length piece.now) ≤ vec_capacity output.old }
     ensures base { base_of_pieces pieces.new ≡ base_of_pieces pieces.old }
     ensures appends { AppendsPiece (base_of_pieces pieces.old) pieces.old.kept pieces.new.kept
         piece.now output.old.items output.new.items }

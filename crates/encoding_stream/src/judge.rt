@@ -6,13 +6,13 @@ ghost use Rattle.data_encoding.specs.Fault.{fault_of, sound_bytes};
 ghost use Rattle.data_encoding.specs.Grammar.{is_final};
 ghost use Rattle.data_encoding.specs.Pieces.{whole_bytes};
 ghost use Rattle.encoding_stream.specs.Judged.{EndsFaulty, EndsSound, JudgesFaulty, JudgesSound};
-ghost use Rattle.encoding_stream.specs.Pieces.{at_positions, base_of_pieces, verdict_of, Keeps};
+ghost use Rattle.encoding_stream.specs.Pieces.{at_positions, base_of_pieces, kept_by, verdict_of, Keeps};
 
-use crate::pieces::PieceDecoder;
+use crate::pieces::BufferDecoder;
 use data_encoding::laws::steps::pieces;
-use data_encoding::{DECODE_LIMIT, DecodeError, DecodeKind};
+use data_encoding::{DecodeError, DecodeKind};
 
-impl PieceDecoder<'_> {
+impl BufferDecoder<'_> {
     /// Whether the group that is whole is final.
     pub(crate) fn is_final(&self) -> bool
         ensures { result ≡ is_final (base_of_pieces self.now) (at_positions self.now.size
@@ -69,18 +69,17 @@ impl PieceDecoder<'_> {
         }
     }
 
-    /// Ends the text: writes the bytes of a last group, where neither it nor one before has a
-    /// fault, to the front of the output, and returns how many bytes they are and the verdict on
-    /// the whole text.
-    pub(crate) fn finish(&self, output: &mut [u8]) -> (usize, Result<(), DecodeError>)
-        requires limit { self.now.kept.len ≤ DECODE_LIMIT }
-        requires room { 8 ≤ length output.old }
-        ensures verdict { (text : List ℕ) → Keeps (base_of_pieces self.now) self.now.kept text
+    /// Ends the text: writes the bytes of a last group, at most five, where neither it nor one
+    /// before has a fault, to the front of the output, and returns how many bytes they are and what
+    /// `Encoding::decode` returns of the whole text: its fault, if it has one.
+    pub fn finish(&self, output: &mut [u8]) -> (usize, Result<(), DecodeError>)
+        requires room { 5 ≤ length output.old }
+        ensures verdict { (text : List ℕ) → Keeps (base_of_pieces self.now) (kept_by self.now) text
             → result.1 ≡ verdict_of (fault_of (base_of_pieces self.now) text) }
-        ensures bytes { (text : List ℕ) → Keeps (base_of_pieces self.now) self.now.kept text
+        ensures bytes { (text : List ℕ) → Keeps (base_of_pieces self.now) (kept_by self.now) text
             → sound_bytes (base_of_pieces self.now) text
             ≡ whole_bytes (base_of_pieces self.now) text ++ take result.0 output.new }
-        ensures few { result.0 ≤ 8 }
+        ensures few { result.0 ≤ 5 }
         ensures len { length output.new ≡ length output.old }
     {
         pieces();
@@ -98,12 +97,12 @@ impl PieceDecoder<'_> {
     // Judges what is held as the last group, where there is one and no group before has a fault:
     // the first fault of the groups, or the bytes of the last.
     fn judge_last(&self, output: &mut [u8]) -> Result<usize, DecodeError>
-        requires room { 8 ≤ length output.old }
+        requires room { 5 ≤ length output.old }
         ensures sound { IfOk result (λ written. EndsSound (base_of_pieces self.now) self.now.kept
             (take written output.new)) }
         ensures fault { IfErr result (λ error. EndsFaulty (base_of_pieces self.now)
             self.now.kept error) }
-        ensures few { IfOk result (λ written. written ≤ 8) }
+        ensures few { IfOk result (λ written. written ≤ 5) }
         ensures len { length output.new ≡ length output.old }
     {
         if let Some(error) = self.kept.fault {

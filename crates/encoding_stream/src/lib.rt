@@ -17,4 +17,5 @@ pub use decode_reader::decode_stream;
 pub use decoder::{Decoder, Finished};
 pub use encode_reader::encode_stream;
 pub use error::StreamFault;
+pub use pieces::{BufferDecoder, Kept};
 pub use watch::Watch;

@@ -1,6 +1,7 @@
 //! A text that is decoded piece by piece, into buffers: what is kept of it, and how it is read on.
 
-ghost use Rattle.std.specs.Prelude.{◌≡◌, if◌then◌else◌, ℕ, ◌+◌, ◌<◌, ◌≤◌, ◌*◌, ◌/◌, ◌%◌, true, false, List, [], ◌∷◌, length, take, IsOk, IsSome, None};
+ghost use Rattle.std.specs.Prelude.{◌≡◌, ℕ, ◌+◌, ◌<◌, ◌≤◌, ◌%◌, true, false, List, [], ◌∷◌, length, take, IfSome, IsSome, None};
+ghost use Rattle.data_encoding.specs.declared.decode.TheConstants.{DECODE_LIMIT};
 ghost use Rattle.data_encoding.specs.Base.{IsWidth, group_bytes, group_symbols, ignores_some};
 ghost use Rattle.data_encoding.specs.Fields.{IsSpecified};
 ghost use Rattle.data_encoding.specs.Grammar.{Means};
@@ -9,21 +10,34 @@ ghost use Rattle.data_encoding.specs.Lengths.{decoded_len, most_bytes};
 use data_encoding::laws::steps::{pieces, whole_groups};
 use data_encoding::{DECODE_LIMIT, DecodeError, Encoding};
 
-/// What is kept of a text between its pieces: its length, the first fault of its whole groups, the
-/// bytes of an unfinished group with their positions, and whether a group was final.
+/// What is kept of a text between its pieces: plain numbers, from which decoding goes on.
 #[derive(Clone, Copy, Debug, Drop)]
-pub(crate) struct Kept {
-    pub(crate) len: usize,
-    pub(crate) fault: Option<DecodeError>,
-    pub(crate) positions: [usize; 8],
-    pub(crate) bytes: [u8; 8],
-    pub(crate) count: usize,
-    pub(crate) ended: bool,
+pub struct Kept {
+    /// How many bytes the text has.
+    pub len: usize,
+
+    /// The first fault of its whole groups.
+    pub fault: Option<DecodeError>,
+
+    /// Where in the text the bytes of an unfinished group stand.
+    pub positions: [usize; 8],
+
+    /// These bytes.
+    pub bytes: [u8; 8],
+
+    /// How many they are. After a fault there are none.
+    pub count: usize,
+
+    /// Whether one of the whole groups is final, so that none may follow.
+    pub ended: bool,
 }
 
-/// Decodes a text piece by piece: the bytes of a group are written as soon as it is whole.
+/// Decodes a text that comes in pieces, cut anywhere, into buffers of the caller's.
+///
+/// The bytes of a group are written once the group is whole. What is kept of the text is plain
+/// numbers: `kept` returns them, and `resumed` goes on from them.
 #[derive(Clone, Copy, Debug, Drop)]
-pub(crate) struct PieceDecoder<'a> {
+pub struct BufferDecoder<'a> {
     pub(crate) encoding: &'a Encoding,
     pub(crate) size: usize,
     pub(crate) concatenates: bool,
@@ -35,21 +49,25 @@ pub(crate) struct PieceDecoder<'a> {
     ghost ignored: { ignores ≡ ignores_some encoding.now },
     ghost short: { kept.count < size },
     ghost held: { kept.count ≤ kept.len },
+    ghost clear: { IsSome kept.fault → kept.count ≡ 0 },
+    ghost limit: { kept.len ≤ DECODE_LIMIT },
 }
 
-impl<'a> PieceDecoder<'a> {
-    ghost use Rattle.encoding_stream.specs.Pieces.{base_of_pieces, FillsGroups, Keeps};
+impl<'a> BufferDecoder<'a> {
+    ghost use Rattle.data_encoding.specs.Pieces.{whole_bytes};
+    ghost use Rattle.encoding_stream.specs.Pieces.{base_of_pieces, bytes_due, kept_by, most_completed, FillsGroups, GoesOn, Keeps};
     ghost use Rattle.encoding_stream.specs.Reading.{whole_len, AreWholeGroups, ReadsAllGroups, ReadsOn};
 
-    /// One that has read nothing.
-    pub(crate) fn new(encoding: &'a Encoding) -> PieceDecoder<'a>
+    /// A decoder that has read nothing.
+    pub fn new(encoding: &'a Encoding) -> BufferDecoder<'a>
         ensures base { base_of_pieces result ≡ encoding.now }
-        ensures nothing { Keeps encoding.now result.kept [] }
+        ensures nothing { Keeps encoding.now (kept_by result) [] }
+        ensures no_bytes { whole_bytes encoding.now [] ≡ [] }
     {
         // The width is that of an encoding that a specification yields.
         encoding.bit_width();
         pieces();
-        PieceDecoder {
+        BufferDecoder {
             encoding,
             size: encoding.group_len(),
             concatenates: encoding.concatenates(),
@@ -65,14 +83,77 @@ impl<'a> PieceDecoder<'a> {
         }
     }
 
+    /// A decoder that goes on from what another of the same encoding kept.
+    ///
+    /// Any numbers may be given. `None` where no decoder of this encoding keeps such: the length
+    /// of the text is above `DECODE_LIMIT`, a whole group is held or more bytes than the text has,
+    /// or bytes are held after a fault.
+    pub fn resumed(encoding: &'a Encoding, kept: Kept) -> Option<BufferDecoder<'a>>
+        ensures goes_on { IfSome result (GoesOn encoding.now kept) }
+        ensures resumes { (text : List ℕ) → Keeps encoding.now kept text
+            → length text ≤ DECODE_LIMIT → (IsSome kept.fault → kept.count ≡ 0)
+            → IsSome result }
+    {
+        let mut decoder = BufferDecoder::new(encoding);
+        if kept.len > DECODE_LIMIT || kept.count >= decoder.size || kept.count > kept.len {
+            return None;
+        }
+        if kept.fault.is_some() && kept.count > 0 {
+            return None;
+        }
+        decoder.kept = kept;
+        Some(decoder)
+    }
+
+    /// What is kept of the text: from it, `resumed` makes this decoder again.
+    pub fn kept(&self) -> Kept
+        ensures value { result ≡ kept_by self.now }
+        ensures limit { result.len ≤ DECODE_LIMIT }
+        ensures clear { IsSome result.fault → result.count ≡ 0 }
+    {
+        self.kept
+    }
+
+    /// How many bytes the text has so far.
+    pub fn len(&self) -> usize
+        ensures value { result ≡ (kept_by self.now).len }
+        ensures limit { result ≤ DECODE_LIMIT }
+        ensures read { (text : List ℕ) → Keeps (base_of_pieces self.now) (kept_by self.now) text
+            → result ≡ length text }
+    {
+        self.kept.len
+    }
+
+    /// The greatest number of bytes that this many more of the text may complete: as much room as
+    /// `read` asks for. The text has at most `DECODE_LIMIT` bytes with them.
+    pub fn most(&self, len: usize) -> usize
+        requires limit { (kept_by self.now).len + len ≤ DECODE_LIMIT }
+        ensures value { result ≡ most_completed (base_of_pieces self.now) (kept_by self.now) len }
+        ensures few { result ≤ len + 7 }
+    {
+        if self.kept.fault.is_some() {
+            return 0;
+        }
+        whole_groups();
+        let whole = (self.kept.count + len) / self.size * self.size;
+        match self.encoding.decode_len(whole) {
+            Ok(most) => most,
+            Err(_) => unreachable!(),
+        }
+    }
+
     /// Reads a piece, writes the bytes of the groups that are then whole to the front of the
-    /// output, up to the first faulty one, and returns how many bytes they are.
-    pub(crate) fn read(&mut self, piece: &[u8], output: &mut [u8]) -> usize
-        requires limit { self.old.kept.len + length piece.now ≤ DECODE_LIMIT }
-        requires room { self.old.kept.count + length piece.now ≤ length output.old }
+    /// output, up to the first faulty one, and returns how many bytes they are. After a fault
+    /// nothing is written. The text has at most `DECODE_LIMIT` bytes with the piece, and the output
+    /// room for as many bytes as `most` returns for its length; what the output has behind those
+    /// that are written, within this room, is not said.
+    pub fn read(&mut self, piece: &[u8], output: &mut [u8]) -> usize
+        requires limit { (kept_by self.old).len + length piece.now ≤ DECODE_LIMIT }
+        requires room { most_completed (base_of_pieces self.old) (kept_by self.old)
+            (length piece.now) ≤ length output.old }
         ensures base { base_of_pieces self.new ≡ base_of_pieces self.old }
-        ensures reads { ReadsOn (base_of_pieces self.old) self.old.kept self.new.kept piece.now
-            (take result output.new) }
+        ensures reads { ReadsOn (base_of_pieces self.old) (kept_by self.old) (kept_by self.new)
+            piece.now (take result output.new) }
         ensures within { result ≤ length output.new }
         ensures len { length output.new ≡ length output.old }
     {
@@ -83,25 +164,11 @@ impl<'a> PieceDecoder<'a> {
         written + self.read_each(&piece[read..], &mut output[written..])
     }
 
-    /// The greatest number of bytes that this many more of the text may complete.
-    pub(crate) fn most(&self, len: usize) -> usize
-        requires limit { self.now.kept.len + len ≤ DECODE_LIMIT }
-        ensures { result ≡ (self.now.kept.count + len)
-            / group_symbols (base_of_pieces self.now).width
-            * group_bytes (base_of_pieces self.now).width }
-    {
-        whole_groups();
-        let whole = (self.kept.count + len) / self.size * self.size;
-        match self.encoding.decode_len(whole) {
-            Ok(most) => most,
-            Err(_) => unreachable!(),
-        }
-    }
-
     // Reads until no byte is held.
     fn read_group(&mut self, piece: &[u8], output: &mut [u8]) -> (usize, usize)
         requires limit { self.old.kept.len + length piece.now ≤ DECODE_LIMIT }
-        requires room { self.old.kept.count + length piece.now ≤ length output.old }
+        requires room { most_completed (base_of_pieces self.old) self.old.kept
+            (length piece.now) ≤ length output.old }
         ensures base { base_of_pieces self.new ≡ base_of_pieces self.old }
         ensures reads { ReadsOn (base_of_pieces self.old) self.old.kept self.new.kept
             (take result.0 piece.now) (take result.1 output.new) }
@@ -122,7 +189,8 @@ impl<'a> PieceDecoder<'a> {
     // Reads whole groups, where they lie, as far as they have no fault.
     fn read_run(&mut self, piece: &[u8], output: &mut [u8]) -> (usize, usize)
         requires limit { self.old.kept.len + length piece.now ≤ DECODE_LIMIT }
-        requires room { self.old.kept.count + length piece.now ≤ length output.old }
+        requires room { most_completed (base_of_pieces self.old) self.old.kept
+            (length piece.now) ≤ length output.old }
         ensures base { base_of_pieces self.new ≡ base_of_pieces self.old }
         ensures reads { ReadsOn (base_of_pieces self.old) self.old.kept self.new.kept
             (take result.0 piece.now) (take result.1 output.new) }
@@ -145,10 +213,12 @@ impl<'a> PieceDecoder<'a> {
         (read, written)
     }
 
-    // Decodes as much of the piece as means something where it lies.
+    // Decodes as much of the whole groups of the piece, by its length, as means something where it
+    // lies.
     fn decode_run(&self, piece: &[u8], output: &mut [u8]) -> (usize, usize)
         requires limit { length piece.now ≤ DECODE_LIMIT }
-        requires room { length piece.now ≤ length output.old }
+        requires room { bytes_due (base_of_pieces self.now) (length piece.now)
+            ≤ length output.old }
         ensures means { Means (base_of_pieces self.now) (take result.0 piece.now)
             (take result.1 output.new) }
         ensures most { result.1 ≤ most_bytes (base_of_pieces self.now) result.0 }
@@ -157,8 +227,10 @@ impl<'a> PieceDecoder<'a> {
         ensures within { result.1 ≤ length output.new }
         ensures len { length output.new ≡ length output.old }
     {
-        let len = self.run_len(piece.len());
+        // It tells that the laws hold of the encoding.
+        self.encoding.bit_width();
         whole_groups();
+        let len = piece.len() / self.size * self.size;
         let Ok(most) = self.encoding.decode_len(len) else {
             unreachable!()
         };
@@ -166,25 +238,6 @@ impl<'a> PieceDecoder<'a> {
             Ok(written) => (len, written),
             Err(partial) => (partial.read, partial.written),
         }
-    }
-
-    // How many of `len` bytes are decoded as a text of their own: where nothing is ignored, as many
-    // as are whole groups, of which the length is no fault.
-    fn run_len(&self, len: usize) -> usize
-        requires limit { len ≤ DECODE_LIMIT }
-        ensures value { result ≡ (if ignores_some (base_of_pieces self.now) then len
-            else whole_len (base_of_pieces self.now) len) }
-        ensures few { result ≤ len }
-        ensures due { IsOk (decoded_len (base_of_pieces self.now) result) }
-        ensures specified { IsSpecified (base_of_pieces self.now) }
-    {
-        // It tells that the laws hold of the encoding.
-        self.encoding.bit_width();
-        whole_groups();
-        if self.ignores {
-            return len;
-        }
-        len / self.size * self.size
     }
 
     // Whether a text of this length that means this many bytes is whole groups of which none is
@@ -217,7 +270,8 @@ impl<'a> PieceDecoder<'a> {
     // Reads byte by byte, up to a fault.
     fn read_each(&mut self, piece: &[u8], output: &mut [u8]) -> usize
         requires limit { self.old.kept.len + length piece.now ≤ DECODE_LIMIT }
-        requires room { self.old.kept.count + length piece.now ≤ length output.old }
+        requires room { most_completed (base_of_pieces self.old) self.old.kept
+            (length piece.now) ≤ length output.old }
         ensures base { base_of_pieces self.new ≡ base_of_pieces self.old }
         ensures reads { ReadsOn (base_of_pieces self.old) self.old.kept self.new.kept piece.now
             (take result output.new) }
@@ -241,7 +295,8 @@ impl<'a> PieceDecoder<'a> {
     // the front of the output, and returns how many bytes they are.
     fn take(&mut self, byte: u8, output: &mut [u8]) -> usize
         requires limit { self.old.kept.len < DECODE_LIMIT }
-        requires room { self.old.kept.count < length output.old }
+        requires room { most_completed (base_of_pieces self.old) self.old.kept 1
+            ≤ length output.old }
         ensures base { base_of_pieces self.new ≡ base_of_pieces self.old }
         ensures reads { ReadsOn (base_of_pieces self.old) self.old.kept self.new.kept (byte ∷ [])
             (take result output.new) }

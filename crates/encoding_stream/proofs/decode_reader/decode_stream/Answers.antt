@@ -1,4 +1,4 @@
-use Rattle.std.proofs.Common.{◌≡◌, ◌≤◌, length, length-append, drop, take, refl, sym, ◌∙◌, subst, rules, arith, length-take-le, false}
+use Rattle.std.proofs.Common.{◌≡◌, ◌≤◌, ◌++◌, length, length-take, length-append, drop, take, refl, sym, ◌∙◌, subst, rules, arith, length-take-le, false}
 use Rattle.std.proofs.lemmas.List.{length-drop}
 use Rattle.std.specs.Io.KnownBytes.{IsAtEnd}
 use Rattle.std.proofs.KnownBytes.{Consumes-whole}
@@ -7,6 +7,8 @@ use Rattle.encoding_stream.specs.Decoded.{answer_of, EndsText}
 use Rattle.encoding_stream.specs.Pieces.{base_of_pieces, Keeps}
 use Rattle.encoding_stream.specs.Watch.{has_failed, inner_of}
 use Rattle.encoding_stream.proofs.DecodedLemmas.{decoded-front, decoded-more, decoded-nothing, decoded-only, decoded-past, end-error, end-ok, end-other, end-write, ended-all, ended-front, front-all, not-both, on-works, past-few, reads-buffer}
+use Rattle.encoding_stream.proofs.ReadPieceLemmas.{most-short}
+use Rattle.encoding_stream.proofs.SizeLemmas.{symbols-few}
 use Rattle.encoding_stream.proofs.decode_reader.decode_stream.Goals as goal
 
 pub loop-count-init : goal.loop-count-init
@@ -167,3 +169,23 @@ returns-then-count-asked g c =
       write = (end-write failed result fault write judged, write);
       too_long = λ told. absurd (other.1 told);
     }
+
+pub read-written-requires-clause-room : goal.read-written-requires-clause-room
+read-written-requires-clause-room g c =
+    let s = c.loop-count.pieces in
+    let base = base_of_pieces s in
+    let buffer = c.fill.new.buffer ++ drop c.min-asked.result c.loop-count.buffer in
+    let piece = take c.in-Ok.count buffer in
+    omega (
+      arith,
+      most-short base s.width s.kept (length piece),
+      length-take c.in-Ok.count buffer,
+      s.short,
+      s.group,
+      symbols-few base.width s.width,
+      c.in-Ok.ensures.bound,
+      c.fill.auto.buffer,
+      length-take c.min-asked.result c.loop-count.buffer,
+      c.min-asked.ensures,
+      c.loop-count.invariant.room,
+    )

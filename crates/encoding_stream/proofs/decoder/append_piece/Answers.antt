@@ -1,4 +1,4 @@
-use Rattle.std.proofs.Common.{◌≡◌, ℕ, ◌+◌, ◌-◌, ◌≤◌, [], ◌++◌, length, take, drop, refl, sym, ap, subst, ◌∙◌, arith, length-take-le, take_all, Result, Ok, Err}
+use Rattle.std.proofs.Common.{◌≡◌, ℕ, ◌-◌, ◌≤◌, [], ◌++◌, length, take, drop, refl, sym, ap, subst, ◌∙◌, arith, length-take-le, take_all, Result, Ok, Err}
 use Rattle.std.proofs.lemmas.List.{length-drop, take-append-drop}
 use Rattle.std.proofs.lemmas.Slice.{pushed}
 use Rattle.std.specs.Result.{OnErr}
@@ -6,7 +6,6 @@ use Rattle.data_encoding.specs.Pieces.{whole_bytes}
 use Rattle.encoding_stream.specs.Pieces.{base_of_pieces}
 use Rattle.encoding_stream.specs.Reading.{ReadsOn}
 use Rattle.encoding_stream.proofs.DecoderLemmas.{appends-none, appends-rest, front-adds-none}
-use Rattle.encoding_stream.proofs.SizeLemmas.{most-few}
 use Rattle.encoding_stream.proofs.decoder.append_piece.Goals as goal
 
 -- what holds holds where an error is answered too
@@ -24,25 +23,11 @@ overflow_add-written g c =
     let length-rest : length rest ≡ length piece - read =
     length-take-le (length piece - read) (drop read piece)
     (omega (arith, length-drop read piece)) in
-    let length-front : length (take read piece) ≡ read = length-take-le read piece within in
-    let limit : c.args.pieces.now.kept.len + length piece ≤ 2305843009213693951 =
-    c.requires.limit in
-    let all : first.new.pieces.kept.count + length rest ≤ 2305843009213693951 =
     omega (
       arith,
-      first.new.pieces.held,
-      first.ensures.reads.counted,
+      c.most.ensures.few,
       length-rest,
-      length-front,
-      within,
-      limit,
-    ) in
-    omega (
-      arith,
-      c.most.ensures,
-      most-few (base_of_pieces first.new.pieces).width first.new.pieces.width
-          (first.new.pieces.kept.count + length rest),
-      all,
+      c.requires.limit,
       first.ensures.written,
       first.ensures.len,
     )

@@ -1,7 +1,6 @@
-use Rattle.std.proofs.Common.{◌≡◌, ◌+◌, ◌*◌, ◌/◌, ◌-◌, ◌≤◌, ◌++◌, length, take, drop, refl, subst, ◌∙◌, vec_capacity, vec_len, arith, rules, length-take-le, take_all}
+use Rattle.std.proofs.Common.{◌≡◌, ◌+◌, ◌-◌, ◌≤◌, ◌++◌, length, take, drop, refl, subst, ◌∙◌, vec_capacity, vec_len, arith, rules, length-take-le, take_all}
 use Rattle.std.proofs.lemmas.Slice.{pushed}
-use Rattle.data_encoding.specs.Base.{group_bytes, group_symbols}
-use Rattle.encoding_stream.specs.Pieces.{base_of_pieces}
+use Rattle.encoding_stream.specs.Pieces.{base_of_pieces, most_completed}
 use Rattle.encoding_stream.specs.Reading.{ReadsOn}
 use Rattle.encoding_stream.proofs.DecoderLemmas.{appends-next, appends-nothing, room-left, room-part}
 use Rattle.encoding_stream.proofs.decoder.append_rest.Goals as goal
@@ -15,9 +14,8 @@ loop-read-init g c =
       appends = appends-nothing base c.args.pieces.now.kept c.args.output.now.items;
       within = omega arith;
       capacity =
-          subst (λ n. vec_len c.args.output.now + (c.args.pieces.now.kept.count + n)
-          / group_symbols base.width * group_bytes base.width ≤ vec_capacity c.args.output.now)
-          whole c.requires.capacity;
+          subst (λ n. vec_len c.args.output.now + most_completed base c.args.pieces.now.kept n
+          ≤ vec_capacity c.args.output.now) whole c.requires.capacity;
       room = c.requires.room;
     }
 
@@ -40,8 +38,7 @@ loop-read-preserved g c =
     let len : vec_len c.extend_from_slice.new.self ≡ vec_len c.loop-read.output + length bytes =
     search rules in
     let fewer =
-    room-left base c.loop-read.pieces now.base piece read end new.count (length bytes)
-    within inside c.read-written.ensures.reads.few in
+    room-left base old new piece read end (length bytes) within inside step.few in
     record {
       base = c.read-written.ensures.base ∙ now.base;
       appends =
@@ -71,12 +68,17 @@ read-written-requires-clause-room g c =
 pub unwrap-requires : goal.unwrap-requires
 unwrap-requires g c =
     let now = c.loop-read.invariant in
+    let step : ReadsOn (base_of_pieces c.args.pieces.now) c.loop-read.pieces.kept
+    c.read-written.new.self.kept
+    (take (c.min-end.result - c.loop-read.read) (drop c.loop-read.read c.args.piece.now))
+    (take c.read-written.result c.read-written.new.output) =
+    rw now.base at c.read-written.ensures.reads in
     let fewer =
-    room-left (base_of_pieces c.args.pieces.now) c.loop-read.pieces now.base c.args.piece.now
-    c.loop-read.read c.min-end.result c.read-written.new.self.kept.count
+    room-left (base_of_pieces c.args.pieces.now) c.loop-read.pieces.kept
+    c.read-written.new.self.kept c.args.piece.now c.loop-read.read c.min-end.result
     (length (take c.read-written.result c.read-written.new.output))
     (omega (arith, c.min-end.ensures, now.within)) (omega (arith, c.min-end.ensures))
-    c.read-written.ensures.reads.few in
+    step.few in
     c.extend_from_slice.ensures.succeeds
     (omega (
       arith,

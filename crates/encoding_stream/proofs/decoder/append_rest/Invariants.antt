@@ -1,6 +1,5 @@
-use Rattle.std.proofs.Common.{◌≡◌, ◌+◌, ◌*◌, ◌/◌, ◌-◌, ◌≤◌, length, take, vec_capacity, vec_len}
-use Rattle.data_encoding.specs.Base.{group_bytes, group_symbols}
-use Rattle.encoding_stream.specs.Pieces.{base_of_pieces}
+use Rattle.std.proofs.Common.{◌≡◌, ◌+◌, ◌-◌, ◌≤◌, length, take, vec_capacity, vec_len}
+use Rattle.encoding_stream.specs.Pieces.{base_of_pieces, most_completed}
 use Rattle.encoding_stream.specs.Reading.{AppendsPiece}
 use Rattle.encoding_stream.proofs.decoder.append_rest.Given as goal
 
@@ -10,9 +9,8 @@ invariant-loop-read g l = record {
   appends : AppendsPiece (base_of_pieces l.initial.pieces) l.initial.pieces.kept l.pieces.kept
       (take l.read l.piece) l.initial.output.items l.output.items;
   within : l.read ≤ length l.piece;
-  capacity : vec_len l.output + (l.pieces.kept.count + (length l.piece - l.read))
-      / group_symbols (base_of_pieces l.initial.pieces).width
-      * group_bytes (base_of_pieces l.initial.pieces).width ≤ vec_capacity l.output;
+  capacity : vec_len l.output + most_completed (base_of_pieces l.initial.pieces) l.pieces.kept
+      (length l.piece - l.read) ≤ vec_capacity l.output;
   room : length l.buffer ≡ 1032;
 }
 

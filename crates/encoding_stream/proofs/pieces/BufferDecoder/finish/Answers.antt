@@ -1,7 +1,7 @@
 use Rattle.std.proofs.Common.{None, Some, sym, ◌∙◌}
 use Rattle.encoding_stream.specs.Pieces.{held}
 use Rattle.encoding_stream.proofs.FinishLemmas.{bytes-judged, verdict-groups, verdict-length}
-use Rattle.encoding_stream.proofs.pieces.PieceDecoder.finish.Goals as goal
+use Rattle.encoding_stream.proofs.pieces.BufferDecoder.finish.Goals as goal
 
 pub returns-in-Err-clause-bytes : goal.returns-in-Err-clause-bytes
 returns-in-Err-clause-bytes c =

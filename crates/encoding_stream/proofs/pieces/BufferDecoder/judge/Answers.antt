@@ -7,7 +7,7 @@ use Rattle.data_encoding.specs.Lengths.{decoded_len}
 use Rattle.encoding_stream.specs.Pieces.{at_positions}
 use Rattle.encoding_stream.proofs.SizeLemmas.{symbols-few}
 use Rattle.encoding_stream.proofs.JudgedLemmas.{due-few, fault-refused, fault-stopped, judged-ended, judged-fault, judged-sound}
-use Rattle.encoding_stream.proofs.pieces.PieceDecoder.judge.Goals as goal
+use Rattle.encoding_stream.proofs.pieces.BufferDecoder.judge.Goals as goal
 
 pub returns-then-self-clause-fault : goal.returns-then-self-clause-fault
 returns-then-self-clause-fault c = λ none.

@@ -2,7 +2,7 @@ use Rattle.std.proofs.Common.{None, Some, arith}
 use Rattle.std.proofs.lemmas.Result.{IfErr-weaker, IfOk-weaker}
 use Rattle.encoding_stream.proofs.SizeLemmas.{symbols-few}
 use Rattle.encoding_stream.proofs.FinishLemmas.{last-judged, last-kept}
-use Rattle.encoding_stream.proofs.pieces.PieceDecoder.judge_last.Goals as goal
+use Rattle.encoding_stream.proofs.pieces.BufferDecoder.judge_last.Goals as goal
 
 pub returns-clause-sound : goal.returns-clause-sound
 returns-clause-sound c =

@@ -1,7 +1,7 @@
 use Rattle.std.proofs.Common.{◌≡◌, ◌-◌, ◌≤◌, length, take}
 use Rattle.encoding_stream.specs.Pieces.{base_of_pieces}
 use Rattle.encoding_stream.specs.Reading.{ReadsOn}
-use Rattle.encoding_stream.proofs.pieces.PieceDecoder.read_each.Given as goal
+use Rattle.encoding_stream.proofs.pieces.BufferDecoder.read_each.Given as goal
 
 abbrev pub invariant-loop-read : goal.invariant-loop-read
 invariant-loop-read l = record {

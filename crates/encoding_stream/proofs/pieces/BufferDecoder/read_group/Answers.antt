@@ -1,15 +1,16 @@
 use Rattle.std.proofs.Common.{arith, ◌∙◌}
 use Rattle.encoding_stream.specs.Pieces.{base_of_pieces}
 use Rattle.encoding_stream.proofs.ReadPieceLemmas.{length-written, next-room, reads-next, within-written}
-use Rattle.encoding_stream.proofs.pieces.PieceDecoder.read_group.Goals as goal
+use Rattle.encoding_stream.proofs.pieces.BufferDecoder.read_group.Goals as goal
 
 pub take-written-requires-clause-room : goal.take-written-requires-clause-room
 take-written-requires-clause-room c =
     let loop = c.loop-read in
-    next-room (base_of_pieces c.args.self.now) c.args.self.now.kept loop.self.kept
+    rw loop.invariant.base
+    (next-room (base_of_pieces c.args.self.now) c.args.self.now.kept loop.self.kept
     c.args.piece.now loop.output c.args.output.now loop.read loop.written
     c.args.self.now.width loop.invariant.reads c.loop-read-test.true loop.invariant.within
-    loop.invariant.len c.requires.room
+    loop.invariant.len c.requires.room)
 
 pub loop-read-preserved : goal.loop-read-preserved
 loop-read-preserved c =

@@ -4,7 +4,7 @@ use Rattle.data_encoding.specs.Base.{group_symbols}
 use Rattle.encoding_stream.specs.Pieces.{base_of_pieces, FillsGroups}
 use Rattle.encoding_stream.specs.Reading.{ReadsOn}
 use Rattle.encoding_stream.proofs.ReadRunLemmas.{reads-run}
-use Rattle.encoding_stream.proofs.pieces.PieceDecoder.read_run.Goals as goal
+use Rattle.encoding_stream.proofs.pieces.BufferDecoder.read_run.Goals as goal
 
 pub returns-clause-reads : goal.returns-clause-reads
 returns-clause-reads c =
@@ -24,7 +24,7 @@ returns-clause-reads c =
     c.are_whole.ensures.whole c.if-not-are_whole.false piece bytes piece-is bytes-is
     run.ensures.means in
     subst (λ n. ReadsOn base old (record old { len = old.len + n }) piece bytes) piece-is
-    (reads-run base c.are_whole.ensures.specified c.pieces.ensures.sound old (search rules)
+    (reads-run base c.args.self.now.width c.are_whole.ensures.specified c.pieces.ensures.sound old (search rules)
     (search rules) (search rules) piece bytes run.ensures.means whole few)
 
 pub returns-then-not-are_whole-clause-all : goal.returns-then-not-are_whole-clause-all

@@ -1,9 +1,9 @@
-use Rattle.std.proofs.Common.{◌≡◌, ◌<◌, nat_eq, ap, arith, eqb-true, refl, sym, ◌∙◌}
-use Rattle.data_encoding.specs.Base.{group_bytes, group_symbols}
+use Rattle.std.proofs.Common.{◌≡◌, nat_eq, ap, eqb-true, refl, sym, ◌∙◌}
+use Rattle.data_encoding.specs.Base.{group_bytes}
 use Rattle.encoding_stream.specs.Pieces.{base_of_pieces}
 use Rattle.encoding_stream.proofs.ReadRunLemmas.{due-group, fills-by_bytes, fills-by_length, whole-by_bytes, whole-by_length}
-use Rattle.encoding_stream.proofs.SizeLemmas.{bytes-some}
-use Rattle.encoding_stream.proofs.pieces.PieceDecoder.are_whole.Goals as goal
+use Rattle.encoding_stream.proofs.SizeLemmas.{bytes-some, symbols-some}
+use Rattle.encoding_stream.proofs.pieces.BufferDecoder.are_whole.Goals as goal
 
 pub unreachable-requires : goal.unreachable-requires
 unreachable-requires c =
@@ -25,8 +25,7 @@ returns-then-read-self-eq0-clause-whole c =
 pub returns-then-read-self-eq0-clause-few : goal.returns-then-read-self-eq0-clause-few
 returns-then-read-self-eq0-clause-few c =
     let pieces = c.args.self.now in
-    let some : 0 < group_symbols (base_of_pieces pieces).width =
-    omega (arith, pieces.short, pieces.group) in
+    let some = symbols-some (base_of_pieces pieces).width pieces.width in
     λ _. λ most.
     fills-by_length (base_of_pieces pieces) c.decode_len.ensures.base c.whole_groups.ensures.bytes
     c.args.read c.args.written (rw (← pieces.group) c.if-read-self-eq0.true) some most

@@ -2,15 +2,16 @@ use Rattle.std.proofs.Common.{◌+◌, ◌-◌, length, ◌∙◌}
 use borrow.Rule.Slice.PartMut.{put_mid}
 use Rattle.encoding_stream.specs.Pieces.{base_of_pieces}
 use Rattle.encoding_stream.proofs.ReadPieceLemmas.{length-written, reads-part, reads-rest, rest-room, within-left, within-written}
-use Rattle.encoding_stream.proofs.pieces.PieceDecoder.read.Goals as goal
+use Rattle.encoding_stream.proofs.pieces.BufferDecoder.read.Goals as goal
 
 pub read_run-run_read-requires-clause-room : goal.read_run-run_read-requires-clause-room
 read_run-run_read-requires-clause-room c =
     let first = c.read_group-first_read in
-    rest-room (base_of_pieces c.args.self.now) c.args.self.now.kept first.new.self.kept
+    rw first.ensures.base
+    (rest-room (base_of_pieces c.args.self.now) c.args.self.now.kept first.new.self.kept
     c.args.piece.now first.new.output c.args.output.now first.result.0 first.result.1
-    c.args.self.now.width first.ensures.reads first.ensures.read first.ensures.within
-    first.ensures.len c.requires.room
+    first.ensures.reads first.ensures.read first.ensures.within first.ensures.len
+    c.requires.room)
 
 pub read_each-requires-clause-room : goal.read_each-requires-clause-room
 read_each-requires-clause-room c =
@@ -25,15 +26,16 @@ read_each-requires-clause-room c =
     reads-part base (base_of_pieces first.new.self) first.ensures.base old first.new.self.kept
     run.new.self.kept piece output run.new.output first.result.0 at run.result.0 run.result.1
     first.ensures.reads run.ensures.reads first.ensures.within run.ensures.within in
-    rest-room base old run.new.self.kept piece
+    rw (run.ensures.base ∙ first.ensures.base)
+    (rest-room base old run.new.self.kept piece
     (put_mid at (length output - at) output run.new.output) c.args.output.now
-    (first.result.0 + run.result.0) (at + run.result.1) c.args.self.now.width both
+    (first.result.0 + run.result.0) (at + run.result.1) both
     (within-left first.result.0 run.result.0 piece first.ensures.read run.ensures.read)
     (within-written at run.result.1 output run.new.output first.ensures.within run.ensures.len
     run.ensures.within)
     (length-written at output run.new.output first.ensures.within run.ensures.len
     ∙ first.ensures.len)
-    c.requires.room
+    c.requires.room)
 
 pub returns : goal.returns
 returns c =

@@ -1,7 +1,7 @@
 use Rattle.std.proofs.Common.{◌<◌, sym, subst}
 use Rattle.data_encoding.specs.Base.{IsWidth}
 use Rattle.encoding_stream.proofs.SizeLemmas.{symbols-some}
-use Rattle.encoding_stream.proofs.pieces.PieceDecoder.new.Goals as goal
+use Rattle.encoding_stream.proofs.pieces.BufferDecoder.new.Goals as goal
 
 pub invariant_of-result-clause-width : goal.invariant_of-result-clause-width
 invariant_of-result-clause-width c =

@@ -4,7 +4,7 @@ use Rattle.std.proofs.lemmas.Iterator.Search.{any_from_yields_List}
 use Rattle.data_encoding.specs.Base.{is_padding, meaning}
 use Rattle.encoding_stream.proofs.PieceLemmas.{any-final}
 use Rattle.encoding_stream.proofs.SizeLemmas.{symbols-few}
-use Rattle.encoding_stream.proofs.pieces.PieceDecoder.is_final.Goals as goal
+use Rattle.encoding_stream.proofs.pieces.BufferDecoder.is_final.Goals as goal
 
 pub returns-then-not-self : goal.returns-then-not-self
 returns-then-not-self c =
