@@ -65,11 +65,7 @@ Order =
 abbrev pub NoOrder : Type 0
 NoOrder = (base : Base) → IsSpecified base → base.wrapping ≡ None → IsBroken base
 
-<<<<<<< HEAD
--- a fault that is found this many bytes further on
-=======
 -- a fault this many bytes further on
->>>>>>> h3
 abbrev pub further : ℕ → Option DecodeError → Option DecodeError
 further count None = None
 further count (Some fault) =

@@ -171,11 +171,7 @@ MeansWhole =
     → length bytes % group_bytes base.width ≡ 0
     → length (kept base text) % group_symbols base.width ≡ 0
 
-<<<<<<< HEAD
--- For whole groups of symbols, as many whole groups of bytes are due.
-=======
 -- For a number of whole groups of symbols, as many whole groups of bytes are due.
->>>>>>> h3
 abbrev pub CountsGroups : Type 0
 CountsGroups =
     (base : Base) → IsSpecified base → (count : ℕ)

@@ -3,5 +3,6 @@
 
 pub(crate) mod decode;
 pub(crate) mod encode;
+pub(crate) mod group_size;
 pub(crate) mod lanes;
 pub(crate) mod words;

@@ -1,4 +1,5 @@
-use Rattle.std.proofs.Common.{◌≡◌, ◌+◌, ◌*◌, ◌/◌, ◌≤◌, length, refl, ◌∙◌, subst, arith}
+use Rattle.std.proofs.Common.{◌≡◌, ◌+◌, ◌*◌, ◌/◌, ◌≤◌, length, refl, ◌∙◌, subst, arith, ap}
+use Rattle.data_encoding.proofs.digits.SizeLemmas.{IsGroup-same, room-same}
 use Rattle.data_encoding.specs.Decoding.{IsRun}
 use Rattle.data_encoding.proofs.decoding.SymbolRunLemmas.{run-kept, run-none, run-next}
 use Rattle.data_encoding.proofs.lists.PartLemmas.{IsWhole-group, fours-before, four-groups-before, length-part}
@@ -11,7 +12,7 @@ loop-index-init g c = record {
 
 pub slice_bounds-decode_four_groups-end : goal.slice_bounds-decode_four_groups-end
 slice_bounds-decode_four_groups-end g c =
-    four-groups-before (length c.args.input.now) g.row.SYMBOLS c.loop-index.index
+    four-groups-before (length c.args.input.now) c.SYMBOLS-symbols.result c.loop-index.index
     c.loop-index-test.true
 
 pub overflow_add-read : goal.overflow_add-read
@@ -25,9 +26,9 @@ pub slice_bounds-decode_four_groups-end-in-loop-index :
 slice_bounds-decode_four_groups-end-in-loop-index g c =
     omega (
       arith,
-      fours-before (length c.args.input.now / g.row.SYMBOLS) g.row.BYTES c.loop-index.index
+      fours-before (length c.args.input.now / c.SYMBOLS-symbols.result) c.BYTES-bytes.result c.loop-index.index
           c.loop-index-test.true,
-      c.requires.room,
+      (room-same _ _ c.BYTES-bytes.ensures c.SYMBOLS-symbols.ensures c.requires.room),
       c.loop-index.auto.output,
     )
 
@@ -38,69 +39,68 @@ pub overflow_mul-written-in-loop-index : goal.overflow_mul-written-in-loop-index
 overflow_mul-written-in-loop-index g c =
     omega (
       arith,
-      fours-before (length c.args.input.now / g.row.SYMBOLS) g.row.BYTES c.loop-index.index
+      fours-before (length c.args.input.now / c.SYMBOLS-symbols.result) c.BYTES-bytes.result c.loop-index.index
           c.loop-index-test.true,
-      c.requires.room,
+      (room-same _ _ c.BYTES-bytes.ensures c.SYMBOLS-symbols.ensures c.requires.room),
     )
 
 pub nonzero_div-count : goal.nonzero_div-count
 nonzero_div-count g c =
-    (IsWhole-group g.row.WIDTH g.row.BYTES g.row.SYMBOLS c.requires.group).some_symbols
+    (IsWhole-group g.G.GroupSize.WIDTH c.BYTES-bytes.result c.SYMBOLS-symbols.result (IsGroup-same refl c.BYTES-bytes.ensures c.SYMBOLS-symbols.ensures g.G.GroupSize.is_group)).some_symbols
 
-pub bounds-input : goal.bounds-input
-bounds-input g c =
-    omega (arith, four-groups-before (length c.args.input.now) g.row.SYMBOLS 0 (omega arith))
+pub bounds-input-symbols : goal.bounds-input-symbols
+bounds-input-symbols g c =
+    omega (arith, four-groups-before (length c.args.input.now) c.SYMBOLS-symbols.result 0 (omega arith))
 
-pub overflow_mul-entry_of : goal.overflow_mul-entry_of
-overflow_mul-entry_of g c =
-    omega (arith, four-groups-before (length c.args.input.now) g.row.SYMBOLS 0 (omega arith))
+pub overflow_mul-symbols : goal.overflow_mul-symbols
+overflow_mul-symbols g c =
+    omega (arith, four-groups-before (length c.args.input.now) c.SYMBOLS-symbols.result 0 (omega arith))
 
-pub overflow_sub-entry_of : goal.overflow_sub-entry_of
-overflow_sub-entry_of g c =
-    let whole = IsWhole-group g.row.WIDTH g.row.BYTES g.row.SYMBOLS c.requires.group in
+pub overflow_sub-symbols : goal.overflow_sub-symbols
+overflow_sub-symbols g c =
+    let whole = IsWhole-group g.G.GroupSize.WIDTH c.BYTES-bytes.result c.SYMBOLS-symbols.result (IsGroup-same refl c.BYTES-bytes.ensures c.SYMBOLS-symbols.ensures g.G.GroupSize.is_group) in
     omega (arith, whole.some_symbols)
-
-pub decode_four_groups-requires-clause-group : goal.decode_four_groups-requires-clause-group
-decode_four_groups-requires-clause-group g c = c.requires.group
 
 pub decode_four_groups-requires-clause-symbols : goal.decode_four_groups-requires-clause-symbols
 decode_four_groups-requires-clause-symbols g c =
-    length-part (4 * c.loop-index.index * g.row.SYMBOLS) (4 * g.row.SYMBOLS) c.args.input.now
-    (four-groups-before (length c.args.input.now) g.row.SYMBOLS c.loop-index.index
+    length-part (4 * c.loop-index.index * c.SYMBOLS-symbols.result) (4 * c.SYMBOLS-symbols.result) c.args.input.now
+    (four-groups-before (length c.args.input.now) c.SYMBOLS-symbols.result c.loop-index.index
     c.loop-index-test.true)
+    ∙ ap (λ n. 4 * n) c.SYMBOLS-symbols.ensures
 
 pub decode_four_groups-requires-clause-exact : goal.decode_four_groups-requires-clause-exact
 decode_four_groups-requires-clause-exact g c =
-    length-part (4 * c.loop-index.index * g.row.BYTES) (4 * g.row.BYTES) c.loop-index.output
+    length-part (4 * c.loop-index.index * c.BYTES-bytes.result) (4 * c.BYTES-bytes.result) c.loop-index.output
     (omega (
       arith,
-      fours-before (length c.args.input.now / g.row.SYMBOLS) g.row.BYTES c.loop-index.index
+      fours-before (length c.args.input.now / c.SYMBOLS-symbols.result) c.BYTES-bytes.result c.loop-index.index
           c.loop-index-test.true,
-      c.requires.room,
+      (room-same _ _ c.BYTES-bytes.ensures c.SYMBOLS-symbols.ensures c.requires.room),
       c.loop-index.auto.output,
     ))
+    ∙ ap (λ n. 4 * n) c.BYTES-bytes.ensures
 
 pub loop-index-preserved : goal.loop-index-preserved
 loop-index-preserved g c =
     let i = c.loop-index.index in
     let input = c.args.input.now in
     let output = c.loop-index.output in
-    let enc = g.row.BYTES in
-    let dec = g.row.SYMBOLS in
+    let enc = c.BYTES-bytes.result in
+    let dec = c.SYMBOLS-symbols.result in
     let count = length input / dec in
     let within = four-groups-before (length input) dec i c.loop-index-test.true in
     let room : 4 * i * enc + 4 * enc ≤ length output =
     omega (
       arith,
       fours-before count enc i c.loop-index-test.true,
-      c.requires.room,
+      (room-same _ _ c.BYTES-bytes.ensures c.SYMBOLS-symbols.ensures c.requires.room),
       c.loop-index.auto.output,
     ) in
     let shown_len : length c.decode_four_groups.new.output ≡ 4 * enc =
     c.decode_four_groups.auto.output ∙ length-part (4 * i * enc) (4 * enc) output room in
     record {
       run = λ base reads.
-          run-next base reads.holds.is_width g.row.WIDTH enc dec c.requires.group
+          run-next base reads.holds.is_width g.G.GroupSize.WIDTH enc dec (IsGroup-same refl c.BYTES-bytes.ensures c.SYMBOLS-symbols.ensures g.G.GroupSize.is_group)
           reads.width_is input _ output _
           c.decode_four_groups.new.output (4 * i) 4 _ _ _ (omega arith) refl within
           (omega (arith, room)) shown_len (c.loop-index.invariant.run base reads)
@@ -115,21 +115,21 @@ pub returns-then-not-decode_four_groups-clause-run :
     goal.returns-then-not-decode_four_groups-clause-run
 returns-then-not-decode_four_groups-clause-run g c = λ base reads.
     let i = c.loop-index.index in
-    let room : 4 * i * g.row.BYTES + 4 * g.row.BYTES ≤ length c.loop-index.output =
+    let room : 4 * i * c.BYTES-bytes.result + 4 * c.BYTES-bytes.result ≤ length c.loop-index.output =
     omega (
       arith,
-      fours-before (length c.args.input.now / g.row.SYMBOLS) g.row.BYTES i c.loop-index-test.true,
-      c.requires.room,
+      fours-before (length c.args.input.now / c.SYMBOLS-symbols.result) c.BYTES-bytes.result i c.loop-index-test.true,
+      (room-same _ _ c.BYTES-bytes.ensures c.SYMBOLS-symbols.ensures c.requires.room),
       c.loop-index.auto.output,
     ) in
-    run-kept base reads.holds.is_width g.row.WIDTH g.row.BYTES g.row.SYMBOLS c.requires.group
+    run-kept base reads.holds.is_width g.G.GroupSize.WIDTH c.BYTES-bytes.result c.SYMBOLS-symbols.result (IsGroup-same refl c.BYTES-bytes.ensures c.SYMBOLS-symbols.ensures g.G.GroupSize.is_group)
     reads.width_is
     c.args.input.now _ c.loop-index.output c.decode_four_groups.new.output (4 * i) _
     (omega (arith, room)) (c.loop-index.invariant.run base reads)
 
 pub returns-clause-run : goal.returns-clause-run
 returns-clause-run g c = λ base reads.
-    let all : c.loop-index.index ≡ length c.args.input.now / g.row.SYMBOLS / 4 =
+    let all : c.loop-index.index ≡ length c.args.input.now / c.SYMBOLS-symbols.result / 4 =
     omega (arith, c.loop-index-test.false, c.loop-index.auto.index-end) in
     subst
     (λ n. IsRun base c.args.input.now (4 * n) c.args.output.now c.loop-index.output) all
