@@ -29,13 +29,13 @@ use Rattle.data_encoding.proofs.grammar.MeaningLemmas.{Means-no_fault, sound_byt
 use Rattle.data_encoding.proofs.decoding.RoomLemmas.{multiples}
 use Rattle.data_encoding.proofs.decoding.ProgressLemmas.{IsNext, whole-before, written_len, sound_bytes-front}
 
--- so many symbols of whole groups have whole bytes
-whole_bits : (width enc dec count : ℕ) → width * dec ≡ 8 * enc → count % dec ≡ 0
-    → width * count ≡ 8 * (count / dec * enc)
-whole_bits width enc dec count same exact =
-    let all : count ≡ count / dec * dec = omega (arith, div-add-mod' count dec, exact) in
-    ap (λ n. width * n) all ∙ mul_left_comm width (count / dec) dec
-    ∙ ap (λ n. count / dec * n) same ∙ mul_left_comm (count / dec) 8 enc
+-- the symbols of whole groups have whole bytes
+whole_bits : (width bytes size count : ℕ) → width * size ≡ 8 * bytes → count % size ≡ 0
+    → width * count ≡ 8 * (count / size * bytes)
+whole_bits width bytes size count same exact =
+    let all : count ≡ count / size * size = omega (arith, div-add-mod' count size, exact) in
+    ap (λ n. width * n) all ∙ mul_left_comm width (count / size) size
+    ∙ ap (λ n. count / size * n) same ∙ mul_left_comm (count / size) 8 bytes
 
 module _ (base : Base) (width : IsWidth base.width) (len : ℕ)
     (exact : len % group_symbols base.width ≡ 0) where
@@ -120,13 +120,13 @@ pub record IsAtFault (base : Base) (text : List ℕ) (read written : ℕ) (outpu
 
 module _ (base : Base) (text : List ℕ) (read written : ℕ) (output : List ℕ) (error : DecodeError)
     (at : IsAtFault base text read written output error) where
-  abbrev dec : ℕ
-  dec = group_symbols base.width
+  abbrev size : ℕ
+  size = group_symbols base.width
 
-  pub pos : 0 < dec
+  pub pos : 0 < size
   pos = group_symbols-pos base.width at.width
 
-  pub whole : length (kept base (take read text)) % dec ≡ 0
+  pub whole : length (kept base (take read text)) % size ≡ 0
   whole =
       whole-before base at.width text read written at.ended output at.stop at.group at.so_far
       at.next.is_part
@@ -138,25 +138,25 @@ module _ (base : Base) (text : List ℕ) (read written : ℕ) (output : List ℕ
       ∙ ap (λ l. l ++ kept_from base at.stop text) (sym at.next.is_part.is_kept)
 
   others : List (List Positioned)
-  others = runs dec (kept_from base at.stop text)
+  others = runs size (kept_from base at.stop text)
 
-  groups_left : runs dec (at.group ++ kept_from base at.stop text) ≡ at.group ∷ others
+  groups_left : runs size (at.group ++ kept_from base at.stop text) ≡ at.group ∷ others
   unfolding others
   groups_left =
-      ⊎_elim {C = runs dec (at.group ++ kept_from base at.stop text) ≡ at.group ∷ others}
-      (λ len. runs-append dec at.group (kept_from base at.stop text) pos len)
+      ⊎_elim {C = runs size (at.group ++ kept_from base at.stop text) ≡ at.group ∷ others}
+      (λ len. runs-append size at.group (kept_from base at.stop text) pos len)
       (λ none.
-      ap (λ l. runs dec (at.group ++ l)) none ∙ ap (runs dec) (append-nil at.group)
-      ∙ runs-short dec at.group at.next.is_part.some at.next.few
+      ap (λ l. runs size (at.group ++ l)) none ∙ ap (runs size) (append-nil at.group)
+      ∙ runs-short size at.group at.next.is_part.some at.next.few
       ∙ ap (λ gs. at.group ∷ gs)
-      (sym (runs-nil {X = Positioned} dec pos) ∙ ap (runs dec) (sym none)))
+      (sym (runs-nil {X = Positioned} size pos) ∙ ap (runs size) (sym none)))
       at.next.last
 
   groups_are : groups base text ≡ groups base (take read text) ++ at.group ∷ others
   groups_are =
-      ap (runs dec) (kept-split base read text at.so_far.within
+      ap (runs size) (kept-split base read text at.so_far.within
       ∙ ap (λ l. kept base (take read text) ++ l) rest_is)
-      ∙ runs-join dec (kept base (take read text)) (at.group ++ kept_from base at.stop text) pos
+      ∙ runs-join size (kept base (take read text)) (at.group ++ kept_from base at.stop text) pos
       whole
       ∙ ap (λ l. groups base (take read text) ++ l) groups_left
 
@@ -179,14 +179,14 @@ module _ (base : Base) (text : List ℕ) (read written : ℕ) (output : List ℕ
   pub sound_len_is : sound_len base text ≡ read
   sound_len_is =
       ap (λ gs. position_after (flat_map (λ g. g) gs)) sound_are
-      ∙ ap position_after (flat_map-runs dec (kept base (take read text)) pos) ∙ at.so_far.ends
+      ∙ ap position_after (flat_map-runs size (kept base (take read text)) pos) ∙ at.so_far.ends
 
   front_sound : fault_of base (take read text) ≡ None
   front_sound =
       let valid : length_fault base (length (take read text)) ≡ None =
       length_fault-none base (length (take read text))
       (λ none. whole-length base at.width (length (take read text))
-      (ap (λ n. n % dec) (sym (length-kept_plain base (take read text) none)) ∙ whole)) in
+      (ap (λ n. n % size) (sym (length-kept_plain base (take read text) none)) ∙ whole)) in
       ap (λ o. or_else o (first_after false base (groups base (take read text)))) valid
       ∙ first-none base false at.ended (groups base (take read text)) at.so_far.sound
 
@@ -245,9 +245,9 @@ module _ (base : Base) (text : List ℕ) (read written : ℕ) (output : List ℕ
       }
 
   module _ (none : ignores_some base ≡ false) where
-    read_whole : read % dec ≡ 0
+    read_whole : read % size ≡ 0
     read_whole =
-        ap (λ n. n % dec)
+        ap (λ n. n % size)
         (sym (length-kept_plain base (take read text) none
         ∙ length-take-le read text at.so_far.within))
         ∙ whole
@@ -279,20 +279,20 @@ module _ (base : Base) (text : List ℕ) (read written : ℕ) (output : List ℕ
     pub kind-next : is_length_fault error.kind ≡ false
     kind-next = by at.ended at.faulty where
       whole_or_valid : (b : Bool) → is_padded base ≡ b
-          → cond b (nat_lt (length at.group) dec ≡ false)
+          → cond b (nat_lt (length at.group) size ≡ false)
           (is_valid_count base.width (length at.group) ≡ true)
       whole_or_valid true is =
-          ⊎_elim {C = nat_lt (length at.group) dec ≡ false}
+          ⊎_elim {C = nat_lt (length at.group) size ≡ false}
           (λ len. grind (arith, nat_tests, len))
           (λ empty.
           let sum = last_stop empty in
-          let valid : (length text % dec == 0) ≡ true =
+          let valid : (length text % size == 0) ≡ true =
           sym (is_valid_length-by base (length text) true is)
           ∙ length_fault-valid base (length text) at.no_length_fault none in
-          let exact : length text % dec ≡ 0 = grind (arith, nat_tests) in
-          let more = multiples dec read (length text) read_whole exact
+          let exact : length text % size ≡ 0 = grind (arith, nat_tests) in
+          let more = multiples size read (length text) read_whole exact
           (omega (arith, sum, at.next.is_part.some)) in
-          let least : dec ≤ length at.group = omega (arith, more, sum) in
+          let least : size ≤ length at.group = omega (arith, more, sum) in
           grind (arith, nat_tests))
           at.next.last
       whole_or_valid false is =
@@ -319,7 +319,7 @@ module _ (base : Base) (text : List ℕ) (read written : ℕ) (output : List ℕ
       by false h =
           kind-located at.group (group_fault base (bytes_in at.group)) error
           (other-group base (meanings_in base at.group) (is_padded base) refl
-          (subst (λ n. cond (is_padded base) (nat_lt n dec ≡ false)
+          (subst (λ n. cond (is_padded base) (nat_lt n size ≡ false)
           (is_valid_count base.width n ≡ true))
           (sym (length-meanings base at.group)) (whole_or_valid (is_padded base) refl))) h
 

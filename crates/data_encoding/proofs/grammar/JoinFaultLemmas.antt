@@ -23,7 +23,7 @@ use Rattle.data_encoding.proofs.lists.ListLemmas.{AllFail}
 use Rattle.data_encoding.proofs.lists.RunLemmas.{few_runs, runs-join, runs-map}
 use Rattle.data_encoding.proofs.judgement.RuleLemmas.{IsRuled}
 
--- the same bytes, so many positions further on
+-- the same bytes, this many positions further on
 abbrev pub moved : ℕ → List Positioned → List Positioned
 moved count ks = map (λ k. record { position = count + k.position; byte = k.byte }) ks
 

@@ -131,20 +131,20 @@ AreSound-symbols base width zero ks len symbols =
     ∙ runs-nil {X = Positioned} (group_symbols base.width) (group_symbols-pos base.width width)))
     refl
 AreSound-symbols base width (suc count) ks len symbols =
-    let dec = group_symbols base.width in
-    let front = take dec ks in
-    let back = drop dec ks in
-    let more : length ks ≡ count * dec + dec = len ∙ suc-mul count dec in
-    let front_len : length front ≡ dec = length-take-le dec ks (omega (arith, more)) in
-    let back_len : length back ≡ count * dec = length-drop dec ks ∙ omega (arith, more) in
+    let size = group_symbols base.width in
+    let front = take size ks in
+    let back = drop size ks in
+    let more : length ks ≡ count * size + size = len ∙ suc-mul count size in
+    let front_len : length front ≡ size = length-take-le size ks (omega (arith, more)) in
+    let back_len : length back ≡ count * size = length-drop size ks ∙ omega (arith, more) in
     let parts = all_parts (λ (k : Positioned). is_symbol (meaning base k.byte) ≡ true) front back
-    (subst (AllSo (λ k. is_symbol (meaning base k.byte))) (sym (take-append-drop dec ks))
+    (subst (AllSo (λ k. is_symbol (meaning base k.byte))) (sym (take-append-drop size ks))
     symbols) in
     subst (λ gs. AreSound base false gs false)
-    (sym (runs-append dec front back (group_symbols-pos base.width width) front_len)
-    ∙ ap (runs dec) (take-append-drop dec ks)) (
+    (sym (runs-append size front back (group_symbols-pos base.width width) front_len)
+    ∙ ap (runs size) (take-append-drop size ks)) (
       ap (located front) (group_fault-symbols base width front front_len parts.0),
-      subst (λ b. AreSound base b (runs dec back) false)
+      subst (λ b. AreSound base b (runs size back) false)
           (sym (is_final-symbols base width front front_len parts.0))
           (AreSound-symbols base width count back back_len parts.1),
     )
