@@ -6,7 +6,7 @@ use Rattle.std.proofs.lemmas.List.{append-nil, length-drop, take-take, take_all,
 use Rattle.std.proofs.lemmas.List.Concat.{flat_map-append}
 use Rattle.std.proofs.Math.Nat.{div-eq_of_lt, zero-mul}
 use Rattle.std.specs.Prelude.{flat_map}
-use Rattle.data_encoding.proofs.decoding.GroupJudgementLemmas.{fault-length, valid-whole, whole-less}
+use Rattle.data_encoding.proofs.decoding.GroupJudgementLemmas.{fault-length}
 use Rattle.data_encoding.specs.declared.encoding.Character.{Character}
 use Rattle.data_encoding.specs.declared.decode.group.GroupFault.{GroupFault}
 use Rattle.data_encoding.specs.declared.error.DecodeError.{DecodeError}
@@ -23,7 +23,7 @@ use Rattle.data_encoding.proofs.lists.ListLemmas.{filter-all, length-filter}
 use Rattle.data_encoding.proofs.lists.RunLemmas.{runs-join, runs-short}
 use Rattle.data_encoding.proofs.grammar.PositionLemmas.{bytes-positioned_from, length-positioned_from, length-meanings}
 use Rattle.data_encoding.proofs.grammar.KeptLemmas.{kept_from-more}
-use Rattle.data_encoding.proofs.grammar.LengthLemmas.{length_fault-none}
+use Rattle.data_encoding.proofs.grammar.LengthLemmas.{length_fault-none, valid-whole, whole-less}
 use Rattle.data_encoding.proofs.grammar.SoundLemmas.{AreSound-append, first-none, sound-all}
 use Rattle.data_encoding.proofs.grammar.MeaningLemmas.{Means-no_fault}
 use Rattle.data_encoding.proofs.decoding.ProgressLemmas.{sound_bytes-front}

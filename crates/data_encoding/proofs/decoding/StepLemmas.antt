@@ -8,6 +8,7 @@ use Rattle.std.proofs.lemmas.List.{length-drop, take_rest, length-map}
 use Rattle.std.proofs.lemmas.Nat.{div-add-mod'}
 use Rattle.std.proofs.lemmas.Slice.{take-put_mid_below}
 use Rattle.std.specs.List.{list_any}
+use Rattle.data_encoding.proofs.decoding.WholeLengthLemmas.{most_bytes-few}
 use Rattle.data_encoding.specs.declared.error.DecodeKind.TheVariants.{Padding as PaddingFault}
 use Rattle.data_encoding.specs.declared.error.DecodeError.{DecodeError}
 use Rattle.data_encoding.specs.declared.error.DecodePartial.{DecodePartial}
@@ -29,26 +30,6 @@ use Rattle.data_encoding.proofs.decoding.RoomLemmas.{multiples}
 use Rattle.data_encoding.proofs.decoding.ProgressLemmas.{IsNext, after-group, after-run, room-group, room-run, same-output}
 use Rattle.data_encoding.proofs.decoding.StopLemmas.{IsAtFault, at-fault}
 use Rattle.data_encoding.proofs.decoding.LoopLemmas.{IsUnderWay, decoded}
-
--- a text has no more bytes than it is long
-most-few : (base : Base) → IsWidth base.width → (text : List ℕ)
-    → most_bytes base (length text) ≤ length text
-most-few base width text = by (is_padded base) refl where
-  by : (b : Bool) → is_padded base ≡ b → most_bytes base (length text) ≤ length text
-  by true is =
-      let count = length text / group_symbols base.width in
-      omega (
-        arith,
-        most_bytes-by base (length text) true is,
-        mul-le-mul_left count (group_bytes-few base.width width),
-        div-add-mod' (length text) (group_symbols base.width),
-      )
-  by false is =
-      omega (
-        arith,
-        most_bytes-by base (length text) false is,
-        mul-le-mul_right (length text) width.few,
-      )
 
 -- the front of valid length has that length
 length-front : (base : Base) → IsWidth base.width → (rest : List ℕ)
@@ -87,7 +68,7 @@ no_padding b count len h =
 module _ {base : Base} {text : List ℕ} {w bytes symbols read written : ℕ} {ended : Bool}
     {output : List ℕ} (s : IsUnderWay base text w bytes symbols read written ended output) where
   pub written-few : written ≤ length text
-  written-few = omega (arith, s.so_far.fits, s.size_is, most-few base s.width text)
+  written-few = omega (arith, s.so_far.fits, s.size_is, most_bytes-few base s.width (length text))
 
   -- as far as another output of that length holds it
   further : {stop count : ℕ} {final : Bool} {new : List ℕ} → length new ≡ length output

@@ -3,9 +3,10 @@ use Rattle.std.proofs.Common.{◌≡◌, ℕ, ◌+◌, ◌-◌, ◌*◌, ◌/◌
 use Rattle.std.proofs.lemmas.Bool.Decides.{nat_tests}
 use Rattle.std.proofs.lemmas.Nat.{div-add-mod'}
 use Rattle.std.proofs.lemmas.List.{length-drop, append-nil}
-use Rattle.std.proofs.Math.Nat.{mul-add, mul_left_comm}
+use Rattle.std.proofs.Math.Nat.{mul-add, mul_left_comm, mod_self}
 use Rattle.std.specs.Prelude.{flat_map}
 use Rattle.std.specs.List.{list_any, position}
+use Rattle.data_encoding.proofs.grammar.JoinFaultLemmas.{valid_behind}
 use Rattle.data_encoding.specs.declared.encoding.Character.{Character}
 use Rattle.data_encoding.specs.declared.decode.group.GroupFault.{GroupFault}
 use Rattle.data_encoding.specs.declared.error.DecodeError.{DecodeError}
@@ -22,37 +23,12 @@ use Rattle.data_encoding.proofs.digits.WidthLemmas.{group_bits, group_symbols-po
 use Rattle.data_encoding.proofs.lists.RunLemmas.{runs-nil, runs-append, runs-join, runs-short, flat_map-runs}
 use Rattle.data_encoding.proofs.grammar.PositionLemmas.{length-kept_plain, length-positioned_from, filter-plain, length-meanings}
 use Rattle.data_encoding.proofs.grammar.KeptLemmas.{between, kept-split, kept_from-more, kept_in-stands, length-between}
-use Rattle.data_encoding.proofs.grammar.LengthLemmas.{length_fault-none, length_fault-valid, is_valid_length-by}
+use Rattle.data_encoding.proofs.grammar.LengthLemmas.{length_fault-none, length_fault-valid, valid-whole, whole-length}
 use Rattle.data_encoding.proofs.grammar.GroupLemmas.{group_fault-inside, plain_fault-valid, whole-valid, located-inside}
 use Rattle.data_encoding.proofs.grammar.SoundLemmas.{first-AreSound, sound-AreSound, first-none}
 use Rattle.data_encoding.proofs.grammar.MeaningLemmas.{Means-no_fault, sound_bytes-Means, decoded_len-Means}
 use Rattle.data_encoding.proofs.decoding.RoomLemmas.{multiples}
 use Rattle.data_encoding.proofs.decoding.ProgressLemmas.{IsNext, whole-before, written_len, sound_bytes-front}
-
--- the symbols of whole groups have whole bytes
-whole_bits : (width bytes size count : ℕ) → width * size ≡ 8 * bytes → count % size ≡ 0
-    → width * count ≡ 8 * (count / size * bytes)
-whole_bits width bytes size count same exact =
-    let all : count ≡ count / size * size = omega (arith, div-add-mod' count size, exact) in
-    ap (λ n. width * n) all ∙ mul_left_comm width (count / size) size
-    ∙ ap (λ n. count / size * n) same ∙ mul_left_comm (count / size) 8 bytes
-
-module _ (base : Base) (width : IsWidth base.width) (len : ℕ)
-    (exact : len % group_symbols base.width ≡ 0) where
-  bits : base.width * len ≡ 8 * (len / group_symbols base.width * group_bytes base.width)
-  bits =
-      whole_bits base.width (group_bytes base.width) (group_symbols base.width) len
-      (group_bits base.width width) exact
-
-  -- the length of whole groups is valid
-  whole-length : is_valid_length base len ≡ true
-  whole-length = by (is_padded base) refl where
-    by : (b : Bool) → is_padded base ≡ b → is_valid_length base len ≡ true
-    by true is = is_valid_length-by base len true is ∙ grind (arith, nat_tests)
-    by false is =
-        let none_over : base.width * len % 8 ≡ 0 = omega (arith, bits) in
-        is_valid_length-by base len false is
-        ∙ ap (λ n. nat_lt n base.width) none_over ∙ grind (arith, nat_tests, width.some)
 
 -- the kind of a fault of symbols, or of padding
 pub kind_of : (fault error : DecodeError) → Some fault ≡ Some error
@@ -278,38 +254,15 @@ module _ (base : Base) (text : List ℕ) (read written : ℕ) (output : List ℕ
     -- where nothing is ignored, that is no fault of a length
     pub kind-next : is_length_fault error.kind ≡ false
     kind-next = by at.ended at.faulty where
-      whole_or_valid : (b : Bool) → is_padded base ≡ b
-          → cond b (nat_lt (length at.group) size ≡ false)
-          (is_valid_count base.width (length at.group) ≡ true)
-      whole_or_valid true is =
-          ⊎_elim {C = nat_lt (length at.group) size ≡ false}
-          (λ len. grind (arith, nat_tests, len))
+      valid : is_valid_length base (length at.group) ≡ true
+      valid =
+          ⊎_elim {C = is_valid_length base (length at.group) ≡ true}
+          (λ len.
+          whole-length base at.width (length at.group) (ap (λ n. n % size) len ∙ mod_self size))
           (λ empty.
-          let sum = last_stop empty in
-          let valid : (length text % size == 0) ≡ true =
-          sym (is_valid_length-by base (length text) true is)
-          ∙ length_fault-valid base (length text) at.no_length_fault none in
-          let exact : length text % size ≡ 0 = grind (arith, nat_tests) in
-          let more = multiples size read (length text) read_whole exact
-          (omega (arith, sum, at.next.is_part.some)) in
-          let least : size ≤ length at.group = omega (arith, more, sum) in
-          grind (arith, nat_tests))
-          at.next.last
-      whole_or_valid false is =
-          ⊎_elim {C = is_valid_count base.width (length at.group) ≡ true}
-          (λ len. ap (is_valid_count base.width) len ∙ whole-valid base.width at.width)
-          (λ empty.
-          let sum = last_stop empty in
-          let valid : is_valid_count base.width (length text) ≡ true =
-          sym (is_valid_length-by base (length text) false is)
-          ∙ length_fault-valid base (length text) at.no_length_fault none in
-          let all : base.width * length text
-          ≡ base.width * read + base.width * length at.group =
-          ap (λ n. base.width * n) (sym sum) ∙ mul-add base.width read (length at.group) in
-          let before = bits base at.width read read_whole in
-          let same : base.width * length at.group % 8 ≡ base.width * length text % 8 =
-          omega (arith, all, before) in
-          ap (λ n. nat_lt n base.width) same ∙ valid)
+          sym (valid_behind base at.width read (length at.group) read_whole)
+          ∙ ap (is_valid_length base) (last_stop empty)
+          ∙ length_fault-valid base (length text) at.no_length_fault none)
           at.next.last
 
       by : (b : Bool) → fault_after b base at.group ≡ Some error
@@ -321,7 +274,7 @@ module _ (base : Base) (text : List ℕ) (read written : ℕ) (output : List ℕ
           (other-group base (meanings_in base at.group) (is_padded base) refl
           (subst (λ n. cond (is_padded base) (nat_lt n size ≡ false)
           (is_valid_count base.width n ≡ true))
-          (sym (length-meanings base at.group)) (whole_or_valid (is_padded base) refl))) h
+          (sym (length-meanings base at.group)) (valid-whole base (length at.group) at.next.is_part.some valid))) h
 
 -- what has a fault means nothing
 pub fault-partial : (base : Base) (text : List ℕ) (partial : DecodePartial)

@@ -17,7 +17,7 @@ use Rattle.data_encoding.proofs.lists.RunLemmas.{flat_map-runs}
 use Rattle.data_encoding.proofs.grammar.UnpaddedGroupLemmas.{PlainMeans-count}
 use Rattle.data_encoding.proofs.grammar.GroupLemmas.{GroupMeans-sound, GroupMeans-no_fault, GroupMeans-bytes}
 use Rattle.data_encoding.proofs.grammar.PositionLemmas.{length-kept, length-kept_plain, length-meanings}
-use Rattle.data_encoding.proofs.grammar.LengthLemmas.{length_fault-none, is_valid_length-by, most_bytes-by}
+use Rattle.data_encoding.proofs.grammar.LengthLemmas.{length_fault-none, most_bytes-by, whole-length}
 use Rattle.data_encoding.proofs.grammar.SoundLemmas.{AreSound-none, ends_after, fault_after-none, neither_fault, first-none, sound-all}
 
 -- the groups of a text are no longer than a whole one
@@ -143,7 +143,7 @@ module _ (base : Base) (width : IsWidth base.width) (padded : is_padded base ≡
           ap (λ n. n % group_symbols base.width)
           (sym (length-kept_plain base text none) ∙ length-groups)
           ∙ mul-mod_left (length (groups base text)) (group_symbols base.width) in
-          is_valid_length-by base (length text) true padded ∙ grind (arith, nat_tests))
+          whole-length base width (length text) exact)
 
       sound : AreSound base false (groups base text) (ends_after base false (groups base text))
       sound = sound-GroupsMean false (groups base text) bytes (λ h. cc) means
