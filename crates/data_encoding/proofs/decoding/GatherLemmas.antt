@@ -1,7 +1,7 @@
 -- The bytes of a text that are not ignored, gathered one by one.
 use Rattle.std.proofs.Common.{◌≡◌, ℕ, zero, suc, ◌+◌, ◌-◌, ◌<◌, ◌≤◌, ◌⊎◌, Bool, true, false, not, cond, List, [], ◌∷◌, ◌++◌, length, map, set, take, drop, get_or, refl, sym, ap, ◌∙◌, arith, length-append, length-take-le, take-append-drop, ⊎_elim, inl, inr}
 use Rattle.std.proofs.Math.Seq.{get_or-append_seam, take-suc}
-use Rattle.std.proofs.lemmas.List.{append-nil, get_or_append_left, length-drop, length-map, map-append, take_all, get_or-drop, take_more_set}
+use Rattle.std.proofs.lemmas.List.{append-nil, get_or_append_left, length-drop, length-map, map-append, take_all, get_or-drop, take_more_set, nil_from_length}
 use Rattle.std.proofs.lemmas.Bool.{cases_lt}
 use Rattle.data_encoding.specs.Base.{Base, meaning, ignores_some, is_ignored, group_symbols, IsWidth}
 use Rattle.data_encoding.specs.Decoding.{IsGathered}
@@ -161,10 +161,6 @@ shorter (suc n) [] = (omega arith, omega arith)
 shorter (suc n) (x ∷ xs) =
     let rest = shorter n xs in (omega (arith, rest.0), omega (arith, rest.1))
 
-none_of : (ks : List Positioned) → length ks ≡ 0 → ks ≡ []
-none_of [] h = refl
-none_of (k ∷ ks) h = absurd (omega (arith, h))
-
 -- where nothing is ignored: the bytes as they stand
 pub gathered-plain : (base : Base) → ignores_some base ≡ false → (size : ℕ) (part : List ℕ)
     → IsGathered base size part (take size part) (length (take size part))
@@ -225,7 +221,7 @@ length-left base text read =
 
 pub nothing-kept : (base : Base) (text : List ℕ) (read : ℕ)
     → length (kept base (drop read text)) ≡ 0 → kept_from base read text ≡ []
-nothing-kept base text read h = none_of (kept_from base read text) (length-left base text read ∙ h)
+nothing-kept base text read h = nil_from_length (kept_from base read text) (length-left base text read ∙ h)
 
 -- What was gathered of a part is in it.
 module _ (base : Base) (size : ℕ) (part group : List ℕ) (span : ℕ)
@@ -331,7 +327,7 @@ module _ (base : Base) (width : IsWidth base.width) (text : List ℕ) (read : �
         last = ⊎_elim {C = (length nexts ≡ group_symbols base.width)
             ⊎ (kept_from base (read + span) text ≡ [])}
             (λ full. inl (length-next ∙ full))
-            (λ all. inr (none_of (kept_from base (read + span) text)
+            (λ all. inr (nil_from_length (kept_from base (read + span) text)
             (omega (
               arith,
               ap length parts,

@@ -8,6 +8,7 @@ use Rattle.std.proofs.lemmas.List.{length-drop, take_rest, length-map}
 use Rattle.std.proofs.lemmas.Nat.{div-add-mod'}
 use Rattle.std.proofs.lemmas.Slice.{take-put_mid_below}
 use Rattle.std.specs.List.{list_any}
+use Rattle.std.proofs.Math.Bool.{and-false}
 use Rattle.data_encoding.proofs.decoding.WholeLengthLemmas.{most_bytes-few}
 use Rattle.data_encoding.specs.declared.error.DecodeKind.TheVariants.{Padding as PaddingFault}
 use Rattle.data_encoding.specs.declared.error.DecodeError.{DecodeError}
@@ -60,10 +61,7 @@ stops-same base text old new partial stops same =
 no_padding : (b : Bool) (count len : ℕ) → len ≤ count → (not b && nat_lt count len) ≡ false
 no_padding b count len h =
     let all : nat_lt count len ≡ false = grind (arith, nat_tests) in
-    ap (λ v. not b && v) all ∙ either (not b) where
-      either : (v : Bool) → (v && false) ≡ false
-      either true = refl
-      either false = refl
+    ap (λ v. not b && v) all ∙ and-false (not b)
 
 module _ {base : Base} {text : List ℕ} {w bytes symbols read written : ℕ} {ended : Bool}
     {output : List ℕ} (s : IsUnderWay base text w bytes symbols read written ended output) where

@@ -2,6 +2,7 @@
 use Rattle.std.proofs.Common.{◌≡◌, ℕ, ◌*◌, ◌/◌, ◌%◌, ◌≤◌, ◌==◌, nat_lt, Bool, true, false, not, ◌&&◌, ◌||◌, List, [], ◌∷◌, None, is_none, Ok, refl, sym, ap, ◌∙◌, subst, arith}
 use Rattle.std.proofs.Math.Nat.{mul-mod_left}
 use Rattle.std.specs.List.{list_any}
+use Rattle.std.proofs.Math.Bool.{or-true}
 use Rattle.data_encoding.specs.Base.{Base, IsWidth, group_bytes, group_symbols, is_padded, is_padding}
 use Rattle.data_encoding.specs.Grammar.{Positioned, is_final, meanings_in}
 use Rattle.data_encoding.specs.Lengths.{decoded_len, most_bytes}
@@ -80,7 +81,4 @@ none_final-joined base joins (g ∷ gs) = λ i.
 pub joins-unpadded : (base : Base) → IsRuled base → base.padding ≡ None → base.concatenates ≡ true
 joins-unpadded base ruled unpadded =
     sym ruled.concatenated ∙ ap (λ o. base.concatenates || is_none o) unpadded
-    ∙ always base.concatenates where
-      always : (b : Bool) → (b || true) ≡ true
-      always true = refl
-      always false = refl
+    ∙ or-true base.concatenates

@@ -4,6 +4,7 @@ use Rattle.std.proofs.Math.Nat.{zero-mul, suc-mul}
 use Rattle.std.proofs.lemmas.List.{length-map, length-drop, drop_all, append-nil, nil_from_length}
 use Rattle.std.specs.Prelude.{flat_map}
 use Rattle.std.specs.List.{filter_map, list_any, position}
+use Rattle.std.proofs.Math.Bool.{and-false}
 use Rattle.data_encoding.specs.declared.encoding.Character.{Character}
 use Rattle.data_encoding.specs.declared.encoding.Character.TheVariants.{Symbol, Padding, Ignored, Invalid}
 use Rattle.data_encoding.specs.declared.error.DecodeKind.TheVariants.{Trailing as TrailingFault}
@@ -27,10 +28,6 @@ none_other : (base : Base) (ks : List Positioned) → AllSo (λ k. is_symbol (me
     → AllFail (λ m. not (is_symbol m)) (meanings_in base ks)
 none_other base [] h = tt
 none_other base (k ∷ ks) h = (ap not h.0, none_other base ks h.1)
-
-no_fault : {A : Type 0} (b : Bool) (fault : A) → cond (b && false) (Some fault) None ≡ None
-no_fault true fault = refl
-no_fault false fault = refl
 
 module _ (base : Base) (width : IsWidth base.width) (group : List Positioned)
     (len : length group ≡ group_symbols base.width)
@@ -62,7 +59,8 @@ module _ (base : Base) (width : IsWidth base.width) (group : List Positioned)
       (omega (arith, bits)) in
       ap (λ l. cond (base.checks_trailing_bits && list_any (λ bit. not (bit == 0)) l)
       (faulty_at TrailingFault (length meant - 1)) None) rest
-      ∙ no_fault base.checks_trailing_bits _
+      ∙ ap (λ b. cond b (faulty_at TrailingFault (length meant - 1)) None)
+      (and-false base.checks_trailing_bits)
 
   plain : plain_fault base meant ≡ None
   plain =
