@@ -1,6 +1,6 @@
 -- A step of a decoding: what a run, a group and the end do to it.
 use Rattle.std.proofs.Common.{◌≡◌, ℕ, ◌+◌, ◌-◌, ◌*◌, ◌/◌, ◌%◌, ◌<◌, ◌≤◌, Bool, true, false, not, nat_lt, ◌&&◌, ◌==◌, ◌⊎◌, List, ◌++◌, length, take, drop, Some, refl, sym, ap, ◌∙◌, subst, arith, length-take-le, ⊎_elim, map}
-use Rattle.std.proofs.Math.Nat.{mul-le-mul_left, mul-le-mul_right, mul-zero, zero-mod}
+use Rattle.std.proofs.Math.Nat.{mul-le-mul_left, mul-zero, zero-mod}
 use Rattle.std.proofs.Math.Seq.{take-add}
 use Rattle.std.proofs.lemmas.Bool.{cases_lt, eqb-true, false≢true}
 use Rattle.std.proofs.lemmas.Bool.Decides.{nat_tests}
@@ -18,10 +18,10 @@ use Rattle.data_encoding.specs.Base.{Base, IsWidth, group_bytes, group_symbols, 
 use Rattle.data_encoding.specs.Decoding.{HasFault, HasNoLastRun, IsDecoded, IsDecodedGroup, IsGathered, IsLastRun, IsRun, IsStop, HasStopped, valid_front, HasDecodedTo}
 use Rattle.data_encoding.specs.Fault.{fault_after, group_fault, located, position_of, symbol_bytes}
 use Rattle.data_encoding.specs.Grammar.{Means, Positioned, kept}
-use Rattle.data_encoding.specs.Lengths.{greatest_valid_length, most_bytes}
+use Rattle.data_encoding.specs.Lengths.{greatest_valid_length}
 use Rattle.data_encoding.specs.Partial.{StopsAt, is_length_fault}
-use Rattle.data_encoding.proofs.digits.WidthLemmas.{group_bits, group_bytes-few}
-use Rattle.data_encoding.proofs.grammar.LengthLemmas.{is_valid_length-by, most_bytes-by}
+use Rattle.data_encoding.proofs.digits.WidthLemmas.{group_bits}
+use Rattle.data_encoding.proofs.grammar.LengthLemmas.{is_valid_length-by}
 use Rattle.data_encoding.proofs.grammar.GroupLemmas.{GroupMeans-sound}
 use Rattle.data_encoding.proofs.lists.WriteLemmas.{length-rewritten, length-rewritten_same, rewritten, take-rewritten}
 use Rattle.data_encoding.proofs.decoding.GatherLemmas.{bytes-next, gathered-few, gathered-some, is-next, next_bytes, none-next, nothing-kept, position-next}

@@ -1,6 +1,5 @@
 -- A text of a padded base means something exactly where it has no fault.
 use Rattle.std.proofs.Common.{◌≡◌, ℕ, zero, suc, ◌+◌, ◌*◌, ◌/◌, ◌%◌, ◌≤◌, Bool, true, false, List, [], ◌∷◌, ◌++◌, length, drop, None, refl, sym, ap, ◌∙◌, subst, arith, length-append, length-take, replicate, map}
-use Rattle.std.proofs.lemmas.Bool.Decides.{nat_tests}
 use Rattle.std.proofs.Math.Nat.{mul-mod_left, mul-le-mul_right, mul-le-mul_left, add_comm, zero-mul, suc-mul, le-div_iff_mul-le}
 use Rattle.std.specs.Prelude.{flat_map}
 use Rattle.std.specs.Simd.{first_chunks}
