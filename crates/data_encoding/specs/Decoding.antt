@@ -7,7 +7,7 @@ use Rattle.data_encoding.specs.declared.decode.Stop.{Stop}
 use Rattle.data_encoding.specs.declared.decode.group.GroupFault.{GroupFault}
 use Rattle.data_encoding.specs.Base.{Base, meaning, is_symbol, is_ignored, is_padded, is_padding, group_bytes, group_symbols}
 use Rattle.data_encoding.specs.Bits.{runs}
-use Rattle.data_encoding.specs.Grammar.{Means, Positioned, groups, is_final, kept, kept_from}
+use Rattle.data_encoding.specs.Grammar.{Means, Positioned, groups, is_final, kept, kept_from, bytes_in}
 use Rattle.data_encoding.specs.Lengths.{greatest_valid_length, is_valid_count}
 use Rattle.data_encoding.specs.Fault.{bytes_of_group, count_before_padding, fault_after, fault_of, group_fault, position_of, sound_bytes, symbol_bytes, symbols_fault}
 use Rattle.data_encoding.specs.Tables.{Reads}
@@ -91,7 +91,7 @@ pub record HasFault (base : Base) (group : List ℕ) (fault : GroupFault) : Type
 -- The bytes of a part that are not ignored, up to the end of one of them: this many, or all.
 pub record IsGathered (base : Base) (size : ℕ) (part bytes : List ℕ) (span : ℕ) : Type 0 where
   pub within : span ≤ length part
-  pub bytes_are : map (λ k. k.byte) (kept base (take span part)) ≡ bytes
+  pub bytes_are : bytes_in (kept base (take span part)) ≡ bytes
   pub ends : 0 < span → is_ignored (meaning base (slice_index part (span - 1))) ≡ false
   pub few : length bytes ≤ size
   pub last : (length bytes ≡ size) ⊎ (length (kept base part) ≡ length bytes)

@@ -1,12 +1,12 @@
 -- A text that is decoded piece by piece.
-use Rattle.std.specs.Prelude.{◌≡◌, ℕ, ◌+◌, ◌<◌, ◌*◌, ◌/◌, ◌%◌, ◌==◌, ◌&&◌, ◌⊎◌, Bool, true, false, not, if◌then◌else◌, ◌≤◌, List, [], ◌∷◌, ◌++◌, length, map, drop, filter, flat_map, All, Option, Some, None, is_some, Ok}
+use Rattle.std.specs.Prelude.{◌≡◌, ℕ, ◌+◌, ◌<◌, ◌*◌, ◌/◌, ◌%◌, ◌==◌, ◌&&◌, ◌⊎◌, Bool, true, false, not, if◌then◌else◌, ◌≤◌, List, [], ◌∷◌, ◌++◌, length, drop, filter, flat_map, All, Option, Some, None, is_some, Ok}
 use Rattle.std.specs.List.{list_any}
 use Rattle.std.specs.Simd.{first_chunks}
 use Rattle.data_encoding.specs.declared.error.DecodeError.{DecodeError}
 use Rattle.data_encoding.specs.Base.{Base, meaning, is_ignored, is_padded, ignores_some, group_bytes, group_symbols}
 use Rattle.data_encoding.specs.Fault.{bytes_of_group, fault_after, fault_at, fault_of, first_fault, or_else, sound_bytes, sound_groups}
 use Rattle.data_encoding.specs.Fields.{IsSpecified}
-use Rattle.data_encoding.specs.Grammar.{Means, Positioned, positioned, positioned_from, groups, kept, is_final}
+use Rattle.data_encoding.specs.Grammar.{Means, Positioned, positioned, positioned_from, groups, kept, is_final, bytes_in}
 use Rattle.data_encoding.specs.Lengths.{decoded_len, length_fault, most_bytes}
 
 -- the whole groups of a text so far, and the bytes after the last of them
@@ -121,9 +121,9 @@ JudgesGroup =
     (base : Base) → IsSpecified base → (group : List Positioned)
     → All (λ k. is_ignored (meaning base k.byte) ≡ false) group
     → 0 < length group → length group ≤ group_symbols base.width
-    → (fault_after false base group ≡ fault_in group (fault_of base (map (λ k. k.byte) group)))
-    × (fault_of base (map (λ k. k.byte) group) ≡ None
-    → bytes_of_group base group ≡ sound_bytes base (map (λ k. k.byte) group))
+    → (fault_after false base group ≡ fault_in group (fault_of base (bytes_in group)))
+    × (fault_of base (bytes_in group) ≡ None
+    → bytes_of_group base group ≡ sound_bytes base (bytes_in group))
 
 -- A piece that means data and is whole groups, behind whole groups of which none was final, has its
 -- data appended.

@@ -77,7 +77,7 @@ trails_at LeastSignificantFirst =
     partly (TrailsAt LeastSignificantFirst) (trails LeastSignificantFirst 3 refl refl)
     (trails LeastSignificantFirst 5 refl refl) (trails LeastSignificantFirst 6 refl refl)
 
--- so many symbols of the value 0, and another
+-- symbols of the value 0, and another
 abbrev symbols_with : ℕ → ℕ → ℕ → List ℕ
 symbols_with count first last = replicate count first ++ last ∷ []
 

@@ -1,12 +1,12 @@
 -- The bytes of a text that are not ignored, gathered one by one.
 use Rattle.std.proofs.Common.{◌≡◌, ℕ, zero, suc, ◌+◌, ◌-◌, ◌<◌, ◌≤◌, ◌⊎◌, Bool, true, false, not, cond, List, [], ◌∷◌, ◌++◌, length, map, set, take, drop, get_or, refl, sym, subst, ap, ◌∙◌, arith, length-append, length-take-le, take-append-drop, ⊎_elim, inl, inr}
 use Rattle.std.proofs.Math.Seq.{get_or-append_seam, take-suc}
-use Rattle.std.proofs.lemmas.List.{append-nil, get_or_append_left, length-drop, length-map, map-append, take_all, get_or-drop, take_more_set}
+use Rattle.std.proofs.lemmas.List.{append-nil, get_or_append_left, length-drop, length-map, map-append, take_all, get_or-drop, take_more_set, nil_from_length}
 use Rattle.std.proofs.lemmas.Bool.{cases_lt}
 use Rattle.data_encoding.specs.Base.{Base, meaning, ignores_some, is_ignored, group_symbols, IsWidth}
 use Rattle.data_encoding.specs.Decoding.{IsGathered}
 use Rattle.data_encoding.specs.Fault.{position_of}
-use Rattle.data_encoding.specs.Grammar.{Positioned, positioned, kept, kept_in, kept_from}
+use Rattle.data_encoding.specs.Grammar.{Positioned, positioned, kept, kept_in, kept_from, bytes_in}
 use Rattle.data_encoding.specs.Partial.{position_after}
 use Rattle.data_encoding.proofs.digits.WidthLemmas.{group_symbols-pos}
 use Rattle.data_encoding.proofs.grammar.PositionLemmas.{bytes-positioned_from, filter-plain, length-by_bytes, length-kept, length-kept_plain, never_ignored}
@@ -19,7 +19,7 @@ pub record HasGathered (base : Base) (part : List ℕ) (index count span : ℕ) 
     : Type 0 where
   pub before : span ≤ index
   pub same : kept base (take span part) ≡ kept base (take index part)
-  pub bytes_are : map (λ k. k.byte) (kept base (take index part)) ≡ take count room
+  pub bytes_are : bytes_in (kept base (take index part)) ≡ take count room
   pub count_is : length (kept base (take index part)) ≡ count
   pub ends : 0 < span → is_ignored (meaning base (get_or part (span - 1) 0)) ≡ false
 
@@ -84,7 +84,7 @@ module _ (base : Base) (part : List ℕ) (index : ℕ) (inside : index < length 
           before = omega arith;
           same = refl;
           bytes_are =
-              ap (map (λ (k : Positioned). k.byte)) after
+              ap bytes_in after
               ∙ map-append (λ (k : Positioned). k.byte) before (found ∷ [])
               ∙ ap (λ l. l ++ here ∷ []) so_far.bytes_are
               ∙ sym (take_more_set room count here fits);
@@ -102,7 +102,7 @@ module _ (base : Base) (part : List ℕ) (index : ℕ) (inside : index < length 
         record {
           before = omega (arith, so_far.before);
           same = so_far.same ∙ sym after;
-          bytes_are = ap (map (λ (k : Positioned). k.byte)) after ∙ so_far.bytes_are;
+          bytes_are = ap bytes_in after ∙ so_far.bytes_are;
           count_is = ap length after ∙ so_far.count_is;
           ends = so_far.ends;
         }
@@ -142,7 +142,7 @@ gathered base size part index count span room so_far within few last =
     ∙ length-map (kept base (take index part)) (λ (k : Positioned). k.byte) ∙ so_far.count_is in
     record {
       within = omega (arith, so_far.before, within);
-      bytes_are = ap (map (λ (k : Positioned). k.byte)) so_far.same ∙ so_far.bytes_are;
+      bytes_are = ap bytes_in so_far.same ∙ so_far.bytes_are;
       ends = so_far.ends;
       few = omega (arith, len, few);
       last = ⊎_elim {C = (length (take count room) ≡ size)
@@ -161,10 +161,6 @@ shorter (suc n) [] = (omega arith, omega arith)
 shorter (suc n) (x ∷ xs) =
     let rest = shorter n xs in (omega (arith, rest.0), omega (arith, rest.1))
 
-none_of : (ks : List Positioned) → length ks ≡ 0 → ks ≡ []
-none_of [] h = refl
-none_of (k ∷ ks) h = absurd (omega (arith, h))
-
 -- where nothing is ignored: the bytes as they stand
 pub gathered-plain : (base : Base) → ignores_some base ≡ false → (size : ℕ) (part : List ℕ)
     → IsGathered base size part (take size part) (length (take size part))
@@ -174,8 +170,7 @@ gathered-plain base none size part =
     record {
       within = (shorter size part).1;
       bytes_are =
-          ap (map (λ (k : Positioned). k.byte)) (filter-plain base none
-          (positioned (take (length bytes) part)))
+          ap bytes_in (filter-plain base none (positioned (take (length bytes) part)))
           ∙ bytes-positioned_from 0 (take (length bytes) part) ∙ all;
       ends = λ _. never_ignored base none (get_or part (length bytes - 1) 0);
       few = (shorter size part).0;
@@ -219,13 +214,13 @@ length-left : (base : Base) (text : List ℕ) (read : ℕ)
     → length (kept_from base read text) ≡ length (kept base (drop read text))
 length-left base text read =
     length-by_bytes (kept_from base read text)
-    (map (λ (k : Positioned). k.byte) (kept base (drop read text)))
+    (bytes_in (kept base (drop read text)))
     (bytes-kept_in base read (drop read text) ∙ sym (bytes-kept_in base 0 (drop read text)))
     ∙ length-map (kept base (drop read text)) (λ (k : Positioned). k.byte)
 
 pub nothing-kept : (base : Base) (text : List ℕ) (read : ℕ)
     → length (kept base (drop read text)) ≡ 0 → kept_from base read text ≡ []
-nothing-kept base text read h = none_of (kept_from base read text) (length-left base text read ∙ h)
+nothing-kept base text read h = nil_from_length (kept_from base read text) (length-left base text read ∙ h)
 
 -- What was gathered of a part is in it.
 module _ (base : Base) (size : ℕ) (part group : List ℕ) (span : ℕ)
@@ -276,7 +271,7 @@ module _ (base : Base) (width : IsWidth base.width) (text : List ℕ) (read : �
   abbrev nexts : List Positioned
   nexts = next_bytes base text read span
 
-  pub bytes-next : map (λ k. k.byte) nexts ≡ group
+  pub bytes-next : bytes_in nexts ≡ group
   bytes-next = bytes-kept_in base read part ∙ sym (bytes-kept_in base 0 part) ∙ is.bytes_are
 
   pub length-next : length nexts ≡ length group
@@ -331,7 +326,7 @@ module _ (base : Base) (width : IsWidth base.width) (text : List ℕ) (read : �
         last = ⊎_elim {C = (length nexts ≡ group_symbols base.width)
             ⊎ (kept_from base (read + span) text ≡ [])}
             (λ full. inl (length-next ∙ full))
-            (λ all. inr (none_of (kept_from base (read + span) text)
+            (λ all. inr (nil_from_length (kept_from base (read + span) text)
             (omega (
               arith,
               ap length parts,

@@ -1,13 +1,11 @@
 -- What a judgement of a group finds: its symbols, or its fault, or its bytes.
-use Rattle.std.proofs.Common.{◌≡◌, ℕ, zero, suc, ◌-◌, ◌*◌, ◌/◌, ◌%◌, ◌<◌, ◌≤◌, ◌==◌, ◌≢◌, nat_lt, Bool, true, false, not, cond, ◌&&◌, ◌||◌, List, [], ◌∷◌, ◌++◌, length, map, take, drop, replicate, slice_index, None, refl, sym, ap, ◌∙◌, subst, arith, length-take-le, take-append-drop, ⊎_elim}
+use Rattle.std.proofs.Common.{◌≡◌, ℕ, zero, suc, ◌-◌, ◌*◌, ◌/◌, ◌%◌, ◌<◌, ◌≤◌, ◌==◌, ◌≢◌, nat_lt, Bool, true, false, not, cond, ◌&&◌, ◌||◌, List, [], ◌∷◌, ◌++◌, length, map, take, drop, replicate, slice_index, None, refl, sym, ap, ◌∙◌, subst, arith, length-take-le, take-append-drop}
 use Rattle.std.proofs.lemmas.Bool.Decides.{nat_tests}
-use Rattle.std.proofs.Math.Nat.{le-div_iff_mul-le, div-eq_of_lt, mod_self, zero-mod, zero-mul}
+use Rattle.std.proofs.Math.Nat.{le-div_iff_mul-le, div-eq_of_lt, zero-mul}
 use Rattle.std.proofs.lemmas.List.{take_all, drop_all, length-drop, length-map, take-map, take_at}
 use Rattle.std.proofs.lemmas.List.Folds.{list_any-append}
 use Rattle.std.specs.List.{filter_map, list_any, position}
-use Rattle.std.proofs.lemmas.Bool.{cases_lt, eqb-true, false≢true}
-use Rattle.data_encoding.proofs.decoding.RoomLemmas.{multiples}
-use Rattle.data_encoding.proofs.grammar.LengthLemmas.{greatest_valid_length-by, is_valid_length-by}
+use Rattle.data_encoding.proofs.grammar.LengthLemmas.{greatest_valid_length-by, is_valid_length-by, whole-less}
 use Rattle.data_encoding.specs.declared.encoding.Character.{Character}
 use Rattle.data_encoding.specs.declared.encoding.Character.TheVariants.{Padding as PaddingCharacter}
 use Rattle.data_encoding.specs.declared.error.DecodeKind.TheVariants.{Length as LengthFault, Symbol as SymbolFault, Trailing as TrailingFault, Padding as PaddingFault}
@@ -18,7 +16,7 @@ use Rattle.data_encoding.specs.Lengths.{is_valid_count, greatest_valid_count, gr
 use Rattle.data_encoding.specs.Tables.{HoldsValues}
 use Rattle.data_encoding.proofs.lists.EndLemmas.{AllSo, count_before_end-at, count_before_end-map, end-passes}
 use Rattle.data_encoding.proofs.lists.ListLemmas.{list_any-none}
-use Rattle.data_encoding.proofs.grammar.GroupLemmas.{all_padding, any_padding, bytes_before_padding, inside-padding, plain_fault-valid, symbols_alone, whole-valid}
+use Rattle.data_encoding.proofs.grammar.GroupLemmas.{all_padding, any_padding, bytes_before_padding, inside-padding, plain_fault-valid, symbols_alone}
 use Rattle.data_encoding.proofs.grammar.UnpaddedGroupLemmas.{are_symbols}
 use Rattle.data_encoding.proofs.decoding.TrailingBitLemmas.{no_symbol-none, no_symbol-some}
 
@@ -152,42 +150,6 @@ module _ (base : Base) (group : List ℕ) where
                 (symbols_fault base (take count meant))) good
                 ∙ ap (symbols_fault base) (take-map (meaning base) count group);
           }
-
--- all symbols of a whole group are a valid length
-whole_length : (base : Base) → IsWidth base.width
-    → is_valid_length base (group_symbols base.width) ≡ true
-whole_length base width = by (is_padded base) refl where
-  by : (b : Bool) → is_padded base ≡ b → is_valid_length base (group_symbols base.width) ≡ true
-  by true is =
-      is_valid_length-by base (group_symbols base.width) true is
-      ∙ ap (λ n. n == 0) (mod_self (group_symbols base.width))
-  by false is =
-      is_valid_length-by base (group_symbols base.width) false is ∙ whole-valid base.width width
-
--- so a group of no valid length is not whole
-pub whole-less : (base : Base) → IsWidth base.width → (len : ℕ) → len ≤ group_symbols base.width
-    → is_valid_length base len ≡ false → len < group_symbols base.width
-whole-less base width len few invalid =
-    ⊎_elim {C = len < group_symbols base.width} (λ less. less)
-    (λ all.
-    let same : len ≡ group_symbols base.width = omega (arith, all, few) in
-    absurd (false≢true (sym invalid ∙ ap (is_valid_length base) same ∙ whole_length base width)))
-    (cases_lt len (group_symbols base.width))
-
--- and a padded one of a valid length is
-pub valid-whole : (base : Base) (len : ℕ) → 0 < len → is_valid_length base len ≡ true
-    → cond (is_padded base) (nat_lt len (group_symbols base.width) ≡ false)
-    (is_valid_count base.width len ≡ true)
-valid-whole base len some valid = by (is_padded base) refl where
-  by : (b : Bool) → is_padded base ≡ b → cond b (nat_lt len (group_symbols base.width) ≡ false)
-      (is_valid_count base.width len ≡ true)
-  by true is =
-      let size = group_symbols base.width in
-      let exact : len % size ≡ 0 =
-      eqb-true (len % size) 0 (sym (is_valid_length-by base len true is) ∙ valid) in
-      let most = multiples size 0 len (zero-mod size) exact some in
-      grind (arith, nat_tests, most)
-  by false is = sym (is_valid_length-by base len false is) ∙ valid
 
 -- a group of no valid length has the fault of its length
 pub fault-length : (base : Base) → IsWidth base.width → (group : List ℕ) → 0 < length group

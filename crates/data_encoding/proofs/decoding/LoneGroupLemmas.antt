@@ -1,27 +1,21 @@
 -- The bytes of a group as a text of their own.
-use Rattle.std.proofs.Common.{◌≡◌, ℕ, ◌+◌, ◌*◌, ◌%◌, ◌<◌, ◌≤◌, ◌==◌, nat_lt, Bool, true, false, not, cond, ◌&&◌, ◌||◌, take, List, [], ◌∷◌, length, Option, Some, None, is_some, refl, sym, ap, ◌∙◌, arith, ⊎_elim, map}
-use Rattle.std.proofs.Math.Nat.{div-eq_of_lt, zero-mul}
-use Rattle.std.proofs.lemmas.Bool.{cases_lt, false≢true}
-use Rattle.std.proofs.lemmas.Bool.Decides.{nat_tests}
+use Rattle.std.proofs.Common.{◌≡◌, ℕ, ◌+◌, ◌<◌, ◌≤◌, Bool, true, false, not, cond, ◌&&◌, List, [], ◌∷◌, length, Option, Some, None, is_some, refl, sym, ap, ◌∙◌, arith, map}
 use Rattle.std.proofs.lemmas.List.{append-nil, length-map}
 use Rattle.std.specs.Prelude.{flat_map}
 use Rattle.std.specs.List.{AllByRecursion}
 use Rattle.data_encoding.proofs.decoding.GroupJudgementLemmas.{fault-length}
-use Rattle.data_encoding.specs.declared.encoding.Character.{Character}
 use Rattle.data_encoding.specs.declared.decode.group.GroupFault.{GroupFault}
 use Rattle.data_encoding.specs.declared.error.DecodeError.{DecodeError}
-use Rattle.data_encoding.specs.declared.error.DecodeKind.TheVariants.{Length as LengthFault, Padding as PaddingFault}
-use Rattle.data_encoding.specs.Base.{Base, IsWidth, meaning, is_ignored, is_padded, ignores_some, group_symbols}
+use Rattle.data_encoding.specs.declared.error.DecodeKind.TheVariants.{Length as LengthFault}
+use Rattle.data_encoding.specs.Base.{Base, IsWidth, meaning, is_ignored, ignores_some, group_symbols}
 use Rattle.data_encoding.specs.Bits.{runs}
-use Rattle.data_encoding.specs.Fault.{bytes_of_group, count_before_padding, fault_after, fault_at, fault_of, faulty_at, first_fault, group_fault, located, or_else, padded_fault_at, plain_fault, sound_after, sound_bytes, symbol_bytes, symbols_fault}
+use Rattle.data_encoding.specs.Fault.{bytes_of_group, fault_after, fault_at, fault_of, first_fault, group_fault, located, or_else, sound_after, sound_bytes, symbol_bytes}
 use Rattle.data_encoding.specs.Grammar.{Positioned, groups, positioned, positioned_from, bytes_in}
-use Rattle.data_encoding.specs.Lengths.{greatest_valid_count, greatest_valid_length, is_valid_count, is_valid_length, length_fault}
+use Rattle.data_encoding.specs.Lengths.{greatest_valid_length, is_valid_length, length_fault}
 use Rattle.data_encoding.specs.Pieces.{fault_in}
 use Rattle.data_encoding.proofs.decoding.GreatestLengthLemmas.{greatest-less}
 use Rattle.data_encoding.proofs.decoding.PieceLemmas.{or_none}
-use Rattle.data_encoding.proofs.digits.WidthLemmas.{by_width}
 use Rattle.data_encoding.proofs.grammar.GroupLemmas.{IsInside, group_fault-inside}
-use Rattle.data_encoding.proofs.grammar.LengthLemmas.{greatest_valid_length-by, is_valid_length-by}
 use Rattle.data_encoding.proofs.grammar.PositionLemmas.{bytes-positioned_from, length-positioned_from, position_of-positioned_from}
 use Rattle.data_encoding.proofs.lists.ListLemmas.{filter-all}
 use Rattle.data_encoding.proofs.lists.RunLemmas.{runs-short}

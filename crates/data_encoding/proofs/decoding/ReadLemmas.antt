@@ -17,7 +17,7 @@ use Rattle.data_encoding.proofs.decoding.LastRunLemmas.{last-none, last-sound, l
 use Rattle.data_encoding.proofs.decoding.ProgressLemmas.{IsNext, after-group, at-end, begin, written_len}
 use Rattle.data_encoding.proofs.decoding.StopLemmas.{IsAtFault, at-fault, fault-partial}
 
--- the next kept bytes of a part, so many or all
+-- the next kept bytes of a part: a group, or all
 record Gathers (base : Base) (size : ℕ) (part : List ℕ) : Type 0 where
   group : List ℕ
   span : ℕ
@@ -236,7 +236,7 @@ module _ (base : Base) (width : IsWidth base.width) (text : List ℕ)
                 );
               })
 
-  -- an induction: at most so many bytes are left
+  -- an induction on a bound of the bytes that are left
   walk : (fuel read written : ℕ) (ended : Bool) (output : List ℕ)
       → HasDecodedTo base text read written ended output → length text ≤ read + fuel
       → Stops base text

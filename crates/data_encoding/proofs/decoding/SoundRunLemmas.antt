@@ -21,8 +21,8 @@ is_none-none None h = refl
 is_none-none (Some error) h = cc
 
 module _ (base : Base) (width : IsWidth base.width) (bytes : List ℕ) where
-  abbrev dec : ℕ
-  dec = group_symbols base.width
+  abbrev size : ℕ
+  size = group_symbols base.width
 
   abbrev len : ℕ
   len = greatest_valid_length base (length bytes)
@@ -39,7 +39,7 @@ module _ (base : Base) (width : IsWidth base.width) (bytes : List ℕ) where
       ∙ length-take-le len bytes (greatest-least base width (length bytes))
 
   strict_fault : fault_of strict front
-      ≡ first_after false strict (runs dec (positioned front))
+      ≡ first_after false strict (runs size (positioned front))
   strict_fault =
       let valid : length_fault strict (length front) ≡ None =
       length_fault-none strict (length front)
@@ -47,43 +47,43 @@ module _ (base : Base) (width : IsWidth base.width) (bytes : List ℕ) where
       ∙ greatest-valid base width (length bytes)) in
       λ i. or_else (valid i)
       (first_after false strict
-      (runs dec (filter-plain strict (ignores_none-strict base) (positioned front) i)))
+      (runs size (filter-plain strict (ignores_none-strict base) (positioned front) i)))
 
   -- no bytes mean no bytes
   pub sound_run-none : len ≡ 0 → is_sound_run base bytes ≡ true
   sound_run-none none =
       ap is_none (strict_fault
-      ∙ ap (λ n. first_after false strict (runs dec (positioned (take n bytes)))) none
+      ∙ ap (λ n. first_after false strict (runs size (positioned (take n bytes)))) none
       ∙ ap (first_after false strict)
-      (runs-nil {X = Positioned} dec (group_symbols-pos base.width width)))
+      (runs-nil {X = Positioned} size (group_symbols-pos base.width width)))
 
   module _ (some : 0 < len) where
     -- a group without a fault means something
-    pub sound_run-group : len ≤ dec → group_fault base front ≡ None → is_sound_run base bytes ≡ true
+    pub sound_run-group : len ≤ size → group_fault base front ≡ None → is_sound_run base bytes ≡ true
     sound_run-group few sound =
         let group = positioned front in
         ap is_none (strict_fault
         ∙ ap (first_after false strict)
-        (runs-short dec group (omega (arith, front_len, some)) (omega (arith, front_len, few)))
+        (runs-short size group (omega (arith, front_len, some)) (omega (arith, front_len, few)))
         ∙ ap (λ o. or_else (located group o) None)
         (ap (group_fault strict) (bytes-positioned_from 0 front) ∙ group_fault-strict base front
         ∙ sound))
 
     -- and what means something begins with one
     pub sound_run-first : is_sound_run base bytes ≡ true
-        → group_fault base (take dec front) ≡ None
+        → group_fault base (take size front) ≡ None
     sound_run-first h =
-        let group = take dec (positioned front) in
-        let first = runs-first dec (positioned front) (group_symbols-pos base.width width)
+        let group = take size (positioned front) in
+        let first = runs-first size (positioned front) (group_symbols-pos base.width width)
         (omega (arith, front_len, some)) in
-        let none : first_after false strict (group ∷ runs dec (drop dec (positioned front)))
+        let none : first_after false strict (group ∷ runs size (drop size (positioned front)))
         ≡ None =
         ap (first_after false strict) (sym first) ∙ sym strict_fault
         ∙ is_none-none (fault_of strict front) h in
         let sound = neither_fault (fault_after false strict group)
-        (first_after (is_final strict group) strict (runs dec (drop dec (positioned front)))) none in
-        let same : bytes_in group ≡ take dec front =
-        sym (take-map (λ (k : Positioned). k.byte) dec (positioned front))
-        ∙ ap (take dec) (bytes-positioned_from 0 front) in
+        (first_after (is_final strict group) strict (runs size (drop size (positioned front)))) none in
+        let same : bytes_in group ≡ take size front =
+        sym (take-map (λ (k : Positioned). k.byte) size (positioned front))
+        ∙ ap (take size) (bytes-positioned_from 0 front) in
         ap (group_fault base) (sym same) ∙ sym (group_fault-strict base (bytes_in group))
         ∙ (fault_after-none strict false group sound.0).1

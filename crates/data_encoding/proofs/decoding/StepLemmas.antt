@@ -1,6 +1,6 @@
 -- A step of a decoding: what a run, a group and the end do to it.
 use Rattle.std.proofs.Common.{◌≡◌, ℕ, ◌+◌, ◌-◌, ◌*◌, ◌/◌, ◌%◌, ◌<◌, ◌≤◌, Bool, true, false, not, nat_lt, ◌&&◌, ◌==◌, ◌⊎◌, List, ◌++◌, length, take, drop, Some, refl, sym, ap, ◌∙◌, subst, arith, length-take-le, ⊎_elim, map}
-use Rattle.std.proofs.Math.Nat.{mul-le-mul_left, mul-le-mul_right, mul-zero, zero-mod}
+use Rattle.std.proofs.Math.Nat.{mul-le-mul_left, mul-zero, zero-mod}
 use Rattle.std.proofs.Math.Seq.{take-add}
 use Rattle.std.proofs.lemmas.Bool.{cases_lt, eqb-true, false≢true}
 use Rattle.std.proofs.lemmas.Bool.Decides.{nat_tests}
@@ -8,6 +8,8 @@ use Rattle.std.proofs.lemmas.List.{length-drop, take_rest, length-map}
 use Rattle.std.proofs.lemmas.Nat.{div-add-mod'}
 use Rattle.std.proofs.lemmas.Slice.{take-put_mid_below}
 use Rattle.std.specs.List.{list_any}
+use Rattle.std.proofs.Math.Bool.{and-false}
+use Rattle.data_encoding.proofs.decoding.WholeLengthLemmas.{most_bytes-few}
 use Rattle.data_encoding.specs.declared.error.DecodeKind.TheVariants.{Padding as PaddingFault}
 use Rattle.data_encoding.specs.declared.error.DecodeError.{DecodeError}
 use Rattle.data_encoding.specs.declared.error.DecodePartial.{DecodePartial}
@@ -16,10 +18,10 @@ use Rattle.data_encoding.specs.Base.{Base, IsWidth, group_bytes, group_symbols, 
 use Rattle.data_encoding.specs.Decoding.{HasFault, HasNoLastRun, IsDecoded, IsDecodedGroup, IsGathered, IsLastRun, IsRun, IsStop, HasStopped, valid_front, HasDecodedTo}
 use Rattle.data_encoding.specs.Fault.{fault_after, group_fault, located, position_of, symbol_bytes}
 use Rattle.data_encoding.specs.Grammar.{Means, Positioned, kept}
-use Rattle.data_encoding.specs.Lengths.{greatest_valid_length, most_bytes}
+use Rattle.data_encoding.specs.Lengths.{greatest_valid_length}
 use Rattle.data_encoding.specs.Partial.{StopsAt, is_length_fault}
-use Rattle.data_encoding.proofs.digits.WidthLemmas.{group_bits, group_bytes-few}
-use Rattle.data_encoding.proofs.grammar.LengthLemmas.{is_valid_length-by, most_bytes-by}
+use Rattle.data_encoding.proofs.digits.WidthLemmas.{group_bits}
+use Rattle.data_encoding.proofs.grammar.LengthLemmas.{is_valid_length-by}
 use Rattle.data_encoding.proofs.grammar.GroupLemmas.{GroupMeans-sound}
 use Rattle.data_encoding.proofs.lists.WriteLemmas.{length-rewritten, length-rewritten_same, rewritten, take-rewritten}
 use Rattle.data_encoding.proofs.decoding.GatherLemmas.{bytes-next, gathered-few, gathered-some, is-next, next_bytes, none-next, nothing-kept, position-next}
@@ -29,26 +31,6 @@ use Rattle.data_encoding.proofs.decoding.RoomLemmas.{multiples}
 use Rattle.data_encoding.proofs.decoding.ProgressLemmas.{IsNext, after-group, after-run, room-group, room-run, same-output}
 use Rattle.data_encoding.proofs.decoding.StopLemmas.{IsAtFault, at-fault}
 use Rattle.data_encoding.proofs.decoding.LoopLemmas.{IsUnderWay, decoded}
-
--- a text has no more bytes than it is long
-most-few : (base : Base) → IsWidth base.width → (text : List ℕ)
-    → most_bytes base (length text) ≤ length text
-most-few base width text = by (is_padded base) refl where
-  by : (b : Bool) → is_padded base ≡ b → most_bytes base (length text) ≤ length text
-  by true is =
-      let count = length text / group_symbols base.width in
-      omega (
-        arith,
-        most_bytes-by base (length text) true is,
-        mul-le-mul_left count (group_bytes-few base.width width),
-        div-add-mod' (length text) (group_symbols base.width),
-      )
-  by false is =
-      omega (
-        arith,
-        most_bytes-by base (length text) false is,
-        mul-le-mul_right (length text) width.few,
-      )
 
 -- the front of valid length has that length
 length-front : (base : Base) → IsWidth base.width → (rest : List ℕ)
@@ -79,15 +61,12 @@ stops-same base text old new partial stops same =
 no_padding : (b : Bool) (count len : ℕ) → len ≤ count → (not b && nat_lt count len) ≡ false
 no_padding b count len h =
     let all : nat_lt count len ≡ false = grind (arith, nat_tests) in
-    ap (λ v. not b && v) all ∙ either (not b) where
-      either : (v : Bool) → (v && false) ≡ false
-      either true = refl
-      either false = refl
+    ap (λ v. not b && v) all ∙ and-false (not b)
 
 module _ {base : Base} {text : List ℕ} {w bytes symbols read written : ℕ} {ended : Bool}
     {output : List ℕ} (s : IsUnderWay base text w bytes symbols read written ended output) where
   pub written-few : written ≤ length text
-  written-few = omega (arith, s.so_far.fits, s.size_is, most-few base s.width text)
+  written-few = omega (arith, s.so_far.fits, s.size_is, most_bytes-few base s.width (length text))
 
   -- as far as another output of that length holds it
   further : {stop count : ℕ} {final : Bool} {new : List ℕ} → length new ≡ length output

@@ -1,58 +1,31 @@
 -- Where a decoding stops: at the first faulty group.
-use Rattle.std.proofs.Common.{◌≡◌, ℕ, ◌+◌, ◌-◌, ◌*◌, ◌/◌, ◌%◌, ◌<◌, ◌≤◌, ◌==◌, Bool, true, false, not, cond, ◌&&◌, ◌||◌, nat_lt, List, [], ◌∷◌, ◌++◌, length, take, drop, Option, Some, None, is_some, IsOkAnd, refl, sym, ap, ◌∙◌, subst, arith, length-take-le, ⊎_elim}
-use Rattle.std.proofs.lemmas.Bool.Decides.{nat_tests}
-use Rattle.std.proofs.lemmas.Nat.{div-add-mod'}
+use Rattle.std.proofs.Common.{◌≡◌, ℕ, ◌+◌, ◌-◌, ◌%◌, ◌<◌, ◌≤◌, ◌==◌, Bool, true, false, not, cond, ◌&&◌, ◌||◌, nat_lt, List, [], ◌∷◌, ◌++◌, length, take, drop, Option, Some, None, is_some, IsOkAnd, refl, sym, ap, ◌∙◌, subst, arith, length-take-le, ⊎_elim}
 use Rattle.std.proofs.lemmas.List.{length-drop, append-nil}
-use Rattle.std.proofs.Math.Nat.{mul-add, mul_left_comm}
+use Rattle.std.proofs.Math.Nat.{mod_self}
 use Rattle.std.specs.Prelude.{flat_map}
 use Rattle.std.specs.List.{list_any, position}
+use Rattle.data_encoding.proofs.grammar.JoinFaultLemmas.{valid_behind}
 use Rattle.data_encoding.specs.declared.encoding.Character.{Character}
 use Rattle.data_encoding.specs.declared.decode.group.GroupFault.{GroupFault}
 use Rattle.data_encoding.specs.declared.error.DecodeError.{DecodeError}
 use Rattle.data_encoding.specs.declared.error.DecodeKind.TheVariants.{Length as LengthFault, Trailing as TrailingFault, Padding as PaddingFault}
 use Rattle.data_encoding.specs.declared.error.DecodePartial.{DecodePartial}
-use Rattle.data_encoding.specs.Base.{Base, is_symbol, is_padded, ignores_some, group_bytes, group_symbols, IsWidth}
+use Rattle.data_encoding.specs.Base.{Base, is_symbol, is_padded, ignores_some, group_symbols, IsWidth}
 use Rattle.data_encoding.specs.Bits.{runs}
 use Rattle.data_encoding.specs.Grammar.{Positioned, positioned_from, kept, groups, is_final, Means, kept_from, bytes_in, meanings_in}
 use Rattle.data_encoding.specs.Lengths.{is_valid_count, is_valid_length, length_fault, decoded_len}
 use Rattle.data_encoding.specs.Fault.{character_fault, count_before_padding, fault_after, fault_at_first, fault_of, faulty_at, first_after, group_fault, located, or_else, padded_fault_at, plain_fault, position_of, sound_after, sound_bytes, sound_groups, symbols_fault, trailing_bits}
 use Rattle.data_encoding.specs.Partial.{StopsAt, position_after, sound_len, read_len, is_length_fault, is_sound_run, partial_at, partial_by, partial_of}
 use Rattle.data_encoding.specs.Decoding.{HasDecodedTo}
-use Rattle.data_encoding.proofs.digits.WidthLemmas.{group_bits, group_symbols-pos}
+use Rattle.data_encoding.proofs.digits.WidthLemmas.{group_symbols-pos}
 use Rattle.data_encoding.proofs.lists.RunLemmas.{runs-nil, runs-append, runs-join, runs-short, flat_map-runs}
 use Rattle.data_encoding.proofs.grammar.PositionLemmas.{length-kept_plain, length-positioned_from, filter-plain, length-meanings}
 use Rattle.data_encoding.proofs.grammar.KeptLemmas.{between, kept-split, kept_from-more, kept_in-stands, length-between}
-use Rattle.data_encoding.proofs.grammar.LengthLemmas.{length_fault-none, length_fault-valid, is_valid_length-by}
-use Rattle.data_encoding.proofs.grammar.GroupLemmas.{group_fault-inside, plain_fault-valid, whole-valid, located-inside}
+use Rattle.data_encoding.proofs.grammar.LengthLemmas.{length_fault-none, length_fault-valid, valid-whole, whole-length}
+use Rattle.data_encoding.proofs.grammar.GroupLemmas.{group_fault-inside, plain_fault-valid, located-inside}
 use Rattle.data_encoding.proofs.grammar.SoundLemmas.{first-AreSound, sound-AreSound, first-none}
 use Rattle.data_encoding.proofs.grammar.MeaningLemmas.{Means-no_fault, sound_bytes-Means, decoded_len-Means}
-use Rattle.data_encoding.proofs.decoding.RoomLemmas.{multiples}
 use Rattle.data_encoding.proofs.decoding.ProgressLemmas.{IsNext, whole-before, written_len, sound_bytes-front}
-
--- so many symbols of whole groups have whole bytes
-whole_bits : (width enc dec count : ℕ) → width * dec ≡ 8 * enc → count % dec ≡ 0
-    → width * count ≡ 8 * (count / dec * enc)
-whole_bits width enc dec count same exact =
-    let all : count ≡ count / dec * dec = omega (arith, div-add-mod' count dec, exact) in
-    ap (λ n. width * n) all ∙ mul_left_comm width (count / dec) dec
-    ∙ ap (λ n. count / dec * n) same ∙ mul_left_comm (count / dec) 8 enc
-
-module _ (base : Base) (width : IsWidth base.width) (len : ℕ)
-    (exact : len % group_symbols base.width ≡ 0) where
-  bits : base.width * len ≡ 8 * (len / group_symbols base.width * group_bytes base.width)
-  bits =
-      whole_bits base.width (group_bytes base.width) (group_symbols base.width) len
-      (group_bits base.width width) exact
-
-  -- the length of whole groups is valid
-  whole-length : is_valid_length base len ≡ true
-  whole-length = by (is_padded base) refl where
-    by : (b : Bool) → is_padded base ≡ b → is_valid_length base len ≡ true
-    by true is = is_valid_length-by base len true is ∙ grind (arith, nat_tests)
-    by false is =
-        let none_over : base.width * len % 8 ≡ 0 = omega (arith, bits) in
-        is_valid_length-by base len false is
-        ∙ ap (λ n. nat_lt n base.width) none_over ∙ grind (arith, nat_tests, width.some)
 
 -- the kind of a fault of symbols, or of padding
 pub kind_of : (fault error : DecodeError) → Some fault ≡ Some error
@@ -120,13 +93,13 @@ pub record IsAtFault (base : Base) (text : List ℕ) (read written : ℕ) (outpu
 
 module _ (base : Base) (text : List ℕ) (read written : ℕ) (output : List ℕ) (error : DecodeError)
     (at : IsAtFault base text read written output error) where
-  abbrev dec : ℕ
-  dec = group_symbols base.width
+  abbrev size : ℕ
+  size = group_symbols base.width
 
-  pub pos : 0 < dec
+  pub pos : 0 < size
   pos = group_symbols-pos base.width at.width
 
-  pub whole : length (kept base (take read text)) % dec ≡ 0
+  pub whole : length (kept base (take read text)) % size ≡ 0
   whole =
       whole-before base at.width text read written at.ended output at.stop at.group at.so_far
       at.next.is_part
@@ -138,25 +111,25 @@ module _ (base : Base) (text : List ℕ) (read written : ℕ) (output : List ℕ
       ∙ ap (λ l. l ++ kept_from base at.stop text) (sym at.next.is_part.is_kept)
 
   others : List (List Positioned)
-  others = runs dec (kept_from base at.stop text)
+  others = runs size (kept_from base at.stop text)
 
-  groups_left : runs dec (at.group ++ kept_from base at.stop text) ≡ at.group ∷ others
+  groups_left : runs size (at.group ++ kept_from base at.stop text) ≡ at.group ∷ others
   unfolding others
   groups_left =
-      ⊎_elim {C = runs dec (at.group ++ kept_from base at.stop text) ≡ at.group ∷ others}
-      (λ len. runs-append dec at.group (kept_from base at.stop text) pos len)
+      ⊎_elim {C = runs size (at.group ++ kept_from base at.stop text) ≡ at.group ∷ others}
+      (λ len. runs-append size at.group (kept_from base at.stop text) pos len)
       (λ none.
-      ap (λ l. runs dec (at.group ++ l)) none ∙ ap (runs dec) (append-nil at.group)
-      ∙ runs-short dec at.group at.next.is_part.some at.next.few
+      ap (λ l. runs size (at.group ++ l)) none ∙ ap (runs size) (append-nil at.group)
+      ∙ runs-short size at.group at.next.is_part.some at.next.few
       ∙ ap (λ gs. at.group ∷ gs)
-      (sym (runs-nil {X = Positioned} dec pos) ∙ ap (runs dec) (sym none)))
+      (sym (runs-nil {X = Positioned} size pos) ∙ ap (runs size) (sym none)))
       at.next.last
 
   groups_are : groups base text ≡ groups base (take read text) ++ at.group ∷ others
   groups_are =
-      ap (runs dec) (kept-split base read text at.so_far.within
+      ap (runs size) (kept-split base read text at.so_far.within
       ∙ ap (λ l. kept base (take read text) ++ l) rest_is)
-      ∙ runs-join dec (kept base (take read text)) (at.group ++ kept_from base at.stop text) pos
+      ∙ runs-join size (kept base (take read text)) (at.group ++ kept_from base at.stop text) pos
       whole
       ∙ ap (λ l. groups base (take read text) ++ l) groups_left
 
@@ -179,14 +152,14 @@ module _ (base : Base) (text : List ℕ) (read written : ℕ) (output : List ℕ
   pub sound_len_is : sound_len base text ≡ read
   sound_len_is =
       ap (λ gs. position_after (flat_map (λ g. g) gs)) sound_are
-      ∙ ap position_after (flat_map-runs dec (kept base (take read text)) pos) ∙ at.so_far.ends
+      ∙ ap position_after (flat_map-runs size (kept base (take read text)) pos) ∙ at.so_far.ends
 
   front_sound : fault_of base (take read text) ≡ None
   front_sound =
       let valid : length_fault base (length (take read text)) ≡ None =
       length_fault-none base (length (take read text))
       (λ none. whole-length base at.width (length (take read text))
-      (ap (λ n. n % dec) (sym (length-kept_plain base (take read text) none)) ∙ whole)) in
+      (ap (λ n. n % size) (sym (length-kept_plain base (take read text) none)) ∙ whole)) in
       ap (λ o. or_else o (first_after false base (groups base (take read text)))) valid
       ∙ first-none base false at.ended (groups base (take read text)) at.so_far.sound
 
@@ -245,9 +218,9 @@ module _ (base : Base) (text : List ℕ) (read written : ℕ) (output : List ℕ
       }
 
   module _ (none : ignores_some base ≡ false) where
-    read_whole : read % dec ≡ 0
+    read_whole : read % size ≡ 0
     read_whole =
-        ap (λ n. n % dec)
+        ap (λ n. n % size)
         (sym (length-kept_plain base (take read text) none
         ∙ length-take-le read text at.so_far.within))
         ∙ whole
@@ -278,38 +251,15 @@ module _ (base : Base) (text : List ℕ) (read written : ℕ) (output : List ℕ
     -- where nothing is ignored, that is no fault of a length
     pub kind-next : is_length_fault error.kind ≡ false
     kind-next = by at.ended at.faulty where
-      whole_or_valid : (b : Bool) → is_padded base ≡ b
-          → cond b (nat_lt (length at.group) dec ≡ false)
-          (is_valid_count base.width (length at.group) ≡ true)
-      whole_or_valid true is =
-          ⊎_elim {C = nat_lt (length at.group) dec ≡ false}
-          (λ len. grind (arith, nat_tests, len))
+      valid : is_valid_length base (length at.group) ≡ true
+      valid =
+          ⊎_elim {C = is_valid_length base (length at.group) ≡ true}
+          (λ len.
+          whole-length base at.width (length at.group) (ap (λ n. n % size) len ∙ mod_self size))
           (λ empty.
-          let sum = last_stop empty in
-          let valid : (length text % dec == 0) ≡ true =
-          sym (is_valid_length-by base (length text) true is)
-          ∙ length_fault-valid base (length text) at.no_length_fault none in
-          let exact : length text % dec ≡ 0 = grind (arith, nat_tests) in
-          let more = multiples dec read (length text) read_whole exact
-          (omega (arith, sum, at.next.is_part.some)) in
-          let least : dec ≤ length at.group = omega (arith, more, sum) in
-          grind (arith, nat_tests))
-          at.next.last
-      whole_or_valid false is =
-          ⊎_elim {C = is_valid_count base.width (length at.group) ≡ true}
-          (λ len. ap (is_valid_count base.width) len ∙ whole-valid base.width at.width)
-          (λ empty.
-          let sum = last_stop empty in
-          let valid : is_valid_count base.width (length text) ≡ true =
-          sym (is_valid_length-by base (length text) false is)
-          ∙ length_fault-valid base (length text) at.no_length_fault none in
-          let all : base.width * length text
-          ≡ base.width * read + base.width * length at.group =
-          ap (λ n. base.width * n) (sym sum) ∙ mul-add base.width read (length at.group) in
-          let before = bits base at.width read read_whole in
-          let same : base.width * length at.group % 8 ≡ base.width * length text % 8 =
-          omega (arith, all, before) in
-          ap (λ n. nat_lt n base.width) same ∙ valid)
+          sym (valid_behind base at.width read (length at.group) read_whole)
+          ∙ ap (is_valid_length base) (last_stop empty)
+          ∙ length_fault-valid base (length text) at.no_length_fault none)
           at.next.last
 
       by : (b : Bool) → fault_after b base at.group ≡ Some error
@@ -319,9 +269,9 @@ module _ (base : Base) (text : List ℕ) (read written : ℕ) (output : List ℕ
       by false h =
           kind-located at.group (group_fault base (bytes_in at.group)) error
           (other-group base (meanings_in base at.group) (is_padded base) refl
-          (subst (λ n. cond (is_padded base) (nat_lt n dec ≡ false)
+          (subst (λ n. cond (is_padded base) (nat_lt n size ≡ false)
           (is_valid_count base.width n ≡ true))
-          (sym (length-meanings base at.group)) (whole_or_valid (is_padded base) refl))) h
+          (sym (length-meanings base at.group)) (valid-whole base (length at.group) at.next.is_part.some valid))) h
 
 -- what has a fault means nothing
 pub fault-partial : (base : Base) (text : List ℕ) (partial : DecodePartial)

@@ -20,110 +20,110 @@ use Rattle.data_encoding.proofs.lists.RunLemmas.{runs-nil, runs-join, runs-short
 use Rattle.data_encoding.proofs.grammar.PositionLemmas.{bytes-positioned_from}
 
 module _ (base : Base) (width : IsWidth base.width) where
-  abbrev enc : ℕ
-  enc = group_bytes base.width
+  abbrev byte_count : ℕ
+  byte_count = group_bytes base.width
 
-  abbrev dec : ℕ
-  dec = group_symbols base.width
+  abbrev size : ℕ
+  size = group_symbols base.width
 
-  pos : 0 < dec
+  pos : 0 < size
   pos = group_symbols-pos base.width width
 
   -- no group
   pub run-none : (part old new : List ℕ) → IsRun base part 0 old new
   run-none part old new = record {
-    within = omega (arith, zero-mul dec);
-    are_symbols = λ k h. absurd (omega (arith, h, zero-mul dec));
-    bytes = ap (λ n. take n new) (zero-mul enc)
-        ∙ sym (ap (λ n. run_bytes base (take n part)) (zero-mul dec)
-        ∙ ap (flat_map (symbol_bytes base)) (runs-nil {X = Character} dec pos));
+    within = omega (arith, zero-mul size);
+    are_symbols = λ k h. absurd (omega (arith, h, zero-mul size));
+    bytes = ap (λ n. take n new) (zero-mul byte_count)
+        ∙ sym (ap (λ n. run_bytes base (take n part)) (zero-mul size)
+        ∙ ap (flat_map (symbol_bytes base)) (runs-nil {X = Character} size pos));
   }
 
   kept : (part old output piece : List ℕ) (i k : ℕ) → IsRun base part i old output
-      → i * enc ≤ length output → IsRun base part i old (put_mid (i * enc) k output piece)
+      → i * byte_count ≤ length output → IsRun base part i old (put_mid (i * byte_count) k output piece)
   kept part old output piece i k run fits = record {
     within = run.within;
     are_symbols = run.are_symbols;
-    bytes = take_at (take (i * enc) output) (piece ++ drop k (drop (i * enc) output)) (i * enc)
-        (length-take-le (i * enc) output fits) ∙ run.bytes;
+    bytes = take_at (take (i * byte_count) output) (piece ++ drop k (drop (i * byte_count) output)) (i * byte_count)
+        (length-take-le (i * byte_count) output fits) ∙ run.bytes;
   }
 
   symbols-more : (part : List ℕ) (i m : ℕ)
-      → ((k : ℕ) → k < i * dec → is_symbol (meaning base (slice_index part k)) ≡ true)
-      → ((k : ℕ) → k < m * dec
-      → is_symbol (meaning base (slice_index (take (m * dec) (drop (i * dec) part)) k)) ≡ true)
-      → (k : ℕ) → k < (i + m) * dec → is_symbol (meaning base (slice_index part k)) ≡ true
+      → ((k : ℕ) → k < i * size → is_symbol (meaning base (slice_index part k)) ≡ true)
+      → ((k : ℕ) → k < m * size
+      → is_symbol (meaning base (slice_index (take (m * size) (drop (i * size) part)) k)) ≡ true)
+      → (k : ℕ) → k < (i + m) * size → is_symbol (meaning base (slice_index part k)) ≡ true
   symbols-more part i m first second k h =
       ⊎_elim {C = is_symbol (meaning base (slice_index part k)) ≡ true}
-      (λ (less : k < i * dec). first k less)
-      (λ (past : i * dec ≤ k).
-      let j = k - i * dec in
-      let below : j < m * dec = omega (arith, h, past, add-mul i m dec) in
-      let back : i * dec + j ≡ k = omega (arith, past) in
-      let same : slice_index (take (m * dec) (drop (i * dec) part)) j ≡ slice_index part k =
-      get_or-take (m * dec) (drop (i * dec) part) j 0 below ∙ get_or-drop (i * dec) part j 0
+      (λ (less : k < i * size). first k less)
+      (λ (past : i * size ≤ k).
+      let j = k - i * size in
+      let below : j < m * size = omega (arith, h, past, add-mul i m size) in
+      let back : i * size + j ≡ k = omega (arith, past) in
+      let same : slice_index (take (m * size) (drop (i * size) part)) j ≡ slice_index part k =
+      get_or-take (m * size) (drop (i * size) part) j 0 below ∙ get_or-drop (i * size) part j 0
       ∙ ap (λ n. get_or part n 0) back in
       subst (λ byte. is_symbol (meaning base byte) ≡ true) same (second j below))
-      (cases_lt k (i * dec))
+      (cases_lt k (i * size))
 
-  bytes-more : (part : List ℕ) (i m : ℕ) → (i + m) * dec ≤ length part
-      → run_bytes base (take (i * dec) part)
-      ++ run_bytes base (take (m * dec) (take (m * dec) (drop (i * dec) part)))
-      ≡ run_bytes base (take ((i + m) * dec) part)
+  bytes-more : (part : List ℕ) (i m : ℕ) → (i + m) * size ≤ length part
+      → run_bytes base (take (i * size) part)
+      ++ run_bytes base (take (m * size) (take (m * size) (drop (i * size) part)))
+      ≡ run_bytes base (take ((i + m) * size) part)
   bytes-more part i m within =
-      let front = take (i * dec) part in
-      let back = take (m * dec) (drop (i * dec) part) in
-      let sum : (i + m) * dec ≡ i * dec + m * dec = add-mul i m dec in
-      let front_len : length front ≡ i * dec =
-      length-take-le (i * dec) part (omega (arith, within, sum)) in
-      let back_len : length back ≡ m * dec =
-      length-take-le (m * dec) (drop (i * dec) part)
-      (omega (arith, within, sum, length-drop (i * dec) part)) in
+      let front = take (i * size) part in
+      let back = take (m * size) (drop (i * size) part) in
+      let sum : (i + m) * size ≡ i * size + m * size = add-mul i m size in
+      let front_len : length front ≡ i * size =
+      length-take-le (i * size) part (omega (arith, within, sum)) in
+      let back_len : length back ≡ m * size =
+      length-take-le (m * size) (drop (i * size) part)
+      (omega (arith, within, sum, length-drop (i * size) part)) in
       let ms = map (meaning base) front in
       let ns = map (meaning base) back in
-      let whole : length ms % dec ≡ 0 =
-      ap (λ n. n % dec) (length-map front (meaning base) ∙ front_len) ∙ mul-mod_left i dec in
-      let again : take (m * dec) back ≡ back = take_all (m * dec) back (omega (arith, back_len)) in
+      let whole : length ms % size ≡ 0 =
+      ap (λ n. n % size) (length-map front (meaning base) ∙ front_len) ∙ mul-mod_left i size in
+      let again : take (m * size) back ≡ back = take_all (m * size) back (omega (arith, back_len)) in
       ap (λ l. run_bytes base front ++ run_bytes base l) again
-      ∙ sym (flat_map-append (symbol_bytes base) (runs dec ms) (runs dec ns))
-      ∙ ap (flat_map (symbol_bytes base)) (sym (runs-join dec ms ns pos whole)
-      ∙ ap (runs dec) (sym (map-append (meaning base) front back)))
-      ∙ ap (run_bytes base) (sym (take-add (i * dec) (m * dec) part))
+      ∙ sym (flat_map-append (symbol_bytes base) (runs size ms) (runs size ns))
+      ∙ ap (flat_map (symbol_bytes base)) (sym (runs-join size ms ns pos whole)
+      ∙ ap (runs size) (sym (map-append (meaning base) front back)))
+      ∙ ap (run_bytes base) (sym (take-add (i * size) (m * size) part))
       ∙ ap (λ n. run_bytes base (take n part)) (sym sum)
 
-  more : (part old output before piece : List ℕ) (i m k : ℕ) → (i + m) * dec ≤ length part
-      → i * enc ≤ length output → length piece ≡ m * enc → IsRun base part i old output
-      → IsRun base (take (m * dec) (drop (i * dec) part)) m before piece
-      → IsRun base part (i + m) old (put_mid (i * enc) k output piece)
+  more : (part old output before piece : List ℕ) (i m k : ℕ) → (i + m) * size ≤ length part
+      → i * byte_count ≤ length output → length piece ≡ m * byte_count → IsRun base part i old output
+      → IsRun base (take (m * size) (drop (i * size) part)) m before piece
+      → IsRun base part (i + m) old (put_mid (i * byte_count) k output piece)
   more part old output before piece i m k within fits len first second =
-      let sum : (i + m) * enc ≡ i * enc + length piece =
-      add-mul i m enc ∙ ap (λ n. i * enc + n) (sym len) in
-      let all : take (m * enc) piece ≡ piece = take_all (m * enc) piece (omega (arith, len)) in
+      let sum : (i + m) * byte_count ≡ i * byte_count + length piece =
+      add-mul i m byte_count ∙ ap (λ n. i * byte_count + n) (sym len) in
+      let all : take (m * byte_count) piece ≡ piece = take_all (m * byte_count) piece (omega (arith, len)) in
       record {
         within = within;
         are_symbols = symbols-more part i m first.are_symbols second.are_symbols;
-        bytes = ap (λ n. take n (put_mid (i * enc) k output piece)) sum
-            ∙ take-put_mid (i * enc) k output piece (i * enc + length piece) refl fits
+        bytes = ap (λ n. take n (put_mid (i * byte_count) k output piece)) sum
+            ∙ take-put_mid (i * byte_count) k output piece (i * byte_count + length piece) refl fits
             ∙ (λ j. first.bytes j ++ (sym all ∙ second.bytes) j)
             ∙ bytes-more part i m within;
       }
 
-  one : (group old piece : List ℕ) → length group ≡ dec
+  one : (group old piece : List ℕ) → length group ≡ size
       → ((k : ℕ) → k < length group → is_symbol (meaning base (slice_index group k)) ≡ true)
-      → length piece ≡ enc → piece ≡ symbol_bytes base (map (meaning base) group)
+      → length piece ≡ byte_count → piece ≡ symbol_bytes base (map (meaning base) group)
       → IsRun base group 1 old piece
   one group old piece len symbols piece_len is =
-      let all : take (1 * dec) group ≡ group =
-      take_all (1 * dec) group (omega (arith, len)) in
+      let all : take (1 * size) group ≡ group =
+      take_all (1 * size) group (omega (arith, len)) in
       let ms = map (meaning base) group in
-      let ms_len : length ms ≡ dec = length-map group (meaning base) ∙ len in
+      let ms_len : length ms ≡ size = length-map group (meaning base) ∙ len in
       record {
         within = omega (arith, len);
         are_symbols = λ k h. symbols k (omega (arith, h, len));
-        bytes = take_all (1 * enc) piece (omega (arith, piece_len)) ∙ is
+        bytes = take_all (1 * byte_count) piece (omega (arith, piece_len)) ∙ is
             ∙ sym (ap (run_bytes base) all
             ∙ ap (flat_map (symbol_bytes base))
-            (runs-short dec ms (omega (arith, ms_len, pos)) (omega (arith, ms_len)))
+            (runs-short size ms (omega (arith, ms_len, pos)) (omega (arith, ms_len)))
             ∙ append-nil (symbol_bytes base ms));
       }
 

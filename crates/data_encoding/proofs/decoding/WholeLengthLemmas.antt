@@ -1,15 +1,16 @@
 -- The lengths of whole groups.
-use Rattle.std.proofs.Common.{◌≡◌, ℕ, ◌*◌, ◌/◌, ◌%◌, ◌≤◌, ◌==◌, nat_lt, Bool, true, false, not, ◌&&◌, ◌||◌, List, [], ◌∷◌, None, is_none, Ok, refl, sym, ap, ◌∙◌, subst, arith}
+use Rattle.std.proofs.Common.{◌≡◌, ℕ, ◌*◌, ◌/◌, ◌≤◌, Bool, true, false, not, ◌&&◌, ◌||◌, List, [], ◌∷◌, None, is_none, Ok, refl, sym, ap, ◌∙◌, subst, arith}
 use Rattle.std.proofs.Math.Nat.{mul-mod_left}
 use Rattle.std.specs.List.{list_any}
+use Rattle.std.proofs.Math.Bool.{or-true}
 use Rattle.data_encoding.specs.Base.{Base, IsWidth, group_bytes, group_symbols, is_padded, is_padding}
 use Rattle.data_encoding.specs.Grammar.{Positioned, is_final, meanings_in}
 use Rattle.data_encoding.specs.Lengths.{decoded_len, most_bytes}
 use Rattle.data_encoding.proofs.digits.WidthLemmas.{by_width}
-use Rattle.data_encoding.proofs.grammar.LengthLemmas.{decoded_len-valid, is_valid_length-by, most_bytes-by}
+use Rattle.data_encoding.proofs.grammar.LengthLemmas.{decoded_len-valid, most_bytes-by, whole-length}
 use Rattle.data_encoding.proofs.judgement.RuleLemmas.{IsRuled}
 
--- So many whole groups.
+-- A number of whole groups.
 
 padded_bytes : (width : ℕ) → IsWidth width → (count : ℕ)
     → count * group_symbols width / group_symbols width * group_bytes width
@@ -22,18 +23,11 @@ padded_bytes =
     (λ n. omega arith)
 
 plain_bytes : (width : ℕ) → IsWidth width → (count : ℕ)
-    → (width * (count * group_symbols width) % 8 ≡ 0)
-    × (width * (count * group_symbols width) / 8 ≡ count * group_bytes width)
+    → width * (count * group_symbols width) / 8 ≡ count * group_bytes width
 plain_bytes =
-    by_width
-    (λ w. (count : ℕ) → (w * (count * group_symbols w) % 8 ≡ 0)
-    × (w * (count * group_symbols w) / 8 ≡ count * group_bytes w))
-    (λ n. (omega arith, omega arith)) (λ n. (omega arith, omega arith))
-    (λ n. (omega arith, omega arith)) (λ n. (omega arith, omega arith))
-    (λ n. (omega arith, omega arith)) (λ n. (omega arith, omega arith))
-
-none_is_short : (width : ℕ) → IsWidth width → nat_lt 0 width ≡ true
-none_is_short = by_width (λ w. nat_lt 0 w ≡ true) refl refl refl refl refl refl
+    by_width (λ w. (count : ℕ) → w * (count * group_symbols w) / 8 ≡ count * group_bytes w)
+    (λ n. omega arith) (λ n. omega arith) (λ n. omega arith) (λ n. omega arith) (λ n. omega arith)
+    (λ n. omega arith)
 
 -- No more bytes than symbols.
 
@@ -54,21 +48,16 @@ module _ (base : Base) (width : IsWidth base.width) where
 
   pub decoded_len-whole : (count : ℕ)
       → decoded_len base (count * size) ≡ Ok (count * group_bytes base.width)
-  decoded_len-whole count = by (is_padded base) refl where
-    by : (b : Bool) → is_padded base ≡ b
-        → decoded_len base (count * size) ≡ Ok (count * group_bytes base.width)
-    by true is =
-        let valid = is_valid_length-by base (count * size) true is
-        ∙ ap (λ r. r == 0) (mul-mod_left count size) in
-        decoded_len-valid base (count * size) valid
-        ∙ ap (λ n. Ok n) (most_bytes-by base (count * size) true is
-        ∙ padded_bytes base.width width count)
-    by false is =
-        let bits = plain_bytes base.width width count in
-        let valid = is_valid_length-by base (count * size) false is
-        ∙ ap (λ r. nat_lt r base.width) bits.0 ∙ none_is_short base.width width in
-        decoded_len-valid base (count * size) valid
-        ∙ ap (λ n. Ok n) (most_bytes-by base (count * size) false is ∙ bits.1)
+  decoded_len-whole count =
+      decoded_len-valid base (count * size)
+      (whole-length base width (count * size) (mul-mod_left count size))
+      ∙ ap (λ n. Ok n) (by (is_padded base) refl) where
+        by : (b : Bool) → is_padded base ≡ b
+            → most_bytes base (count * size) ≡ count * group_bytes base.width
+        by true is =
+            most_bytes-by base (count * size) true is ∙ padded_bytes base.width width count
+        by false is =
+            most_bytes-by base (count * size) false is ∙ plain_bytes base.width width count
 
   pub most_bytes-few : (len : ℕ) → most_bytes base len ≤ len
   most_bytes-few len = by (is_padded base) refl where
@@ -92,7 +81,4 @@ none_final-joined base joins (g ∷ gs) = λ i.
 pub joins-unpadded : (base : Base) → IsRuled base → base.padding ≡ None → base.concatenates ≡ true
 joins-unpadded base ruled unpadded =
     sym ruled.concatenated ∙ ap (λ o. base.concatenates || is_none o) unpadded
-    ∙ always base.concatenates where
-      always : (b : Bool) → (b || true) ≡ true
-      always true = refl
-      always false = refl
+    ∙ or-true base.concatenates

@@ -24,7 +24,7 @@ use Rattle.data_encoding.proofs.grammar.UnpaddedGroupLemmas.{PlainMeans-sound, P
 use Rattle.data_encoding.proofs.lists.ListLemmas.{AllFail, list_any-none}
 use Rattle.data_encoding.proofs.lists.EndLemmas.{AllSo, count_before_end-is, end-passes}
 
--- a fault that is found is at one of so many members
+-- a fault that is found has an index below a count
 abbrev pub IsInside : ℕ → Option GroupFault → Type 0
 IsInside count None = Unit {0}
 IsInside count (Some fault) = fault.index < count

@@ -23,7 +23,7 @@ use Rattle.data_encoding.proofs.lists.ListLemmas.{AllFail}
 use Rattle.data_encoding.proofs.lists.RunLemmas.{few_runs, runs-join, runs-map}
 use Rattle.data_encoding.proofs.judgement.RuleLemmas.{IsRuled}
 
--- the same bytes, so many positions further on
+-- the same bytes, this many positions further on
 abbrev pub moved : ℕ → List Positioned → List Positioned
 moved count ks = map (λ k. record { position = count + k.position; byte = k.byte }) ks
 
@@ -97,7 +97,7 @@ module _ (base : Base) (width : IsWidth base.width) where
   abbrev size : ℕ
   size = group_symbols base.width
 
-  valid_behind : (m n : ℕ) → m % size ≡ 0 → is_valid_length base (m + n) ≡ is_valid_length base n
+  pub valid_behind : (m n : ℕ) → m % size ≡ 0 → is_valid_length base (m + n) ≡ is_valid_length base n
   valid_behind m n h = by (is_padded base) refl where
     by : (b : Bool) → is_padded base ≡ b → is_valid_length base (m + n) ≡ is_valid_length base n
     by true is =

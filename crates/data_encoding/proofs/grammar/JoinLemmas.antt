@@ -5,6 +5,7 @@ use Rattle.std.proofs.lemmas.Bool.{false≢true}
 use Rattle.std.proofs.lemmas.List.Elements.{All-filter, recursion_from_All}
 use Rattle.std.specs.Prelude.{All}
 use Rattle.std.specs.List.{filter, list_any}
+use Rattle.std.proofs.Math.Bool.{and-false}
 use Rattle.data_encoding.proofs.grammar.PositionLemmas.{length-meanings, meanings-append}
 use Rattle.data_encoding.specs.declared.encoding.Character.{Character}
 use Rattle.data_encoding.specs.Base.{Base, IsWidth, meaning, is_ignored, is_padded, is_padding, group_symbols}
@@ -75,10 +76,6 @@ module _ (base : Base) (ruled : IsRuled base) where
   never_final joins (g ∷ gs) =
       (ap (λ b. not b && list_any is_padding (meanings_in base g)) joins, never_final joins gs)
 
-  no_padding : (b : Bool) → (b && false) ≡ false
-  no_padding true = refl
-  no_padding false = refl
-
   no_final : (gs : List (List Positioned))
       → AllFail is_padding (meanings_in base (flat_map (λ g. g) gs)) → AllFail (is_final base) gs
   no_final [] h = tt
@@ -87,7 +84,7 @@ module _ (base : Base) (ruled : IsRuled base) where
       let parts = all_parts (λ m. is_padding m ≡ false) (meanings_in base g)
       (meanings_in base others) (subst (AllFail is_padding) (meanings-append base g others) h) in (
         ap (λ b. not base.concatenates && b) (list_any-none is_padding (meanings_in base g) parts.0)
-            ∙ no_padding (not base.concatenates),
+            ∙ and-false (not base.concatenates),
         no_final gs parts.1,
       )
 

@@ -1,8 +1,12 @@
 -- The fault of a length, for every base.
-use Rattle.std.proofs.Common.{◌≡◌, ℕ, ◌*◌, ◌/◌, ◌%◌, ◌==◌, Bool, true, false, not, cond, ◌&&◌, Option, Some, None, Ok, Err, refl, ap}
+use Rattle.std.proofs.Common.{◌≡◌, ℕ, ◌*◌, ◌/◌, ◌%◌, ◌==◌, Bool, true, false, not, cond, ◌&&◌, Option, Some, None, Ok, Err, refl, ap, ◌<◌, ◌≤◌, nat_lt, sym, ◌∙◌, arith, ⊎_elim}
+use Rattle.std.proofs.lemmas.Bool.{cases_lt, eqb-true, false≢true}
+use Rattle.std.proofs.lemmas.Bool.Decides.{nat_tests}
+use Rattle.std.proofs.Math.Nat.{mod-eq_of_lt, mod_self}
+use Rattle.data_encoding.proofs.digits.WidthLemmas.{by_width}
 use Rattle.data_encoding.specs.declared.error.DecodeKind.TheVariants.{Length as LengthFault}
 use Rattle.data_encoding.specs.declared.error.DecodeError.{DecodeError}
-use Rattle.data_encoding.specs.Base.{Base, is_padded, ignores_some, group_bytes, group_symbols}
+use Rattle.data_encoding.specs.Base.{Base, is_padded, ignores_some, group_bytes, group_symbols, IsWidth}
 use Rattle.data_encoding.specs.Lengths.{decoded_len, greatest_valid_count, greatest_valid_length, is_valid_count, is_valid_length, length_fault, most_bytes, unless_fault}
 
 none_from : (ignores valid : Bool) (fault : DecodeError) → (ignores ≡ false → valid ≡ true)
@@ -66,3 +70,48 @@ module _ (base : Base) (len : ℕ) where
         → (o ≡ None) × (most_bytes base len ≡ count)
     by None h = (refl, cc)
     by (Some fault) h = cc
+
+-- symbols of whole groups are a valid number
+whole_count : (width : ℕ) → IsWidth width → (len : ℕ) → len % group_symbols width ≡ 0
+    → is_valid_count width len ≡ true
+whole_count =
+    by_width (λ w. (len : ℕ) → len % group_symbols w ≡ 0 → is_valid_count w len ≡ true)
+    (λ n h. grind (arith, nat_tests)) (λ n h. grind (arith, nat_tests))
+    (λ n h. grind (arith, nat_tests)) (λ n h. grind (arith, nat_tests))
+    (λ n h. grind (arith, nat_tests)) (λ n h. grind (arith, nat_tests))
+
+-- the length of whole groups is valid
+pub whole-length : (base : Base) → IsWidth base.width → (len : ℕ)
+    → len % group_symbols base.width ≡ 0 → is_valid_length base len ≡ true
+whole-length base width len exact = by (is_padded base) refl where
+  by : (b : Bool) → is_padded base ≡ b → is_valid_length base len ≡ true
+  by true is = is_valid_length-by base len true is ∙ ap (λ n. n == 0) exact
+  by false is = is_valid_length-by base len false is ∙ whole_count base.width width len exact
+
+-- so a group of no valid length is not whole
+pub whole-less : (base : Base) → IsWidth base.width → (len : ℕ) → len ≤ group_symbols base.width
+    → is_valid_length base len ≡ false → len < group_symbols base.width
+whole-less base width len few invalid =
+    let size = group_symbols base.width in
+    ⊎_elim {C = len < size} (λ less. less)
+    (λ all.
+    let same : len ≡ size = omega (arith, all, few) in
+    absurd (false≢true (sym invalid
+    ∙ whole-length base width len (ap (λ n. n % size) same ∙ mod_self size))))
+    (cases_lt len size)
+
+-- and a padded one of a valid length is
+pub valid-whole : (base : Base) (len : ℕ) → 0 < len → is_valid_length base len ≡ true
+    → cond (is_padded base) (nat_lt len (group_symbols base.width) ≡ false)
+    (is_valid_count base.width len ≡ true)
+valid-whole base len some valid = by (is_padded base) refl where
+  by : (b : Bool) → is_padded base ≡ b → cond b (nat_lt len (group_symbols base.width) ≡ false)
+      (is_valid_count base.width len ≡ true)
+  by true is =
+      let size = group_symbols base.width in
+      let exact : len % size ≡ 0 =
+      eqb-true (len % size) 0 (sym (is_valid_length-by base len true is) ∙ valid) in
+      ⊎_elim {C = nat_lt len size ≡ false}
+      (λ less. absurd (omega (arith, mod-eq_of_lt less, exact, some)))
+      (λ all. grind (arith, nat_tests, all)) (cases_lt len size)
+  by false is = sym (is_valid_length-by base len false is) ∙ valid

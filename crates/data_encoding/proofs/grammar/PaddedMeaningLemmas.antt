@@ -1,6 +1,5 @@
 -- A text of a padded base means something exactly where it has no fault.
 use Rattle.std.proofs.Common.{◌≡◌, ℕ, zero, suc, ◌+◌, ◌*◌, ◌/◌, ◌%◌, ◌≤◌, Bool, true, false, List, [], ◌∷◌, ◌++◌, length, drop, None, refl, sym, ap, ◌∙◌, subst, arith, length-append, length-take, replicate, map}
-use Rattle.std.proofs.lemmas.Bool.Decides.{nat_tests}
 use Rattle.std.proofs.Math.Nat.{mul-mod_left, mul-le-mul_right, mul-le-mul_left, add_comm, zero-mul, suc-mul, le-div_iff_mul-le}
 use Rattle.std.specs.Prelude.{flat_map}
 use Rattle.std.specs.Simd.{first_chunks}
@@ -17,7 +16,7 @@ use Rattle.data_encoding.proofs.lists.RunLemmas.{flat_map-runs}
 use Rattle.data_encoding.proofs.grammar.UnpaddedGroupLemmas.{PlainMeans-count}
 use Rattle.data_encoding.proofs.grammar.GroupLemmas.{GroupMeans-sound, GroupMeans-no_fault, GroupMeans-bytes}
 use Rattle.data_encoding.proofs.grammar.PositionLemmas.{length-kept, length-kept_plain, length-meanings}
-use Rattle.data_encoding.proofs.grammar.LengthLemmas.{length_fault-none, is_valid_length-by, most_bytes-by}
+use Rattle.data_encoding.proofs.grammar.LengthLemmas.{length_fault-none, most_bytes-by, whole-length}
 use Rattle.data_encoding.proofs.grammar.SoundLemmas.{AreSound-none, ends_after, fault_after-none, neither_fault, first-none, sound-all}
 
 -- the groups of a text are no longer than a whole one
@@ -143,7 +142,7 @@ module _ (base : Base) (width : IsWidth base.width) (padded : is_padded base ≡
           ap (λ n. n % group_symbols base.width)
           (sym (length-kept_plain base text none) ∙ length-groups)
           ∙ mul-mod_left (length (groups base text)) (group_symbols base.width) in
-          is_valid_length-by base (length text) true padded ∙ grind (arith, nat_tests))
+          whole-length base width (length text) exact)
 
       sound : AreSound base false (groups base text) (ends_after base false (groups base text))
       sound = sound-GroupsMean false (groups base text) bytes (λ h. cc) means

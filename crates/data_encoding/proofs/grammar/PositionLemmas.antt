@@ -57,13 +57,13 @@ runs-meanings base size ks some =
 
 -- the characters of a group are its bytes, each at its place
 pub bytes-positioned_from : (place : ℕ) (group : List ℕ)
-    → map (λ (k : Positioned). k.byte) (positioned_from place group) ≡ group
+    → bytes_in (positioned_from place group) ≡ group
 bytes-positioned_from place [] = refl
 bytes-positioned_from place (byte ∷ group) =
     ap (λ l. byte ∷ l) (bytes-positioned_from (place + 1) group)
 
-pub length-by_bytes : (ks : List Positioned) (group : List ℕ)
-    → map (λ (k : Positioned). k.byte) ks ≡ group → length ks ≡ length group
+pub length-by_bytes : (ks : List Positioned) (group : List ℕ) → bytes_in ks ≡ group
+    → length ks ≡ length group
 length-by_bytes ks group h = sym (length-map ks (λ (k : Positioned). k.byte)) ∙ ap length h
 
 pub position_of-positioned_from : (place : ℕ) (group : List ℕ) (index : ℕ) → index < length group

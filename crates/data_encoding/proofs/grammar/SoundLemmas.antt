@@ -2,6 +2,7 @@
 use Rattle.std.proofs.Common.{◌≡◌, ℕ, Bool, true, false, not, cond, ◌&&◌, List, [], ◌∷◌, ◌++◌, map, Option, Some, None, is_some, refl, sym, ap, ◌∙◌, subst}
 use Rattle.std.proofs.lemmas.List.{append-nil}
 use Rattle.std.specs.List.{list_any}
+use Rattle.std.proofs.Math.Bool.{and-false}
 use Rattle.data_encoding.specs.declared.error.DecodeError.{DecodeError}
 use Rattle.data_encoding.specs.declared.decode.group.GroupFault.{GroupFault}
 use Rattle.data_encoding.specs.declared.encoding.Character.{Character}
@@ -35,10 +36,7 @@ pub symbols-not_final : (base : Base) (group : List Character) (values : List �
 symbols-not_final base group values h =
     ap (λ b. not base.concatenates && b)
     (list_any-none is_padding group (subst (AllFail is_padding) (sym h) (symbols_alone values)))
-    ∙ none (not base.concatenates) where
-      none : (b : Bool) → (b && false) ≡ false
-      none true = refl
-      none false = refl
+    ∙ and-false (not base.concatenates)
 
 pub neither_fault : (o p : Option DecodeError) → or_else o p ≡ None → (o ≡ None) × (p ≡ None)
 neither_fault None p h = (refl, h)

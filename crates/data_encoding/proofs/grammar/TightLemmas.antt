@@ -32,7 +32,7 @@ no_lines-plain base ruled none = by base.wrapping ruled.wrapping where
   by None h = refl
   by (Some lines) h = absurd (ignored_by lines.separator h.ignored h.ended)
 
--- so many symbols have the bits of so many bytes, and fewer than a symbol's
+-- symbols have the bits of their bytes, and fewer than a symbol's
 symbols_of : (width : ℕ) → IsWidth width → (symbols bytes rest : ℕ)
     → width * symbols ≡ 8 * bytes + rest → rest < width → run_count width (8 * bytes) ≡ symbols
 symbols_of =

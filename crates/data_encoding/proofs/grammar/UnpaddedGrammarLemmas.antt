@@ -32,7 +32,7 @@ module _ (base : Base) (width : IsWidth base.width) where
     are_bytes = All-from_recursion (λ byte. byte < 256) [] tt;
   }
 
-  -- symbols of so many whole bytes and others mean their bytes joined
+  -- symbols of whole bytes, and others behind them, mean their bytes joined
   pub PlainMeans-append : (group others : List Character) (bytes more : List ℕ) (whole : ℕ)
       → base.width * length group ≡ 8 * whole → PlainMeans base group bytes
       → PlainMeans base others more → PlainMeans base (group ++ others) (bytes ++ more)
@@ -75,40 +75,40 @@ module _ (base : Base) (width : IsWidth base.width) where
       → length group ≡ group_symbols base.width → PlainMeans base (group ++ others) bytes
       → AreJoined group others bytes
   PlainMeans-split group others bytes whole means =
-      let dec = group_symbols base.width in
-      let enc = group_bytes base.width in
+      let size = group_symbols base.width in
+      let byte_count = group_bytes base.width in
       let count = PlainMeans-count base width (group ++ others) bytes means in
-      let full : base.width * dec ≡ 8 * enc = group_bits base.width width in
-      let many : length (group ++ others) ≡ dec + length others =
+      let full : base.width * size ≡ 8 * byte_count = group_bits base.width width in
+      let many : length (group ++ others) ≡ size + length others =
       length-append group others ∙ ap (λ n. n + length others) whole in
-      let total : base.width * dec + base.width * length others
+      let total : base.width * size + base.width * length others
       ≡ 8 * length bytes + length means.rest =
       omega (arith, count, ap (λ n. base.width * n) many) in
-      let enough : enc ≤ length bytes =
+      let enough : byte_count ≤ length bytes =
       omega (arith, total, full, means.rest_is_short, width.few) in
       let values_len : length means.values ≡ length (group ++ others) =
       sym (length-map means.values (λ value. Symbol value)) ∙ ap length (sym means.are_symbols) in
-      let v = take dec means.values in
-      let vs = drop dec means.values in
-      let v_len : length v ≡ dec = length-take-le dec means.values
+      let v = take size means.values in
+      let vs = drop size means.values in
+      let v_len : length v ≡ size = length-take-le size means.values
       (omega (arith, values_len, many)) in
       let symbols = parts_same group others (map (λ value. Symbol value) v)
       (map (λ value. Symbol value) vs)
       (means.are_symbols
-      ∙ ap (map (λ value. Symbol value)) (sym (take-append-drop dec means.values))
+      ∙ ap (map (λ value. Symbol value)) (sym (take-append-drop size means.values))
       ∙ map-append (λ value. Symbol value) v vs)
       (whole ∙ sym v_len ∙ sym (length-map v (λ value. Symbol value))) in
-      let front = take enc bytes in
-      let back = drop enc bytes in
+      let front = take byte_count bytes in
+      let back = drop byte_count bytes in
       let same = parts_same (bits v) (bits vs) (bits_of_bytes base.order front)
       (bits_of_bytes base.order back ++ means.rest)
       (sym (flat_map-append (bits_of base.order base.width) v vs)
-      ∙ ap bits (take-append-drop dec means.values) ∙ means.same_bits
-      ∙ ap (λ l. bits_of_bytes base.order l ++ means.rest) (sym (take-append-drop enc bytes))
+      ∙ ap bits (take-append-drop size means.values) ∙ means.same_bits
+      ∙ ap (λ l. bits_of_bytes base.order l ++ means.rest) (sym (take-append-drop byte_count bytes))
       ∙ ap (λ l. l ++ means.rest) (flat_map-append (bits_of base.order 8) front back)
       ∙ append_assoc (bits_of_bytes base.order front) (bits_of_bytes base.order back) means.rest)
       (length-bits_of_values base.order base.width v ∙ ap (λ n. base.width * n) v_len ∙ full
-      ∙ ap (λ n. 8 * n) (sym (length-take-le enc bytes enough))
+      ∙ ap (λ n. 8 * n) (sym (length-take-le byte_count bytes enough))
       ∙ sym (length-bits_of_bytes base.order front)) in
       record {
         first = record {
@@ -118,7 +118,7 @@ module _ (base : Base) (width : IsWidth base.width) where
           same_bits = same.0 ∙ sym (append-nil _);
           rest_is_short = width.some;
           rest_is_zero = λ e. refl;
-          are_bytes = All-take (λ byte. byte < 256) enc bytes means.are_bytes;
+          are_bytes = All-take (λ byte. byte < 256) byte_count bytes means.are_bytes;
         };
         second = record {
           values = vs;
@@ -127,7 +127,7 @@ module _ (base : Base) (width : IsWidth base.width) where
           same_bits = same.1;
           rest_is_short = means.rest_is_short;
           rest_is_zero = means.rest_is_zero;
-          are_bytes = All-drop (λ byte. byte < 256) enc bytes means.are_bytes;
+          are_bytes = All-drop (λ byte. byte < 256) byte_count bytes means.are_bytes;
         };
       }
 
@@ -140,38 +140,38 @@ module _ (base : Base) (width : IsWidth base.width) where
   abbrev bytes_of : List (List Character) → List ℕ
   bytes_of groups = flat_map (symbol_bytes base) groups
 
-  dec-pos : 0 < group_symbols base.width
-  dec-pos = group_symbols-pos base.width width
+  size-pos : 0 < group_symbols base.width
+  size-pos = group_symbols-pos base.width width
 
   joined_groups : (n : ℕ) (ks : List Character) → length ks ≤ n → ArePlain (groups_of ks)
       → PlainMeans base ks (bytes_of (groups_of ks))
   joined_groups n [] e sound =
       subst (λ groups. PlainMeans base [] (bytes_of groups))
-      (sym (runs-nil {X = Character} (group_symbols base.width) dec-pos)) PlainMeans-nil
+      (sym (runs-nil {X = Character} (group_symbols base.width) size-pos)) PlainMeans-nil
   joined_groups zero (k ∷ ks) e sound = absurd (omega (arith, e))
   joined_groups (suc n) (k ∷ ks) e sound =
-      let dec = group_symbols base.width in
+      let size = group_symbols base.width in
       let all = k ∷ ks in
       let some : 0 < length all = omega arith in
-      let pos = dec-pos in
+      let pos = size-pos in
       ⊎_elim
-      (λ (short : length all < dec).
-      let one = runs-short dec all some (omega arith) in
+      (λ (short : length all < size).
+      let one = runs-short size all some (omega arith) in
       let fine = subst ArePlain one sound in
       subst (λ groups. PlainMeans base all (bytes_of groups)) (sym one)
       (subst (PlainMeans base all) (sym (append-nil (symbol_bytes base all)))
       (PlainMeans-sound base width all fine.0)))
-      (λ (long : dec ≤ length all).
-      let first = runs-first dec all pos some in
+      (λ (long : size ≤ length all).
+      let first = runs-first size all pos some in
       let fine = subst ArePlain first sound in
-      let rest_len : length (drop dec all) ≤ n = omega (arith, length-drop dec all, e) in
+      let rest_len : length (drop size all) ≤ n = omega (arith, length-drop size all, e) in
       subst (λ groups. PlainMeans base all (bytes_of groups)) (sym first)
-      (subst (λ l. PlainMeans base l (symbol_bytes base (take dec all)
-      ++ bytes_of (groups_of (drop dec all)))) (take-append-drop dec all)
-      (PlainMeans-join (take dec all) (drop dec all) _ _ (length-take-le dec all long)
-      (PlainMeans-sound base width (take dec all) fine.0)
-      (joined_groups n (drop dec all) rest_len fine.1))))
-      (cases_lt (length all) dec)
+      (subst (λ l. PlainMeans base l (symbol_bytes base (take size all)
+      ++ bytes_of (groups_of (drop size all)))) (take-append-drop size all)
+      (PlainMeans-join (take size all) (drop size all) _ _ (length-take-le size all long)
+      (PlainMeans-sound base width (take size all) fine.0)
+      (joined_groups n (drop size all) rest_len fine.1))))
+      (cases_lt (length all) size)
 
   -- groups with no fault mean their bytes joined
   pub PlainMeans-from_groups : (ks : List Character) → ArePlain (groups_of ks)
@@ -181,26 +181,26 @@ module _ (base : Base) (width : IsWidth base.width) where
   split_groups : (n : ℕ) (ks : List Character) (bytes : List ℕ) → length ks ≤ n
       → PlainMeans base ks bytes → ArePlain (groups_of ks)
   split_groups n [] bytes e means =
-      subst ArePlain (sym (runs-nil {X = Character} (group_symbols base.width) dec-pos)) tt
+      subst ArePlain (sym (runs-nil {X = Character} (group_symbols base.width) size-pos)) tt
   split_groups zero (k ∷ ks) bytes e means = absurd (omega (arith, e))
   split_groups (suc n) (k ∷ ks) bytes e means =
-      let dec = group_symbols base.width in
+      let size = group_symbols base.width in
       let all = k ∷ ks in
       let some : 0 < length all = omega arith in
-      let pos = dec-pos in
+      let pos = size-pos in
       ⊎_elim
-      (λ (short : length all < dec).
-      subst ArePlain (sym (runs-short dec all some (omega arith)))
+      (λ (short : length all < size).
+      subst ArePlain (sym (runs-short size all some (omega arith)))
       (PlainMeans-no_fault base width all bytes means, tt))
-      (λ (long : dec ≤ length all).
-      let rest_len : length (drop dec all) ≤ n = omega (arith, length-drop dec all, e) in
-      let parts = PlainMeans-split (take dec all) (drop dec all) bytes (length-take-le dec all long)
-      (subst (λ l. PlainMeans base l bytes) (sym (take-append-drop dec all)) means) in
-      subst ArePlain (sym (runs-first dec all pos some)) (
-        PlainMeans-no_fault base width (take dec all) _ parts.first,
-        split_groups n (drop dec all) _ rest_len parts.second,
+      (λ (long : size ≤ length all).
+      let rest_len : length (drop size all) ≤ n = omega (arith, length-drop size all, e) in
+      let parts = PlainMeans-split (take size all) (drop size all) bytes (length-take-le size all long)
+      (subst (λ l. PlainMeans base l bytes) (sym (take-append-drop size all)) means) in
+      subst ArePlain (sym (runs-first size all pos some)) (
+        PlainMeans-no_fault base width (take size all) _ parts.first,
+        split_groups n (drop size all) _ rest_len parts.second,
       ))
-      (cases_lt (length all) dec)
+      (cases_lt (length all) size)
 
   -- the groups of what means something have no fault
   pub groups-PlainMeans : (ks : List Character) (bytes : List ℕ) → PlainMeans base ks bytes

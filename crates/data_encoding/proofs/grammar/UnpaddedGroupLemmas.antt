@@ -184,7 +184,7 @@ module _ (base : Base) (width : IsWidth base.width) (group : List Character) whe
         bits_are (length-bits_of_bytes base.order bytes)
         (omega (arith, means.rest_is_short, width.few))
 
-    -- so many bits stand in both
+    -- symbols have the bits of their bytes, and those that are left
     pub PlainMeans-count : base.width * length group ≡ 8 * length bytes + length means.rest
     PlainMeans-count =
         let many : length means.values ≡ length group =

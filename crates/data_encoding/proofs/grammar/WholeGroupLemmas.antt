@@ -1,9 +1,10 @@
 -- Whole groups of symbols alone.
-use Rattle.std.proofs.Common.{◌≡◌, ℕ, zero, suc, ◌+◌, ◌-◌, ◌*◌, ◌/◌, ◌<◌, ◌==◌, Bool, true, false, not, cond, ◌&&◌, List, [], ◌∷◌, ◌++◌, length, map, take, drop, Some, None, refl, sym, ap, ◌∙◌, subst, arith, take-append-drop, length-take-le}
+use Rattle.std.proofs.Common.{◌≡◌, ℕ, zero, suc, ◌+◌, ◌-◌, ◌*◌, ◌/◌, ◌<◌, ◌==◌, Bool, true, false, not, cond, ◌&&◌, List, [], ◌∷◌, ◌++◌, length, map, take, drop, None, refl, sym, ap, ◌∙◌, subst, arith, take-append-drop, length-take-le}
 use Rattle.std.proofs.Math.Nat.{zero-mul, suc-mul}
 use Rattle.std.proofs.lemmas.List.{length-map, length-drop, drop_all, append-nil, nil_from_length}
 use Rattle.std.specs.Prelude.{flat_map}
 use Rattle.std.specs.List.{filter_map, list_any, position}
+use Rattle.std.proofs.Math.Bool.{and-false}
 use Rattle.data_encoding.specs.declared.encoding.Character.{Character}
 use Rattle.data_encoding.specs.declared.encoding.Character.TheVariants.{Symbol, Padding, Ignored, Invalid}
 use Rattle.data_encoding.specs.declared.error.DecodeKind.TheVariants.{Trailing as TrailingFault}
@@ -27,10 +28,6 @@ none_other : (base : Base) (ks : List Positioned) → AllSo (λ k. is_symbol (me
     → AllFail (λ m. not (is_symbol m)) (meanings_in base ks)
 none_other base [] h = tt
 none_other base (k ∷ ks) h = (ap not h.0, none_other base ks h.1)
-
-no_fault : {A : Type 0} (b : Bool) (fault : A) → cond (b && false) (Some fault) None ≡ None
-no_fault true fault = refl
-no_fault false fault = refl
 
 module _ (base : Base) (width : IsWidth base.width) (group : List Positioned)
     (len : length group ≡ group_symbols base.width)
@@ -62,7 +59,8 @@ module _ (base : Base) (width : IsWidth base.width) (group : List Positioned)
       (omega (arith, bits)) in
       ap (λ l. cond (base.checks_trailing_bits && list_any (λ bit. not (bit == 0)) l)
       (faulty_at TrailingFault (length meant - 1)) None) rest
-      ∙ no_fault base.checks_trailing_bits _
+      ∙ ap (λ b. cond b (faulty_at TrailingFault (length meant - 1)) None)
+      (and-false base.checks_trailing_bits)
 
   plain : plain_fault base meant ≡ None
   plain =
@@ -131,20 +129,20 @@ AreSound-symbols base width zero ks len symbols =
     ∙ runs-nil {X = Positioned} (group_symbols base.width) (group_symbols-pos base.width width)))
     refl
 AreSound-symbols base width (suc count) ks len symbols =
-    let dec = group_symbols base.width in
-    let front = take dec ks in
-    let back = drop dec ks in
-    let more : length ks ≡ count * dec + dec = len ∙ suc-mul count dec in
-    let front_len : length front ≡ dec = length-take-le dec ks (omega (arith, more)) in
-    let back_len : length back ≡ count * dec = length-drop dec ks ∙ omega (arith, more) in
+    let size = group_symbols base.width in
+    let front = take size ks in
+    let back = drop size ks in
+    let more : length ks ≡ count * size + size = len ∙ suc-mul count size in
+    let front_len : length front ≡ size = length-take-le size ks (omega (arith, more)) in
+    let back_len : length back ≡ count * size = length-drop size ks ∙ omega (arith, more) in
     let parts = all_parts (λ (k : Positioned). is_symbol (meaning base k.byte) ≡ true) front back
-    (subst (AllSo (λ k. is_symbol (meaning base k.byte))) (sym (take-append-drop dec ks))
+    (subst (AllSo (λ k. is_symbol (meaning base k.byte))) (sym (take-append-drop size ks))
     symbols) in
     subst (λ gs. AreSound base false gs false)
-    (sym (runs-append dec front back (group_symbols-pos base.width width) front_len)
-    ∙ ap (runs dec) (take-append-drop dec ks)) (
+    (sym (runs-append size front back (group_symbols-pos base.width width) front_len)
+    ∙ ap (runs size) (take-append-drop size ks)) (
       ap (located front) (group_fault-symbols base width front front_len parts.0),
-      subst (λ b. AreSound base b (runs dec back) false)
+      subst (λ b. AreSound base b (runs size back) false)
           (sym (is_final-symbols base width front front_len parts.0))
           (AreSound-symbols base width count back back_len parts.1),
     )
