@@ -6,7 +6,7 @@ use Rattle.data_encoding.specs.Decoding.{IsRun}
 use Rattle.data_encoding.proofs.grammar.PositionLemmas.{bytes-positioned_from}
 use Rattle.data_encoding.proofs.decoding.SymbolRunLemmas.{run-none, group-next}
 use Rattle.data_encoding.proofs.lists.PartLemmas.{length-part, part-of-four}
-use Rattle.data_encoding.proofs.kernel.decode.decode_four_groups.Goals as goal
+use Rattle.data_encoding.proofs.kernel.turn.decode_four_groups.Goals as goal
 
 pub loop-index-init : goal.loop-index-init
 loop-index-init g c = record {
