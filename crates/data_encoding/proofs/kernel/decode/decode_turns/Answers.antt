@@ -9,7 +9,8 @@ pub nonzero_div-count : goal.nonzero_div-count
 nonzero_div-count g c =
     let group = IsGroup-same refl c.BYTES-bytes.ensures c.SYMBOLS-symbols.ensures
     g.G.GroupSize.is_group in
-    (IsWhole-group g.G.GroupSize.WIDTH c.BYTES-bytes.result c.SYMBOLS-symbols.result group).some_symbols
+    (IsWhole-group g.G.GroupSize.WIDTH c.BYTES-bytes.result c.SYMBOLS-symbols.result
+    group).some_symbols
 
 none : (groups : ℕ) → 0 ≡ 0 * groups
 none groups = omega arith
@@ -88,7 +89,8 @@ loop-index-preserved g c =
     record {
       run = λ values held base reads.
           run-next base reads.holds.is_width g.G.GroupSize.WIDTH bytes symbols group
-          reads.width_is input c.args.output.now output before c.decode.new.output first groups _ _ _
+          reads.width_is input c.args.output.now output before c.decode.new.output first groups _ _
+          _
           (one-more c.loop-index.index groups) refl within (omega (arith, room)) shown_len
           (c.loop-index.invariant.run values held base reads)
           (subst (λ n. IsRun base part n before c.decode.new.output) (sym c.GROUPS-groups.ensures)
