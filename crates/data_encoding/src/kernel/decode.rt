@@ -5,10 +5,10 @@ ghost use Rattle.data_encoding.specs.Decoding.{IsLongestBy, IsRunBy};
 
 use crate::encoding::BitOrder;
 use crate::kernel::group_size::GroupSize;
-use crate::kernel::lanes::decode::decode_eight;
 use crate::kernel::lanes::look_up::LookUp;
 use crate::kernel::lanes::rows::{Rows, rows_of};
-use crate::kernel::words::{decode_entries, decode_symbols, entry_of};
+use crate::kernel::turn::{Lanes, Turn};
+use crate::kernel::words::{decode_symbols, entry_of};
 
 /// Decodes whole groups in a row, from the front of the input to the front of the output, up to the
 /// first that has a byte that is no symbol, and returns how many they are. What the output holds
@@ -70,7 +70,9 @@ fn decode_by_several<L: LookUp, G: GroupSize>(
         return 0;
     }
     match look_up {
-        Some(look_up) => { decode_eights::<L, G>(look_up, order, input, output) }
+        Some(look_up) => {
+            decode_turns::<Lanes<L>, G>(&Lanes { look_up: *look_up }, order, input, output)
+        }
         None => decode_by_lanes::<G>(values, order, input, output),
     }
 }
@@ -88,53 +90,49 @@ fn decode_by_lanes<G: GroupSize>(
     ensures run { IsRunBy values.now G.WIDTH order input.now result output.old output.new }
     ensures within { result ≤ length input.now / G.SYMBOLS }
 {
+    let lanes = Lanes {
+        look_up: rows_of(values),
+    };
     match order {
-        BitOrder::MostSignificantFirst => decode_eights::<Rows, G>(
-            &rows_of(values),
-            BitOrder::MostSignificantFirst,
-            input,
-            output,
-        ),
-        BitOrder::LeastSignificantFirst => decode_eights::<Rows, G>(
-            &rows_of(values),
-            BitOrder::LeastSignificantFirst,
-            input,
-            output,
-        ),
+        BitOrder::MostSignificantFirst => {
+            decode_turns::<Lanes<Rows>, G>(&lanes, BitOrder::MostSignificantFirst, input, output)
+        }
+        BitOrder::LeastSignificantFirst => {
+            decode_turns::<Lanes<Rows>, G>(&lanes, BitOrder::LeastSignificantFirst, input, output)
+        }
     }
 }
 
-// Eight groups at a time; the eight with a byte that is no symbol are left. The look-up is copied,
-// so that it stays in registers.
+// Turn after turn; the groups of a turn with a byte that is no symbol are left.
 #[inline(always)]
-fn decode_eights<L: LookUp, G: GroupSize>(
-    look_up: &L,
+fn decode_turns<T: Turn, G: GroupSize>(
+    turn: &T,
     order: BitOrder,
     input: &[u8],
     output: &mut [u8],
 ) -> usize
     requires room { length input.now / G.SYMBOLS * G.BYTES ≤ length output.old }
-    ensures run { (values : List ℕ) → L.holds values look_up.now
+    ensures run { (values : List ℕ) → T.holds values turn.now
         → IsRunBy values G.WIDTH order input.now result output.old output.new }
     ensures within { result ≤ length input.now / G.SYMBOLS }
 {
-    let held = *look_up;
+    let groups = T::GROUPS;
     let symbols = G::SYMBOLS;
     let bytes = G::BYTES;
-    let count = input.len() / symbols / 8;
+    let count = input.len() / symbols / groups;
     for index in 0..count {
-        let read = 8 * index * symbols;
-        let written = 8 * index * bytes;
-        if !decode_eight::<L, G>(
-            &held,
+        let first = index * groups;
+        let read = first * symbols;
+        let written = first * bytes;
+        if !turn.decode::<G>(
             order,
-            &input[read..read + 8 * symbols],
-            &mut output[written..written + 8 * bytes],
+            &input[read..read + groups * symbols],
+            &mut output[written..written + groups * bytes],
         ) {
-            return 8 * index;
+            return first;
         }
     }
-    8 * count
+    count * groups
 }
 
 // Four groups at a time, tested together; the four with a byte that is no symbol are left.
@@ -149,53 +147,10 @@ fn decode_by_fours<G: GroupSize>(
     ensures run { IsRunBy values.now G.WIDTH order input.now result output.old output.new }
     ensures within { result ≤ length input.now / G.SYMBOLS }
 {
-    let symbols = G::SYMBOLS;
-    let bytes = G::BYTES;
-    let count = input.len() / symbols / 4;
+    let four = 4 * G::SYMBOLS;
     // Padded groups may follow one another: then the four are not decoded in vain.
-    if 8 % G::WIDTH != 0 && count != 0 && entry_of(values, input[4 * symbols - 1]) >= 128 {
+    if 8 % G::WIDTH != 0 && input.len() >= four && entry_of(values, input[four - 1]) >= 128 {
         return 0;
     }
-    for index in 0..count {
-        let read = 4 * index * symbols;
-        let written = 4 * index * bytes;
-        if !decode_four_groups::<G>(
-            values,
-            order,
-            &input[read..read + 4 * symbols],
-            &mut output[written..written + 4 * bytes],
-        ) {
-            return 4 * index;
-        }
-    }
-    4 * count
-}
-
-// Four whole groups; `false`, and any bytes, where some byte of the input is no symbol.
-#[inline(always)]
-fn decode_four_groups<G: GroupSize>(
-    values: &[u8; 256],
-    order: BitOrder,
-    input: &[u8],
-    output: &mut [u8],
-) -> bool
-    requires symbols { length input.now ≡ 4 * G.SYMBOLS }
-    requires exact { length output.old ≡ 4 * G.BYTES }
-    ensures { IsTrue result
-        → IsRunBy values.now G.WIDTH order input.now 4 output.old output.new }
-{
-    let symbols = G::SYMBOLS;
-    let bytes = G::BYTES;
-    let mut all = 0;
-    for index in 0..4 {
-        let read = index * symbols;
-        let written = index * bytes;
-        all |= decode_entries::<G>(
-            values,
-            order,
-            &input[read..read + symbols],
-            &mut output[written..written + bytes],
-        );
-    }
-    all < 128
+    decode_turns::<[u8; 256], G>(values, order, input, output)
 }

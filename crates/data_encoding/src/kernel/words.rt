@@ -49,7 +49,8 @@ fn word_of_bytes<G: GroupSize>(order: BitOrder, input: &[u8]) -> u64
 // byte is its index, and no mask of the width is needed.
 fn symbols_of_word<G: GroupSize>(symbols: &[u8; 256], order: BitOrder, word: u64, output: &mut [u8])
     requires few { length output.old ≤ G.SYMBOLS }
-    ensures { output.new ≡ map (λ k. slice_index symbols.now (low_byte order G.WIDTH G.SYMBOLS word k))
+    ensures { output.new
+        ≡ map (λ k. slice_index symbols.now (low_byte order G.WIDTH G.SYMBOLS word k))
         (range_with_len 0 (length output.old)) }
 {
     let width = G::WIDTH;

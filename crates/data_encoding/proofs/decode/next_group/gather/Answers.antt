@@ -71,4 +71,5 @@ pub returns-then-count-most-clause-first : goal.returns-then-count-most-clause-f
 returns-then-count-most-clause-first g c base holds =
     gathered base g.G.GroupSize.SYMBOLS c.args.rest.now c.loop-index.index c.loop-index.count
     c.loop-index.span c.loop-index.room (c.loop-index.invariant.1 base holds)
-    c.loop-index.auto.index-end c.loop-index.invariant.0 (inl (c.if-count-most.true ∙ c.SYMBOLS-most.ensures))
+    c.loop-index.auto.index-end c.loop-index.invariant.0
+    (inl (c.if-count-most.true ∙ c.SYMBOLS-most.ensures))

@@ -22,14 +22,16 @@ returns-then-trailing-width-clause-fault g c =
 pub returns-then-is_none-clause-symbols : goal.returns-then-is_none-clause-symbols
 returns-then-is_none-clause-symbols g c =
     let group = c.args.group.now in
-    let valid : is_valid_count c.WIDTH-width.result (length group) ≡ true = grind (arith, nat_tests) in
+    let valid : is_valid_count c.WIDTH-width.result (length group) ≡ true = grind (arith, nat_tests)
+    in
     symbols-all c.args.self.now group (ap is_padded (sym c.self.view_is) ∙ c.if-is_none.ensures)
     (ap (λ w. is_valid_count w (length group)) (c.requires.width ∙ sym c.WIDTH-width.ensures)
     ∙ valid)
 
 pub returns-then-group-SYMBOLS-clause-fault : goal.returns-then-group-SYMBOLS-clause-fault
 returns-then-group-SYMBOLS-clause-fault g c =
-    let symbols = c.SYMBOLS.ensures ∙ g.G.GroupSize.is_group.has_symbols ∙ ap group_symbols (sym c.requires.width) in
+    let symbols = c.SYMBOLS.ensures ∙ g.G.GroupSize.is_group.has_symbols ∙ ap group_symbols
+    (sym c.requires.width) in
     subst (HasFault c.args.self.now c.args.group.now) (sym c.faulty-then-group-SYMBOLS.ensures)
     (group-short c.args.self.now c.args.group.now
     (ap is_padded (sym c.self.view_is) ∙ c.if-is_none.ensures) c.requires.some
@@ -41,11 +43,13 @@ returns-then-count-eq0-clause-fault g c =
     let group = c.args.group.now in
     let count = c.before_padding-count.result in
     let size : length group ≡ g.G.GroupSize.SYMBOLS = omega (arith, c.SYMBOLS.ensures) in
-    let whole = size ∙ g.G.GroupSize.is_group.has_symbols ∙ ap group_symbols (sym c.requires.width) in
+    let whole = size ∙ g.G.GroupSize.is_group.has_symbols ∙ ap group_symbols (sym c.requires.width)
+    in
     let bad : (count == 0 || not (is_valid_count c.WIDTH-width.result count)) ≡ true =
     elim c.then-count-eq0.branch [
       | then-count-eq0-via-then-count-eq0 w ↦ grind (arith, nat_tests, w.if-count-eq0.true)
-      | then-count-eq0-via-else-count-eq0+then-width-count w ↦ grind (arith, nat_tests, w.if-width-count.true)
+      | then-count-eq0-via-else-count-eq0+then-width-count w ↦ grind
+          (arith, nat_tests, w.if-width-count.true)
     ] in
     subst (HasFault seen group) (sym c.faulty-then-count-eq0.ensures)
     (padding-invalid seen group (ap is_padded (sym c.self.view_is) ∙ c.if-is_none.ensures) whole
@@ -63,7 +67,8 @@ returns-clause-symbols g c =
     let group = c.args.group.now in
     let count = c.before_padding-count.result in
     let size : length group ≡ g.G.GroupSize.SYMBOLS = omega (arith, c.SYMBOLS.ensures) in
-    let whole = size ∙ g.G.GroupSize.is_group.has_symbols ∙ ap group_symbols (sym c.requires.width) in
+    let whole = size ∙ g.G.GroupSize.is_group.has_symbols ∙ ap group_symbols (sym c.requires.width)
+    in
     let begun : (count == 0) ≡ false = grind (arith, nat_tests) in
     let valid : is_valid_count c.WIDTH-width.result count ≡ true = grind (arith, nat_tests) in
     symbols-before seen group (ap is_padded (sym c.self.view_is) ∙ c.if-is_none.ensures) whole count

@@ -22,7 +22,8 @@ returns g c =
     let same : take g.G.GroupSize.SYMBOLS rest ≡ c.if-rest-count.bytes.now =
     elim c.if-rest-count.branch [
       | then-rest-count w ↦
-          take_all g.G.GroupSize.SYMBOLS rest (omega (arith, c.SYMBOLS-count.ensures, w.if-rest-count.true))
+          take_all g.G.GroupSize.SYMBOLS rest (omega
+          (arith, c.SYMBOLS-count.ensures, w.if-rest-count.true))
           ∙ sym (ap (λ bytes. bytes.now) w.bytes-is)
       | else-rest-count w ↦ ap (λ n. take n rest) (sym c.SYMBOLS-count.ensures)
           ∙ sym (ap (λ bytes. bytes.now) w.bytes-is)

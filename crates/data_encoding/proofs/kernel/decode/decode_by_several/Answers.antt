@@ -6,7 +6,9 @@ use Rattle.data_encoding.proofs.kernel.decode.decode_by_several.Goals as goal
 pub overflow_mul-eight : goal.overflow_mul-eight
 overflow_mul-eight g c =
     let few = group_symbols-few g.G.GroupSize.WIDTH g.G.GroupSize.is_group.is_width in
-    record { fits = omega (arith, few, g.G.GroupSize.is_group.has_symbols, c.SYMBOLS-eight.ensures) }
+    record {
+      fits = omega (arith, few, g.G.GroupSize.is_group.has_symbols, c.SYMBOLS-eight.ensures);
+    }
 
 pub returns-then-entry_of-ge128-clause-run : goal.returns-then-entry_of-ge128-clause-run
 returns-then-entry_of-ge128-clause-run g c = λ base reads.

@@ -15,11 +15,16 @@ ends_within n size i h =
 
 pub nonzero_div-count : goal.nonzero_div-count
 nonzero_div-count g c =
-    (IsWhole-group g.G.GroupSize.WIDTH c.BYTES-bytes.result c.SYMBOLS-symbols.result (IsGroup-same refl c.BYTES-bytes.ensures c.SYMBOLS-symbols.ensures g.G.GroupSize.is_group)).some_symbols
+    let bytes = c.BYTES-bytes.result in
+    let symbols = c.SYMBOLS-symbols.result in
+    let group = IsGroup-same refl c.BYTES-bytes.ensures c.SYMBOLS-symbols.ensures
+    g.G.GroupSize.is_group in
+    (IsWhole-group g.G.GroupSize.WIDTH bytes symbols group).some_symbols
 
 pub slice_bounds-decode_symbols-end : goal.slice_bounds-decode_symbols-end
 slice_bounds-decode_symbols-end g c =
-    group-before (length c.args.input.now) c.SYMBOLS-symbols.result c.loop-index.index c.loop-index-test.true
+    group-before (length c.args.input.now) c.SYMBOLS-symbols.result c.loop-index.index
+    c.loop-index-test.true
 
 pub overflow_mul-read : goal.overflow_mul-read
 overflow_mul-read g c = omega (arith, slice_bounds-decode_symbols-end g c)
@@ -31,7 +36,8 @@ pub overflow_mul-written : goal.overflow_mul-written
 overflow_mul-written g c =
     omega (
       arith,
-      ends_within (length c.args.input.now / c.SYMBOLS-symbols.result) c.BYTES-bytes.result c.loop-index.index
+      ends_within (length c.args.input.now / c.SYMBOLS-symbols.result) c.BYTES-bytes.result
+          c.loop-index.index
           c.loop-index-test.true,
       (room-same _ _ c.BYTES-bytes.ensures c.SYMBOLS-symbols.ensures c.requires.room),
     )
@@ -41,7 +47,8 @@ pub slice_bounds-decode_symbols-end-in-loop-index :
 slice_bounds-decode_symbols-end-in-loop-index g c =
     omega (
       arith,
-      ends_within (length c.args.input.now / c.SYMBOLS-symbols.result) c.BYTES-bytes.result c.loop-index.index
+      ends_within (length c.args.input.now / c.SYMBOLS-symbols.result) c.BYTES-bytes.result
+          c.loop-index.index
           c.loop-index-test.true,
       (room-same _ _ c.BYTES-bytes.ensures c.SYMBOLS-symbols.ensures c.requires.room),
       c.loop-index.auto.output,
@@ -55,15 +62,19 @@ decode_by_several-first-requires-clause-room g c = c.requires.room
 
 pub returns-then-not-decode_symbols-clause-run : goal.returns-then-not-decode_symbols-clause-run
 returns-then-not-decode_symbols-clause-run g c = λ base reads.
+    let bytes = c.BYTES-bytes.result in
+    let symbols = c.SYMBOLS-symbols.result in
+    let group = IsGroup-same refl c.BYTES-bytes.ensures c.SYMBOLS-symbols.ensures
+    g.G.GroupSize.is_group in
     let i = c.loop-index.index in
-    let room : i * c.BYTES-bytes.result + c.BYTES-bytes.result ≤ length c.loop-index.output =
+    let room : i * bytes + bytes ≤ length c.loop-index.output =
     omega (
       arith,
-      ends_within (length c.args.input.now / c.SYMBOLS-symbols.result) c.BYTES-bytes.result i c.loop-index-test.true,
+      ends_within (length c.args.input.now / symbols) bytes i c.loop-index-test.true,
       (room-same _ _ c.BYTES-bytes.ensures c.SYMBOLS-symbols.ensures c.requires.room),
       c.loop-index.auto.output,
     ) in
-    run-kept base reads.holds.is_width g.G.GroupSize.WIDTH c.BYTES-bytes.result c.SYMBOLS-symbols.result (IsGroup-same refl c.BYTES-bytes.ensures c.SYMBOLS-symbols.ensures g.G.GroupSize.is_group)
+    run-kept base reads.holds.is_width g.G.GroupSize.WIDTH bytes symbols group
     reads.width_is
     c.args.input.now _ c.loop-index.output c.decode_symbols.new.output i _ (omega (arith, room))
     (c.loop-index.invariant.run base reads)
@@ -71,7 +82,11 @@ returns-then-not-decode_symbols-clause-run g c = λ base reads.
 pub returns-then-not-decode_symbols-clause-longest :
     goal.returns-then-not-decode_symbols-clause-longest
 returns-then-not-decode_symbols-clause-longest g c = λ base reads.
-    run-longest base reads.holds.is_width g.G.GroupSize.WIDTH c.BYTES-bytes.result c.SYMBOLS-symbols.result (IsGroup-same refl c.BYTES-bytes.ensures c.SYMBOLS-symbols.ensures g.G.GroupSize.is_group)
+    let bytes = c.BYTES-bytes.result in
+    let symbols = c.SYMBOLS-symbols.result in
+    let group = IsGroup-same refl c.BYTES-bytes.ensures c.SYMBOLS-symbols.ensures
+    g.G.GroupSize.is_group in
+    run-longest base reads.holds.is_width g.G.GroupSize.WIDTH bytes symbols group
     reads.width_is
     c.args.values.now c.args.input.now c.loop-index.index _ refl reads.holds
     (λ j. (c.type_inv.input j).fits)
@@ -79,12 +94,18 @@ returns-then-not-decode_symbols-clause-longest g c = λ base reads.
 
 pub returns-clause-longest : goal.returns-clause-longest
 returns-clause-longest g c = λ base reads.
-    run-all base reads.holds.is_width g.G.GroupSize.WIDTH c.BYTES-bytes.result c.SYMBOLS-symbols.result (IsGroup-same refl c.BYTES-bytes.ensures c.SYMBOLS-symbols.ensures g.G.GroupSize.is_group)
+    let bytes = c.BYTES-bytes.result in
+    let symbols = c.SYMBOLS-symbols.result in
+    let group = IsGroup-same refl c.BYTES-bytes.ensures c.SYMBOLS-symbols.ensures
+    g.G.GroupSize.is_group in
+    run-all base reads.holds.is_width g.G.GroupSize.WIDTH bytes symbols group
     reads.width_is
     c.args.input.now
 
 pub loop-index-preserved : goal.loop-index-preserved
 loop-index-preserved g c =
+    let group = IsGroup-same refl c.BYTES-bytes.ensures c.SYMBOLS-symbols.ensures
+    g.G.GroupSize.is_group in
     let i = c.loop-index.index in
     let input = c.args.input.now in
     let output = c.loop-index.output in
@@ -103,7 +124,7 @@ loop-index-preserved g c =
     c.decode_symbols.auto.output ∙ length-part (i * enc) enc output room in
     record {
       run = λ base reads.
-          group-next base reads.holds.is_width g.G.GroupSize.WIDTH enc dec (IsGroup-same refl c.BYTES-bytes.ensures c.SYMBOLS-symbols.ensures g.G.GroupSize.is_group)
+          group-next base reads.holds.is_width g.G.GroupSize.WIDTH enc dec group
           reads.width_is c.args.values.now
           input _ output c.decode_symbols.new.output i _ _ refl within (omega (arith, room))
           shown_len reads.holds (c.loop-index.invariant.run base reads)
@@ -130,22 +151,27 @@ pub decode_symbols-requires-clause-few : goal.decode_symbols-requires-clause-few
 decode_symbols-requires-clause-few g c =
     omega (
       arith,
-      length-part (c.loop-index.index * c.SYMBOLS-symbols.result) c.SYMBOLS-symbols.result c.args.input.now
+      length-part (c.loop-index.index * c.SYMBOLS-symbols.result) c.SYMBOLS-symbols.result
+          c.args.input.now
           (group-before _ c.SYMBOLS-symbols.result c.loop-index.index c.loop-index-test.true),
     )
 
 pub decode_symbols-requires-clause-exact : goal.decode_symbols-requires-clause-exact
 decode_symbols-requires-clause-exact g c =
+    let bytes = c.BYTES-bytes.result in
+    let symbols = c.SYMBOLS-symbols.result in
+    let group = IsGroup-same refl c.BYTES-bytes.ensures c.SYMBOLS-symbols.ensures
+    g.G.GroupSize.is_group in
     let i = c.loop-index.index in
-    let count = length c.args.input.now / c.SYMBOLS-symbols.result in
-    let read = length-part (i * c.SYMBOLS-symbols.result) c.SYMBOLS-symbols.result c.args.input.now
-    (group-before _ c.SYMBOLS-symbols.result i c.loop-index-test.true) in
-    let wrote = length-part (i * c.BYTES-bytes.result) c.BYTES-bytes.result c.loop-index.output
+    let count = length c.args.input.now / symbols in
+    let read = length-part (i * symbols) symbols c.args.input.now
+    (group-before _ symbols i c.loop-index-test.true) in
+    let wrote = length-part (i * bytes) bytes c.loop-index.output
     (omega (
       arith,
-      ends_within count c.BYTES-bytes.result i c.loop-index-test.true,
+      ends_within count bytes i c.loop-index-test.true,
       (room-same _ _ c.BYTES-bytes.ensures c.SYMBOLS-symbols.ensures c.requires.room),
       c.loop-index.auto.output,
     )) in
-    let same = (IsWhole-group g.G.GroupSize.WIDTH c.BYTES-bytes.result c.SYMBOLS-symbols.result (IsGroup-same refl c.BYTES-bytes.ensures c.SYMBOLS-symbols.ensures g.G.GroupSize.is_group)).same_bits in
+    let same = (IsWhole-group g.G.GroupSize.WIDTH bytes symbols group).same_bits in
     omega (arith, wrote, ap (λ n. g.G.GroupSize.WIDTH * n) read, same)

@@ -16,7 +16,8 @@ loop-index-preserved g c =
     record {
       so_far = take_more_set c.loop-index.output index _ inside
           ∙ (λ i. c.loop-index.invariant.so_far i ++ here i ∷ [])
-          ∙ sym (map-range_with_len_more (digit c.args.order 8 g.G.GroupSize.BYTES c.args.word) 0 index
+          ∙ sym (map-range_with_len_more (digit c.args.order 8 g.G.GroupSize.BYTES c.args.word) 0
+          index
           index
           (omega arith));
       len = length-set c.loop-index.output index _ ∙ c.loop-index.invariant.len;

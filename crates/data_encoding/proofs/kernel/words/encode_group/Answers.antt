@@ -18,8 +18,10 @@ returns g c = record {
   text = λ base writes.
       c.symbols_of_word.ensures
       ∙ (λ i. map (λ k. slice_index c.args.symbols.now
-      (low_byte c.args.order g.G.GroupSize.WIDTH g.G.GroupSize.SYMBOLS (c.word_of_bytes-word.ensures i) k))
+      (low_byte c.args.order g.G.GroupSize.WIDTH g.G.GroupSize.SYMBOLS
+      (c.word_of_bytes-word.ensures i) k))
       (range_with_len 0 (c.requires.exact i)))
-      ∙ plain_text-word base c.args.order g.G.GroupSize.WIDTH g.G.GroupSize.BYTES g.G.GroupSize.SYMBOLS c.args.symbols.now
+      ∙ plain_text-word base c.args.order g.G.GroupSize.WIDTH g.G.GroupSize.BYTES
+      g.G.GroupSize.SYMBOLS c.args.symbols.now
       c.args.input.now g.G.GroupSize.is_group c.requires.few writes;
 }

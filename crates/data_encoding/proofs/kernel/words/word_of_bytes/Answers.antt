@@ -35,6 +35,7 @@ loop-index-preserved g c =
           weight_is
           ∙ sym (word_of-more c.args.order 8 g.G.GroupSize.BYTES index (take index input) byte
           (length-take-le index input (omega arith)) (omega arith) below)
-          ∙ ap (word_of c.args.order 8 g.G.GroupSize.BYTES) (sym (take_more input index 0 (omega arith)));
+          ∙ ap (word_of c.args.order 8 g.G.GroupSize.BYTES)
+          (sym (take_more input index 0 (omega arith)));
       small = omega (arith, added.small);
     }

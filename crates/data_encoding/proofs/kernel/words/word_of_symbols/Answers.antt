@@ -53,10 +53,13 @@ loop-index-preserved g c =
     record {
       so_far = λ h.
           (λ i. c.loop-index.invariant.so_far (λ k less. h k (omega arith)) i + added.whole i)
-          ∙ ap (λ w. word_of c.args.order g.G.GroupSize.WIDTH g.G.GroupSize.SYMBOLS before + entry * 2 ^ w)
+          ∙ ap (λ w. word_of c.args.order g.G.GroupSize.WIDTH g.G.GroupSize.SYMBOLS before + entry *
+          2 ^ w)
           weight_is
-          ∙ sym (word_of-more c.args.order g.G.GroupSize.WIDTH g.G.GroupSize.SYMBOLS index before entry len
-          (omega arith) (subst (λ d. d < 2 ^ g.G.GroupSize.WIDTH) (sym same) (h index (omega arith))))
+          ∙ sym (word_of-more c.args.order g.G.GroupSize.WIDTH g.G.GroupSize.SYMBOLS index before
+          entry len
+          (omega arith) (subst (λ d. d < 2 ^ g.G.GroupSize.WIDTH) (sym same)
+          (h index (omega arith))))
           ∙ ap (word_of c.args.order g.G.GroupSize.WIDTH g.G.GroupSize.SYMBOLS) (sym digits);
       only = λ h. below_more (λ k. slice_index values (slice_index input k) < 128) index
           (c.loop-index.invariant.only (omega (arith, le_or_l c.loop-index.entries entry, h)))

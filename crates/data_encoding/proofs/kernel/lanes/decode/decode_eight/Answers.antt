@@ -8,14 +8,16 @@ use Rattle.data_encoding.proofs.kernel.lanes.decode.decode_eight.Goals as goal
 pub store-requires-clause-words : goal.store-requires-clause-words
 store-requires-clause-words g c =
     subst (λ n. AllByRecursion (λ word. word < 2 ^ n) c.words_of_groups-are_symbols.result.0)
-    (IsWhole-group g.G.GroupSize.WIDTH g.G.GroupSize.BYTES g.G.GroupSize.SYMBOLS g.G.GroupSize.is_group).same_bits
+    (IsWhole-group g.G.GroupSize.WIDTH g.G.GroupSize.BYTES g.G.GroupSize.SYMBOLS
+    g.G.GroupSize.is_group).same_bits
     (c.words_of_groups-are_symbols.ensures.fit c.if-not-are_symbols.false)
 
 pub returns : goal.returns
 returns g c = λ values rows all base reads.
     let found = c.words_of_groups-are_symbols.ensures in
     let are = c.if-not-are_symbols.false in
-    eight-run base values g.G.GroupSize.WIDTH g.G.GroupSize.BYTES g.G.GroupSize.SYMBOLS c.args.order g.G.GroupSize.is_group reads
+    eight-run base values g.G.GroupSize.WIDTH g.G.GroupSize.BYTES g.G.GroupSize.SYMBOLS c.args.order
+    g.G.GroupSize.is_group reads
     c.args.input.now c.args.output.now c.store.new.output c.requires.symbols
     (c.store.auto.output ∙ c.requires.exact) (λ j. (c.type_inv.input j).fits)
     (found.symbols values rows are)

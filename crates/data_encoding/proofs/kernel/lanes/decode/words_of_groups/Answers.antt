@@ -72,7 +72,8 @@ returns-in-2-clause-fit g c = λ all.
     g.G.GroupSize.is_group.is_width in
     subst (DoFit c.words_of_two.result g.G.GroupSize.SYMBOLS) c.WIDTH-width.ensures
     (words-fit-input width g.G.GroupSize.SYMBOLS c.look_up_16-values.result c.words_of_two.result 2
-    is_width (sym c.SYMBOLS.ensures ∙ c.in-2.is) (c.are_below.ensures all) c.words_of_two.ensures.fit)
+    is_width (sym c.SYMBOLS.ensures ∙ c.in-2.is) (c.are_below.ensures all)
+    c.words_of_two.ensures.fit)
 
 pub returns-in-4-clause-fit : goal.returns-in-4-clause-fit
 returns-in-4-clause-fit g c = λ all.

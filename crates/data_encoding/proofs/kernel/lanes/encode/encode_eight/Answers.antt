@@ -15,5 +15,6 @@ returns g c base writes =
     ∙ ap (take (8 * g.G.GroupSize.SYMBOLS)) c.look_up.ensures
     ∙ take-map (slice_index symbols) (8 * g.G.GroupSize.SYMBOLS) c.digits-values.result
     ∙ ap show c.digits-values.ensures.digits
-    ∙ plain_text-eight base order width g.G.GroupSize.BYTES g.G.GroupSize.SYMBOLS symbols group writes input
+    ∙ plain_text-eight base order width g.G.GroupSize.BYTES g.G.GroupSize.SYMBOLS symbols group
+    writes input
     (omega (arith, c.requires.bytes))

@@ -16,7 +16,8 @@ stored count output lanes picked long few exact is =
 
 pub returns-then-count-eq8 : goal.returns-then-count-eq8
 returns-then-count-eq8 g c =
-    let all : 8 * g.G.GroupSize.SYMBOLS ≡ 64 = ap (λ n. 8 * n) (sym c.SYMBOLS-count.ensures ∙ c.if-count-eq8.true) in
+    let all : 8 * g.G.GroupSize.SYMBOLS ≡ 64 = ap (λ n. 8 * n)
+    (sym c.SYMBOLS-count.ensures ∙ c.if-count-eq8.true) in
     let lanes = c.args.lanes in
     stored 64 c.args.output.now lanes lanes c.fits-lanes.0 (omega arith) (c.requires.exact ∙ all)
     (sym (take_all 64 lanes (omega (arith, c.fits-lanes.0))))
@@ -24,7 +25,8 @@ returns-then-count-eq8 g c =
 
 pub returns-then-count-eq4 : goal.returns-then-count-eq4
 returns-then-count-eq4 g c =
-    let all : 8 * g.G.GroupSize.SYMBOLS ≡ 32 = ap (λ n. 8 * n) (sym c.SYMBOLS-count.ensures ∙ c.if-count-eq4.true) in
+    let all : 8 * g.G.GroupSize.SYMBOLS ≡ 32 = ap (λ n. 8 * n)
+    (sym c.SYMBOLS-count.ensures ∙ c.if-count-eq4.true) in
     let lanes = c.args.lanes in
     stored 32 c.args.output.now lanes (pick_l 0 (lanes ++ lanes) (range_with_len 0 32))
     c.fits-lanes.0 (omega arith) (c.requires.exact ∙ all)
