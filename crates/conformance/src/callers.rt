@@ -20,6 +20,7 @@ use data_encoding::{
 };
 use std::alloc::{AllocError, Global};
 
+pub mod buffers;
 pub mod names;
 pub mod stored;
 pub mod streamed;

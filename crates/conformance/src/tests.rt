@@ -2,6 +2,7 @@
 
 mod appending;
 mod bits;
+mod buffers;
 mod callers;
 mod calls;
 mod canonical;

@@ -43,6 +43,20 @@ unsigned de_held_decode_len(const byte *held, size_t len, size_t *most);
 unsigned de_held_decode(const byte *held, const byte *input, size_t input_len, byte *output,
                         size_t output_len, de_decoded *decoded);
 unsigned de_held_is_canonical(const byte *held, bool *canonical);
+void de_plain_decoder_new(de_decoder *decoder);
+unsigned de_numbered_decoder_most(unsigned number, const de_decoder *decoder, size_t len,
+                                  size_t *most);
+unsigned de_numbered_decoder_read(unsigned number, de_decoder *decoder, const byte *input,
+                                  size_t input_len, byte *output, size_t output_len,
+                                  size_t *written);
+unsigned de_numbered_decoder_finish(unsigned number, const de_decoder *decoder, byte *output,
+                                    size_t output_len, de_decoded *decoded);
+unsigned de_held_decoder_most(const byte *held, const de_decoder *decoder, size_t len,
+                              size_t *most);
+unsigned de_held_decoder_read(const byte *held, de_decoder *decoder, const byte *input,
+                              size_t input_len, byte *output, size_t output_len, size_t *written);
+unsigned de_held_decoder_finish(const byte *held, const de_decoder *decoder, byte *output,
+                                size_t output_len, de_decoded *decoded);
 
 /* What marks a de_encoding that was made. */
 #define MADE 0xde
@@ -97,6 +111,7 @@ const char *de_status_text(de_status status) {
         "translate from/to length mismatch",
         "undefined character",
         "no encoding",
+        "no decoder",
     };
     unsigned index = (unsigned)status;
     return index < sizeof texts / sizeof *texts ? texts[index] : "unknown status";
@@ -263,4 +278,76 @@ de_status de_encoding_is_canonical(const de_encoding *encoding, bool *canonical)
         return DE_NO_ENCODING;
     }
     return (de_status)de_held_is_canonical(encoding->tables, canonical);
+}
+
+de_status de_decoder_new(de_decoder *decoder) {
+    if (decoder == NULL) {
+        return DE_NULL_POINTER;
+    }
+    de_plain_decoder_new(decoder);
+    return DE_OK;
+}
+
+de_status de_decoder_most(de_number number, const de_decoder *decoder, size_t len, size_t *most) {
+    if (decoder == NULL || most == NULL) {
+        return DE_NULL_POINTER;
+    }
+    return (de_status)de_numbered_decoder_most((unsigned)number, decoder, len, most);
+}
+
+de_status de_decoder_read(de_number number, de_decoder *decoder, const char *input,
+                          size_t input_len, void *output, size_t output_len, size_t *written) {
+    if (decoder == NULL || is_missing(input, input_len) || is_missing(output, output_len) ||
+        written == NULL) {
+        return DE_NULL_POINTER;
+    }
+    return (de_status)de_numbered_decoder_read((unsigned)number, decoder, in(input), input_len,
+                                               out(output), output_len, written);
+}
+
+de_status de_decoder_finish(de_number number, const de_decoder *decoder, void *output,
+                            size_t output_len, de_decoded *decoded) {
+    if (decoder == NULL || is_missing(output, output_len) || decoded == NULL) {
+        return DE_NULL_POINTER;
+    }
+    return (de_status)de_numbered_decoder_finish((unsigned)number, decoder, out(output),
+                                                 output_len, decoded);
+}
+
+de_status de_encoding_decoder_most(const de_encoding *encoding, const de_decoder *decoder,
+                                   size_t len, size_t *most) {
+    if (encoding == NULL || decoder == NULL || most == NULL) {
+        return DE_NULL_POINTER;
+    }
+    if (!is_held(encoding)) {
+        return DE_NO_ENCODING;
+    }
+    return (de_status)de_held_decoder_most(encoding->tables, decoder, len, most);
+}
+
+de_status de_encoding_decoder_read(const de_encoding *encoding, de_decoder *decoder,
+                                   const char *input, size_t input_len, void *output,
+                                   size_t output_len, size_t *written) {
+    if (encoding == NULL || decoder == NULL || is_missing(input, input_len) ||
+        is_missing(output, output_len) || written == NULL) {
+        return DE_NULL_POINTER;
+    }
+    if (!is_held(encoding)) {
+        return DE_NO_ENCODING;
+    }
+    return (de_status)de_held_decoder_read(encoding->tables, decoder, in(input), input_len,
+                                           out(output), output_len, written);
+}
+
+de_status de_encoding_decoder_finish(const de_encoding *encoding, const de_decoder *decoder,
+                                     void *output, size_t output_len, de_decoded *decoded) {
+    if (encoding == NULL || decoder == NULL || is_missing(output, output_len) ||
+        decoded == NULL) {
+        return DE_NULL_POINTER;
+    }
+    if (!is_held(encoding)) {
+        return DE_NO_ENCODING;
+    }
+    return (de_status)de_held_decoder_finish(encoding->tables, decoder, out(output), output_len,
+                                             decoded);
 }

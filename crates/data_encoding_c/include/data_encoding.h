@@ -77,7 +77,10 @@ typedef enum de_status {
     DE_UNDEFINED = 17,
 
     /* The bytes are no layout; or the de_encoding shows that none was made. */
-    DE_NO_ENCODING = 18
+    DE_NO_ENCODING = 18,
+
+    /* No call can have left such a de_decoder for the encoding. */
+    DE_NO_DECODER = 19
 } de_status;
 
 /* A few words on a status: never null, and valid for ever. */
@@ -142,6 +145,49 @@ de_status de_decode(de_number number, const char *input, size_t input_len, void 
 
 /* Writes to *canonical whether no two different texts decode to the same data. */
 de_status de_is_canonical(de_number number, bool *canonical);
+
+/* What a decoder keeps of a text that comes in pieces: plain numbers, which may be copied, and need
+ * no end. A copy goes on from where it was made. Any numbers may be given: those that no call can
+ * have left for the encoding are refused by DE_NO_DECODER. */
+typedef struct de_decoder {
+    /* How many bytes the text has. */
+    size_t len;
+
+    /* The bytes of an unfinished group, and where they stand in the text. */
+    size_t count;
+    size_t positions[8];
+
+    /* The first fault of the whole groups: its position, and its status or 0. */
+    size_t fault_position;
+    uint32_t fault;
+
+    /* Whether no group may follow. */
+    uint32_t ended;
+    unsigned char bytes[8];
+} de_decoder;
+
+/* Makes *decoder one that has read nothing, for any encoding. */
+de_status de_decoder_new(de_decoder *decoder);
+
+/* Writes to *most how many bytes len more bytes of the text may complete at most: no more than
+ * len + 7, and none after a fault. DE_NO_DECODER; DE_TOO_LONG where the text has more than
+ * DE_DECODE_LIMIT bytes with them. */
+de_status de_decoder_most(de_number number, const de_decoder *decoder, size_t len, size_t *most);
+
+/* Reads a piece of the text, which may be cut anywhere. Writes the data of the groups that are then
+ * whole, up to the first faulty one, to the front of output, which has room for as many bytes as
+ * de_decoder_most says, and their number to *written. A fault is told at the end. What the output
+ * has behind the data, within that room, is not said. DE_NO_DECODER, DE_TOO_LONG,
+ * DE_SHORT_BUFFER. */
+de_status de_decoder_read(de_number number, de_decoder *decoder, const char *input,
+                          size_t input_len, void *output, size_t output_len, size_t *written);
+
+/* Ends the text: writes the data of a last group, at most 5 bytes, to the front of output, and to
+ * *decoded the length of the text, how many bytes were written, and the position of the fault. The
+ * status is the verdict that de_decode has on the whole text. The decoder stays as it was.
+ * DE_NO_DECODER, DE_SHORT_BUFFER. */
+de_status de_decoder_finish(de_number number, const de_decoder *decoder, void *output,
+                            size_t output_len, de_decoded *decoded);
 
 /* The length of the longest name of a predefined encoding. */
 #define DE_NAME_LIMIT 22
@@ -229,6 +275,13 @@ de_status de_encoding_decode_len(const de_encoding *encoding, size_t len, size_t
 de_status de_encoding_decode(const de_encoding *encoding, const char *input, size_t input_len,
                              void *output, size_t output_len, de_decoded *decoded);
 de_status de_encoding_is_canonical(const de_encoding *encoding, bool *canonical);
+de_status de_encoding_decoder_most(const de_encoding *encoding, const de_decoder *decoder,
+                                   size_t len, size_t *most);
+de_status de_encoding_decoder_read(const de_encoding *encoding, de_decoder *decoder,
+                                   const char *input, size_t input_len, void *output,
+                                   size_t output_len, size_t *written);
+de_status de_encoding_decoder_finish(const de_encoding *encoding, const de_decoder *decoder,
+                                     void *output, size_t output_len, de_decoded *decoded);
 
 #ifdef __cplusplus
 }

@@ -1,3 +1,4 @@
 mod DecodeLemmas
 mod NumberLemmas
 mod NameLemmas
+pub mod PieceLemmas

@@ -1,4 +1,5 @@
 pub mod Status
+pub mod Pieces
 pub mod Numbers
 pub mod Calls
 pub mod Held

@@ -21,6 +21,9 @@ short_buffer = 4
 abbrev pub no_encoding : ℕ
 no_encoding = 18
 
+abbrev pub no_decoder : ℕ
+no_decoder = 19
+
 abbrev pub status_of_kind : DecodeKind → ℕ
 status_of_kind Length = 6
 status_of_kind Symbol = 7

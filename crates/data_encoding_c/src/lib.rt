@@ -6,10 +6,12 @@
 #![tactic(auto)]
 
 mod convert;
+mod decoder;
 mod held;
 mod make;
 mod names;
 mod numbered;
 mod numbers;
+mod pieces;
 mod status;
 mod stored;

@@ -23,6 +23,9 @@ pub(crate) const SHORT_BUFFER: u32 = 4;
 /// The bytes are no layout.
 pub(crate) const NO_ENCODING: u32 = 18;
 
+/// No call can have made the decoder for the encoding.
+pub(crate) const NO_DECODER: u32 = 19;
+
 /// The status of a faulty text.
 pub(crate) fn status_of_kind(kind: DecodeKind) -> u32
     ensures { result ≡ status_of_kind kind }

@@ -1,0 +1,69 @@
+//! A caller of a decoder by pieces into buffers, which goes on from what is kept.
+
+ghost use Rattle.std.specs.Prelude.{◌≡◌, ◌+◌, ◌≤◌, ℕ, List, ◌++◌, length, take, OnOk};
+ghost use Rattle.data_encoding.specs.Fault.{fault_of, sound_bytes};
+ghost use Rattle.data_encoding.specs.Grammar.{Means};
+ghost use Rattle.encoding_stream.specs.Pieces.{verdict_of};
+
+use data_encoding::laws::sound_text;
+use data_encoding::{DECODE_LIMIT, DecodeError, Encoding};
+use encoding_stream::BufferDecoder;
+
+/// How many bytes were written to each buffer, and the verdict on the text.
+#[derive(Clone, Copy, Debug, Drop)]
+pub struct Filled {
+    /// Of the first piece.
+    pub front: usize,
+
+    /// Of the next piece.
+    pub next: usize,
+
+    /// Of the end of the text.
+    pub last: usize,
+
+    /// The fault of the text, if it has one.
+    pub verdict: Result<(), DecodeError>,
+}
+
+/// Decodes a text that comes in two pieces, cut anywhere, into three buffers: the second piece is
+/// read by another decoder, which is told what the first kept.
+pub fn decode_kept(
+    encoding: &Encoding,
+    piece: &[u8],
+    next_piece: &[u8],
+    front: &mut [u8],
+    next: &mut [u8],
+    last: &mut [u8],
+) -> Filled
+    requires limit { length piece.now + length next_piece.now ≤ DECODE_LIMIT }
+    requires front { length piece.now + 7 ≤ length front.old }
+    requires next { length next_piece.now + 7 ≤ length next.old }
+    requires last { 5 ≤ length last.old }
+    ensures sound { take result.front front.new ++ take result.next next.new
+        ++ take result.last last.new
+        ≡ sound_bytes encoding.now (piece.now ++ next_piece.now) }
+    ensures verdict { result.verdict
+        ≡ verdict_of (fault_of encoding.now (piece.now ++ next_piece.now)) }
+    ensures means { OnOk result.verdict (Means encoding.now (piece.now ++ next_piece.now)
+        (take result.front front.new ++ take result.next next.new
+        ++ take result.last last.new)) }
+{
+    encoding.bit_width();
+    sound_text();
+    let mut decoder = BufferDecoder::new(encoding);
+    decoder.most(piece.len());
+    let in_front = decoder.read(piece, front);
+    let kept = decoder.kept();
+    let Some(mut resumed) = BufferDecoder::resumed(encoding, kept) else {
+        unreachable!()
+    };
+    resumed.most(next_piece.len());
+    let in_next = resumed.read(next_piece, next);
+    let (in_last, verdict) = resumed.finish(last);
+    Filled {
+        front: in_front,
+        next: in_next,
+        last: in_last,
+        verdict,
+    }
+}

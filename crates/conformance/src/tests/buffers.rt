@@ -1,0 +1,198 @@
+//! Texts that come in pieces, cut anywhere, and are decoded into buffers by decoders that go on
+//! from what is kept.
+
+ghost use Rattle.std.specs.Prelude.{◌≤◌, length};
+
+use super::judge::{Judge, Judgement};
+use super::rows::{bytes_of, row_of};
+use crate::callers::buffers::decode_kept;
+use data_encoding::{DECODE_LIMIT, DecodeError, DecodeKind, Encoding, base64};
+use encoding_stream::{BufferDecoder, Kept};
+use std::alloc::{AllocError, Global};
+use std::test::Fail;
+
+// Texts, and the fault of each.
+const TEXTS: &str = "\
+base64|most|check|=||0||||Zm9vYmE=Zg==|
+base64|most|check|=||0||||Zm9vYg==!|invalid length at 8
+base64|most|check|=||0||||Zm9vYm!yZm9v|invalid symbol at 6
+base64|most|check|=||0||||Zm9vYmF=Zm9v|non-zero trailing bits at 6
+base64|most|single check|=||0||||Zm9vYg==Zm9v|invalid padding length at 8
+base64|most|check|=||76|←↵|||SGVs←↵bG8=←↵|
+base64|most|check|=||76|←↵|||SGVs←↵b!8=←↵|invalid symbol at 7
+base32|most|check|||0||||MZXW6YTBOI|
+base32|most|check|||0||||MZXW6YTBO|invalid length at 8
+base32|most|check|||0||||MZXW6YTBO!|invalid symbol at 9
+octal|most|check|=|-|0||||22-06-44-==|
+hex|most|check|||0||||48656c6c6f|";
+
+// Reads a piece into as much room as is asked for, and appends what is written.
+fn read_on(
+    decoder: &mut BufferDecoder<'_>,
+    piece: &[u8],
+    output: &mut Vec<u8>,
+) -> Result<(), AllocError>
+    requires short { length piece.now ≤ 17 }
+{
+    if decoder.len() > DECODE_LIMIT - piece.len() {
+        return Err(AllocError);
+    }
+    let mut room = [0; 24];
+    let most = decoder.most(piece.len());
+    let written = decoder.read(piece, &mut room[..most]);
+    output.extend_from_slice(&room[..written])
+}
+
+// Whether the text is decoded, or refused, as by the judge, that comes in three pieces, with a
+// decoder for each.
+fn is_cut_alike(
+    alloc: Global,
+    encoding: &Encoding,
+    want: &Judgement,
+    text: &[u8],
+    cuts: (usize, usize),
+) -> Result<bool, AllocError>
+    requires short { length text.now ≤ 17 }
+    requires first { cuts.0 ≤ cuts.1 }
+    requires second { cuts.1 ≤ length text.now }
+{
+    let mut kept = BufferDecoder::new(encoding).kept();
+    let mut output = Vec::new(alloc);
+    for piece in [
+        &text[..cuts.0],
+        &text[cuts.0..cuts.1],
+        &text[cuts.1..],
+    ] {
+        let Some(mut decoder) = BufferDecoder::resumed(encoding, kept) else {
+            return Ok(false);
+        };
+        read_on(&mut decoder, piece, &mut output)?;
+        kept = decoder.kept();
+    }
+    let Some(decoder) = BufferDecoder::resumed(encoding, kept) else {
+        return Ok(false);
+    };
+    let mut last = [0; 5];
+    let (written, verdict) = decoder.finish(&mut last);
+    output.extend_from_slice(&last[..written])?;
+    Ok(verdict.err() == want.fault && output == want.bytes)
+}
+
+// The same, for every two positions.
+fn is_alike(
+    alloc: Global,
+    encoding: &Encoding,
+    want: &Judgement,
+    text: &[u8],
+) -> Result<bool, AllocError>
+    requires short { length text.now ≤ 17 }
+{
+    for second in 0..=text.len() {
+        for first in 0..=second {
+            if !is_cut_alike(alloc, encoding, want, text, (first, second))? {
+                return Ok(false);
+            }
+        }
+        if !is_kept_alike(alloc, encoding, want, text, second)? {
+            return Ok(false);
+        }
+    }
+    Ok(true)
+}
+
+// Whether the caller that is proved decodes the text so, that is cut in two.
+fn is_kept_alike(
+    alloc: Global,
+    encoding: &Encoding,
+    want: &Judgement,
+    text: &[u8],
+    cut: usize,
+) -> Result<bool, AllocError>
+    requires short { length text.now ≤ 17 }
+    requires inside { cut ≤ length text.now }
+{
+    let (mut front, mut next, mut last) = ([0; 24], [0; 24], [0; 5]);
+    let filled = decode_kept(
+        encoding,
+        &text[..cut],
+        &text[cut..],
+        &mut front,
+        &mut next,
+        &mut last,
+    );
+    let mut output = Vec::new(alloc);
+    for part in [
+        front.get(..filled.front),
+        next.get(..filled.next),
+        last.get(..filled.last),
+    ] {
+        output.extend_from_slice(part.unwrap_or(&[]))?;
+    }
+    Ok(filled.verdict.err() == want.fault && output == want.bytes)
+}
+
+// Whether a text of a row is decoded as by the judge, wherever it is cut, and has the fault.
+fn is_decoded(alloc: Global, line: &str) -> Result<bool, Fail> {
+    let row = row_of(alloc, line)?;
+    let encoding = row.specification.encoding()?;
+    let judge = Judge::of(&row.specification);
+    let text = bytes_of(alloc, row.input)?;
+    if text.len() > 17 {
+        return Ok(false);
+    }
+    let whole = judge.decode(alloc, &text)?;
+    let want = judge.in_pieces(alloc, &text, whole)?;
+    let told = match want.fault {
+        Some(error) => error.to_string(alloc)?,
+        None => String::new(alloc),
+    };
+    Ok(told.as_str() == row.want && is_alike(alloc, &encoding, &want, &text)?)
+}
+
+#[test]
+fn goes_on_from_what_is_kept(rt: HostRuntime) -> Result<(), Fail> {
+    for line in TEXTS.split('\n') {
+        assert!(rt; is_decoded(rt.alloc(), line)?, "{line}");
+    }
+    Ok(())
+}
+
+// Whether a decoder of base64 goes on from so many bytes, with a fault or without, of which so
+// many are held.
+fn goes_on(len: usize, is_faulty: bool, count: usize) -> bool {
+    let fault = is_faulty.then_some(DecodeError {
+        position: 0,
+        kind: DecodeKind::Symbol,
+    });
+    let kept = Kept {
+        len,
+        fault,
+        positions: [0; 8],
+        bytes: [0; 8],
+        count,
+        ended: false,
+    };
+    BufferDecoder::resumed(&base64(), kept).is_some()
+}
+
+#[test]
+fn refuses_what_no_decoder_keeps(rt: HostRuntime) -> Result<(), Fail> {
+    assert!(rt; goes_on(DECODE_LIMIT, false, 3));
+    assert!(rt; goes_on(DECODE_LIMIT, true, 0));
+    assert!(rt; !goes_on(DECODE_LIMIT + 1, false, 0));
+    assert!(rt; !goes_on(7, false, 4));
+    assert!(rt; !goes_on(7, false, usize::MAX));
+    assert!(rt; !goes_on(2, false, 3));
+    assert!(rt; !goes_on(7, true, 1));
+    // After a fault no room is asked for.
+    let encoding = base64();
+    let mut decoder = BufferDecoder::new(&encoding);
+    assert_eq!(rt; decoder.most(8), 6);
+    let mut room = [0; 24];
+    let most = decoder.most(5);
+    assert_eq!(rt; decoder.read(b"AA!AA", &mut room[..most]), 0);
+    if decoder.len() == 5 {
+        assert_eq!(rt; decoder.most(8), 0);
+    }
+    Ok(())
+}

@@ -1,0 +1,72 @@
+-- Texts in pieces, of which a caller keeps plain numbers.
+use Rattle.std.proofs.Common.{◌≡◌, nat_lt, inl, inr, ◌⊎◌, ℕ, ◌+◌, ◌≤◌, Bool, if◌then◌else◌, List, Option, None, Some, IsSome, Result, Ok, Err, refl, sym, ap, ◌∙◌, subst, arith}
+use Rattle.std.proofs.lemmas.Bool.{le-ltb}
+use Rattle.data_encoding.specs.declared.error.DecodeError.{DecodeError}
+use Rattle.data_encoding.specs.declared.error.DecodeKind.{DecodeKind}
+use Rattle.data_encoding.specs.declared.error.DecodeKind.TheVariants.{Length, Symbol, Trailing, Padding}
+use Rattle.data_encoding.specs.Base.{Base}
+use Rattle.encoding_stream.specs.declared.pieces.BufferDecoder.{BufferDecoder}
+use Rattle.encoding_stream.specs.declared.pieces.Kept.{Kept}
+use Rattle.encoding_stream.specs.Pieces.{most_completed, verdict_of, Keeps}
+use Rattle.data_encoding_c.specs.declared.pieces.PlainKept.{PlainKept}
+use Rattle.data_encoding_c.specs.Pieces.{kept_told, piece_status, StandsAfter}
+use Rattle.data_encoding_c.specs.Status.{ok, short_buffer, status_of_kind, too_long}
+
+-- where no decoder goes on, it was told no text
+pub none-stands : (base : Base) (plain : PlainKept) (found : Option BufferDecoder)
+    → found ≡ None → ((text : List ℕ) → StandsAfter base plain text → IsSome found)
+    → (text : List ℕ) → StandsAfter base plain text → ⊥
+none-stands base plain found is law text stands =
+    let none : IsSome {T = BufferDecoder} None = subst IsSome is (law text stands) in
+    absurd (cc none)
+
+one-kept : {a b : Kept} → Some a ≡ Some b → a ≡ b
+one-kept is = cc
+
+-- a decoder that goes on keeps what the caller does
+pub stands-kept : (base : Base) (plain : PlainKept) (kept : Kept) (text : List ℕ)
+    → kept_told plain ≡ Some kept → (stands : StandsAfter base plain text)
+    → (stands.kept ≡ kept) × Keeps base kept text
+stands-kept base plain kept text told stands =
+    let same : stands.kept ≡ kept = one-kept (sym stands.told ∙ told) in
+    (same, subst (λ k. Keeps base k text) same stands.keeps)
+
+-- a piece for which there is room
+pub piece-fits : (base : Base) (kept : Kept) (len room : ℕ)
+    → kept.len + len ≤ 2305843009213693951 → most_completed base kept len ≤ room
+    → ok ≡ piece_status base kept len room
+piece-fits base kept len room few fits =
+    sym (ap (λ (long : Bool). if long then too_long
+    else if nat_lt room (most_completed base kept len) then short_buffer else ok)
+    (le-ltb 2305843009213693951 (kept.len + len) few)
+    ∙ ap (λ (short : Bool). if short then short_buffer else ok)
+    (le-ltb room (most_completed base kept len) fits))
+
+-- what a verdict says of the fault
+pub fault-none : (fault : Option DecodeError) (verdict : Result (Unit {0}) DecodeError)
+    (nothing : Unit {0}) → verdict ≡ Ok nothing → verdict ≡ verdict_of fault → fault ≡ None
+fault-none None verdict nothing is told = refl
+fault-none (Some error) verdict nothing is told = absurd (cc (is, told))
+
+pub fault-some : (fault : Option DecodeError) (verdict : Result (Unit {0}) DecodeError)
+    (error : DecodeError) → verdict ≡ Err error → verdict ≡ verdict_of fault
+    → fault ≡ Some error
+fault-some None verdict error is told = absurd (cc (is, told))
+fault-some (Some other) verdict error is told = cc (is, told)
+
+pub one-error : {a b : DecodeError} → Some a ≡ Some b → a ≡ b
+one-error is = cc
+
+pub no-error : {error : DecodeError} → None ≡ Some error → ⊥
+no-error is = absurd (cc is)
+
+-- a faulty text has a status of its own
+pub kind-own : (kind : DecodeKind) (n : ℕ) → (n ≡ 19) ⊎ (n ≡ 4) → status_of_kind kind ≡ n → ⊥
+kind-own Length n (inl is) told = absurd (omega (arith, is, told))
+kind-own Length n (inr is) told = absurd (omega (arith, is, told))
+kind-own Symbol n (inl is) told = absurd (omega (arith, is, told))
+kind-own Symbol n (inr is) told = absurd (omega (arith, is, told))
+kind-own Trailing n (inl is) told = absurd (omega (arith, is, told))
+kind-own Trailing n (inr is) told = absurd (omega (arith, is, told))
+kind-own Padding n (inl is) told = absurd (omega (arith, is, told))
+kind-own Padding n (inr is) told = absurd (omega (arith, is, told))

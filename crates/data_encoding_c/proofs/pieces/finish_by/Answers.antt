@@ -1,0 +1,112 @@
+use Rattle.std.proofs.Common.{◌≡◌, ◌⊎◌, ◌++◌, List, ℕ, None, Some, drop, length, take, refl, sym, ap, ◌∙◌, arith, inl, inr, length-take-le}
+use Rattle.std.proofs.lemmas.List.{take-append-le, take_all}
+use Rattle.data_encoding.specs.Fault.{fault_of, sound_bytes}
+use Rattle.data_encoding.specs.Pieces.{whole_bytes}
+use Rattle.encoding_stream.specs.Pieces.{kept_by, verdict_of}
+use Rattle.data_encoding_c.specs.Pieces.{StandsAfter}
+use Rattle.data_encoding_c.specs.Status.{status_of_fault}
+use Rattle.data_encoding_c.proofs.PieceLemmas.{fault-none, fault-some, kind-own, no-error, none-stands, one-error, stands-kept}
+use Rattle.data_encoding_c.proofs.pieces.finish_by.Goals as goal
+
+pub returns-in_default : goal.returns-in_default
+returns-in_default c =
+    let none =
+    none-stands c.args.encoding.now c.args.plain.now c.decoder_of.result c.in_default.is
+    c.decoder_of.ensures.stands in
+    record {
+      verdict = λ _ text stands. absurd (none text stands);
+      bytes = λ _ text stands. absurd (none text stands);
+      position = λ _ text error stands. absurd (none text stands);
+      short = λ is. absurd (cc is);
+      refused = λ _. (refl, refl);
+    }
+
+pub returns-in-Ok : goal.returns-in-Ok
+returns-in-Ok c =
+    let base = c.args.encoding.now in
+    let plain = c.args.plain.now in
+    let kept = kept_by c.in-Some.decoder in
+    let is = c.in-Some.ensures.base in
+    let told = c.in-Some.ensures.kept in
+    let end = c.finish-written in
+    let written : ℕ = end.result.0 in
+    let last = end.new.output in
+    let copied = c.copy_from_slice.new.self in
+    let size : length (take written last) ≡ written =
+    length-take-le written last (omega (arith, end.ensures.few, end.ensures.len)) in
+    let len : length copied ≡ written = ap length c.copy_from_slice.ensures.after ∙ size in
+    let front : take written (copied ++ drop written c.args.output.now) ≡ take written last =
+    take-append-le written copied (drop written c.args.output.now) (omega (arith, len))
+    ∙ take_all written copied (omega (arith, len))
+    ∙ c.copy_from_slice.ensures.after in
+    let bytes : (text : List ℕ) → StandsAfter base plain text
+    → sound_bytes base text
+    ≡ whole_bytes base text ++ take written (copied ++ drop written c.args.output.now) =
+    λ text stands.
+    rw is at (end.ensures.bytes text (rw is (stands-kept base plain kept text told stands).1))
+    ∙ ap (λ more. whole_bytes base text ++ more) (sym front) in
+    let verdict : (text : List ℕ) → StandsAfter base plain text
+    → end.result.1 ≡ verdict_of (fault_of base text) =
+    λ text stands. rw is at (end.ensures.verdict text
+    (rw is (stands-kept base plain kept text told stands).1)) in
+    let none : (text : List ℕ) → StandsAfter base plain text → fault_of base text ≡ None =
+    λ text stands. fault-none (fault_of base text) end.result.1 c.in-Ok.field-0 c.in-Ok.is
+    (verdict text stands) in
+    record {
+      verdict = λ _ text stands. sym (ap status_of_fault (none text stands));
+      bytes = λ _ text stands. bytes text stands;
+      position = λ _ text error stands found.
+          absurd (no-error (sym (none text stands) ∙ found));
+      short = λ short. absurd (omega (arith, short));
+      refused = λ refused. absurd (elim refused [
+        | inl is_none ↦ omega (arith, is_none)
+        | inr is_short ↦ omega (arith, is_short)
+      ]);
+    }
+
+pub returns-in-Err : goal.returns-in-Err
+returns-in-Err c =
+    let base = c.args.encoding.now in
+    let plain = c.args.plain.now in
+    let kept = kept_by c.in-Some.decoder in
+    let is = c.in-Some.ensures.base in
+    let told = c.in-Some.ensures.kept in
+    let end = c.finish-written in
+    let written : ℕ = end.result.0 in
+    let last = end.new.output in
+    let copied = c.copy_from_slice.new.self in
+    let size : length (take written last) ≡ written =
+    length-take-le written last (omega (arith, end.ensures.few, end.ensures.len)) in
+    let len : length copied ≡ written = ap length c.copy_from_slice.ensures.after ∙ size in
+    let front : take written (copied ++ drop written c.args.output.now) ≡ take written last =
+    take-append-le written copied (drop written c.args.output.now) (omega (arith, len))
+    ∙ take_all written copied (omega (arith, len))
+    ∙ c.copy_from_slice.ensures.after in
+    let bytes : (text : List ℕ) → StandsAfter base plain text
+    → sound_bytes base text
+    ≡ whole_bytes base text ++ take written (copied ++ drop written c.args.output.now) =
+    λ text stands.
+    rw is at (end.ensures.bytes text (rw is (stands-kept base plain kept text told stands).1))
+    ∙ ap (λ more. whole_bytes base text ++ more) (sym front) in
+    let verdict : (text : List ℕ) → StandsAfter base plain text
+    → end.result.1 ≡ verdict_of (fault_of base text) =
+    λ text stands. rw is at (end.ensures.verdict text
+    (rw is (stands-kept base plain kept text told stands).1)) in
+    let some : (text : List ℕ) → StandsAfter base plain text
+    → fault_of base text ≡ Some c.in-Err.error =
+    λ text stands. fault-some (fault_of base text) end.result.1 c.in-Err.error c.in-Err.is
+    (verdict text stands) in
+    let own = λ (n : ℕ) (refused : (n ≡ 19) ⊎ (n ≡ 4)) (same : c.status_of_kind.result ≡ n).
+    kind-own c.in-Err.error.kind n refused (sym c.status_of_kind.ensures ∙ same) in
+    record {
+      verdict = λ _ text stands.
+          c.status_of_kind.ensures ∙ sym (ap status_of_fault (some text stands));
+      bytes = λ _ text stands. bytes text stands;
+      position = λ _ text error stands found.
+          ap (λ e. e.position) (one-error (sym (some text stands) ∙ found));
+      short = λ short. absurd (own 4 (inr refl) short);
+      refused = λ refused. absurd (elim refused [
+        | inl is_none ↦ own 19 (inl refl) is_none
+        | inr is_short ↦ own 4 (inr refl) is_short
+      ]);
+    }

@@ -1,0 +1,59 @@
+use Rattle.std.proofs.Common.{◌≡◌, List, ◌++◌, ℕ, length, take, refl, sym, ap, ◌∙◌, subst, arith}
+use Rattle.encoding_stream.specs.Pieces.{kept_by, most_completed, Keeps}
+use Rattle.encoding_stream.specs.Reading.{ReadsOn}
+use Rattle.data_encoding_c.specs.Pieces.{piece_status, StandsAfter}
+use Rattle.data_encoding_c.specs.Status.{ok}
+use Rattle.data_encoding_c.proofs.PieceLemmas.{none-stands, piece-fits, stands-kept}
+use Rattle.data_encoding_c.proofs.pieces.read_by.Goals as goal
+
+pub returns-in_default : goal.returns-in_default
+returns-in_default c =
+    let none =
+    none-stands c.args.encoding.now c.args.plain.now c.decoder_of.result c.in_default.is
+    c.decoder_of.ensures.stands in
+    record {
+      status = λ text stands. absurd (none text stands);
+      stands = λ is text stands. absurd (none text stands);
+      decodes = λ is text stands. absurd (none text stands);
+      within = λ is. absurd (cc is);
+      refused = λ _. (refl, refl, refl);
+    }
+
+pub returns : goal.returns
+returns c =
+    let base = c.args.encoding.now in
+    let plain = c.args.plain.now in
+    let piece = c.args.piece.now in
+    let room : ℕ = length c.args.output.now in
+    let decoder = c.in-Some.decoder in
+    let kept = kept_by decoder in
+    let is = c.in-Some.ensures.base in
+    let told = c.in-Some.ensures.kept in
+    let reads : ReadsOn base kept (kept_by c.read.new.self) piece
+    (take c.read.result c.read.new.output) = rw is at c.read.ensures.reads in
+    let most : c.most.result ≡ most_completed base kept (length piece) =
+    rw is at c.most.ensures.value in
+    let fits : ok ≡ piece_status base kept (length piece) room =
+    piece-fits base kept (length piece) room
+    (omega (arith, c.if-piece-len.false, c.len.ensures.value, c.len.ensures.limit))
+    (omega (arith, c.if-output-most.false, most)) in
+    let now : (text : List ℕ) → StandsAfter base plain text
+    → Keeps base c.kept.result (text ++ piece) =
+    λ text stands. subst (λ k. Keeps base k (text ++ piece)) (sym c.kept.ensures.value)
+    (reads.keeps text (stands-kept base plain kept text told stands).1) in
+    record {
+      status = λ text stands.
+          fits ∙ ap (λ k. piece_status base k (length piece) room)
+          (sym (stands-kept base plain kept text told stands).0);
+      stands = λ _ text stands. record {
+        kept = c.kept.result;
+        told = c.plain_of.ensures;
+        keeps = now text stands;
+        limit = omega (arith, c.kept.ensures.limit, (now text stands).counted);
+        clear = c.kept.ensures.clear;
+      };
+      decodes = λ _ text stands.
+          reads.decodes text (stands-kept base plain kept text told stands).1;
+      within = λ _. c.read.ensures.within;
+      refused = λ not_ok. absurd (not_ok refl);
+    }

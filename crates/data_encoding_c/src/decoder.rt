@@ -1,0 +1,138 @@
+//! Calls that decode a text in pieces, by the number of an encoding and by one of a caller's own.
+
+ghost use Rattle.std.specs.Prelude.{◌≡◌, [], None};
+ghost use Rattle.data_encoding.specs.Base.{Base};
+ghost use Rattle.data_encoding.specs.Fields.{IsSpecified};
+ghost use Rattle.data_encoding.specs.Plain.{base_of_plain};
+ghost use Rattle.data_encoding_c.specs.Numbers.{IsNumbered, fields_numbered};
+ghost use Rattle.data_encoding_c.specs.Pieces.{EndsText, ReadsPiece, StandsAfter, TellsRoom};
+
+use crate::convert::Decoded;
+use crate::numbers::encoding_numbered;
+use crate::pieces::{PlainKept, finish_by, most_by, read_by};
+use crate::status::UNKNOWN_ENCODING;
+use data_encoding::PlainEncoding;
+use data_encoding::laws::steps::pieces;
+
+/// What is kept of no text, by every encoding.
+#[unsafe(no_mangle)]
+pub extern "C" fn de_plain_decoder_new(decoder: &mut PlainKept)
+    ensures { (base : Base) → IsSpecified base → StandsAfter base decoder.new [] }
+{
+    pieces();
+    *decoder = PlainKept {
+        len: 0,
+        count: 0,
+        positions: [0; 8],
+        fault_position: 0,
+        fault: 0,
+        ended: 0,
+        bytes: [0; 8],
+    };
+}
+
+/// The greatest number of bytes that so many more of the text may complete.
+#[unsafe(no_mangle)]
+pub extern "C" fn de_numbered_decoder_most(
+    number: u32,
+    decoder: &PlainKept,
+    len: usize,
+    most: &mut usize,
+) -> u32
+    ensures known { (base : Base) → IsNumbered number base
+        → TellsRoom base decoder.now len most.old most.new result }
+    ensures unknown { fields_numbered number ≡ None
+        → (result ≡ UNKNOWN_ENCODING) × (most.new ≡ most.old) }
+{
+    let Some(encoding) = encoding_numbered(number) else {
+        return UNKNOWN_ENCODING;
+    };
+    most_by(&encoding, decoder, len, most)
+}
+
+/// Reads a piece, and writes the bytes of the groups that are then whole to the front of the
+/// output, and their number to `written`.
+#[unsafe(no_mangle)]
+pub extern "C" fn de_numbered_decoder_read(
+    number: u32,
+    decoder: &mut PlainKept,
+    piece: &[u8],
+    output: &mut [u8],
+    written: &mut usize,
+) -> u32
+    ensures known { (base : Base) → IsNumbered number base
+        → ReadsPiece base decoder.old decoder.new piece.now output.old output.new written.old
+        written.new result }
+    ensures unknown { fields_numbered number ≡ None → (result ≡ UNKNOWN_ENCODING)
+        × (decoder.new ≡ decoder.old) × (output.new ≡ output.old)
+        × (written.new ≡ written.old) }
+{
+    let Some(encoding) = encoding_numbered(number) else {
+        return UNKNOWN_ENCODING;
+    };
+    read_by(&encoding, decoder, piece, output, written)
+}
+
+/// Ends the text: writes the bytes of a last group to the front of the output, and tells the
+/// verdict on the whole text.
+#[unsafe(no_mangle)]
+pub extern "C" fn de_numbered_decoder_finish(
+    number: u32,
+    decoder: &PlainKept,
+    output: &mut [u8],
+    decoded: &mut Decoded,
+) -> u32
+    ensures known { (base : Base) → IsNumbered number base
+        → EndsText base decoder.now output.old output.new decoded.old decoded.new result }
+    ensures unknown { fields_numbered number ≡ None
+        → (result ≡ UNKNOWN_ENCODING) × (output.new ≡ output.old) × (decoded.new ≡ decoded.old) }
+{
+    let Some(encoding) = encoding_numbered(number) else {
+        return UNKNOWN_ENCODING;
+    };
+    finish_by(&encoding, decoder, output, decoded)
+}
+
+/// The greatest number of bytes that so many more of the text may complete.
+#[unsafe(no_mangle)]
+pub extern "C" fn de_held_decoder_most(
+    held: &PlainEncoding,
+    decoder: &PlainKept,
+    len: usize,
+    most: &mut usize,
+) -> u32
+    ensures { TellsRoom (base_of_plain held.now) decoder.now len most.old most.new result }
+{
+    most_by(&held.encoding(), decoder, len, most)
+}
+
+/// Reads a piece, and writes the bytes of the groups that are then whole to the front of the
+/// output, and their number to `written`.
+#[unsafe(no_mangle)]
+pub extern "C" fn de_held_decoder_read(
+    held: &PlainEncoding,
+    decoder: &mut PlainKept,
+    piece: &[u8],
+    output: &mut [u8],
+    written: &mut usize,
+) -> u32
+    ensures { ReadsPiece (base_of_plain held.now) decoder.old decoder.new piece.now output.old
+        output.new written.old written.new result }
+{
+    read_by(&held.encoding(), decoder, piece, output, written)
+}
+
+/// Ends the text: writes the bytes of a last group to the front of the output, and tells the
+/// verdict on the whole text.
+#[unsafe(no_mangle)]
+pub extern "C" fn de_held_decoder_finish(
+    held: &PlainEncoding,
+    decoder: &PlainKept,
+    output: &mut [u8],
+    decoded: &mut Decoded,
+) -> u32
+    ensures { EndsText (base_of_plain held.now) decoder.now output.old output.new decoded.old
+        decoded.new result }
+{
+    finish_by(&held.encoding(), decoder, output, decoded)
+}
