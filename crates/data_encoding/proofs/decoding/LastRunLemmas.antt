@@ -15,7 +15,7 @@ use Rattle.data_encoding.specs.Grammar.{Positioned, positioned, positioned_from,
 use Rattle.data_encoding.specs.Lengths.{is_valid_count, greatest_valid_count, greatest_valid_length, length_fault}
 use Rattle.data_encoding.specs.Fault.{position_of, fault_at, symbols_fault, plain_fault, padded_fault_at, count_before_padding, group_fault, fault_after, bytes_of_group, or_else, first_after, sound_after, fault_of, sound_bytes}
 use Rattle.data_encoding.specs.Partial.{StopsAt, sound_len, read_len, is_length_fault, is_sound_run, partial_by}
-use Rattle.data_encoding.specs.Decoding.{AreSound, HasDecodedTo}
+use Rattle.data_encoding.specs.Decoding.{AreSound}
 use Rattle.data_encoding.proofs.lists.ListLemmas.{filter-all, length-filter}
 use Rattle.data_encoding.proofs.lists.RunLemmas.{runs-join, runs-short}
 use Rattle.data_encoding.proofs.grammar.PositionLemmas.{bytes-positioned_from, length-positioned_from, take-positioned_from}
@@ -24,7 +24,7 @@ use Rattle.data_encoding.proofs.grammar.LengthLemmas.{greatest_valid_length-by, 
 use Rattle.data_encoding.proofs.grammar.GroupLemmas.{bytes_in, bytes_of_group-same, group_fault-none_same, whole-valid}
 use Rattle.data_encoding.proofs.grammar.SoundLemmas.{AreSound-append, first-none, sound-all}
 use Rattle.data_encoding.proofs.grammar.MeaningLemmas.{Means-no_fault}
-use Rattle.data_encoding.proofs.decoding.ProgressLemmas.{IsNext, sound_bytes-front}
+use Rattle.data_encoding.proofs.decoding.ProgressLemmas.{sound_bytes-front}
 use Rattle.data_encoding.proofs.decoding.StopLemmas.{IsAtFault, bounds, fault_is, kind-group, kind-next, kind_of, pos, rest_is, sound_len_is, whole}
 use Rattle.data_encoding.proofs.decoding.GreatestLengthLemmas.{greatest-least, greatest-less, greatest-more, greatest-same, greatest-valid}
 use Rattle.data_encoding.proofs.decoding.IgnoringLemmas.{group-kept}

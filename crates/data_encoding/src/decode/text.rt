@@ -6,7 +6,7 @@ ghost use Rattle.data_encoding.specs.Decoding.{HasDecodedTo, HasStopped, IsDecod
 ghost use Rattle.data_encoding.specs.Lengths.{decoded_len};
 ghost use Rattle.data_encoding.specs.Tables.{IsGroup};
 
-use crate::decode::steps::Step;
+use crate::decode::steps::{Reached, Step};
 use crate::decode::{DECODE_LIMIT, Stop};
 use crate::encoding::{BitOrder, Encoding};
 use crate::error::DecodeKind;
@@ -124,16 +124,19 @@ impl Encoding {
             → IsDecoded self.now input.now stop.new.written output.new }
         ensures stopped { result ≡ false → HasStopped self.now input.now output.new stop.new }
     {
-        match self.step::<Rows, WIDTH, BYTES, SYMBOLS>(
+        let at = self.decode_run_behind::<Rows, WIDTH, BYTES, SYMBOLS>(
             &self.values,
             None,
             order,
-            0,
-            0,
+            Reached {
+                read: 0,
+                written: 0,
+                ignored: 0,
+            },
             input,
             output,
-            stop,
-        ) {
+        );
+        match self.decode_next::<WIDTH, BYTES, SYMBOLS>(order, at, input, output, stop) {
             Step::More => self.decode_rest::<WIDTH, BYTES, SYMBOLS>(input, output, stop),
             Step::Ended => true,
             Step::Faulty => false,
