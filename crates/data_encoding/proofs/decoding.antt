@@ -3,6 +3,7 @@ pub mod EightGroupLemmas
 pub mod TrailingBitLemmas
 pub mod GroupJudgementLemmas
 pub mod RoomLemmas
+pub mod IgnoredFrontLemmas
 pub mod ProgressLemmas
 pub mod SymbolRunLemmas
 pub mod StopLemmas

@@ -96,6 +96,11 @@ pub record IsGathered (base : Base) (size : ℕ) (part bytes : List ℕ) (span :
   pub few : length bytes ≤ size
   pub last : (length bytes ≡ size) ⊎ (length (kept base part) ≡ length bytes)
 
+-- So many bytes at the front of a part are ignored.
+pub record IsIgnoredFront (base : Base) (part : List ℕ) (count : ℕ) : Type 0 where
+  pub within : count ≤ length part
+  pub none : kept base (take count part) ≡ []
+
 -- the greatest front of valid length
 abbrev pub valid_front : Base → List ℕ → List ℕ
 valid_front base rest = take (greatest_valid_length base (length rest)) rest

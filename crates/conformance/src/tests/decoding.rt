@@ -94,7 +94,15 @@ octal|most|check|| |0|||| 00|0 read, 0 written, invalid length at 1
 base64|most|check|=||76|←↵|||AAAA↵A|5 read, 3 written, invalid length at 5
 base64|most|check||↵|0||||AAAA↵A|4 read, 3 written, invalid length at 5
 base64|most|check|=||76|←↵|||SGVs←↵bG|4 read, 3 written, invalid length at 6
-base64|most|check|=||76|←↵|||A↵===|0 read, 0 written, invalid padding length at 2";
+base64|most|check|=||76|←↵|||A↵===|0 read, 0 written, invalid padding length at 2
+base64|most|check|=||76|←↵|||AAAA←↵AAAA←↵!AAA|10 read, 6 written, invalid symbol at 12
+base64|most|check|=||76|←↵|||AAAA←↵AAAA←↵A=AA|10 read, 6 written, invalid symbol at 13
+base64|most|check|=||76|←↵|||AAAA←↵AAAA←↵AA|10 read, 6 written, invalid length at 12
+base64|most|check|=||76|←↵|||←↵←↵AAAA↵↵↵AAAA↵A!AA|15 read, 6 written, invalid symbol at 17
+base64|most|check|=||76|←↵|||A↵AAA↵AAAA↵AA↵A!|10 read, 6 written, invalid symbol at 15
+base64|most|check|=||76|←↵|||←↵AAAA←↵AAAA←↵AA==←↵←↵|7 in all
+base64|most|single check|=|↵|0||||AAAA↵AA==↵↵A|9 read, 4 written, invalid padding length at 11
+base64|most|single check|=|↵|0||||↵AAAA↵AAAA↵AA==↵↵|7 in all";
 
 // What `decode` returns.
 pub(super) fn decoded(alloc: Global, encoding: &Encoding, text: &[u8]) -> Result<String, Fail>

@@ -65,7 +65,7 @@ module _ (base : Base) (part : List ℕ) (index : ℕ) (inside : index < length 
       next-is
       ∙ ap (λ b. kept base (take index part) ++ cond (not b) (found ∷ []) []) h
 
-  next-ignored : is_ignored (meaning base here) ≡ true
+  pub next-ignored : is_ignored (meaning base here) ≡ true
       → kept base (take (index + 1) part) ≡ kept base (take index part)
   next-ignored h =
       next-is

@@ -1,9 +1,10 @@
 -- How far a decoding has come: the step of a run, of a group, the end, and the first fault.
-use Rattle.std.proofs.Common.{◌≡◌, ℕ, zero, suc, ◌+◌, ◌-◌, ◌*◌, ◌/◌, ◌%◌, ◌<◌, ◌≤◌, ◌⊎◌, Bool, true, false, List, [], ◌∷◌, ◌++◌, length, take, drop, get_or, None, refl, sym, ap, ◌∙◌, subst, arith, length-append, length-take-le, ⊎_elim, inl, inr}
+use Rattle.std.proofs.Common.{◌≡◌, ℕ, suc, ◌+◌, ◌-◌, ◌*◌, ◌/◌, ◌%◌, ◌<◌, ◌≤◌, ◌⊎◌, Bool, true, false, List, [], ◌∷◌, ◌++◌, length, take, drop, get_or, None, refl, sym, ap, ◌∙◌, subst, arith, length-append, length-take-le, ⊎_elim, inl, inr}
 use Rattle.std.proofs.lemmas.Bool.{false≢true}
-use Rattle.std.proofs.lemmas.List.{length-drop, append-nil, get_or-take}
+use Rattle.std.proofs.lemmas.List.{length-drop, append-nil, drop-drop, get_or-take}
+use Rattle.std.proofs.Math.Seq.{take-add}
 use Rattle.std.proofs.lemmas.List.Concat.{flat_map-append}
-use Rattle.std.proofs.Math.Nat.{zero-mod, mul-le-mul_left, mul-mod_left, add-mul, zero-mul, suc-mul, mod_self}
+use Rattle.std.proofs.Math.Nat.{zero-mod, mul-le-mul_left, mul-le-mul_right, mul-mod_left, add-mul, mod_self}
 use Rattle.std.proofs.lemmas.Nat.{div-add-mod'}
 use Rattle.std.specs.Prelude.{flat_map}
 use Rattle.data_encoding.specs.declared.encoding.Character.{Character}
@@ -13,17 +14,18 @@ use Rattle.data_encoding.specs.Grammar.{Positioned, positioned_from, kept, group
 use Rattle.data_encoding.specs.Lengths.{length_fault, most_bytes}
 use Rattle.data_encoding.specs.Fault.{fault_after, group_fault, bytes_of_group, fault_of, or_else, first_after, sound_after, sound_bytes, symbol_bytes}
 use Rattle.data_encoding.specs.Partial.{position_after}
-use Rattle.data_encoding.specs.Decoding.{AreSound, HasDecodedTo, run_bytes}
+use Rattle.data_encoding.specs.Decoding.{AreSound, HasDecodedTo, IsIgnoredFront, run_bytes}
 use Rattle.data_encoding.proofs.digits.WidthLemmas.{group_bits, group_symbols-pos}
 use Rattle.data_encoding.proofs.lists.RunLemmas.{runs-nil, runs-join, runs-short, flat_map-runs}
 use Rattle.data_encoding.proofs.lists.EndLemmas.{AllSo}
 use Rattle.data_encoding.proofs.grammar.PositionLemmas.{length-kept, length-positioned_from, length-meanings}
-use Rattle.data_encoding.proofs.grammar.KeptLemmas.{between, kept-split, kept-more, kept_from-more, position_after-append, position_after-positioned}
+use Rattle.data_encoding.proofs.grammar.KeptLemmas.{between, kept_in-append, kept-split, kept-more, kept_from-more, position_after-append, position_after-positioned}
 use Rattle.data_encoding.proofs.grammar.LengthLemmas.{most_bytes-by}
 use Rattle.data_encoding.proofs.grammar.GroupLemmas.{GroupMeans-sound}
 use Rattle.data_encoding.proofs.grammar.MeaningLemmas.{Means-no_fault}
 use Rattle.data_encoding.proofs.grammar.SoundLemmas.{AreSound-append, fault_after-none, first-none, sound-all}
 use Rattle.data_encoding.proofs.grammar.WholeGroupLemmas.{AreSound-symbols, symbols-positioned, kept_in-symbols, run_bytes-positioned}
+use Rattle.data_encoding.proofs.decoding.IgnoredFrontLemmas.{nothing-kept_in}
 use Rattle.data_encoding.proofs.decoding.RoomLemmas.{length-bytes_of_groups, room-bits, room-plain, room-whole}
 
 -- These are the kept bytes from one position to another, which is just after the last of them.
@@ -160,68 +162,61 @@ module _ (base : Base) (width : IsWidth base.width) (text : List ℕ) where
             ∙ ap (flat_map (bytes_of_group base)) (sym more);
       }
 
-  -- nothing more
-  after-none : (read written : ℕ) (old new : List ℕ)
-      → HasDecodedTo base text read written false old → written + 0 * enc ≤ length new
-      → take (written + 0 * enc) new
-      ≡ take written old ++ run_bytes base (take (0 * dec) (drop read text))
-      → HasDecodedTo base text (read + 0 * dec) (written + 0 * enc) false new
-  after-none read written old new so_far fits writes =
-      let same_read : read ≡ read + 0 * dec = omega (arith, zero-mul dec) in
-      let same_written : written + 0 * enc ≡ written = omega (arith, zero-mul enc) in
-      let no_bytes : run_bytes base (take (0 * dec) (drop read text)) ≡ [] =
-      ap (λ n. run_bytes base (take n (drop read text))) (zero-mul dec)
-      ∙ ap (flat_map (symbol_bytes base)) (runs-nil {X = Character} dec pos) in
-      let kept_front : take written new ≡ take written old =
-      ap (λ n. take n new) (sym same_written) ∙ writes ∙ ap (λ l. take written old ++ l) no_bytes
-      ∙ append-nil (take written old) in
-      subst (λ n. HasDecodedTo base text n (written + 0 * enc) false new) same_read
-      (subst (λ n. HasDecodedTo base text read n false new) (sym same_written)
-      (same-output read written false old new so_far (omega (arith, fits, same_written))
-      kept_front))
-
-  -- so many whole groups, of symbols alone
-  pub after-run : (read written count : ℕ) (old new : List ℕ)
+  -- so many whole groups, of symbols alone, behind ignored bytes
+  pub after-run : (read written skip count : ℕ) (old new : List ℕ)
       → HasDecodedTo base text read written false old
-      → count * dec ≤ length text - read
+      → IsIgnoredFront base (drop read text) skip
+      → 0 < count
+      → count * dec ≤ length text - (read + skip)
       → ((k : ℕ) → k < count * dec
-      → is_symbol (meaning base (get_or (drop read text) k 0)) ≡ true)
+      → is_symbol (meaning base (get_or (drop (read + skip) text) k 0)) ≡ true)
       → written + count * enc ≤ length new
       → take (written + count * enc) new
-      ≡ take written old ++ run_bytes base (take (count * dec) (drop read text))
-      → HasDecodedTo base text (read + count * dec) (written + count * enc) false new
-  after-run read written zero old new so_far room symbols fits writes =
-      after-none read written old new so_far fits writes
-  after-run read written (suc count) old new so_far room symbols fits writes =
-      let n = suc count * dec in
-      let part = take n (drop read text) in
+      ≡ take written old ++ run_bytes base (take (count * dec) (drop (read + skip) text))
+      → HasDecodedTo base text (read + skip + count * dec) (written + count * enc) false new
+  after-run read written skip count old new so_far front many room symbols fits writes =
+      let n = count * dec in
+      let start = read + skip in
+      let part = take n (drop start text) in
+      let start_in : start ≤ length text =
+      omega (arith, front.within, so_far.within, length-drop read text) in
       let part_len : length part ≡ n =
-      length-take-le n (drop read text) (omega (arith, length-drop read text, room)) in
-      let some : 0 < n = omega (arith, suc-mul count dec, pos) in
+      length-take-le n (drop start text) (omega (arith, length-drop start text, room)) in
+      let some : 0 < n = omega (arith, mul-le-mul_right dec many, pos) in
       let all : AllSo (λ byte. is_symbol (meaning base byte)) part =
       all_at (λ byte. is_symbol (meaning base byte)) part
       (λ k less. let inside : k < n = omega (arith, less, part_len) in
-      ap (λ byte. is_symbol (meaning base byte)) (get_or-take n (drop read text) k 0 inside)
+      ap (λ byte. is_symbol (meaning base byte)) (get_or-take n (drop start text) k 0 inside)
       ∙ symbols k inside) in
-      let same : between read (read + n) text ≡ part =
-      ap (λ m. take m (drop read text)) (omega arith) in
-      let len : length (positioned_from read part) ≡ n =
-      length-positioned_from read part ∙ part_len in
-      advance read written (read + n) (suc count * enc) false false (positioned_from read part) old
+      let width_is : start + n - read ≡ skip + n = omega arith in
+      let place : read + length (take skip (drop read text)) ≡ start =
+      omega (arith, length-take-le skip (drop read text) front.within) in
+      let same : between read (start + n) text ≡ take skip (drop read text) ++ part =
+      ap (λ m. take m (drop read text)) width_is ∙ take-add skip n (drop read text)
+      ∙ ap (λ l. take skip (drop read text) ++ take n l) (drop-drop skip read text) in
+      let parts : kept_in base read (between read (start + n) text) ≡ positioned_from start part =
+      ap (kept_in base read) same
+      ∙ kept_in-append base read (take skip (drop read text)) part
+      ∙ (λ i. nothing-kept_in base read (take skip (drop read text)) front.none i
+      ++ kept_in base (place i) part)
+      ∙ kept_in-symbols base start part all in
+      let len : length (positioned_from start part) ≡ n =
+      length-positioned_from start part ∙ part_len in
+      advance read written (start + n) (count * enc) false false (positioned_from start part) old
       new so_far
       (record {
         after = omega arith;
-        within = omega (arith, so_far.within, room);
-        is_kept = sym (ap (kept_in base read) same ∙ kept_in-symbols base read part all);
+        within = omega (arith, start_in, room);
+        is_kept = sym parts;
         some = omega (arith, len, some);
-        ends = position_after-positioned read part (omega (arith, part_len, some))
-            ∙ ap (λ m. read + m) part_len;
+        ends = position_after-positioned start part (omega (arith, part_len, some))
+            ∙ ap (λ m. start + m) part_len;
       })
-      (AreSound-symbols base width (suc count) (positioned_from read part) len
-      (symbols-positioned base read part all))
-      (inl (ap (λ m. m % dec) len ∙ mul-mod_left (suc count) dec))
+      (AreSound-symbols base width count (positioned_from start part) len
+      (symbols-positioned base start part all))
+      (inl (ap (λ m. m % dec) len ∙ mul-mod_left count dec))
       fits
-      (writes ∙ ap (λ l. take written old ++ l) (run_bytes-positioned base width read part))
+      (writes ∙ ap (λ l. take written old ++ l) (run_bytes-positioned base width start part))
 
   -- a group more
   pub after-group : (read written stop count : ℕ) (begun : Bool) (group : List Positioned)

@@ -1,10 +1,10 @@
 -- A step of a decoding: what a run, a group and the end do to it.
-use Rattle.std.proofs.Common.{◌≡◌, ℕ, ◌+◌, ◌-◌, ◌*◌, ◌/◌, ◌%◌, ◌<◌, ◌≤◌, Bool, true, false, not, nat_lt, ◌&&◌, ◌==◌, ◌⊎◌, List, ◌++◌, length, take, drop, Some, refl, sym, ap, ◌∙◌, subst, arith, length-take-le, ⊎_elim, map}
+use Rattle.std.proofs.Common.{◌≡◌, ℕ, ◌+◌, ◌-◌, ◌*◌, ◌/◌, ◌%◌, ◌<◌, ◌≤◌, Bool, true, false, not, nat_lt, ◌&&◌, ◌==◌, ◌⊎◌, List, [], ◌++◌, length, take, drop, Some, refl, sym, ap, ◌∙◌, subst, arith, length-take-le, ⊎_elim, map}
 use Rattle.std.proofs.Math.Nat.{mul-le-mul_left, mul-zero, zero-mod}
 use Rattle.std.proofs.Math.Seq.{take-add}
 use Rattle.std.proofs.lemmas.Bool.{cases_lt, eqb-true, false≢true}
 use Rattle.std.proofs.lemmas.Bool.Decides.{nat_tests}
-use Rattle.std.proofs.lemmas.List.{length-drop, take_rest, length-map}
+use Rattle.std.proofs.lemmas.List.{drop-drop, length-drop, take_rest, length-map}
 use Rattle.std.proofs.lemmas.Nat.{div-add-mod'}
 use Rattle.std.proofs.lemmas.Slice.{take-put_mid_below}
 use Rattle.std.specs.List.{list_any}
@@ -15,9 +15,9 @@ use Rattle.data_encoding.specs.declared.error.DecodeError.{DecodeError}
 use Rattle.data_encoding.specs.declared.error.DecodePartial.{DecodePartial}
 use Rattle.data_encoding.specs.declared.decode.group.GroupFault.{GroupFault}
 use Rattle.data_encoding.specs.Base.{Base, IsWidth, group_bytes, group_symbols, is_padded, is_padding, meaning}
-use Rattle.data_encoding.specs.Decoding.{HasFault, HasNoLastRun, IsDecoded, IsDecodedGroup, IsGathered, IsLastRun, IsRun, IsStop, HasStopped, valid_front, HasDecodedTo}
+use Rattle.data_encoding.specs.Decoding.{HasFault, HasNoLastRun, IsDecoded, IsDecodedGroup, IsGathered, IsLastRun, IsRun, IsStop, HasStopped, IsIgnoredFront, valid_front, HasDecodedTo}
 use Rattle.data_encoding.specs.Fault.{fault_after, group_fault, located, position_of, symbol_bytes}
-use Rattle.data_encoding.specs.Grammar.{Means, Positioned, kept}
+use Rattle.data_encoding.specs.Grammar.{Means, Positioned, kept, kept_from}
 use Rattle.data_encoding.specs.Lengths.{greatest_valid_length}
 use Rattle.data_encoding.specs.Partial.{StopsAt, is_length_fault}
 use Rattle.data_encoding.proofs.digits.WidthLemmas.{group_bits}
@@ -30,6 +30,8 @@ use Rattle.data_encoding.proofs.decoding.LastRunLemmas.{last-none, last-sound, l
 use Rattle.data_encoding.proofs.decoding.RoomLemmas.{multiples}
 use Rattle.data_encoding.proofs.decoding.ProgressLemmas.{IsNext, after-group, after-run, room-group, room-run, same-output}
 use Rattle.data_encoding.proofs.decoding.StopLemmas.{IsAtFault, at-fault}
+use Rattle.data_encoding.proofs.grammar.KeptLemmas.{nothing-left}
+use Rattle.data_encoding.proofs.decoding.IgnoredFrontLemmas.{gathered-behind, nothing-behind}
 use Rattle.data_encoding.proofs.decoding.LoopLemmas.{IsUnderWay, decoded}
 
 -- the front of valid length has that length
@@ -99,67 +101,129 @@ module _ {base : Base} {text : List ℕ} {w bytes symbols read written : ℕ} {e
 
 module _ {base : Base} {text : List ℕ} {w bytes symbols read written : ℕ} {output : List ℕ}
     (s : IsUnderWay base text w bytes symbols read written false output) where
-  -- a run has room
-  pub room-next_run : length (take (length text - read) (drop read text)) / symbols * bytes
-      ≤ length (take (length output - written) (drop written output))
-  room-next_run =
-      let dec = group_symbols base.width in
-      let enc = group_bytes base.width in
-      let count = length (drop read text) / dec in
-      let whole : count * dec ≤ length text - read =
-      omega (arith, div-add-mod' (length (drop read text)) dec, length-drop read text) in
-      let fits : count * enc ≤ length (drop written output) =
-      omega (
-        arith,
-        room-run base s.width text read written false output s.so_far count whole,
-        length-drop written output,
-      ) in
-      let same : length (take (length text - read) (drop read text)) / symbols * bytes
-      ≡ count * enc =
-      λ i. length (take_rest text read i) / s.symbols_is i * s.bytes_is i in
-      subst (λ n. n ≤ length (take (length output - written) (drop written output))) (sym same)
-      (subst (λ l. count * enc ≤ length l) (sym (take_rest output written)) fits)
+  module _ {skip : ℕ} (front : IsIgnoredFront base (drop read text) skip) where
+    abbrev start : ℕ
+    start = read + skip
 
-  -- what a run does
-  module _ {count : ℕ} {rest old : List ℕ}
-      (rest_len : length rest ≡ length (take (length output - written) (drop written output)))
-      (run : IsRun base (take (length text - read) (drop read text)) count old rest) where
-    here : IsRun base (drop read text) count old rest
-    here = subst (λ l. IsRun base l count old rest) (take_rest text read) run
+    pub start-within : read + skip ≤ length text
+    start-within = omega (arith, front.within, s.so_far.within, length-drop read text)
 
-    inside : count * group_symbols base.width ≤ length text - read
-    inside = omega (arith, here.within, length-drop read text)
-
-    room : count * group_bytes base.width ≤ length rest
-    room =
-        omega (
-          arith,
-          room-run base s.width text read written false output s.so_far count inside,
-          rest_len,
-          ap length (take_rest output written),
-          length-drop written output,
-        )
-
-    run_done : HasDecodedTo base text (read + count * symbols) (written + count * bytes) false
-        (rewritten written output rest)
-    run_done =
+    -- a run has room
+    pub room-next_run : length (take (length text - (read + skip)) (drop (read + skip) text))
+        / symbols * bytes ≤ length (take (length output - written) (drop written output))
+    room-next_run =
         let dec = group_symbols base.width in
         let enc = group_bytes base.width in
-        let new = rewritten written output rest in
-        let fits = length-rewritten written output rest s.so_far.fits in
-        subst (λ n. HasDecodedTo base text n (written + count * bytes) false new)
-        (ap (λ d. read + count * d) (sym s.symbols_is))
-        (subst (λ n. HasDecodedTo base text (read + count * dec) n false new)
-        (ap (λ e. written + count * e) (sym s.bytes_is))
-        (after-run base s.width text read written count output new s.so_far inside
-        here.are_symbols (omega (arith, room, fits))
-        (take-rewritten written output rest s.so_far.fits (count * enc)
-        ∙ ap (λ l. take written output ++ l) here.bytes)))
+        let count = length (drop start text) / dec in
+        let whole : count * dec ≤ length text - read =
+        omega (arith, div-add-mod' (length (drop start text)) dec, length-drop start text) in
+        let fits : count * enc ≤ length (drop written output) =
+        omega (
+          arith,
+          room-run base s.width text read written false output s.so_far count whole,
+          length-drop written output,
+        ) in
+        let same : length (take (length text - start) (drop start text)) / symbols * bytes
+        ≡ count * enc =
+        λ i. length (take_rest text start i) / s.symbols_is i * s.bytes_is i in
+        subst (λ n. n ≤ length (take (length output - written) (drop written output))) (sym same)
+        (subst (λ l. count * enc ≤ length l) (sym (take_rest output written)) fits)
 
-    pub after_run : IsUnderWay base text w bytes symbols (read + count * symbols)
-        (written + count * bytes) false (rewritten written output rest)
-    after_run =
-        further s (length-rewritten_same written output rest s.so_far.fits rest_len) run_done
+    -- what a run does
+    module _ {count : ℕ} {rest old : List ℕ}
+        (rest_len : length rest
+        ≡ length (take (length output - written) (drop written output)))
+        (run : IsRun base (take (length text - (read + skip)) (drop (read + skip) text)) count old
+        rest) where
+      here : IsRun base (drop start text) count old rest
+      here = subst (λ l. IsRun base l count old rest) (take_rest text start) run
+
+      inside : count * group_symbols base.width ≤ length text - start
+      inside = omega (arith, here.within, length-drop start text)
+
+      room : count * group_bytes base.width ≤ length rest
+      room =
+          omega (
+            arith,
+            room-run base s.width text read written false output s.so_far count
+                (omega (arith, inside)),
+            rest_len,
+            ap length (take_rest output written),
+            length-drop written output,
+          )
+
+      run_done : 0 < count
+          → HasDecodedTo base text (read + skip + count * symbols) (written + count * bytes) false
+          (rewritten written output rest)
+      run_done some =
+          let dec = group_symbols base.width in
+          let enc = group_bytes base.width in
+          let new = rewritten written output rest in
+          let fits = length-rewritten written output rest s.so_far.fits in
+          subst (λ n. HasDecodedTo base text n (written + count * bytes) false new)
+          (ap (λ d. read + skip + count * d) (sym s.symbols_is))
+          (subst (λ n. HasDecodedTo base text (read + skip + count * dec) n false new)
+          (ap (λ e. written + count * e) (sym s.bytes_is))
+          (after-run base s.width text read written skip count output new s.so_far front some
+          inside here.are_symbols (omega (arith, room, fits))
+          (take-rewritten written output rest s.so_far.fits (count * enc)
+          ∙ ap (λ l. take written output ++ l) here.bytes)))
+
+      pub after_run : 0 < count
+          → IsUnderWay base text w bytes symbols (read + skip + count * symbols)
+          (written + count * bytes) false (rewritten written output rest)
+      after_run some =
+          further s (length-rewritten_same written output rest s.so_far.fits rest_len)
+          (run_done some)
+
+    -- nothing is left where nothing is behind ignored bytes
+    pub decoded-behind : length text ≤ read + skip → IsDecoded base text written output
+    decoded-behind past =
+        let all : length text ≡ read + skip = omega (arith, past, start-within) in
+        decoded s (nothing-behind base text read skip s.so_far.within front
+        (subst (λ n. kept_from base n text ≡ []) all (nothing-left base text)))
+
+    -- what is gathered there is gathered from before them
+    module _ {group : List ℕ} {span : ℕ}
+        (is : IsGathered base symbols
+        (take (length text - (read + skip)) (drop (read + skip) text)) group span) where
+      found_behind : IsGathered base symbols (drop skip (drop read text)) group span
+      found_behind =
+          subst (λ l. IsGathered base symbols l group span)
+          (take_rest text start ∙ sym (drop-drop skip read text)) is
+
+      pub gathered-next : 0 < length group
+          → IsGathered base symbols (take (length text - read) (drop read text)) group (skip + span)
+      gathered-next some =
+          subst (λ l. IsGathered base symbols l group (skip + span)) (sym (take_rest text read))
+          (gathered-behind base symbols (drop read text) group skip span front found_behind
+          (omega (
+            arith,
+            some,
+            gathered-few base symbols (drop skip (drop read text)) group span found_behind,
+          )))
+
+      pub decoded-none : {empty : Bool} → empty ≡ (length group == 0) → empty ≡ true
+          → IsDecoded base text written output
+      decoded-none empty_is empty =
+          let found : IsGathered base (group_symbols base.width) (drop start text) group span =
+          subst (λ n. IsGathered base n (drop start text) group span) s.symbols_is
+          (subst (λ l. IsGathered base symbols l group span) (take_rest text start) is) in
+          decoded s (nothing-behind base text read skip s.so_far.within front
+          (none-next base s.width text start start-within group span found
+          (eqb-true (length group) 0 (sym empty_is ∙ empty))))
+
+  -- the same with other bytes behind what was written
+  pub after_none : (rest : List ℕ)
+      → length rest ≡ length (take (length output - written) (drop written output))
+      → IsUnderWay base text w bytes symbols read written false (rewritten written output rest)
+  after_none rest rest_len =
+      let len = length-rewritten_same written output rest s.so_far.fits rest_len in
+      further s len
+      (same-output base s.width text read written false output (rewritten written output rest)
+      s.so_far (omega (arith, len, s.so_far.fits))
+      (take-put_mid_below written (length output - written) output rest written (omega arith)
+      s.so_far.fits))
 
   -- a group of that many bytes has room, where it may have bytes
   room-group_of : (count : ℕ) → count ≤ length text - read
@@ -220,14 +284,6 @@ module _ {base : Base} {text : List ℕ} {w bytes symbols read written : ℕ} {o
 
       abbrev placed : List Positioned
       placed = next_bytes base text read span
-
-      -- nothing is left where the group is empty
-      pub decoded-none : {empty : Bool} → empty ≡ (length group == 0) → empty ≡ true
-          → IsDecoded base text written output
-      decoded-none empty_is empty =
-          decoded s
-          (none-next base s.width text read s.so_far.within group span found_here
-          (eqb-true (length group) 0 (sym empty_is ∙ empty)))
 
       few_left : length group ≤ length text - read
       few_left =
@@ -436,35 +492,37 @@ module _ {base : Base} {text : List ℕ} {w bytes symbols read written : ℕ} {o
               (ap (λ n. take (n * count / 8) rest) (sym s.w_is) ∙ has.bytes
               ∙ ap (λ l. symbol_bytes base (map (meaning base) l)) (sym same))))
 
-          pub after_group : {final : Bool}
+          pub after_group : (stop : ℕ) {final : Bool} → read + span ≡ stop
               → (not base.concatenates && nat_lt count (length group)) ≡ final
-              → IsUnderWay base text w bytes symbols (read + span) (written + w * count / 8) final
+              → IsUnderWay base text w bytes symbols stop (written + w * count / 8) final
               (rewritten written output rest)
-          after_group same =
+          after_group stop {final} place same =
               further s (length-rewritten_same written output rest s.so_far.fits rest_len)
+              (subst (λ n. HasDecodedTo base text n (written + w * count / 8) final
+              (rewritten written output rest)) place
               (subst (λ b. HasDecodedTo base text (read + span) (written + w * count / 8) b
-              (rewritten written output rest)) same group_done)
+              (rewritten written output rest)) same group_done))
 
           -- it goes on where texts may follow, or where the group has no padding
-          pub group-more : {own : Base} → own ≡ base
+          pub group-more : (stop : ℕ) {own : Base} → read + span ≡ stop → own ≡ base
               → (own.concatenates ≡ true) ⊎ (length group ≤ count)
-              → IsUnderWay base text w bytes symbols (read + span) (written + w * count / 8) false
+              → IsUnderWay base text w bytes symbols stop (written + w * count / 8) false
               (rewritten written output rest)
-          group-more same how =
-              after_group
+          group-more stop place same how =
+              after_group stop place
               (⊎_elim
               (λ joins. ap (λ v. not v && nat_lt count (length group))
               (ap (λ (b : Base). b.concatenates) (sym same) ∙ joins))
               (no_padding base.concatenates count (length group)) how)
 
           -- and otherwise the group is final
-          pub group-final : {own : Base} → own ≡ base → own.concatenates ≡ false
-              → count < length group
-              → IsUnderWay base text w bytes symbols (read + span) (written + w * count / 8) true
+          pub group-final : (stop : ℕ) {own : Base} → read + span ≡ stop → own ≡ base
+              → own.concatenates ≡ false → count < length group
+              → IsUnderWay base text w bytes symbols stop (written + w * count / 8) true
               (rewritten written output rest)
-          group-final same apart padded =
+          group-final stop place same apart padded =
               let short : nat_lt count (length group) ≡ true = grind (arith, nat_tests, padded) in
-              after_group
+              after_group stop place
               (λ i. not ((ap (λ (b : Base). b.concatenates) (sym same) ∙ apart) i) && short i)
 
 -- after a final group, any other is a fault

@@ -17,7 +17,7 @@ use Rattle.data_encoding.specs.Encoding.{base_of_tables, KeepsRules, wrapping_by
 use Rattle.data_encoding.specs.Entries.{meaning_of_entry, is_entry_of, HoldsEntries}
 use Rattle.data_encoding.specs.Meanings.{meanings_of_table, HasEntries}
 use Rattle.data_encoding.specs.Tables.{HasTables, HoldsSymbols, HoldsValues, IsGroup, Reads, Writes}
-use Rattle.data_encoding.specs.Decoding.{AreSound, HasDecodedTo, IsLongest, IsRun, IsDecodedGroup, most_symbols, HasSymbols, HasFault, IsGathered, valid_front, IsLastRun, HasNoLastRun, HasRoom, IsStop, IsDecoded, fault_of_stop, run_bytes}
+use Rattle.data_encoding.specs.Decoding.{AreSound, HasDecodedTo, IsLongest, IsRun, IsDecodedGroup, most_symbols, HasSymbols, HasFault, IsGathered, IsIgnoredFront, valid_front, IsLastRun, HasNoLastRun, HasRoom, IsStop, IsDecoded, fault_of_stop, run_bytes}
 use Rattle.data_encoding.proofs.tables.TableLemmas.{Reads-seen, Writes-tables}
 use Rattle.std.specs.Borrow.{Bor}
 use Rattle.data_encoding.specs.declared.specification.predefined.Predefined.{Predefined}
@@ -117,6 +117,12 @@ group_decoded = (
   record { inside = lit< tt; is_fault = refl },
   refl,
 )
+
+-- the separator at the front of a line
+front_ignored :
+    Has base64_mime_fields (λ base.
+    IsIgnoredFront base (13 ∷ 10 ∷ codes "SGVs") 2)
+front_ignored = record { within = lit≤ tt; none = refl; }
 
 -- the next group, in which no byte is ignored
 group_gathered :

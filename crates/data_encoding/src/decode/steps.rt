@@ -1,13 +1,14 @@
 //! Decoding step by step: a run of whole groups, and the group that follows it.
 
-ghost use Rattle.std.specs.Prelude.{◌≡◌, ℕ, List, true, false, ◌<◌, ◌≤◌, length, Ok, IsTrue, IfSome};
-ghost use Rattle.data_encoding.specs.Decoding.{HasDecodedTo, HasStopped, IsDecoded, IsGathered};
+ghost use Rattle.std.specs.Prelude.{◌≡◌, ℕ, List, true, false, ◌<◌, ◌≤◌, length, drop, Ok, IsTrue, IfSome};
+ghost use Rattle.data_encoding.specs.Base.{Base};
+ghost use Rattle.data_encoding.specs.Decoding.{HasDecodedTo, HasStopped, IsDecoded, IsGathered, IsIgnoredFront};
 ghost use Rattle.data_encoding.specs.Grammar.{kept};
 ghost use Rattle.data_encoding.specs.Lengths.{decoded_len};
-ghost use Rattle.data_encoding.specs.Tables.{Reads};
+ghost use Rattle.data_encoding.specs.Tables.{HoldsValues, Reads};
 
 use crate::decode::{DECODE_LIMIT, Stop};
-use crate::encoding::{BitOrder, Encoding};
+use crate::encoding::{BitOrder, Encoding, IGNORED};
 use crate::error::DecodeKind;
 use crate::kernel::decode::decode_run;
 use crate::kernel::group_size::GroupSize;
@@ -24,6 +25,14 @@ pub(crate) enum Step {
 
     // The next group is faulty.
     Faulty,
+}
+
+// How far a text was read and its output written, and how many bytes are ignored behind that.
+#[derive(Clone, Copy, Drop)]
+pub(crate) struct Reached {
+    pub(crate) read: usize,
+    pub(crate) written: usize,
+    pub(crate) ignored: usize,
 }
 
 impl Encoding {
@@ -90,9 +99,16 @@ impl Encoding {
         ensures stopped { result ≡ false → HasStopped self.now input.now output.new stop.new }
     {
         while stop.read < input.len() {
-            let read = stop.read;
-            let written = stop.written;
-            match self.step::<L, G>(values, look_up, order, read, written, input, output, stop) {
+            let at = self.decode_runs::<L, G>(
+                values,
+                look_up,
+                order,
+                stop.read,
+                stop.written,
+                input,
+                output,
+            );
+            match self.decode_next::<G>(order, at, input, output, stop) {
                 Step::More => {}
                 Step::Ended => return true,
                 Step::Faulty => return false,
@@ -101,11 +117,9 @@ impl Encoding {
         true
     }
 
-    /// A run of whole groups, and the group that follows it, which is judged alone. Where the text
-    /// has no look-up, the run finds its own.
-    // A fault is described by the caller, since a result with room for it makes short texts slower.
+    /// Runs of whole groups that are symbols alone, with ignored bytes between them.
     #[inline(always)]
-    pub(crate) fn step<L: LookUp, G: GroupSize>(
+    fn decode_runs<L: LookUp, G: GroupSize>(
         &self,
         values: &[u8; 256],
         look_up: Option<&L>,
@@ -114,50 +128,139 @@ impl Encoding {
         written: usize,
         input: &[u8],
         output: &mut [u8],
-        stop: &mut Stop,
-    ) -> Step
+    ) -> Reached
         requires reads { Reads self.now values.now G.WIDTH order }
         requires held { IfSome look_up (λ look_up. L.holds values.now look_up.now) }
         requires limit { length input.now ≤ DECODE_LIMIT }
         requires exact { decoded_len self.now (length input.now) ≡ Ok (length output.old) }
         requires so_far { HasDecodedTo self.now input.now read written false output.old }
+        ensures so_far { HasDecodedTo self.now input.now result.read result.written false
+            output.new }
+        ensures front { IsIgnoredFront self.now (drop result.read input.now) result.ignored }
+        ensures further { read ≤ result.read }
+    {
+        let mut at = Reached {
+            read,
+            written,
+            ignored: self.ignored_behind(read, input),
+        };
+        let mut goes_on = true;
+        while goes_on {
+            let next = self.decode_run_behind::<L, G>(
+                values, look_up, order, at, input, output,
+            );
+            if next.read == at.read {
+                return next;
+            }
+            at = Reached {
+                read: next.read,
+                written: next.written,
+                ignored: self.ignored_behind(next.read, input),
+            };
+            goes_on = at.ignored != 0;
+        }
+        at
+    }
+
+    /// A run of whole groups that are symbols alone, behind bytes that are ignored: these are read
+    /// only where the run has a group. Where the text has no look-up, the run finds its own.
+    #[inline(always)]
+    pub(crate) fn decode_run_behind<L: LookUp, G: GroupSize>(
+        &self,
+        values: &[u8; 256],
+        look_up: Option<&L>,
+        order: BitOrder,
+        at: Reached,
+        input: &[u8],
+        output: &mut [u8],
+    ) -> Reached
+        requires reads { Reads self.now values.now G.WIDTH order }
+        requires held { IfSome look_up (λ look_up. L.holds values.now look_up.now) }
+        requires limit { length input.now ≤ DECODE_LIMIT }
+        requires exact { decoded_len self.now (length input.now) ≡ Ok (length output.old) }
+        requires so_far { HasDecodedTo self.now input.now at.read at.written false output.old }
+        requires front { IsIgnoredFront self.now (drop at.read input.now) at.ignored }
+        ensures so_far { HasDecodedTo self.now input.now result.read result.written false
+            output.new }
+        ensures front { IsIgnoredFront self.now (drop result.read input.now) result.ignored }
+        ensures further { at.read ≤ result.read }
+    {
+        let start = at.read + at.ignored;
+        let count = decode_run::<L, G>(
+            values,
+            look_up,
+            order,
+            &input[start..],
+            &mut output[at.written..],
+        );
+        if count == 0 {
+            return at;
+        }
+        Reached {
+            read: start + count * G::SYMBOLS,
+            written: at.written + count * G::BYTES,
+            ignored: 0,
+        }
+    }
+
+    // How many bytes are ignored behind what was read.
+    #[inline(always)]
+    fn ignored_behind(&self, read: usize, input: &[u8]) -> usize
+        requires within { read ≤ length input.now }
+        ensures { IsIgnoredFront self.now (drop read input.now) result }
+    {
+        if !self.ignores {
+            return 0;
+        }
+        ignored_front(&self.values, &input[read..])
+    }
+
+    /// The group behind what was read, which is judged alone.
+    // A fault is described by the caller, since a result with room for it makes short texts slower.
+    #[inline(always)]
+    pub(crate) fn decode_next<G: GroupSize>(
+        &self,
+        order: BitOrder,
+        at: Reached,
+        input: &[u8],
+        output: &mut [u8],
+        stop: &mut Stop,
+    ) -> Step
+        requires width { self.now.width ≡ G.WIDTH }
+        requires order { self.now.order ≡ order }
+        requires limit { length input.now ≤ DECODE_LIMIT }
+        requires exact { decoded_len self.now (length input.now) ≡ Ok (length output.old) }
+        requires so_far { HasDecodedTo self.now input.now at.read at.written false output.old }
+        requires front { IsIgnoredFront self.now (drop at.read input.now) at.ignored }
         ensures more { result ≡ Step.More → HasDecodedTo self.now input.now stop.new.read
             stop.new.written false output.new }
-        ensures further { result ≡ Step.More → read < stop.new.read }
+        ensures further { result ≡ Step.More → at.read < stop.new.read }
         ensures ended { result ≡ Step.Ended
             → IsDecoded self.now input.now stop.new.written output.new }
         ensures faulty { result ≡ Step.Faulty
             → HasStopped self.now input.now output.new stop.new }
     {
-        let count = decode_run::<L, G>(
-            values,
-            look_up,
-            order,
-            &input[read..],
-            &mut output[written..],
-        );
-        let read = read + count * G::SYMBOLS;
-        let written = written + count * G::BYTES;
-        if read == input.len() {
-            stop.written = written;
+        let start = at.read + at.ignored;
+        if start == input.len() {
+            stop.written = at.written;
             return Step::Ended;
         }
         let mut room = [0; 8];
-        let group = self.next_group::<G>(&input[read..], &mut room);
+        let group = self.next_group::<G>(&input[start..], &mut room);
         if group.bytes.is_empty() {
-            stop.written = written;
+            stop.written = at.written;
             return Step::Ended;
         }
-        let rest = &mut output[written..];
+        let rest = &mut output[at.written..];
         let count = match self.decode_group::<G>(order, group.bytes, rest) {
             Ok(count) => count,
             Err(fault) => {
-                *stop = Stop::new(read, written, fault.index, fault.kind);
+                *stop = Stop::new(at.read, at.written, fault.index, fault.kind);
                 return Step::Faulty;
             }
         };
-        let read = read + group.span;
-        let written = written + G::WIDTH * count / 8;
+        let read = start + group.span;
+        let written = at.written + G::WIDTH * count / 8;
         *stop = Stop::new(read, written, 0, DecodeKind::Padding);
         if count < group.bytes.len() && !self.concatenates {
             if self.is_end::<G>(&input[read..]) {
@@ -181,4 +284,19 @@ impl Encoding {
         let mut room = [0; 8];
         self.next_group::<G>(rest, &mut room).bytes.is_empty()
     }
+}
+
+// How many bytes are ignored in front of the first that is not.
+#[inline(always)]
+fn ignored_front(values: &[u8; 256], rest: &[u8]) -> usize
+    ensures within { result ≤ length rest.now }
+    ensures front { (base : Base) → HoldsValues base values.now
+        → IsIgnoredFront base rest.now result }
+{
+    for index in 0..rest.len() {
+        if values[rest[index] as usize] != IGNORED {
+            return index;
+        }
+    }
+    rest.len()
 }

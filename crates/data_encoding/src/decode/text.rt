@@ -5,7 +5,7 @@ ghost use Rattle.data_encoding.specs.Base.{IsWidth};
 ghost use Rattle.data_encoding.specs.Decoding.{HasDecodedTo, HasStopped, IsDecoded};
 ghost use Rattle.data_encoding.specs.Lengths.{decoded_len};
 
-use crate::decode::steps::Step;
+use crate::decode::steps::{Reached, Step};
 use crate::decode::{DECODE_LIMIT, Stop};
 use crate::encoding::{BitOrder, Encoding};
 use crate::error::DecodeKind;
@@ -122,7 +122,19 @@ impl Encoding {
             → IsDecoded self.now input.now stop.new.written output.new }
         ensures stopped { result ≡ false → HasStopped self.now input.now output.new stop.new }
     {
-        match self.step::<Rows, G>(&self.values, None, order, 0, 0, input, output, stop) {
+        let at = self.decode_run_behind::<Rows, G>(
+            &self.values,
+            None,
+            order,
+            Reached {
+                read: 0,
+                written: 0,
+                ignored: 0,
+            },
+            input,
+            output,
+        );
+        match self.decode_next::<G>(order, at, input, output, stop) {
             Step::More => self.decode_rest::<G>(input, output, stop),
             Step::Ended => true,
             Step::Faulty => false,

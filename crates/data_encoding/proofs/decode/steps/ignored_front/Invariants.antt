@@ -1,0 +1,9 @@
+use Rattle.std.proofs.Common.{◌≡◌, take, []}
+use Rattle.data_encoding.specs.Base.{Base}
+use Rattle.data_encoding.specs.Grammar.{kept}
+use Rattle.data_encoding.specs.Tables.{HoldsValues}
+use Rattle.data_encoding.proofs.decode.steps.ignored_front.Given as goal
+
+abbrev pub invariant-loop-index : goal.invariant-loop-index
+invariant-loop-index l =
+    (base : Base) → HoldsValues base l.values → kept base (take l.index l.rest) ≡ []
