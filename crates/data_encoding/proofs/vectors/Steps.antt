@@ -122,7 +122,7 @@ group_decoded = (
 front_ignored :
     Has base64_mime_fields (λ base.
     IsIgnoredFront base (13 ∷ 10 ∷ codes "SGVs") 2)
-front_ignored = record { within = lit≤ tt; none = refl; }
+front_ignored = record { within = lit≤ tt; none = refl }
 
 -- the next group, in which no byte is ignored
 group_gathered :
