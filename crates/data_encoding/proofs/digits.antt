@@ -12,6 +12,7 @@ pub mod GroupWordLemmas
 pub mod ThreeByteLemmas
 pub mod FiveByteLemmas
 pub mod RowLemmas
+pub mod SizeLemmas
 pub mod GatherStepLemmas
 pub mod GatherWordLemmas
 pub mod GatherRowLemmas

@@ -12,10 +12,10 @@ ghost use Rattle.data_encoding.specs.Fault.{IsRefusal, fault_of, sound_bytes};
 ghost use Rattle.data_encoding.specs.Grammar.{Means, kept};
 ghost use Rattle.data_encoding.specs.Lengths.{decoded_len};
 ghost use Rattle.data_encoding.specs.Partial.{is_length_fault, partial_of};
-ghost use Rattle.data_encoding.specs.Tables.{IsGroup};
 
 use crate::encoding::Encoding;
 use crate::error::{DecodeError, DecodeFault, DecodeKind, DecodePartial};
+use crate::kernel::group_size::{Base2, Base4, Base8, Base16, Base32, Base64, GroupSize};
 use crate::memory::zeros;
 use std::alloc::Global;
 
@@ -127,23 +127,18 @@ impl Encoding {
         ensures none { result ≡ None → HasNoLastRun self.now rest.now }
     {
         match self.width {
-            1 => self.decode_last_run::<1, 1, 8>(rest, output),
-            2 => self.decode_last_run::<2, 1, 4>(rest, output),
-            3 => self.decode_last_run::<3, 3, 8>(rest, output),
-            4 => self.decode_last_run::<4, 1, 2>(rest, output),
-            5 => self.decode_last_run::<5, 5, 8>(rest, output),
-            _ => self.decode_last_run::<6, 3, 4>(rest, output),
+            1 => self.decode_last_run::<Base2>(rest, output),
+            2 => self.decode_last_run::<Base4>(rest, output),
+            3 => self.decode_last_run::<Base8>(rest, output),
+            4 => self.decode_last_run::<Base16>(rest, output),
+            5 => self.decode_last_run::<Base32>(rest, output),
+            _ => self.decode_last_run::<Base64>(rest, output),
         }
     }
 
     // With the width as a constant.
-    fn decode_last_run<const WIDTH: usize, const BYTES: usize, const SYMBOLS: usize>(
-        &self,
-        rest: &[u8],
-        output: &mut [u8],
-    ) -> Option<usize>
-        requires group { IsGroup WIDTH BYTES SYMBOLS }
-        requires width { self.now.width ≡ WIDTH }
+    fn decode_last_run<G: GroupSize>(&self, rest: &[u8], output: &mut [u8]) -> Option<usize>
+        requires width { self.now.width ≡ G.WIDTH }
         requires limit { length rest.now ≤ DECODE_LIMIT }
         requires room { HasRoom self.now rest.now (length output.old) }
         ensures run { IfSome result (λ written. (written ≤ length output.new)
@@ -154,11 +149,11 @@ impl Encoding {
         if len == 0 {
             return Some(0);
         }
-        if len > SYMBOLS {
+        if len > G::SYMBOLS {
             return None;
         }
-        match self.decode_group::<WIDTH, BYTES, SYMBOLS>(self.order, &rest[..len], output) {
-            Ok(count) => Some(WIDTH * count / 8),
+        match self.decode_group::<G>(self.order, &rest[..len], output) {
+            Ok(count) => Some(G::WIDTH * count / 8),
             Err(_) => None,
         }
     }

@@ -11,11 +11,12 @@ ghost use Rattle.data_encoding.specs.Base.{IsWidth, group_bytes, group_symbols};
 ghost use Rattle.data_encoding.specs.Bits.{runs};
 ghost use Rattle.data_encoding.specs.Fields.{IsSpecified};
 ghost use Rattle.data_encoding.specs.Lengths.{alignment};
-ghost use Rattle.data_encoding.specs.Tables.{IsGroup, Writes};
+ghost use Rattle.data_encoding.specs.Tables.{Writes};
 ghost use Rattle.data_encoding.specs.Text.{padded_text, plain_text, text_of};
 
 use crate::encoding::{Encoding, group_bytes};
 use crate::kernel::encode::encode_plain;
+use crate::kernel::group_size::{Base2, Base4, Base8, Base16, Base32, Base64, GroupSize};
 use crate::memory::zeros;
 use std::alloc::{AllocError, Global};
 
@@ -82,12 +83,12 @@ impl Encoding {
         // The width is then a constant, and with it the sizes of a group: loops over a group are
         // unrolled.
         match self.width {
-            1 => self.encode_by_width::<1, 1, 8>(input, output),
-            2 => self.encode_by_width::<2, 1, 4>(input, output),
-            3 => self.encode_by_width::<3, 3, 8>(input, output),
-            4 => self.encode_by_width::<4, 1, 2>(input, output),
-            5 => self.encode_by_width::<5, 5, 8>(input, output),
-            _ => self.encode_by_width::<6, 3, 4>(input, output),
+            1 => self.encode_by_width::<Base2>(input, output),
+            2 => self.encode_by_width::<Base4>(input, output),
+            3 => self.encode_by_width::<Base8>(input, output),
+            4 => self.encode_by_width::<Base16>(input, output),
+            5 => self.encode_by_width::<Base32>(input, output),
+            _ => self.encode_by_width::<Base64>(input, output),
         }
     }
 
@@ -115,54 +116,39 @@ impl Encoding {
         Ok(unsafe { String::from_utf8_unchecked(output) })
     }
 
-    fn encode_by_width<const WIDTH: usize, const BYTES: usize, const SYMBOLS: usize>(
-        &self,
-        input: &[u8],
-        output: &mut [u8],
-    )
-        requires group { IsGroup WIDTH BYTES SYMBOLS }
-        requires width { self.now.width ≡ WIDTH }
+    fn encode_by_width<G: GroupSize>(&self, input: &[u8], output: &mut [u8])
+        requires width { self.now.width ≡ G.WIDTH }
         requires limit { length input.now ≤ ENCODE_LIMIT }
         requires exact { length output.old ≡ length (text_of self.now input.now) }
         ensures { output.new ≡ text_of self.now input.now }
     {
         if self.column == 0 {
-            self.encode_padded::<WIDTH, BYTES, SYMBOLS>(input, output);
+            self.encode_padded::<G>(input, output);
         } else {
-            self.encode_lines::<WIDTH, BYTES, SYMBOLS>(input, output);
+            self.encode_lines::<G>(input, output);
         }
     }
 
     // The symbols, and the padding.
     #[inline(always)]
-    fn encode_padded<const WIDTH: usize, const BYTES: usize, const SYMBOLS: usize>(
-        &self,
-        input: &[u8],
-        output: &mut [u8],
-    )
-        requires group { IsGroup WIDTH BYTES SYMBOLS }
-        requires width { self.now.width ≡ WIDTH }
+    fn encode_padded<G: GroupSize>(&self, input: &[u8], output: &mut [u8])
+        requires width { self.now.width ≡ G.WIDTH }
         requires limit { length input.now ≤ ENCODE_LIMIT }
         requires exact { length output.old ≡ length (padded_text self.now input.now) }
         ensures { output.new ≡ padded_text self.now input.now }
     {
-        let count = self.pad::<WIDTH>(input, output);
-        encode_plain::<WIDTH, BYTES, SYMBOLS>(
-            &self.symbols,
-            self.order,
-            input,
-            &mut output[..count],
-        );
+        let count = self.pad::<G>(input, output);
+        encode_plain::<G>(&self.symbols, self.order, input, &mut output[..count]);
     }
 
     // Writes the padding of the text to the end of `output`, and returns how many symbols come
     // before it.
     #[inline(always)]
-    fn pad<const WIDTH: usize>(&self, input: &[u8], output: &mut [u8]) -> usize
-        requires width { self.now.width ≡ WIDTH }
+    fn pad<G: GroupSize>(&self, input: &[u8], output: &mut [u8]) -> usize
+        requires width { self.now.width ≡ G.WIDTH }
         requires limit { length input.now ≤ ENCODE_LIMIT }
         requires exact { length output.old ≡ length (padded_text self.now input.now) }
-        ensures count { result ≡ (8 * length input.now + (WIDTH - 1)) / WIDTH }
+        ensures count { result ≡ (8 * length input.now + (G.WIDTH - 1)) / G.WIDTH }
         ensures inside { result ≤ length output.new }
         ensures padding { padded_text self.now input.now
             ≡ plain_text self.now input.now ++ drop result output.new }
@@ -170,7 +156,7 @@ impl Encoding {
         let Some(character) = self.padding else {
             return output.len();
         };
-        let count = symbol_count(WIDTH as u8, input.len());
+        let count = symbol_count(G::WIDTH as u8, input.len());
         output[count..].fill(character);
         count
     }

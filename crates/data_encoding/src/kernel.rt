@@ -3,5 +3,7 @@
 
 pub(crate) mod decode;
 pub(crate) mod encode;
+pub(crate) mod group_size;
 pub(crate) mod lanes;
+pub(crate) mod turn;
 pub(crate) mod words;

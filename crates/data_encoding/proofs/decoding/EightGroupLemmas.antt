@@ -194,14 +194,3 @@ pub words-fit-input : (width symbols : ℕ) (entries words : List ℕ) → (k : 
 words-fit-input width symbols entries words k is same small made =
     subst (λ n. AllByRecursion (λ word. word < 2 ^ (width * n)) words) (sym same)
     (made (subst (λ n. AllByRecursion (λ entry. entry < n) entries) (limit-is width is) small))
-
--- the next eight groups of some end before the last of them
-pub eights-before : (n size i : ℕ) → i < n / 8 → 8 * i * size + 8 * size ≤ n * size
-eights-before n size i h =
-    let next : 8 * i * size + 8 * size ≡ (8 * i + 8) * size = sym (add-mul (8 * i) 8 size) in
-    let few : 8 * i + 8 ≤ n = omega (arith, h, groups-within n 8) in
-    omega (arith, next, mul-le-mul_right size few)
-
-pub eight-groups-before : (n size i : ℕ) → i < n / size / 8 → 8 * i * size + 8 * size ≤ n
-eight-groups-before n size i h =
-    omega (arith, eights-before (n / size) size i h, groups-within n size)

@@ -82,16 +82,18 @@ groups-within n size = omega (arith, div-add-mod' n size)
 pub one-more : (i size : ℕ) → (i + 1) * size ≡ i * size + size
 one-more i size = add-mul i 1 size ∙ omega arith
 
--- the next four groups of some end before the last of them
-pub fours-before : (n size i : ℕ) → i < n / 4 → 4 * i * size + 4 * size ≤ n * size
-fours-before n size i h =
-    let next : 4 * i * size + 4 * size ≡ (4 * i + 4) * size = sym (add-mul (4 * i) 4 size) in
-    let few : 4 * i + 4 ≤ n = omega (arith, h, groups-within n 4) in
-    omega (arith, next, mul-le-mul_right size few)
+-- the groups of the next turn end before the last of them
+pub turns-before : (n groups size i : ℕ) → i < n / groups
+    → i * groups * size + groups * size ≤ n * size
+turns-before n groups size i h =
+    let next : i * groups * size + groups * size ≡ (i * groups + groups) * size =
+    sym (add-mul (i * groups) groups size) in
+    omega (arith, next, mul-le-mul_right size (group-before n groups i h))
 
-pub four-groups-before : (n size i : ℕ) → i < n / size / 4 → 4 * i * size + 4 * size ≤ n
-four-groups-before n size i h =
-    omega (arith, fours-before (n / size) size i h, groups-within n size)
+pub turn-within : (n groups size i : ℕ) → i < n / size / groups
+    → i * groups * size + groups * size ≤ n
+turn-within n groups size i h =
+    omega (arith, turns-before (n / size) groups size i h, groups-within n size)
 
 -- one of four parts ends before the end
 pub part-of-four : (n size i : ℕ) → n ≡ 4 * size → i < 4 → i * size + size ≤ n

@@ -6,10 +6,11 @@ ghost use Rattle.data_encoding.specs.Base.{Base, meaning, is_padded};
 ghost use Rattle.data_encoding.specs.Decoding.{HasFault, HasSymbols, IsDecodedGroup};
 ghost use Rattle.data_encoding.specs.Fault.{count_before_padding, trailing_bits};
 ghost use Rattle.data_encoding.specs.Lengths.{is_valid_count};
-ghost use Rattle.data_encoding.specs.Tables.{HoldsValues, IsGroup, Reads};
+ghost use Rattle.data_encoding.specs.Tables.{HoldsValues, Reads};
 
 use crate::encoding::{BitOrder, Encoding, PADDING};
 use crate::error::DecodeKind;
+use crate::kernel::group_size::GroupSize;
 use crate::kernel::words::{decode_symbols, symbol_position};
 
 // What is wrong with a group, and with which of its bytes.
@@ -23,40 +24,39 @@ impl Encoding {
     /// Decodes a group to the front of the output, and returns how many symbols it has. It is the
     /// one place where a fault of a group is found.
     #[inline(always)]
-    pub(crate) fn decode_group<const WIDTH: usize, const BYTES: usize, const SYMBOLS: usize>(
+    pub(crate) fn decode_group<G: GroupSize>(
         &self,
         order: BitOrder,
         group: &[u8],
         output: &mut [u8],
     ) -> Result<usize, GroupFault>
-        requires group { IsGroup WIDTH BYTES SYMBOLS }
-        requires width { self.now.width ≡ WIDTH }
+        requires width { self.now.width ≡ G.WIDTH }
         requires order { self.now.order ≡ order }
         requires some { 0 < length group.now }
-        requires few { length group.now ≤ SYMBOLS }
-        requires room { (is_padded self.now ≡ true → length group.now ≡ SYMBOLS)
-            → WIDTH * length group.now / 8 ≤ length output.old }
+        requires few { length group.now ≤ G.SYMBOLS }
+        requires room { (is_padded self.now ≡ true → length group.now ≡ G.SYMBOLS)
+            → G.WIDTH * length group.now / 8 ≤ length output.old }
         ensures sound { IfOk result (λ count.
             IsDecodedGroup self.now group.now count output.new) }
         ensures fault { IfErr result (HasFault self.now group.now) }
     {
-        let count = match self.count_symbols::<WIDTH, BYTES, SYMBOLS>(group) {
+        let count = match self.count_symbols::<G>(group) {
             Ok(count) => count,
             Err(fault) => return Err(fault),
         };
         let symbols = &group[..count];
         // A run that stopped at a whole group has seen a byte that is no symbol.
-        if count == SYMBOLS {
+        if count == G::SYMBOLS {
             let index = symbol_position(&self.values, symbols);
             if index < count {
                 return Err(faulty(index, DecodeKind::Symbol));
             }
         }
-        let room = &mut output[..WIDTH * count / 8];
-        if !decode_symbols::<WIDTH, BYTES, SYMBOLS>(&self.values, order, symbols, room) {
+        let room = &mut output[..G::WIDTH * count / 8];
+        if !decode_symbols::<G>(&self.values, order, symbols, room) {
             return Err(faulty(symbol_position(&self.values, symbols), DecodeKind::Symbol));
         }
-        if self.checks_trailing_bits && has_trailing::<WIDTH>(&self.values, order, symbols) {
+        if self.checks_trailing_bits && has_trailing::<G>(&self.values, order, symbols) {
             return Err(faulty(count - 1, DecodeKind::Trailing));
         }
         Ok(count)
@@ -64,31 +64,28 @@ impl Encoding {
 
     // How many symbols a group has before its padding, where a group may have that many.
     #[inline(always)]
-    fn count_symbols<const WIDTH: usize, const BYTES: usize, const SYMBOLS: usize>(
-        &self,
-        group: &[u8],
-    ) -> Result<usize, GroupFault>
-        requires group { IsGroup WIDTH BYTES SYMBOLS }
-        requires width { self.now.width ≡ WIDTH }
+    fn count_symbols<G: GroupSize>(&self, group: &[u8]) -> Result<usize, GroupFault>
+        requires width { self.now.width ≡ G.WIDTH }
         requires some { 0 < length group.now }
-        requires few { length group.now ≤ SYMBOLS }
+        requires few { length group.now ≤ G.SYMBOLS }
         ensures symbols { IfOk result (HasSymbols self.now group.now) }
         ensures whole { IfOk result
-            (λ _. is_padded self.now ≡ true → length group.now ≡ SYMBOLS) }
+            (λ _. is_padded self.now ≡ true → length group.now ≡ G.SYMBOLS) }
         ensures fault { IfErr result (HasFault self.now group.now) }
     {
+        let width = G::WIDTH;
         if self.padding.is_none() {
-            let trailing = WIDTH * group.len() % 8;
-            if trailing >= WIDTH {
-                return Err(faulty(group.len() - trailing / WIDTH, DecodeKind::Length));
+            let trailing = width * group.len() % 8;
+            if trailing >= width {
+                return Err(faulty(group.len() - trailing / width, DecodeKind::Length));
             }
             return Ok(group.len());
         }
-        if group.len() < SYMBOLS {
+        if group.len() < G::SYMBOLS {
             return Err(faulty(0, DecodeKind::Length));
         }
         let count = before_padding(&self.values, group);
-        if count == 0 || WIDTH * count % 8 >= WIDTH {
+        if count == 0 || width * count % 8 >= width {
             return Err(faulty(count, DecodeKind::Padding));
         }
         Ok(count)
@@ -117,13 +114,12 @@ fn before_padding(values: &[u8; 256], group: &[u8]) -> usize
 }
 
 // Whether bits are left after the last whole byte of these symbols that are not zeros.
-fn has_trailing<const WIDTH: usize>(values: &[u8; 256], order: BitOrder, symbols: &[u8]) -> bool
-    requires narrow { WIDTH ≤ 6 }
+fn has_trailing<G: GroupSize>(values: &[u8; 256], order: BitOrder, symbols: &[u8]) -> bool
     requires few { length symbols.now ≤ 8 }
     requires symbols { (k : ℕ) → k < length symbols.now
         → slice_index values.now (slice_index symbols.now k) < 128 }
-    requires valid { is_valid_count WIDTH (length symbols.now) ≡ true }
-    ensures any { (base : Base) → Reads base values.now WIDTH order
+    requires valid { is_valid_count G.WIDTH (length symbols.now) ≡ true }
+    ensures any { (base : Base) → Reads base values.now G.WIDTH order
         → result ≡ list_any (λ bit. not (bit == 0))
         (trailing_bits base (map (meaning base) symbols.now)) }
     ensures some { IsTrue result → 0 < length symbols.now }
@@ -131,10 +127,11 @@ fn has_trailing<const WIDTH: usize>(values: &[u8; 256], order: BitOrder, symbols
     let Some(last) = symbols.last() else {
         return false;
     };
-    let trailing = WIDTH * symbols.len() % 8;
+    let width = G::WIDTH;
+    let trailing = width * symbols.len() % 8;
     let value = values[*last as usize];
     match order {
         BitOrder::MostSignificantFirst => value % (1 << trailing) != 0,
-        BitOrder::LeastSignificantFirst => value >> (WIDTH - trailing) != 0,
+        BitOrder::LeastSignificantFirst => value >> (width - trailing) != 0,
     }
 }

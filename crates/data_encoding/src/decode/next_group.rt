@@ -8,6 +8,7 @@ ghost use Rattle.data_encoding.specs.Grammar.{kept};
 ghost use Rattle.data_encoding.specs.Tables.{HoldsValues};
 
 use crate::encoding::{Encoding, IGNORED};
+use crate::kernel::group_size::GroupSize;
 
 // A group of a text: its bytes, and how far it goes with the ignored bytes among them.
 #[derive(Clone, Copy, Drop)]
@@ -27,25 +28,25 @@ impl Encoding {
     /// The next group of what is left of a text, or the fewer bytes that are left and not ignored.
     /// Where bytes are ignored it is gathered in the room.
     #[inline(always)]
-    pub(crate) fn next_group<'a, const SYMBOLS: usize>(
+    pub(crate) fn next_group<'a, G: GroupSize>(
         &self,
         rest: &'a [u8],
         room: &'a mut [u8; 8],
     ) -> Group<'a>
-        requires few { SYMBOLS ≤ 8 }
-        ensures { IsGathered self.now SYMBOLS rest.now result.bytes.now result.span }
+        ensures { IsGathered self.now G.SYMBOLS rest.now result.bytes.now result.span }
     {
         if self.ignores {
-            let gathered = gather::<SYMBOLS>(&self.values, rest, room);
+            let gathered = gather::<G>(&self.values, rest, room);
             return Group {
                 bytes: &room[..gathered.count],
                 span: gathered.span,
             };
         }
-        let bytes = if rest.len() < SYMBOLS {
+        let count = G::SYMBOLS;
+        let bytes = if rest.len() < count {
             rest
         } else {
-            &rest[..SYMBOLS]
+            &rest[..count]
         };
         Group {
             bytes,
@@ -78,16 +79,16 @@ impl Encoding {
 }
 
 // Gathers the first bytes that are not ignored at the front of the room.
-fn gather<const SYMBOLS: usize>(values: &[u8; 256], rest: &[u8], room: &mut [u8; 8]) -> Gathered
-    requires few { SYMBOLS ≤ 8 }
-    ensures few { result.count ≤ SYMBOLS }
+fn gather<G: GroupSize>(values: &[u8; 256], rest: &[u8], room: &mut [u8; 8]) -> Gathered
+    ensures few { result.count ≤ G.SYMBOLS }
     ensures first { (base : Base) → HoldsValues base values.now
-        → IsGathered base SYMBOLS rest.now (take result.count room.new) result.span }
+        → IsGathered base G.SYMBOLS rest.now (take result.count room.new) result.span }
 {
+    let most = G::SYMBOLS;
     let mut count = 0;
     let mut span = 0;
     for index in 0..rest.len() {
-        if count == SYMBOLS {
+        if count == most {
             break;
         }
         let byte = rest[index];

@@ -4,12 +4,13 @@ ghost use Rattle.std.specs.Prelude.{◌≡◌, ℕ, List, true, false, ◌<◌, 
 ghost use Rattle.data_encoding.specs.Decoding.{HasDecodedTo, HasStopped, IsDecoded, IsGathered};
 ghost use Rattle.data_encoding.specs.Grammar.{kept};
 ghost use Rattle.data_encoding.specs.Lengths.{decoded_len};
-ghost use Rattle.data_encoding.specs.Tables.{IsGroup, Reads};
+ghost use Rattle.data_encoding.specs.Tables.{Reads};
 
 use crate::decode::{DECODE_LIMIT, Stop};
 use crate::encoding::{BitOrder, Encoding};
 use crate::error::DecodeKind;
 use crate::kernel::decode::decode_run;
+use crate::kernel::group_size::GroupSize;
 use crate::kernel::lanes::look_up::LookUp;
 
 // How a step ended.
@@ -29,12 +30,7 @@ impl Encoding {
     /// What is left of a text, with the order as a constant again. Not inlined: with the search in
     // the same function the loop over lanes was slower by a fifth.
     #[inline(never)]
-    pub(crate) fn decode_from<
-        L: LookUp,
-        const WIDTH: usize,
-        const BYTES: usize,
-        const SYMBOLS: usize,
-    >(
+    pub(crate) fn decode_from<L: LookUp, G: GroupSize>(
         &self,
         values: &[u8; 256],
         look_up: &L,
@@ -42,8 +38,7 @@ impl Encoding {
         output: &mut [u8],
         stop: &mut Stop,
     ) -> bool
-        requires group { IsGroup WIDTH BYTES SYMBOLS }
-        requires reads { Reads self.now values.now WIDTH self.now.order }
+        requires reads { Reads self.now values.now G.WIDTH self.now.order }
         requires held { L.holds values.now look_up.now }
         requires limit { length input.now ≤ DECODE_LIMIT }
         requires exact { decoded_len self.now (length input.now) ≡ Ok (length output.old) }
@@ -54,7 +49,7 @@ impl Encoding {
         ensures stopped { result ≡ false → HasStopped self.now input.now output.new stop.new }
     {
         match self.order {
-            BitOrder::MostSignificantFirst => self.decode_steps::<L, WIDTH, BYTES, SYMBOLS>(
+            BitOrder::MostSignificantFirst => self.decode_steps::<L, G>(
                 values,
                 Some(look_up),
                 BitOrder::MostSignificantFirst,
@@ -62,7 +57,7 @@ impl Encoding {
                 output,
                 stop,
             ),
-            BitOrder::LeastSignificantFirst => self.decode_steps::<L, WIDTH, BYTES, SYMBOLS>(
+            BitOrder::LeastSignificantFirst => self.decode_steps::<L, G>(
                 values,
                 Some(look_up),
                 BitOrder::LeastSignificantFirst,
@@ -75,12 +70,7 @@ impl Encoding {
 
     /// Step after step, to the end of the text.
     #[inline(always)]
-    pub(crate) fn decode_steps<
-        L: LookUp,
-        const WIDTH: usize,
-        const BYTES: usize,
-        const SYMBOLS: usize,
-    >(
+    pub(crate) fn decode_steps<L: LookUp, G: GroupSize>(
         &self,
         values: &[u8; 256],
         look_up: Option<&L>,
@@ -89,8 +79,7 @@ impl Encoding {
         output: &mut [u8],
         stop: &mut Stop,
     ) -> bool
-        requires group { IsGroup WIDTH BYTES SYMBOLS }
-        requires reads { Reads self.now values.now WIDTH order }
+        requires reads { Reads self.now values.now G.WIDTH order }
         requires held { IfSome look_up (λ look_up. L.holds values.now look_up.now) }
         requires limit { length input.now ≤ DECODE_LIMIT }
         requires exact { decoded_len self.now (length input.now) ≡ Ok (length output.old) }
@@ -103,9 +92,7 @@ impl Encoding {
         while stop.read < input.len() {
             let read = stop.read;
             let written = stop.written;
-            match self.step::<L, WIDTH, BYTES, SYMBOLS>(
-                values, look_up, order, read, written, input, output, stop,
-            ) {
+            match self.step::<L, G>(values, look_up, order, read, written, input, output, stop) {
                 Step::More => {}
                 Step::Ended => return true,
                 Step::Faulty => return false,
@@ -118,7 +105,7 @@ impl Encoding {
     /// has no look-up, the run finds its own.
     // A fault is described by the caller, since a result with room for it makes short texts slower.
     #[inline(always)]
-    pub(crate) fn step<L: LookUp, const WIDTH: usize, const BYTES: usize, const SYMBOLS: usize>(
+    pub(crate) fn step<L: LookUp, G: GroupSize>(
         &self,
         values: &[u8; 256],
         look_up: Option<&L>,
@@ -129,8 +116,7 @@ impl Encoding {
         output: &mut [u8],
         stop: &mut Stop,
     ) -> Step
-        requires group { IsGroup WIDTH BYTES SYMBOLS }
-        requires reads { Reads self.now values.now WIDTH order }
+        requires reads { Reads self.now values.now G.WIDTH order }
         requires held { IfSome look_up (λ look_up. L.holds values.now look_up.now) }
         requires limit { length input.now ≤ DECODE_LIMIT }
         requires exact { decoded_len self.now (length input.now) ≡ Ok (length output.old) }
@@ -143,27 +129,27 @@ impl Encoding {
         ensures faulty { result ≡ Step.Faulty
             → HasStopped self.now input.now output.new stop.new }
     {
-        let count = decode_run::<L, WIDTH, BYTES, SYMBOLS>(
+        let count = decode_run::<L, G>(
             values,
             look_up,
             order,
             &input[read..],
             &mut output[written..],
         );
-        let read = read + count * SYMBOLS;
-        let written = written + count * BYTES;
+        let read = read + count * G::SYMBOLS;
+        let written = written + count * G::BYTES;
         if read == input.len() {
             stop.written = written;
             return Step::Ended;
         }
         let mut room = [0; 8];
-        let group = self.next_group::<SYMBOLS>(&input[read..], &mut room);
+        let group = self.next_group::<G>(&input[read..], &mut room);
         if group.bytes.is_empty() {
             stop.written = written;
             return Step::Ended;
         }
         let rest = &mut output[written..];
-        let count = match self.decode_group::<WIDTH, BYTES, SYMBOLS>(order, group.bytes, rest) {
+        let count = match self.decode_group::<G>(order, group.bytes, rest) {
             Ok(count) => count,
             Err(fault) => {
                 *stop = Stop::new(read, written, fault.index, fault.kind);
@@ -171,10 +157,10 @@ impl Encoding {
             }
         };
         let read = read + group.span;
-        let written = written + WIDTH * count / 8;
+        let written = written + G::WIDTH * count / 8;
         *stop = Stop::new(read, written, 0, DecodeKind::Padding);
         if count < group.bytes.len() && !self.concatenates {
-            if self.is_end::<SYMBOLS>(&input[read..]) {
+            if self.is_end::<G>(&input[read..]) {
                 return Step::Ended;
             }
             return Step::Faulty;
@@ -187,14 +173,12 @@ impl Encoding {
 
     // Whether no byte is left that is not ignored.
     #[inline(never)]
-    fn is_end<const SYMBOLS: usize>(&self, rest: &[u8]) -> bool
-        requires some { 0 < SYMBOLS }
-        requires few { SYMBOLS ≤ 8 }
+    fn is_end<G: GroupSize>(&self, rest: &[u8]) -> bool
         ensures end { IsTrue result → length (kept self.now rest.now) ≡ 0 }
         ensures more { result ≡ false → (group : List ℕ) × (span : ℕ) × (0 < length group)
-            × IsGathered self.now SYMBOLS rest.now group span }
+            × IsGathered self.now G.SYMBOLS rest.now group span }
     {
         let mut room = [0; 8];
-        self.next_group::<SYMBOLS>(rest, &mut room).bytes.is_empty()
+        self.next_group::<G>(rest, &mut room).bytes.is_empty()
     }
 }

@@ -4,12 +4,12 @@ ghost use Rattle.std.specs.Prelude.{◌≡◌, false, ◌≤◌, length, Ok, IsT
 ghost use Rattle.data_encoding.specs.Base.{IsWidth};
 ghost use Rattle.data_encoding.specs.Decoding.{HasDecodedTo, HasStopped, IsDecoded};
 ghost use Rattle.data_encoding.specs.Lengths.{decoded_len};
-ghost use Rattle.data_encoding.specs.Tables.{IsGroup};
 
 use crate::decode::steps::Step;
 use crate::decode::{DECODE_LIMIT, Stop};
 use crate::encoding::{BitOrder, Encoding};
 use crate::error::DecodeKind;
+use crate::kernel::group_size::{Base2, Base4, Base8, Base16, Base32, Base64, GroupSize};
 use crate::kernel::lanes::affine::{Affine, affine_of};
 use crate::kernel::lanes::rows::{Rows, rows_of};
 
@@ -45,12 +45,12 @@ impl Encoding {
         ensures width { IsWidth self.now.width }
     {
         match self.width {
-            1 => self.decode_in_order::<1, 1, 8>(input, output, stop),
-            2 => self.decode_in_order::<2, 1, 4>(input, output, stop),
-            3 => self.decode_in_order::<3, 3, 8>(input, output, stop),
-            4 => self.decode_in_order::<4, 1, 2>(input, output, stop),
-            5 => self.decode_in_order::<5, 5, 8>(input, output, stop),
-            _ => self.decode_in_order::<6, 3, 4>(input, output, stop),
+            1 => self.decode_in_order::<Base2>(input, output, stop),
+            2 => self.decode_in_order::<Base4>(input, output, stop),
+            3 => self.decode_in_order::<Base8>(input, output, stop),
+            4 => self.decode_in_order::<Base16>(input, output, stop),
+            5 => self.decode_in_order::<Base32>(input, output, stop),
+            _ => self.decode_in_order::<Base64>(input, output, stop),
         }
     }
 
@@ -65,25 +65,24 @@ impl Encoding {
         ensures width { IsWidth self.now.width }
     {
         match self.width {
-            1 => self.decode_long::<1, 1, 8>(input, output, stop),
-            2 => self.decode_long::<2, 1, 4>(input, output, stop),
-            3 => self.decode_long::<3, 3, 8>(input, output, stop),
-            4 => self.decode_long::<4, 1, 2>(input, output, stop),
-            5 => self.decode_long::<5, 5, 8>(input, output, stop),
-            _ => self.decode_long::<6, 3, 4>(input, output, stop),
+            1 => self.decode_long::<Base2>(input, output, stop),
+            2 => self.decode_long::<Base4>(input, output, stop),
+            3 => self.decode_long::<Base8>(input, output, stop),
+            4 => self.decode_long::<Base16>(input, output, stop),
+            5 => self.decode_long::<Base32>(input, output, stop),
+            _ => self.decode_long::<Base64>(input, output, stop),
         }
     }
 
     // With the width as a constant, and the sizes of a group.
     #[inline(always)]
-    fn decode_in_order<const WIDTH: usize, const BYTES: usize, const SYMBOLS: usize>(
+    fn decode_in_order<G: GroupSize>(
         &self,
         input: &[u8],
         output: &mut [u8],
         stop: &mut Stop,
     ) -> bool
-        requires group { IsGroup WIDTH BYTES SYMBOLS }
-        requires width { self.now.width ≡ WIDTH }
+        requires width { self.now.width ≡ G.WIDTH }
         requires limit { length input.now ≤ DECODE_LIMIT }
         requires exact { decoded_len self.now (length input.now) ≡ Ok (length output.old) }
         ensures decoded { IsTrue result
@@ -91,13 +90,13 @@ impl Encoding {
         ensures stopped { result ≡ false → HasStopped self.now input.now output.new stop.new }
     {
         match self.order {
-            BitOrder::MostSignificantFirst => self.decode_text::<WIDTH, BYTES, SYMBOLS>(
+            BitOrder::MostSignificantFirst => self.decode_text::<G>(
                 BitOrder::MostSignificantFirst,
                 input,
                 output,
                 stop,
             ),
-            BitOrder::LeastSignificantFirst => self.decode_text::<WIDTH, BYTES, SYMBOLS>(
+            BitOrder::LeastSignificantFirst => self.decode_text::<G>(
                 BitOrder::LeastSignificantFirst,
                 input,
                 output,
@@ -108,15 +107,14 @@ impl Encoding {
 
     // With the order as a constant too. Most texts end with the first step.
     #[inline(always)]
-    fn decode_text<const WIDTH: usize, const BYTES: usize, const SYMBOLS: usize>(
+    fn decode_text<G: GroupSize>(
         &self,
         order: BitOrder,
         input: &[u8],
         output: &mut [u8],
         stop: &mut Stop,
     ) -> bool
-        requires group { IsGroup WIDTH BYTES SYMBOLS }
-        requires width { self.now.width ≡ WIDTH }
+        requires width { self.now.width ≡ G.WIDTH }
         requires order { self.now.order ≡ order }
         requires limit { length input.now ≤ DECODE_LIMIT }
         requires exact { decoded_len self.now (length input.now) ≡ Ok (length output.old) }
@@ -124,17 +122,8 @@ impl Encoding {
             → IsDecoded self.now input.now stop.new.written output.new }
         ensures stopped { result ≡ false → HasStopped self.now input.now output.new stop.new }
     {
-        match self.step::<Rows, WIDTH, BYTES, SYMBOLS>(
-            &self.values,
-            None,
-            order,
-            0,
-            0,
-            input,
-            output,
-            stop,
-        ) {
-            Step::More => self.decode_rest::<WIDTH, BYTES, SYMBOLS>(input, output, stop),
+        match self.step::<Rows, G>(&self.values, None, order, 0, 0, input, output, stop) {
+            Step::More => self.decode_rest::<G>(input, output, stop),
             Step::Ended => true,
             Step::Faulty => false,
         }
@@ -143,14 +132,8 @@ impl Encoding {
     // The steps that follow: padded texts in a row, or bytes that are ignored. Most are too few to
     // prepare a look-up for them.
     #[inline(never)]
-    fn decode_rest<const WIDTH: usize, const BYTES: usize, const SYMBOLS: usize>(
-        &self,
-        input: &[u8],
-        output: &mut [u8],
-        stop: &mut Stop,
-    ) -> bool
-        requires group { IsGroup WIDTH BYTES SYMBOLS }
-        requires width { self.now.width ≡ WIDTH }
+    fn decode_rest<G: GroupSize>(&self, input: &[u8], output: &mut [u8], stop: &mut Stop) -> bool
+        requires width { self.now.width ≡ G.WIDTH }
         requires limit { length input.now ≤ DECODE_LIMIT }
         requires exact { decoded_len self.now (length input.now) ≡ Ok (length output.old) }
         requires so_far { HasDecodedTo self.now input.now stop.old.read stop.old.written false
@@ -160,7 +143,7 @@ impl Encoding {
         ensures stopped { result ≡ false → HasStopped self.now input.now output.new stop.new }
     {
         match self.order {
-            BitOrder::MostSignificantFirst => self.decode_steps::<Rows, WIDTH, BYTES, SYMBOLS>(
+            BitOrder::MostSignificantFirst => self.decode_steps::<Rows, G>(
                 &self.values,
                 None,
                 BitOrder::MostSignificantFirst,
@@ -168,7 +151,7 @@ impl Encoding {
                 output,
                 stop,
             ),
-            BitOrder::LeastSignificantFirst => self.decode_steps::<Rows, WIDTH, BYTES, SYMBOLS>(
+            BitOrder::LeastSignificantFirst => self.decode_steps::<Rows, G>(
                 &self.values,
                 None,
                 BitOrder::LeastSignificantFirst,
@@ -182,14 +165,8 @@ impl Encoding {
     // By the affine form of the table, where it has one, and else by its rows. Not inlined, so that
     // shorter texts do not pay for the room that the search takes.
     #[inline(never)]
-    fn decode_long<const WIDTH: usize, const BYTES: usize, const SYMBOLS: usize>(
-        &self,
-        input: &[u8],
-        output: &mut [u8],
-        stop: &mut Stop,
-    ) -> bool
-        requires group { IsGroup WIDTH BYTES SYMBOLS }
-        requires width { self.now.width ≡ WIDTH }
+    fn decode_long<G: GroupSize>(&self, input: &[u8], output: &mut [u8], stop: &mut Stop) -> bool
+        requires width { self.now.width ≡ G.WIDTH }
         requires limit { length input.now ≤ DECODE_LIMIT }
         requires exact { decoded_len self.now (length input.now) ≡ Ok (length output.old) }
         ensures decoded { IsTrue result
@@ -198,15 +175,11 @@ impl Encoding {
     {
         *stop = Stop::new(0, 0, 0, DecodeKind::Length);
         let values = &self.values;
-        match affine_of(values, 1 << WIDTH) {
-            Some(affine) => {
-                self.decode_from::<Affine, WIDTH, BYTES, SYMBOLS>(
-                    values, &affine, input, output, stop,
-                )
-            }
+        match affine_of(values, 1 << G::WIDTH) {
+            Some(affine) => { self.decode_from::<Affine, G>(values, &affine, input, output, stop) }
             None => {
                 let rows = rows_of(values);
-                self.decode_from::<Rows, WIDTH, BYTES, SYMBOLS>(values, &rows, input, output, stop)
+                self.decode_from::<Rows, G>(values, &rows, input, output, stop)
             }
         }
     }

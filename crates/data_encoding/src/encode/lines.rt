@@ -3,11 +3,11 @@
 ghost use Rattle.std.specs.Prelude.{◌≡◌, ℕ, ◌+◌, ◌<◌, ◌≤◌, List, ◌++◌, length, flat_map, IsSome};
 ghost use Rattle.data_encoding.specs.Bits.{runs};
 ghost use Rattle.data_encoding.specs.Lengths.{alignment};
-ghost use Rattle.data_encoding.specs.Tables.{IsGroup};
 ghost use Rattle.data_encoding.specs.Text.{padded_text, text_of};
 
 use crate::encode::ENCODE_LIMIT;
 use crate::encoding::Encoding;
+use crate::kernel::group_size::GroupSize;
 
 // The greatest length of a block of lines without their separators, of four lines at least.
 const BLOCK_LEN: usize = 1024;
@@ -20,13 +20,8 @@ impl Encoding {
     // which all that lines use would be loaded. Not inlined, so that texts without lines do not pay
     // for it.
     #[inline(never)]
-    pub(super) fn encode_lines<const WIDTH: usize, const BYTES: usize, const SYMBOLS: usize>(
-        &self,
-        input: &[u8],
-        output: &mut [u8],
-    )
-        requires group { IsGroup WIDTH BYTES SYMBOLS }
-        requires width { self.now.width ≡ WIDTH }
+    pub(super) fn encode_lines<G: GroupSize>(&self, input: &[u8], output: &mut [u8])
+        requires width { self.now.width ≡ G.WIDTH }
         requires lines { IsSome self.now.wrapping }
         requires limit { length input.now ≤ ENCODE_LIMIT }
         requires exact { length output.old ≡ length (text_of self.now input.now) }
@@ -34,23 +29,18 @@ impl Encoding {
     {
         let line_bytes = self.encode_align();
         if !input.is_empty() && input.len() <= line_bytes {
-            self.encode_line::<WIDTH, BYTES, SYMBOLS>(input, output);
+            self.encode_line::<G>(input, output);
         } else if input.len() <= FEW_LINES * line_bytes {
-            self.encode_each_line::<WIDTH, BYTES, SYMBOLS>(input, output);
+            self.encode_each_line::<G>(input, output);
         } else {
-            self.encode_blocks::<WIDTH, BYTES, SYMBOLS>(input, output);
+            self.encode_blocks::<G>(input, output);
         }
     }
 
     // Line after line, the last perhaps shorter.
     #[inline(always)]
-    fn encode_each_line<const WIDTH: usize, const BYTES: usize, const SYMBOLS: usize>(
-        &self,
-        input: &[u8],
-        output: &mut [u8],
-    )
-        requires group { IsGroup WIDTH BYTES SYMBOLS }
-        requires width { self.now.width ≡ WIDTH }
+    fn encode_each_line<G: GroupSize>(&self, input: &[u8], output: &mut [u8])
+        requires width { self.now.width ≡ G.WIDTH }
         requires lines { IsSome self.now.wrapping }
         requires limit { length input.now ≤ ENCODE_LIMIT }
         requires exact { length output.old ≡ length (text_of self.now input.now) }
@@ -63,23 +53,15 @@ impl Encoding {
             let read_end = input.len().min(read + line_bytes);
             let written = index * line_len;
             let written_end = output.len().min(written + line_len);
-            self.encode_line::<WIDTH, BYTES, SYMBOLS>(
-                &input[read..read_end],
-                &mut output[written..written_end],
-            );
+            self.encode_line::<G>(&input[read..read_end], &mut output[written..written_end]);
         }
     }
 
     // Block after block of whole lines, the last perhaps shorter. The text of a block is made
     // without separators, so that most of its groups go by lanes, and then copied line by line.
     #[inline(always)]
-    fn encode_blocks<const WIDTH: usize, const BYTES: usize, const SYMBOLS: usize>(
-        &self,
-        input: &[u8],
-        output: &mut [u8],
-    )
-        requires group { IsGroup WIDTH BYTES SYMBOLS }
-        requires width { self.now.width ≡ WIDTH }
+    fn encode_blocks<G: GroupSize>(&self, input: &[u8], output: &mut [u8])
+        requires width { self.now.width ≡ G.WIDTH }
         requires lines { IsSome self.now.wrapping }
         requires limit { length input.now ≤ ENCODE_LIMIT }
         requires exact { length output.old ≡ length (text_of self.now input.now) }
@@ -94,7 +76,7 @@ impl Encoding {
             let read_end = input.len().min(read + block_bytes);
             let written = index * block_len;
             let written_end = output.len().min(written + block_len);
-            self.encode_block::<WIDTH, BYTES, SYMBOLS>(
+            self.encode_block::<G>(
                 &input[read..read_end],
                 &mut symbols,
                 &mut output[written..written_end],
@@ -104,14 +86,13 @@ impl Encoding {
 
     // The text in lines, for whose characters without separators there is room in `symbols`.
     #[inline(always)]
-    fn encode_block<const WIDTH: usize, const BYTES: usize, const SYMBOLS: usize>(
+    fn encode_block<G: GroupSize>(
         &self,
         input: &[u8],
         symbols: &mut [u8; BLOCK_LEN],
         output: &mut [u8],
     )
-        requires group { IsGroup WIDTH BYTES SYMBOLS }
-        requires width { self.now.width ≡ WIDTH }
+        requires width { self.now.width ≡ G.WIDTH }
         requires lines { IsSome self.now.wrapping }
         requires limit { length input.now ≤ ENCODE_LIMIT }
         requires room { length (padded_text self.now input.now) ≤ BLOCK_LEN }
@@ -119,7 +100,7 @@ impl Encoding {
         ensures { output.new ≡ text_of self.now input.now }
     {
         let count = self.padded_len(input.len());
-        self.encode_padded::<WIDTH, BYTES, SYMBOLS>(input, &mut symbols[..count]);
+        self.encode_padded::<G>(input, &mut symbols[..count]);
         wrap(
             self.column as usize,
             self.separator.as_slice(),
@@ -130,13 +111,8 @@ impl Encoding {
 
     // The text of at most a line, and the separator.
     #[inline(always)]
-    fn encode_line<const WIDTH: usize, const BYTES: usize, const SYMBOLS: usize>(
-        &self,
-        input: &[u8],
-        output: &mut [u8],
-    )
-        requires group { IsGroup WIDTH BYTES SYMBOLS }
-        requires width { self.now.width ≡ WIDTH }
+    fn encode_line<G: GroupSize>(&self, input: &[u8], output: &mut [u8])
+        requires width { self.now.width ≡ G.WIDTH }
         requires limit { length input.now ≤ ENCODE_LIMIT }
         requires some { 0 < length input.now }
         requires line { length input.now ≤ alignment self.now }
@@ -144,7 +120,7 @@ impl Encoding {
         ensures { output.new ≡ text_of self.now input.now }
     {
         let end = output.len() - self.separator.len();
-        self.encode_padded::<WIDTH, BYTES, SYMBOLS>(input, &mut output[..end]);
+        self.encode_padded::<G>(input, &mut output[..end]);
         output[end..].copy_from_slice(self.separator.as_slice());
     }
 }

@@ -2,45 +2,44 @@
 
 ghost use Rattle.std.specs.Prelude.{◌≡◌, ℕ, ◌*◌, ◌/◌, ◌≤◌, List, length, IsTrue, IfSome};
 ghost use Rattle.data_encoding.specs.Decoding.{IsLongestBy, IsRunBy};
-ghost use Rattle.data_encoding.specs.Tables.{IsGroup};
 
 use crate::encoding::BitOrder;
-use crate::kernel::lanes::decode::decode_eight;
+use crate::kernel::group_size::GroupSize;
 use crate::kernel::lanes::look_up::LookUp;
 use crate::kernel::lanes::rows::{Rows, rows_of};
-use crate::kernel::words::{decode_entries, decode_symbols, entry_of};
+use crate::kernel::turn::{Lanes, Turn};
+use crate::kernel::words::{decode_symbols, entry_of};
 
 /// Decodes whole groups in a row, from the front of the input to the front of the output, up to the
 /// first that has a byte that is no symbol, and returns how many they are. What the output holds
 /// after their bytes is not said. Without a look-up, one is prepared where there are eight groups.
 // Part of its caller, since a call costs more than a short text; the order is a constant there.
 #[inline(always)]
-pub(crate) fn decode_run<L: LookUp, const WIDTH: usize, const BYTES: usize, const SYMBOLS: usize>(
+pub(crate) fn decode_run<L: LookUp, G: GroupSize>(
     values: &[u8; 256],
     look_up: Option<&L>,
     order: BitOrder,
     input: &[u8],
     output: &mut [u8],
 ) -> usize
-    requires group { IsGroup WIDTH BYTES SYMBOLS }
     requires held { IfSome look_up (λ look_up. L.holds values.now look_up.now) }
-    requires room { length input.now / SYMBOLS * BYTES ≤ length output.old }
-    ensures run { IsRunBy values.now WIDTH order input.now result output.old output.new }
-    ensures longest { IsLongestBy values.now WIDTH order input.now result }
-    ensures within { result * SYMBOLS ≤ length input.now }
+    requires room { length input.now / G.SYMBOLS * G.BYTES ≤ length output.old }
+    ensures run { IsRunBy values.now G.WIDTH order input.now result output.old output.new }
+    ensures longest { IsLongestBy values.now G.WIDTH order input.now result }
+    ensures within { result * G.SYMBOLS ≤ length input.now }
 {
-    let count = input.len() / SYMBOLS;
-    let first = decode_by_several::<L, WIDTH, BYTES, SYMBOLS>(
-        values, look_up, order, input, output,
-    );
+    let symbols = G::SYMBOLS;
+    let bytes = G::BYTES;
+    let count = input.len() / symbols;
+    let first = decode_by_several::<L, G>(values, look_up, order, input, output);
     for index in first..count {
-        let read = index * SYMBOLS;
-        let written = index * BYTES;
-        if !decode_symbols::<WIDTH, BYTES, SYMBOLS>(
+        let read = index * symbols;
+        let written = index * bytes;
+        if !decode_symbols::<G>(
             values,
             order,
-            &input[read..read + SYMBOLS],
-            &mut output[written..written + BYTES],
+            &input[read..read + symbols],
+            &mut output[written..written + bytes],
         ) {
             return index;
         }
@@ -50,154 +49,108 @@ pub(crate) fn decode_run<L: LookUp, const WIDTH: usize, const BYTES: usize, cons
 
 // By lanes, where there are eight groups, and else four at a time.
 #[inline(always)]
-fn decode_by_several<L: LookUp, const WIDTH: usize, const BYTES: usize, const SYMBOLS: usize>(
+fn decode_by_several<L: LookUp, G: GroupSize>(
     values: &[u8; 256],
     look_up: Option<&L>,
     order: BitOrder,
     input: &[u8],
     output: &mut [u8],
 ) -> usize
-    requires group { IsGroup WIDTH BYTES SYMBOLS }
     requires held { IfSome look_up (λ look_up. L.holds values.now look_up.now) }
-    requires room { length input.now / SYMBOLS * BYTES ≤ length output.old }
-    ensures run { IsRunBy values.now WIDTH order input.now result output.old output.new }
-    ensures within { result ≤ length input.now / SYMBOLS }
+    requires room { length input.now / G.SYMBOLS * G.BYTES ≤ length output.old }
+    ensures run { IsRunBy values.now G.WIDTH order input.now result output.old output.new }
+    ensures within { result ≤ length input.now / G.SYMBOLS }
 {
-    let eight = 8 * SYMBOLS;
+    let eight = 8 * G::SYMBOLS;
     if input.len() < eight {
-        return decode_by_fours::<WIDTH, BYTES, SYMBOLS>(values, order, input, output);
+        return decode_by_fours::<G>(values, order, input, output);
     }
     // Padded groups may follow one another: then the eight are not decoded in vain.
-    if 8 % WIDTH != 0 && entry_of(values, input[eight - 1]) >= 128 {
+    if 8 % G::WIDTH != 0 && entry_of(values, input[eight - 1]) >= 128 {
         return 0;
     }
     match look_up {
         Some(look_up) => {
-            decode_eights::<L, WIDTH, BYTES, SYMBOLS>(look_up, order, input, output)
+            decode_turns::<Lanes<L>, G>(&Lanes { look_up: *look_up }, order, input, output)
         }
-        None => decode_by_lanes::<WIDTH, BYTES, SYMBOLS>(values, order, input, output),
+        None => decode_by_lanes::<G>(values, order, input, output),
     }
 }
 
 // By rows of the table, with the order as a constant again. Not inlined, so that shorter texts do
 // not pay for the room that lanes take.
 #[inline(never)]
-fn decode_by_lanes<const WIDTH: usize, const BYTES: usize, const SYMBOLS: usize>(
+fn decode_by_lanes<G: GroupSize>(
     values: &[u8; 256],
     order: BitOrder,
     input: &[u8],
     output: &mut [u8],
 ) -> usize
-    requires group { IsGroup WIDTH BYTES SYMBOLS }
-    requires room { length input.now / SYMBOLS * BYTES ≤ length output.old }
-    ensures run { IsRunBy values.now WIDTH order input.now result output.old output.new }
-    ensures within { result ≤ length input.now / SYMBOLS }
+    requires room { length input.now / G.SYMBOLS * G.BYTES ≤ length output.old }
+    ensures run { IsRunBy values.now G.WIDTH order input.now result output.old output.new }
+    ensures within { result ≤ length input.now / G.SYMBOLS }
 {
+    let lanes = Lanes {
+        look_up: rows_of(values),
+    };
     match order {
-        BitOrder::MostSignificantFirst => decode_eights::<Rows, WIDTH, BYTES, SYMBOLS>(
-            &rows_of(values),
-            BitOrder::MostSignificantFirst,
-            input,
-            output,
-        ),
-        BitOrder::LeastSignificantFirst => decode_eights::<Rows, WIDTH, BYTES, SYMBOLS>(
-            &rows_of(values),
-            BitOrder::LeastSignificantFirst,
-            input,
-            output,
-        ),
+        BitOrder::MostSignificantFirst => {
+            decode_turns::<Lanes<Rows>, G>(&lanes, BitOrder::MostSignificantFirst, input, output)
+        }
+        BitOrder::LeastSignificantFirst => {
+            decode_turns::<Lanes<Rows>, G>(&lanes, BitOrder::LeastSignificantFirst, input, output)
+        }
     }
 }
 
-// Eight groups at a time; the eight with a byte that is no symbol are left. The look-up is copied,
-// so that it stays in registers.
+// Turn after turn; the groups of a turn with a byte that is no symbol are left.
 #[inline(always)]
-fn decode_eights<L: LookUp, const WIDTH: usize, const BYTES: usize, const SYMBOLS: usize>(
-    look_up: &L,
+fn decode_turns<T: Turn, G: GroupSize>(
+    turn: &T,
     order: BitOrder,
     input: &[u8],
     output: &mut [u8],
 ) -> usize
-    requires group { IsGroup WIDTH BYTES SYMBOLS }
-    requires room { length input.now / SYMBOLS * BYTES ≤ length output.old }
-    ensures run { (values : List ℕ) → L.holds values look_up.now
-        → IsRunBy values WIDTH order input.now result output.old output.new }
-    ensures within { result ≤ length input.now / SYMBOLS }
+    requires room { length input.now / G.SYMBOLS * G.BYTES ≤ length output.old }
+    ensures run { (values : List ℕ) → T.holds values turn.now
+        → IsRunBy values G.WIDTH order input.now result output.old output.new }
+    ensures within { result ≤ length input.now / G.SYMBOLS }
 {
-    let held = *look_up;
-    let count = input.len() / SYMBOLS / 8;
+    let groups = T::GROUPS;
+    let symbols = G::SYMBOLS;
+    let bytes = G::BYTES;
+    let count = input.len() / symbols / groups;
     for index in 0..count {
-        let read = 8 * index * SYMBOLS;
-        let written = 8 * index * BYTES;
-        if !decode_eight::<L, WIDTH, BYTES, SYMBOLS>(
-            &held,
+        let first = index * groups;
+        let read = first * symbols;
+        let written = first * bytes;
+        if !turn.decode::<G>(
             order,
-            &input[read..read + 8 * SYMBOLS],
-            &mut output[written..written + 8 * BYTES],
+            &input[read..read + groups * symbols],
+            &mut output[written..written + groups * bytes],
         ) {
-            return 8 * index;
+            return first;
         }
     }
-    8 * count
+    count * groups
 }
 
 // Four groups at a time, tested together; the four with a byte that is no symbol are left.
 #[inline(always)]
-fn decode_by_fours<const WIDTH: usize, const BYTES: usize, const SYMBOLS: usize>(
+fn decode_by_fours<G: GroupSize>(
     values: &[u8; 256],
     order: BitOrder,
     input: &[u8],
     output: &mut [u8],
 ) -> usize
-    requires group { IsGroup WIDTH BYTES SYMBOLS }
-    requires room { length input.now / SYMBOLS * BYTES ≤ length output.old }
-    ensures run { IsRunBy values.now WIDTH order input.now result output.old output.new }
-    ensures within { result ≤ length input.now / SYMBOLS }
+    requires room { length input.now / G.SYMBOLS * G.BYTES ≤ length output.old }
+    ensures run { IsRunBy values.now G.WIDTH order input.now result output.old output.new }
+    ensures within { result ≤ length input.now / G.SYMBOLS }
 {
-    let count = input.len() / SYMBOLS / 4;
+    let four = 4 * G::SYMBOLS;
     // Padded groups may follow one another: then the four are not decoded in vain.
-    if 8 % WIDTH != 0 && count != 0 && entry_of(values, input[4 * SYMBOLS - 1]) >= 128 {
+    if 8 % G::WIDTH != 0 && input.len() >= four && entry_of(values, input[four - 1]) >= 128 {
         return 0;
     }
-    for index in 0..count {
-        let read = 4 * index * SYMBOLS;
-        let written = 4 * index * BYTES;
-        if !decode_four_groups::<WIDTH, BYTES, SYMBOLS>(
-            values,
-            order,
-            &input[read..read + 4 * SYMBOLS],
-            &mut output[written..written + 4 * BYTES],
-        ) {
-            return 4 * index;
-        }
-    }
-    4 * count
-}
-
-// Four whole groups; `false`, and any bytes, where some byte of the input is no symbol.
-#[inline(always)]
-fn decode_four_groups<const WIDTH: usize, const BYTES: usize, const SYMBOLS: usize>(
-    values: &[u8; 256],
-    order: BitOrder,
-    input: &[u8],
-    output: &mut [u8],
-) -> bool
-    requires group { IsGroup WIDTH BYTES SYMBOLS }
-    requires symbols { length input.now ≡ 4 * SYMBOLS }
-    requires exact { length output.old ≡ 4 * BYTES }
-    ensures { IsTrue result
-        → IsRunBy values.now WIDTH order input.now 4 output.old output.new }
-{
-    let mut all = 0;
-    for index in 0..4 {
-        let read = index * SYMBOLS;
-        let written = index * BYTES;
-        all |= decode_entries::<WIDTH, BYTES, SYMBOLS>(
-            values,
-            order,
-            &input[read..read + SYMBOLS],
-            &mut output[written..written + BYTES],
-        );
-    }
-    all < 128
+    decode_turns::<[u8; 256], G>(values, order, input, output)
 }

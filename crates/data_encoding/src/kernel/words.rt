@@ -5,10 +5,11 @@ ghost use Rattle.std.specs.List.{range_with_len};
 ghost use Rattle.data_encoding.specs.Base.{Base};
 ghost use Rattle.data_encoding.specs.Fault.{bytes_of_group};
 ghost use Rattle.data_encoding.specs.Grammar.{Positioned};
-ghost use Rattle.data_encoding.specs.Tables.{IsGroup, IsTextBy, Reads};
+ghost use Rattle.data_encoding.specs.Tables.{IsTextBy, Reads};
 ghost use Rattle.data_encoding.specs.Words.{weight, digit, low_byte, word_of};
 
 use crate::encoding::BitOrder;
+use crate::kernel::group_size::GroupSize;
 
 /// How many bits of a word of `count` digits, each of `size` bits, are below this one.
 pub(crate) fn weight_at(order: BitOrder, size: usize, count: usize, index: usize) -> usize
@@ -32,53 +33,48 @@ fn byte_at(word: u64, weight: usize) -> u8
 }
 
 // The bytes as a word, with zeros for those that are missing.
-fn word_of_bytes<const BYTES: usize>(order: BitOrder, input: &[u8]) -> u64
-    requires fits { BYTES ≤ 5 }
-    requires few { length input.now ≤ BYTES }
-    ensures { result ≡ word_of order 8 BYTES input.now }
+fn word_of_bytes<G: GroupSize>(order: BitOrder, input: &[u8]) -> u64
+    requires few { length input.now ≤ G.BYTES }
+    ensures { result ≡ word_of order 8 G.BYTES input.now }
 {
+    let count = G::BYTES;
     let mut word = 0;
     for index in 0..input.len() {
-        word += (input[index] as u64) << weight_at(order, 8, BYTES, index);
+        word += (input[index] as u64) << weight_at(order, 8, count, index);
     }
     word
 }
 
 // Writes the symbols of the first digits of a word. The table has a symbol for each byte, so that a
 // byte is its index, and no mask of the width is needed.
-fn symbols_of_word<const WIDTH: usize, const SYMBOLS: usize>(
-    symbols: &[u8; 256],
-    order: BitOrder,
-    word: u64,
-    output: &mut [u8],
-)
-    requires narrow { WIDTH ≤ 6 }
-    requires fits { WIDTH * SYMBOLS ≤ 40 }
-    requires few { length output.old ≤ SYMBOLS }
-    ensures { output.new ≡ map (λ k. slice_index symbols.now (low_byte order WIDTH SYMBOLS word k))
+fn symbols_of_word<G: GroupSize>(symbols: &[u8; 256], order: BitOrder, word: u64, output: &mut [u8])
+    requires few { length output.old ≤ G.SYMBOLS }
+    ensures { output.new
+        ≡ map (λ k. slice_index symbols.now (low_byte order G.WIDTH G.SYMBOLS word k))
         (range_with_len 0 (length output.old)) }
 {
+    let width = G::WIDTH;
+    let count = G::SYMBOLS;
     for index in 0..output.len() {
-        let weight = weight_at(order, WIDTH, SYMBOLS, index);
+        let weight = weight_at(order, width, count, index);
         output[index] = symbols[byte_at(word, weight) as usize];
     }
 }
 
 /// Writes the text of a group of bytes, or of the fewer that are left.
 #[inline]
-pub(crate) fn encode_group<const WIDTH: usize, const BYTES: usize, const SYMBOLS: usize>(
+pub(crate) fn encode_group<G: GroupSize>(
     symbols: &[u8; 256],
     order: BitOrder,
     input: &[u8],
     output: &mut [u8],
 )
-    requires group { IsGroup WIDTH BYTES SYMBOLS }
-    requires few { length input.now ≤ BYTES }
-    requires exact { length output.old ≡ (8 * length input.now + (WIDTH - 1)) / WIDTH }
-    ensures text { IsTextBy symbols.now WIDTH order input.now output.new }
+    requires few { length input.now ≤ G.BYTES }
+    requires exact { length output.old ≡ (8 * length input.now + (G.WIDTH - 1)) / G.WIDTH }
+    ensures text { IsTextBy symbols.now G.WIDTH order input.now output.new }
 {
-    let word = word_of_bytes::<BYTES>(order, input);
-    symbols_of_word::<WIDTH, SYMBOLS>(symbols, order, word, output);
+    let word = word_of_bytes::<G>(order, input);
+    symbols_of_word::<G>(symbols, order, word, output);
 }
 
 /// What a table says of a byte.
@@ -90,29 +86,25 @@ pub(crate) fn entry_of(values: &[u8; 256], byte: u8) -> u8
 
 // The values of the symbols as a word, with zeros for those that are missing, and the bits that any
 // entry has: an entry that is no value has its highest bit, and spoils the word.
-fn word_of_symbols<const WIDTH: usize, const SYMBOLS: usize>(
-    values: &[u8; 256],
-    order: BitOrder,
-    input: &[u8],
-) -> (u64, u8)
-    requires fits { WIDTH * SYMBOLS ≤ 40 }
-    requires some { 0 < WIDTH }
-    requires few { length input.now ≤ SYMBOLS }
+fn word_of_symbols<G: GroupSize>(values: &[u8; 256], order: BitOrder, input: &[u8]) -> (u64, u8)
+    requires few { length input.now ≤ G.SYMBOLS }
     ensures word { ((k : ℕ) → k < length input.now
-        → slice_index values.now (slice_index input.now k) < 2 ^ WIDTH)
-        → result.0 ≡ word_of order WIDTH SYMBOLS (map (slice_index values.now) input.now) }
+        → slice_index values.now (slice_index input.now k) < 2 ^ G.WIDTH)
+        → result.0 ≡ word_of order G.WIDTH G.SYMBOLS (map (slice_index values.now) input.now) }
     ensures entries { (result.1 < 128) ↔ ((k : ℕ) → k < length input.now
         → slice_index values.now (slice_index input.now k) < 128) }
 {
+    let width = G::WIDTH;
+    let count = G::SYMBOLS;
     let mut word = 0;
     let mut entries = 0;
-    for index in 0..SYMBOLS {
+    for index in 0..count {
         if index == input.len() {
             break;
         }
         let entry = entry_of(values, input[index]);
         entries |= entry;
-        word += (entry as u64) << weight_at(order, WIDTH, SYMBOLS, index);
+        word += (entry as u64) << weight_at(order, width, count, index);
     }
     (word, entries)
 }
@@ -136,20 +128,20 @@ fn five_bytes_of_word(order: BitOrder, word: u64, output: &mut [u8])
 }
 
 // Writes the first bytes of a word.
-fn bytes_of_word<const BYTES: usize>(order: BitOrder, word: u64, output: &mut [u8])
-    requires fits { BYTES ≤ 5 }
-    requires few { length output.old ≤ BYTES }
-    ensures { output.new ≡ map (digit order 8 BYTES word) (range_with_len 0 (length output.old)) }
+fn bytes_of_word<G: GroupSize>(order: BitOrder, word: u64, output: &mut [u8])
+    requires few { length output.old ≤ G.BYTES }
+    ensures { output.new ≡ map (digit order 8 G.BYTES word) (range_with_len 0 (length output.old)) }
 {
-    if BYTES == 5 && output.len() == 5 {
+    let count = G::BYTES;
+    if count == 5 && output.len() == 5 {
         five_bytes_of_word(order, word, output);
         return;
     }
-    for index in 0..BYTES {
+    for index in 0..count {
         if index == output.len() {
             break;
         }
-        output[index] = byte_at(word, weight_at(order, 8, BYTES, index));
+        output[index] = byte_at(word, weight_at(order, 8, count, index));
     }
 }
 
@@ -157,23 +149,22 @@ fn bytes_of_word<const BYTES: usize>(order: BitOrder, word: u64, output: &mut [u
 /// the last whole byte, and returns the bits that any entry has: the highest, and any bytes are
 /// written, where some byte of the input is no symbol.
 #[inline(always)]
-pub(crate) fn decode_entries<const WIDTH: usize, const BYTES: usize, const SYMBOLS: usize>(
+pub(crate) fn decode_entries<G: GroupSize>(
     values: &[u8; 256],
     order: BitOrder,
     input: &[u8],
     output: &mut [u8],
 ) -> u8
-    requires group { IsGroup WIDTH BYTES SYMBOLS }
-    requires few { length input.now ≤ SYMBOLS }
-    requires exact { length output.old ≡ WIDTH * length input.now / 8 }
+    requires few { length input.now ≤ G.SYMBOLS }
+    requires exact { length output.old ≡ G.WIDTH * length input.now / 8 }
     ensures symbols { (result < 128) ↔ ((k : ℕ) → k < length input.now
         → slice_index values.now (slice_index input.now k) < 128) }
-    ensures bytes { (base : Base) (ks : List Positioned) → Reads base values.now WIDTH order
+    ensures bytes { (base : Base) (ks : List Positioned) → Reads base values.now G.WIDTH order
         → map (λ k. k.byte) ks ≡ input.now → result < 128
         → output.new ≡ bytes_of_group base ks }
 {
-    let (word, entries) = word_of_symbols::<WIDTH, SYMBOLS>(values, order, input);
-    bytes_of_word::<BYTES>(order, word, output);
+    let (word, entries) = word_of_symbols::<G>(values, order, input);
+    bytes_of_word::<G>(order, word, output);
     entries
 }
 
@@ -181,29 +172,28 @@ pub(crate) fn decode_entries<const WIDTH: usize, const BYTES: usize, const SYMBO
 /// the last whole byte; `false`, and any bytes, where some byte of the input is no symbol.
 // Part of its callers, with the order as a constant, so that every shift is one.
 #[inline(always)]
-pub(crate) fn decode_symbols<const WIDTH: usize, const BYTES: usize, const SYMBOLS: usize>(
+pub(crate) fn decode_symbols<G: GroupSize>(
     values: &[u8; 256],
     order: BitOrder,
     input: &[u8],
     output: &mut [u8],
 ) -> bool
-    requires group { IsGroup WIDTH BYTES SYMBOLS }
-    requires few { length input.now ≤ SYMBOLS }
-    requires exact { length output.old ≡ WIDTH * length input.now / 8 }
+    requires few { length input.now ≤ G.SYMBOLS }
+    requires exact { length output.old ≡ G.WIDTH * length input.now / 8 }
     ensures symbols { IsTrue result ↔ ((k : ℕ) → k < length input.now
         → slice_index values.now (slice_index input.now k) < 128) }
-    ensures bytes { (base : Base) (ks : List Positioned) → Reads base values.now WIDTH order
+    ensures bytes { (base : Base) (ks : List Positioned) → Reads base values.now G.WIDTH order
         → map (λ k. k.byte) ks ≡ input.now → IsTrue result
         → output.new ≡ bytes_of_group base ks }
 {
     let entries = match order {
-        BitOrder::MostSignificantFirst => decode_entries::<WIDTH, BYTES, SYMBOLS>(
+        BitOrder::MostSignificantFirst => decode_entries::<G>(
             values,
             BitOrder::MostSignificantFirst,
             input,
             output,
         ),
-        BitOrder::LeastSignificantFirst => decode_entries::<WIDTH, BYTES, SYMBOLS>(
+        BitOrder::LeastSignificantFirst => decode_entries::<G>(
             values,
             BitOrder::LeastSignificantFirst,
             input,

@@ -4,11 +4,11 @@ ghost use Rattle.std.specs.Prelude.{◌≡◌, ℕ, ◌+◌, ◌-◌, ◌*◌, �
 ghost use Rattle.std.specs.List.{AllByRecursion, range_with_len};
 ghost use Rattle.std.specs.Simd.{first_chunks};
 ghost use Rattle.data_encoding.specs.Decoding.{IsRunBy};
-ghost use Rattle.data_encoding.specs.Tables.{IsGroup};
 ghost use Rattle.data_encoding.specs.Values.{joined};
 ghost use Rattle.data_encoding.specs.Words.{digit, word_of};
 
 use crate::encoding::BitOrder;
+use crate::kernel::group_size::GroupSize;
 use crate::kernel::lanes::look_up::LookUp;
 use crate::kernel::words::weight_at;
 use std::simd::prelude::*;
@@ -99,39 +99,39 @@ pub(crate) fn are_below<const N: usize>(limit: u8, lanes: Simd<u8, N>) -> bool
 
 // The words of eight groups of symbols, and whether each byte of them is a symbol.
 #[inline(always)]
-fn words_of_groups<L: LookUp, const WIDTH: usize, const BYTES: usize, const SYMBOLS: usize>(
+fn words_of_groups<L: LookUp, G: GroupSize>(
     look_up: &L,
     order: BitOrder,
     input: &[u8],
 ) -> (u64x8, bool)
-    requires group { IsGroup WIDTH BYTES SYMBOLS }
-    requires symbols { length input.now ≡ 8 * SYMBOLS }
+    requires symbols { length input.now ≡ 8 * G.SYMBOLS }
     ensures words { (values : List ℕ) → L.holds values look_up.now → IsTrue result.1
-        → result.0 ≡ map (word_of order WIDTH SYMBOLS)
-        (first_chunks SYMBOLS 8 (map (slice_index values) input.now)) }
+        → result.0 ≡ map (word_of order G.WIDTH G.SYMBOLS)
+        (first_chunks G.SYMBOLS 8 (map (slice_index values) input.now)) }
     ensures symbols { (values : List ℕ) → L.holds values look_up.now → IsTrue result.1
         → (k : ℕ) → k < length input.now
         → slice_index values (slice_index input.now k) < 128 }
     ensures fit { IsTrue result.1
-        → AllByRecursion (λ word. word < 2 ^ (WIDTH * SYMBOLS)) result.0 }
+        → AllByRecursion (λ word. word < 2 ^ (G.WIDTH * G.SYMBOLS)) result.0 }
 {
-    let limit = 1 << WIDTH;
-    match SYMBOLS {
+    let width = G::WIDTH;
+    let limit = 1 << width;
+    match G::SYMBOLS {
         2 => {
             let values = look_up.look_up_16(u8x16::from_slice(input));
-            (words_of_two(order, WIDTH, values), are_below(limit, values))
+            (words_of_two(order, width, values), are_below(limit, values))
         }
         4 => {
             let values = look_up.look_up_32(u8x32::from_slice(input));
             (
-                words_of_four(order, WIDTH, values),
+                words_of_four(order, width, values),
                 are_below(limit, values),
             )
         }
         _ => {
             let values = look_up.look_up_64(u8x64::from_slice(input));
             (
-                words_of_eight(order, WIDTH, values),
+                words_of_eight(order, width, values),
                 are_below(limit, values),
             )
         }
@@ -204,14 +204,13 @@ fn store_five(order: BitOrder, words: u64x8, output: &mut [u8])
 
 // Writes the bytes of eight words.
 #[inline(always)]
-fn store<const BYTES: usize>(order: BitOrder, words: u64x8, output: &mut [u8])
-    requires size { (BYTES ≡ 1) ⊎ (BYTES ≡ 3) ⊎ (BYTES ≡ 5) }
-    requires words { AllByRecursion (λ word. word < 2 ^ (8 * BYTES)) words }
-    requires exact { length output.old ≡ 8 * BYTES }
+fn store<G: GroupSize>(order: BitOrder, words: u64x8, output: &mut [u8])
+    requires words { AllByRecursion (λ word. word < 2 ^ (8 * G.BYTES)) words }
+    requires exact { length output.old ≡ 8 * G.BYTES }
     ensures { output.new
-        ≡ flat_map (λ word. map (digit order 8 BYTES word) (range_with_len 0 BYTES)) words }
+        ≡ flat_map (λ word. map (digit order 8 G.BYTES word) (range_with_len 0 G.BYTES)) words }
 {
-    match BYTES {
+    match G::BYTES {
         1 => words.cast::<u8>().copy_to_slice(output),
         3 => store_three(order, words, output),
         _ => store_five(order, words, output),
@@ -221,22 +220,21 @@ fn store<const BYTES: usize>(order: BitOrder, words: u64x8, output: &mut [u8])
 /// Decodes eight whole groups; `false`, with the output unchanged, where some byte of the input is
 /// no symbol.
 #[inline(always)]
-pub(crate) fn decode_eight<L: LookUp, const WIDTH: usize, const BYTES: usize, const SYMBOLS: usize>(
+pub(crate) fn decode_eight<L: LookUp, G: GroupSize>(
     look_up: &L,
     order: BitOrder,
     input: &[u8],
     output: &mut [u8],
 ) -> bool
-    requires group { IsGroup WIDTH BYTES SYMBOLS }
-    requires symbols { length input.now ≡ 8 * SYMBOLS }
-    requires exact { length output.old ≡ 8 * BYTES }
+    requires symbols { length input.now ≡ 8 * G.SYMBOLS }
+    requires exact { length output.old ≡ 8 * G.BYTES }
     ensures { (values : List ℕ) → L.holds values look_up.now → IsTrue result
-        → IsRunBy values WIDTH order input.now 8 output.old output.new }
+        → IsRunBy values G.WIDTH order input.now 8 output.old output.new }
 {
-    let (words, are_symbols) = words_of_groups::<L, WIDTH, BYTES, SYMBOLS>(look_up, order, input);
+    let (words, are_symbols) = words_of_groups::<L, G>(look_up, order, input);
     if !are_symbols {
         return false;
     }
-    store::<BYTES>(order, words, output);
+    store::<G>(order, words, output);
     true
 }

@@ -6,6 +6,7 @@ ghost use Rattle.data_encoding.specs.Base.{IsWidth, group_bytes, group_symbols};
 ghost use Rattle.data_encoding.specs.Lanes.{group_words, digits_of, spread_word, halved_lane};
 
 use crate::encoding::BitOrder;
+use crate::kernel::group_size::GroupSize;
 use crate::kernel::lanes::groups::{eight_fives, eight_ones, eight_threes};
 use std::simd::prelude::*;
 
@@ -222,27 +223,27 @@ fn six_bit_digits(order: BitOrder, input: &[u8]) -> u8x64
 
 /// The digits of the first eight groups, one after another. Some bytes after them are loaded too.
 #[inline(always)]
-pub(crate) fn digits<const WIDTH: usize>(order: BitOrder, input: &[u8]) -> u8x64
-    requires width { IsWidth WIDTH }
-    requires bytes { 10 * group_bytes WIDTH ≤ length input.now + 2 }
-    ensures digits { take (8 * group_symbols WIDTH) result
-        ≡ flat_map (digits_of order WIDTH (group_symbols WIDTH))
-        (group_words order (group_bytes WIDTH) 8 input.now) }
-    ensures below { AllByRecursion (λ digit. digit < 2 ^ WIDTH) result }
+pub(crate) fn digits<G: GroupSize>(order: BitOrder, input: &[u8]) -> u8x64
+    requires bytes { 10 * G.BYTES ≤ length input.now + 2 }
+    ensures digits { take (8 * G.SYMBOLS) result
+        ≡ flat_map (digits_of order G.WIDTH G.SYMBOLS)
+        (group_words order G.BYTES 8 input.now) }
+    ensures below { AllByRecursion (λ digit. digit < 2 ^ G.WIDTH) result }
 {
-    if WIDTH == 1 {
+    let width = G::WIDTH;
+    if width == 1 {
         return one_bit_digits(order, input);
     }
-    if WIDTH == 2 {
+    if width == 2 {
         return two_bit_digits(order, input);
     }
-    if WIDTH == 3 {
+    if width == 3 {
         return three_bit_digits(order, input);
     }
-    if WIDTH == 4 {
+    if width == 4 {
         return four_bit_digits(order, input);
     }
-    if WIDTH == 5 {
+    if width == 5 {
         return five_bit_digits(order, input);
     }
     six_bit_digits(order, input)

@@ -3,9 +3,10 @@
 ghost use Rattle.std.specs.Prelude.{◌≡◌, ◌⊎◌, ◌+◌, ◌*◌, ◌%◌, ◌^◌, ◌<◌, ◌≤◌, length, map, take, slice_index};
 ghost use Rattle.std.specs.List.{AllByRecursion, range_with_len};
 ghost use Rattle.data_encoding.specs.Base.{IsWidth};
-ghost use Rattle.data_encoding.specs.Tables.{IsGroup, IsTextBy};
+ghost use Rattle.data_encoding.specs.Tables.{IsTextBy};
 
 use crate::encoding::BitOrder;
+use crate::kernel::group_size::GroupSize;
 use crate::kernel::lanes::digits::digits;
 use std::simd::prelude::*;
 
@@ -60,15 +61,15 @@ fn look_in_sixty_four(entries: &[u8], values: u8x64) -> u8x64
 
 // The symbols of values.
 #[inline(always)]
-fn look_up<const WIDTH: usize>(symbols: &[u8; 256], values: u8x64) -> u8x64
-    requires width { IsWidth WIDTH }
-    requires below { AllByRecursion (λ value. value < 2 ^ WIDTH) values }
+fn look_up<G: GroupSize>(symbols: &[u8; 256], values: u8x64) -> u8x64
+    requires below { AllByRecursion (λ value. value < 2 ^ G.WIDTH) values }
     ensures { result ≡ map (slice_index symbols.now) values }
 {
-    if WIDTH == 6 {
+    let width = G::WIDTH;
+    if width == 6 {
         return look_in_sixty_four(symbols, values);
     }
-    if WIDTH == 5 {
+    if width == 5 {
         return look_in_thirty_two(symbols, values);
     }
     look_in_sixteen(symbols, values)
@@ -76,14 +77,14 @@ fn look_up<const WIDTH: usize>(symbols: &[u8; 256], values: u8x64) -> u8x64
 
 // Writes the first lanes.
 #[inline(always)]
-fn store<const SYMBOLS: usize>(lanes: u8x64, output: &mut [u8])
-    requires symbols { (SYMBOLS ≡ 8) ⊎ (SYMBOLS ≡ 4) ⊎ (SYMBOLS ≡ 2) }
-    requires exact { length output.old ≡ 8 * SYMBOLS }
-    ensures { output.new ≡ take (8 * SYMBOLS) lanes }
+fn store<G: GroupSize>(lanes: u8x64, output: &mut [u8])
+    requires exact { length output.old ≡ 8 * G.SYMBOLS }
+    ensures { output.new ≡ take (8 * G.SYMBOLS) lanes }
 {
-    if SYMBOLS == 8 {
+    let count = G::SYMBOLS;
+    if count == 8 {
         lanes.copy_to_slice(output);
-    } else if SYMBOLS == 4 {
+    } else if count == 4 {
         lanes.extract::<0, 32>().copy_to_slice(output);
     } else {
         lanes.extract::<0, 16>().copy_to_slice(output);
@@ -92,17 +93,16 @@ fn store<const SYMBOLS: usize>(lanes: u8x64, output: &mut [u8])
 
 /// Writes the text of the first eight groups. Some bytes after them are loaded too.
 #[inline(always)]
-pub(crate) fn encode_eight<const WIDTH: usize, const BYTES: usize, const SYMBOLS: usize>(
+pub(crate) fn encode_eight<G: GroupSize>(
     symbols: &[u8; 256],
     order: BitOrder,
     input: &[u8],
     output: &mut [u8],
 )
-    requires group { IsGroup WIDTH BYTES SYMBOLS }
-    requires bytes { 10 * BYTES ≤ length input.now + 2 }
-    requires exact { length output.old ≡ 8 * SYMBOLS }
-    ensures { IsTextBy symbols.now WIDTH order (take (8 * BYTES) input.now) output.new }
+    requires bytes { 10 * G.BYTES ≤ length input.now + 2 }
+    requires exact { length output.old ≡ 8 * G.SYMBOLS }
+    ensures { IsTextBy symbols.now G.WIDTH order (take (8 * G.BYTES) input.now) output.new }
 {
-    let values = digits::<WIDTH>(order, input);
-    store::<SYMBOLS>(look_up::<WIDTH>(symbols, values), output);
+    let values = digits::<G>(order, input);
+    store::<G>(look_up::<G>(symbols, values), output);
 }

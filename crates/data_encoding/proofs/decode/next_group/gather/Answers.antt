@@ -1,6 +1,7 @@
 use Rattle.std.proofs.Common.{◌≡◌, ◌<◌, ◌==◌, true, false, length, get_or, ap, ◌∙◌, arith, inl, inr}
 use Rattle.std.proofs.lemmas.List.{length-set}
 use Rattle.std.proofs.lemmas.Bool.Decides.{nat_tests}
+use Rattle.data_encoding.proofs.digits.SizeLemmas.{IsSmall-group}
 use Rattle.data_encoding.proofs.decoding.GatherLemmas.{gather-ignored, gather-kept, gathered, nothing-gathered}
 use Rattle.data_encoding.proofs.decode.next_group.gather.Goals as goal
 use Rattle.data_encoding.proofs.decode.next_group.gather.Goals.{then-values-byte, else-values-byte}
@@ -12,9 +13,9 @@ loop-index-init g c =
 pub bounds-room-count : goal.bounds-room-count
 bounds-room-count g c =
     let most = c.loop-index.invariant.0 in
-    let few = c.requires.few in
-    let apart = c.if-count.false in
-    omega (arith, most, few, apart)
+    let few = (IsSmall-group g.G.GroupSize.is_group).few_symbols in
+    let apart = c.if-count-most.false in
+    omega (arith, most, few, apart, c.SYMBOLS-most.ensures)
 
 pub loop-index-preserved : goal.loop-index-preserved
 loop-index-preserved g c =
@@ -23,7 +24,8 @@ loop-index-preserved g c =
     let byte = get_or rest index 0 in
     let inside : index < length rest = c.loop-index-test.true in
     let most = c.loop-index.invariant.0 in
-    let apart = c.if-count.false in
+    let apart = c.if-count-most.false in
+    let few = (IsSmall-group g.G.GroupSize.is_group).few_symbols in
     let small : byte < 256 = omega (arith, (c.type_inv.rest index).fits) in
     elim c.if-values-byte.branch [
       | then-values-byte w ↦
@@ -32,8 +34,16 @@ loop-index-preserved g c =
           let room_len = ap length w.room-is ∙ length-set c.loop-index.room c.loop-index.count byte
           in
           let fits : c.loop-index.count < length c.loop-index.room =
-          omega (arith, most, apart, c.requires.few, room_len, c.if-values-byte.array_long) in (
-            omega (arith, most, apart, w.count-is),
+          omega (
+            arith,
+            most,
+            apart,
+            few,
+            c.SYMBOLS-most.ensures,
+            room_len,
+            c.if-values-byte.array_long,
+          ) in (
+            omega (arith, most, apart, c.SYMBOLS-most.ensures, w.count-is),
             λ base holds. rw (w.room-is, w.count-is, w.span-is)
                 (gather-kept base rest index inside c.loop-index.count c.loop-index.span
                 c.loop-index.room (c.loop-index.invariant.1 base holds)
@@ -52,13 +62,14 @@ loop-index-preserved g c =
 
 pub returns-after-loop-index-clause-first : goal.returns-after-loop-index-clause-first
 returns-after-loop-index-clause-first g c base holds =
-    gathered base g.row.SYMBOLS c.args.rest.now c.loop-index.index c.loop-index.count
+    gathered base g.G.GroupSize.SYMBOLS c.args.rest.now c.loop-index.index c.loop-index.count
     c.loop-index.span c.loop-index.room (c.loop-index.invariant.1 base holds)
     c.loop-index.auto.index-end c.loop-index.invariant.0
     (inr (omega (arith, c.loop-index-test.false, c.loop-index.auto.index-end)))
 
-pub returns-then-count-clause-first : goal.returns-then-count-clause-first
-returns-then-count-clause-first g c base holds =
-    gathered base g.row.SYMBOLS c.args.rest.now c.loop-index.index c.loop-index.count
+pub returns-then-count-most-clause-first : goal.returns-then-count-most-clause-first
+returns-then-count-most-clause-first g c base holds =
+    gathered base g.G.GroupSize.SYMBOLS c.args.rest.now c.loop-index.index c.loop-index.count
     c.loop-index.span c.loop-index.room (c.loop-index.invariant.1 base holds)
-    c.loop-index.auto.index-end c.loop-index.invariant.0 (inl c.if-count.true)
+    c.loop-index.auto.index-end c.loop-index.invariant.0
+    (inl (c.if-count-most.true ∙ c.SYMBOLS-most.ensures))

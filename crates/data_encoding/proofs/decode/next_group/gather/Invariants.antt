@@ -6,6 +6,6 @@ use Rattle.data_encoding.proofs.decode.next_group.gather.Given as goal
 
 abbrev pub invariant-loop-index : goal.invariant-loop-index
 invariant-loop-index g l =
-    (l.count ≤ g.row.SYMBOLS)
+    (l.count ≤ g.G.GroupSize.SYMBOLS)
     × ((base : Base) → HoldsValues base l.values
     → HasGathered base l.rest l.index l.count l.span l.room)

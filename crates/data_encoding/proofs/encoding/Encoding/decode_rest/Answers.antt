@@ -5,13 +5,13 @@ use Rattle.data_encoding.proofs.encoding.Encoding.decode_rest.Goals as goal
 
 pub decode_steps-requires-clause-reads : goal.decode_steps-requires-clause-reads
 decode_steps-requires-clause-reads g c =
-    Reads-seen c.self.inside c.self.invariant c.args.self.now c.self.view_is g.row.WIDTH _
+    Reads-seen c.self.inside c.self.invariant c.args.self.now c.self.view_is g.G.GroupSize.WIDTH _
     c.requires.width
     (ap (λ (base : Base). base.order) (sym c.self.view_is) ∙ c.in-MostSignificantFirst.is)
 
 pub decode_steps-requires-in-LeastSignificantFirst-clause-reads :
     goal.decode_steps-requires-in-LeastSignificantFirst-clause-reads
 decode_steps-requires-in-LeastSignificantFirst-clause-reads g c =
-    Reads-seen c.self.inside c.self.invariant c.args.self.now c.self.view_is g.row.WIDTH _
+    Reads-seen c.self.inside c.self.invariant c.args.self.now c.self.view_is g.G.GroupSize.WIDTH _
     c.requires.width
     (ap (λ (base : Base). base.order) (sym c.self.view_is) ∙ c.in-LeastSignificantFirst.is)

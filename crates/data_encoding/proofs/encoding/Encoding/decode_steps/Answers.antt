@@ -4,6 +4,6 @@ use Rattle.data_encoding.proofs.encoding.Encoding.decode_steps.Goals as goal
 
 pub returns-clause-decoded : goal.returns-clause-decoded
 returns-clause-decoded g c =
-    let now = under_way c.requires.group c.requires.reads.width_is
+    let now = under_way g.G.GroupSize.is_group c.requires.reads.width_is
     (c.requires.exact ∙ ap Ok (sym c.loop-stop.auto.output)) c.loop-stop.invariant in
     λ _. decoded-all now c.loop-stop-test.false

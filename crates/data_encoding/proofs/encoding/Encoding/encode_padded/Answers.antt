@@ -9,5 +9,5 @@ returns g c =
     let width = ap (λ (b : Base). b.width) c.self.view_is ∙ c.requires.width in
     ap (λ l. l ++ drop c.pad-count.result c.pad-count.new.output)
     (c.encode_plain.ensures seen
-    (Writes-tables c.self.inside c.self.invariant seen c.self.view_is g.row.WIDTH width))
+    (Writes-tables c.self.inside c.self.invariant seen c.self.view_is g.G.GroupSize.WIDTH width))
     ∙ sym c.pad-count.ensures.padding

@@ -34,7 +34,8 @@ slice_bounds-fill-count g c =
     count-inside c.self.inside c.self.invariant _ c.self.view_is c.args.input.now
     c.args.output.now c.requires.exact _
     (c.symbol_count-count.ensures
-    ∙ ap (λ n. run_count n (8 * length c.args.input.now)) (sym c.requires.width))
+    ∙ ap (λ n. run_count n (8 * length c.args.input.now))
+    (c.WIDTH.ensures ∙ sym c.requires.width))
 
 pub slice_bounds-fill-start : goal.slice_bounds-fill-start
 slice_bounds-fill-start g c = slice_bounds-fill-count g c
@@ -46,7 +47,8 @@ returns-clause-inside g c =
     let inside = count-inside c.self.inside c.self.invariant _ c.self.view_is c.args.input.now
     output c.requires.exact count
     (c.symbol_count-count.ensures
-    ∙ ap (λ n. run_count n (8 * length c.args.input.now)) (sym c.requires.width)) in
+    ∙ ap (λ n. run_count n (8 * length c.args.input.now))
+    (c.WIDTH.ensures ∙ sym c.requires.width)) in
     let same = length-put_mid count (length output - count) output c.fill.new.self
     (omega (arith, inside)) (c.fill.ensures.len ∙ length-rest count output) in
     omega (arith, same, inside)
@@ -56,5 +58,6 @@ returns-clause-padding g c =
     padding-written c.self.inside c.self.invariant _ c.self.view_is c.args.input.now
     c.args.output.now c.requires.exact _
     (c.symbol_count-count.ensures
-    ∙ ap (λ n. run_count n (8 * length c.args.input.now)) (sym c.requires.width))
+    ∙ ap (λ n. run_count n (8 * length c.args.input.now))
+    (c.WIDTH.ensures ∙ sym c.requires.width))
     c.in-Some.character c.in-Some.is _ (c.fill.ensures.after (λ y same. same))

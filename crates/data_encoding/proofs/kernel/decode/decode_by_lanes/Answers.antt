@@ -1,27 +1,13 @@
 use Rattle.data_encoding.proofs.kernel.decode.decode_by_lanes.Goals as goal
 
-pub decode_eights-requires-clause-group : goal.decode_eights-requires-clause-group
-decode_eights-requires-clause-group g c = c.requires.group
-
-pub decode_eights-requires-clause-room : goal.decode_eights-requires-clause-room
-decode_eights-requires-clause-room g c = c.requires.room
-
-pub decode_eights-requires-in-LeastSignificantFirst-clause-group :
-    goal.decode_eights-requires-in-LeastSignificantFirst-clause-group
-decode_eights-requires-in-LeastSignificantFirst-clause-group g c = c.requires.group
-
-pub decode_eights-requires-in-LeastSignificantFirst-clause-room :
-    goal.decode_eights-requires-in-LeastSignificantFirst-clause-room
-decode_eights-requires-in-LeastSignificantFirst-clause-room g c = c.requires.room
-
 pub returns-in-MostSignificantFirst-clause-run : goal.returns-in-MostSignificantFirst-clause-run
 returns-in-MostSignificantFirst-clause-run g c =
-    let run = c.decode_eights.ensures.run c.args.values.now c.rows_of.ensures in
+    let run = c.decode_turns.ensures.run c.args.values.now c.rows_of.ensures in
     rw c.in-MostSignificantFirst.is run
 
 pub returns-in-LeastSignificantFirst-clause-run :
     goal.returns-in-LeastSignificantFirst-clause-run
 returns-in-LeastSignificantFirst-clause-run g c =
-    let held = c.rows_of-in-LeastSignificantFirst.ensures in
-    let run = c.decode_eights-in-LeastSignificantFirst.ensures.run c.args.values.now held in
+    let run = c.decode_turns-in-LeastSignificantFirst.ensures.run c.args.values.now
+    c.rows_of.ensures in
     rw c.in-LeastSignificantFirst.is run

@@ -1,4 +1,5 @@
 use Rattle.std.proofs.Common.{◌≡◌, ℕ, ◌+◌, ◌*◌, ◌/◌, ◌<◌, ◌≤◌, length, refl, sym, ap, ◌∙◌, subst, arith}
+use Rattle.data_encoding.proofs.digits.SizeLemmas.{IsGroup-same, room-same}
 use Rattle.data_encoding.specs.Decoding.{IsRun}
 use Rattle.data_encoding.proofs.grammar.PositionLemmas.{bytes-positioned_from}
 use Rattle.data_encoding.proofs.decoding.SymbolRunLemmas.{group-next, run-all, run-kept, run-longest}
@@ -14,11 +15,16 @@ ends_within n size i h =
 
 pub nonzero_div-count : goal.nonzero_div-count
 nonzero_div-count g c =
-    (IsWhole-group g.row.WIDTH g.row.BYTES g.row.SYMBOLS c.requires.group).some_symbols
+    let bytes = c.BYTES-bytes.result in
+    let symbols = c.SYMBOLS-symbols.result in
+    let group = IsGroup-same refl c.BYTES-bytes.ensures c.SYMBOLS-symbols.ensures
+    g.G.GroupSize.is_group in
+    (IsWhole-group g.G.GroupSize.WIDTH bytes symbols group).some_symbols
 
 pub slice_bounds-decode_symbols-end : goal.slice_bounds-decode_symbols-end
 slice_bounds-decode_symbols-end g c =
-    group-before (length c.args.input.now) g.row.SYMBOLS c.loop-index.index c.loop-index-test.true
+    group-before (length c.args.input.now) c.SYMBOLS-symbols.result c.loop-index.index
+    c.loop-index-test.true
 
 pub overflow_mul-read : goal.overflow_mul-read
 overflow_mul-read g c = omega (arith, slice_bounds-decode_symbols-end g c)
@@ -30,9 +36,10 @@ pub overflow_mul-written : goal.overflow_mul-written
 overflow_mul-written g c =
     omega (
       arith,
-      ends_within (length c.args.input.now / g.row.SYMBOLS) g.row.BYTES c.loop-index.index
+      ends_within (length c.args.input.now / c.SYMBOLS-symbols.result) c.BYTES-bytes.result
+          c.loop-index.index
           c.loop-index-test.true,
-      c.requires.room,
+      (room-same _ _ c.BYTES-bytes.ensures c.SYMBOLS-symbols.ensures c.requires.room),
     )
 
 pub slice_bounds-decode_symbols-end-in-loop-index :
@@ -40,36 +47,34 @@ pub slice_bounds-decode_symbols-end-in-loop-index :
 slice_bounds-decode_symbols-end-in-loop-index g c =
     omega (
       arith,
-      ends_within (length c.args.input.now / g.row.SYMBOLS) g.row.BYTES c.loop-index.index
+      ends_within (length c.args.input.now / c.SYMBOLS-symbols.result) c.BYTES-bytes.result
+          c.loop-index.index
           c.loop-index-test.true,
-      c.requires.room,
+      (room-same _ _ c.BYTES-bytes.ensures c.SYMBOLS-symbols.ensures c.requires.room),
       c.loop-index.auto.output,
     )
 
 pub overflow_add-written : goal.overflow_add-written
 overflow_add-written g c = omega (arith, slice_bounds-decode_symbols-end-in-loop-index g c)
 
-pub decode_by_several-first-requires-clause-group :
-    goal.decode_by_several-first-requires-clause-group
-decode_by_several-first-requires-clause-group g c = c.requires.group
-
 pub decode_by_several-first-requires-clause-room : goal.decode_by_several-first-requires-clause-room
 decode_by_several-first-requires-clause-room g c = c.requires.room
 
-pub decode_symbols-requires-clause-group : goal.decode_symbols-requires-clause-group
-decode_symbols-requires-clause-group g c = c.requires.group
-
 pub returns-then-not-decode_symbols-clause-run : goal.returns-then-not-decode_symbols-clause-run
 returns-then-not-decode_symbols-clause-run g c = λ base reads.
+    let bytes = c.BYTES-bytes.result in
+    let symbols = c.SYMBOLS-symbols.result in
+    let group = IsGroup-same refl c.BYTES-bytes.ensures c.SYMBOLS-symbols.ensures
+    g.G.GroupSize.is_group in
     let i = c.loop-index.index in
-    let room : i * g.row.BYTES + g.row.BYTES ≤ length c.loop-index.output =
+    let room : i * bytes + bytes ≤ length c.loop-index.output =
     omega (
       arith,
-      ends_within (length c.args.input.now / g.row.SYMBOLS) g.row.BYTES i c.loop-index-test.true,
-      c.requires.room,
+      ends_within (length c.args.input.now / symbols) bytes i c.loop-index-test.true,
+      (room-same _ _ c.BYTES-bytes.ensures c.SYMBOLS-symbols.ensures c.requires.room),
       c.loop-index.auto.output,
     ) in
-    run-kept base reads.holds.is_width g.row.WIDTH g.row.BYTES g.row.SYMBOLS c.requires.group
+    run-kept base reads.holds.is_width g.G.GroupSize.WIDTH bytes symbols group
     reads.width_is
     c.args.input.now _ c.loop-index.output c.decode_symbols.new.output i _ (omega (arith, room))
     (c.loop-index.invariant.run base reads)
@@ -77,7 +82,11 @@ returns-then-not-decode_symbols-clause-run g c = λ base reads.
 pub returns-then-not-decode_symbols-clause-longest :
     goal.returns-then-not-decode_symbols-clause-longest
 returns-then-not-decode_symbols-clause-longest g c = λ base reads.
-    run-longest base reads.holds.is_width g.row.WIDTH g.row.BYTES g.row.SYMBOLS c.requires.group
+    let bytes = c.BYTES-bytes.result in
+    let symbols = c.SYMBOLS-symbols.result in
+    let group = IsGroup-same refl c.BYTES-bytes.ensures c.SYMBOLS-symbols.ensures
+    g.G.GroupSize.is_group in
+    run-longest base reads.holds.is_width g.G.GroupSize.WIDTH bytes symbols group
     reads.width_is
     c.args.values.now c.args.input.now c.loop-index.index _ refl reads.holds
     (λ j. (c.type_inv.input j).fits)
@@ -85,31 +94,37 @@ returns-then-not-decode_symbols-clause-longest g c = λ base reads.
 
 pub returns-clause-longest : goal.returns-clause-longest
 returns-clause-longest g c = λ base reads.
-    run-all base reads.holds.is_width g.row.WIDTH g.row.BYTES g.row.SYMBOLS c.requires.group
+    let bytes = c.BYTES-bytes.result in
+    let symbols = c.SYMBOLS-symbols.result in
+    let group = IsGroup-same refl c.BYTES-bytes.ensures c.SYMBOLS-symbols.ensures
+    g.G.GroupSize.is_group in
+    run-all base reads.holds.is_width g.G.GroupSize.WIDTH bytes symbols group
     reads.width_is
     c.args.input.now
 
 pub loop-index-preserved : goal.loop-index-preserved
 loop-index-preserved g c =
+    let group = IsGroup-same refl c.BYTES-bytes.ensures c.SYMBOLS-symbols.ensures
+    g.G.GroupSize.is_group in
     let i = c.loop-index.index in
     let input = c.args.input.now in
     let output = c.loop-index.output in
-    let enc = g.row.BYTES in
-    let dec = g.row.SYMBOLS in
+    let enc = c.BYTES-bytes.result in
+    let dec = c.SYMBOLS-symbols.result in
     let within : i * dec + dec ≤ length input =
     group-before (length input) dec i c.loop-index-test.true in
     let room : i * enc + enc ≤ length output =
     omega (
       arith,
       ends_within (length input / dec) enc i c.loop-index-test.true,
-      c.requires.room,
+      (room-same _ _ c.BYTES-bytes.ensures c.SYMBOLS-symbols.ensures c.requires.room),
       c.loop-index.auto.output,
     ) in
     let shown_len : length c.decode_symbols.new.output ≡ enc =
     c.decode_symbols.auto.output ∙ length-part (i * enc) enc output room in
     record {
       run = λ base reads.
-          group-next base reads.holds.is_width g.row.WIDTH enc dec c.requires.group
+          group-next base reads.holds.is_width g.G.GroupSize.WIDTH enc dec group
           reads.width_is c.args.values.now
           input _ output c.decode_symbols.new.output i _ _ refl within (omega (arith, room))
           shown_len reads.holds (c.loop-index.invariant.run base reads)
@@ -121,8 +136,11 @@ loop-index-preserved g c =
 
 pub returns-clause-run : goal.returns-clause-run
 returns-clause-run g c = λ base reads.
-    let all : c.loop-index.index ≡ length c.args.input.now / g.row.SYMBOLS =
-    omega (arith, c.loop-index-test.false, c.loop-index.auto.index-end) in
+    let first = c.decode_by_several-first.result in
+    let within = subst (λ n. first ≤ length c.args.input.now / n) (sym c.SYMBOLS-symbols.ensures)
+    c.decode_by_several-first.ensures.within in
+    let all : c.loop-index.index ≡ length c.args.input.now / c.SYMBOLS-symbols.result =
+    omega (arith, within, c.loop-index-test.false, c.loop-index.auto.index-end) in
     subst (λ n. IsRun base c.args.input.now n c.args.output.now c.loop-index.output) all
     (c.loop-index.invariant.run base reads)
 
@@ -133,22 +151,27 @@ pub decode_symbols-requires-clause-few : goal.decode_symbols-requires-clause-few
 decode_symbols-requires-clause-few g c =
     omega (
       arith,
-      length-part (c.loop-index.index * g.row.SYMBOLS) g.row.SYMBOLS c.args.input.now
-          (group-before _ g.row.SYMBOLS c.loop-index.index c.loop-index-test.true),
+      length-part (c.loop-index.index * c.SYMBOLS-symbols.result) c.SYMBOLS-symbols.result
+          c.args.input.now
+          (group-before _ c.SYMBOLS-symbols.result c.loop-index.index c.loop-index-test.true),
     )
 
 pub decode_symbols-requires-clause-exact : goal.decode_symbols-requires-clause-exact
 decode_symbols-requires-clause-exact g c =
+    let bytes = c.BYTES-bytes.result in
+    let symbols = c.SYMBOLS-symbols.result in
+    let group = IsGroup-same refl c.BYTES-bytes.ensures c.SYMBOLS-symbols.ensures
+    g.G.GroupSize.is_group in
     let i = c.loop-index.index in
-    let count = length c.args.input.now / g.row.SYMBOLS in
-    let read = length-part (i * g.row.SYMBOLS) g.row.SYMBOLS c.args.input.now
-    (group-before _ g.row.SYMBOLS i c.loop-index-test.true) in
-    let wrote = length-part (i * g.row.BYTES) g.row.BYTES c.loop-index.output
+    let count = length c.args.input.now / symbols in
+    let read = length-part (i * symbols) symbols c.args.input.now
+    (group-before _ symbols i c.loop-index-test.true) in
+    let wrote = length-part (i * bytes) bytes c.loop-index.output
     (omega (
       arith,
-      ends_within count g.row.BYTES i c.loop-index-test.true,
-      c.requires.room,
+      ends_within count bytes i c.loop-index-test.true,
+      (room-same _ _ c.BYTES-bytes.ensures c.SYMBOLS-symbols.ensures c.requires.room),
       c.loop-index.auto.output,
     )) in
-    let same = (IsWhole-group g.row.WIDTH g.row.BYTES g.row.SYMBOLS c.requires.group).same_bits in
-    omega (arith, wrote, ap (λ n. g.row.WIDTH * n) read, same)
+    let same = (IsWhole-group g.G.GroupSize.WIDTH bytes symbols group).same_bits in
+    omega (arith, wrote, ap (λ n. g.G.GroupSize.WIDTH * n) read, same)

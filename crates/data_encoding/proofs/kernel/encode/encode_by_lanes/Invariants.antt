@@ -4,6 +4,6 @@ use Rattle.data_encoding.proofs.kernel.encode.encode_by_lanes.Given as goal
 
 abbrev pub invariant-loop-index : goal.invariant-loop-index
 invariant-loop-index g l = record {
-  written : IsTextBy l.symbols g.row.WIDTH l.order (take (l.index * (8 * g.row.BYTES)) l.input)
-      (take (l.index * (8 * g.row.SYMBOLS)) l.output);
+  written : IsTextBy l.symbols g.G.GroupSize.WIDTH l.order (take (l.index * l.read_len) l.input)
+      (take (l.index * l.written_len) l.output);
 }

@@ -1,4 +1,5 @@
-use Rattle.std.proofs.Common.{◌+◌, ◌-◌, ◌*◌, ◌/◌, length, sym, ap, ◌∙◌, arith}
+use Rattle.std.proofs.Common.{◌+◌, ◌-◌, ◌*◌, ◌/◌, length, sym, ap, ◌∙◌, arith, refl}
+use Rattle.data_encoding.proofs.digits.SizeLemmas.{IsGroup-same}
 use Rattle.data_encoding.specs.Text.{plain_text}
 use Rattle.data_encoding.proofs.text.PlainGroupLemmas.{encoded-none}
 use Rattle.data_encoding.proofs.text.PlainLoopLemmas.{fits, written-next, written-last}
@@ -7,90 +8,123 @@ use Rattle.data_encoding.proofs.kernel.encode.encode_groups.Goals as goal
 
 pub loop-index-init : goal.loop-index-init
 loop-index-init g c =
-    let whole = IsWhole-group g.row.WIDTH g.row.BYTES g.row.SYMBOLS c.requires.group in
+    let bytes = c.BYTES-bytes.result in
+    let symbols = c.SYMBOLS-text_len.result in
+    let group = IsGroup-same refl c.BYTES-bytes.ensures c.SYMBOLS-text_len.ensures
+    g.G.GroupSize.is_group in
+    let whole = IsWhole-group g.G.GroupSize.WIDTH bytes symbols group in
     record {
       written = λ base writes.
-          encoded-none base g.row.WIDTH g.row.BYTES g.row.SYMBOLS whole writes.width_is
+          encoded-none base g.G.GroupSize.WIDTH bytes symbols whole writes.width_is
           c.args.input.now c.args.output.now;
     }
 
 pub slice_bounds-encode_group-end-in-loop-index : goal.slice_bounds-encode_group-end-in-loop-index
 slice_bounds-encode_group-end-in-loop-index g c =
-    (fits (length c.args.input.now) (length c.loop-index.output) g.row.WIDTH g.row.BYTES
-    g.row.SYMBOLS
-    (IsWhole-group g.row.WIDTH g.row.BYTES g.row.SYMBOLS c.requires.group)
+    let bytes = c.BYTES-bytes.result in
+    let symbols = c.SYMBOLS-text_len.result in
+    let group = IsGroup-same refl c.BYTES-bytes.ensures c.SYMBOLS-text_len.ensures
+    g.G.GroupSize.is_group in
+    (fits (length c.args.input.now) (length c.loop-index.output) g.G.GroupSize.WIDTH bytes
+    symbols
+    (IsWhole-group g.G.GroupSize.WIDTH bytes symbols group)
     (c.loop-index.auto.output ∙ c.requires.exact)).next
     c.loop-index.index c.loop-index-test.true
 
 pub encode_group-requires-clause-exact : goal.encode_group-requires-clause-exact
 encode_group-requires-clause-exact g c =
+    let bytes = c.BYTES-bytes.result in
+    let symbols = c.SYMBOLS-text_len.result in
+    let group = IsGroup-same refl c.BYTES-bytes.ensures c.SYMBOLS-text_len.ensures
+    g.G.GroupSize.is_group in
     let i = c.loop-index.index in
-    let whole = IsWhole-group g.row.WIDTH g.row.BYTES g.row.SYMBOLS c.requires.group in
-    let room = fits (length c.args.input.now) (length c.loop-index.output) g.row.WIDTH g.row.BYTES
-    g.row.SYMBOLS
-    (IsWhole-group g.row.WIDTH g.row.BYTES g.row.SYMBOLS c.requires.group)
+    let whole = IsWhole-group g.G.GroupSize.WIDTH bytes symbols group in
+    let room = fits (length c.args.input.now) (length c.loop-index.output) g.G.GroupSize.WIDTH bytes
+    symbols
+    (IsWhole-group g.G.GroupSize.WIDTH bytes symbols group)
     (c.loop-index.auto.output ∙ c.requires.exact) in
-    length-part (i * g.row.SYMBOLS) g.row.SYMBOLS c.loop-index.output
+    length-part (i * symbols) symbols c.loop-index.output
     (room.next i c.loop-index-test.true)
-    ∙ sym (ap (λ n. (8 * n + (g.row.WIDTH - 1)) / g.row.WIDTH)
-    (length-part (i * g.row.BYTES) g.row.BYTES c.args.input.now
-    (group-before (length c.args.input.now) g.row.BYTES i c.loop-index-test.true))
-    ∙ whole-group 8 g.row.WIDTH g.row.BYTES g.row.SYMBOLS (g.row.WIDTH - 1) (sym whole.same_bits)
+    ∙ sym (ap (λ n. (8 * n + (g.G.GroupSize.WIDTH - 1)) / g.G.GroupSize.WIDTH)
+    (length-part (i * bytes) bytes c.args.input.now
+    (group-before (length c.args.input.now) bytes i c.loop-index-test.true))
+    ∙ whole-group 8 g.G.GroupSize.WIDTH bytes symbols (g.G.GroupSize.WIDTH - 1)
+    (sym whole.same_bits)
     (omega (arith, whole.is_width.some)))
 
 pub loop-index-preserved : goal.loop-index-preserved
 loop-index-preserved g c =
+    let bytes = c.BYTES-bytes.result in
+    let symbols = c.SYMBOLS-text_len.result in
+    let group = IsGroup-same refl c.BYTES-bytes.ensures c.SYMBOLS-text_len.ensures
+    g.G.GroupSize.is_group in
     let i = c.loop-index.index in
     let input = c.args.input.now in
-    let whole = IsWhole-group g.row.WIDTH g.row.BYTES g.row.SYMBOLS c.requires.group in
-    let room = fits (length input) (length c.loop-index.output) g.row.WIDTH g.row.BYTES
-    g.row.SYMBOLS whole
+    let whole = IsWhole-group g.G.GroupSize.WIDTH bytes symbols group in
+    let room = fits (length input) (length c.loop-index.output) g.G.GroupSize.WIDTH bytes
+    symbols whole
     (c.loop-index.auto.output ∙ c.requires.exact) in
     record {
       written = λ base writes.
-          written-next base g.row.WIDTH g.row.BYTES g.row.SYMBOLS whole writes.width_is input
+          written-next base g.G.GroupSize.WIDTH bytes symbols whole writes.width_is input
           c.loop-index.output
           c.encode_group.new.output i
-          (group-before (length input) g.row.BYTES i c.loop-index-test.true)
+          (group-before (length input) bytes i c.loop-index-test.true)
           (room.next i c.loop-index-test.true) (c.loop-index.invariant.written base writes)
           c.encode_group.auto.output
           (c.encode_group.ensures.text base writes
-          ∙ ap (plain_text base) (part-is (i * g.row.BYTES) g.row.BYTES input));
+          ∙ ap (plain_text base) (part-is (i * bytes) bytes input));
     }
 
 pub slice_bounds-encode_group-count-3 : goal.slice_bounds-encode_group-count-3
 slice_bounds-encode_group-count-3 g c =
-    (fits (length c.args.input.now) (length c.loop-index.output) g.row.WIDTH g.row.BYTES
-    g.row.SYMBOLS
-    (IsWhole-group g.row.WIDTH g.row.BYTES g.row.SYMBOLS c.requires.group)
+    let bytes = c.BYTES-bytes.result in
+    let symbols = c.SYMBOLS-text_len.result in
+    let group = IsGroup-same refl c.BYTES-bytes.ensures c.SYMBOLS-text_len.ensures
+    g.G.GroupSize.is_group in
+    (fits (length c.args.input.now) (length c.loop-index.output) g.G.GroupSize.WIDTH bytes
+    symbols
+    (IsWhole-group g.G.GroupSize.WIDTH bytes symbols group)
     (c.loop-index.auto.output ∙ c.requires.exact)).past
 
 pub slice_bounds-encode_group-start-3 : goal.slice_bounds-encode_group-start-3
 slice_bounds-encode_group-start-3 g c =
-    (fits (length c.args.input.now) (length c.loop-index.output) g.row.WIDTH g.row.BYTES
-    g.row.SYMBOLS
-    (IsWhole-group g.row.WIDTH g.row.BYTES g.row.SYMBOLS c.requires.group)
+    let bytes = c.BYTES-bytes.result in
+    let symbols = c.SYMBOLS-text_len.result in
+    let group = IsGroup-same refl c.BYTES-bytes.ensures c.SYMBOLS-text_len.ensures
+    g.G.GroupSize.is_group in
+    (fits (length c.args.input.now) (length c.loop-index.output) g.G.GroupSize.WIDTH bytes
+    symbols
+    (IsWhole-group g.G.GroupSize.WIDTH bytes symbols group)
     (c.loop-index.auto.output ∙ c.requires.exact)).past
 
 pub encode_group-requires-2-clause-exact : goal.encode_group-requires-2-clause-exact
 encode_group-requires-2-clause-exact g c =
-    let count = length c.args.input.now / g.row.BYTES in
-    length-rest (count * g.row.SYMBOLS) c.loop-index.output
-    ∙ (fits (length c.args.input.now) (length c.loop-index.output) g.row.WIDTH g.row.BYTES
-    g.row.SYMBOLS
-    (IsWhole-group g.row.WIDTH g.row.BYTES g.row.SYMBOLS c.requires.group)
+    let bytes = c.BYTES-bytes.result in
+    let symbols = c.SYMBOLS-text_len.result in
+    let group = IsGroup-same refl c.BYTES-bytes.ensures c.SYMBOLS-text_len.ensures
+    g.G.GroupSize.is_group in
+    let count = length c.args.input.now / bytes in
+    length-rest (count * symbols) c.loop-index.output
+    ∙ (fits (length c.args.input.now) (length c.loop-index.output) g.G.GroupSize.WIDTH bytes
+    symbols
+    (IsWhole-group g.G.GroupSize.WIDTH bytes symbols group)
     (c.loop-index.auto.output ∙ c.requires.exact)).rest
-    ∙ ap (λ n. (8 * n + (g.row.WIDTH - 1)) / g.row.WIDTH)
-    (sym (length-rest (count * g.row.BYTES) c.args.input.now))
+    ∙ ap (λ n. (8 * n + (g.G.GroupSize.WIDTH - 1)) / g.G.GroupSize.WIDTH)
+    (sym (length-rest (count * bytes) c.args.input.now))
 
 pub returns : goal.returns
 returns g c base writes =
+    let bytes = c.BYTES-bytes.result in
+    let symbols = c.SYMBOLS-text_len.result in
+    let group = IsGroup-same refl c.BYTES-bytes.ensures c.SYMBOLS-text_len.ensures
+    g.G.GroupSize.is_group in
     let input = c.args.input.now in
-    let whole = IsWhole-group g.row.WIDTH g.row.BYTES g.row.SYMBOLS c.requires.group in
-    written-last base g.row.WIDTH g.row.BYTES g.row.SYMBOLS whole writes.width_is input
+    let whole = IsWhole-group g.G.GroupSize.WIDTH bytes symbols group in
+    written-last base g.G.GroupSize.WIDTH bytes symbols whole writes.width_is input
     c.loop-index.output
     c.encode_group-2.new.output c.loop-index.index
-    (fits (length input) (length c.loop-index.output) g.row.WIDTH g.row.BYTES g.row.SYMBOLS whole
+    (fits (length input) (length c.loop-index.output) g.G.GroupSize.WIDTH bytes symbols whole
     (c.loop-index.auto.output ∙ c.requires.exact))
     (omega (arith, c.loop-index-test.false, c.loop-index.auto.index-end))
     (c.loop-index.invariant.written base writes) c.encode_group-2.auto.output
@@ -98,22 +132,31 @@ returns g c base writes =
 
 pub nonzero_div-count : goal.nonzero_div-count
 nonzero_div-count g c =
-    (IsWhole-group g.row.WIDTH g.row.BYTES g.row.SYMBOLS c.requires.group).some_bytes
+    let bytes = c.BYTES-bytes.result in
+    let symbols = c.SYMBOLS-text_len.result in
+    let group = IsGroup-same refl c.BYTES-bytes.ensures c.SYMBOLS-text_len.ensures
+    g.G.GroupSize.is_group in
+    (IsWhole-group g.G.GroupSize.WIDTH bytes symbols group).some_bytes
 
 pub slice_bounds-encode_group-end : goal.slice_bounds-encode_group-end
 slice_bounds-encode_group-end g c =
-    group-before (length c.args.input.now) g.row.BYTES c.loop-index.index c.loop-index-test.true
+    group-before (length c.args.input.now) c.BYTES-bytes.result c.loop-index.index
+    c.loop-index-test.true
 
 pub overflow_add-read : goal.overflow_add-read
 overflow_add-read g c = omega (arith, slice_bounds-encode_group-end g c)
 
 pub overflow_mul-written : goal.overflow_mul-written
 overflow_mul-written g c =
+    let bytes = c.BYTES-bytes.result in
+    let symbols = c.SYMBOLS-text_len.result in
+    let group = IsGroup-same refl c.BYTES-bytes.ensures c.SYMBOLS-text_len.ensures
+    g.G.GroupSize.is_group in
     omega (
       arith,
-      (fits (length c.args.input.now) (length c.args.output.now) g.row.WIDTH g.row.BYTES
-          g.row.SYMBOLS
-          (IsWhole-group g.row.WIDTH g.row.BYTES g.row.SYMBOLS c.requires.group)
+      (fits (length c.args.input.now) (length c.args.output.now) g.G.GroupSize.WIDTH bytes
+          symbols
+          (IsWhole-group g.G.GroupSize.WIDTH bytes symbols group)
           c.requires.exact).next
           c.loop-index.index c.loop-index-test.true,
     )
@@ -121,26 +164,20 @@ overflow_mul-written g c =
 pub overflow_add-written : goal.overflow_add-written
 overflow_add-written g c = omega (arith, slice_bounds-encode_group-end-in-loop-index g c)
 
-pub encode_group-requires-clause-group : goal.encode_group-requires-clause-group
-encode_group-requires-clause-group g c = c.requires.group
-
 pub encode_group-requires-clause-few : goal.encode_group-requires-clause-few
 encode_group-requires-clause-few g c =
     omega (
       arith,
-      length-part (c.loop-index.index * g.row.BYTES) g.row.BYTES c.args.input.now
-          (group-before _ g.row.BYTES c.loop-index.index c.loop-index-test.true),
+      length-part (c.loop-index.index * c.BYTES-bytes.result) c.BYTES-bytes.result c.args.input.now
+          (group-before _ c.BYTES-bytes.result c.loop-index.index c.loop-index-test.true),
     )
 
 pub slice_bounds-encode_group-count-2 : goal.slice_bounds-encode_group-count-2
-slice_bounds-encode_group-count-2 g c = groups-within (length c.args.input.now) g.row.BYTES
+slice_bounds-encode_group-count-2 g c = groups-within (length c.args.input.now) c.BYTES-bytes.result
 
 pub overflow_mul-count : goal.overflow_mul-count
 overflow_mul-count g c =
-    omega (arith, groups-within (length c.args.input.now) g.row.BYTES)
+    omega (arith, groups-within (length c.args.input.now) c.BYTES-bytes.result)
 
 pub overflow_mul-count-2 : goal.overflow_mul-count-2
 overflow_mul-count-2 g c = omega (arith, slice_bounds-encode_group-count-3 g c)
-
-pub encode_group-requires-2-clause-group : goal.encode_group-requires-2-clause-group
-encode_group-requires-2-clause-group g c = c.requires.group

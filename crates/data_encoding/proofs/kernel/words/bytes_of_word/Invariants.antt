@@ -6,7 +6,7 @@ use Rattle.data_encoding.proofs.kernel.words.bytes_of_word.Given as goal
 abbrev pub invariant-loop-index : goal.invariant-loop-index
 invariant-loop-index g l = record {
   so_far : take l.index l.output
-      ≡ map (digit l.fn.order 8 g.row.BYTES l.fn.word) (range_with_len 0 l.index);
+      ≡ map (digit l.fn.order 8 g.G.GroupSize.BYTES l.fn.word) (range_with_len 0 l.index);
   len : length l.output ≡ length l.fn.output;
   within : l.index ≤ length l.output;
 }

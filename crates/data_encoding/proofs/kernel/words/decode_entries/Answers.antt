@@ -14,11 +14,13 @@ returns g c =
           let low = c.word_of_symbols-word.ensures.entries.0 h in
           let fits : (k : ℕ) → slice_index input k < 256 = λ k. (c.type_inv.input k).fits in
           let word = c.word_of_symbols-word.ensures.word
-          (entries_below base g.row.WIDTH values input fits low reads.width_is reads.holds) in
+          (entries_below base g.G.GroupSize.WIDTH values input fits low reads.width_is reads.holds)
+          in
           c.bytes_of_word.ensures
-          ∙ (λ i. map (digit c.args.order 8 g.row.BYTES (word i))
+          ∙ (λ i. map (digit c.args.order 8 g.G.GroupSize.BYTES (word i))
           (range_with_len 0 (length c.args.output.now)))
-          ∙ bytes_of_group-word base c.args.order g.row.WIDTH g.row.BYTES g.row.SYMBOLS
-          (length c.args.output.now) values input ks c.requires.group c.requires.few
+          ∙ bytes_of_group-word base c.args.order g.G.GroupSize.WIDTH g.G.GroupSize.BYTES
+          g.G.GroupSize.SYMBOLS
+          (length c.args.output.now) values input ks g.G.GroupSize.is_group c.requires.few
           c.requires.exact fits low reads e;
     }

@@ -1,14 +1,15 @@
-use Rattle.std.proofs.Common.{◌≡◌, ◌+◌, ◌*◌, ◌^◌, ◌<◌, ◌∷◌, [], ◌++◌, length, map, take, slice_index, sym, ap, ◌∙◌, subst, arith}
+use Rattle.std.proofs.Common.{◌≡◌, ◌+◌, ◌*◌, ◌^◌, ◌<◌, ◌∷◌, [], ◌++◌, length, map, take, slice_index, refl, sym, ap, ◌∙◌, subst, arith}
 use Rattle.std.proofs.lemmas.List.{take_more, length-take-le, length-map, map-append}
 use Rattle.std.proofs.lemmas.Nat.{le_or_l, le_or_r, or_lt}
 use borrow.Author.Count.{below_more}
-use Rattle.data_encoding.specs.Words.{word_of}
+use Rattle.data_encoding.specs.Words.{weight, word_of}
+use Rattle.data_encoding.proofs.digits.SizeLemmas.{IsSmall-group, IsGroup-same}
 use Rattle.data_encoding.proofs.digits.WordLemmas.{word_of-nil, word_of-more, term, few_digits}
 use Rattle.data_encoding.proofs.kernel.words.word_of_symbols.Goals as goal
 
 pub loop-index-init : goal.loop-index-init
 loop-index-init g c = record {
-  so_far = λ h. sym (word_of-nil c.args.order g.row.WIDTH g.row.SYMBOLS);
+  so_far = λ h. sym (word_of-nil c.args.order g.G.GroupSize.WIDTH g.G.GroupSize.SYMBOLS);
   only = λ h k below. absurd (omega (arith, below));
   all = λ h. omega arith;
   within = omega arith;
@@ -17,9 +18,14 @@ loop-index-init g c = record {
 
 pub overflow_add-word : goal.overflow_add-word
 overflow_add-word g c =
+    let width = c.WIDTH-width.result in
+    let count = c.SYMBOLS-count.result in
+    let group = IsGroup-same c.WIDTH-width.ensures refl c.SYMBOLS-count.ensures
+    g.G.GroupSize.is_group in
+    let bits = (IsSmall-group group).few_bits in
     let added = term c.entry_of-entry.result c.weight_at.result c.entry_of-entry.type_inv
-    (omega arith) in
-    let few = few_digits g.row.WIDTH g.row.SYMBOLS 40 c.requires.some c.requires.fits in
+    (omega (arith, bits)) in
+    let few = few_digits width count 40 group.is_width.some bits in
     record { fits = omega (arith, added.small) }
 
 pub loop-index-preserved : goal.loop-index-preserved
@@ -31,7 +37,12 @@ loop-index-preserved g c =
     let inside : index < length input =
     omega (arith, c.loop-index.invariant.within, c.if-index-input.false) in
     let same : entry ≡ slice_index values (slice_index input index) = c.entry_of-entry.ensures in
-    let added = term entry c.weight_at.result c.entry_of-entry.type_inv (omega arith) in
+    let group = IsGroup-same c.WIDTH-width.ensures refl c.SYMBOLS-count.ensures
+    g.G.GroupSize.is_group in
+    let bits = (IsSmall-group group).few_bits in
+    let added = term entry c.weight_at.result c.entry_of-entry.type_inv (omega (arith, bits)) in
+    let weight_is = c.weight_at.ensures.weight
+    ∙ (λ i. weight c.args.order (c.WIDTH-width.ensures i) (c.SYMBOLS-count.ensures i) index) in
     let before = map (slice_index values) (take index input) in
     let digits : map (slice_index values) (take (index + 1) input) ≡ before ++ entry ∷ [] =
     ap (map (slice_index values)) (take_more input index 0 inside)
@@ -42,11 +53,14 @@ loop-index-preserved g c =
     record {
       so_far = λ h.
           (λ i. c.loop-index.invariant.so_far (λ k less. h k (omega arith)) i + added.whole i)
-          ∙ ap (λ w. word_of c.args.order g.row.WIDTH g.row.SYMBOLS before + entry * 2 ^ w)
-          c.weight_at.ensures.weight
-          ∙ sym (word_of-more c.args.order g.row.WIDTH g.row.SYMBOLS index before entry len
-          (omega arith) (subst (λ d. d < 2 ^ g.row.WIDTH) (sym same) (h index (omega arith))))
-          ∙ ap (word_of c.args.order g.row.WIDTH g.row.SYMBOLS) (sym digits);
+          ∙ ap (λ w. word_of c.args.order g.G.GroupSize.WIDTH g.G.GroupSize.SYMBOLS before + entry *
+          2 ^ w)
+          weight_is
+          ∙ sym (word_of-more c.args.order g.G.GroupSize.WIDTH g.G.GroupSize.SYMBOLS index before
+          entry len
+          (omega arith) (subst (λ d. d < 2 ^ g.G.GroupSize.WIDTH) (sym same)
+          (h index (omega arith))))
+          ∙ ap (word_of c.args.order g.G.GroupSize.WIDTH g.G.GroupSize.SYMBOLS) (sym digits);
       only = λ h. below_more (λ k. slice_index values (slice_index input k) < 128) index
           (c.loop-index.invariant.only (omega (arith, le_or_l c.loop-index.entries entry, h)))
           (omega (arith, le_or_r c.loop-index.entries entry, h, same));

@@ -5,8 +5,8 @@ use Rattle.data_encoding.proofs.kernel.words.word_of_symbols.Given as goal
 abbrev pub invariant-loop-index : goal.invariant-loop-index
 invariant-loop-index g l = record {
   so_far : ((k : ℕ) → k < l.index
-      → slice_index l.fn.values (slice_index l.fn.input k) < 2 ^ g.row.WIDTH)
-      → l.word ≡ word_of l.fn.order g.row.WIDTH g.row.SYMBOLS
+      → slice_index l.fn.values (slice_index l.fn.input k) < 2 ^ g.G.GroupSize.WIDTH)
+      → l.word ≡ word_of l.fn.order g.G.GroupSize.WIDTH g.G.GroupSize.SYMBOLS
       (map (slice_index l.fn.values) (take l.index l.fn.input));
   only : l.entries < 128
       → (k : ℕ) → k < l.index → slice_index l.fn.values (slice_index l.fn.input k) < 128;

@@ -1,23 +1,32 @@
 use Rattle.std.proofs.Common.{◌≡◌, ◌*◌, ◌^◌, ◌<◌, sym, ap, ◌∙◌, subst, arith}
 use Rattle.std.specs.List.{AllByRecursion}
+use Rattle.data_encoding.proofs.decoding.EightGroupLemmas.{byte-counts}
 use Rattle.data_encoding.proofs.digits.GatherStoreLemmas.{bytes_of_words, stored-ones}
 use Rattle.data_encoding.proofs.kernel.lanes.decode.store.Goals as goal
 
 pub returns-in-1 : goal.returns-in-1
 returns-in-1 g c =
+    let one : g.G.GroupSize.BYTES ≡ 1 = sym c.BYTES.ensures ∙ c.in-1.is in
     stored-ones c.args.order c.args.words c.args.output.now c.fits-words.0
-    (c.requires.exact ∙ ap (λ n. 8 * n) c.in-1.is)
-    (subst (λ n. AllByRecursion (λ word. word < 2 ^ (8 * n)) c.args.words) c.in-1.is
-    c.requires.words)
-    ∙ ap (λ n. bytes_of_words c.args.order n c.args.words) (sym c.in-1.is)
+    (c.requires.exact ∙ ap (λ n. 8 * n) one)
+    (subst (λ n. AllByRecursion (λ word. word < 2 ^ (8 * n)) c.args.words) one c.requires.words)
+    ∙ ap (λ n. bytes_of_words c.args.order n c.args.words) (sym one)
 
 pub returns-in-3 : goal.returns-in-3
 returns-in-3 g c =
+    let three : g.G.GroupSize.BYTES ≡ 3 = sym c.BYTES.ensures ∙ c.in-3.is in
     c.store_three.ensures
-    ∙ ap (λ n. bytes_of_words c.args.order n c.args.words) (sym c.in-3.is)
+    ∙ ap (λ n. bytes_of_words c.args.order n c.args.words) (sym three)
 
 pub returns-in_default : goal.returns-in_default
 returns-in_default g c =
-    let five : g.row.BYTES ≡ 5 = omega (arith, c.requires.size, c.in_default) in
+    let five : g.G.GroupSize.BYTES ≡ 5 =
+    omega (
+      arith,
+      byte-counts g.G.GroupSize.WIDTH g.G.GroupSize.is_group.is_width,
+      g.G.GroupSize.is_group.has_bytes,
+      c.BYTES.ensures,
+      c.in_default,
+    ) in
     c.store_five.ensures
     ∙ ap (λ n. bytes_of_words c.args.order n c.args.words) (sym five)

@@ -1,11 +1,12 @@
-use Rattle.std.proofs.Common.{◌≡◌, ◌*◌, ◌<◌, length, refl, ◌∙◌, subst, arith}
+use Rattle.std.proofs.Common.{◌≡◌, ◌*◌, ◌<◌, length, refl, ◌∙◌, subst, arith, ap, sym}
+use Rattle.data_encoding.proofs.digits.SizeLemmas.{IsGroup-same}
 use Rattle.std.proofs.lemmas.Bool.{ltb-true}
 use Rattle.std.proofs.lemmas.Nat.{le_or_l, le_or_r}
 use Rattle.data_encoding.specs.Decoding.{IsRun}
 use Rattle.data_encoding.proofs.grammar.PositionLemmas.{bytes-positioned_from}
 use Rattle.data_encoding.proofs.decoding.SymbolRunLemmas.{run-none, group-next}
 use Rattle.data_encoding.proofs.lists.PartLemmas.{length-part, part-of-four}
-use Rattle.data_encoding.proofs.kernel.decode.decode_four_groups.Goals as goal
+use Rattle.data_encoding.proofs.kernel.turn.decode_four_groups.Goals as goal
 
 pub loop-index-init : goal.loop-index-init
 loop-index-init g c = record {
@@ -14,14 +15,18 @@ loop-index-init g c = record {
 
 pub loop-index-preserved : goal.loop-index-preserved
 loop-index-preserved g c =
+    let group = IsGroup-same refl c.BYTES-bytes.ensures c.SYMBOLS-symbols.ensures
+    g.G.GroupSize.is_group in
     let i = c.loop-index.index in
     let input = c.args.input.now in
     let output = c.loop-index.output in
-    let enc = g.row.BYTES in
-    let dec = g.row.SYMBOLS in
+    let enc = c.BYTES-bytes.result in
+    let dec = c.SYMBOLS-symbols.result in
     let room = part-of-four (length output) enc i
-    (c.loop-index.auto.output ∙ c.requires.exact) c.loop-index-test.true in
-    let within = part-of-four (length input) dec i c.requires.symbols c.loop-index-test.true in
+    (c.loop-index.auto.output ∙ (c.requires.exact ∙ ap (λ n. 4 * n) (sym c.BYTES-bytes.ensures)))
+    c.loop-index-test.true in
+    let within = part-of-four (length input) dec i (c.requires.symbols ∙ ap (λ n. 4 * n)
+    (sym c.SYMBOLS-symbols.ensures)) c.loop-index-test.true in
     let shown_len : length c.decode_entries-all.new.output ≡ enc =
     c.decode_entries-all.auto.output ∙ length-part (i * enc) enc output room in
     record {
@@ -30,7 +35,7 @@ loop-index-preserved g c =
           omega (arith, h, le_or_l c.loop-index.all c.decode_entries-all.result) in
           let entries : c.decode_entries-all.result < 128 =
           omega (arith, h, le_or_r c.loop-index.all c.decode_entries-all.result) in
-          group-next base reads.holds.is_width g.row.WIDTH enc dec c.requires.group
+          group-next base reads.holds.is_width g.G.GroupSize.WIDTH enc dec group
           reads.width_is c.args.values.now
           input _ output c.decode_entries-all.new.output i _ _ refl within (omega (arith, room))
           shown_len reads.holds (c.loop-index.invariant.run before base reads)
@@ -41,7 +46,8 @@ loop-index-preserved g c =
 
 pub slice_bounds-decode_entries-end : goal.slice_bounds-decode_entries-end
 slice_bounds-decode_entries-end g c =
-    part-of-four (length c.args.input.now) g.row.SYMBOLS c.loop-index.index c.requires.symbols
+    part-of-four (length c.args.input.now) c.SYMBOLS-symbols.result c.loop-index.index
+    (c.requires.symbols ∙ ap (λ n. 4 * n) (sym c.SYMBOLS-symbols.ensures))
     c.loop-index-test.true
 
 pub overflow_mul-read : goal.overflow_mul-read
@@ -51,7 +57,8 @@ pub overflow_mul-written : goal.overflow_mul-written
 overflow_mul-written g c =
     omega (
       arith,
-      part-of-four (length c.args.output.now) g.row.BYTES c.loop-index.index c.requires.exact
+      part-of-four (length c.args.output.now) c.BYTES-bytes.result c.loop-index.index
+          (c.requires.exact ∙ ap (λ n. 4 * n) (sym c.BYTES-bytes.ensures))
           c.loop-index-test.true,
     )
 
@@ -61,15 +68,12 @@ overflow_add-read g c = omega (arith, slice_bounds-decode_entries-end g c)
 pub slice_bounds-decode_entries-end-in-loop-index :
     goal.slice_bounds-decode_entries-end-in-loop-index
 slice_bounds-decode_entries-end-in-loop-index g c =
-    part-of-four (length c.loop-index.output) g.row.BYTES c.loop-index.index
-    (c.loop-index.auto.output ∙ c.requires.exact)
+    part-of-four (length c.loop-index.output) c.BYTES-bytes.result c.loop-index.index
+    (c.loop-index.auto.output ∙ (c.requires.exact ∙ ap (λ n. 4 * n) (sym c.BYTES-bytes.ensures)))
     c.loop-index-test.true
 
 pub overflow_add-written : goal.overflow_add-written
 overflow_add-written g c = omega (arith, slice_bounds-decode_entries-end-in-loop-index g c)
-
-pub decode_entries-all-requires-clause-group : goal.decode_entries-all-requires-clause-group
-decode_entries-all-requires-clause-group g c = c.requires.group
 
 pub returns : goal.returns
 returns g c = λ all base reads.

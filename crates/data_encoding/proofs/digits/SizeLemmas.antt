@@ -1,0 +1,60 @@
+-- The sizes of a group.
+use Rattle.std.proofs.Common.{◌≡◌, ℕ, ◌+◌, ◌-◌, ◌*◌, ◌/◌, ◌≤◌, ap, ◌∙◌, subst, sym, arith}
+use Rattle.data_encoding.specs.Base.{IsWidth, group_bytes, group_symbols}
+use Rattle.data_encoding.specs.Tables.{IsGroup}
+use Rattle.data_encoding.proofs.digits.WidthLemmas.{by_width}
+
+-- a whole group is small enough for a word
+pub record IsSmall (width bytes symbols : ℕ) : Type 0 where
+  pub few_bytes : bytes ≤ 5
+  pub few_symbols : symbols ≤ 8
+  pub few_bits : width * symbols ≤ 40
+
+IsSmall-width : (width : ℕ) → IsWidth width
+    → IsSmall width (group_bytes width) (group_symbols width)
+IsSmall-width =
+    let small : (w : ℕ) → group_bytes w ≤ 5 → group_symbols w ≤ 8 → w * group_symbols w ≤ 40
+    → IsSmall w (group_bytes w) (group_symbols w) =
+    λ w b s n. record { few_bytes = b; few_symbols = s; few_bits = n } in
+    by_width (λ w. IsSmall w (group_bytes w) (group_symbols w))
+    (small 1 (omega arith) (omega arith) (omega arith))
+    (small 2 (omega arith) (omega arith) (omega arith))
+    (small 3 (omega arith) (omega arith) (omega arith))
+    (small 4 (omega arith) (omega arith) (omega arith))
+    (small 5 (omega arith) (omega arith) (omega arith))
+    (small 6 (omega arith) (omega arith) (omega arith))
+
+pub IsSmall-group : {width bytes symbols : ℕ} → IsGroup width bytes symbols
+    → IsSmall width bytes symbols
+IsSmall-group {width} {bytes} {symbols} group =
+    let small = IsSmall-width width group.is_width in
+    record {
+      few_bytes = subst (λ n. n ≤ 5) (sym group.has_bytes) small.few_bytes;
+      few_symbols = subst (λ n. n ≤ 8) (sym group.has_symbols) small.few_symbols;
+      few_bits = subst (λ n. width * n ≤ 40) (sym group.has_symbols) small.few_bits;
+    }
+
+-- the bytes of a group have no more symbols than a group
+pub symbols-within : {width bytes symbols : ℕ} → IsGroup width bytes symbols
+    → (n : ℕ) → n ≤ bytes → (8 * n + (width - 1)) / width ≤ symbols
+symbols-within {width} group n few =
+    let within = by_width (λ w. n ≤ group_bytes w → (8 * n + (w - 1)) / w ≤ group_symbols w)
+    (λ h. omega (arith, h)) (λ h. omega (arith, h)) (λ h. omega (arith, h))
+    (λ h. omega (arith, h)) (λ h. omega (arith, h)) (λ h. omega (arith, h)) width group.is_width in
+    subst (λ s. (8 * n + (width - 1)) / width ≤ s) (sym group.has_symbols)
+    (within (subst (λ b. n ≤ b) group.has_bytes few))
+
+-- what is equal to the sizes of a group are such sizes
+pub IsGroup-same : {w b s width bytes symbols : ℕ} → width ≡ w → bytes ≡ b → symbols ≡ s
+    → IsGroup w b s → IsGroup width bytes symbols
+IsGroup-same p q r group = record {
+  is_width = subst IsWidth (sym p) group.is_width;
+  has_bytes = q ∙ group.has_bytes ∙ ap group_bytes (sym p);
+  has_symbols = r ∙ group.has_symbols ∙ ap group_symbols (sym p);
+}
+
+-- and the room for so many groups is the same
+pub room-same : {b s bytes symbols : ℕ} (n m : ℕ) → bytes ≡ b → symbols ≡ s
+    → n / s * b ≤ m → n / symbols * bytes ≤ m
+room-same {b} {s} {bytes} {symbols} n m q r room =
+    subst (λ k. n / symbols * k ≤ m) (sym q) (subst (λ k. n / k * b ≤ m) (sym r) room)
