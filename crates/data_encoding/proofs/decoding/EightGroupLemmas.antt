@@ -2,7 +2,7 @@
 use Rattle.std.proofs.Common.{◌≡◌, ℕ, zero, suc, ◌+◌, ◌*◌, ◌/◌, ◌%◌, ◌^◌, ◌<◌, ◌≤◌, ◌⊎◌, inl, inr, List, [], ◌∷◌, ◌++◌, length, length-take-le, map, take, drop, slice_index, refl, sym, ap, ◌∙◌, subst, arith, ⊎_elim}
 use Rattle.std.proofs.lemmas.Bool.{cases_lt}
 use Rattle.std.proofs.lemmas.List.{drop-map, get_or-drop, get_or-map, get_or-take, get_or_past, length-drop, length-map, length-take, nil_from_length, take-map, take_all}
-use Rattle.std.proofs.Math.Nat.{add-mul, mod-eq_of_lt, mul-div_cancel_left, mul-le-mul_right}
+use Rattle.std.proofs.Math.Nat.{mod-eq_of_lt, mul-div_cancel_left}
 use Rattle.std.specs.Prelude.{flat_map}
 use Rattle.std.specs.List.{AllByRecursion, range_with_len}
 use Rattle.std.specs.Simd.{first_chunks}
@@ -17,7 +17,7 @@ use Rattle.data_encoding.specs.Words.{digit, word_of}
 use Rattle.data_encoding.proofs.digits.KernelLemmas.{symbol_bytes-word}
 use Rattle.data_encoding.proofs.digits.WidthLemmas.{by_width, symbols-few}
 use Rattle.data_encoding.proofs.lists.EachLemmas.{all-at}
-use Rattle.data_encoding.proofs.lists.PartLemmas.{IsWhole, IsWhole-group, groups-within}
+use Rattle.data_encoding.proofs.lists.PartLemmas.{IsWhole, IsWhole-group}
 use Rattle.data_encoding.proofs.lists.RunLemmas.{runs-first, runs-nil}
 
 -- the bytes of the words of groups are those of the groups

@@ -1,7 +1,4 @@
-use Rattle.std.proofs.Common.{arith}
 use Rattle.data_encoding.proofs.decoding.SymbolRunLemmas.{run-none}
-use Rattle.data_encoding.proofs.digits.SizeLemmas.{IsSmall-group}
-use Rattle.data_encoding.proofs.lists.PartLemmas.{IsWhole-group}
 use Rattle.data_encoding.proofs.kernel.decode.decode_by_fours.Goals as goal
 
 pub returns-then-entry_of-ge128-clause-run : goal.returns-then-entry_of-ge128-clause-run

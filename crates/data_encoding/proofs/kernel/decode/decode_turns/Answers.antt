@@ -1,4 +1,4 @@
-use Rattle.std.proofs.Common.{◌≡◌, ℕ, ◌+◌, ◌-◌, ◌*◌, ◌/◌, ◌≤◌, length, take, drop, refl, sym, ◌∙◌, subst, arith, ap}
+use Rattle.std.proofs.Common.{◌≡◌, ℕ, ◌+◌, ◌-◌, ◌*◌, ◌/◌, ◌≤◌, length, take, drop, refl, sym, ◌∙◌, subst, arith}
 use Rattle.data_encoding.specs.Decoding.{IsRun}
 use Rattle.data_encoding.proofs.decoding.SymbolRunLemmas.{run-kept, run-none, run-next}
 use Rattle.data_encoding.proofs.digits.SizeLemmas.{IsGroup-same, room-same}
