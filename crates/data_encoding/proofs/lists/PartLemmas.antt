@@ -1,9 +1,10 @@
 -- Where groups stand in what is read and in what is written.
-use Rattle.std.proofs.Common.{◌≡◌, ℕ, ◌+◌, ◌-◌, ◌*◌, ◌/◌, ◌%◌, ◌<◌, ◌≤◌, List, length, take, drop, sym, ap, ◌∙◌, subst, arith, length-take-le}
+use Rattle.std.proofs.Common.{◌≡◌, ℕ, ◌+◌, ◌-◌, ◌*◌, ◌/◌, ◌%◌, ◌<◌, ◌≤◌, List, length, take, drop, refl, sym, ap, ◌∙◌, subst, arith, length-take-le}
 use Rattle.std.proofs.lemmas.List.{length-drop}
 use Rattle.std.proofs.Math.Nat.{mul-add, add-mul, mul_left_comm, mul-add-div, mul-add-mod_self_left, mul-le-mul_right, div-eq_of_lt}
 use Rattle.std.proofs.lemmas.Nat.{div-add-mod'}
 use Rattle.data_encoding.specs.Tables.{IsGroup}
+use Rattle.data_encoding.proofs.digits.SizeLemmas.{IsGroup-same}
 use Rattle.data_encoding.proofs.digits.WidthLemmas.{group_bits, group_bytes-pos, group_symbols-pos}
 use Rattle.data_encoding.specs.Base.{IsWidth}
 
@@ -26,6 +27,12 @@ IsWhole-group width bytes symbols g =
       some_bytes = subst (λ n. 0 < n) (sym g.has_bytes) (group_bytes-pos width is);
       some_symbols = subst (λ n. 0 < n) (sym g.has_symbols) (group_symbols-pos width is);
     }
+
+-- as by sizes that equal those of a group
+pub IsWhole-same : {w b s bytes symbols : ℕ} → bytes ≡ b → symbols ≡ s → IsGroup w b s
+    → IsWhole w bytes symbols
+IsWhole-same {w} {b} {s} {bytes} {symbols} q r group =
+    IsWhole-group w bytes symbols (IsGroup-same refl q r group)
 
 -- Groups of so many are read, and of each as many written: m bits for each that is read, d for each
 -- that is written.

@@ -1,12 +1,12 @@
 -- A loop over whole groups: where each is read and written, and what is written so far.
-use Rattle.std.proofs.Common.{◌≡◌, ℕ, ◌+◌, ◌-◌, ◌*◌, ◌/◌, ◌<◌, ◌≤◌, List, length, take, drop, sym, ap, ◌∙◌, subst, arith}
+use Rattle.std.proofs.Common.{◌≡◌, ℕ, ◌+◌, ◌-◌, ◌*◌, ◌/◌, ◌≤◌, List, length, take, drop, sym, ap, ◌∙◌, subst, arith}
 use Rattle.std.proofs.Math.Nat.{mul_left_comm}
 use borrow.Rule.Slice.PartMut.{put_mid}
 use Rattle.data_encoding.specs.Base.{Base}
 use Rattle.data_encoding.specs.Tables.{IsGroup}
 use Rattle.data_encoding.specs.Text.{plain_text}
-use Rattle.data_encoding.proofs.lists.PartLemmas.{IsWhole, IsWhole-group, room-next, room-rest, size-rest, group-before, groups-within, one-more, length-part, length-rest}
-use Rattle.data_encoding.proofs.text.PlainGroupLemmas.{encoded-next, encoded-last}
+use Rattle.data_encoding.proofs.lists.PartLemmas.{IsWhole, IsWhole-group, room-next, one-more, length-part}
+use Rattle.data_encoding.proofs.text.PlainGroupLemmas.{encoded-next}
 
 -- eight whole groups are as whole as one
 pub IsWhole-eight : (width bytes symbols : ℕ) → IsGroup width bytes symbols
@@ -29,66 +29,24 @@ next_fits n size width bytes symbols i whole e h =
     subst (λ k. i * symbols + symbols ≤ k) (sym e)
     (room-next 8 width bytes symbols (width - 1) (sym whole.same_bits) whole.is_width.some n i h)
 
--- Of n bytes, so many at a time, and of as many symbols.
-pub record Fits (n size width bytes symbols : ℕ) : Type 0 where
-  pub next : (i : ℕ) → i < n / bytes → i * symbols + symbols ≤ size
-  pub past : n / bytes * symbols ≤ size
-  pub rest : size - n / bytes * symbols ≡ (8 * (n - n / bytes * bytes) + (width - 1)) / width
-
-pub fits : (n size width bytes symbols : ℕ) → IsWhole width bytes symbols
-    → size ≡ (8 * n + (width - 1)) / width → Fits n size width bytes symbols
-fits n size width bytes symbols whole e =
-    let same = sym whole.same_bits in
-    let pos = whole.is_width.some in
-    record {
-      next = λ i h. subst (λ k. i * symbols + symbols ≤ k) (sym e)
-          (room-next 8 width bytes symbols (width - 1) same pos n i (group-before n bytes i h));
-      past = subst (λ k. n / bytes * symbols ≤ k) (sym e)
-          (room-rest 8 width bytes symbols (width - 1) same pos n (n / bytes)
-          (groups-within n bytes));
-      rest = ap (λ k. k - n / bytes * symbols) e
-          ∙ size-rest 8 width bytes symbols (width - 1) same pos n (n / bytes)
-          (groups-within n bytes);
-    }
-
-module _ (base : Base) (width bytes symbols : ℕ) (whole : IsWhole width bytes symbols)
-    (is : base.width ≡ width) (input output shown : List ℕ) where
-  -- one more, which is written in its place
-  pub written-next : (i : ℕ) → i * bytes + bytes ≤ length input
-      → i * symbols + symbols ≤ length output
-      → take (i * symbols) output ≡ plain_text base (take (i * bytes) input)
-      → length shown ≡ length (take (i * symbols + symbols - i * symbols)
-      (drop (i * symbols) output))
-      → shown ≡ plain_text base (take bytes (drop (i * bytes) input))
-      → take ((i + 1) * symbols)
-      (put_mid (i * symbols) (i * symbols + symbols - i * symbols) output shown)
-      ≡ plain_text base (take ((i + 1) * bytes) input)
-  written-next i within room so_far long is_text =
-      let shown_len = long ∙ length-part (i * symbols) symbols output room in
-      let end : i * symbols + length shown ≡ (i + 1) * symbols =
-      ap (λ n. i * symbols + n) shown_len ∙ sym (one-more i symbols) in
-      ap (λ n. take n (put_mid (i * symbols) (i * symbols + symbols - i * symbols) output shown))
-      (sym end)
-      ∙ encoded-next base width bytes symbols whole is input output shown i bytes
-      (i * symbols + symbols - i * symbols) within (omega (arith, room)) so_far is_text
-      ∙ ap (λ n. plain_text base (take n input)) (sym (one-more i bytes))
-
-  -- and what is left, after the last whole one
-  pub written-last : (index : ℕ) → Fits (length input) (length output) width bytes symbols
-      → index ≡ length input / bytes
-      → take (index * symbols) output ≡ plain_text base (take (index * bytes) input)
-      → length shown ≡ length (take (length output - length input / bytes * symbols)
-      (drop (length input / bytes * symbols) output))
-      → shown ≡ plain_text base (take (length input - length input / bytes * bytes)
-      (drop (length input / bytes * bytes) input))
-      → put_mid (length input / bytes * symbols) (length output - length input / bytes * symbols)
-      output shown ≡ plain_text base input
-  written-last index room at_end so_far long is_text =
-      let i = length input / bytes in
-      let within = groups-within (length input) bytes in
-      let shown_len = long ∙ length-rest (i * symbols) output in
-      encoded-last base width bytes symbols whole is input output shown i
-      (length input - i * bytes) (length output - i * symbols) (omega (arith, within)) room.past
-      (subst (λ k. take (k * symbols) output ≡ plain_text base (take (k * bytes) input)) at_end
-      so_far)
-      is_text (omega (arith, within)) (omega (arith, shown_len, room.past)) (sym shown_len)
+-- one more, which is written in its place
+pub written-next : (base : Base) (width bytes symbols : ℕ) → IsWhole width bytes symbols
+    → base.width ≡ width → (input output shown : List ℕ) (i : ℕ)
+    → i * bytes + bytes ≤ length input → i * symbols + symbols ≤ length output
+    → take (i * symbols) output ≡ plain_text base (take (i * bytes) input)
+    → length shown ≡ length (take (i * symbols + symbols - i * symbols)
+    (drop (i * symbols) output))
+    → shown ≡ plain_text base (take bytes (drop (i * bytes) input))
+    → take ((i + 1) * symbols)
+    (put_mid (i * symbols) (i * symbols + symbols - i * symbols) output shown)
+    ≡ plain_text base (take ((i + 1) * bytes) input)
+written-next base width bytes symbols whole is input output shown i within room so_far long
+    is_text =
+    let shown_len = long ∙ length-part (i * symbols) symbols output room in
+    let end : i * symbols + length shown ≡ (i + 1) * symbols =
+    ap (λ n. i * symbols + n) shown_len ∙ sym (one-more i symbols) in
+    ap (λ n. take n (put_mid (i * symbols) (i * symbols + symbols - i * symbols) output shown))
+    (sym end)
+    ∙ encoded-next base width bytes symbols whole is input output shown i bytes
+    (i * symbols + symbols - i * symbols) within (omega (arith, room)) so_far is_text
+    ∙ ap (λ n. plain_text base (take n input)) (sym (one-more i bytes))

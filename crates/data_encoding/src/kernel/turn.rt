@@ -1,4 +1,4 @@
-//! So many whole groups of symbols at a time.
+//! Several whole groups of symbols at a time.
 
 ghost use Rattle.std.specs.Prelude.{◌≡◌, ℕ, ◌*◌, ◌<◌, List, length, IsTrue};
 ghost use Rattle.std.proofs.Common.{lit<};
@@ -10,7 +10,7 @@ use crate::kernel::lanes::decode::decode_eight;
 use crate::kernel::lanes::look_up::LookUp;
 use crate::kernel::words::decode_entries;
 
-/// What decodes so many whole groups by one turn of a loop.
+/// What decodes several whole groups by one turn of a loop, in each turn as many.
 pub(crate) trait Turn {
     ghost GROUPS: { ℕ };
 

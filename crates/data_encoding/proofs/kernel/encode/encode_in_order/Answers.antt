@@ -22,19 +22,7 @@ slice_bounds-encode_groups-count-2 g c =
     within).past
 
 pub slice_bounds-encode_groups-start-2 : goal.slice_bounds-encode_groups-start-2
-slice_bounds-encode_groups-start-2 g c =
-    let bytes = c.BYTES-read_len.result in
-    let symbols = c.SYMBOLS-written_len.result in
-    let group = IsGroup-same refl c.BYTES-read_len.ensures c.SYMBOLS-written_len.ensures
-    g.G.GroupSize.is_group in
-    let within = subst (λ n. c.encode_by_lanes-count.result * (8 * n) ≤ length c.args.input.now)
-    (sym c.BYTES-read_len.ensures) c.encode_by_lanes-count.ensures.within in
-    (leaves_rest (length c.args.input.now) (length c.encode_by_lanes-count.new.output)
-    g.G.GroupSize.WIDTH
-    (8 * bytes) (8 * symbols) c.encode_by_lanes-count.result
-    (IsWhole-eight g.G.GroupSize.WIDTH bytes symbols group)
-    (c.encode_by_lanes-count.auto.output ∙ c.requires.exact)
-    within).past
+slice_bounds-encode_groups-start-2 g c = slice_bounds-encode_groups-count-2 g c
 
 pub encode_groups-requires-clause-exact : goal.encode_groups-requires-clause-exact
 encode_groups-requires-clause-exact g c =
