@@ -12,12 +12,10 @@ use Rattle.data_encoding.specs.Base.{Base, IsWidth, group_bytes, group_symbols, 
 use Rattle.data_encoding.specs.Bits.{runs}
 use Rattle.data_encoding.specs.Decoding.{IsRun}
 use Rattle.data_encoding.specs.Fault.{symbol_bytes}
-use Rattle.data_encoding.specs.Grammar.{positioned}
 use Rattle.data_encoding.specs.Tables.{IsGroup, Reads}
 use Rattle.data_encoding.specs.Words.{digit, word_of}
-use Rattle.data_encoding.proofs.digits.KernelLemmas.{bytes_of_group-word}
+use Rattle.data_encoding.proofs.digits.KernelLemmas.{symbol_bytes-word}
 use Rattle.data_encoding.proofs.digits.WidthLemmas.{by_width, symbols-few}
-use Rattle.data_encoding.proofs.grammar.PositionLemmas.{bytes-positioned_from}
 use Rattle.data_encoding.proofs.lists.EachLemmas.{all-at}
 use Rattle.data_encoding.proofs.lists.PartLemmas.{IsWhole, IsWhole-group}
 use Rattle.data_encoding.proofs.lists.RunLemmas.{runs-first, runs-nil}
@@ -45,10 +43,8 @@ module _ (base : Base) (values : List ℕ) (width bytes symbols : ℕ) (order : 
       let count : bytes ≡ width * length xs / 8 =
       sym (ap (λ n. width * n / 8) len ∙ ap (λ n. n / 8) whole.same_bits
       ∙ mul-div_cancel_left bytes (omega arith)) in
-      bytes_of_group-word base order width bytes symbols bytes values xs (positioned xs) group
+      symbol_bytes-word base order width bytes symbols bytes values xs group
       (omega (arith, len)) count fits (λ j h. low j (omega (arith, h, len))) reads
-      (bytes-positioned_from 0 xs)
-      ∙ ap (λ l. symbol_bytes base (map (meaning base) l)) (bytes-positioned_from 0 xs)
 
   fits-front : (n : ℕ) (xs : List ℕ) → ((j : ℕ) → slice_index xs j < 256) → (j : ℕ)
       → slice_index (take n xs) j < 256

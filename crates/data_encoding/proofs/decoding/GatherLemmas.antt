@@ -1,5 +1,5 @@
 -- The bytes of a text that are not ignored, gathered one by one.
-use Rattle.std.proofs.Common.{◌≡◌, ℕ, zero, suc, ◌+◌, ◌-◌, ◌<◌, ◌≤◌, ◌⊎◌, Bool, true, false, not, cond, List, [], ◌∷◌, ◌++◌, length, map, set, take, drop, get_or, refl, sym, subst, ap, ◌∙◌, arith, length-append, length-take-le, take-append-drop, ⊎_elim, inl, inr}
+use Rattle.std.proofs.Common.{◌≡◌, ℕ, zero, suc, ◌+◌, ◌-◌, ◌<◌, ◌≤◌, ◌⊎◌, Bool, true, false, not, cond, List, [], ◌∷◌, ◌++◌, length, set, take, drop, get_or, refl, sym, subst, ap, ◌∙◌, arith, length-append, length-take-le, take-append-drop, ⊎_elim, inl, inr}
 use Rattle.std.proofs.Math.Seq.{get_or-append_seam, take-suc}
 use Rattle.std.proofs.lemmas.List.{append-nil, get_or_append_left, length-drop, length-map, map-append, take_all, get_or-drop, take_more_set, nil_from_length}
 use Rattle.std.proofs.lemmas.Bool.{cases_lt}

@@ -12,12 +12,10 @@ use Rattle.data_encoding.specs.declared.encoding.Character.{Character}
 use Rattle.data_encoding.specs.Base.{Base, IsWidth, meaning, is_symbol, group_bytes, group_symbols}
 use Rattle.data_encoding.specs.Bits.{runs}
 use Rattle.data_encoding.specs.Decoding.{IsLongest, IsRun, run_bytes}
-use Rattle.data_encoding.specs.Fault.{bytes_of_group, symbol_bytes}
+use Rattle.data_encoding.specs.Fault.{symbol_bytes}
 use Rattle.data_encoding.specs.Tables.{HoldsValues, IsGroup}
-use Rattle.data_encoding.specs.Grammar.{positioned}
 use Rattle.data_encoding.proofs.digits.WidthLemmas.{group_symbols-pos}
 use Rattle.data_encoding.proofs.lists.RunLemmas.{runs-nil, runs-join, runs-short}
-use Rattle.data_encoding.proofs.grammar.PositionLemmas.{bytes-positioned_from}
 
 module _ (base : Base) (width : IsWidth base.width) where
   abbrev byte_count : ℕ
@@ -192,8 +190,8 @@ module _ (base : Base) (width : IsWidth base.width) (w bytes symbols : ℕ)
       → ((j : ℕ) → j < length (take (stop - i * symbols) (drop (i * symbols) part))
       → slice_index values (slice_index (take (stop - i * symbols) (drop (i * symbols) part)) j) <
       128)
-      → piece ≡ bytes_of_group base
-      (positioned (take (stop - i * symbols) (drop (i * symbols) part)))
+      → piece ≡ symbol_bytes base
+      (map (meaning base) (take (stop - i * symbols) (drop (i * symbols) part)))
       → IsRun base part (i + 1) old (put_mid (i * bytes) k output piece)
   group-next values part old output piece i k stop stop_is within fits len holds first bytes_fit
       entries is_bytes =
@@ -213,8 +211,7 @@ module _ (base : Base) (width : IsWidth base.width) (w bytes symbols : ℕ)
       (omega (arith, h, sub_len, size))
       ∙ get_or-drop (i * symbols) part j 0)) (bytes_fit (i * symbols + j)) in
       ap is_symbol (holds.symbols (slice_index sub j) is_byte (entries j h)))
-      len (is_bytes
-      ∙ ap (λ l. symbol_bytes base (map (meaning base) l)) (bytes-positioned_from 0 sub)))
+      len is_bytes)
 
   -- a group that is not one of symbols alone ends the longest run
   pub run-longest : (values part : List ℕ) (i stop : ℕ) → stop ≡ i * symbols + symbols

@@ -11,8 +11,7 @@ use Rattle.std.specs.Simd.{first_chunks}
 use Rattle.data_encoding.specs.declared.encoding.BitOrder.{BitOrder}
 use Rattle.data_encoding.specs.Base.{Base, meaning, symbol, value_of}
 use Rattle.data_encoding.specs.Bits.{bits_of, number_of, bits_of_bytes, missing, runs}
-use Rattle.data_encoding.specs.Fault.{bytes_of_group, symbol_bytes}
-use Rattle.data_encoding.specs.Grammar.{Positioned}
+use Rattle.data_encoding.specs.Fault.{symbol_bytes}
 use Rattle.data_encoding.specs.Tables.{HoldsValues, IsGroup, Reads, Writes}
 use Rattle.data_encoding.specs.Text.{plain_text}
 use Rattle.data_encoding.specs.Words.{digit, low_byte, weight, zeros_to, word_of}
@@ -191,17 +190,17 @@ values_in-table base values (byte ∷ input) holds fits low =
     (values_in-table base values input holds (λ j. fits (suc j))
     (λ j below. low (suc j) (omega arith)))
 
--- the first bytes of the word of the symbols of a group are the bytes of the group
-pub bytes_of_group-word : (base : Base) (order : BitOrder) (width bytes count n : ℕ)
-    (values input : List ℕ) (ks : List Positioned) → IsGroup width bytes count
+-- the first bytes of the word of symbols are the bytes of these
+pub symbol_bytes-word : (base : Base) (order : BitOrder) (width bytes count n : ℕ)
+    (values input : List ℕ) → IsGroup width bytes count
     → length input ≤ count → n ≡ width * length input / 8
     → ((k : ℕ) → slice_index input k < 256)
     → ((k : ℕ) → k < length input → slice_index values (slice_index input k) < 128)
-    → Reads base values width order → map (λ (p : Positioned). p.byte) ks ≡ input
+    → Reads base values width order
     → map (digit order 8 bytes (word_of order width count (map (slice_index values) input)))
     (range_with_len 0 n)
-    ≡ bytes_of_group base ks
-bytes_of_group-word base order width bytes count n values input ks group few is fits low reads e =
+    ≡ symbol_bytes base (map (meaning base) input)
+symbol_bytes-word base order width bytes count n values input group few is fits low reads =
     let same = group_same_bits width bytes count group in
     let len : length (map (slice_index values) input) ≡ length input =
     length-map input (slice_index values) in
@@ -209,7 +208,6 @@ bytes_of_group-word base order width bytes count n values input ks group few is 
     bytes_by-word order width bytes count n (map (slice_index values) input) same (omega arith)
     (is ∙ ap (λ m. width * m / 8) (sym len))
     ∙ sym (λ i. bytes_by (reads.order_is i) (reads.width_is i) (found i))
-    ∙ ap (λ l. symbol_bytes base (map (meaning base) l)) (sym e)
 
 -- entries below 128 are values
 pub entries_below : (base : Base) (width : ℕ) (values input : List ℕ)

@@ -1,10 +1,9 @@
 //! A group of bytes or of symbols as bits, in one word.
 
-ghost use Rattle.std.specs.Prelude.{◌≡◌, ℕ, ◌+◌, ◌-◌, ◌*◌, ◌/◌, ◌%◌, ◌^◌, ◌<◌, ◌≤◌, ◌↔◌, List, length, map, slice_index, IsTrue};
+ghost use Rattle.std.specs.Prelude.{◌≡◌, ℕ, ◌+◌, ◌-◌, ◌*◌, ◌/◌, ◌%◌, ◌^◌, ◌<◌, ◌≤◌, ◌↔◌, length, map, slice_index, IsTrue};
 ghost use Rattle.std.specs.List.{range_with_len};
-ghost use Rattle.data_encoding.specs.Base.{Base};
-ghost use Rattle.data_encoding.specs.Fault.{bytes_of_group};
-ghost use Rattle.data_encoding.specs.Grammar.{Positioned};
+ghost use Rattle.data_encoding.specs.Base.{Base, meaning};
+ghost use Rattle.data_encoding.specs.Fault.{symbol_bytes};
 ghost use Rattle.data_encoding.specs.Tables.{IsTextBy, Reads};
 ghost use Rattle.data_encoding.specs.Words.{weight, digit, low_byte, word_of};
 
@@ -159,9 +158,8 @@ pub(crate) fn decode_entries<G: GroupSize>(
     requires exact { length output.old ≡ G.WIDTH * length input.now / 8 }
     ensures symbols { (result < 128) ↔ ((k : ℕ) → k < length input.now
         → slice_index values.now (slice_index input.now k) < 128) }
-    ensures bytes { (base : Base) (ks : List Positioned) → Reads base values.now G.WIDTH order
-        → map (λ k. k.byte) ks ≡ input.now → result < 128
-        → output.new ≡ bytes_of_group base ks }
+    ensures bytes { (base : Base) → Reads base values.now G.WIDTH order → result < 128
+        → output.new ≡ symbol_bytes base (map (meaning base) input.now) }
 {
     let (word, entries) = word_of_symbols::<G>(values, order, input);
     bytes_of_word::<G>(order, word, output);
@@ -182,9 +180,8 @@ pub(crate) fn decode_symbols<G: GroupSize>(
     requires exact { length output.old ≡ G.WIDTH * length input.now / 8 }
     ensures symbols { IsTrue result ↔ ((k : ℕ) → k < length input.now
         → slice_index values.now (slice_index input.now k) < 128) }
-    ensures bytes { (base : Base) (ks : List Positioned) → Reads base values.now G.WIDTH order
-        → map (λ k. k.byte) ks ≡ input.now → IsTrue result
-        → output.new ≡ bytes_of_group base ks }
+    ensures bytes { (base : Base) → Reads base values.now G.WIDTH order → IsTrue result
+        → output.new ≡ symbol_bytes base (map (meaning base) input.now) }
 {
     let entries = match order {
         BitOrder::MostSignificantFirst => decode_entries::<G>(

@@ -5,12 +5,10 @@ use Rattle.std.proofs.lemmas.Bool.{cases_lt, false≢true}
 use Rattle.std.specs.List.{list_any}
 use Rattle.data_encoding.specs.Base.{Base, meaning}
 use Rattle.data_encoding.specs.Decoding.{HasFault}
-use Rattle.data_encoding.specs.Fault.{symbol_bytes, trailing_bits}
-use Rattle.data_encoding.specs.Grammar.{positioned}
+use Rattle.data_encoding.specs.Fault.{trailing_bits}
 use Rattle.data_encoding.proofs.decoding.GroupJudgementLemmas.{group-sound, symbol-fault, trailing-fault}
 use Rattle.data_encoding.proofs.digits.SizeLemmas.{IsSmall-group}
 use Rattle.data_encoding.proofs.digits.WidthLemmas.{group_symbols-few}
-use Rattle.data_encoding.proofs.grammar.PositionLemmas.{bytes-positioned_from}
 use Rattle.data_encoding.proofs.tables.TableLemmas.{HoldsValues-seen, Reads-seen}
 use Rattle.data_encoding.proofs.encoding.Encoding.decode_group.Goals as goal
 use Rattle.data_encoding.proofs.encoding.Encoding.decode_group.Goals.{else-self-via-then-self+else-has_trailing, else-self-via-else-self}
@@ -140,9 +138,7 @@ returns-clause-sound g c =
     (c.decode_symbols.auto.output
     ∙ length-take-le (c.WIDTH.result * count / 8) c.args.output.now (omega (arith, most, room))
     ∙ ap (λ w. w * count / 8) (c.WIDTH.ensures ∙ sym c.requires.width))
-    (c.if-not-decode_symbols.ensures.bytes seen (positioned symbols) reads
-    (bytes-positioned_from 0 symbols) refl
-    ∙ ap (λ l. symbol_bytes seen (map (meaning seen) l)) (bytes-positioned_from 0 symbols))
+    (c.if-not-decode_symbols.ensures.bytes seen reads refl)
 
 pub overflow_mul-room : goal.overflow_mul-room
 overflow_mul-room g c =

@@ -1,7 +1,6 @@
 use Rattle.std.proofs.Common.{◌≡◌, ℕ, ◌+◌, ◌*◌, ◌/◌, ◌<◌, ◌≤◌, length, refl, sym, ap, ◌∙◌, subst, arith}
 use Rattle.data_encoding.proofs.digits.SizeLemmas.{IsGroup-same, room-same}
 use Rattle.data_encoding.specs.Decoding.{IsRun}
-use Rattle.data_encoding.proofs.grammar.PositionLemmas.{bytes-positioned_from}
 use Rattle.data_encoding.proofs.decoding.SymbolRunLemmas.{group-next, run-all, run-kept, run-longest}
 use Rattle.data_encoding.proofs.lists.PartLemmas.{IsWhole-group, group-before, length-part, one-more}
 use Rattle.std.proofs.Math.Nat.{mul-le-mul_right}
@@ -130,7 +129,7 @@ loop-index-preserved g c =
           shown_len reads.holds (c.loop-index.invariant.run base reads)
           (λ j. (c.type_inv.input j).fits)
           (c.decode_symbols.ensures.symbols.0 c.if-not-decode_symbols.false)
-          (c.decode_symbols.ensures.bytes base _ reads (bytes-positioned_from 0 _)
+          (c.decode_symbols.ensures.bytes base reads
           c.if-not-decode_symbols.false);
     }
 

@@ -3,7 +3,6 @@ use Rattle.data_encoding.proofs.digits.SizeLemmas.{IsGroup-same}
 use Rattle.std.proofs.lemmas.Bool.{ltb-true}
 use Rattle.std.proofs.lemmas.Nat.{le_or_l, le_or_r}
 use Rattle.data_encoding.specs.Decoding.{IsRun}
-use Rattle.data_encoding.proofs.grammar.PositionLemmas.{bytes-positioned_from}
 use Rattle.data_encoding.proofs.decoding.SymbolRunLemmas.{run-none, group-next}
 use Rattle.data_encoding.proofs.lists.PartLemmas.{length-part, part-of-four}
 use Rattle.data_encoding.proofs.kernel.turn.decode_four_groups.Goals as goal
@@ -41,7 +40,7 @@ loop-index-preserved g c =
           shown_len reads.holds (c.loop-index.invariant.run before base reads)
           (λ j. (c.type_inv.input j).fits)
           (c.decode_entries-all.ensures.symbols.0 entries)
-          (c.decode_entries-all.ensures.bytes base _ reads (bytes-positioned_from 0 _) entries);
+          (c.decode_entries-all.ensures.bytes base reads entries);
     }
 
 pub slice_bounds-decode_entries-end : goal.slice_bounds-decode_entries-end
