@@ -57,6 +57,7 @@ run_made() {
 program 'calls in C' "$cc" "${strict[@]}" tests/c/calls.c "$lib/libdata_encoding.a"
 program 'calls of the shared library' "$cc" "${strict[@]}" tests/c/calls.c "-L$lib" \
     -ldata_encoding "-Wl,-rpath,$lib"
+program 'texts in pieces' "$cc" "${strict[@]}" tests/c/pieces.c "$lib/libdata_encoding.a"
 program 'two threads' "$cc" "${strict[@]}" tests/c/threads.c "$lib/libdata_encoding.a" -pthread
 begin 'the program of speed' "$cc" -O2 "${strict[@]}" tests/c/speed.c "$lib/libdata_encoding.a" \
     -o "$room/speed"
@@ -64,6 +65,8 @@ echo 'int main(void) { return 0; }' >"$room/empty.c"
 if "$cc" "${sanitized[@]}" "$room/empty.c" -o "$room/empty" 2>/dev/null; then
     program 'calls with sanitizers' "$cc" "${strict[@]}" "${sanitized[@]}" tests/c/calls.c \
         "$glue"/*.c "$lib/libdata_encoding.a"
+    program 'texts in pieces with sanitizers' "$cc" "${strict[@]}" "${sanitized[@]}" \
+        tests/c/pieces.c "$glue"/*.c "$lib/libdata_encoding.a"
 else
     skip 'sanitizers: this compiler has none'
 fi

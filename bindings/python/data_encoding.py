@@ -20,6 +20,7 @@ from typing import List, NamedTuple, Optional, Tuple, Union
 __all__ = ["DecodeError", "Decoder", "Encoding", "Partial"]
 
 _OK = 0
+_NO_DECODER = 19
 _NAME_LIMIT = 22
 _KINDS = {6: "length", 7: "symbol", 8: "trailing", 9: "padding"}
 
@@ -29,6 +30,18 @@ class _Decoded(ctypes.Structure):
         ("read", ctypes.c_size_t),
         ("written", ctypes.c_size_t),
         ("position", ctypes.c_size_t),
+    ]
+
+
+class _Kept(ctypes.Structure):
+    _fields_ = [
+        ("len", ctypes.c_size_t),
+        ("count", ctypes.c_size_t),
+        ("positions", ctypes.c_size_t * 8),
+        ("fault_position", ctypes.c_size_t),
+        ("fault", ctypes.c_uint32),
+        ("ended", ctypes.c_uint32),
+        ("bytes", ctypes.c_ubyte * 8),
     ]
 
 
@@ -69,10 +82,17 @@ def _library() -> ctypes.CDLL:
             ("decode_len", (size, ctypes.c_void_p)),
             ("decode", (ctypes.c_char_p, size, ctypes.c_char_p, size, ctypes.c_void_p)),
             ("is_canonical", (ctypes.c_void_p,)),
+            ("decoder_most", (ctypes.c_void_p, size, ctypes.c_void_p)),
+            (
+                "decoder_read",
+                (ctypes.c_void_p, ctypes.c_char_p, size, ctypes.c_char_p, size, ctypes.c_void_p),
+            ),
+            ("decoder_finish", (ctypes.c_void_p, ctypes.c_char_p, size, ctypes.c_void_p)),
         ):
             getattr(library, prefix + call).argtypes = (encoding,) + arguments
     library.de_name.argtypes = (ctypes.c_uint, ctypes.c_char_p, size, ctypes.c_void_p)
     library.de_number_named.argtypes = (ctypes.c_char_p, size, ctypes.c_void_p)
+    library.de_decoder_new.argtypes = (ctypes.c_void_p,)
     library.de_encoding_new.argtypes = (ctypes.c_void_p, ctypes.c_void_p, ctypes.c_void_p)
     library.de_status_text.restype = ctypes.c_char_p
     return library
@@ -136,7 +156,7 @@ class Encoding:
     """An encoding: how data is written as text, and which texts are data. It never changes, and
     threads may share it."""
 
-    __slots__ = ("_calls", "_name", "_held", "_width", "_padded", "_concatenates", "_ignored")
+    __slots__ = ("_calls", "_name", "_held")
 
     def __init__(
         self,
@@ -180,27 +200,23 @@ class Encoding:
                 what += f" of {detail.value}"
             raise ValueError(what)
         self._held = held
-        self._set("de_encoding_", ctypes.addressof(held), len(symbols).bit_length() - 1,
-                  padding is not None, concatenate, parts[1] + (parts[2] if wrap[0] else b""))
+        self._set("de_encoding_", ctypes.addressof(held))
 
-    def _set(
-        self, prefix: str, name: int, width: int, padded: bool, concatenates: bool, ignored: bytes
-    ) -> None:
+    def _set(self, prefix: str, name: int) -> None:
         self._calls = tuple(
             getattr(_LIBRARY, prefix + call)
-            for call in ("encode_len", "encode", "decode_len", "decode", "is_canonical")
+            for call in (
+                "encode_len", "encode", "decode_len", "decode", "is_canonical", "decoder_most",
+                "decoder_read", "decoder_finish",
+            )
         )
         self._name = name
-        self._width = width
-        self._padded = padded
-        self._concatenates = concatenates
-        self._ignored = ignored
 
     @classmethod
-    def _numbered(cls, number: int, width: int, padded: bool, ignored: bytes = b"") -> "Encoding":
+    def _numbered(cls, number: int) -> "Encoding":
         encoding = cls.__new__(cls)
         encoding._held = None
-        encoding._set("de_", number, width, padded, True, ignored)
+        encoding._set("de_", number)
         return encoding
 
     @staticmethod
@@ -226,92 +242,92 @@ class Encoding:
     @classmethod
     def hexlower(cls) -> "Encoding":
         """Hexadecimal with the letters a to f."""
-        return cls._numbered(0, 4, False)
+        return cls._numbered(0)
 
     @classmethod
     def hexlower_permissive(cls) -> "Encoding":
         """Hexadecimal with the letters a to f, which reads A to F as these."""
-        return cls._numbered(1, 4, False)
+        return cls._numbered(1)
 
     @classmethod
     def hexupper(cls) -> "Encoding":
         """Hexadecimal with the letters A to F."""
-        return cls._numbered(2, 4, False)
+        return cls._numbered(2)
 
     @classmethod
     def hexupper_permissive(cls) -> "Encoding":
         """Hexadecimal with the letters A to F, which reads a to f as these."""
-        return cls._numbered(3, 4, False)
+        return cls._numbered(3)
 
     @classmethod
     def base32(cls) -> "Encoding":
         """Base32 with padding: RFC 4648, section 6."""
-        return cls._numbered(4, 5, True)
+        return cls._numbered(4)
 
     @classmethod
     def base32_nopad(cls) -> "Encoding":
         """Base32 without padding."""
-        return cls._numbered(5, 5, False)
+        return cls._numbered(5)
 
     @classmethod
     def base32_nopad_nocase(cls) -> "Encoding":
         """Base32 without padding, which reads lower case as upper case."""
-        return cls._numbered(6, 5, False)
+        return cls._numbered(6)
 
     @classmethod
     def base32_nopad_visual(cls) -> "Encoding":
         """Base32 without padding, which reads 0, 1, l and 8 as the letters they look like."""
-        return cls._numbered(7, 5, False)
+        return cls._numbered(7)
 
     @classmethod
     def base32hex(cls) -> "Encoding":
         """Base32hex with padding: RFC 4648, section 7."""
-        return cls._numbered(8, 5, True)
+        return cls._numbered(8)
 
     @classmethod
     def base32hex_nopad(cls) -> "Encoding":
         """Base32hex without padding."""
-        return cls._numbered(9, 5, False)
+        return cls._numbered(9)
 
     @classmethod
     def base32_dnssec(cls) -> "Encoding":
         """Base32hex of DNSSEC, in lower case, which reads upper case too."""
-        return cls._numbered(10, 5, False)
+        return cls._numbered(10)
 
     @classmethod
     def base32_dnscurve(cls) -> "Encoding":
         """Base32 of DNSCurve, the least significant bit first."""
-        return cls._numbered(11, 5, False)
+        return cls._numbered(11)
 
     @classmethod
     def base64(cls) -> "Encoding":
         """Base64 with padding: RFC 4648, section 4."""
-        return cls._numbered(12, 6, True)
+        return cls._numbered(12)
 
     @classmethod
     def base64_nopad(cls) -> "Encoding":
         """Base64 without padding."""
-        return cls._numbered(13, 6, False)
+        return cls._numbered(13)
 
     @classmethod
     def base64_mime(cls) -> "Encoding":
         """Base64 in lines of 76 characters, as in MIME, which ignores CR and LF."""
-        return cls._numbered(14, 6, True, b"\r\n")
+        return cls._numbered(14)
 
     @classmethod
     def base64_mime_permissive(cls) -> "Encoding":
         """The same, which does not check trailing bits."""
-        return cls._numbered(15, 6, True, b"\r\n")
+        return cls._numbered(15)
 
     @classmethod
     def base64url(cls) -> "Encoding":
         """Base64url with padding: RFC 4648, section 5."""
-        return cls._numbered(16, 6, True)
+        return cls._numbered(16)
 
     @classmethod
     def base64url_nopad(cls) -> "Encoding":
         """Base64url without padding."""
-        return cls._numbered(17, 6, False)
+        return cls._numbered(17)
 
     def encode(self, data: Union[bytes, bytearray, memoryview]) -> str:
         """The text of the data. A ValueError where it is too long."""
@@ -367,62 +383,63 @@ class Decoder:
     """Decodes a text that comes in pieces, with the calls of `codecs.IncrementalDecoder`.
 
     The data of whole groups is returned as soon as they are there. The verdict on the text comes
-    with the last piece, and is that of `Encoding.decode` on the whole; from a fault on, the text
-    is held until then.
+    with the last piece, and is that of `Encoding.decode` on the whole.
     """
 
     def __init__(self, encoding: Encoding) -> None:
         self._encoding = encoding
+        self._kept = _Kept()
         self.reset()
 
     def reset(self) -> None:
         """Forgets the text so far."""
-        self._held = b""
-        self._read = 0
+        _LIBRARY.de_decoder_new(ctypes.addressof(self._kept))
 
     def getstate(self) -> Tuple[bytes, int]:
-        """What is held of the text, and how much of it was read before that."""
-        return self._held, self._read
+        """What is held of the text, and all that is kept of it as one number, from 0."""
+        kept = self._kept
+        return bytes(kept.bytes[: kept.count]), int.from_bytes(bytes(kept), "little")
 
     def setstate(self, state: Tuple[bytes, int]) -> None:
-        """Goes on from there."""
-        self._held, self._read = state
+        """Goes on from there. A ValueError where it is no state of a decoder of this encoding."""
+        size = ctypes.sizeof(_Kept)
+        try:
+            kept = _Kept.from_buffer_copy(state[1].to_bytes(size, "little"))
+        except OverflowError:
+            raise ValueError(_text_of(_NO_DECODER)) from None
+        most = ctypes.c_size_t()
+        at = ctypes.addressof(most)
+        status = self._encoding._calls[5](self._encoding._name, ctypes.addressof(kept), 0, at)
+        if status != _OK:
+            raise ValueError(_text_of(status))
+        self._kept = kept
 
     def decode(self, input: Union[str, bytes, bytearray, memoryview], final: bool = False) -> bytes:
         """The data of the groups that the piece completes. With `final` the text ends with it."""
-        text = self._held + _bytes_of_text(input)
-        if final:
-            before = self._read
-            self.reset()
-            data, _, error = self._encoding.decode_partial(text)
-            if error is not None:
-                at = error.position + before
-                raise DecodeError(error.kind, at, str(error).rpartition(" at ")[0])
-            return data
-        front = text[: self._whole(text)]
-        data, read, _ = self._encoding.decode_partial(front)
-        if not self._may_be_followed(data):
-            self._held = text
-            return b""
-        self._held = text[read:]
-        self._read += read
-        return data
+        text = _bytes_of_text(input)
+        name = self._encoding._name
+        calls = self._encoding._calls
+        kept = ctypes.addressof(self._kept)
+        size = ctypes.c_size_t()
+        at = ctypes.addressof(size)
+        status = calls[5](name, kept, len(text), at)
+        if status == _OK:
+            output = _room(size.value)
+            status = calls[6](name, kept, text, len(text), output, len(output), at)
+        if status != _OK:
+            raise ValueError(_text_of(status))
+        data = output[: size.value]
+        return data + self._last() if final else data
 
-    def _whole(self, text: bytes) -> int:
-        """How much of the text is whole groups."""
-        group = {1: 8, 2: 4, 3: 8, 4: 2, 5: 8, 6: 4}[self._encoding._width]
-        ignored = self._encoding._ignored
-        if not ignored:
-            return len(text) // group * group
-        end = len(text)
-        for _ in range(len(text.translate(None, ignored)) % group):
-            while text[end - 1] in ignored:
-                end -= 1
-            end -= 1
-        return end
-
-    def _may_be_followed(self, data: bytes) -> bool:
-        """Whether a text that was read, and means the data, may be followed by another."""
-        encoding = self._encoding
-        group = {3: 3, 5: 5, 6: 3}.get(encoding._width, 1)
-        return encoding._padded and encoding._concatenates or len(data) % group == 0
+    def _last(self) -> bytes:
+        """Ends the text, and begins another: the data of its last group."""
+        output = _room(5)
+        decoded = _Decoded()
+        status = self._encoding._calls[7](
+            self._encoding._name, ctypes.addressof(self._kept), output, len(output),
+            ctypes.addressof(decoded),
+        )
+        self.reset()
+        if status != _OK:
+            raise DecodeError(_KINDS[status], decoded.position, _text_of(status))
+        return output[: decoded.written]

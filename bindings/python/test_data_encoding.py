@@ -137,6 +137,20 @@ class Tests(unittest.TestCase):
         decoder.setstate(state)
         self.assertEqual(decoder.decode("g==", final=True), b"b")
         self.assertEqual(decoder.getstate(), (b"", 0))
+        self.assertEqual(state[0], b"Y")
+        self.assertRaises(ValueError, decoder.setstate, (b"", 1 << 64))
+        self.assertRaises(ValueError, decoder.setstate, (b"", 1 << 10000))
+        self.assertRaises(ValueError, decoder.setstate, (b"", -1))
+        self.assertEqual(decoder.decode("Zm9v", final=True), b"foo")
+
+    def test_decoder_after_a_fault(self) -> None:
+        decoder = Decoder(Encoding.base64())
+        self.assertEqual(decoder.decode("Zm9v!mFy"), b"foo")
+        self.assertEqual(decoder.decode("Zm9v" * 1000), b"")
+        with self.assertRaises(DecodeError) as caught:
+            decoder.decode("Z", final=True)
+        self.assertEqual((caught.exception.kind, caught.exception.position), ("length", 4008))
+        self.assertEqual(decoder.getstate(), (b"", 0))
 
     def test_threads(self) -> None:
         encoding = OWN[0]

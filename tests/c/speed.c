@@ -1,5 +1,6 @@
 /* Prints how many nanoseconds a call takes of de_encode and de_decode by number, and of the same
- * calls by an encoding of the caller's own, for data of 16 bytes, 1 KiB and 64 KiB. */
+ * calls by an encoding of the caller's own, for data of 16 bytes, 1 KiB and 64 KiB; with OWN_CALLS
+ * (benches/calls) beside the library's own call, in Rattle, each row being taken in turns. */
 #define _POSIX_C_SOURCE 199309L
 #include "data_encoding.h"
 
@@ -18,25 +19,62 @@ static size_t data_len;
 static size_t text_len;
 static de_encoding own;
 
-typedef de_status (*call)(void);
+#ifdef OWN_CALLS
+/* They make the library's own call so many times: benches/memory.rt.in, where base64 is 3. */
+size_t own_encode(unsigned number, size_t times, const unsigned char *input, size_t input_len,
+                  unsigned char *output, size_t output_len);
+size_t own_decode(unsigned number, size_t times, const unsigned char *input, size_t input_len,
+                  unsigned char *output, size_t output_len);
+#endif
 
-static de_status encode_by_number(void) {
-    return de_encode(DE_BASE64, data, data_len, text, sizeof text, &text_len);
+/* Makes a call so many times. */
+typedef void (*calls)(size_t times);
+
+static void check(de_status status) {
+    if (status != DE_OK) {
+        exit(EXIT_FAILURE);
+    }
 }
 
-static de_status encode_by_own(void) {
-    return de_encoding_encode(&own, data, data_len, text, sizeof text, &text_len);
+static void encode_by_number(size_t times) {
+    for (; times > 0; times--) {
+        check(de_encode(DE_BASE64, data, data_len, text, sizeof text, &text_len));
+    }
 }
 
-static de_status decode_by_number(void) {
+static void encode_by_own(size_t times) {
+    for (; times > 0; times--) {
+        check(de_encoding_encode(&own, data, data_len, text, sizeof text, &text_len));
+    }
+}
+
+static void decode_by_number(size_t times) {
     de_decoded decoded;
-    return de_decode(DE_BASE64, text, text_len, decoded_data, sizeof decoded_data, &decoded);
+    for (; times > 0; times--) {
+        check(de_decode(DE_BASE64, text, text_len, decoded_data, sizeof decoded_data, &decoded));
+    }
 }
 
-static de_status decode_by_own(void) {
+static void decode_by_own(size_t times) {
     de_decoded decoded;
-    return de_encoding_decode(&own, text, text_len, decoded_data, sizeof decoded_data, &decoded);
+    for (; times > 0; times--) {
+        check(de_encoding_decode(&own, text, text_len, decoded_data, sizeof decoded_data,
+                                 &decoded));
+    }
 }
+
+#ifdef OWN_CALLS
+static void encode_in_library(size_t times) {
+    text_len = own_encode(3, times, data, data_len, (unsigned char *)text, sizeof text);
+}
+
+static void decode_in_library(size_t times) {
+    if (own_decode(3, times, (const unsigned char *)text, text_len, decoded_data,
+                   sizeof decoded_data) != data_len) {
+        exit(EXIT_FAILURE);
+    }
+}
+#endif
 
 static double now(void) {
     struct timespec time;
@@ -44,47 +82,54 @@ static double now(void) {
     return (double)time.tv_sec * 1e9 + (double)time.tv_nsec;
 }
 
-/* The least of some rounds, since what else runs only adds. */
-static double nanoseconds(call made, size_t calls) {
-    double least = 0;
+#ifdef OWN_CALLS
+static const calls columns[] = {encode_by_number, encode_by_own, encode_in_library,
+                                decode_by_number, decode_by_own, decode_in_library};
+static const char title[] =
+    "base64, ns a call: encode by number, by an own encoding, in the library; decode the same";
+#else
+static const calls columns[] = {encode_by_number, encode_by_own, decode_by_number, decode_by_own};
+static const char title[] =
+    "base64, ns a call: encode by number, by an own encoding; decode by number, by an own";
+#endif
+
+#define COLUMNS (sizeof columns / sizeof *columns)
+
+/* The nanoseconds of each column: the least of some rounds, since what else runs only adds. */
+static void nanoseconds(double *least, size_t times) {
+    size_t each;
     int round;
     for (round = 0; round < ROUNDS; round++) {
-        double start = now();
-        size_t turn;
-        double taken;
-        for (turn = 0; turn < calls; turn++) {
-            if (made() != DE_OK) {
-                exit(EXIT_FAILURE);
-            }
+        for (each = 0; each < COLUMNS; each++) {
+            double start = now();
+            double taken;
+            columns[each](times);
+            taken = (now() - start) / (double)times;
+            least[each] = round == 0 || taken < least[each] ? taken : least[each];
         }
-        taken = (now() - start) / (double)calls;
-        least = round == 0 || taken < least ? taken : least;
     }
-    return least;
 }
 
 int main(void) {
     static const size_t sizes[] = {16, 1024, DATA_LIMIT};
-    static const call calls[] = {encode_by_number, encode_by_own, decode_by_number,
-                                 decode_by_own};
     de_specification asked = DE_SPECIFICATION;
     size_t index;
     asked.symbols = "ABCDEFGHIJKLMNOPQRSTUVWXYZabcdefghijklmnopqrstuvwxyz0123456789+/";
     asked.symbols_len = 64;
     asked.padding = '=';
-    if (de_encoding_new(&own, &asked, NULL) != DE_OK) {
-        return EXIT_FAILURE;
-    }
+    check(de_encoding_new(&own, &asked, NULL));
     for (index = 0; index < DATA_LIMIT; index++) {
         data[index] = (unsigned char)(index * index >> 3);
     }
-    puts("base64, ns a call: encode by number, by an own encoding; decode by number, by an own");
+    puts(title);
     for (index = 0; index < sizeof sizes / sizeof *sizes; index++) {
+        double least[COLUMNS];
         size_t each;
         data_len = sizes[index];
+        nanoseconds(least, 20000000 / (data_len + 1000));
         printf("%6lu bytes", (unsigned long)data_len);
-        for (each = 0; each < sizeof calls / sizeof *calls; each++) {
-            printf("%12.1f", nanoseconds(calls[each], 20000000 / (data_len + 1000)));
+        for (each = 0; each < COLUMNS; each++) {
+            printf("%12.1f", least[each]);
         }
         puts("");
         if (memcmp(data, decoded_data, data_len) != 0) {
