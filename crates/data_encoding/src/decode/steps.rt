@@ -146,9 +146,7 @@ impl Encoding {
         };
         let mut goes_on = true;
         while goes_on {
-            let next = self.decode_run_behind::<L, G>(
-                values, look_up, order, at, input, output,
-            );
+            let next = self.decode_run_behind::<L, G>(values, look_up, order, at, input, output);
             if next.read == at.read {
                 return next;
             }
