@@ -58,11 +58,7 @@ fn is_cut_alike(
 {
     let mut kept = BufferDecoder::new(encoding).kept();
     let mut output = Vec::new(alloc);
-    for piece in [
-        &text[..cuts.0],
-        &text[cuts.0..cuts.1],
-        &text[cuts.1..],
-    ] {
+    for piece in [&text[..cuts.0], &text[cuts.0..cuts.1], &text[cuts.1..]] {
         let Some(mut decoder) = BufferDecoder::resumed(encoding, kept) else {
             return Ok(false);
         };
