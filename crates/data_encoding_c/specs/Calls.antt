@@ -40,7 +40,7 @@ abbrev pub decode_len_status : Base → ℕ → ℕ
 decode_len_status base len =
     if nat_lt 2305843009213693951 len then too_long else status_of_len (decoded_len base len)
 
--- that of a text of which so many bytes are due, or which is refused by its length
+-- that of a text of which this many bytes are due, or which is refused by its length
 abbrev pub status_by_len : Result ℕ DecodeError → Option DecodeError → ℕ → ℕ
 status_by_len (Err error) fault room = status_of_kind error.kind
 status_by_len (Ok most) fault room =
@@ -68,7 +68,7 @@ pub record WritesFront (bytes output_old output_new : List ℕ)
   pub written : answer ≡ ok → written_new ≡ length bytes
   pub refused : (answer ≡ ok → ⊥) → (output_new ≡ output_old) × (written_new ≡ written_old)
 
--- A call told the length of the text of so many bytes, or refused and changed nothing.
+-- A call told the length of the text of this many bytes, or refused and changed nothing.
 pub record TellsTextLength (base : Base) (len old new answer : ℕ) : Type 0 where
   pub status : answer ≡ encode_len_status len
   pub text_length : answer ≡ ok → (bytes : List ℕ) → length bytes ≡ len

@@ -53,18 +53,18 @@ pub record StandsAfter (base : Base) (plain : PlainKept) (text : List ℕ) : Typ
   pub limit : length text ≤ 2305843009213693951
   pub clear : IsSome kept.fault → kept.count ≡ 0
 
--- the status of so many bytes more
+-- the status of this many bytes more
 abbrev pub length_status : Kept → ℕ → ℕ
 length_status kept len = if nat_lt 2305843009213693951 (kept.len + len) then too_long else ok
 
--- that of a piece of so many bytes, for which there is so much room
+-- that of a piece of this length, for which there is this much room
 abbrev pub piece_status : Base → Kept → ℕ → ℕ → ℕ
 piece_status base kept len room =
     if nat_lt 2305843009213693951 (kept.len + len) then too_long
     else if nat_lt room (most_completed base kept len) then short_buffer
     else ok
 
--- A call told how many bytes so many more of the text may complete, or refused.
+-- A call told how many bytes this many more of the text may complete, or refused.
 pub record TellsRoom (base : Base) (plain : PlainKept) (len old new answer : ℕ) : Type 0 where
   pub status : (text : List ℕ) (stands : StandsAfter base plain text)
       → answer ≡ length_status stands.kept len

@@ -31,7 +31,7 @@ pub extern "C" fn de_plain_decoder_new(decoder: &mut PlainKept)
     };
 }
 
-/// The greatest number of bytes that so many more of the text may complete.
+/// The greatest number of bytes that `len` more of the text may complete.
 #[unsafe(no_mangle)]
 pub extern "C" fn de_numbered_decoder_most(
     number: u32,
@@ -184,7 +184,7 @@ fn finish_of<const NUMBER: u32>(
     finish_by(&encoding_of::<NUMBER>(), decoder, output, decoded)
 }
 
-/// The greatest number of bytes that so many more of the text may complete.
+/// The greatest number of bytes that `len` more of the text may complete.
 #[unsafe(no_mangle)]
 pub extern "C" fn de_held_decoder_most(
     held: &PlainEncoding,

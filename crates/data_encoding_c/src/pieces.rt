@@ -104,7 +104,7 @@ fn decoder_of<'a>(encoding: &'a Encoding, plain: &PlainKept) -> Option<BufferDec
     BufferDecoder::resumed(encoding, kept_of(plain)?)
 }
 
-/// How many bytes so many more of the text may complete.
+/// How many bytes `len` more of the text may complete.
 pub(crate) fn most_by(encoding: &Encoding, plain: &PlainKept, len: usize, most: &mut usize) -> u32
     ensures { TellsRoom encoding.now plain.now len most.old most.new result }
 {

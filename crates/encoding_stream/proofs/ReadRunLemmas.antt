@@ -33,7 +33,8 @@ run-read base is law text piece bytes len fault held ended f h e means whole rea
     (rw (f, h, e) (rw whole.not_final at next.0), next.1)
 
 pub reads-run : (base : Base) → IsWidth base.width → IsSpecified base → ReadsSound
-    → (old : Kept) → old.count ≡ 0 → is_some old.fault ≡ false → old.ended ≡ false → (piece bytes : List ℕ)
+    → (old : Kept) → old.count ≡ 0 → is_some old.fault ≡ false → old.ended ≡ false
+    → (piece bytes : List ℕ)
     → Means base piece bytes → AreWholeGroups base piece
     → FillsGroups base 0 (length piece) 0 (length bytes)
     → ReadsOn base old (record old { len = old.len + length piece }) piece bytes

@@ -21,7 +21,7 @@ paired [] bytes = []
 paired (p ∷ ps) [] = []
 paired (p ∷ ps) (b ∷ bs) = record { position = p; byte = b } ∷ paired ps bs
 
--- the first so many of them
+-- as many of them as this, from the first on
 abbrev pub at_positions : ℕ → List ℕ → List ℕ → List Positioned
 at_positions count positions bytes = paired (take count positions) (take count bytes)
 
@@ -46,13 +46,13 @@ pub record GoesOn (base : Base) (kept : Kept) (pieces : BufferDecoder) : Type 0 
 abbrev pub bytes_due : Base → ℕ → ℕ
 bytes_due base len = len / group_symbols base.width * group_bytes base.width
 
--- the greatest number of bytes that so many more of the text may complete
+-- the greatest number of bytes that this many more of the text may complete
 abbrev pub most_completed : Base → Kept → ℕ → ℕ
 most_completed base kept len =
     if is_some kept.fault then 0 else bytes_due base (kept.count + len)
 
--- So many bytes of a text, behind some that are held, fill some groups and leave others held; the
--- groups have at most so many bytes.
+-- The bytes of a part of a text, behind some that are held, fill groups and leave others held; the
+-- groups have at most this many bytes.
 pub record FillsGroups (base : Base) (old len new written : ℕ) : Type 0 where
   pub groups : ℕ
   pub symbols : groups * group_symbols base.width + new ≤ old + len

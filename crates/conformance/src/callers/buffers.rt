@@ -26,7 +26,7 @@ pub struct Filled {
 }
 
 /// Decodes a text that comes in two pieces, cut anywhere, into three buffers: the second piece is
-/// read by another decoder, which is told what the first kept.
+/// read by another decoder, which goes on from what the first kept.
 pub fn decode_kept(
     encoding: &Encoding,
     piece: &[u8],

@@ -1,5 +1,5 @@
 -- The bytes of a text that are not ignored, gathered one by one.
-use Rattle.std.proofs.Common.{◌≡◌, ℕ, zero, suc, ◌+◌, ◌-◌, ◌<◌, ◌≤◌, ◌⊎◌, Bool, true, false, not, cond, List, [], ◌∷◌, ◌++◌, length, set, take, drop, get_or, refl, sym, subst, ap, ◌∙◌, arith, length-append, length-take-le, take-append-drop, ⊎_elim, inl, inr}
+use Rattle.std.proofs.Common.{◌≡◌, ℕ, zero, suc, ◌+◌, ◌-◌, ◌<◌, ◌≤◌, ◌⊎◌, Bool, true, false, not, cond, List, [], ◌∷◌, ◌++◌, length, set, take, drop, get_or, refl, sym, ap, ◌∙◌, arith, length-append, length-take-le, take-append-drop, ⊎_elim, inl, inr}
 use Rattle.std.proofs.Math.Seq.{get_or-append_seam, take-suc}
 use Rattle.std.proofs.lemmas.List.{append-nil, get_or_append_left, length-drop, length-map, map-append, take_all, get_or-drop, take_more_set, nil_from_length}
 use Rattle.std.proofs.lemmas.Bool.{cases_lt}
@@ -356,15 +356,3 @@ module _ (base : Base) (width : IsWidth base.width) (text : List ℕ) (read : �
             ∙ ap (λ l. kept_in base read front ++ l) kept_last)
             ∙ position_after-append (kept_in base read front) (last ∷ []) (omega arith)
             ∙ omega (arith, front_len)
-
--- a group of a size that equals another is a group of that size too
-pub gathered-same : {base : Base} {size other : ℕ} {rest group : List ℕ} {span : ℕ}
-    → size ≡ other → IsGathered base other rest group span
-    → IsGathered base size rest group span
-gathered-same {base} {size} {other} {rest} {group} {span} same =
-    subst (λ n. IsGathered base n rest group span) (sym same)
-
-pub more-same : {base : Base} {size other : ℕ} {rest : List ℕ} → size ≡ other
-    → (group : List ℕ) × (span : ℕ) × (0 < length group) × IsGathered base other rest group span
-    → (group : List ℕ) × (span : ℕ) × (0 < length group) × IsGathered base size rest group span
-more-same same more = (more.0, more.1, more.2, gathered-same same more.3)

@@ -152,7 +152,8 @@ module _ (base : Base) (ruled : IsRuled base) where
         let parts : map (meaning base) (filled bytes)
         ≡ map (meaning base) text ++ map (meaning base) (filled rest) =
         ap (λ l. map (meaning base) (filled_with character size l)) joined
-        ∙ ap (map (meaning base)) (filled-behind character size text (plain_text base rest) text_len)
+        ∙ ap (map (meaning base))
+        (filled-behind character size text (plain_text base rest) text_len)
         ∙ map-append (meaning base) text (filled rest) in
         subst (λ gs. GroupsMean base gs bytes)
         (sym (ap (runs size) parts

@@ -24,7 +24,8 @@ returns-clause-reads c =
     c.are_whole.ensures.whole c.if-not-are_whole.false piece bytes piece-is bytes-is
     run.ensures.means in
     subst (λ n. ReadsOn base old (record old { len = old.len + n }) piece bytes) piece-is
-    (reads-run base c.args.self.now.width c.are_whole.ensures.specified c.pieces.ensures.sound old (search rules)
+    (reads-run base c.args.self.now.width c.are_whole.ensures.specified c.pieces.ensures.sound old
+    (search rules)
     (search rules) (search rules) piece bytes run.ensures.means whole few)
 
 pub returns-then-not-are_whole-clause-all : goal.returns-then-not-are_whole-clause-all
