@@ -23,11 +23,13 @@ is 'too many words' 2 $?
 benches/speed --original /nowhere 2>/dev/null
 is 'no original' 2 $?
 
-# benches/memory proves and builds a library, which takes too long here.
+# benches/memory and benches/calls prove and build libraries, which takes too long here.
 benches/memory --original /nowhere 2>/dev/null
 is 'no original in memory' 2 $?
 benches/memory 1 2>/dev/null
 is 'a number in memory' 2 $?
+benches/calls lib lib 2>/dev/null
+is 'too many libraries' 2 $?
 
 # The tables of README.md have the same rows.
 rows() {
