@@ -88,7 +88,8 @@ module _ (base : Base) (ruled : IsRuled base) where
       let here = sym (ap (is_within (length base.symbols)) is) ∙ test in
       omega (arith, ltb-true value (length base.symbols) here, ruled.count)
 
-  values_below : (text values : List ℕ) → map (meaning base) text ≡ map (λ value. Symbol value) values
+  values_below : (text values : List ℕ)
+      → map (meaning base) text ≡ map (λ value. Symbol value) values
       → AllByRecursion (λ value. value < 2 ^ base.width) values
   values_below [] [] h = tt
   values_below [] (value ∷ values) h = cc
@@ -108,7 +109,8 @@ module _ (base : Base) (ruled : IsRuled base) where
   padding_is byte character some is =
       ap (λ m. unwrap_or (own_character base m) byte) is ∙ ap (λ o. unwrap_or o byte) some
 
-  symbols_are : (text values : List ℕ) → map (meaning base) text ≡ map (λ value. Symbol value) values
+  symbols_are : (text values : List ℕ)
+      → map (meaning base) text ≡ map (λ value. Symbol value) values
       → own_form base text ≡ map (symbol base) values
   symbols_are [] [] h = refl
   symbols_are [] (value ∷ values) h = cc

@@ -227,7 +227,8 @@ padding-behind group =
     sym (take-append-drop count group)
     ∙ ap (λ l. take count group ++ l) (all_padding (drop count group) (end-passes is_padding group))
 
-module _ (base : Base) (group : List Character) (bytes : List ℕ) (means : GroupMeans base group bytes)
+module _ (base : Base) (group : List Character) (bytes : List ℕ)
+    (means : GroupMeans base group bytes)
   where
     -- how many members it has, and whether one is padding
     pub GroupMeans-length : length means.symbols + means.padding ≡ group_symbols base.width
@@ -244,7 +245,8 @@ module _ (base : Base) (group : List Character) (bytes : List ℕ) (means : Grou
     GroupMeans-padding =
         ap (list_any is_padding) means.is_group
         ∙ list_any-append is_padding means.symbols (replicate means.padding Padding)
-        ∙ (λ i. list_any-none is_padding means.symbols symbols_fail i || any_padding means.padding i)
+        ∙ (λ i.
+        list_any-none is_padding means.symbols symbols_fail i || any_padding means.padding i)
 
 module _ (base : Base) (width : IsWidth base.width) (padded : is_padded base ≡ true)
     (group : List Character) where

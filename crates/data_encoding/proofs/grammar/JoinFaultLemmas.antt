@@ -97,7 +97,8 @@ module _ (base : Base) (width : IsWidth base.width) where
   abbrev size : ℕ
   size = group_symbols base.width
 
-  pub valid_behind : (m n : ℕ) → m % size ≡ 0 → is_valid_length base (m + n) ≡ is_valid_length base n
+  pub valid_behind : (m n : ℕ) → m % size ≡ 0
+      → is_valid_length base (m + n) ≡ is_valid_length base n
   valid_behind m n h = by (is_padded base) refl where
     by : (b : Bool) → is_padded base ≡ b → is_valid_length base (m + n) ≡ is_valid_length base n
     by true is =

@@ -94,7 +94,8 @@ module _ (base : Base) (width : IsWidth base.width) (padded : is_padded base ≡
       let few : length means.symbols ≤ group_symbols base.width =
       omega (
         arith,
-        sym (length-append means.symbols (replicate means.padding Padding)) ∙ ap length (sym means.is_group),
+        sym (length-append means.symbols (replicate means.padding Padding))
+            ∙ ap length (sym means.is_group),
         means.is_whole,
       ) in
       let bits = mul-le-mul_left base.width few in
@@ -126,48 +127,50 @@ module _ (base : Base) (width : IsWidth base.width) (padded : is_padded base ≡
         (GroupsMean-sound false (ends_after base false gs) gs
         (few_in_chunks (group_symbols base.width) _ (kept base text)) sound)
 
-    module _ (bytes : List ℕ) (means : GroupsMean base (map (meanings_in base) (groups base text)) bytes) where
-      pub length-groups : length (kept base text)
-          ≡ length (groups base text) * group_symbols base.width
-      length-groups =
-          ap length (sym (flat_map-runs (group_symbols base.width) (kept base text)
-          (group_symbols-pos base.width width)))
-          ∙ whole-GroupsMean (groups base text) bytes means
+    module _ (bytes : List ℕ)
+        (means : GroupsMean base (map (meanings_in base) (groups base text)) bytes)
+      where
+        pub length-groups : length (kept base text)
+            ≡ length (groups base text) * group_symbols base.width
+        length-groups =
+            ap length (sym (flat_map-runs (group_symbols base.width) (kept base text)
+            (group_symbols-pos base.width width)))
+            ∙ whole-GroupsMean (groups base text) bytes means
 
-      pub padded-no_length_fault : length_fault base (length text) ≡ None
-      padded-no_length_fault =
-          length_fault-none base (length text)
-          (λ none.
-          let exact : length text % group_symbols base.width ≡ 0 =
-          ap (λ n. n % group_symbols base.width)
-          (sym (length-kept_plain base text none) ∙ length-groups)
-          ∙ mul-mod_left (length (groups base text)) (group_symbols base.width) in
-          whole-length base width (length text) exact)
+        pub padded-no_length_fault : length_fault base (length text) ≡ None
+        padded-no_length_fault =
+            length_fault-none base (length text)
+            (λ none.
+            let exact : length text % group_symbols base.width ≡ 0 =
+            ap (λ n. n % group_symbols base.width)
+            (sym (length-kept_plain base text none) ∙ length-groups)
+            ∙ mul-mod_left (length (groups base text)) (group_symbols base.width) in
+            whole-length base width (length text) exact)
 
-      sound : AreSound base false (groups base text) (ends_after base false (groups base text))
-      sound = sound-GroupsMean false (groups base text) bytes (λ h. cc) means
+        sound : AreSound base false (groups base text) (ends_after base false (groups base text))
+        sound = sound-GroupsMean false (groups base text) bytes (λ h. cc) means
 
-      pub no_fault-padded : fault_of base text ≡ None
-      no_fault-padded =
-          let gs = groups base text in
-          ap (λ o. or_else o (first_fault base gs)) padded-no_length_fault
-          ∙ first-none base false (ends_after base false gs) gs sound
+        pub no_fault-padded : fault_of base text ≡ None
+        no_fault-padded =
+            let gs = groups base text in
+            ap (λ o. or_else o (first_fault base gs)) padded-no_length_fault
+            ∙ first-none base false (ends_after base false gs) gs sound
 
-      pub sound_bytes-padded : sound_bytes base text ≡ bytes
-      sound_bytes-padded =
-          let gs = groups base text in
-          ap (flat_map (bytes_of_group base))
-          (sound-all base false (ends_after base false gs) gs sound)
-          ∙ bytes-GroupsMean gs bytes means
+        pub sound_bytes-padded : sound_bytes base text ≡ bytes
+        sound_bytes-padded =
+            let gs = groups base text in
+            ap (flat_map (bytes_of_group base))
+            (sound-all base false (ends_after base false gs) gs sound)
+            ∙ bytes-GroupsMean gs bytes means
 
-      pub length-padded : length bytes ≤ most_bytes base (length text)
-      length-padded =
-          let count = length (groups base text) in
-          let fits : count * group_symbols base.width ≤ length text =
-          omega (arith, length-groups, length-kept base text) in
-          let few : count ≤ length text / group_symbols base.width =
-          (le-div_iff_mul-le {k = group_symbols base.width} {x = count} {y = length text}
-          (group_symbols-pos base.width width)).1 fits in
-          let most = mul-le-mul_right (group_bytes base.width) few in
-          subst (λ n. length bytes ≤ n) (sym (most_bytes-by base (length text) true padded))
-          (omega (arith, most-GroupsMean (groups base text) bytes means, most))
+        pub length-padded : length bytes ≤ most_bytes base (length text)
+        length-padded =
+            let count = length (groups base text) in
+            let fits : count * group_symbols base.width ≤ length text =
+            omega (arith, length-groups, length-kept base text) in
+            let few : count ≤ length text / group_symbols base.width =
+            (le-div_iff_mul-le {k = group_symbols base.width} {x = count} {y = length text}
+            (group_symbols-pos base.width width)).1 fits in
+            let most = mul-le-mul_right (group_bytes base.width) few in
+            subst (λ n. length bytes ≤ n) (sym (most_bytes-by base (length text) true padded))
+            (omega (arith, most-GroupsMean (groups base text) bytes means, most))

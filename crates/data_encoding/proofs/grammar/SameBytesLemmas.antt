@@ -41,7 +41,8 @@ module _ (base : Base) where
       by : (o : Option ℕ) → MeansBy o base text bytes → MeansBy o base other bytes
       by None means = subst (λ ms. PlainMeans base ms bytes) alike means
       by (Some character) means =
-          subst (λ gs. GroupsMean base gs bytes) (runs-alike (kept base text) (kept base other) alike)
+          subst (λ gs. GroupsMean base gs bytes)
+          (runs-alike (kept base text) (kept base other) alike)
           means
 
     -- and so do texts of the same kept bytes

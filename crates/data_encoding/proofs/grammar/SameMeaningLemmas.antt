@@ -21,7 +21,8 @@ use Rattle.data_encoding.proofs.lists.RunLemmas.{runs-map}
 module _ (ks js : List Positioned)
     (stand : map (λ (k : Positioned). k.position) ks ≡ map (λ (k : Positioned). k.position) js)
   where
-    fault_at-alike : (kind : DecodeKind) (index : ℕ) → fault_at kind ks index ≡ fault_at kind js index
+    fault_at-alike : (kind : DecodeKind) (index : ℕ)
+        → fault_at kind ks index ≡ fault_at kind js index
     fault_at-alike kind index =
         let first : Positioned = record { position = 0; byte = 0 } in
         ap (λ n. Some (record { position = n; kind = kind }))
@@ -95,7 +96,8 @@ module _ (base : Base) where
       let here : seen_in ks ≡ seen_in js = cc in
       let others : map seen_in gs ≡ map seen_in hs = cc in
       (λ i. or_else (fault_after-seen ended ks js here i)
-      (first_after (not base.concatenates && list_any is_padding (meanings-seen ks js here i)) base gs))
+      (first_after (not base.concatenates && list_any is_padding (meanings-seen ks js here i))
+      base gs))
       ∙ ap (or_else (fault_after ended base js))
       (first_after-seen (is_final base js) gs hs others)
 

@@ -194,7 +194,8 @@ module _ (base : Base) (width : IsWidth base.width) where
       (PlainMeans-no_fault base width all bytes means, tt))
       (λ (long : size ≤ length all).
       let rest_len : length (drop size all) ≤ n = omega (arith, length-drop size all, e) in
-      let parts = PlainMeans-split (take size all) (drop size all) bytes (length-take-le size all long)
+      let parts = PlainMeans-split (take size all) (drop size all) bytes
+      (length-take-le size all long)
       (subst (λ l. PlainMeans base l bytes) (sym (take-append-drop size all)) means) in
       subst ArePlain (sym (runs-first size all pos some)) (
         PlainMeans-no_fault base width (take size all) _ parts.first,

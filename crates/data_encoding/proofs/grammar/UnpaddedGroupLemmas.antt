@@ -67,7 +67,8 @@ symbols_pass (value ∷ values) = (refl, symbols_pass values)
 
 pub are_symbols : (meanings : List Character) → position (λ m. not (is_symbol m)) meanings ≡ None
     → meanings ≡ map (λ value. Symbol value) (filter_map value_of meanings)
-are_symbols meanings h = values-symbols meanings (AllFail-position (λ m. not (is_symbol m)) meanings h)
+are_symbols meanings h =
+    values-symbols meanings (AllFail-position (λ m. not (is_symbol m)) meanings h)
 
 valid_and_sound : {A : Type 0} (valid : Bool) (sound : Option A) (fault : A)
     → cond valid sound (Some fault) ≡ None → (valid ≡ true) × (sound ≡ None)
@@ -135,7 +136,8 @@ split_bits bits front rest count h e short =
 
 module _ (base : Base) (width : IsWidth base.width) (group : List Character) where
   -- a group with no fault means its bytes
-  pub PlainMeans-sound : plain_fault base group ≡ None → PlainMeans base group (symbol_bytes base group)
+  pub PlainMeans-sound : plain_fault base group ≡ None
+      → PlainMeans base group (symbol_bytes base group)
   PlainMeans-sound h =
       let valid = valid_and_sound (is_valid_count base.width (length group))
       (symbols_fault base group) _ h in
