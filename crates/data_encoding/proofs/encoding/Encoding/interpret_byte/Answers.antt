@@ -1,5 +1,4 @@
 use Rattle.std.proofs.Common.{sym, ◌∙◌, arith}
-use Rattle.data_encoding.specs.PlainTables.{plain_tables}
 use Rattle.data_encoding.proofs.tables.EntryLemmas.{meaning-any}
 use Rattle.data_encoding.proofs.tables.TableRuleLemmas.{HoldsEntries-tables, value-symbol}
 use Rattle.data_encoding.proofs.tables.LayoutLemmas.{meaning-ignored, meaning-invalid, meaning-padding}
@@ -7,25 +6,25 @@ use Rattle.data_encoding.proofs.encoding.Encoding.interpret_byte.Goals as goal
 
 pub returns-then-entry-lt64 : goal.returns-then-entry-lt64
 returns-then-entry-lt64 c =
-    let holds = HoldsEntries-tables (plain_tables c.self.inside.fields) c.self.invariant in
-    let means = meaning-any (plain_tables c.self.inside.fields).values holds c.args.byte (omega arith) in
+    let holds = HoldsEntries-tables _ c.self.invariant in
+    let means = meaning-any c.self.inside.fields.values holds c.args.byte (omega arith) in
     rw (← c.self.view_is) (sym (means ∙ value-symbol _ c.if-entry-lt64.true))
 
 pub returns-then-entry : goal.returns-then-entry
 returns-then-entry c =
-    let holds = HoldsEntries-tables (plain_tables c.self.inside.fields) c.self.invariant in
-    let means = meaning-any (plain_tables c.self.inside.fields).values holds c.args.byte (omega arith) in
+    let holds = HoldsEntries-tables _ c.self.invariant in
+    let means = meaning-any c.self.inside.fields.values holds c.args.byte (omega arith) in
     rw (← c.self.view_is) (meaning-ignored _ c.if-entry.true ∙ sym means)
 
 pub returns-then-entry-2 : goal.returns-then-entry-2
 returns-then-entry-2 c =
-    let holds = HoldsEntries-tables (plain_tables c.self.inside.fields) c.self.invariant in
-    let means = meaning-any (plain_tables c.self.inside.fields).values holds c.args.byte (omega arith) in
+    let holds = HoldsEntries-tables _ c.self.invariant in
+    let means = meaning-any c.self.inside.fields.values holds c.args.byte (omega arith) in
     rw (← c.self.view_is) (meaning-padding _ c.if-entry-2.true ∙ sym means)
 
 pub returns-else-entry-2 : goal.returns-else-entry-2
 returns-else-entry-2 c =
-    let holds = HoldsEntries-tables (plain_tables c.self.inside.fields) c.self.invariant in
-    let means = meaning-any (plain_tables c.self.inside.fields).values holds c.args.byte (omega arith) in
+    let holds = HoldsEntries-tables _ c.self.invariant in
+    let means = meaning-any c.self.inside.fields.values holds c.args.byte (omega arith) in
     rw (← c.self.view_is) (meaning-invalid _ c.if-entry-lt64.false c.if-entry.false
     c.if-entry-2.false ∙ sym means)

@@ -7,7 +7,6 @@ use Rattle.data_encoding.specs.contracts.encoding.BitOrder.{the_type}
 use Rattle.data_encoding.specs.declared.encoding.BitOrder.{BitOrder}
 use Rattle.data_encoding.specs.declared.encoding.BitOrder.TheVariants.{MostSignificantFirst, LeastSignificantFirst}
 use Rattle.data_encoding.specs.Layout.{layout}
-use Rattle.data_encoding.specs.PlainTables.{plain_tables}
 use Rattle.data_encoding.proofs.tables.EqualityLemmas.{base-Decides, layout-Decides}
 use Rattle.data_encoding.proofs.encoding.EncodingPartialEq.eq.Goals as goal
 
@@ -20,7 +19,7 @@ orders-Decides LeastSignificantFirst MostSignificantFirst = (λ h. cc, λ h. cc)
 pub returns-then-eq-3-clause-base : goal.returns-then-eq-3-clause-base
 returns-then-eq-3-clause-base c =
     base-Decides c.self.invariant c.other.invariant c.self.view_is c.other.view_is
-    (orders-Decides (plain_tables c.self.inside.fields).order (plain_tables c.other.inside.fields).order) (search rules)
+    (orders-Decides _ _) (search rules)
 
 pub returns-then-eq-3-clause-same : goal.returns-then-eq-3-clause-same
 returns-then-eq-3-clause-same c =
@@ -35,7 +34,7 @@ returns-then-eq-3-clause-value c =
 pub returns-else-eq-3-clause-base : goal.returns-else-eq-3-clause-base
 returns-else-eq-3-clause-base c =
     base-Decides c.self.invariant c.other.invariant c.self.view_is c.other.view_is
-    (orders-Decides (plain_tables c.self.inside.fields).order (plain_tables c.other.inside.fields).order) (search rules)
+    (orders-Decides _ _) (search rules)
 
 pub returns-else-eq-3-clause-same : goal.returns-else-eq-3-clause-same
 returns-else-eq-3-clause-same c =

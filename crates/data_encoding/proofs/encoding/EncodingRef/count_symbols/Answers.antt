@@ -4,7 +4,6 @@ use Rattle.std.proofs.lemmas.Bool.Decides.{nat_tests}
 use Rattle.data_encoding.specs.Base.{group_symbols, is_padded}
 use Rattle.data_encoding.specs.Decoding.{HasFault}
 use Rattle.data_encoding.specs.Lengths.{is_valid_count}
-use Rattle.data_encoding.specs.PlainTables.{plain_tables}
 use Rattle.data_encoding.proofs.decoding.GroupJudgementLemmas.{group-short, length-invalid, padding-invalid, symbols-all, symbols-before}
 use Rattle.data_encoding.proofs.digits.SizeLemmas.{IsSmall-group}
 use Rattle.data_encoding.proofs.tables.TableLemmas.{HoldsValues-seen, IsWidth-seen}
@@ -56,8 +55,8 @@ returns-then-count-eq0-clause-fault g c =
     (padding-invalid seen group (ap is_padded (sym c.self.view_is) ∙ sym c.is_padded.ensures ∙ c.if-not-is_padded.false) whole
     count
     (c.before_padding-count.ensures.count seen
-    (HoldsValues-seen (plain_tables c.self.inside.fields.now) c.self.invariant seen c.self.view_is))
-    (IsWidth-seen (plain_tables c.self.inside.fields.now) c.self.invariant seen c.self.view_is) c.requires.some
+    (HoldsValues-seen _ c.self.invariant seen c.self.view_is))
+    (IsWidth-seen _ c.self.invariant seen c.self.view_is) c.requires.some
     c.before_padding-count.ensures.within
     (ap (λ w. count == 0 || not (is_valid_count w count))
     (c.requires.width ∙ sym c.WIDTH-width.ensures) ∙ bad))
@@ -74,7 +73,7 @@ returns-clause-symbols g c =
     let valid : is_valid_count c.WIDTH-width.result count ≡ true = grind (arith, nat_tests) in
     symbols-before seen group (ap is_padded (sym c.self.view_is) ∙ sym c.is_padded.ensures ∙ c.if-not-is_padded.false) whole count
     (c.before_padding-count.ensures.count seen
-    (HoldsValues-seen (plain_tables c.self.inside.fields.now) c.self.invariant seen c.self.view_is))
+    (HoldsValues-seen _ c.self.invariant seen c.self.view_is))
     c.before_padding-count.ensures.within begun
     (ap (λ w. is_valid_count w count) (c.requires.width ∙ sym c.WIDTH-width.ensures) ∙ valid)
 

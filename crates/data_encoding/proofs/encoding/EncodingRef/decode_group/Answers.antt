@@ -6,7 +6,6 @@ use Rattle.std.specs.List.{list_any}
 use Rattle.data_encoding.specs.Base.{Base, meaning}
 use Rattle.data_encoding.specs.Decoding.{HasFault}
 use Rattle.data_encoding.specs.Fault.{trailing_bits}
-use Rattle.data_encoding.specs.PlainTables.{plain_tables}
 use Rattle.data_encoding.proofs.decoding.GroupJudgementLemmas.{group-sound, symbol-fault, trailing-fault}
 use Rattle.data_encoding.proofs.digits.SizeLemmas.{IsSmall-group}
 use Rattle.data_encoding.proofs.digits.WidthLemmas.{group_symbols-few}
@@ -53,8 +52,8 @@ returns-then-index-count-clause-fault g c =
     let few = length-take-le count group c.in-Ok.ensures.symbols.within in
     let inside : found < length (take count group) = omega (arith, few, c.if-index-count.true) in
     subst (HasFault seen group) (sym c.faulty.ensures)
-    (symbol-fault seen (plain_tables c.self.inside.fields.now).values
-    (HoldsValues-seen (plain_tables c.self.inside.fields.now) c.self.invariant seen c.self.view_is) group
+    (symbol-fault seen c.self.inside.fields.now.values
+    (HoldsValues-seen _ c.self.invariant seen c.self.view_is) group
     (λ k. (c.type_inv.group k).fits) count c.in-Ok.ensures.symbols found inside
     c.symbol_position-index.ensures.before (c.symbol_position-index.ensures.there inside))
 
@@ -74,8 +73,8 @@ returns-then-not-decode_symbols-clause-fault g c =
     (λ k below. c.symbol_position.ensures.before k (omega (arith, past, below))))))
     (cases_lt found (length symbols)) in
     subst (HasFault seen group) (sym c.faulty-then-not-decode_symbols.ensures)
-    (symbol-fault seen (plain_tables c.self.inside.fields.now).values
-    (HoldsValues-seen (plain_tables c.self.inside.fields.now) c.self.invariant seen c.self.view_is) group
+    (symbol-fault seen c.self.inside.fields.now.values
+    (HoldsValues-seen _ c.self.invariant seen c.self.view_is) group
     (λ k. (c.type_inv.group k).fits) count c.in-Ok.ensures.symbols found inside
     c.symbol_position.ensures.before (c.symbol_position.ensures.there inside))
 
@@ -98,13 +97,13 @@ returns-then-has_trailing-clause-fault g c =
     let seen = c.args.self.now in
     let group = c.args.group.now in
     let count = c.in-Ok.count in
-    let holds = HoldsValues-seen (plain_tables c.self.inside.fields.now) c.self.invariant seen c.self.view_is in
+    let holds = HoldsValues-seen _ c.self.invariant seen c.self.view_is in
     subst (HasFault seen group) (sym c.faulty-then-has_trailing.ensures)
-    (trailing-fault seen (plain_tables c.self.inside.fields.now).values holds group (λ k. (c.type_inv.group k).fits) count
+    (trailing-fault seen c.self.inside.fields.now.values holds group (λ k. (c.type_inv.group k).fits) count
     c.in-Ok.ensures.symbols (c.if-not-decode_symbols.ensures.symbols.0 refl)
     (ap (λ (b : Base). b.checks_trailing_bits) (sym c.self.view_is) ∙ c.if-self.true)
     (sym (c.if-has_trailing.ensures.any seen
-    (Reads-seen (plain_tables c.self.inside.fields.now) c.self.invariant seen c.self.view_is g.G.GroupSize.WIDTH c.args.order
+    (Reads-seen _ c.self.invariant seen c.self.view_is g.G.GroupSize.WIDTH c.args.order
     c.requires.width c.requires.order)))
     (c.if-has_trailing.ensures.some refl))
 
@@ -120,7 +119,7 @@ returns-clause-sound g c =
     let judged = map (meaning seen) symbols in
     let few = c.in-Ok.ensures.symbols.within in
     let most = mul-le-mul_left c.WIDTH.result few in
-    let reads = Reads-seen (plain_tables c.self.inside.fields.now) c.self.invariant seen c.self.view_is g.G.GroupSize.WIDTH
+    let reads = Reads-seen _ c.self.invariant seen c.self.view_is g.G.GroupSize.WIDTH
     c.args.order c.requires.width c.requires.order in
     let checks = ap (λ (b : Base). b.checks_trailing_bits) (sym c.self.view_is) in
     let quiet : (seen.checks_trailing_bits
@@ -133,7 +132,7 @@ returns-clause-sound g c =
           ap (λ b. b && list_any (λ bit. not (bit == 0)) (trailing_bits seen judged))
           (checks ∙ w.if-self.false)
     ] in
-    group-sound seen (plain_tables c.self.inside.fields.now).values reads.holds group (λ k. (c.type_inv.group k).fits) count
+    group-sound seen c.self.inside.fields.now.values reads.holds group (λ k. (c.type_inv.group k).fits) count
     c.in-Ok.ensures.symbols (c.if-not-decode_symbols.ensures.symbols.0 refl) quiet
     c.decode_symbols.new.output (drop (c.WIDTH.result * count / 8) c.args.output.now)
     (c.decode_symbols.auto.output

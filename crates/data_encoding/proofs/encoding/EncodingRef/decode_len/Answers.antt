@@ -1,7 +1,6 @@
 use Rattle.std.proofs.Common.{◌≡◌, ◌≤◌, false, length, IsOkAnd, sym, ap, ◌∙◌, subst}
 use Rattle.data_encoding.specs.Base.{ignores_some}
 use Rattle.data_encoding.specs.Lengths.{decoded_len, is_valid_length}
-use Rattle.data_encoding.specs.PlainTables.{plain_tables}
 use Rattle.data_encoding.proofs.grammar.LengthLemmas.{decoded_len-invalid}
 use Rattle.data_encoding.proofs.grammar.MeaningLemmas.{decoded_len-Means, length-Means}
 use Rattle.data_encoding.proofs.tables.TableLemmas.{IsWidth-seen}
@@ -11,7 +10,7 @@ use Rattle.data_encoding.proofs.encoding.EncodingRef.decode_len.Goals as goal
 pub returns-then-not-is_valid_length-clause-most : goal.returns-then-not-is_valid_length-clause-most
 returns-then-not-is_valid_length-clause-most c text bytes h means =
     let seen = c.args.self.now in
-    let width = IsWidth-seen (plain_tables c.self.inside.fields.now) c.self.invariant seen c.self.view_is in
+    let width = IsWidth-seen _ c.self.invariant seen c.self.view_is in
     let none : ignores_some seen ≡ false =
     rw (← c.self.view_is) (sym c.self.invariant.ignores ∙ c.if-not-self.true) in
     let invalid : is_valid_length seen c.args.len ≡ false =
@@ -22,12 +21,12 @@ returns-then-not-is_valid_length-clause-most c text bytes h means =
 
 pub returns-then-not-is_valid_length-clause-base : goal.returns-then-not-is_valid_length-clause-base
 returns-then-not-is_valid_length-clause-base c =
-    rw (← c.self.view_is) (is_base_of (plain_tables c.self.inside.fields.now) c.self.invariant)
+    rw (← c.self.view_is) (is_base_of _ c.self.invariant)
 
 pub returns-clause-most : goal.returns-clause-most
 returns-clause-most c text bytes h means =
-    let width = IsWidth-seen (plain_tables c.self.inside.fields.now) c.self.invariant c.args.self.now c.self.view_is in
+    let width = IsWidth-seen _ c.self.invariant c.args.self.now c.self.view_is in
     rw (h, ← c.most_bytes.ensures) at (length-Means c.args.self.now width text bytes means)
 
 pub returns-clause-base : goal.returns-clause-base
-returns-clause-base c = rw (← c.self.view_is) (is_base_of (plain_tables c.self.inside.fields.now) c.self.invariant)
+returns-clause-base c = rw (← c.self.view_is) (is_base_of _ c.self.invariant)

@@ -1,6 +1,5 @@
 use Rattle.std.proofs.Common.{sym, subst}
 use Rattle.data_encoding.specs.Base.{IsWidth}
-use Rattle.data_encoding.specs.PlainTables.{plain_tables}
 use Rattle.data_encoding.proofs.decoding.IgnoredFrontLemmas.{no_front}
 use Rattle.data_encoding.proofs.decoding.ProgressLemmas.{begin}
 use Rattle.data_encoding.proofs.tables.TableLemmas.{Reads-seen}
@@ -8,7 +7,7 @@ use Rattle.data_encoding.proofs.encoding.EncodingRef.decode_text.Goals as goal
 
 pub decode_run_behind-at-requires-clause-reads : goal.decode_run_behind-at-requires-clause-reads
 decode_run_behind-at-requires-clause-reads g c =
-    Reads-seen (plain_tables c.self.inside.fields.now) c.self.invariant c.args.self.now c.self.view_is g.G.GroupSize.WIDTH
+    Reads-seen _ c.self.invariant c.args.self.now c.self.view_is g.G.GroupSize.WIDTH
     c.args.order c.requires.width c.requires.order
 
 pub decode_run_behind-at-requires-clause-so_far : goal.decode_run_behind-at-requires-clause-so_far

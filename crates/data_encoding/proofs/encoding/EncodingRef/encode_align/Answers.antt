@@ -23,31 +23,31 @@ few-lines (suc n) separator width values is keeps =
 pub returns-then-self-ne0-clause-value : goal.returns-then-self-ne0-clause-value
 returns-then-self-ne0-clause-value c =
     rw (← c.self.view_is)
-    (by_column (plain_tables c.self.inside.fields.now).column (plain_tables c.self.inside.fields.now).width (plain_tables c.self.inside.fields.now).separator
+    (by_column c.self.inside.fields.now.column c.self.inside.fields.now.width (plain_tables c.self.inside.fields.now).separator
     c.if-self-ne0.true)
 
 pub returns-then-self-ne0-clause-some : goal.returns-then-self-ne0-clause-some
 returns-then-self-ne0-clause-some c =
     let seen = c.args.self.now in
-    let ruled = IsRuled-seen (plain_tables c.self.inside.fields.now) c.self.invariant seen c.self.view_is in
-    let wrapping = wrapping-seen (plain_tables c.self.inside.fields.now) c.self.invariant seen c.self.view_is
+    let ruled = IsRuled-seen _ c.self.invariant seen c.self.view_is in
+    let wrapping = wrapping-seen _ c.self.invariant seen c.self.view_is
     c.if-self-ne0.true in
     subst (λ n. 0 < n) (sym (returns-then-self-ne0-clause-value c))
     (alignment-some seen ruled _ wrapping)
 
 pub returns-then-self-ne0-clause-most : goal.returns-then-self-ne0-clause-most
 returns-then-self-ne0-clause-most c =
-    few-lines (plain_tables c.self.inside.fields.now).column (plain_tables c.self.inside.fields.now).separator (plain_tables c.self.inside.fields.now).width
-    (plain_tables c.self.inside.fields.now).values c.self.invariant.is_width c.self.invariant.wrapping
+    few-lines c.self.inside.fields.now.column (plain_tables c.self.inside.fields.now).separator c.self.inside.fields.now.width
+    c.self.inside.fields.now.values c.self.invariant.is_width c.self.invariant.wrapping
 
 pub returns-clause-some : goal.returns-clause-some
 returns-clause-some c =
     subst (λ n. 0 < n) (sym c.group_bytes.ensures.value)
-    (group_bytes-pos (plain_tables c.self.inside.fields.now).width c.self.invariant.is_width)
+    (group_bytes-pos c.self.inside.fields.now.width c.self.invariant.is_width)
 
 pub returns-then-self-ne0-clause-base : goal.returns-then-self-ne0-clause-base
 returns-then-self-ne0-clause-base c =
-    rw (← c.self.view_is) (is_base_of (plain_tables c.self.inside.fields.now) c.self.invariant)
+    rw (← c.self.view_is) (is_base_of _ c.self.invariant)
 
 pub returns-clause-base : goal.returns-clause-base
-returns-clause-base c = rw (← c.self.view_is) (is_base_of (plain_tables c.self.inside.fields.now) c.self.invariant)
+returns-clause-base c = rw (← c.self.view_is) (is_base_of _ c.self.invariant)

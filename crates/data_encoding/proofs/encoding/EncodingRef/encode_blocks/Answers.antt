@@ -1,6 +1,5 @@
 use Rattle.std.proofs.Common.{◌+◌, ◌/◌, ◌∙◌, arith}
 use Rattle.std.proofs.lemmas.Nat.{mul-le}
-use Rattle.data_encoding.specs.PlainTables.{plain_tables}
 use Rattle.data_encoding.proofs.lists.PieceLemmas.{before, length-part, part-begins, piece-begins, piece-few, piece-last, piece-next, written-first}
 use Rattle.data_encoding.proofs.text.LinePieceLemmas.{IsByPieces-text, columns-some, line-few, lines-few, lines-fit, lines-some, text-few}
 use Rattle.data_encoding.proofs.encoding.EncodingRef.encode_blocks.Goals as goal
@@ -38,7 +37,7 @@ overflow_add-read g c =
       fits = omega (
         arith,
         before c.loop-index.invariant c.div_ceil-index-end.ensures c.loop-index-test.true,
-        mul-le (1024 / (plain_tables c.self.inside.fields.now).column) c.encode_align.result 1024 189
+        mul-le (1024 / c.self.inside.fields.now.column) c.encode_align.result 1024 189
             (lines-few c.self.invariant c.self.view_is c.requires.lines 1024)
             c.encode_align.ensures.most,
         c.requires.limit,
@@ -63,7 +62,7 @@ overflow_add-written g c =
         arith,
         piece-begins c.loop-index.invariant c.div_ceil-index-end.ensures c.loop-index-test.true,
         text-few c.self.invariant c.self.view_is c.requires.lines c.args.input.now,
-        mul-le (1024 / (plain_tables c.self.inside.fields.now).column) ((plain_tables c.self.inside.fields.now).column + c.line_separator_len.result) 1024 510
+        mul-le (1024 / c.self.inside.fields.now.column) (c.self.inside.fields.now.column + c.line_separator_len.result) 1024 510
             (lines-few c.self.invariant c.self.view_is c.requires.lines 1024)
             (line-few c.self.invariant c.self.view_is c.requires.lines c.line_separator_len.ensures.value),
         c.requires.limit,

@@ -11,7 +11,7 @@ pub returns-then-self-eq0-clause-length : goal.returns-then-self-eq0-clause-leng
 returns-then-self-eq0-clause-length c bytes h =
     ap length
     (text_of-unwrapped c.args.self.now bytes
-    (unwrapped-seen (plain_tables c.self.inside.fields.now) c.self.invariant c.args.self.now c.self.view_is
+    (unwrapped-seen _ c.self.invariant c.args.self.now c.self.view_is
     c.if-self-eq0.true))
     ∙ c.padded_len-count.ensures.length bytes h
 
@@ -23,20 +23,20 @@ returns-then-self-eq0-clause-most c =
     omega (
       arith,
       returns-then-self-eq0-clause-length c some len,
-      text-most seen (IsRuled-seen (plain_tables c.self.inside.fields.now) c.self.invariant seen c.self.view_is) some,
+      text-most seen (IsRuled-seen _ c.self.invariant seen c.self.view_is) some,
       len,
     )
 
 pub returns-then-self-eq0-clause-base : goal.returns-then-self-eq0-clause-base
 returns-then-self-eq0-clause-base c =
-    rw (← c.self.view_is) (is_base_of (plain_tables c.self.inside.fields.now) c.self.invariant)
+    rw (← c.self.view_is) (is_base_of _ c.self.invariant)
 
 pub returns-clause-length : goal.returns-clause-length
 returns-clause-length c bytes h =
     let e = plain_tables c.self.inside.fields.now in
     let seen = c.args.self.now in
-    let ruled = IsRuled-seen e c.self.invariant seen c.self.view_is in
-    let wrapping = wrapping-seen e c.self.invariant seen c.self.view_is c.if-self-eq0.false in
+    let ruled = IsRuled-seen _ c.self.invariant seen c.self.view_is in
+    let wrapping = wrapping-seen _ c.self.invariant seen c.self.view_is c.if-self-eq0.false in
     let count = c.padded_len-count.result in
     let padded = c.padded_len-count.ensures.length bytes h in
     let lines : c.div_ceil.result ≡ run_count e.column count =
@@ -53,7 +53,7 @@ returns-clause-most c =
     omega (
       arith,
       returns-clause-length c some len,
-      text-most seen (IsRuled-seen (plain_tables c.self.inside.fields.now) c.self.invariant seen c.self.view_is) some,
+      text-most seen (IsRuled-seen _ c.self.invariant seen c.self.view_is) some,
       len,
     )
 
@@ -66,4 +66,4 @@ overflow_add-result c =
     record { fits = omega (arith, returns-clause-most c, c.requires.limit) }
 
 pub returns-clause-base : goal.returns-clause-base
-returns-clause-base c = rw (← c.self.view_is) (is_base_of (plain_tables c.self.inside.fields.now) c.self.invariant)
+returns-clause-base c = rw (← c.self.view_is) (is_base_of _ c.self.invariant)

@@ -69,7 +69,7 @@ overflow_sub-end g c =
     let input = c.args.input.now in
     inside (text_of seen input) (padded_text seen input) (plain_tables c.self.inside.fields.now).separator
     c.args.output.now
-    (text-is (plain_tables c.self.inside.fields.now) c.self.invariant seen c.self.view_is input c.requires.some
+    (text-is _ c.self.invariant seen c.self.view_is input c.requires.some
     c.requires.line)
     c.requires.exact c.line_separator_len.result c.line_separator_len.ensures.value
 
@@ -79,7 +79,7 @@ encode_padded-requires-clause-exact g c =
     let input = c.args.input.now in
     front (text_of seen input) (padded_text seen input) (plain_tables c.self.inside.fields.now).separator
     c.args.output.now
-    (text-is (plain_tables c.self.inside.fields.now) c.self.invariant seen c.self.view_is input c.requires.some
+    (text-is _ c.self.invariant seen c.self.view_is input c.requires.some
     c.requires.line)
     c.requires.exact c.line_separator_len.result c.line_separator_len.ensures.value
 
@@ -89,7 +89,7 @@ write_separator-requires g c =
     let input = c.args.input.now in
     room (text_of seen input) (padded_text seen input) (plain_tables c.self.inside.fields.now).separator
     c.args.output.now
-    (text-is (plain_tables c.self.inside.fields.now) c.self.invariant seen c.self.view_is input c.requires.some
+    (text-is _ c.self.invariant seen c.self.view_is input c.requires.some
     c.requires.line)
     c.requires.exact c.line_separator_len.result c.line_separator_len.ensures.value c.encode_padded.new.output
     c.line_separator.result.now c.encode_padded.ensures c.line_separator.ensures.value
@@ -101,7 +101,7 @@ returns g c =
     let input = c.args.input.now in
     written (text_of seen input) (padded_text seen input) (plain_tables c.self.inside.fields.now).separator
     c.args.output.now
-    (text-is (plain_tables c.self.inside.fields.now) c.self.invariant seen c.self.view_is input c.requires.some
+    (text-is _ c.self.invariant seen c.self.view_is input c.requires.some
     c.requires.line)
     c.requires.exact c.line_separator_len.result c.line_separator_len.ensures.value c.encode_padded.new.output
     c.write_separator.new.output c.encode_padded.ensures

@@ -1,6 +1,5 @@
 use Rattle.std.proofs.Common.{◌++◌, drop, sym, ap, ◌∙◌}
 use Rattle.data_encoding.specs.Base.{Base}
-use Rattle.data_encoding.specs.PlainTables.{plain_tables}
 use Rattle.data_encoding.proofs.tables.TableLemmas.{Writes-tables}
 use Rattle.data_encoding.proofs.encoding.EncodingRef.encode_padded.Goals as goal
 
@@ -11,6 +10,6 @@ returns g c =
     ap (λ l. l ++ drop c.pad-count.result c.pad-count.new.output)
     (c.encode_plain.ensures seen
     (rw c.order.ensures
-    (Writes-tables (plain_tables c.self.inside.fields.now) c.self.invariant seen c.self.view_is
+    (Writes-tables _ c.self.invariant seen c.self.view_is
     g.G.GroupSize.WIDTH width)))
     ∙ sym c.pad-count.ensures.padding

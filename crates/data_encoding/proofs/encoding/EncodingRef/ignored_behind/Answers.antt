@@ -1,7 +1,6 @@
 use Rattle.std.proofs.Common.{subst}
 use Rattle.std.proofs.lemmas.List.{take_rest}
 use Rattle.data_encoding.specs.Decoding.{IsIgnoredFront}
-use Rattle.data_encoding.specs.PlainTables.{plain_tables}
 use Rattle.data_encoding.proofs.tables.TableLemmas.{HoldsValues-seen}
 use Rattle.data_encoding.proofs.encoding.EncodingRef.ignored_behind.Goals as goal
 
@@ -11,4 +10,4 @@ returns c =
     subst (λ part. IsIgnoredFront seen part c.ignored_front.result)
     (take_rest c.args.input.now c.args.read)
     (c.ignored_front.ensures.front seen
-    (HoldsValues-seen (plain_tables c.self.inside.fields.now) c.self.invariant seen c.self.view_is))
+    (HoldsValues-seen _ c.self.invariant seen c.self.view_is))

@@ -4,7 +4,6 @@ use Rattle.std.proofs.lemmas.List.{take_all}
 use Rattle.data_encoding.specs.Base.{ignores_some}
 use Rattle.data_encoding.specs.Fault.{position_of}
 use Rattle.data_encoding.specs.Grammar.{kept, positioned}
-use Rattle.data_encoding.specs.PlainTables.{plain_tables}
 use Rattle.data_encoding.proofs.decoding.GatherLemmas.{more-here, none-here, position-here}
 use Rattle.data_encoding.proofs.grammar.PositionLemmas.{filter-plain, length-kept, position_of-positioned_from}
 use Rattle.data_encoding.proofs.tables.TableLemmas.{HoldsValues-seen}
@@ -17,8 +16,8 @@ returns-then-left-eq0-clause-found c h =
     let part = c.args.part.now in
     let at = c.loop-position.position in
     let byte = get_or part at 0 in
-    let holds = HoldsValues-seen (plain_tables c.self.inside.fields.now) c.self.invariant seen c.self.view_is in
-    let other : (get_or (plain_tables c.self.inside.fields.now).values byte 0 == 129) ≡ false =
+    let holds = HoldsValues-seen _ c.self.invariant seen c.self.view_is in
+    let other : (get_or c.self.inside.fields.now.values byte 0 == 129) ≡ false =
     grind (arith, nat_tests, c.if-self-part.true) in
     let small : byte < 256 = omega (arith, (c.type_inv.part at).fits) in
     let so_far : length (kept seen (take at part)) + c.loop-position.left ≡ c.args.index =
@@ -35,19 +34,19 @@ loop-position-preserved c =
     let part = c.args.part.now in
     let at = c.loop-position.position in
     let byte = get_or part at 0 in
-    let holds = HoldsValues-seen (plain_tables c.self.inside.fields.now) c.self.invariant seen c.self.view_is in
+    let holds = HoldsValues-seen _ c.self.invariant seen c.self.view_is in
     let small : byte < 256 = omega (arith, (c.type_inv.part at).fits) in
     let so_far : length (kept seen (take at part)) + c.loop-position.left ≡ c.args.index =
     c.loop-position.invariant in
     elim c.if-self-part.branch [
       | then-self-part+else-left-eq0 w ↦
-          let other : (get_or (plain_tables c.self.inside.fields.now).values byte 0 == 129) ≡ false =
+          let other : (get_or c.self.inside.fields.now.values byte 0 == 129) ≡ false =
           grind (arith, nat_tests, w.if-self-part.true) in
           let more = more-here seen part at c.loop-position-test.true
           (holds.ignoreds byte small ∙ other) in
           omega (arith, so_far, more, w.left-is, w.if-left-eq0.false)
       | else-self-part w ↦
-          let same : (get_or (plain_tables c.self.inside.fields.now).values byte 0 == 129) ≡ true =
+          let same : (get_or c.self.inside.fields.now.values byte 0 == 129) ≡ true =
           grind (arith, nat_tests, w.if-self-part.false) in
           let none = none-here seen part at c.loop-position-test.true
           (holds.ignoreds byte small ∙ same) in

@@ -2,7 +2,6 @@ use Rattle.std.proofs.Common.{◌≡◌, length, take, false, sym, ap, ◌∙◌
 use Rattle.std.proofs.lemmas.List.{take_all}
 use Rattle.data_encoding.specs.Base.{ignores_some}
 use Rattle.data_encoding.specs.Decoding.{IsGathered}
-use Rattle.data_encoding.specs.PlainTables.{plain_tables}
 use Rattle.data_encoding.proofs.decoding.GatherLemmas.{gathered-plain}
 use Rattle.data_encoding.proofs.digits.SizeLemmas.{IsSmall-group}
 use Rattle.data_encoding.proofs.tables.TableLemmas.{HoldsValues-seen}
@@ -12,7 +11,7 @@ use Rattle.data_encoding.proofs.encoding.EncodingRef.next_group.Goals.{then-rest
 pub returns-then-self : goal.returns-then-self
 returns-then-self g c =
     c.gather-gathered.ensures.first c.args.self.now
-    (HoldsValues-seen (plain_tables c.self.inside.fields.now) c.self.invariant c.args.self.now c.self.view_is)
+    (HoldsValues-seen _ c.self.invariant c.args.self.now c.self.view_is)
 
 pub returns : goal.returns
 returns g c =

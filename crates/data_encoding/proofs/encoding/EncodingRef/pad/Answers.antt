@@ -1,7 +1,6 @@
 use Rattle.std.proofs.Common.{◌-◌, ◌*◌, ◌++◌, is_some, length, sym, ap, ◌∙◌, arith, append-nil}
 use Rattle.std.proofs.lemmas.List.{drop_all}
 use Rattle.data_encoding.specs.Base.{is_padded}
-use Rattle.data_encoding.specs.PlainTables.{plain_tables}
 use Rattle.data_encoding.specs.Text.{plain_text}
 use Rattle.data_encoding.proofs.lists.PartLemmas.{length-rest}
 use Rattle.data_encoding.proofs.lists.RunLemmas.{run_count}
@@ -16,7 +15,7 @@ returns-in_default-clause-count g c =
     let none = ap is_padded (sym c.self.view_is) ∙ ap is_some (sym c.padding_character.ensures ∙ c.in_default.is) in
     c.requires.exact
     ∙ length-unpadded seen c.args.input.now
-    (IsWidth-seen (plain_tables c.self.inside.fields.now) c.self.invariant seen c.self.view_is) none
+    (IsWidth-seen _ c.self.invariant seen c.self.view_is) none
     ∙ ap (λ n. run_count n (8 * length c.args.input.now)) c.requires.width
 
 pub returns-in_default-clause-padding : goal.returns-in_default-clause-padding
@@ -25,14 +24,14 @@ returns-in_default-clause-padding g c =
     let none = ap is_padded (sym c.self.view_is) ∙ ap is_some (sym c.padding_character.ensures ∙ c.in_default.is) in
     let text = plain_text seen c.args.input.now in
     padded_text-unpadded seen c.args.input.now
-    (IsWidth-seen (plain_tables c.self.inside.fields.now) c.self.invariant seen c.self.view_is) none
+    (IsWidth-seen _ c.self.invariant seen c.self.view_is) none
     ∙ sym (append-nil text)
     ∙ ap (λ l. text ++ l)
     (sym (drop_all (length c.args.output.now) c.args.output.now (omega arith)))
 
 pub slice_bounds-fill-count : goal.slice_bounds-fill-count
 slice_bounds-fill-count g c =
-    count-inside (plain_tables c.self.inside.fields.now) c.self.invariant _ c.self.view_is c.args.input.now
+    count-inside _ c.self.invariant _ c.self.view_is c.args.input.now
     c.args.output.now c.requires.exact _
     (c.symbol_count-count.ensures
     ∙ ap (λ n. run_count n (8 * length c.args.input.now))
@@ -45,7 +44,7 @@ pub returns-clause-inside : goal.returns-clause-inside
 returns-clause-inside g c =
     let output = c.args.output.now in
     let count = c.symbol_count-count.result in
-    let inside = count-inside (plain_tables c.self.inside.fields.now) c.self.invariant _ c.self.view_is c.args.input.now
+    let inside = count-inside _ c.self.invariant _ c.self.view_is c.args.input.now
     output c.requires.exact count
     (c.symbol_count-count.ensures
     ∙ ap (λ n. run_count n (8 * length c.args.input.now))
@@ -56,7 +55,7 @@ returns-clause-inside g c =
 
 pub returns-clause-padding : goal.returns-clause-padding
 returns-clause-padding g c =
-    padding-written (plain_tables c.self.inside.fields.now) c.self.invariant _ c.self.view_is c.args.input.now
+    padding-written _ c.self.invariant _ c.self.view_is c.args.input.now
     c.args.output.now c.requires.exact _
     (c.symbol_count-count.ensures
     ∙ ap (λ n. run_count n (8 * length c.args.input.now))

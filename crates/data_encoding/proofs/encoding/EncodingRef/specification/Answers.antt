@@ -19,7 +19,7 @@ ascii_text-requires-2 c =
 
 pub ascii_text-requires-3 : goal.ascii_text-requires-3
 ascii_text-requires-3 c =
-    rw c.line_separator.ensures.value (separator-ascii (plain_tables c.self.inside.fields.now) c.self.invariant)
+    rw c.line_separator.ensures.value (separator-ascii _ c.self.invariant)
 
 pub ascii_text-requires-4 : goal.ascii_text-requires-4
 ascii_text-requires-4 c =
@@ -35,8 +35,8 @@ ascii_text-requires-5 c =
     subst (λ l. list_all (λ byte. nat_lt byte 128) l ≡ true)
     (sym (c.as_slice-3.ensures.value
     ∙ c.translations-translations.ensures.to base c.tables-tables.ensures.tables))
-    (owns-ascii base (symbols-seen (plain_tables c.self.inside.fields.now) c.self.invariant base c.self.view_is)
-    (padding-seen (plain_tables c.self.inside.fields.now) c.self.invariant base c.self.view_is) (translated_bytes base))
+    (owns-ascii base (symbols-seen _ c.self.invariant base c.self.view_is)
+    (padding-seen _ c.self.invariant base c.self.view_is) (translated_bytes base))
 
 pub returns : goal.returns
 returns c =
@@ -57,7 +57,7 @@ returns c =
         to = c.in_ok-ascii_text-5.field-0;
       };
     } in
-    rw (← c.self.view_is) (specified-is s e c.self.invariant (record {
+    rw (← c.self.view_is) (specified-is s _ c.self.invariant (record {
       symbols = c.in_ok-ascii_text.ensures ∙ sym has.symbols ∙ ap (λ (b : Base). b.symbols) view;
       order = c.order.ensures;
       checks = refl;
