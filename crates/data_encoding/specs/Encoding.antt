@@ -1,16 +1,29 @@
--- What a contract sees of an `Encoding`: the base of its tables.
-use Rattle.std.specs.Prelude.{◌≡◌, ℕ, zero, suc, ◌/◌, ◌%◌, ◌^◌, ◌<◌, ◌==◌, nat_lt, ◌||◌, not, IsTrue, List, [], length, map, replicate, take, drop, slice_index, Option, None, Some, is_some}
+-- What a contract sees of an encoding: the base of its tables.
+use Rattle.std.specs.Prelude.{◌≡◌, ℕ, zero, suc, Bool, ◌/◌, ◌%◌, ◌^◌, ◌<◌, ◌==◌, nat_lt, ◌||◌, not, IsTrue, List, [], length, map, replicate, take, drop, slice_index, Option, None, Some, is_some}
 use Rattle.std.specs.List.{concat, list_all, range_with_len}
-use Rattle.data_encoding.specs.declared.encoding.Encoding.TheInside.{Inside}
+use Rattle.data_encoding.specs.declared.encoding.BitOrder.{BitOrder}
 use Rattle.data_encoding.specs.Base.{Base, IsWidth, Wrapping, ignores_some, group_symbols}
 use Rattle.data_encoding.specs.Entries.{meaning_of_entry, is_entry_of}
+
+-- the tables, by which an encoding encodes and decodes
+pub record EncodingTables : Type 0 where
+  pub symbols : List ℕ
+  pub values : List ℕ
+  pub width : ℕ
+  pub order : BitOrder
+  pub checks_trailing_bits : Bool
+  pub concatenates : Bool
+  pub padding : Option ℕ
+  pub ignores : Bool
+  pub column : ℕ
+  pub separator : List ℕ
 
 -- lines of no characters are no lines
 abbrev pub wrapping_by : ℕ → List ℕ → Option Wrapping
 wrapping_by zero separator = None
 wrapping_by (suc n) separator = Some (record { column = suc n; separator = separator })
 
-abbrev pub base_of_tables : Inside → Base
+abbrev pub base_of_tables : EncodingTables → Base
 base_of_tables e = record {
   width = e.width;
   order = e.order;
@@ -19,7 +32,7 @@ base_of_tables e = record {
   concatenates = e.concatenates;
   padding = e.padding;
   meanings = map meaning_of_entry (take 128 e.values);
-  wrapping = wrapping_by e.column e.separator.items;
+  wrapping = wrapping_by e.column e.separator;
 }
 
 -- Without padding no byte means it; and padding is only where eight bits are no whole symbols.
@@ -39,7 +52,7 @@ KeepsWrapping (suc n) separator width values =
 -- A symbol has one to six bits, and no bits can be left over where eight are whole symbols. The
 -- symbols are ASCII, and fill their table again and again. Each has its own value; any other byte
 -- has the value of a symbol, or 128 to 130; each from 128 on has 128.
-pub record KeepsRules (e : Inside) : Type 0 where
+pub record KeepsRules (e : EncodingTables) : Type 0 where
   pub is_width : IsWidth e.width
   pub unpadded_concatenates : IsTrue (e.concatenates || is_some e.padding)
   pub whole_checked : IsTrue (e.checks_trailing_bits || not (8 % e.width == 0))
@@ -52,4 +65,4 @@ pub record KeepsRules (e : Inside) : Type 0 where
   pub invalid_from_128 : drop 128 e.values ≡ replicate 128 128
   pub padding : KeepsPadding e.padding e.width e.values
   pub ignores : e.ignores ≡ ignores_some (base_of_tables e)
-  pub wrapping : KeepsWrapping e.column e.separator.items e.width e.values
+  pub wrapping : KeepsWrapping e.column e.separator e.width e.values

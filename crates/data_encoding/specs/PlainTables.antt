@@ -2,8 +2,8 @@
 use Rattle.std.specs.Prelude.{ℕ, nat_lt, Bool, take, Option, Some, None, if◌then◌else◌}
 use Rattle.data_encoding.specs.declared.encoding.BitOrder.{BitOrder}
 use Rattle.data_encoding.specs.declared.encoding.BitOrder.TheVariants.{MostSignificantFirst, LeastSignificantFirst}
-use Rattle.data_encoding.specs.declared.encoding.Encoding.TheInside.{Inside}
 use Rattle.data_encoding.specs.declared.plain.PlainFields.{PlainFields}
+use Rattle.data_encoding.specs.Encoding.{EncodingTables}
 
 abbrev pub order_by : Bool → BitOrder
 order_by least = if least then LeastSignificantFirst else MostSignificantFirst
@@ -13,7 +13,7 @@ abbrev pub padding_by : ℕ → Option ℕ
 padding_by entry = if nat_lt entry 128 then Some entry else None
 
 -- the tables that plain fields stand for
-abbrev pub plain_tables : PlainFields → Inside
+abbrev pub plain_tables : PlainFields → EncodingTables
 plain_tables f = record {
   symbols = f.symbols;
   values = f.values;
@@ -24,5 +24,5 @@ plain_tables f = record {
   padding = padding_by f.padding;
   ignores = f.ignores;
   column = f.column;
-  separator = record { items = take f.separator_len f.separator };
+  separator = take f.separator_len f.separator;
 }

@@ -2,8 +2,6 @@
 use Rattle.std.specs.Prelude.{ℕ, Bool, true, false, List, [], ◌∷◌, codes, Some, None}
 use Rattle.data_encoding.specs.declared.encoding.BitOrder.{BitOrder}
 use Rattle.data_encoding.specs.declared.encoding.BitOrder.TheVariants.{MostSignificantFirst, LeastSignificantFirst}
-use Rattle.data_encoding.specs.declared.encoding.Encoding.TheInside.{Inside}
-use Rattle.data_encoding.specs.declared.specification.predefined.Predefined.{Predefined}
 use Rattle.data_encoding.specs.Fields.{Fields}
 
 -- symbols alone
@@ -98,18 +96,3 @@ base64url_nopad_fields =
 
 abbrev pub base64url_fields : Fields
 base64url_fields = padded_fields base64url_nopad_fields
-
--- the tables of an encoding that is kept as constants
-abbrev pub tables_of : Predefined → Inside
-tables_of kept = record {
-  symbols = kept.symbols.now;
-  values = kept.values.now;
-  width = kept.width;
-  order = kept.order;
-  checks_trailing_bits = kept.checks_trailing_bits;
-  concatenates = kept.concatenates;
-  padding = kept.padding;
-  ignores = kept.ignores;
-  column = kept.column;
-  separator = record { items = kept.separator.now };
-}

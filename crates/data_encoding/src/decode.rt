@@ -13,7 +13,7 @@ ghost use Rattle.data_encoding.specs.Grammar.{Means, kept};
 ghost use Rattle.data_encoding.specs.Lengths.{decoded_len};
 ghost use Rattle.data_encoding.specs.Partial.{is_length_fault, partial_of};
 
-use crate::encoding::Encoding;
+use crate::encoding::{Encoding, EncodingRef};
 use crate::error::{DecodeError, DecodeFault, DecodeKind, DecodePartial};
 use crate::kernel::group_size::{Base2, Base4, Base8, Base16, Base32, Base64, GroupSize};
 use crate::memory::zeros;
@@ -58,6 +58,66 @@ impl Encoding {
     /// that were written: those of the groups before the faulty one and, where a last group is too
     /// short and bytes are ignored, of its symbols that stand in a row, where they are valid. What
     /// stands in the output after these is not said.
+    pub fn decode_mut(&self, input: &[u8], output: &mut [u8]) -> Result<usize, DecodePartial>
+        requires limit { length input.now ≤ DECODE_LIMIT }
+        requires exact { decoded_len self.now (length input.now) ≡ Ok (length output.old) }
+        ensures decoded { IfOk result (λ n. (n ≤ length output.new)
+            × Means self.now input.now (take n output.new)) }
+        ensures sound { IfOk result (λ n. (fault_of self.now input.now ≡ None)
+            × (sound_bytes self.now input.now ≡ take n output.new)) }
+        ensures accepted { (bytes : List ℕ) → Means self.now input.now bytes → IsOk result }
+        ensures fault { IfErr result (λ partial. partial_of self.now input.now ≡ Some partial) }
+        ensures partial { IfErr result (λ partial. Means self.now (take partial.read input.now)
+            (take partial.written output.new)) }
+        ensures bounds { IfErr result (λ partial. (partial.read ≤ partial.error.position)
+            × (partial.error.position < length input.now)) }
+        ensures most { IfErr result (λ partial. IsOkAnd (decoded_len self.now partial.read)
+            (λ most. partial.written ≤ most)) }
+        ensures len { length output.new ≡ length output.old }
+    {
+        self.by_ref().decode_mut(input, output)
+    }
+
+    /// The data that the text, of at most `DECODE_LIMIT` bytes, means.
+    ///
+    /// Concatenated padded texts decode as one, where the encoding allows it. A text that means
+    /// nothing has one fault: its length is judged first; then the first faulty group decides, its
+    /// padding before its symbols. Out of memory is reported only for a text of a valid length that
+    /// may mean one byte or more.
+    pub fn decode(&self, alloc: Global, input: &[u8]) -> Result<Vec<u8>, DecodeFault>
+        requires limit { length input.now ≤ DECODE_LIMIT }
+        ensures means { IfOk result (λ bytes. Means self.now input.now bytes.items) }
+        ensures sound { IfOk result (λ bytes. (fault_of self.now input.now ≡ None)
+            × (sound_bytes self.now input.now ≡ bytes.items)) }
+        ensures refusal { IfErr result (IsRefusal self.now input.now) }
+        ensures accepted { (bytes : List ℕ) → Means self.now input.now bytes
+            → IsOk result ⊎ (result ≡ Err DecodeFault.OutOfMemory) }
+        ensures position { (error : DecodeError) → result ≡ Err (DecodeFault.Error error)
+            → error.position < length input.now }
+    {
+        let len = self.decode_len(input.len())?;
+        let mut output = zeros(alloc, len)?;
+        match self.decode_mut(input, &mut output) {
+            Ok(count) => {
+                output.truncate(count);
+                Ok(output)
+            }
+            Err(partial) => Err(DecodeFault::Error(partial.error)),
+        }
+    }
+}
+
+impl EncodingRef<'_> {
+    /// Writes the data that the text means to the front of `output`, which has exactly
+    /// `decode_len` of the text's length, and returns how many bytes they are. The text has at most
+    /// `DECODE_LIMIT` bytes.
+    ///
+    /// Concatenated padded texts decode as one, where the encoding allows it. A text that means
+    /// nothing has one fault. Of it, the beginning that was read means the bytes
+    /// that were written: those of the groups before the faulty one and, where a last group is too
+    /// short and bytes are ignored, of its symbols that stand in a row, where they are valid. What
+    /// stands in the output after these is not said.
+    #[inline(always)]
     pub fn decode_mut(&self, input: &[u8], output: &mut [u8]) -> Result<usize, DecodePartial>
         requires limit { length input.now ≤ DECODE_LIMIT }
         requires exact { decoded_len self.now (length input.now) ≡ Ok (length output.old) }
@@ -126,7 +186,7 @@ impl Encoding {
             × IsLastRun self.now rest.now written output.new) }
         ensures none { result ≡ None → HasNoLastRun self.now rest.now }
     {
-        match self.width {
+        match self.fields.width {
             1 => self.decode_last_run::<Base2>(rest, output),
             2 => self.decode_last_run::<Base4>(rest, output),
             3 => self.decode_last_run::<Base8>(rest, output),
@@ -152,37 +212,9 @@ impl Encoding {
         if len > G::SYMBOLS {
             return None;
         }
-        match self.decode_group::<G>(self.order, &rest[..len], output) {
+        match self.decode_group::<G>(self.fields.order(), &rest[..len], output) {
             Ok(count) => Some(G::WIDTH * count / 8),
             Err(_) => None,
-        }
-    }
-
-    /// The data that the text, of at most `DECODE_LIMIT` bytes, means.
-    ///
-    /// Concatenated padded texts decode as one, where the encoding allows it. A text that means
-    /// nothing has one fault: its length is judged first; then the first faulty group decides, its
-    /// padding before its symbols. Out of memory is reported only for a text of a valid length that
-    /// may mean one byte or more.
-    pub fn decode(&self, alloc: Global, input: &[u8]) -> Result<Vec<u8>, DecodeFault>
-        requires limit { length input.now ≤ DECODE_LIMIT }
-        ensures means { IfOk result (λ bytes. Means self.now input.now bytes.items) }
-        ensures sound { IfOk result (λ bytes. (fault_of self.now input.now ≡ None)
-            × (sound_bytes self.now input.now ≡ bytes.items)) }
-        ensures refusal { IfErr result (IsRefusal self.now input.now) }
-        ensures accepted { (bytes : List ℕ) → Means self.now input.now bytes
-            → IsOk result ⊎ (result ≡ Err DecodeFault.OutOfMemory) }
-        ensures position { (error : DecodeError) → result ≡ Err (DecodeFault.Error error)
-            → error.position < length input.now }
-    {
-        let len = self.decode_len(input.len())?;
-        let mut output = zeros(alloc, len)?;
-        match self.decode_mut(input, &mut output) {
-            Ok(count) => {
-                output.truncate(count);
-                Ok(output)
-            }
-            Err(partial) => Err(DecodeFault::Error(partial.error)),
         }
     }
 }

@@ -14,7 +14,7 @@ ghost use Rattle.data_encoding.specs.Lengths.{alignment};
 ghost use Rattle.data_encoding.specs.Tables.{Writes};
 ghost use Rattle.data_encoding.specs.Text.{padded_text, plain_text, text_of};
 
-use crate::encoding::{Encoding, group_bytes};
+use crate::encoding::{Encoding, EncodingRef, group_bytes};
 use crate::kernel::encode::encode_plain;
 use crate::kernel::group_size::{Base2, Base4, Base8, Base16, Base32, Base64, GroupSize};
 use crate::memory::zeros;
@@ -36,24 +36,7 @@ impl Encoding {
         ensures empty { len ≡ 0 → result ≡ 0 }
         ensures base { IsSpecified self.now }
     {
-        let count = self.padded_len(len);
-        if self.column == 0 {
-            return count;
-        }
-        count + count.div_ceil(self.column as usize) * self.separator.len()
-    }
-
-    // The same without separators.
-    fn padded_len(&self, len: usize) -> usize
-        requires limit { len ≤ ENCODE_LIMIT }
-        ensures length { (bytes : List ℕ) → length bytes ≡ len
-            → length (padded_text self.now bytes) ≡ result }
-        ensures empty { len ≡ 0 → result ≡ 0 }
-    {
-        if self.padding.is_none() {
-            return symbol_count(self.width, len);
-        }
-        filled_count(self.width, len)
+        self.by_ref().encode_len(len)
     }
 
     /// The bytes of data of a whole group of symbols, or of a whole line.
@@ -66,10 +49,7 @@ impl Encoding {
         ensures most { result ≤ 189 }
         ensures base { IsSpecified self.now }
     {
-        if self.column != 0 {
-            return self.column as usize * self.width as usize / 8;
-        }
-        group_bytes(self.width) as usize
+        self.by_ref().encode_align()
     }
 
     /// Writes the text of the data into `output`, which has exactly its length: `encode_len` of the
@@ -80,16 +60,7 @@ impl Encoding {
         ensures text { output.new ≡ text_of self.now input.now }
         ensures ascii { All (λ byte. byte < 128) output.new }
     {
-        // The width is then a constant, and with it the sizes of a group: loops over a group are
-        // unrolled.
-        match self.width {
-            1 => self.encode_by_width::<Base2>(input, output),
-            2 => self.encode_by_width::<Base4>(input, output),
-            3 => self.encode_by_width::<Base8>(input, output),
-            4 => self.encode_by_width::<Base16>(input, output),
-            5 => self.encode_by_width::<Base32>(input, output),
-            _ => self.encode_by_width::<Base64>(input, output),
-        }
+        self.by_ref().encode_mut(input, output);
     }
 
     /// Does what `encode_mut` does, on the same conditions, and returns the output as text.
@@ -115,6 +86,76 @@ impl Encoding {
         self.encode_mut(input, &mut output);
         Ok(unsafe { String::from_utf8_unchecked(output) })
     }
+}
+
+impl EncodingRef<'_> {
+    /// The length of the text of `len` bytes of data, at most `ENCODE_LIMIT`, with its padding and
+    /// the separators of its lines: at most 263 for each byte.
+    #[inline(always)]
+    pub fn encode_len(&self, len: usize) -> usize
+        requires limit { len ≤ ENCODE_LIMIT }
+        ensures length { (bytes : List ℕ) → length bytes ≡ len
+            → length (text_of self.now bytes) ≡ result }
+        ensures most { result ≤ 263 * len }
+        ensures empty { len ≡ 0 → result ≡ 0 }
+        ensures base { IsSpecified self.now }
+    {
+        let count = self.padded_len(len);
+        if self.fields.column == 0 {
+            return count;
+        }
+        count + count.div_ceil(self.fields.column as usize) * self.fields.line_separator_len()
+    }
+
+    // The same without separators.
+    fn padded_len(&self, len: usize) -> usize
+        requires limit { len ≤ ENCODE_LIMIT }
+        ensures length { (bytes : List ℕ) → length bytes ≡ len
+            → length (padded_text self.now bytes) ≡ result }
+        ensures empty { len ≡ 0 → result ≡ 0 }
+    {
+        if self.fields.is_padded() {
+            return filled_count(self.fields.width, len);
+        }
+        symbol_count(self.fields.width, len)
+    }
+
+    /// The bytes of data of a whole group of symbols, or of a whole line.
+    ///
+    /// The texts of data may be joined where the length of all but the last is a multiple of it. It
+    /// is from 1 to 189.
+    pub(crate) fn encode_align(&self) -> usize
+        ensures value { result ≡ alignment self.now }
+        ensures some { 0 < result }
+        ensures most { result ≤ 189 }
+        ensures base { IsSpecified self.now }
+    {
+        if self.fields.column != 0 {
+            return self.fields.column as usize * self.fields.width as usize / 8;
+        }
+        group_bytes(self.fields.width) as usize
+    }
+
+    /// Writes the text of the data into `output`, which has exactly its length: `encode_len` of the
+    /// data's, which is at most `ENCODE_LIMIT`.
+    #[inline(always)]
+    pub fn encode_mut(&self, input: &[u8], output: &mut [u8])
+        requires limit { length input.now ≤ ENCODE_LIMIT }
+        requires exact { length output.old ≡ length (text_of self.now input.now) }
+        ensures text { output.new ≡ text_of self.now input.now }
+        ensures ascii { All (λ byte. byte < 128) output.new }
+    {
+        // The width is then a constant, and with it the sizes of a group: loops over a group are
+        // unrolled.
+        match self.fields.width {
+            1 => self.encode_by_width::<Base2>(input, output),
+            2 => self.encode_by_width::<Base4>(input, output),
+            3 => self.encode_by_width::<Base8>(input, output),
+            4 => self.encode_by_width::<Base16>(input, output),
+            5 => self.encode_by_width::<Base32>(input, output),
+            _ => self.encode_by_width::<Base64>(input, output),
+        }
+    }
 
     fn encode_by_width<G: GroupSize>(&self, input: &[u8], output: &mut [u8])
         requires width { self.now.width ≡ G.WIDTH }
@@ -122,7 +163,7 @@ impl Encoding {
         requires exact { length output.old ≡ length (text_of self.now input.now) }
         ensures { output.new ≡ text_of self.now input.now }
     {
-        if self.column == 0 {
+        if self.fields.column == 0 {
             self.encode_padded::<G>(input, output);
         } else {
             self.encode_lines::<G>(input, output);
@@ -138,7 +179,12 @@ impl Encoding {
         ensures { output.new ≡ padded_text self.now input.now }
     {
         let count = self.pad::<G>(input, output);
-        encode_plain::<G>(&self.symbols, self.order, input, &mut output[..count]);
+        encode_plain::<G>(
+            &self.fields.symbols,
+            self.fields.order(),
+            input,
+            &mut output[..count],
+        );
     }
 
     // Writes the padding of the text to the end of `output`, and returns how many symbols come
@@ -153,7 +199,7 @@ impl Encoding {
         ensures padding { padded_text self.now input.now
             ≡ plain_text self.now input.now ++ drop result output.new }
     {
-        let Some(character) = self.padding else {
+        let Some(character) = self.fields.padding_character() else {
             return output.len();
         };
         let count = symbol_count(G::WIDTH as u8, input.len());

@@ -1,10 +1,10 @@
 //! Encodings, and the words that describe them.
 
-ghost use Rattle.std.specs.Prelude.{◌≡◌, ◌<◌, ◌≤◌, length, MatchResult};
+ghost use Rattle.std.specs.Prelude.{◌≡◌, ◌<◌, ◌≤◌, MatchResult};
 ghost use Rattle.data_encoding.specs.Base.{IsWidth, group_bytes, group_symbols, ignores_some, is_ignored, is_invalid, is_padding, meaning, value_of};
 ghost use Rattle.data_encoding.specs.Fields.{IsSpecified};
 
-use arrayvec::ArrayVec;
+use crate::plain::PlainFields;
 use std::alloc::AllocError;
 use std::marker::Model;
 
@@ -80,28 +80,7 @@ impl Character {
 /// An encoding: how data is written as text, and which texts are data.
 #[derive(Debug, Drop)]
 pub struct Encoding {
-    // The symbols in order of value, again and again.
-    pub(crate) symbols: [u8; 256],
-
-    // The value of each symbol and of each byte that is translated to it; 128 for a byte that is
-    // nothing, 129 for one that is ignored, and 130 for padding.
-    pub(crate) values: [u8; 256],
-
-    pub(crate) width: u8,
-    pub(crate) order: BitOrder,
-    pub(crate) checks_trailing_bits: bool,
-
-    // Whether a text may go on after a padded group.
-    pub(crate) concatenates: bool,
-
-    pub(crate) padding: Option<u8>,
-
-    // Whether a byte is ignored, as the table of values tells.
-    pub(crate) ignores: bool,
-
-    // The length of a line, or 0, and what follows each line.
-    pub(crate) column: u8,
-    pub(crate) separator: ArrayVec<u8, 255>,
+    pub(crate) fields: PlainFields,
 }
 
 impl Model for Encoding {
@@ -110,20 +89,74 @@ impl Model for Encoding {
     ghost Value = { Base };
 
     ghost use Rattle.data_encoding.specs.Encoding.{base_of_tables, KeepsRules};
+    ghost use Rattle.data_encoding.specs.PlainTables.{plain_tables};
 
-    ghost view = { base_of_tables };
+    ghost view = { λ encoding. base_of_tables (plain_tables encoding.fields) };
 
-    ghost invariant = { KeepsRules };
+    ghost invariant = { λ encoding. KeepsRules (plain_tables encoding.fields) };
+}
+
+/// An encoding whose tables stand elsewhere: in an [`Encoding`], in a
+/// [`PlainEncoding`](crate::PlainEncoding) or, of a predefined encoding, in the program. It is one
+/// pointer: making one copies nothing.
+#[derive(Debug, Drop)]
+pub struct EncodingRef<'a> {
+    pub(crate) fields: &'a PlainFields,
+}
+
+impl<'a> Model for EncodingRef<'a> {
+    ghost use Rattle.data_encoding.specs.Base.{Base};
+
+    ghost Value = { Base };
+
+    ghost use Rattle.data_encoding.specs.Encoding.{base_of_tables, KeepsRules};
+    ghost use Rattle.data_encoding.specs.PlainTables.{plain_tables};
+
+    ghost view = { λ encoding. base_of_tables (plain_tables encoding.fields.now) };
+
+    ghost invariant = { λ encoding. KeepsRules (plain_tables encoding.fields.now) };
+}
+
+impl EncodingRef<'_> {
+    /// A copy of the tables.
+    #[inline]
+    pub fn encoding(&self) -> Encoding
+        ensures { result ≡ self.now }
+    {
+        Encoding {
+            fields: *self.fields,
+        }
+    }
+
+    /// The number of bits of a symbol, from 1 to 6.
+    #[inline(always)]
+    pub fn bit_width(&self) -> usize
+        ensures value { result ≡ self.now.width }
+        ensures width { IsWidth result }
+        ensures base { IsSpecified self.now }
+    {
+        self.fields.width as usize
+    }
 }
 
 impl Encoding {
+    /// The encoding by reference.
+    #[inline(always)]
+    pub fn by_ref(&self) -> EncodingRef<'_>
+        ensures { result ≡ self.now }
+    {
+        EncodingRef {
+            fields: &self.fields,
+        }
+    }
+
     /// The number of bits of a symbol, from 1 to 6.
     pub fn bit_width(&self) -> usize
         ensures value { result ≡ self.now.width }
         ensures width { IsWidth result }
         ensures base { IsSpecified self.now }
     {
-        self.width as usize
+        self.by_ref().bit_width()
     }
 
     /// The number of symbols of a whole group, the fewest of which the bits are whole bytes: 2, 4
@@ -132,28 +165,28 @@ impl Encoding {
         ensures value { result ≡ group_symbols self.now.width }
         ensures base { IsSpecified self.now }
     {
-        group_symbols(self.width) as usize
+        group_symbols(self.fields.width) as usize
     }
 
     /// Whether a byte is ignored.
     pub fn ignores_bytes(&self) -> bool
         ensures { result ≡ ignores_some self.now }
     {
-        self.ignores
+        self.fields.ignores
     }
 
     /// Whether a text may go on after a padded group. Without padding any text may.
     pub fn concatenates(&self) -> bool
         ensures { result ≡ self.now.concatenates }
     {
-        self.concatenates
+        self.fields.concatenates
     }
 
     /// What a byte means in a text.
     pub fn interpret_byte(&self, byte: u8) -> Character
         ensures { result ≡ meaning self.now byte }
     {
-        let entry = self.values[byte as usize];
+        let entry = self.fields.values[byte as usize];
         if entry < 64 {
             Character::Symbol {
                 value: entry as usize,
@@ -203,28 +236,9 @@ impl Clone for Encoding {
         ensures cases { MatchResult result (λ copy. copy ≡ self.now) (λ _. ⊥) }
     {
         Ok(Encoding {
-            symbols: self.symbols,
-            values: self.values,
-            width: self.width,
-            order: self.order,
-            checks_trailing_bits: self.checks_trailing_bits,
-            concatenates: self.concatenates,
-            padding: self.padding,
-            ignores: self.ignores,
-            column: self.column,
-            separator: copied(self.separator.as_slice()),
+            fields: self.fields,
         })
     }
-}
-
-// The bytes as an owned list.
-pub(crate) fn copied(bytes: &[u8]) -> ArrayVec<u8, 255>
-    requires { length bytes.now ≤ 255 }
-    ensures { result ≡ record { items = bytes.now } }
-{
-    let mut copy = ArrayVec::new();
-    copy.try_extend_from_slice(bytes).unwrap();
-    copy
 }
 
 impl PartialEq for Encoding {
@@ -246,26 +260,26 @@ impl PartialEq for Encoding {
     {
         // The small fields first: encodings mostly differ there.
         let one = (
-            self.width,
-            self.order,
-            self.checks_trailing_bits,
-            self.concatenates,
-            self.padding,
-            self.column,
+            self.fields.width,
+            self.fields.order(),
+            self.fields.checks_trailing_bits,
+            self.fields.concatenates,
+            self.fields.padding_character(),
+            self.fields.column,
         );
         let another = (
-            other.width,
-            other.order,
-            other.checks_trailing_bits,
-            other.concatenates,
-            other.padding,
-            other.column,
+            other.fields.width,
+            other.fields.order(),
+            other.fields.checks_trailing_bits,
+            other.fields.concatenates,
+            other.fields.padding_character(),
+            other.fields.column,
         );
         // At most 64 symbols repeat, and no byte from 128 on has a value.
         one == another
-            && self.symbols[..64] == other.symbols[..64]
-            && self.values[..128] == other.values[..128]
-            && self.separator.as_slice() == other.separator.as_slice()
+            && self.fields.symbols[..64] == other.fields.symbols[..64]
+            && self.fields.values[..128] == other.fields.values[..128]
+            && self.fields.line_separator() == other.fields.line_separator()
     }
 }
 

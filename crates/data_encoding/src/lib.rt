@@ -19,14 +19,18 @@ pub use decode::DECODE_LIMIT;
 pub use encode::ENCODE_LIMIT;
 pub use encode::display::Display;
 pub use encode::encoder::Encoder;
-pub use encoding::{BitOrder, Character, Encoding};
+pub use encoding::{BitOrder, Character, Encoding, EncodingRef};
 pub use error::{DecodeError, DecodeFault, DecodeKind, DecodePartial};
 pub use plain::PlainEncoding;
 pub use specification::meanings::Refusal;
 pub use specification::parts::SpecificationParts;
 pub use specification::predefined::{
-    base32, base32_dnscurve, base32_dnssec, base32_nopad, base32_nopad_nocase, base32_nopad_visual,
-    base32hex, base32hex_nopad, base64, base64_mime, base64_mime_permissive, base64_nopad,
-    base64url, base64url_nopad, hexlower, hexlower_permissive, hexupper, hexupper_permissive,
+    base32, base32_dnscurve, base32_dnscurve_ref, base32_dnssec, base32_dnssec_ref, base32_nopad,
+    base32_nopad_nocase, base32_nopad_nocase_ref, base32_nopad_ref, base32_nopad_visual,
+    base32_nopad_visual_ref, base32_ref, base32hex, base32hex_nopad, base32hex_nopad_ref,
+    base32hex_ref, base64, base64_mime, base64_mime_permissive, base64_mime_permissive_ref,
+    base64_mime_ref, base64_nopad, base64_nopad_ref, base64_ref, base64url, base64url_nopad,
+    base64url_nopad_ref, base64url_ref, hexlower, hexlower_permissive, hexlower_permissive_ref,
+    hexlower_ref, hexupper, hexupper_permissive, hexupper_permissive_ref, hexupper_ref,
 };
 pub use specification::{Specification, SpecificationError, Translate, Wrap};

@@ -1,33 +1,98 @@
-//! Encodings as plain data, which cross to C.
+//! The tables of an encoding as plain data, which cross to C.
 
-ghost use Rattle.std.specs.Prelude.{◌≡◌, ◌<◌, ◌≤◌, length, take, IfSome};
+ghost use Rattle.std.specs.Prelude.{◌≡◌, ◌≤◌, length, is_some, take};
 ghost use Rattle.data_encoding.specs.Encoding.{KeepsRules};
 ghost use Rattle.data_encoding.specs.PlainTables.{order_by, padding_by, plain_tables};
 
-use crate::encoding::{BitOrder, Encoding, INVALID, copied};
-use crate::specification::layout::padding_of;
+use crate::encoding::{BitOrder, Encoding, EncodingRef};
 
 // The tables of an encoding, with numbers in place of what does not cross to C.
 #[repr(C)]
 #[derive(Clone, Copy, Debug, Drop)]
 pub struct PlainFields {
-    symbols: [u8; 256],
-    values: [u8; 256],
+    // The symbols in order of value, again and again.
+    pub(crate) symbols: [u8; 256],
 
-    // The separator at the front, and its length.
-    separator: [u8; 255],
-    separator_len: u8,
+    // The value of each symbol and of each byte that is translated to it; 128 for a byte that is
+    // nothing, 129 for one that is ignored, and 130 for padding.
+    pub(crate) values: [u8; 256],
 
-    width: u8,
-    column: u8,
+    // What follows each line, at the front, and its length.
+    pub(crate) separator: [u8; 255],
+    pub(crate) separator_len: u8,
+
+    pub(crate) width: u8,
+
+    // The length of a line, or 0.
+    pub(crate) column: u8,
 
     // The padding character, or 128.
-    padding: u8,
+    pub(crate) padding: u8,
 
-    least_significant_first: bool,
-    checks_trailing_bits: bool,
-    concatenates: bool,
-    ignores: bool,
+    pub(crate) least_significant_first: bool,
+    pub(crate) checks_trailing_bits: bool,
+
+    // Whether a text may go on after a padded group.
+    pub(crate) concatenates: bool,
+
+    // Whether a byte is ignored, as the table of values tells.
+    pub(crate) ignores: bool,
+}
+
+impl PlainFields {
+    // The order of the bits.
+    #[inline(always)]
+    pub(crate) fn order(&self) -> BitOrder
+        ensures { result ≡ order_by self.now.least_significant_first }
+    {
+        if self.least_significant_first {
+            BitOrder::LeastSignificantFirst
+        } else {
+            BitOrder::MostSignificantFirst
+        }
+    }
+
+    // The padding character.
+    #[inline(always)]
+    pub(crate) fn padding_character(&self) -> Option<u8>
+        ensures { result ≡ padding_by self.now.padding }
+    {
+        padding_of(self.padding)
+    }
+
+    // Whether there is a padding character.
+    #[inline(always)]
+    pub(crate) fn is_padded(&self) -> bool
+        ensures { result ≡ is_some (padding_by self.now.padding) }
+    {
+        self.padding < 128
+    }
+
+    // What follows each line.
+    #[inline(always)]
+    pub(crate) fn line_separator(&self) -> &[u8]
+        ensures value { result.now ≡ take self.now.separator_len self.now.separator }
+        ensures few { length result.now ≤ 255 }
+    {
+        &self.separator[..self.separator_len as usize]
+    }
+
+    // The length of what follows each line.
+    #[inline(always)]
+    pub(crate) fn line_separator_len(&self) -> usize
+        ensures value { result ≡ length (take self.now.separator_len self.now.separator) }
+        ensures few { result ≤ 255 }
+    {
+        self.separator_len as usize
+    }
+}
+
+// The padding character of its entry.
+#[inline(always)]
+pub(crate) fn padding_of(entry: u8) -> Option<u8>
+    ensures { result ≡ padding_by entry }
+{
+    if entry < 128 { Some(entry) } else { None }
 }
 
 /// An encoding as plain data.
@@ -41,23 +106,21 @@ pub struct PlainEncoding {
 impl PlainEncoding {
     ghost use Rattle.data_encoding.specs.Plain.{base_of_plain};
 
-    /// The encoding.
+    /// The encoding by reference.
+    #[inline(always)]
+    pub fn by_ref(&self) -> EncodingRef<'_>
+        ensures { result ≡ base_of_plain self.now }
+    {
+        EncodingRef {
+            fields: &self.fields,
+        }
+    }
+
+    /// The encoding, with a copy of the tables.
     pub fn encoding(&self) -> Encoding
         ensures { result ≡ base_of_plain self.now }
     {
-        let fields = &self.fields;
-        Encoding {
-            symbols: fields.symbols,
-            values: fields.values,
-            width: fields.width,
-            order: order_of(fields.least_significant_first),
-            checks_trailing_bits: fields.checks_trailing_bits,
-            concatenates: fields.concatenates,
-            padding: padding_of(fields.padding),
-            ignores: fields.ignores,
-            column: fields.column,
-            separator: copied(&fields.separator[..fields.separator_len as usize]),
-        }
+        self.by_ref().encoding()
     }
 }
 
@@ -69,61 +132,7 @@ impl Encoding {
         ensures { base_of_plain result ≡ self.now }
     {
         PlainEncoding {
-            fields: PlainFields {
-                symbols: self.symbols,
-                values: self.values,
-                separator: filled(self.separator.as_slice()),
-                separator_len: self.separator.len() as u8,
-                width: self.width,
-                column: self.column,
-                padding: padding_entry(self.padding),
-                least_significant_first: is_least_first(self.order),
-                checks_trailing_bits: self.checks_trailing_bits,
-                concatenates: self.concatenates,
-                ignores: self.ignores,
-            },
+            fields: self.fields,
         }
-    }
-}
-
-// The bytes, followed by zeros.
-fn filled(bytes: &[u8]) -> [u8; 255]
-    requires { length bytes.now ≤ 255 }
-    ensures { take (length bytes.now) result ≡ bytes.now }
-{
-    let mut room = [0; 255];
-    room[..bytes.len()].copy_from_slice(bytes);
-    room
-}
-
-// Whether the bit of weight 1 comes first.
-fn is_least_first(order: BitOrder) -> bool
-    ensures { order_by result ≡ order }
-{
-    match order {
-        BitOrder::LeastSignificantFirst => true,
-        BitOrder::MostSignificantFirst => false,
-    }
-}
-
-// The padding character, or 128.
-fn padding_entry(padding: Option<u8>) -> u8
-    requires { IfSome padding (λ character. character < 128) }
-    ensures { padding_by result ≡ padding }
-{
-    match padding {
-        Some(character) => character,
-        None => INVALID,
-    }
-}
-
-// The order of the bits.
-fn order_of(least_significant_first: bool) -> BitOrder
-    ensures { result ≡ order_by least_significant_first }
-{
-    if least_significant_first {
-        BitOrder::LeastSignificantFirst
-    } else {
-        BitOrder::MostSignificantFirst
     }
 }

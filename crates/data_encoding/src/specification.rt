@@ -17,7 +17,7 @@ ghost use Rattle.data_encoding.specs.Printed.{printed_refusal};
 ghost use Rattle.data_encoding.specs.Tables.{HasTables};
 ghost use Rattle.data_encoding.specs.Specification.{specified, no_fields, refusal_of, SameTranslate, SameWrap};
 
-use crate::encoding::{BitOrder, Encoding};
+use crate::encoding::{BitOrder, Encoding, EncodingRef};
 use crate::specification::meanings::Refusal;
 use crate::specification::parts::SpecificationParts;
 use crate::specification::tables::{Tables, character, symbol_count};
@@ -165,18 +165,30 @@ impl Encoding {
     pub fn specification(&self, alloc: Global) -> Result<Specification, AllocError>
         ensures { IfOk result (λ specification. specified specification ≡ fields_of self.now) }
     {
+        self.by_ref().specification(alloc)
+    }
+}
+
+impl EncodingRef<'_> {
+    /// A specification that builds the encoding again. The only error is that memory ran out.
+    ///
+    /// Its ignored bytes are in order; and so are its translations, one for each byte that means a
+    /// symbol or padding and is another byte.
+    pub fn specification(&self, alloc: Global) -> Result<Specification, AllocError>
+        ensures { IfOk result (λ specification. specified specification ≡ fields_of self.now) }
+    {
         let tables = self.tables();
         let translations = tables.translations();
         Ok(Specification {
             symbols: ascii_text(alloc, tables.symbols)?,
-            bit_order: self.order,
-            check_trailing_bits: self.checks_trailing_bits,
-            concatenate: self.concatenates,
-            padding: character(self.padding),
+            bit_order: self.fields.order(),
+            check_trailing_bits: self.fields.checks_trailing_bits,
+            concatenate: self.fields.concatenates,
+            padding: character(self.fields.padding_character()),
             ignore: ascii_text(alloc, tables.ignored().as_slice())?,
             wrap: Wrap {
-                width: self.column as usize,
-                separator: ascii_text(alloc, self.separator.as_slice())?,
+                width: self.fields.column as usize,
+                separator: ascii_text(alloc, self.fields.line_separator())?,
             },
             translate: Translate {
                 from: ascii_text(alloc, translations.from.as_slice())?,
@@ -192,9 +204,9 @@ impl Encoding {
         ensures ascii { IsTrue (list_all (λ symbol. nat_lt symbol 128) result.symbols.now) }
     {
         Tables {
-            symbols: &self.symbols[..symbol_count(self.width)],
-            values: &self.values[..128],
-            padding: self.padding,
+            symbols: &self.fields.symbols[..symbol_count(self.fields.width)],
+            values: &self.fields.values[..128],
+            padding: self.fields.padding_character(),
         }
     }
 }

@@ -2,10 +2,9 @@
 use Rattle.std.proofs.Common.{◌≡◌, ℕ, zero, suc, ◌%◌, ◌/◌, ◌^◌, ◌<◌, ◌==◌, Bool, true, false, ◌||◌, cond, List, [], ◌++◌, length, map, take, replicate, Option, Some, None, is_none, IfSome, Result, Ok, refl, sym, ap, ◌∙◌, arith}
 use Rattle.std.specs.List.{concat, list_any}
 use Rattle.data_encoding.specs.declared.encoding.Character.{Character}
-use Rattle.data_encoding.specs.declared.encoding.Encoding.TheInside.{Inside}
 use Rattle.data_encoding.specs.declared.specification.meanings.Refusal.{Refusal}
 use Rattle.data_encoding.specs.Base.{Base, IsWidth, is_ignored}
-use Rattle.data_encoding.specs.Encoding.{KeepsRules, base_of_tables, wrapping_by}
+use Rattle.data_encoding.specs.Encoding.{EncodingTables, KeepsRules, base_of_tables, wrapping_by}
 use Rattle.data_encoding.specs.Entries.{HoldsEntries, meaning_of_entry}
 use Rattle.data_encoding.specs.Fields.{Fields, Judgement, base_of, base_with, ignored_judgements, judgements, meanings_after, no_meanings, padding_judgements, symbol_judgements, translation_judgements, width_of, wrapping_judgements, wraps}
 use Rattle.data_encoding.proofs.judgement.JudgementLemmas.{Judged, meanings_after-append}
@@ -131,7 +130,7 @@ lines-short base true column separator rule h = (rule.short, rule.ends_short)
 lines-short base false column separator rule h = cc
 
 -- What the builder has of a specification that is not refused.
-pub record IsMadeOf (fields : Fields) (e : Inside) (meanings : List Character) : Type 0 where
+pub record IsMadeOf (fields : Fields) (e : EncodingTables) (meanings : List Character) : Type 0 where
   pub width_is : width_of (length fields.symbols) ≡ Some e.width
   pub is_width : IsWidth e.width
   pub count : 2 ^ e.width ≡ length fields.symbols
@@ -145,10 +144,10 @@ pub record IsMadeOf (fields : Fields) (e : Inside) (meanings : List Character) :
   pub padding : e.padding ≡ fields.padding
   pub ignores : e.ignores ≡ list_any is_ignored meanings
   pub column : e.column ≡ cond (wraps fields.column fields.separator) fields.column 0
-  pub separator : e.separator.items
+  pub separator : e.separator
       ≡ cond (wraps fields.column fields.separator) fields.separator []
 
-module _ (fields : Fields) (e : Inside) (meanings : List Character)
+module _ (fields : Fields) (e : EncodingTables) (meanings : List Character)
     (made : IsMadeOf fields e meanings) where
   take-symbols : take (2 ^ e.width) e.symbols ≡ fields.symbols
   take-symbols =

@@ -1,9 +1,8 @@
 -- The specification of an encoding, put together.
 use Rattle.std.proofs.Common.{◌≡◌, ℕ, zero, suc, ◌^◌, List, map, take, refl, ◌∙◌}
 use Rattle.std.specs.String.{string_bytes}
-use Rattle.data_encoding.specs.declared.encoding.Encoding.TheInside.{Inside}
 use Rattle.data_encoding.specs.declared.specification.Specification.{Specification}
-use Rattle.data_encoding.specs.Encoding.{KeepsRules, KeepsWrapping, base_of_tables, wrapping_by}
+use Rattle.data_encoding.specs.Encoding.{EncodingTables, KeepsRules, KeepsWrapping, base_of_tables, wrapping_by}
 use Rattle.data_encoding.specs.Layout.{column_of, fields_of, ignored_bytes, own_byte, separator_of, translated_bytes}
 use Rattle.data_encoding.specs.Specification.{specified}
 
@@ -18,7 +17,7 @@ separator-kept zero separator width values keeps = keeps
 separator-kept (suc n) separator width values keeps = refl
 
 -- What a specification of the tables has.
-pub record Describes (s : Specification) (e : Inside) : Type 0 where
+pub record Describes (s : Specification) (e : EncodingTables) : Type 0 where
   pub symbols : string_bytes s.symbols ≡ take (2 ^ e.width) e.symbols
   pub order : s.bit_order ≡ e.order
   pub checks : s.check_trailing_bits ≡ e.checks_trailing_bits
@@ -26,17 +25,17 @@ pub record Describes (s : Specification) (e : Inside) : Type 0 where
   pub padding : s.padding ≡ e.padding
   pub ignored : string_bytes s.ignore ≡ ignored_bytes (base_of_tables e)
   pub column : s.wrap.width ≡ e.column
-  pub separator : string_bytes s.wrap.separator ≡ e.separator.items
+  pub separator : string_bytes s.wrap.separator ≡ e.separator
   pub from : string_bytes s.translate.from ≡ translated_bytes (base_of_tables e)
   pub to : string_bytes s.translate.to
       ≡ map (own_byte (base_of_tables e)) (translated_bytes (base_of_tables e))
 
-pub specified-is : (s : Specification) (e : Inside) → KeepsRules e → Describes s e
+pub specified-is : (s : Specification) (e : EncodingTables) → KeepsRules e → Describes s e
     → specified s ≡ fields_of (base_of_tables e)
 specified-is s e rules is =
-    let column = is.column ∙ column-kept e.column e.separator.items in
+    let column = is.column ∙ column-kept e.column e.separator in
     let separator = is.separator
-    ∙ separator-kept e.column e.separator.items e.width e.values rules.wrapping in
+    ∙ separator-kept e.column e.separator e.width e.values rules.wrapping in
     λ i. record {
       symbols = is.symbols i;
       order = is.order i;

@@ -9,9 +9,8 @@ use Rattle.std.specs.Cmp.{booleans_Decides}
 use Rattle.std.specs.List.{concat}
 use Rattle.std.specs.Option.{option_eq}
 use Rattle.std.specs.Str.{bytes_eq}
-use Rattle.data_encoding.specs.declared.encoding.Encoding.TheInside.{Inside}
 use Rattle.data_encoding.specs.Base.{Base, Wrapping}
-use Rattle.data_encoding.specs.Encoding.{KeepsRules, KeepsWrapping, base_of_tables, wrapping_by}
+use Rattle.data_encoding.specs.Encoding.{EncodingTables, KeepsRules, KeepsWrapping, base_of_tables, wrapping_by}
 use Rattle.data_encoding.specs.Entries.{meaning_of_entry}
 use Rattle.data_encoding.specs.Layout.{code_of, layout}
 use Rattle.data_encoding.proofs.digits.WidthLemmas.{symbols-few}
@@ -21,13 +20,13 @@ use Rattle.data_encoding.proofs.tables.OneLayoutLemmas.{one_layout}
 use Rattle.data_encoding.proofs.tables.TableRuleLemmas.{HoldsEntries-tables, IsRuled-tables}
 
 -- in the order in which they are compared
-abbrev AreSame : Inside → Inside → Type 0
+abbrev AreSame : EncodingTables → EncodingTables → Type 0
 AreSame e f =
     ((((((((e.width ≡ f.width) × (e.order ≡ f.order))
     × (e.checks_trailing_bits ≡ f.checks_trailing_bits)) × (e.concatenates ≡ f.concatenates))
     × (e.padding ≡ f.padding)) × (e.column ≡ f.column))
     × (take 64 e.symbols ≡ take 64 f.symbols)) × (take 128 e.values ≡ take 128 f.values))
-    × (e.separator.items ≡ f.separator.items)
+    × (e.separator ≡ f.separator)
 
 lines-same : (m n : ℕ) (xs ys : List ℕ) (v w : ℕ) (vs ws : List ℕ) → KeepsWrapping m xs v vs
     → KeepsWrapping n ys w ws → wrapping_by m xs ≡ wrapping_by n ys → (m ≡ n) × (xs ≡ ys)
@@ -47,12 +46,12 @@ paddings-Decides (Some x) (Some y) =
     Decides-like (x == y) (λ h. ap (λ n. Some n) h) (λ h. cc) (Decides-eqb x y)
 
 -- the symbols are among the first 64 of their table
-symbols-first : (e : Inside) → KeepsRules e
+symbols-first : (e : EncodingTables) → KeepsRules e
     → take (2 ^ e.width) (take 64 e.symbols) ≡ take (2 ^ e.width) e.symbols
 symbols-first e rules =
     take-take (2 ^ e.width) 64 e.symbols (symbols-few e.width rules.is_width)
 
-module _ {e f : Inside} (he : KeepsRules e) (hf : KeepsRules f) where
+module _ {e f : EncodingTables} (he : KeepsRules e) (hf : KeepsRules f) where
   base-same : AreSame e f → base_of_tables e ≡ base_of_tables f
   base-same same =
       let width = same.0.0.0.0.0.0.0.0 in
@@ -79,7 +78,7 @@ module _ {e f : Inside} (he : KeepsRules e) (hf : KeepsRules f) where
       sym (codes-back (take 128 e.values) (HoldsEntries-tables e he).entries)
       ∙ ap (λ (base : Base). map code_of base.meanings) is
       ∙ codes-back (take 128 f.values) (HoldsEntries-tables f hf).entries in
-      let lines = lines-same e.column f.column e.separator.items f.separator.items _ _ _ _
+      let lines = lines-same e.column f.column e.separator f.separator _ _ _ _
       he.wrapping hf.wrapping (ap (λ (base : Base). base.wrapping) is) in (
         (
           (
@@ -112,7 +111,7 @@ module _ {e f : Inside} (he : KeepsRules e) (hf : KeepsRules f) where
       && option_eq ◌==◌ e.padding f.padding) && (e.column == f.column))
       && bytes_eq (take 64 e.symbols) (take 64 f.symbols))
       && bytes_eq (take 128 e.values) (take 128 f.values))
-      && bytes_eq e.separator.items f.separator.items) → Decides result (a ≡ b)
+      && bytes_eq e.separator f.separator) → Decides result (a ≡ b)
   base-Decides {result} to_a to_b orders is =
       Decides-like result (λ same. sym to_a ∙ base-same same ∙ to_b)
       (λ same. tables-same (to_a ∙ same ∙ sym to_b))
@@ -124,7 +123,7 @@ module _ {e f : Inside} (he : KeepsRules e) (hf : KeepsRules f) where
       (paddings-Decides e.padding f.padding)) (Decides-eqb e.column f.column))
       (bytes_eq-Decides (take 64 e.symbols) (take 64 f.symbols)))
       (bytes_eq-Decides (take 128 e.values) (take 128 f.values)))
-      (bytes_eq-Decides e.separator.items f.separator.items)))
+      (bytes_eq-Decides e.separator f.separator)))
 
   pub layout-Decides : {result : Bool} {a b : Base} → base_of_tables e ≡ a → base_of_tables f ≡ b
       → Decides result (a ≡ b) → Decides result (layout a ≡ layout b)

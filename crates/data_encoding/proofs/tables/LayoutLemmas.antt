@@ -4,9 +4,8 @@ use Rattle.std.proofs.lemmas.Bool.Decides.{nat_tests}
 use Rattle.std.specs.Cmp.{first_so, second_so}
 use Rattle.std.specs.List.{concat, list_all, list_any}
 use Rattle.data_encoding.specs.declared.encoding.Character.TheVariants.{Padding, Ignored, Invalid}
-use Rattle.data_encoding.specs.declared.encoding.Encoding.TheInside.{Inside}
 use Rattle.data_encoding.specs.Base.{ignores_some, is_ignored}
-use Rattle.data_encoding.specs.Encoding.{KeepsRules, base_of_tables, wrapping_by}
+use Rattle.data_encoding.specs.Encoding.{EncodingTables, KeepsRules, base_of_tables, wrapping_by}
 use Rattle.data_encoding.specs.Entries.{is_entry_of, meaning_of_entry}
 use Rattle.data_encoding.specs.Layout.{code_of, layout, order_flag, wrapping_bytes}
 use Rattle.data_encoding.proofs.tables.EntryLemmas.{entry_back}
@@ -39,7 +38,7 @@ codes-back (v ∷ values) h =
     (second_so (is_entry_of 64 v) (list_all (is_entry_of 64) values) h) in
     λ i. here i ∷ rest i
 
-module _ (e : Inside) (rules : KeepsRules e) where
+module _ (e : EncodingTables) (rules : KeepsRules e) where
   tables : concat (replicate (256 / 2 ^ e.width) (take (2 ^ e.width) e.symbols))
       ++ map code_of (map meaning_of_entry (take 128 e.values)) ++ replicate 128 128
       ≡ e.symbols ++ e.values
@@ -60,7 +59,7 @@ module _ (e : Inside) (rules : KeepsRules e) where
       → fourth ≡ third ++ unwrap_or e.padding 128
       ∷ flags ∷ []
       → whole ≡ fourth ++ tail
-      → wrapping_bytes (ignores_some (base_of_tables e)) (wrapping_by e.column e.separator.items)
+      → wrapping_bytes (ignores_some (base_of_tables e)) (wrapping_by e.column e.separator)
       ≡ tail → whole ≡ layout (base_of_tables e)
   layout-joined first second third fourth whole tail e0 e1 e2 e3 e4 is =
       let entry = unwrap_or e.padding 128 in
@@ -70,17 +69,17 @@ module _ (e : Inside) (rules : KeepsRules e) where
       ∙ (λ i. (both ∙ sym (tables)) i ++ entry ∷ flags ∷ sym is i)
 
   pub lines-tail : e.column ≢ 0
-      → wrapping_bytes (ignores_some (base_of_tables e)) (wrapping_by e.column e.separator.items)
-      ≡ e.column ∷ e.separator.items
+      → wrapping_bytes (ignores_some (base_of_tables e)) (wrapping_by e.column e.separator)
+      ≡ e.column ∷ e.separator
   lines-tail = by_number e.column where
     by_number : (n : ℕ) → n ≢ 0
-        → wrapping_bytes (ignores_some (base_of_tables e)) (wrapping_by n e.separator.items)
-        ≡ n ∷ e.separator.items
+        → wrapping_bytes (ignores_some (base_of_tables e)) (wrapping_by n e.separator)
+        ≡ n ∷ e.separator
     by_number zero h = absurd (h refl)
     by_number (suc n) h = refl
 
   pub no_lines-tail : (b : Bool) → e.column ≡ 0 → ignores_some (base_of_tables e) ≡ b
-      → wrapping_bytes (ignores_some (base_of_tables e)) (wrapping_by e.column e.separator.items)
+      → wrapping_bytes (ignores_some (base_of_tables e)) (wrapping_by e.column e.separator)
       ≡ (if b then 0 ∷ [] else [])
   no_lines-tail b none is =
-      λ i. wrapping_bytes (is i) (wrapping_by (none i) e.separator.items)
+      λ i. wrapping_bytes (is i) (wrapping_by (none i) e.separator)

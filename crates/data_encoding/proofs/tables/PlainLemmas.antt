@@ -2,8 +2,7 @@
 use Rattle.std.proofs.Common.{ℕ, zero, suc, List, Option, Some, None}
 use Rattle.std.proofs.Props.{props}
 use mathlib.Core.Logic.{∥∥₁_elim}
-use Rattle.data_encoding.specs.declared.encoding.Encoding.TheInside.{Inside}
-use Rattle.data_encoding.specs.Encoding.{KeepsPadding, KeepsRules, KeepsWrapping}
+use Rattle.data_encoding.specs.Encoding.{EncodingTables, KeepsPadding, KeepsRules, KeepsWrapping}
 
 KeepsPadding-prop : (padding : Option ℕ) (width : ℕ) (values : List ℕ)
     → IsProp (KeepsPadding padding width values)
@@ -15,8 +14,8 @@ KeepsWrapping-prop : (column : ℕ) (separator : List ℕ) (width : ℕ) (values
 KeepsWrapping-prop zero separator width values = hlevel props
 KeepsWrapping-prop (suc n) separator width values = hlevel props
 
-KeepsRules-prop : (tables : Inside) → IsProp (KeepsRules tables)
+KeepsRules-prop : (tables : EncodingTables) → IsProp (KeepsRules tables)
 KeepsRules-prop tables = hlevel (props, KeepsPadding-prop, KeepsWrapping-prop)
 
-pub kept-rules : (tables : Inside) → ∥ KeepsRules tables ∥₁ → KeepsRules tables
+pub kept-rules : (tables : EncodingTables) → ∥ KeepsRules tables ∥₁ → KeepsRules tables
 kept-rules tables kept = ∥∥₁_elim kept (KeepsRules-prop tables) (λ rules. rules)

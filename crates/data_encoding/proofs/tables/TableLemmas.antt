@@ -4,10 +4,9 @@ use Rattle.std.proofs.lemmas.Bool.{cases_lt}
 use Rattle.std.proofs.lemmas.Bool.Decides.{nat_tests}
 use Rattle.std.proofs.lemmas.List.{get_or-take, get_or_past}
 use Rattle.data_encoding.specs.declared.encoding.Character.TheVariants.{Symbol, Padding, Ignored, Invalid}
-use Rattle.data_encoding.specs.declared.encoding.Encoding.TheInside.{Inside}
 use Rattle.data_encoding.specs.declared.encoding.BitOrder.{BitOrder}
 use Rattle.data_encoding.specs.Base.{Base, symbol, is_ignored, is_padding, is_symbol, IsWidth}
-use Rattle.data_encoding.specs.Encoding.{KeepsPadding, KeepsRules, base_of_tables}
+use Rattle.data_encoding.specs.Encoding.{EncodingTables, KeepsPadding, KeepsRules, base_of_tables}
 use Rattle.data_encoding.specs.Entries.{is_entry_of, meaning_of_entry}
 use Rattle.data_encoding.specs.Tables.{HoldsSymbols, HoldsValues, Reads, Writes}
 use Rattle.data_encoding.proofs.tables.EntryLemmas.{high_entry, length-low, meaning-any}
@@ -36,7 +35,7 @@ padding_entry v = grind (arith, nat_tests)
 ignored_entry : (v : ℕ) → is_ignored (meaning_of_entry v) ≡ (v == 129)
 ignored_entry v = grind (arith, nat_tests)
 
-module _ (e : Inside) (rules : KeepsRules e) where
+module _ (e : EncodingTables) (rules : KeepsRules e) where
   -- an entry that is a value is that of a symbol
   entry-below : (byte : ℕ) → byte < 256 → get_or e.values byte 0 < 128
       → get_or e.values byte 0 < 2 ^ e.width
@@ -106,7 +105,7 @@ module _ (e : Inside) (rules : KeepsRules e) where
       (cases_lt value (2 ^ e.width))
 
 -- what a contract knows of the base that it sees
-module _ (e : Inside) (rules : KeepsRules e) (seen : Base) (is : base_of_tables e ≡ seen) where
+module _ (e : EncodingTables) (rules : KeepsRules e) (seen : Base) (is : base_of_tables e ≡ seen) where
   pub IsWidth-seen : IsWidth seen.width
   IsWidth-seen = subst (λ b. IsWidth b.width) is (IsWidth-tables e rules)
 

@@ -7,9 +7,8 @@ use Rattle.std.proofs.lemmas.List.FromFn.{get_or-range_with_len, length-range_wi
 use Rattle.std.specs.Cmp.{first_so, second_so}
 use Rattle.std.specs.List.{AllByRecursion, concat, list_all, range_with_len}
 use Rattle.data_encoding.specs.declared.encoding.Character.TheVariants.{Symbol, Padding, Ignored, Invalid}
-use Rattle.data_encoding.specs.declared.encoding.Encoding.TheInside.{Inside}
 use Rattle.data_encoding.specs.Base.{meaning, ignores_some, IsWidth}
-use Rattle.data_encoding.specs.Encoding.{KeepsPadding, KeepsRules, KeepsWrapping, base_of_tables, wrapping_by}
+use Rattle.data_encoding.specs.Encoding.{EncodingTables, KeepsPadding, KeepsRules, KeepsWrapping, base_of_tables, wrapping_by}
 use Rattle.data_encoding.specs.Entries.{HoldsEntries, is_entry_of, meaning_of_entry}
 use Rattle.data_encoding.specs.Fields.{IsSpecified}
 use Rattle.data_encoding.specs.Layout.{code_of}
@@ -80,7 +79,7 @@ rule-concatenated false (Some character) h = refl
 rule-concatenated false None h = cc
 
 -- from the tables to the base
-module _ (e : Inside) (rules : KeepsRules e) where
+module _ (e : EncodingTables) (rules : KeepsRules e) where
   pub IsWidth-tables : IsWidth e.width
   IsWidth-tables = rules.is_width
 
@@ -168,8 +167,8 @@ module _ (e : Inside) (rules : KeepsRules e) where
   separator-by zero separator keeps = ap (list_all (λ byte. nat_lt byte 128)) keeps
   separator-by (suc n) separator keeps = ascii-bytes separator keeps.4
 
-  pub separator-ascii : list_all (λ byte. nat_lt byte 128) e.separator.items ≡ true
-  separator-ascii = separator-by e.column e.separator.items rules.wrapping
+  pub separator-ascii : list_all (λ byte. nat_lt byte 128) e.separator ≡ true
+  separator-ascii = separator-by e.column e.separator rules.wrapping
 
   ruled-wrapping : (column : ℕ) (separator : List ℕ)
       → KeepsWrapping column separator e.width e.values
@@ -209,7 +208,7 @@ module _ (e : Inside) (rules : KeepsRules e) where
         (λ v. is_within (2 ^ e.width) (meaning_of_entry v)) (entry-within (2 ^ e.width))
         (take 128 e.values) rules.entries;
     padding = ruled-padding e.padding rules.padding;
-    wrapping = ruled-wrapping e.column e.separator.items rules.wrapping;
+    wrapping = ruled-wrapping e.column e.separator rules.wrapping;
   }
 
   -- and so is the yield of a specification
@@ -217,7 +216,7 @@ module _ (e : Inside) (rules : KeepsRules e) where
   is_base_of = IsSpecified-ruled (base_of_tables e) (IsRuled-tables)
 
 -- from the base to the tables
-module _ (e : Inside) (ruled : IsRuled (base_of_tables e)) (holds : HoldsEntries e.values) where
+module _ (e : EncodingTables) (ruled : IsRuled (base_of_tables e)) (holds : HoldsEntries e.values) where
   own-entry : (i : ℕ) → i < length (take (2 ^ e.width) e.symbols)
       → get_or e.values (get_or (take (2 ^ e.width) e.symbols) i 0) 0 ≡ i
   own-entry i h =
@@ -274,7 +273,7 @@ module _ (e : Inside) (ruled : IsRuled (base_of_tables e)) (holds : HoldsEntries
   pub KeepsRules-ruled : e.ignores ≡ ignores_some (base_of_tables e)
       → e.symbols
       ≡ concat (replicate (256 / 2 ^ e.width) (take (2 ^ e.width) e.symbols))
-      → (e.column ≡ 0 → e.separator.items ≡ []) → KeepsRules e
+      → (e.column ≡ 0 → e.separator ≡ []) → KeepsRules e
   KeepsRules-ruled ignores repeat none = record {
     is_width = ruled.is_width;
     unpadded_concatenates = rule-concatenated e.concatenates e.padding ruled.concatenated;
@@ -295,5 +294,5 @@ module _ (e : Inside) (ruled : IsRuled (base_of_tables e)) (holds : HoldsEntries
     invalid_from_128 = holds.invalid_from_128;
     padding = keeps-padding e.padding ruled.padding;
     ignores = ignores;
-    wrapping = keeps-wrapping e.column e.separator.items none ruled.wrapping;
+    wrapping = keeps-wrapping e.column e.separator none ruled.wrapping;
   }

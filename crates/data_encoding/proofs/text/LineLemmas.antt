@@ -7,8 +7,7 @@ use Rattle.std.proofs.lemmas.Nat.{mul-le}
 use Rattle.std.specs.List.{AllByRecursion}
 use Rattle.data_encoding.specs.Base.{Base, IsWidth, Wrapping, group_bytes, group_symbols, is_padded, meaning}
 use Rattle.data_encoding.specs.declared.encoding.Character.TheVariants.{Ignored}
-use Rattle.data_encoding.specs.declared.encoding.Encoding.TheInside.{Inside}
-use Rattle.data_encoding.specs.Encoding.{KeepsRules, KeepsWrapping, base_of_tables, wrapping_by}
+use Rattle.data_encoding.specs.Encoding.{EncodingTables, KeepsRules, KeepsWrapping, base_of_tables, wrapping_by}
 use Rattle.data_encoding.specs.Lengths.{align_by, alignment}
 use Rattle.data_encoding.specs.Text.{in_lines, padded_text, text_of}
 use Rattle.data_encoding.proofs.digits.WidthLemmas.{group_bytes-few, group_bytes-pos, group_symbols-few, group_symbols-pos}
@@ -267,24 +266,24 @@ ascii-text_of base ruled bytes ascii = by base.wrapping ruled.wrapping where
       (padded_text base bytes) ascii
 
 -- what the tables of an encoding say of its lines
-module _ (e : Inside) (rules : KeepsRules e) (seen : Base) (is : base_of_tables e ≡ seen) where
+module _ (e : EncodingTables) (rules : KeepsRules e) (seen : Base) (is : base_of_tables e ≡ seen) where
   pub IsRuled-seen : IsRuled seen
   IsRuled-seen = subst IsRuled is (IsRuled-tables e rules)
 
-  pub separator-seen : separator_by seen.wrapping ≡ e.separator.items
+  pub separator-seen : separator_by seen.wrapping ≡ e.separator
   separator-seen =
       ap (λ b. separator_by b.wrapping) (sym is)
-      ∙ by e.column e.separator.items rules.wrapping where
+      ∙ by e.column e.separator rules.wrapping where
         by : (column : ℕ) (separator : List ℕ) → KeepsWrapping column separator e.width e.values
             → separator_by (wrapping_by column separator) ≡ separator
         by zero separator keeps = sym keeps
         by (suc n) separator keeps = refl
 
   pub wrapping-seen : e.column ≢ 0 → seen.wrapping
-      ≡ Some (record { column = e.column; separator = e.separator.items })
+      ≡ Some (record { column = e.column; separator = e.separator })
   wrapping-seen h = ap (λ b. b.wrapping) (sym is) ∙ by e.column h where
-    by : (column : ℕ) → column ≢ 0 → wrapping_by column e.separator.items
-        ≡ Some (record { column = column; separator = e.separator.items })
+    by : (column : ℕ) → column ≢ 0 → wrapping_by column e.separator
+        ≡ Some (record { column = column; separator = e.separator })
     by zero k = absurd (k refl)
     by (suc n) k = refl
 
@@ -293,7 +292,7 @@ module _ (e : Inside) (rules : KeepsRules e) (seen : Base) (is : base_of_tables 
 
   pub unwrapped-seen : e.column ≡ 0 → seen.wrapping ≡ None
   unwrapped-seen h =
-      ap (λ b. b.wrapping) (sym is) ∙ ap (λ n. wrapping_by n e.separator.items) h
+      ap (λ b. b.wrapping) (sym is) ∙ ap (λ n. wrapping_by n e.separator) h
 
   pub ascii-seen : (bytes : List ℕ) → AllByRecursion (λ byte. byte < 128) (text_of seen bytes)
   ascii-seen bytes =

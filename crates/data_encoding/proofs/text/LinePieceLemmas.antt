@@ -6,8 +6,7 @@ use Rattle.std.proofs.lemmas.List.Concat.{flat_map-append}
 use Rattle.std.specs.Prelude.{flat_map}
 use Rattle.data_encoding.specs.Base.{Base, Wrapping}
 use Rattle.data_encoding.specs.Bits.{runs}
-use Rattle.data_encoding.specs.declared.encoding.Encoding.TheInside.{Inside}
-use Rattle.data_encoding.specs.Encoding.{KeepsRules, base_of_tables}
+use Rattle.data_encoding.specs.Encoding.{EncodingTables, KeepsRules, base_of_tables}
 use Rattle.data_encoding.specs.Lengths.{alignment}
 use Rattle.data_encoding.specs.Text.{in_lines, padded_text, text_of}
 use Rattle.data_encoding.proofs.judgement.RuleLemmas.{AreLines, IsRuled}
@@ -64,10 +63,10 @@ IsByPieces-blocks base ruled lines wrapped count some =
     }
 
 -- the same by what the tables say
-module _ {e : Inside} {seen : Base} (rules : KeepsRules e) (is : base_of_tables e ≡ seen)
+module _ {e : EncodingTables} {seen : Base} (rules : KeepsRules e) (is : base_of_tables e ≡ seen)
     (wraps : IsSome seen.wrapping) where
   abbrev lines : Wrapping
-  lines = record { column = e.column; separator = e.separator.items }
+  lines = record { column = e.column; separator = e.separator }
 
   ruled : IsRuled seen
   ruled = IsRuled-seen e rules seen is
@@ -84,21 +83,21 @@ module _ {e : Inside} {seen : Base} (rules : KeepsRules e) (is : base_of_tables 
   pub text-few : (input : List ℕ) → length (text_of seen input) ≤ 263 * length input
   text-few = text-most seen ruled
 
-  pub line-few : {ends : ℕ} → ends ≡ length e.separator.items → e.column + ends ≤ 510
+  pub line-few : {ends : ℕ} → ends ≡ length e.separator → e.column + ends ≤ 510
   line-few ends-is =
       let columns : e.column < 256 = lines-are.short in
-      let few : length e.separator.items < 256 = lines-are.ends_short in
+      let few : length e.separator < 256 = lines-are.ends_short in
       omega (arith, columns, few, ends-is)
 
   pub text-wrapped : (input : List ℕ) {separator padded : List ℕ}
-      → separator ≡ e.separator.items → padded ≡ padded_text seen input
+      → separator ≡ e.separator → padded ≡ padded_text seen input
       → text_of seen input ≡ flat_map (λ line. line ++ separator) (runs e.column padded)
   text-wrapped input {separator} {padded} separator-is padded-is =
       ap (λ o. in_lines o (padded_text seen input)) wrapped
       ∙ (λ i. flat_map (λ line. line ++ sym separator-is i) (runs e.column (sym padded-is i)))
 
   pub IsByPieces-text : {count size ends : ℕ} → 0 < count → size ≡ alignment seen
-      → ends ≡ length e.separator.items
+      → ends ≡ length e.separator
       → IsByPieces (text_of seen) (count * size) (count * (e.column + ends))
   IsByPieces-text {count} {size} {ends} any size-is ends-is =
       subst (λ n. IsByPieces (text_of seen) (count * n) (count * (e.column + ends))) (sym size-is)
@@ -106,7 +105,7 @@ module _ {e : Inside} {seen : Base} (rules : KeepsRules e) (is : base_of_tables 
       (sym ends-is)
       (IsByPieces-blocks seen ruled lines wrapped count any))
 
-  pub IsByPieces-line : {size ends : ℕ} → size ≡ alignment seen → ends ≡ length e.separator.items
+  pub IsByPieces-line : {size ends : ℕ} → size ≡ alignment seen → ends ≡ length e.separator
       → IsByPieces (text_of seen) size (e.column + ends)
   IsByPieces-line {size} {ends} size-is ends-is =
       let one : (n : ℕ) → 1 * n ≡ n = λ n. omega arith in

@@ -4,8 +4,7 @@ use Rattle.std.proofs.Math.Nat.{mul_comm}
 use Rattle.std.proofs.lemmas.List.{length-replicate}
 use Rattle.std.specs.List.{AllByRecursion}
 use borrow.Rule.Slice.PartMut.{put_mid}
-use Rattle.data_encoding.specs.declared.encoding.Encoding.TheInside.{Inside}
-use Rattle.data_encoding.specs.Encoding.{base_of_tables, KeepsRules}
+use Rattle.data_encoding.specs.Encoding.{EncodingTables, base_of_tables, KeepsRules}
 use Rattle.data_encoding.specs.Base.{Base, symbol, is_padded, group_bytes, group_symbols, IsWidth}
 use Rattle.data_encoding.specs.Bits.{missing}
 use Rattle.data_encoding.specs.Text.{filled_with, in_lines, padded_text, plain_text, text_of, with_padding}
@@ -126,7 +125,7 @@ ascii-padded_text base bytes symbols padding = by_padding base.padding padding w
       character h)
 
 -- what is written behind the symbols, by the tables of an encoding
-module _ (e : Inside) (rules : KeepsRules e) (seen : Base) (is : base_of_tables e ≡ seen)
+module _ (e : EncodingTables) (rules : KeepsRules e) (seen : Base) (is : base_of_tables e ≡ seen)
     (input output : List ℕ) (exact : length output ≡ length (padded_text seen input))
     (count : ℕ) (counted : count ≡ run_count seen.width (8 * length input)) where
   pub count-inside : count ≤ length output

@@ -23,7 +23,7 @@ plain_mime = record {
 }
 
 plain_read :
-    ((plain_tables plain_mime).separator.items ≡ 13 ∷ 10 ∷ [])
+    ((plain_tables plain_mime).separator ≡ 13 ∷ 10 ∷ [])
     × ((plain_tables plain_mime).padding ≡ Some 61)
     × ((plain_tables plain_mime).order ≡ MostSignificantFirst)
     × (padding_by 128 ≡ None) × (order_by true ≡ LeastSignificantFirst)

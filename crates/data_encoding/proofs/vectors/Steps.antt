@@ -5,26 +5,23 @@ use Rattle.data_encoding.specs.declared.encoding.Character.TheVariants.{Symbol a
 use Rattle.data_encoding.specs.declared.error.DecodeKind.TheVariants.{Symbol, Trailing}
 use Rattle.data_encoding.specs.Base.{Base, meaning, is_symbol, ignores_some}
 use Rattle.data_encoding.specs.Layout.{layout, column_of, separator_of}
-use Rattle.data_encoding.specs.Predefined.{unpadded_fields, base64_fields, base64_nopad_fields, base64_mime_fields, tables_of}
+use Rattle.data_encoding.specs.Predefined.{unpadded_fields, base64_fields, base64_nopad_fields, base64_mime_fields}
 use Rattle.data_encoding.specs.declared.encoding.BitOrder.TheVariants.{MostSignificantFirst}
 use Rattle.data_encoding.specs.Grammar.{positioned}
 use Rattle.data_encoding.proofs.grammar.MeaningLemmas.{Means-no_fault}
 use Rattle.std.specs.Prelude.{slice_index}
-use Rattle.data_encoding.specs.declared.encoding.Encoding.TheInside.{Inside}
 use Rattle.data_encoding.specs.declared.specification.meanings.Meanings.TheInside.{Inside as BuilderInside}
 use Rattle.data_encoding.specs.declared.specification.tables.Tables.{Tables}
-use Rattle.data_encoding.specs.Encoding.{base_of_tables, KeepsRules, wrapping_by, KeepsPadding, KeepsWrapping}
+use Rattle.data_encoding.specs.Encoding.{EncodingTables, base_of_tables, KeepsRules, wrapping_by, KeepsPadding, KeepsWrapping}
 use Rattle.data_encoding.specs.Entries.{meaning_of_entry, is_entry_of, HoldsEntries}
 use Rattle.data_encoding.specs.Meanings.{meanings_of_table, HasEntries}
 use Rattle.data_encoding.specs.Tables.{HasTables, HoldsSymbols, HoldsValues, IsGroup, Reads, Writes}
 use Rattle.data_encoding.specs.Decoding.{AreSound, HasDecodedTo, IsLongest, IsRun, IsDecodedGroup, most_symbols, HasSymbols, HasFault, IsGathered, IsIgnoredFront, valid_front, IsLastRun, HasNoLastRun, HasRoom, IsStop, IsDecoded, fault_of_stop, run_bytes}
 use Rattle.data_encoding.proofs.tables.TableLemmas.{Reads-seen, Writes-tables}
-use Rattle.std.specs.Borrow.{Bor}
-use Rattle.data_encoding.specs.declared.specification.predefined.Predefined.{Predefined}
 use Rattle.data_encoding.proofs.vectors.Examples.{built, Has, nopad_ignoring_lf_fields}
 
 -- the tables of a base: what its layout says
-abbrev tables_from : Base → Inside
+abbrev tables_from : Base → EncodingTables
 tables_from base = record {
   symbols = take 256 (layout base);
   values = take 256 (drop 256 (layout base));
@@ -35,30 +32,8 @@ tables_from base = record {
   padding = base.padding;
   ignores = ignores_some base;
   column = column_of base.wrapping;
-  separator = record { items = separator_of base.wrapping };
+  separator = separator_of base.wrapping;
 }
-
--- the same as constants
-abbrev constant : List ℕ → Bor (List ℕ)
-constant items = record { ref_ptr = (0, 0); now = items }
-
-abbrev constants_from : Base → Predefined
-constants_from base = record {
-  symbols = constant (take 256 (layout base));
-  values = constant (take 256 (drop 256 (layout base)));
-  width = base.width;
-  order = base.order;
-  checks_trailing_bits = base.checks_trailing_bits;
-  concatenates = base.concatenates;
-  padding = base.padding;
-  ignores = ignores_some base;
-  column = column_of base.wrapping;
-  separator = constant (separator_of base.wrapping);
-}
-
-constants_read :
-    Has base64_mime_fields (λ base. tables_of (constants_from base) ≡ tables_from base)
-constants_read = refl
 
 -- tables from which the same base is read, under the rules
 tables_read :

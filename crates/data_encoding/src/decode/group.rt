@@ -8,7 +8,7 @@ ghost use Rattle.data_encoding.specs.Fault.{count_before_padding, trailing_bits}
 ghost use Rattle.data_encoding.specs.Lengths.{is_valid_count};
 ghost use Rattle.data_encoding.specs.Tables.{HoldsValues, Reads};
 
-use crate::encoding::{BitOrder, Encoding, PADDING};
+use crate::encoding::{BitOrder, EncodingRef, PADDING};
 use crate::error::DecodeKind;
 use crate::kernel::group_size::GroupSize;
 use crate::kernel::words::{decode_symbols, symbol_position};
@@ -20,7 +20,7 @@ pub(crate) struct GroupFault {
     pub(crate) kind: DecodeKind,
 }
 
-impl Encoding {
+impl EncodingRef<'_> {
     /// Decodes a group to the front of the output, and returns how many symbols it has. It is the
     /// one place where a fault of a group is found.
     #[inline(always)]
@@ -47,16 +47,21 @@ impl Encoding {
         let symbols = &group[..count];
         // A run that stopped at a whole group has seen a byte that is no symbol.
         if count == G::SYMBOLS {
-            let index = symbol_position(&self.values, symbols);
+            let index = symbol_position(&self.fields.values, symbols);
             if index < count {
                 return Err(faulty(index, DecodeKind::Symbol));
             }
         }
         let room = &mut output[..G::WIDTH * count / 8];
-        if !decode_symbols::<G>(&self.values, order, symbols, room) {
-            return Err(faulty(symbol_position(&self.values, symbols), DecodeKind::Symbol));
+        if !decode_symbols::<G>(&self.fields.values, order, symbols, room) {
+            return Err(faulty(
+                symbol_position(&self.fields.values, symbols),
+                DecodeKind::Symbol,
+            ));
         }
-        if self.checks_trailing_bits && has_trailing::<G>(&self.values, order, symbols) {
+        if self.fields.checks_trailing_bits
+            && has_trailing::<G>(&self.fields.values, order, symbols)
+        {
             return Err(faulty(count - 1, DecodeKind::Trailing));
         }
         Ok(count)
@@ -74,7 +79,7 @@ impl Encoding {
         ensures fault { IfErr result (HasFault self.now group.now) }
     {
         let width = G::WIDTH;
-        if self.padding.is_none() {
+        if !self.fields.is_padded() {
             let trailing = width * group.len() % 8;
             if trailing >= width {
                 return Err(faulty(group.len() - trailing / width, DecodeKind::Length));
@@ -84,7 +89,7 @@ impl Encoding {
         if group.len() < G::SYMBOLS {
             return Err(faulty(0, DecodeKind::Length));
         }
-        let count = before_padding(&self.values, group);
+        let count = before_padding(&self.fields.values, group);
         if count == 0 || width * count % 8 >= width {
             return Err(faulty(count, DecodeKind::Padding));
         }

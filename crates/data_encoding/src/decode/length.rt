@@ -6,7 +6,7 @@ ghost use Rattle.data_encoding.specs.Grammar.{Means};
 ghost use Rattle.data_encoding.specs.Lengths.{decoded_len, greatest_valid_length, is_valid_length, most_bytes};
 
 use crate::decode::DECODE_LIMIT;
-use crate::encoding::{Encoding, group_bytes, group_symbols};
+use crate::encoding::{Encoding, EncodingRef, group_bytes, group_symbols};
 use crate::error::{DecodeError, DecodeKind};
 
 impl Encoding {
@@ -23,7 +23,26 @@ impl Encoding {
             → IsOkAnd result (λ most. length bytes ≤ most) }
         ensures base { IsSpecified self.now }
     {
-        if !self.ignores && !self.is_valid_length(len) {
+        self.by_ref().decode_len(len)
+    }
+}
+
+impl EncodingRef<'_> {
+    /// The greatest number of bytes that a text of `len` bytes, at most `DECODE_LIMIT`, may mean.
+    ///
+    /// Where no byte is ignored, a length that no text has is a `Length` fault, at the greatest
+    /// length below it that a text may have: where texts are padded, that is a number of whole
+    /// groups.
+    #[inline(always)]
+    pub fn decode_len(&self, len: usize) -> Result<usize, DecodeError>
+        requires limit { len ≤ DECODE_LIMIT }
+        ensures value { result ≡ decoded_len self.now len }
+        ensures position { IfErr result (λ error. error.position < len) }
+        ensures most { (text bytes : List ℕ) → length text ≡ len → Means self.now text bytes
+            → IsOkAnd result (λ most. length bytes ≤ most) }
+        ensures base { IsSpecified self.now }
+    {
+        if !self.fields.ignores && !self.is_valid_length(len) {
             return Err(DecodeError {
                 position: self.greatest_valid_length(len),
                 kind: DecodeKind::Length,
@@ -37,10 +56,10 @@ impl Encoding {
         requires limit { len ≤ DECODE_LIMIT }
         ensures { result ≡ is_valid_length self.now len }
     {
-        if self.padding.is_some() {
-            return len % group_symbols(self.width) as usize == 0;
+        if self.fields.is_padded() {
+            return len % group_symbols(self.fields.width) as usize == 0;
         }
-        let width = self.width as usize;
+        let width = self.fields.width as usize;
         width * len % 8 < width
     }
 
@@ -51,11 +70,11 @@ impl Encoding {
         ensures most { result ≤ len }
         ensures less { is_valid_length self.now len ≡ false → result < len }
     {
-        if self.padding.is_some() {
-            let symbols = group_symbols(self.width) as usize;
+        if self.fields.is_padded() {
+            let symbols = group_symbols(self.fields.width) as usize;
             return len / symbols * symbols;
         }
-        let width = self.width as usize;
+        let width = self.fields.width as usize;
         len - width * len % 8 / width
     }
 
@@ -64,9 +83,10 @@ impl Encoding {
         requires limit { len ≤ DECODE_LIMIT }
         ensures { result ≡ most_bytes self.now len }
     {
-        if self.padding.is_some() {
-            return len / group_symbols(self.width) as usize * group_bytes(self.width) as usize;
+        if self.fields.is_padded() {
+            return len / group_symbols(self.fields.width) as usize
+                * group_bytes(self.fields.width) as usize;
         }
-        self.width as usize * len / 8
+        self.fields.width as usize * len / 8
     }
 }

@@ -7,7 +7,7 @@ ghost use Rattle.data_encoding.specs.Fault.{position_of};
 ghost use Rattle.data_encoding.specs.Grammar.{kept};
 ghost use Rattle.data_encoding.specs.Tables.{HoldsValues};
 
-use crate::encoding::{Encoding, IGNORED};
+use crate::encoding::{EncodingRef, IGNORED};
 use crate::kernel::group_size::GroupSize;
 
 // A group of a text: its bytes, and how far it goes with the ignored bytes among them.
@@ -24,7 +24,7 @@ struct Gathered {
     span: usize,
 }
 
-impl Encoding {
+impl EncodingRef<'_> {
     /// The next group of what is left of a text, or the fewer bytes that are left and not ignored.
     /// Where bytes are ignored it is gathered in the room.
     #[inline(always)]
@@ -35,8 +35,8 @@ impl Encoding {
     ) -> Group<'a>
         ensures { IsGathered self.now G.SYMBOLS rest.now result.bytes.now result.span }
     {
-        if self.ignores {
-            let gathered = gather::<G>(&self.values, rest, room);
+        if self.fields.ignores {
+            let gathered = gather::<G>(&self.fields.values, rest, room);
             return Group {
                 bytes: &room[..gathered.count],
                 span: gathered.span,
@@ -62,12 +62,12 @@ impl Encoding {
             → result ≡ position_of (kept self.now part.now) index }
         ensures within { result ≤ length part.now }
     {
-        if !self.ignores {
+        if !self.fields.ignores {
             return index.min(part.len());
         }
         let mut left = index;
         for position in 0..part.len() {
-            if self.values[part[position] as usize] != IGNORED {
+            if self.fields.values[part[position] as usize] != IGNORED {
                 if left == 0 {
                     return position;
                 }

@@ -8,7 +8,7 @@ ghost use Rattle.data_encoding.specs.Lengths.{decoded_len};
 ghost use Rattle.data_encoding.specs.Tables.{HoldsValues, Reads};
 
 use crate::decode::{DECODE_LIMIT, Stop};
-use crate::encoding::{BitOrder, Encoding, IGNORED};
+use crate::encoding::{BitOrder, EncodingRef, IGNORED};
 use crate::error::DecodeKind;
 use crate::kernel::decode::decode_run;
 use crate::kernel::group_size::GroupSize;
@@ -35,7 +35,7 @@ pub(crate) struct Reached {
     pub(crate) ignored: usize,
 }
 
-impl Encoding {
+impl EncodingRef<'_> {
     /// What is left of a text, with the order as a constant again. Not inlined: with the search in
     // the same function the loop over lanes was slower by a fifth.
     #[inline(never)]
@@ -57,7 +57,7 @@ impl Encoding {
             → IsDecoded self.now input.now stop.new.written output.new }
         ensures stopped { result ≡ false → HasStopped self.now input.now output.new stop.new }
     {
-        match self.order {
+        match self.fields.order() {
             BitOrder::MostSignificantFirst => self.decode_steps::<L, G>(
                 values,
                 Some(look_up),
@@ -207,10 +207,10 @@ impl Encoding {
         requires within { read ≤ length input.now }
         ensures { IsIgnoredFront self.now (drop read input.now) result }
     {
-        if !self.ignores {
+        if !self.fields.ignores {
             return 0;
         }
-        ignored_front(&self.values, &input[read..])
+        ignored_front(&self.fields.values, &input[read..])
     }
 
     /// The group behind what was read, which is judged alone.
@@ -260,7 +260,7 @@ impl Encoding {
         let read = start + group.span;
         let written = at.written + G::WIDTH * count / 8;
         *stop = Stop::new(read, written, 0, DecodeKind::Padding);
-        if count < group.bytes.len() && !self.concatenates {
+        if count < group.bytes.len() && !self.fields.concatenates {
             if self.is_end::<G>(&input[read..]) {
                 return Step::Ended;
             }

@@ -7,7 +7,7 @@ ghost use Rattle.data_encoding.specs.Lengths.{decoded_len};
 
 use crate::decode::steps::{Reached, Step};
 use crate::decode::{DECODE_LIMIT, Stop};
-use crate::encoding::{BitOrder, Encoding};
+use crate::encoding::{BitOrder, EncodingRef};
 use crate::error::DecodeKind;
 use crate::kernel::group_size::{Base2, Base4, Base8, Base16, Base32, Base64, GroupSize};
 use crate::kernel::lanes::affine::{Affine, affine_of};
@@ -16,7 +16,7 @@ use crate::kernel::lanes::rows::{Rows, rows_of};
 // The length of a text from which finding the affine form of a table takes less time than it saves.
 const AFFINE_FROM: usize = 704;
 
-impl Encoding {
+impl EncodingRef<'_> {
     /// Decodes a text as far as it has no fault, and returns whether it has none.
     // One call of `decode_mut`, which is then small enough to be part of its callers.
     #[inline(never)]
@@ -44,7 +44,7 @@ impl Encoding {
         ensures stopped { result ≡ false → HasStopped self.now input.now output.new stop.new }
         ensures width { IsWidth self.now.width }
     {
-        match self.width {
+        match self.fields.width {
             1 => self.decode_in_order::<Base2>(input, output, stop),
             2 => self.decode_in_order::<Base4>(input, output, stop),
             3 => self.decode_in_order::<Base8>(input, output, stop),
@@ -64,7 +64,7 @@ impl Encoding {
         ensures stopped { result ≡ false → HasStopped self.now input.now output.new stop.new }
         ensures width { IsWidth self.now.width }
     {
-        match self.width {
+        match self.fields.width {
             1 => self.decode_long::<Base2>(input, output, stop),
             2 => self.decode_long::<Base4>(input, output, stop),
             3 => self.decode_long::<Base8>(input, output, stop),
@@ -89,7 +89,7 @@ impl Encoding {
             → IsDecoded self.now input.now stop.new.written output.new }
         ensures stopped { result ≡ false → HasStopped self.now input.now output.new stop.new }
     {
-        match self.order {
+        match self.fields.order() {
             BitOrder::MostSignificantFirst => self.decode_text::<G>(
                 BitOrder::MostSignificantFirst,
                 input,
@@ -123,7 +123,7 @@ impl Encoding {
         ensures stopped { result ≡ false → HasStopped self.now input.now output.new stop.new }
     {
         let at = self.decode_run_behind::<Rows, G>(
-            &self.values,
+            &self.fields.values,
             None,
             order,
             Reached {
@@ -154,9 +154,9 @@ impl Encoding {
             → IsDecoded self.now input.now stop.new.written output.new }
         ensures stopped { result ≡ false → HasStopped self.now input.now output.new stop.new }
     {
-        match self.order {
+        match self.fields.order() {
             BitOrder::MostSignificantFirst => self.decode_steps::<Rows, G>(
-                &self.values,
+                &self.fields.values,
                 None,
                 BitOrder::MostSignificantFirst,
                 input,
@@ -164,7 +164,7 @@ impl Encoding {
                 stop,
             ),
             BitOrder::LeastSignificantFirst => self.decode_steps::<Rows, G>(
-                &self.values,
+                &self.fields.values,
                 None,
                 BitOrder::LeastSignificantFirst,
                 input,
@@ -186,7 +186,7 @@ impl Encoding {
         ensures stopped { result ≡ false → HasStopped self.now input.now output.new stop.new }
     {
         *stop = Stop::new(0, 0, 0, DecodeKind::Length);
-        let values = &self.values;
+        let values = &self.fields.values;
         match affine_of(values, 1 << G::WIDTH) {
             Some(affine) => { self.decode_from::<Affine, G>(values, &affine, input, output, stop) }
             None => {

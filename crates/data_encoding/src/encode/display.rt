@@ -87,10 +87,10 @@ impl Encoding {
         ensures length { IsBlockLength self.now result }
         ensures base { IsSpecified self.now }
     {
-        if self.column == 0 {
-            return group_symbols(self.width) as usize;
+        if self.fields.column == 0 {
+            return group_symbols(self.fields.width) as usize;
         }
-        self.column as usize + self.separator.len()
+        self.fields.column as usize + self.fields.line_separator_len()
     }
 
     // Writes the text of data in one call.

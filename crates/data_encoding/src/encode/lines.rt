@@ -6,7 +6,7 @@ ghost use Rattle.data_encoding.specs.Lengths.{alignment};
 ghost use Rattle.data_encoding.specs.Text.{padded_text, text_of};
 
 use crate::encode::ENCODE_LIMIT;
-use crate::encoding::Encoding;
+use crate::encoding::EncodingRef;
 use crate::kernel::group_size::GroupSize;
 
 // The greatest length of a block of lines without their separators, of four lines at least.
@@ -15,7 +15,7 @@ const BLOCK_LEN: usize = 1024;
 // The greatest number of lines that take less time one by one.
 const FEW_LINES: usize = 3;
 
-impl Encoding {
+impl EncodingRef<'_> {
     // Few lines go one by one, and more of them by blocks. One line is no turn of a loop, before
     // which all that lines use would be loaded. Not inlined, so that texts without lines do not pay
     // for it.
@@ -47,7 +47,7 @@ impl Encoding {
         ensures { output.new ≡ text_of self.now input.now }
     {
         let line_bytes = self.encode_align();
-        let line_len = self.column as usize + self.separator.len();
+        let line_len = self.fields.column as usize + self.fields.line_separator_len();
         for index in 0..input.len().div_ceil(line_bytes) {
             let read = index * line_bytes;
             let read_end = input.len().min(read + line_bytes);
@@ -68,9 +68,9 @@ impl Encoding {
         ensures { output.new ≡ text_of self.now input.now }
     {
         let mut symbols = [0; BLOCK_LEN];
-        let lines = BLOCK_LEN / self.column as usize;
+        let lines = BLOCK_LEN / self.fields.column as usize;
         let block_bytes = lines * self.encode_align();
-        let block_len = lines * (self.column as usize + self.separator.len());
+        let block_len = lines * (self.fields.column as usize + self.fields.line_separator_len());
         for index in 0..input.len().div_ceil(block_bytes) {
             let read = index * block_bytes;
             let read_end = input.len().min(read + block_bytes);
@@ -102,8 +102,8 @@ impl Encoding {
         let count = self.padded_len(input.len());
         self.encode_padded::<G>(input, &mut symbols[..count]);
         wrap(
-            self.column as usize,
-            self.separator.as_slice(),
+            self.fields.column as usize,
+            self.fields.line_separator(),
             &symbols[..count],
             output,
         );
@@ -119,9 +119,9 @@ impl Encoding {
         requires exact { length output.old ≡ length (text_of self.now input.now) }
         ensures { output.new ≡ text_of self.now input.now }
     {
-        let end = output.len() - self.separator.len();
+        let end = output.len() - self.fields.line_separator_len();
         self.encode_padded::<G>(input, &mut output[..end]);
-        write_separator(self.separator.as_slice(), &mut output[end..]);
+        write_separator(self.fields.line_separator(), &mut output[end..]);
     }
 }
 

@@ -1,15 +1,16 @@
 //! How a specification becomes an encoding: each byte is given its meaning in turn.
 
-ghost use Rattle.std.specs.Prelude.{◌≡◌, ◌/◌, ◌%◌, ◌^◌, ◌==◌, ◌||◌, ◌<◌, [], length, replicate, if◌then◌else◌, is_none, IfOk, IfErr, IfSome, IsTrue, Ok, Err, Some, None};
+ghost use Rattle.std.specs.Prelude.{◌≡◌, ◌/◌, ◌%◌, ◌^◌, ◌==◌, ◌||◌, ◌<◌, [], length, replicate, take, if◌then◌else◌, is_none, IfOk, IfErr, IfSome, IsTrue, Ok, Err, Some, None};
 ghost use Rattle.std.specs.List.{concat};
 ghost use Rattle.data_encoding.specs.Base.{IsWidth};
 ghost use Rattle.data_encoding.specs.Fields.{Fields, base_of, base_by, judgements, meanings_after, no_meanings, width_of, wraps};
+ghost use Rattle.data_encoding.specs.PlainTables.{order_by, padding_by};
 ghost use Rattle.data_encoding.specs.Specification.{fields_of_parts};
 
-use crate::encoding::Encoding;
+use crate::encoding::{BitOrder, Encoding, INVALID};
+use crate::plain::PlainFields;
 use crate::specification::meanings::{Meanings, Refusal, wraps};
 use crate::specification::parts::SpecificationParts;
-use arrayvec::ArrayVec;
 
 // The numbers of symbols, in order of their bits; one symbol has none.
 const SIZES: [usize; 7] = [1, 2, 4, 8, 16, 32, 64];
@@ -66,14 +67,24 @@ fn concatenates(concatenate: bool, padding: Option<char>) -> bool
     concatenate || padding.is_none()
 }
 
-// The padding character as a byte.
-fn padding_byte(padding: Option<char>) -> Option<u8>
+// The padding character, or 128.
+fn padding_entry(padding: Option<char>) -> u8
     requires { IfSome padding (λ character. character < 128) }
-    ensures { result ≡ padding }
+    ensures { padding_by result ≡ padding }
 {
     match padding {
-        Some(character) => Some(character as u32 as u8),
-        None => None,
+        Some(character) => character as u32 as u8,
+        None => INVALID,
+    }
+}
+
+// Whether the bit of weight 1 comes first.
+fn is_least_first(order: BitOrder) -> bool
+    ensures { order_by result ≡ order }
+{
+    match order {
+        BitOrder::LeastSignificantFirst => true,
+        BitOrder::MostSignificantFirst => false,
     }
 }
 
@@ -89,15 +100,25 @@ fn column_byte(column: usize, separator: &[u8]) -> u8
 }
 
 // What follows each line; nothing where there are no lines.
-fn separator_bytes(column: usize, separator: &[u8]) -> ArrayVec<u8, 255>
+fn separator_bytes(column: usize, separator: &[u8]) -> &[u8]
     requires { IsTrue (wraps column separator.now) → length separator.now < 256 }
-    ensures { result.items ≡ (if wraps column separator.now then separator.now else []) }
+    ensures value { result.now ≡ (if wraps column separator.now then separator.now else []) }
+    ensures short { length result.now < 256 }
 {
-    let mut bytes = ArrayVec::new();
     if wraps(column, separator) {
-        bytes.try_extend_from_slice(separator).unwrap();
+        return separator;
     }
-    bytes
+    b""
+}
+
+// The bytes, followed by zeros.
+fn filled(bytes: &[u8]) -> [u8; 255]
+    requires { length bytes.now < 256 }
+    ensures { take (length bytes.now) result ≡ bytes.now }
+{
+    let mut room = [0; 255];
+    room[..bytes.len()].copy_from_slice(bytes);
+    room
 }
 
 // What the bytes mean after all judgements.
@@ -130,17 +151,21 @@ fn assembled(parts: &SpecificationParts<'_>, width: u8, meanings: Meanings) -> E
     ensures { base_of (fields_of_parts parts.now) ≡ Ok result }
 {
     let ignores = meanings.ignores_some();
+    let separator = separator_bytes(parts.wrap_width, parts.wrap_separator);
     Encoding {
-        symbols: repeated(parts.symbols, width),
-        values: meanings.into_values(),
-        width,
-        order: parts.bit_order,
-        checks_trailing_bits: checks_trailing_bits(parts.check_trailing_bits, width),
-        concatenates: concatenates(parts.concatenate, parts.padding),
-        padding: padding_byte(parts.padding),
-        ignores,
-        column: column_byte(parts.wrap_width, parts.wrap_separator),
-        separator: separator_bytes(parts.wrap_width, parts.wrap_separator),
+        fields: PlainFields {
+            symbols: repeated(parts.symbols, width),
+            values: meanings.into_values(),
+            separator: filled(separator),
+            separator_len: separator.len() as u8,
+            width,
+            column: column_byte(parts.wrap_width, parts.wrap_separator),
+            padding: padding_entry(parts.padding),
+            least_significant_first: is_least_first(parts.bit_order),
+            checks_trailing_bits: checks_trailing_bits(parts.check_trailing_bits, width),
+            concatenates: concatenates(parts.concatenate, parts.padding),
+            ignores,
+        },
     }
 }
 

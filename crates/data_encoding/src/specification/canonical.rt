@@ -6,9 +6,22 @@ ghost use Rattle.data_encoding.specs.Canonical.{IsCanonical, has_one_text};
 ghost use Rattle.data_encoding.specs.Fields.{IsSpecified};
 ghost use Rattle.data_encoding.specs.Layout.{translated_bytes};
 
-use crate::encoding::Encoding;
+use crate::encoding::{Encoding, EncodingRef};
 
 impl Encoding {
+    /// Whether no two different texts decode to the same data.
+    ///
+    /// It is so where trailing bits are checked, no byte is ignored or translated, and padded texts
+    /// may not be concatenated.
+    pub fn is_canonical(&self) -> bool
+        ensures canonical { IsTrue result ↔ IsCanonical self.now }
+        ensures causes { result ≡ has_one_text self.now }
+    {
+        self.by_ref().is_canonical()
+    }
+}
+
+impl EncodingRef<'_> {
     /// Whether no two different texts decode to the same data.
     ///
     /// It is so where trailing bits are checked, no byte is ignored or translated, and padded texts
@@ -26,7 +39,9 @@ impl Encoding {
         ensures value { result ≡ (self.now.checks_trailing_bits
             && not (is_padded self.now && self.now.concatenates) && not (ignores_some self.now)) }
     {
-        self.checks_trailing_bits && !(self.padding.is_some() && self.concatenates) && !self.ignores
+        self.fields.checks_trailing_bits
+            && !(self.fields.is_padded() && self.fields.concatenates)
+            && !self.fields.ignores
     }
 
     // Whether a byte means what another byte is for.

@@ -7,7 +7,8 @@ ghost use Rattle.data_encoding.specs.Base.{Base};
 ghost use Rattle.data_encoding.specs.Fields.{IsSpecified};
 ghost use Rattle.data_encoding.specs.Layout.{layout, order_flag};
 
-use crate::encoding::{BitOrder, Encoding, INVALID};
+use crate::encoding::{BitOrder, Encoding, EncodingRef, INVALID};
+use crate::plain::padding_of;
 use crate::specification::builder::define;
 use crate::specification::parts::SpecificationParts;
 use crate::specification::tables::{Tables, character, symbol_count};
@@ -49,14 +50,35 @@ impl Encoding {
     pub fn internal_implementation(&self) -> ArrayVec<u8, 770>
         ensures { result.items ≡ layout self.now }
     {
+        self.by_ref().internal_implementation()
+    }
+}
+
+impl EncodingRef<'_> {
+    /// The layout: 514 to 770 bytes that stand for the encoding, from which
+    /// [`internal_new`](Encoding::internal_new) makes it again. It takes no memory.
+    ///
+    /// The bytes from 0 on are the symbols, again and again, up to byte 256. The bytes from 256 on
+    /// are what the 256 bytes mean, each a symbol's value, 128 for nothing, 129 for ignored or 130
+    /// for padding. Byte 512 is the padding character, or 128 where there is none. Byte 513 is a
+    /// sum: the number of bits of a symbol, 8 where the most significant bit comes first, 16 where
+    /// trailing bits are checked, and 32 where texts may not be concatenated. With lines, the
+    /// number of characters of a line and then the separator follow; without lines, one 0 follows
+    /// where a byte is ignored, and nothing otherwise.
+    pub fn internal_implementation(&self) -> ArrayVec<u8, 770>
+        ensures { result.items ≡ layout self.now }
+    {
         let mut bytes = ArrayVec::new();
-        put(&mut bytes, &self.symbols);
-        put(&mut bytes, &self.values);
-        put(&mut bytes, &[padding_entry(self.padding), self.flags()]);
-        if self.column != 0 {
-            put(&mut bytes, &[self.column]);
-            put(&mut bytes, self.separator.as_slice());
-        } else if self.ignores {
+        put(&mut bytes, &self.fields.symbols);
+        put(&mut bytes, &self.fields.values);
+        put(
+            &mut bytes,
+            &[padding_entry(self.fields.padding_character()), self.flags()],
+        );
+        if self.fields.column != 0 {
+            put(&mut bytes, &[self.fields.column]);
+            put(&mut bytes, self.fields.line_separator());
+        } else if self.fields.ignores {
             put(&mut bytes, &[0]);
         }
         bytes
@@ -69,13 +91,17 @@ impl Encoding {
             + (if self.now.checks_trailing_bits then 16 else 0)
             + (if self.now.concatenates then 0 else 32) }
     {
-        let order = match self.order {
+        let order = match self.fields.order() {
             BitOrder::MostSignificantFirst => 8,
             BitOrder::LeastSignificantFirst => 0,
         };
-        let check = if self.checks_trailing_bits { 16 } else { 0 };
-        let single = if self.concatenates { 0 } else { 32 };
-        self.width + order + check + single
+        let check = if self.fields.checks_trailing_bits {
+            16
+        } else {
+            0
+        };
+        let single = if self.fields.concatenates { 0 } else { 32 };
+        self.fields.width + order + check + single
     }
 }
 
@@ -126,13 +152,6 @@ fn described(bytes: &[u8]) -> Option<Encoding>
         translate_to: translations.to.as_slice(),
     };
     define(&parts).ok()
-}
-
-// The padding character of its entry.
-pub(crate) fn padding_of(entry: u8) -> Option<u8>
-    ensures { result ≡ (if nat_lt entry 128 then Some entry else None) }
-{
-    if entry < 128 { Some(entry) } else { None }
 }
 
 // The order of the bits: the bit of weight 8.

@@ -4,11 +4,11 @@ ghost use Rattle.std.specs.Prelude.{◌≡◌, Ok};
 ghost use Rattle.data_encoding.specs.Fields.{base_of};
 ghost use Rattle.data_encoding.specs.Predefined.{hexlower_fields, hexlower_permissive_fields, hexupper_fields, hexupper_permissive_fields};
 
-use super::Predefined;
-use crate::encoding::{BitOrder, Encoding};
+use crate::encoding::{Encoding, EncodingRef, INVALID};
+use crate::plain::PlainFields;
 
 // The letters mean the same in either case.
-const EITHER_CASE: &[u8; 256] = values![
+const EITHER_CASE: [u8; 256] = values![
     128, 128, 128, 128, 128, 128, 128, 128, 128, 128, 128, 128, 128, 128, 128, 128, 128, 128, 128,
     128, 128, 128, 128, 128, 128, 128, 128, 128, 128, 128, 128, 128, 128, 128, 128, 128, 128, 128,
     128, 128, 128, 128, 128, 128, 128, 128, 128, 128, 0, 1, 2, 3, 4, 5, 6, 7, 8, 9, 128, 128, 128,
@@ -18,8 +18,8 @@ const EITHER_CASE: &[u8; 256] = values![
     128, 128, 128, 128, 128, 128, 128, 128
 ];
 
-const HEXLOWER: Predefined = Predefined {
-    symbols: b"0123456789abcdef0123456789abcdef0123456789abcdef0123456789abcdef\
+static HEXLOWER: PlainFields = PlainFields {
+    symbols: *b"0123456789abcdef0123456789abcdef0123456789abcdef0123456789abcdef\
         0123456789abcdef0123456789abcdef0123456789abcdef0123456789abcdef\
         0123456789abcdef0123456789abcdef0123456789abcdef0123456789abcdef\
         0123456789abcdef0123456789abcdef0123456789abcdef0123456789abcdef",
@@ -33,22 +33,23 @@ const HEXLOWER: Predefined = Predefined {
         128, 128, 128, 128, 128, 128, 128, 128, 128, 128, 128, 128, 128, 128, 128
     ],
     width: 4,
-    order: BitOrder::MostSignificantFirst,
+    least_significant_first: false,
     checks_trailing_bits: true,
     concatenates: true,
-    padding: None,
+    padding: INVALID,
     ignores: false,
     column: 0,
-    separator: b"",
+    separator: [0; 255],
+    separator_len: 0,
 };
 
-const HEXLOWER_PERMISSIVE: Predefined = Predefined {
+static HEXLOWER_PERMISSIVE: PlainFields = PlainFields {
     values: EITHER_CASE,
     ..HEXLOWER
 };
 
-const HEXUPPER: Predefined = Predefined {
-    symbols: b"0123456789ABCDEF0123456789ABCDEF0123456789ABCDEF0123456789ABCDEF\
+static HEXUPPER: PlainFields = PlainFields {
+    symbols: *b"0123456789ABCDEF0123456789ABCDEF0123456789ABCDEF0123456789ABCDEF\
         0123456789ABCDEF0123456789ABCDEF0123456789ABCDEF0123456789ABCDEF\
         0123456789ABCDEF0123456789ABCDEF0123456789ABCDEF0123456789ABCDEF\
         0123456789ABCDEF0123456789ABCDEF0123456789ABCDEF0123456789ABCDEF",
@@ -64,7 +65,7 @@ const HEXUPPER: Predefined = Predefined {
     ..HEXLOWER
 };
 
-const HEXUPPER_PERMISSIVE: Predefined = Predefined {
+static HEXUPPER_PERMISSIVE: PlainFields = PlainFields {
     values: EITHER_CASE,
     ..HEXUPPER
 };
@@ -73,26 +74,62 @@ const HEXUPPER_PERMISSIVE: Predefined = Predefined {
 pub fn hexlower() -> Encoding
     ensures { base_of hexlower_fields ≡ Ok result }
 {
-    HEXLOWER.encoding()
+    hexlower_ref().encoding()
+}
+
+/// [`hexlower`] by reference.
+#[inline(always)]
+pub fn hexlower_ref() -> EncodingRef<'static>
+    ensures { base_of hexlower_fields ≡ Ok result }
+{
+    EncodingRef { fields: &HEXLOWER }
 }
 
 /// Hexadecimal with the letters `a` to `f`, which reads `A` to `F` as these.
 pub fn hexlower_permissive() -> Encoding
     ensures { base_of hexlower_permissive_fields ≡ Ok result }
 {
-    HEXLOWER_PERMISSIVE.encoding()
+    hexlower_permissive_ref().encoding()
+}
+
+/// [`hexlower_permissive`] by reference.
+#[inline(always)]
+pub fn hexlower_permissive_ref() -> EncodingRef<'static>
+    ensures { base_of hexlower_permissive_fields ≡ Ok result }
+{
+    EncodingRef {
+        fields: &HEXLOWER_PERMISSIVE,
+    }
 }
 
 /// Hexadecimal with the letters `A` to `F`: RFC 4648, section 8.
 pub fn hexupper() -> Encoding
     ensures { base_of hexupper_fields ≡ Ok result }
 {
-    HEXUPPER.encoding()
+    hexupper_ref().encoding()
+}
+
+/// [`hexupper`] by reference.
+#[inline(always)]
+pub fn hexupper_ref() -> EncodingRef<'static>
+    ensures { base_of hexupper_fields ≡ Ok result }
+{
+    EncodingRef { fields: &HEXUPPER }
 }
 
 /// Hexadecimal with the letters `A` to `F`, which reads `a` to `f` as these.
 pub fn hexupper_permissive() -> Encoding
     ensures { base_of hexupper_permissive_fields ≡ Ok result }
 {
-    HEXUPPER_PERMISSIVE.encoding()
+    hexupper_permissive_ref().encoding()
+}
+
+/// [`hexupper_permissive`] by reference.
+#[inline(always)]
+pub fn hexupper_permissive_ref() -> EncodingRef<'static>
+    ensures { base_of hexupper_permissive_fields ≡ Ok result }
+{
+    EncodingRef {
+        fields: &HEXUPPER_PERMISSIVE,
+    }
 }

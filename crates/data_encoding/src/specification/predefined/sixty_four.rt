@@ -4,8 +4,8 @@ ghost use Rattle.std.specs.Prelude.{◌≡◌, Ok};
 ghost use Rattle.data_encoding.specs.Fields.{base_of};
 ghost use Rattle.data_encoding.specs.Predefined.{base64_fields, base64_mime_fields, base64_mime_permissive_fields, base64_nopad_fields, base64url_fields, base64url_nopad_fields};
 
-use super::Predefined;
-use crate::encoding::{BitOrder, Encoding};
+use crate::encoding::{Encoding, EncodingRef, INVALID};
+use crate::plain::PlainFields;
 
 // The values of the symbols of RFC 4648, section 4, and the entries of a line's end and of `=`.
 macro_rules! base64_values {
@@ -39,43 +39,57 @@ macro_rules! base64url_values {
     };
 }
 
-const BASE64_NOPAD: Predefined = Predefined {
-    symbols: b"ABCDEFGHIJKLMNOPQRSTUVWXYZabcdefghijklmnopqrstuvwxyz0123456789+/\
+static BASE64_NOPAD: PlainFields = PlainFields {
+    symbols: *b"ABCDEFGHIJKLMNOPQRSTUVWXYZabcdefghijklmnopqrstuvwxyz0123456789+/\
         ABCDEFGHIJKLMNOPQRSTUVWXYZabcdefghijklmnopqrstuvwxyz0123456789+/\
         ABCDEFGHIJKLMNOPQRSTUVWXYZabcdefghijklmnopqrstuvwxyz0123456789+/\
         ABCDEFGHIJKLMNOPQRSTUVWXYZabcdefghijklmnopqrstuvwxyz0123456789+/",
     values: base64_values!(128, 128),
     width: 6,
-    order: BitOrder::MostSignificantFirst,
+    least_significant_first: false,
     checks_trailing_bits: true,
     concatenates: true,
-    padding: None,
+    padding: INVALID,
     ignores: false,
     column: 0,
-    separator: b"",
+    separator: [0; 255],
+    separator_len: 0,
 };
 
-const BASE64: Predefined = Predefined {
+static BASE64: PlainFields = PlainFields {
     values: base64_values!(128, 130),
-    padding: Some(b'='),
+    padding: b'=',
     ..BASE64_NOPAD
 };
 
-const BASE64_MIME: Predefined = Predefined {
+// CR LF, followed by zeros.
+const CR_LF: [u8; 255] = [
+    13, 10, 0, 0, 0, 0, 0, 0, 0, 0, 0, 0, 0, 0, 0, 0, 0, 0, 0, 0, 0, 0, 0, 0, 0, 0, 0, 0, 0, 0, 0,
+    0, 0, 0, 0, 0, 0, 0, 0, 0, 0, 0, 0, 0, 0, 0, 0, 0, 0, 0, 0, 0, 0, 0, 0, 0, 0, 0, 0, 0, 0, 0, 0,
+    0, 0, 0, 0, 0, 0, 0, 0, 0, 0, 0, 0, 0, 0, 0, 0, 0, 0, 0, 0, 0, 0, 0, 0, 0, 0, 0, 0, 0, 0, 0, 0,
+    0, 0, 0, 0, 0, 0, 0, 0, 0, 0, 0, 0, 0, 0, 0, 0, 0, 0, 0, 0, 0, 0, 0, 0, 0, 0, 0, 0, 0, 0, 0, 0,
+    0, 0, 0, 0, 0, 0, 0, 0, 0, 0, 0, 0, 0, 0, 0, 0, 0, 0, 0, 0, 0, 0, 0, 0, 0, 0, 0, 0, 0, 0, 0, 0,
+    0, 0, 0, 0, 0, 0, 0, 0, 0, 0, 0, 0, 0, 0, 0, 0, 0, 0, 0, 0, 0, 0, 0, 0, 0, 0, 0, 0, 0, 0, 0, 0,
+    0, 0, 0, 0, 0, 0, 0, 0, 0, 0, 0, 0, 0, 0, 0, 0, 0, 0, 0, 0, 0, 0, 0, 0, 0, 0, 0, 0, 0, 0, 0, 0,
+    0, 0, 0, 0, 0, 0, 0, 0, 0, 0, 0, 0, 0, 0, 0, 0, 0, 0, 0, 0, 0, 0, 0, 0, 0, 0, 0, 0, 0, 0, 0, 0,
+];
+
+static BASE64_MIME: PlainFields = PlainFields {
     values: base64_values!(129, 130),
     ignores: true,
     column: 76,
-    separator: b"\r\n",
+    separator: CR_LF,
+    separator_len: 2,
     ..BASE64
 };
 
-const BASE64_MIME_PERMISSIVE: Predefined = Predefined {
+static BASE64_MIME_PERMISSIVE: PlainFields = PlainFields {
     checks_trailing_bits: false,
     ..BASE64_MIME
 };
 
-const BASE64URL_NOPAD: Predefined = Predefined {
-    symbols: b"ABCDEFGHIJKLMNOPQRSTUVWXYZabcdefghijklmnopqrstuvwxyz0123456789-_\
+static BASE64URL_NOPAD: PlainFields = PlainFields {
+    symbols: *b"ABCDEFGHIJKLMNOPQRSTUVWXYZabcdefghijklmnopqrstuvwxyz0123456789-_\
         ABCDEFGHIJKLMNOPQRSTUVWXYZabcdefghijklmnopqrstuvwxyz0123456789-_\
         ABCDEFGHIJKLMNOPQRSTUVWXYZabcdefghijklmnopqrstuvwxyz0123456789-_\
         ABCDEFGHIJKLMNOPQRSTUVWXYZabcdefghijklmnopqrstuvwxyz0123456789-_",
@@ -83,9 +97,9 @@ const BASE64URL_NOPAD: Predefined = Predefined {
     ..BASE64_NOPAD
 };
 
-const BASE64URL: Predefined = Predefined {
+static BASE64URL: PlainFields = PlainFields {
     values: base64url_values!(130),
-    padding: Some(b'='),
+    padding: b'=',
     ..BASE64URL_NOPAD
 };
 
@@ -94,14 +108,32 @@ const BASE64URL: Predefined = Predefined {
 pub fn base64() -> Encoding
     ensures { base_of base64_fields ≡ Ok result }
 {
-    BASE64.encoding()
+    base64_ref().encoding()
+}
+
+/// [`base64`] by reference.
+#[inline(always)]
+pub fn base64_ref() -> EncodingRef<'static>
+    ensures { base_of base64_fields ≡ Ok result }
+{
+    EncodingRef { fields: &BASE64 }
 }
 
 /// [`base64`] without padding.
 pub fn base64_nopad() -> Encoding
     ensures { base_of base64_nopad_fields ≡ Ok result }
 {
-    BASE64_NOPAD.encoding()
+    base64_nopad_ref().encoding()
+}
+
+/// [`base64_nopad`] by reference.
+#[inline(always)]
+pub fn base64_nopad_ref() -> EncodingRef<'static>
+    ensures { base_of base64_nopad_fields ≡ Ok result }
+{
+    EncodingRef {
+        fields: &BASE64_NOPAD,
+    }
 }
 
 /// [`base64`] in lines of 76 characters, each followed by CR LF, the last too: RFC 2045, section
@@ -112,26 +144,64 @@ pub fn base64_nopad() -> Encoding
 pub fn base64_mime() -> Encoding
     ensures { base_of base64_mime_fields ≡ Ok result }
 {
-    BASE64_MIME.encoding()
+    base64_mime_ref().encoding()
+}
+
+/// [`base64_mime`] by reference.
+#[inline(always)]
+pub fn base64_mime_ref() -> EncodingRef<'static>
+    ensures { base_of base64_mime_fields ≡ Ok result }
+{
+    EncodingRef {
+        fields: &BASE64_MIME,
+    }
 }
 
 /// [`base64_mime`], which does not check the trailing bits.
 pub fn base64_mime_permissive() -> Encoding
     ensures { base_of base64_mime_permissive_fields ≡ Ok result }
 {
-    BASE64_MIME_PERMISSIVE.encoding()
+    base64_mime_permissive_ref().encoding()
+}
+
+/// [`base64_mime_permissive`] by reference.
+#[inline(always)]
+pub fn base64_mime_permissive_ref() -> EncodingRef<'static>
+    ensures { base_of base64_mime_permissive_fields ≡ Ok result }
+{
+    EncodingRef {
+        fields: &BASE64_MIME_PERMISSIVE,
+    }
 }
 
 /// [`base64`] with `-` and `_` in place of `+` and `/`: RFC 4648, section 5.
 pub fn base64url() -> Encoding
     ensures { base_of base64url_fields ≡ Ok result }
 {
-    BASE64URL.encoding()
+    base64url_ref().encoding()
+}
+
+/// [`base64url`] by reference.
+#[inline(always)]
+pub fn base64url_ref() -> EncodingRef<'static>
+    ensures { base_of base64url_fields ≡ Ok result }
+{
+    EncodingRef { fields: &BASE64URL }
 }
 
 /// [`base64url`] without padding.
 pub fn base64url_nopad() -> Encoding
     ensures { base_of base64url_nopad_fields ≡ Ok result }
 {
-    BASE64URL_NOPAD.encoding()
+    base64url_nopad_ref().encoding()
+}
+
+/// [`base64url_nopad`] by reference.
+#[inline(always)]
+pub fn base64url_nopad_ref() -> EncodingRef<'static>
+    ensures { base_of base64url_nopad_fields ≡ Ok result }
+{
+    EncodingRef {
+        fields: &BASE64URL_NOPAD,
+    }
 }

@@ -4,8 +4,8 @@ ghost use Rattle.std.specs.Prelude.{◌≡◌, Ok};
 ghost use Rattle.data_encoding.specs.Fields.{base_of};
 ghost use Rattle.data_encoding.specs.Predefined.{base32_dnscurve_fields, base32_dnssec_fields, base32_fields, base32_nopad_fields, base32_nopad_nocase_fields, base32_nopad_visual_fields, base32hex_fields, base32hex_nopad_fields};
 
-use super::Predefined;
-use crate::encoding::{BitOrder, Encoding};
+use crate::encoding::{Encoding, EncodingRef, INVALID};
+use crate::plain::PlainFields;
 
 // The values of the symbols of RFC 4648, section 6, and the entry of `=`.
 macro_rules! base32_values {
@@ -39,29 +39,30 @@ macro_rules! base32hex_values {
     };
 }
 
-const BASE32_NOPAD: Predefined = Predefined {
-    symbols: b"ABCDEFGHIJKLMNOPQRSTUVWXYZ234567ABCDEFGHIJKLMNOPQRSTUVWXYZ234567\
+static BASE32_NOPAD: PlainFields = PlainFields {
+    symbols: *b"ABCDEFGHIJKLMNOPQRSTUVWXYZ234567ABCDEFGHIJKLMNOPQRSTUVWXYZ234567\
         ABCDEFGHIJKLMNOPQRSTUVWXYZ234567ABCDEFGHIJKLMNOPQRSTUVWXYZ234567\
         ABCDEFGHIJKLMNOPQRSTUVWXYZ234567ABCDEFGHIJKLMNOPQRSTUVWXYZ234567\
         ABCDEFGHIJKLMNOPQRSTUVWXYZ234567ABCDEFGHIJKLMNOPQRSTUVWXYZ234567",
     values: base32_values!(128),
     width: 5,
-    order: BitOrder::MostSignificantFirst,
+    least_significant_first: false,
     checks_trailing_bits: true,
     concatenates: true,
-    padding: None,
+    padding: INVALID,
     ignores: false,
     column: 0,
-    separator: b"",
+    separator: [0; 255],
+    separator_len: 0,
 };
 
-const BASE32: Predefined = Predefined {
+static BASE32: PlainFields = PlainFields {
     values: base32_values!(130),
-    padding: Some(b'='),
+    padding: b'=',
     ..BASE32_NOPAD
 };
 
-const BASE32_NOPAD_NOCASE: Predefined = Predefined {
+static BASE32_NOPAD_NOCASE: PlainFields = PlainFields {
     values: values![
         128, 128, 128, 128, 128, 128, 128, 128, 128, 128, 128, 128, 128, 128, 128, 128, 128, 128,
         128, 128, 128, 128, 128, 128, 128, 128, 128, 128, 128, 128, 128, 128, 128, 128, 128, 128,
@@ -74,7 +75,7 @@ const BASE32_NOPAD_NOCASE: Predefined = Predefined {
     ..BASE32_NOPAD
 };
 
-const BASE32_NOPAD_VISUAL: Predefined = Predefined {
+static BASE32_NOPAD_VISUAL: PlainFields = PlainFields {
     values: values![
         128, 128, 128, 128, 128, 128, 128, 128, 128, 128, 128, 128, 128, 128, 128, 128, 128, 128,
         128, 128, 128, 128, 128, 128, 128, 128, 128, 128, 128, 128, 128, 128, 128, 128, 128, 128,
@@ -87,8 +88,8 @@ const BASE32_NOPAD_VISUAL: Predefined = Predefined {
     ..BASE32_NOPAD
 };
 
-const BASE32HEX_NOPAD: Predefined = Predefined {
-    symbols: b"0123456789ABCDEFGHIJKLMNOPQRSTUV0123456789ABCDEFGHIJKLMNOPQRSTUV\
+static BASE32HEX_NOPAD: PlainFields = PlainFields {
+    symbols: *b"0123456789ABCDEFGHIJKLMNOPQRSTUV0123456789ABCDEFGHIJKLMNOPQRSTUV\
         0123456789ABCDEFGHIJKLMNOPQRSTUV0123456789ABCDEFGHIJKLMNOPQRSTUV\
         0123456789ABCDEFGHIJKLMNOPQRSTUV0123456789ABCDEFGHIJKLMNOPQRSTUV\
         0123456789ABCDEFGHIJKLMNOPQRSTUV0123456789ABCDEFGHIJKLMNOPQRSTUV",
@@ -96,14 +97,14 @@ const BASE32HEX_NOPAD: Predefined = Predefined {
     ..BASE32_NOPAD
 };
 
-const BASE32HEX: Predefined = Predefined {
+static BASE32HEX: PlainFields = PlainFields {
     values: base32hex_values!(130),
-    padding: Some(b'='),
+    padding: b'=',
     ..BASE32HEX_NOPAD
 };
 
-const BASE32_DNSSEC: Predefined = Predefined {
-    symbols: b"0123456789abcdefghijklmnopqrstuv0123456789abcdefghijklmnopqrstuv\
+static BASE32_DNSSEC: PlainFields = PlainFields {
+    symbols: *b"0123456789abcdefghijklmnopqrstuv0123456789abcdefghijklmnopqrstuv\
         0123456789abcdefghijklmnopqrstuv0123456789abcdefghijklmnopqrstuv\
         0123456789abcdefghijklmnopqrstuv0123456789abcdefghijklmnopqrstuv\
         0123456789abcdefghijklmnopqrstuv0123456789abcdefghijklmnopqrstuv",
@@ -119,8 +120,8 @@ const BASE32_DNSSEC: Predefined = Predefined {
     ..BASE32_NOPAD
 };
 
-const BASE32_DNSCURVE: Predefined = Predefined {
-    symbols: b"0123456789bcdfghjklmnpqrstuvwxyz0123456789bcdfghjklmnpqrstuvwxyz\
+static BASE32_DNSCURVE: PlainFields = PlainFields {
+    symbols: *b"0123456789bcdfghjklmnpqrstuvwxyz0123456789bcdfghjklmnpqrstuvwxyz\
         0123456789bcdfghjklmnpqrstuvwxyz0123456789bcdfghjklmnpqrstuvwxyz\
         0123456789bcdfghjklmnpqrstuvwxyz0123456789bcdfghjklmnpqrstuvwxyz\
         0123456789bcdfghjklmnpqrstuvwxyz0123456789bcdfghjklmnpqrstuvwxyz",
@@ -133,7 +134,7 @@ const BASE32_DNSCURVE: Predefined = Predefined {
         11, 12, 128, 13, 14, 15, 128, 16, 17, 18, 19, 20, 128, 21, 22, 23, 24, 25, 26, 27, 28, 29,
         30, 31, 128, 128, 128, 128, 128
     ],
-    order: BitOrder::LeastSignificantFirst,
+    least_significant_first: true,
     ..BASE32_NOPAD
 };
 
@@ -142,21 +143,49 @@ const BASE32_DNSCURVE: Predefined = Predefined {
 pub fn base32() -> Encoding
     ensures { base_of base32_fields ≡ Ok result }
 {
-    BASE32.encoding()
+    base32_ref().encoding()
+}
+
+/// [`base32`] by reference.
+#[inline(always)]
+pub fn base32_ref() -> EncodingRef<'static>
+    ensures { base_of base32_fields ≡ Ok result }
+{
+    EncodingRef { fields: &BASE32 }
 }
 
 /// [`base32`] without padding.
 pub fn base32_nopad() -> Encoding
     ensures { base_of base32_nopad_fields ≡ Ok result }
 {
-    BASE32_NOPAD.encoding()
+    base32_nopad_ref().encoding()
+}
+
+/// [`base32_nopad`] by reference.
+#[inline(always)]
+pub fn base32_nopad_ref() -> EncodingRef<'static>
+    ensures { base_of base32_nopad_fields ≡ Ok result }
+{
+    EncodingRef {
+        fields: &BASE32_NOPAD,
+    }
 }
 
 /// [`base32_nopad`], which reads `a` to `z` as the letters of upper case.
 pub fn base32_nopad_nocase() -> Encoding
     ensures { base_of base32_nopad_nocase_fields ≡ Ok result }
 {
-    BASE32_NOPAD_NOCASE.encoding()
+    base32_nopad_nocase_ref().encoding()
+}
+
+/// [`base32_nopad_nocase`] by reference.
+#[inline(always)]
+pub fn base32_nopad_nocase_ref() -> EncodingRef<'static>
+    ensures { base_of base32_nopad_nocase_fields ≡ Ok result }
+{
+    EncodingRef {
+        fields: &BASE32_NOPAD_NOCASE,
+    }
 }
 
 /// [`base32_nopad`], which reads what looks like a symbol as that symbol: `0` as `O`, `1` and `l`
@@ -164,21 +193,49 @@ pub fn base32_nopad_nocase() -> Encoding
 pub fn base32_nopad_visual() -> Encoding
     ensures { base_of base32_nopad_visual_fields ≡ Ok result }
 {
-    BASE32_NOPAD_VISUAL.encoding()
+    base32_nopad_visual_ref().encoding()
+}
+
+/// [`base32_nopad_visual`] by reference.
+#[inline(always)]
+pub fn base32_nopad_visual_ref() -> EncodingRef<'static>
+    ensures { base_of base32_nopad_visual_fields ≡ Ok result }
+{
+    EncodingRef {
+        fields: &BASE32_NOPAD_VISUAL,
+    }
 }
 
 /// Base32 with the digits and then the letters `A` to `V`, padded with `=`: RFC 4648, section 7.
 pub fn base32hex() -> Encoding
     ensures { base_of base32hex_fields ≡ Ok result }
 {
-    BASE32HEX.encoding()
+    base32hex_ref().encoding()
+}
+
+/// [`base32hex`] by reference.
+#[inline(always)]
+pub fn base32hex_ref() -> EncodingRef<'static>
+    ensures { base_of base32hex_fields ≡ Ok result }
+{
+    EncodingRef { fields: &BASE32HEX }
 }
 
 /// [`base32hex`] without padding.
 pub fn base32hex_nopad() -> Encoding
     ensures { base_of base32hex_nopad_fields ≡ Ok result }
 {
-    BASE32HEX_NOPAD.encoding()
+    base32hex_nopad_ref().encoding()
+}
+
+/// [`base32hex_nopad`] by reference.
+#[inline(always)]
+pub fn base32hex_nopad_ref() -> EncodingRef<'static>
+    ensures { base_of base32hex_nopad_fields ≡ Ok result }
+{
+    EncodingRef {
+        fields: &BASE32HEX_NOPAD,
+    }
 }
 
 /// [`base32hex_nopad`] with the letters `a` to `v`, which reads `A` to `V` as these: the base32 of
@@ -186,7 +243,17 @@ pub fn base32hex_nopad() -> Encoding
 pub fn base32_dnssec() -> Encoding
     ensures { base_of base32_dnssec_fields ≡ Ok result }
 {
-    BASE32_DNSSEC.encoding()
+    base32_dnssec_ref().encoding()
+}
+
+/// [`base32_dnssec`] by reference.
+#[inline(always)]
+pub fn base32_dnssec_ref() -> EncodingRef<'static>
+    ensures { base_of base32_dnssec_fields ≡ Ok result }
+{
+    EncodingRef {
+        fields: &BASE32_DNSSEC,
+    }
 }
 
 /// The base32 of DNSCurve: the bit of weight 1 first, with the digits and then the letters of lower
@@ -194,5 +261,15 @@ pub fn base32_dnssec() -> Encoding
 pub fn base32_dnscurve() -> Encoding
     ensures { base_of base32_dnscurve_fields ≡ Ok result }
 {
-    BASE32_DNSCURVE.encoding()
+    base32_dnscurve_ref().encoding()
+}
+
+/// [`base32_dnscurve`] by reference.
+#[inline(always)]
+pub fn base32_dnscurve_ref() -> EncodingRef<'static>
+    ensures { base_of base32_dnscurve_fields ≡ Ok result }
+{
+    EncodingRef {
+        fields: &BASE32_DNSCURVE,
+    }
 }

@@ -6,25 +6,25 @@ use Rattle.data_encoding.proofs.encoding.Encoding.interpret_byte.Goals as goal
 
 pub returns-then-entry-lt64 : goal.returns-then-entry-lt64
 returns-then-entry-lt64 c =
-    let holds = HoldsEntries-tables c.self.inside c.self.invariant in
-    let means = meaning-any c.self.inside.values holds c.args.byte (omega arith) in
+    let holds = HoldsEntries-tables _ c.self.invariant in
+    let means = meaning-any c.self.inside.fields.values holds c.args.byte (omega arith) in
     rw (← c.self.view_is) (sym (means ∙ value-symbol _ c.if-entry-lt64.true))
 
 pub returns-then-entry : goal.returns-then-entry
 returns-then-entry c =
-    let holds = HoldsEntries-tables c.self.inside c.self.invariant in
-    let means = meaning-any c.self.inside.values holds c.args.byte (omega arith) in
+    let holds = HoldsEntries-tables _ c.self.invariant in
+    let means = meaning-any c.self.inside.fields.values holds c.args.byte (omega arith) in
     rw (← c.self.view_is) (meaning-ignored _ c.if-entry.true ∙ sym means)
 
 pub returns-then-entry-2 : goal.returns-then-entry-2
 returns-then-entry-2 c =
-    let holds = HoldsEntries-tables c.self.inside c.self.invariant in
-    let means = meaning-any c.self.inside.values holds c.args.byte (omega arith) in
+    let holds = HoldsEntries-tables _ c.self.invariant in
+    let means = meaning-any c.self.inside.fields.values holds c.args.byte (omega arith) in
     rw (← c.self.view_is) (meaning-padding _ c.if-entry-2.true ∙ sym means)
 
 pub returns-else-entry-2 : goal.returns-else-entry-2
 returns-else-entry-2 c =
-    let holds = HoldsEntries-tables c.self.inside c.self.invariant in
-    let means = meaning-any c.self.inside.values holds c.args.byte (omega arith) in
+    let holds = HoldsEntries-tables _ c.self.invariant in
+    let means = meaning-any c.self.inside.fields.values holds c.args.byte (omega arith) in
     rw (← c.self.view_is) (meaning-invalid _ c.if-entry-lt64.false c.if-entry.false
     c.if-entry-2.false ∙ sym means)

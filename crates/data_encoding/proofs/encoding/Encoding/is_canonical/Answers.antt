@@ -1,27 +1,7 @@
-use Rattle.std.proofs.Common.{sym, ◌∙◌}
-use Rattle.data_encoding.proofs.canonicity.CauseLemmas.{canonical-by}
-use Rattle.data_encoding.proofs.canonicity.TranslatedLemmas.{has_one_text-by, not_one_text}
-use Rattle.data_encoding.proofs.judgement.RuleLemmas.{IsRuled-yield}
 use Rattle.data_encoding.proofs.encoding.Encoding.is_canonical.Goals as goal
 
-pub returns-then-has_one_meaning : goal.returns-then-has_one_meaning
-returns-then-has_one_meaning c =
-    let base = c.args.self.now in
-    let specified = c.has_one_meaning.ensures.base in
-    let is = has_one_text-by base c.translates.result c.translates.ensures
-    (sym c.if-has_one_meaning.true ∙ c.has_one_meaning.ensures.value) in
-    record {
-      canonical = canonical-by base (IsRuled-yield specified.fields base specified.yields) _ is;
-      causes = is;
-    }
+pub returns-clause-canonical : goal.returns-clause-canonical
+returns-clause-canonical c = rw (← c.by_ref.ensures) c.is_canonical.ensures.canonical
 
-pub returns-else-has_one_meaning : goal.returns-else-has_one_meaning
-returns-else-has_one_meaning c =
-    let base = c.args.self.now in
-    let specified = c.has_one_meaning.ensures.base in
-    let is = c.if-has_one_meaning.false
-    ∙ not_one_text base (sym c.if-has_one_meaning.false ∙ c.has_one_meaning.ensures.value) in
-    record {
-      canonical = canonical-by base (IsRuled-yield specified.fields base specified.yields) _ is;
-      causes = is;
-    }
+pub returns-clause-causes : goal.returns-clause-causes
+returns-clause-causes c = rw (← c.by_ref.ensures) c.is_canonical.ensures.causes

@@ -19,7 +19,7 @@ orders-Decides LeastSignificantFirst MostSignificantFirst = (λ h. cc, λ h. cc)
 pub returns-then-eq-3-clause-base : goal.returns-then-eq-3-clause-base
 returns-then-eq-3-clause-base c =
     base-Decides c.self.invariant c.other.invariant c.self.view_is c.other.view_is
-    (orders-Decides c.self.inside.order c.other.inside.order) (search rules)
+    (orders-Decides _ _) (search rules)
 
 pub returns-then-eq-3-clause-same : goal.returns-then-eq-3-clause-same
 returns-then-eq-3-clause-same c =
@@ -34,7 +34,7 @@ returns-then-eq-3-clause-value c =
 pub returns-else-eq-3-clause-base : goal.returns-else-eq-3-clause-base
 returns-else-eq-3-clause-base c =
     base-Decides c.self.invariant c.other.invariant c.self.view_is c.other.view_is
-    (orders-Decides c.self.inside.order c.other.inside.order) (search rules)
+    (orders-Decides _ _) (search rules)
 
 pub returns-else-eq-3-clause-same : goal.returns-else-eq-3-clause-same
 returns-else-eq-3-clause-same c =

@@ -1,13 +1,14 @@
-use Rattle.std.proofs.Common.{refl}
-use Rattle.data_encoding.specs.declared.encoding.Encoding.TheInside.{Inside}
-use Rattle.data_encoding.specs.Specification.{fields_of_parts}
+use Rattle.std.proofs.Common.{◌∙◌, length, take}
+use Rattle.data_encoding.specs.Encoding.{EncodingTables}
 use Rattle.data_encoding.specs.Fields.{wraps}
+use Rattle.data_encoding.specs.PlainTables.{order_by, padding_by}
+use Rattle.data_encoding.specs.Specification.{fields_of_parts}
 use Rattle.data_encoding.proofs.judgement.BuilderLemmas.{IsMadeOf, lines-short, padding-ascii, rules-made, yields-made}
 use Rattle.data_encoding.proofs.judgement.RuleLemmas.{IsRuled-from, base_from}
 use Rattle.data_encoding.proofs.specification.builder.assembled.Goals as goal
 
-pub padding_byte-requires : goal.padding_byte-requires
-padding_byte-requires c =
+pub padding_entry-requires : goal.padding_entry-requires
+padding_entry-requires c =
     let fields = fields_of_parts c.args.parts.now in
     let ruled = IsRuled-from c.args.width fields c.args.meanings c.requires.sized
     c.requires.width.some
@@ -23,8 +24,8 @@ column_byte-requires c =
     λ on. (lines-short (base_from c.args.width fields c.args.meanings)
     (wraps fields.column fields.separator) fields.column fields.separator ruled.wrapping on).0
 
-pub separator_bytes-requires : goal.separator_bytes-requires
-separator_bytes-requires c =
+pub separator_bytes-separator-requires : goal.separator_bytes-separator-requires
+separator_bytes-separator-requires c =
     let fields = fields_of_parts c.args.parts.now in
     let ruled = IsRuled-from c.args.width fields c.args.meanings c.requires.sized
     c.requires.width.some
@@ -32,23 +33,23 @@ separator_bytes-requires c =
     λ on. (lines-short (base_from c.args.width fields c.args.meanings)
     (wraps fields.column fields.separator) fields.column fields.separator ruled.wrapping on).1
 
-inside : goal.After-separator_bytes → Inside
-inside c = record {
+tables : goal.After-concatenates → EncodingTables
+tables c = record {
   symbols = c.repeated.result;
   values = c.into_values.result;
   width = c.args.width;
-  order = c.args.parts.now.bit_order;
+  order = order_by c.is_least_first.result;
   checks_trailing_bits = c.checks_trailing_bits.result;
   concatenates = c.concatenates.result;
-  padding = c.padding_byte.result;
+  padding = padding_by c.padding_entry.result;
   ignores = c.ignores_some-ignores.result;
   column = c.column_byte.result;
-  separator = c.separator_bytes.result;
+  separator = take (length c.separator_bytes-separator.result.now) c.filled.result;
 }
 
-made : (c : goal.After-separator_bytes)
-    → IsMadeOf (fields_of_parts c.args.parts.now) (inside c) c.args.meanings
-unfolding inside
+made : (c : goal.After-concatenates)
+    → IsMadeOf (fields_of_parts c.args.parts.now) (tables c) c.args.meanings
+unfolding tables
 made c = record {
   width_is = c.requires.sized;
   is_width = c.requires.width;
@@ -57,21 +58,21 @@ made c = record {
   repeat = c.repeated.ensures;
   holds = c.into_values.ensures.entries;
   values = c.into_values.ensures.meanings;
-  order = refl;
+  order = c.is_least_first.ensures;
   checks = c.checks_trailing_bits.ensures;
   concatenates = c.concatenates.ensures;
-  padding = c.padding_byte.ensures;
+  padding = c.padding_entry.ensures;
   ignores = c.ignores_some-ignores.ensures;
   column = c.column_byte.ensures;
-  separator = c.separator_bytes.ensures;
+  separator = c.filled.ensures ∙ c.separator_bytes-separator.ensures.value;
 }
 
 pub invariant_of-result : goal.invariant_of-result
-unfolding inside
+unfolding tables
 invariant_of-result c =
-    rules-made (fields_of_parts c.args.parts.now) (inside c) c.args.meanings (made c)
+    rules-made (fields_of_parts c.args.parts.now) (tables c) c.args.meanings (made c)
 
 pub returns : goal.returns
-unfolding inside
+unfolding tables
 returns c =
-    yields-made (fields_of_parts c.args.parts.now) (inside c) c.args.meanings (made c)
+    yields-made (fields_of_parts c.args.parts.now) (tables c) c.args.meanings (made c)

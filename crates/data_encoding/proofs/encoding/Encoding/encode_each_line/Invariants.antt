@@ -1,7 +1,0 @@
-use Rattle.data_encoding.specs.Text.{text_of}
-use Rattle.data_encoding.proofs.lists.PieceLemmas.{WritesPieces}
-use Rattle.data_encoding.proofs.encoding.Encoding.encode_each_line.Given as goal
-
-abbrev pub invariant-loop-index : goal.invariant-loop-index
-invariant-loop-index g l =
-    WritesPieces (text_of l.self) l.line_bytes l.line_len l.input l.output l.index

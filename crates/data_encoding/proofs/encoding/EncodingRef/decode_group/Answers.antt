@@ -1,0 +1,149 @@
+use Rattle.std.proofs.Common.{◌≡◌, ◌*◌, ◌/◌, ◌<◌, ◌≤◌, ◌==◌, ◌&&◌, false, not, length, map, take, drop, refl, sym, ap, ◌∙◌, subst, arith, length-take-le, ⊎_elim}
+use Rattle.std.proofs.Math.Nat.{mul-le-mul_left}
+use Rattle.std.proofs.lemmas.Nat.{mul-le}
+use Rattle.std.proofs.lemmas.Bool.{cases_lt, false≢true}
+use Rattle.std.specs.List.{list_any}
+use Rattle.data_encoding.specs.Base.{Base, meaning}
+use Rattle.data_encoding.specs.Decoding.{HasFault}
+use Rattle.data_encoding.specs.Fault.{trailing_bits}
+use Rattle.data_encoding.proofs.decoding.GroupJudgementLemmas.{group-sound, symbol-fault, trailing-fault}
+use Rattle.data_encoding.proofs.digits.SizeLemmas.{IsSmall-group}
+use Rattle.data_encoding.proofs.digits.WidthLemmas.{group_symbols-few}
+use Rattle.data_encoding.proofs.tables.TableLemmas.{HoldsValues-seen, Reads-seen}
+use Rattle.data_encoding.proofs.encoding.EncodingRef.decode_group.Goals as goal
+use Rattle.data_encoding.proofs.encoding.EncodingRef.decode_group.Goals.{else-self-via-then-self+else-has_trailing, else-self-via-else-self}
+
+pub slice_bounds-room-end : goal.slice_bounds-room-end
+slice_bounds-room-end g c =
+    let room : c.WIDTH.result * length c.args.group.now / 8 ≤ length c.args.output.now =
+    subst (λ w. w * length c.args.group.now / 8 ≤ length c.args.output.now) (sym c.WIDTH.ensures)
+    (c.requires.room c.in-Ok.ensures.whole) in
+    let most = mul-le-mul_left c.WIDTH.result c.in-Ok.ensures.symbols.within in
+    omega (arith, most, room)
+
+pub slice_bounds-room-end-2 : goal.slice_bounds-room-end-2
+slice_bounds-room-end-2 g c =
+    let room : c.WIDTH.result * length c.args.group.now / 8 ≤ length c.args.output.now =
+    subst (λ w. w * length c.args.group.now / 8 ≤ length c.args.output.now) (sym c.WIDTH.ensures)
+    (c.requires.room c.in-Ok.ensures.whole) in
+    let most = mul-le-mul_left c.WIDTH.result c.in-Ok.ensures.symbols.within in
+    sym (length-take-le (c.WIDTH.result * c.in-Ok.count / 8) c.args.output.now
+    (omega (arith, most, room)))
+
+pub decode_symbols-requires-clause-exact : goal.decode_symbols-requires-clause-exact
+decode_symbols-requires-clause-exact g c =
+    let room : c.WIDTH.result * length c.args.group.now / 8 ≤ length c.args.output.now =
+    subst (λ w. w * length c.args.group.now / 8 ≤ length c.args.output.now) (sym c.WIDTH.ensures)
+    (c.requires.room c.in-Ok.ensures.whole) in
+    let count = c.in-Ok.count in
+    let group = c.args.group.now in
+    let few = c.in-Ok.ensures.symbols.within in
+    let most = mul-le-mul_left c.WIDTH.result few in
+    length-take-le (c.WIDTH.result * count / 8) c.args.output.now (omega (arith, most, room))
+    ∙ ap (λ n. c.WIDTH.result * n / 8) (sym (length-take-le count group few))
+    ∙ ap (λ w. w * length (take count group) / 8) c.WIDTH.ensures
+
+pub returns-then-index-count-clause-fault : goal.returns-then-index-count-clause-fault
+returns-then-index-count-clause-fault g c =
+    let seen = c.args.self.now in
+    let group = c.args.group.now in
+    let count = c.in-Ok.count in
+    let found = c.symbol_position-index.result in
+    let few = length-take-le count group c.in-Ok.ensures.symbols.within in
+    let inside : found < length (take count group) = omega (arith, few, c.if-index-count.true) in
+    subst (HasFault seen group) (sym c.faulty.ensures)
+    (symbol-fault seen c.self.inside.fields.now.values
+    (HoldsValues-seen _ c.self.invariant seen c.self.view_is) group
+    (λ k. (c.type_inv.group k).fits) count c.in-Ok.ensures.symbols found inside
+    c.symbol_position-index.ensures.before (c.symbol_position-index.ensures.there inside))
+
+pub returns-then-not-decode_symbols-clause-fault :
+    goal.returns-then-not-decode_symbols-clause-fault
+returns-then-not-decode_symbols-clause-fault g c =
+    let seen = c.args.self.now in
+    let group = c.args.group.now in
+    let count = c.in-Ok.count in
+    let symbols = take count group in
+    let found = c.symbol_position.result in
+    let inside : found < length symbols =
+    ⊎_elim
+    (λ (inside : found < length symbols). inside)
+    (λ (past : length symbols ≤ found).
+    absurd (false≢true (c.if-not-decode_symbols.ensures.symbols.1
+    (λ k below. c.symbol_position.ensures.before k (omega (arith, past, below))))))
+    (cases_lt found (length symbols)) in
+    subst (HasFault seen group) (sym c.faulty-then-not-decode_symbols.ensures)
+    (symbol-fault seen c.self.inside.fields.now.values
+    (HoldsValues-seen _ c.self.invariant seen c.self.view_is) group
+    (λ k. (c.type_inv.group k).fits) count c.in-Ok.ensures.symbols found inside
+    c.symbol_position.ensures.before (c.symbol_position.ensures.there inside))
+
+pub has_trailing-requires-clause-few : goal.has_trailing-requires-clause-few
+has_trailing-requires-clause-few g c =
+    let few = length-take-le c.in-Ok.count c.args.group.now c.in-Ok.ensures.symbols.within in
+    let most = group_symbols-few g.G.GroupSize.WIDTH g.G.GroupSize.is_group.is_width in
+    omega (arith, few, most, c.in-Ok.ensures.symbols.within, g.G.GroupSize.is_group.has_symbols)
+
+pub has_trailing-requires-clause-symbols : goal.has_trailing-requires-clause-symbols
+has_trailing-requires-clause-symbols g c = c.if-not-decode_symbols.ensures.symbols.0 refl
+
+pub overflow_sub-count : goal.overflow_sub-count
+overflow_sub-count g c =
+    let few = length-take-le c.in-Ok.count c.args.group.now c.in-Ok.ensures.symbols.within in
+    omega (arith, few, c.if-has_trailing.ensures.some refl)
+
+pub returns-then-has_trailing-clause-fault : goal.returns-then-has_trailing-clause-fault
+returns-then-has_trailing-clause-fault g c =
+    let seen = c.args.self.now in
+    let group = c.args.group.now in
+    let count = c.in-Ok.count in
+    let holds = HoldsValues-seen _ c.self.invariant seen c.self.view_is in
+    subst (HasFault seen group) (sym c.faulty-then-has_trailing.ensures)
+    (trailing-fault seen c.self.inside.fields.now.values holds group (λ k. (c.type_inv.group k).fits) count
+    c.in-Ok.ensures.symbols (c.if-not-decode_symbols.ensures.symbols.0 refl)
+    (ap (λ (b : Base). b.checks_trailing_bits) (sym c.self.view_is) ∙ c.if-self.true)
+    (sym (c.if-has_trailing.ensures.any seen
+    (Reads-seen _ c.self.invariant seen c.self.view_is g.G.GroupSize.WIDTH c.args.order
+    c.requires.width c.requires.order)))
+    (c.if-has_trailing.ensures.some refl))
+
+pub returns-clause-sound : goal.returns-clause-sound
+returns-clause-sound g c =
+    let room : c.WIDTH.result * length c.args.group.now / 8 ≤ length c.args.output.now =
+    subst (λ w. w * length c.args.group.now / 8 ≤ length c.args.output.now) (sym c.WIDTH.ensures)
+    (c.requires.room c.in-Ok.ensures.whole) in
+    let seen = c.args.self.now in
+    let group = c.args.group.now in
+    let count = c.in-Ok.count in
+    let symbols = take count group in
+    let judged = map (meaning seen) symbols in
+    let few = c.in-Ok.ensures.symbols.within in
+    let most = mul-le-mul_left c.WIDTH.result few in
+    let reads = Reads-seen _ c.self.invariant seen c.self.view_is g.G.GroupSize.WIDTH
+    c.args.order c.requires.width c.requires.order in
+    let checks = ap (λ (b : Base). b.checks_trailing_bits) (sym c.self.view_is) in
+    let quiet : (seen.checks_trailing_bits
+    && list_any (λ bit. not (bit == 0)) (trailing_bits seen judged)) ≡ false =
+    elim c.else-self.branch [
+      | else-self-via-then-self+else-has_trailing w ↦
+          (λ i. (checks ∙ w.if-self.true) i
+          && sym (w.if-has_trailing.ensures.any seen reads) i)
+      | else-self-via-else-self w ↦
+          ap (λ b. b && list_any (λ bit. not (bit == 0)) (trailing_bits seen judged))
+          (checks ∙ w.if-self.false)
+    ] in
+    group-sound seen c.self.inside.fields.now.values reads.holds group (λ k. (c.type_inv.group k).fits) count
+    c.in-Ok.ensures.symbols (c.if-not-decode_symbols.ensures.symbols.0 refl) quiet
+    c.decode_symbols.new.output (drop (c.WIDTH.result * count / 8) c.args.output.now)
+    (c.decode_symbols.auto.output
+    ∙ length-take-le (c.WIDTH.result * count / 8) c.args.output.now (omega (arith, most, room))
+    ∙ ap (λ w. w * count / 8) (c.WIDTH.ensures ∙ sym c.requires.width))
+    (c.if-not-decode_symbols.ensures.bytes seen reads refl)
+
+pub overflow_mul-room : goal.overflow_mul-room
+overflow_mul-room g c =
+    let few = (IsSmall-group g.G.GroupSize.is_group).few_symbols in
+    let most = mul-le c.WIDTH.result c.in-Ok.count 6 8
+    (omega (arith, g.G.GroupSize.is_group.is_width.few, c.WIDTH.ensures))
+    (omega (arith, few, c.requires.few, c.in-Ok.ensures.symbols.within)) in
+    record { fits = omega (arith, most) }

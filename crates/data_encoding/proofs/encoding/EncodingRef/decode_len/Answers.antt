@@ -1,0 +1,32 @@
+use Rattle.std.proofs.Common.{◌≡◌, ◌≤◌, false, length, IsOkAnd, sym, ap, ◌∙◌, subst}
+use Rattle.data_encoding.specs.Base.{ignores_some}
+use Rattle.data_encoding.specs.Lengths.{decoded_len, is_valid_length}
+use Rattle.data_encoding.proofs.grammar.LengthLemmas.{decoded_len-invalid}
+use Rattle.data_encoding.proofs.grammar.MeaningLemmas.{decoded_len-Means, length-Means}
+use Rattle.data_encoding.proofs.tables.TableLemmas.{IsWidth-seen}
+use Rattle.data_encoding.proofs.tables.TableRuleLemmas.{is_base_of}
+use Rattle.data_encoding.proofs.encoding.EncodingRef.decode_len.Goals as goal
+
+pub returns-then-not-is_valid_length-clause-most : goal.returns-then-not-is_valid_length-clause-most
+returns-then-not-is_valid_length-clause-most c text bytes h means =
+    let seen = c.args.self.now in
+    let width = IsWidth-seen _ c.self.invariant seen c.self.view_is in
+    let none : ignores_some seen ≡ false =
+    rw (← c.self.view_is) (sym c.self.invariant.ignores ∙ c.if-not-self.true) in
+    let invalid : is_valid_length seen c.args.len ≡ false =
+    sym c.is_valid_length.ensures ∙ c.if-not-is_valid_length.true in
+    subst (λ r. IsOkAnd r (λ most. length bytes ≤ most))
+    (ap (decoded_len seen) h ∙ decoded_len-invalid seen c.args.len none invalid)
+    (decoded_len-Means seen width text bytes means)
+
+pub returns-then-not-is_valid_length-clause-base : goal.returns-then-not-is_valid_length-clause-base
+returns-then-not-is_valid_length-clause-base c =
+    rw (← c.self.view_is) (is_base_of _ c.self.invariant)
+
+pub returns-clause-most : goal.returns-clause-most
+returns-clause-most c text bytes h means =
+    let width = IsWidth-seen _ c.self.invariant c.args.self.now c.self.view_is in
+    rw (h, ← c.most_bytes.ensures) at (length-Means c.args.self.now width text bytes means)
+
+pub returns-clause-base : goal.returns-clause-base
+returns-clause-base c = rw (← c.self.view_is) (is_base_of _ c.self.invariant)

@@ -1,0 +1,44 @@
+use Rattle.data_encoding.proofs.decoding.LoopLemmas.{stopped-means, stopped-most, stopped-stops}
+use Rattle.data_encoding.proofs.encoding.EncodingRef.decode_mut.Goals as goal
+
+pub returns-clause-accepted : goal.returns-clause-accepted
+returns-clause-accepted c =
+    let stops = stopped-stops c.args.self.now c.args.input.now c.decode_by_length.new.output
+    c.decode_by_length.new.stop (c.decode_by_length.ensures.stopped c.if-decode_by_length.false)
+    c.stopped.new.output c.stopped.result c.stopped.auto.output c.stopped.ensures.kept
+    c.stopped.ensures.stop in
+    stopped-means c.args.self.now c.decode_by_length.ensures.width c.args.input.now
+    c.stopped.new.output c.stopped.result stops
+
+pub returns-clause-fault : goal.returns-clause-fault
+returns-clause-fault c =
+    let stops = stopped-stops c.args.self.now c.args.input.now c.decode_by_length.new.output
+    c.decode_by_length.new.stop (c.decode_by_length.ensures.stopped c.if-decode_by_length.false)
+    c.stopped.new.output c.stopped.result c.stopped.auto.output c.stopped.ensures.kept
+    c.stopped.ensures.stop in
+    stops.is_partial
+
+pub returns-clause-partial : goal.returns-clause-partial
+returns-clause-partial c =
+    let stops = stopped-stops c.args.self.now c.args.input.now c.decode_by_length.new.output
+    c.decode_by_length.new.stop (c.decode_by_length.ensures.stopped c.if-decode_by_length.false)
+    c.stopped.new.output c.stopped.result c.stopped.auto.output c.stopped.ensures.kept
+    c.stopped.ensures.stop in
+    stops.means
+
+pub returns-clause-bounds : goal.returns-clause-bounds
+returns-clause-bounds c =
+    let stops = stopped-stops c.args.self.now c.args.input.now c.decode_by_length.new.output
+    c.decode_by_length.new.stop (c.decode_by_length.ensures.stopped c.if-decode_by_length.false)
+    c.stopped.new.output c.stopped.result c.stopped.auto.output c.stopped.ensures.kept
+    c.stopped.ensures.stop in
+    (stops.read_before, stops.within)
+
+pub returns-clause-most : goal.returns-clause-most
+returns-clause-most c =
+    let stops = stopped-stops c.args.self.now c.args.input.now c.decode_by_length.new.output
+    c.decode_by_length.new.stop (c.decode_by_length.ensures.stopped c.if-decode_by_length.false)
+    c.stopped.new.output c.stopped.result c.stopped.auto.output c.stopped.ensures.kept
+    c.stopped.ensures.stop in
+    stopped-most c.args.self.now c.decode_by_length.ensures.width c.args.input.now
+    c.stopped.new.output c.stopped.result stops

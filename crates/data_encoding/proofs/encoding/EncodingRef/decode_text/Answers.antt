@@ -1,0 +1,19 @@
+use Rattle.std.proofs.Common.{sym, subst}
+use Rattle.data_encoding.specs.Base.{IsWidth}
+use Rattle.data_encoding.proofs.decoding.IgnoredFrontLemmas.{no_front}
+use Rattle.data_encoding.proofs.decoding.ProgressLemmas.{begin}
+use Rattle.data_encoding.proofs.tables.TableLemmas.{Reads-seen}
+use Rattle.data_encoding.proofs.encoding.EncodingRef.decode_text.Goals as goal
+
+pub decode_run_behind-at-requires-clause-reads : goal.decode_run_behind-at-requires-clause-reads
+decode_run_behind-at-requires-clause-reads g c =
+    Reads-seen _ c.self.invariant c.args.self.now c.self.view_is g.G.GroupSize.WIDTH
+    c.args.order c.requires.width c.requires.order
+
+pub decode_run_behind-at-requires-clause-so_far : goal.decode_run_behind-at-requires-clause-so_far
+decode_run_behind-at-requires-clause-so_far g c =
+    begin c.args.self.now (subst IsWidth (sym c.requires.width) g.G.GroupSize.is_group.is_width)
+    c.args.input.now c.args.output.now
+
+pub decode_run_behind-at-requires-clause-front : goal.decode_run_behind-at-requires-clause-front
+decode_run_behind-at-requires-clause-front g c = no_front c.args.self.now c.args.input.now

@@ -1,0 +1,7 @@
+use Rattle.data_encoding.specs.Text.{text_of}
+use Rattle.data_encoding.proofs.lists.PieceLemmas.{WritesPieces}
+use Rattle.data_encoding.proofs.encoding.EncodingRef.encode_blocks.Given as goal
+
+abbrev pub invariant-loop-index : goal.invariant-loop-index
+invariant-loop-index g l =
+    WritesPieces (text_of l.self) l.block_bytes l.block_len l.input l.output l.index

@@ -1,0 +1,86 @@
+use Rattle.std.proofs.Common.{◌∙◌, arith}
+use Rattle.data_encoding.proofs.lists.PieceLemmas.{before, length-part, part-begins, piece-begins, piece-few, piece-last, piece-next, piece-some, written-first}
+use Rattle.data_encoding.proofs.text.LinePieceLemmas.{IsByPieces-line, line-few, text-few}
+use Rattle.data_encoding.proofs.encoding.EncodingRef.encode_each_line.Goals as goal
+
+pub loop-index-init : goal.loop-index-init
+loop-index-init g c =
+    written-first
+    (IsByPieces-line c.self.invariant c.self.view_is c.requires.lines
+    c.encode_align-line_bytes.ensures.value c.line_separator_len.ensures.value)
+    c.requires.exact
+
+pub overflow_mul-written : goal.overflow_mul-written
+overflow_mul-written g c =
+    record {
+      fits = omega (
+        arith,
+        piece-begins c.loop-index.invariant c.div_ceil-index-end.ensures c.loop-index-test.true,
+        text-few c.self.invariant c.self.view_is c.requires.lines c.args.input.now,
+        c.requires.limit,
+      );
+    }
+
+pub overflow_add-read : goal.overflow_add-read
+overflow_add-read g c =
+    record {
+      fits = omega (
+        arith,
+        before c.loop-index.invariant c.div_ceil-index-end.ensures c.loop-index-test.true,
+        c.encode_align-line_bytes.ensures.most,
+        c.requires.limit,
+      );
+    }
+
+pub overflow_add-written : goal.overflow_add-written
+overflow_add-written g c =
+    record {
+      fits = omega (
+        arith,
+        piece-begins c.loop-index.invariant c.div_ceil-index-end.ensures c.loop-index-test.true,
+        text-few c.self.invariant c.self.view_is c.requires.lines c.args.input.now,
+        line-few c.self.invariant c.self.view_is c.requires.lines c.line_separator_len.ensures.value,
+        c.requires.limit,
+      );
+    }
+
+pub slice_bounds-encode_line-count-in-loop-index :
+    goal.slice_bounds-encode_line-count-in-loop-index
+slice_bounds-encode_line-count-in-loop-index g c =
+    part-begins c.loop-index.invariant c.div_ceil-index-end.ensures c.loop-index-test.true
+    c.min-read_end.ensures c.min-written_end.ensures
+
+pub slice_bounds-encode_line-start-in-loop-index :
+    goal.slice_bounds-encode_line-start-in-loop-index
+slice_bounds-encode_line-start-in-loop-index g c =
+    slice_bounds-encode_line-count-in-loop-index g c
+
+pub encode_line-requires-clause-some : goal.encode_line-requires-clause-some
+encode_line-requires-clause-some g c =
+    piece-some c.loop-index.invariant c.div_ceil-index-end.ensures c.loop-index-test.true
+    c.min-read_end.ensures
+
+pub encode_line-requires-clause-line : goal.encode_line-requires-clause-line
+encode_line-requires-clause-line g c =
+    omega (
+      arith,
+      piece-few c.loop-index.invariant c.div_ceil-index-end.ensures c.loop-index-test.true
+          c.min-read_end.ensures,
+      c.encode_align-line_bytes.ensures.value,
+    )
+
+pub encode_line-requires-clause-exact : goal.encode_line-requires-clause-exact
+encode_line-requires-clause-exact g c =
+    length-part c.loop-index.invariant c.div_ceil-index-end.ensures c.loop-index-test.true
+    c.min-read_end.ensures c.min-written_end.ensures
+
+pub loop-index-preserved : goal.loop-index-preserved
+loop-index-preserved g c =
+    piece-next c.loop-index.invariant c.div_ceil-index-end.ensures c.loop-index-test.true
+    c.min-read_end.ensures c.min-written_end.ensures c.encode_line.ensures
+
+pub returns : goal.returns
+returns g c =
+    piece-last c.loop-index.invariant
+    (omega (arith, c.loop-index-test.false, c.loop-index.auto.index-end)
+    ∙ c.div_ceil-index-end.ensures)

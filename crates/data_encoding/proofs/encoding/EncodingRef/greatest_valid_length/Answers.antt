@@ -1,0 +1,22 @@
+use Rattle.std.proofs.Common.{◌≡◌, ◌*◌, ◌/◌, true, false, sym, ap, ◌∙◌, subst}
+use Rattle.data_encoding.specs.Encoding.{base_of_tables}
+use Rattle.data_encoding.specs.Lengths.{greatest_valid_length}
+use Rattle.data_encoding.specs.PlainTables.{plain_tables}
+use Rattle.data_encoding.proofs.grammar.LengthLemmas.{greatest_valid_length-by}
+use Rattle.data_encoding.proofs.encoding.EncodingRef.greatest_valid_length.Goals as goal
+
+pub returns-then-is_padded-clause-value : goal.returns-then-is_padded-clause-value
+returns-then-is_padded-clause-value c =
+    subst
+    (λ b. c.args.len / c.group_symbols-symbols.result * c.group_symbols-symbols.result
+    ≡ greatest_valid_length b c.args.len)
+    c.self.view_is
+    (ap (λ n. c.args.len / n * n) c.group_symbols-symbols.ensures.value
+    ∙ sym (greatest_valid_length-by (base_of_tables (plain_tables c.self.inside.fields.now)) c.args.len true
+    (sym c.is_padded.ensures ∙ c.if-is_padded.true)))
+
+pub returns-clause-value : goal.returns-clause-value
+returns-clause-value c =
+    rw (← c.self.view_is)
+    (sym (greatest_valid_length-by (base_of_tables (plain_tables c.self.inside.fields.now)) c.args.len false
+    (sym c.is_padded.ensures ∙ c.if-is_padded.false)))

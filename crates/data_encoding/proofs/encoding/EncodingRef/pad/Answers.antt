@@ -1,0 +1,63 @@
+use Rattle.std.proofs.Common.{◌-◌, ◌*◌, ◌++◌, is_some, length, sym, ap, ◌∙◌, arith, append-nil}
+use Rattle.std.proofs.lemmas.List.{drop_all}
+use Rattle.data_encoding.specs.Base.{is_padded}
+use Rattle.data_encoding.specs.Text.{plain_text}
+use Rattle.data_encoding.proofs.lists.PartLemmas.{length-rest}
+use Rattle.data_encoding.proofs.lists.RunLemmas.{run_count}
+use Rattle.data_encoding.proofs.tables.TableLemmas.{IsWidth-seen}
+use Rattle.data_encoding.proofs.lists.WriteLemmas.{length-put_mid}
+use Rattle.data_encoding.proofs.text.PaddedTextLemmas.{count-inside, length-unpadded, padded_text-unpadded, padding-written}
+use Rattle.data_encoding.proofs.encoding.EncodingRef.pad.Goals as goal
+
+pub returns-in_default-clause-count : goal.returns-in_default-clause-count
+returns-in_default-clause-count g c =
+    let seen = c.args.self.now in
+    let none = ap is_padded (sym c.self.view_is) ∙ ap is_some (sym c.padding_character.ensures ∙ c.in_default.is) in
+    c.requires.exact
+    ∙ length-unpadded seen c.args.input.now
+    (IsWidth-seen _ c.self.invariant seen c.self.view_is) none
+    ∙ ap (λ n. run_count n (8 * length c.args.input.now)) c.requires.width
+
+pub returns-in_default-clause-padding : goal.returns-in_default-clause-padding
+returns-in_default-clause-padding g c =
+    let seen = c.args.self.now in
+    let none = ap is_padded (sym c.self.view_is) ∙ ap is_some (sym c.padding_character.ensures ∙ c.in_default.is) in
+    let text = plain_text seen c.args.input.now in
+    padded_text-unpadded seen c.args.input.now
+    (IsWidth-seen _ c.self.invariant seen c.self.view_is) none
+    ∙ sym (append-nil text)
+    ∙ ap (λ l. text ++ l)
+    (sym (drop_all (length c.args.output.now) c.args.output.now (omega arith)))
+
+pub slice_bounds-fill-count : goal.slice_bounds-fill-count
+slice_bounds-fill-count g c =
+    count-inside _ c.self.invariant _ c.self.view_is c.args.input.now
+    c.args.output.now c.requires.exact _
+    (c.symbol_count-count.ensures
+    ∙ ap (λ n. run_count n (8 * length c.args.input.now))
+    (c.WIDTH.ensures ∙ sym c.requires.width))
+
+pub slice_bounds-fill-start : goal.slice_bounds-fill-start
+slice_bounds-fill-start g c = slice_bounds-fill-count g c
+
+pub returns-clause-inside : goal.returns-clause-inside
+returns-clause-inside g c =
+    let output = c.args.output.now in
+    let count = c.symbol_count-count.result in
+    let inside = count-inside _ c.self.invariant _ c.self.view_is c.args.input.now
+    output c.requires.exact count
+    (c.symbol_count-count.ensures
+    ∙ ap (λ n. run_count n (8 * length c.args.input.now))
+    (c.WIDTH.ensures ∙ sym c.requires.width)) in
+    let same = length-put_mid count (length output - count) output c.fill.new.self
+    (omega (arith, inside)) (c.fill.ensures.len ∙ length-rest count output) in
+    omega (arith, same, inside)
+
+pub returns-clause-padding : goal.returns-clause-padding
+returns-clause-padding g c =
+    padding-written _ c.self.invariant _ c.self.view_is c.args.input.now
+    c.args.output.now c.requires.exact _
+    (c.symbol_count-count.ensures
+    ∙ ap (λ n. run_count n (8 * length c.args.input.now))
+    (c.WIDTH.ensures ∙ sym c.requires.width))
+    c.in-Some.character (sym c.padding_character.ensures ∙ c.in-Some.is) _ (c.fill.ensures.after (λ y same. same))

@@ -1,8 +1,0 @@
-use Rattle.data_encoding.specs.PlainTables.{plain_tables}
-use Rattle.data_encoding.proofs.tables.PlainLemmas.{kept-rules}
-use Rattle.data_encoding.proofs.plain.PlainEncoding.encoding.Goals as goal
-
-pub invariant_of-result : goal.invariant_of-result
-invariant_of-result c =
-    rw (c.order_of.ensures, c.padding_of.ensures, c.copied.ensures)
-    (kept-rules (plain_tables c.args.self.now.fields) c.args.self.now.kept)
