@@ -266,9 +266,6 @@ impl EncodingRef<'_> {
             }
             return Step::Faulty;
         }
-        if read == input.len() {
-            return Step::Ended;
-        }
         Step::More
     }
 

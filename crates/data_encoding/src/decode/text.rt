@@ -135,7 +135,7 @@ impl EncodingRef<'_> {
             output,
         );
         match self.decode_next::<G>(order, at, input, output, stop) {
-            Step::More => self.decode_rest::<G>(input, output, stop),
+            Step::More => stop.read == input.len() || self.decode_rest::<G>(input, output, stop),
             Step::Ended => true,
             Step::Faulty => false,
         }

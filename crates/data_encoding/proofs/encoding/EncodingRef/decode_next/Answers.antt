@@ -1,6 +1,6 @@
 use Rattle.std.proofs.Common.{◌+◌, ◌∙◌, inl, inr, refl, sym, arith}
 use Rattle.std.proofs.lemmas.Nat.{mul-le}
-use Rattle.data_encoding.proofs.decoding.LoopLemmas.{decoded-all, under_way}
+use Rattle.data_encoding.proofs.decoding.LoopLemmas.{under_way}
 use Rattle.data_encoding.proofs.decoding.StepLemmas.{after_group, decoded-behind, decoded-ignored, decoded-none, final-stopped, gathered-next, group-final, group-more, group-stopped, room-next_group, some-group, written-few}
 use Rattle.data_encoding.proofs.decoding.GatherLemmas.{gathered-few}
 use Rattle.data_encoding.proofs.digits.SizeLemmas.{IsGroup-same}
@@ -10,18 +10,21 @@ use Rattle.data_encoding.proofs.encoding.EncodingRef.decode_next.Goals.{else-cou
 
 pub returns-then-start-input-clause-ended : goal.returns-then-start-input-clause-ended
 returns-then-start-input-clause-ended g c =
-    let now = under_way g.G.GroupSize.is_group c.requires.width c.requires.exact c.requires.so_far in
+    let now = under_way g.G.GroupSize.is_group c.requires.width c.requires.exact
+    c.requires.so_far in
     λ _. decoded-behind now c.requires.front (omega (arith, c.if-start-input.true))
 
 pub returns-then-is_empty-clause-ended : goal.returns-then-is_empty-clause-ended
 returns-then-is_empty-clause-ended g c =
-    let now = under_way g.G.GroupSize.is_group c.requires.width c.requires.exact c.requires.so_far in
+    let now = under_way g.G.GroupSize.is_group c.requires.width c.requires.exact
+    c.requires.so_far in
     λ _. decoded-none now c.requires.front c.next_group-group.ensures c.is_empty.ensures
     c.if-is_empty.true
 
 pub decode_group-requires-clause-room : goal.decode_group-requires-clause-room
 decode_group-requires-clause-room g c =
-    let now = under_way g.G.GroupSize.is_group c.requires.width c.requires.exact c.requires.so_far in
+    let now = under_way g.G.GroupSize.is_group c.requires.width c.requires.exact
+    c.requires.so_far in
     let some = some-group c.next_group-group.ensures c.is_empty.ensures c.if-is_empty.false in
     room-next_group now (gathered-next now c.requires.front c.next_group-group.ensures some)
 
@@ -42,7 +45,8 @@ overflow_mul-written g c =
 pub overflow_add-written : goal.overflow_add-written
 overflow_add-written g c =
     let group = IsGroup-same c.WIDTH.ensures refl refl g.G.GroupSize.is_group in
-    let now = under_way group (c.requires.width ∙ sym c.WIDTH.ensures) c.requires.exact c.requires.so_far in
+    let now = under_way group (c.requires.width ∙ sym c.WIDTH.ensures) c.requires.exact
+    c.requires.so_far in
     let some = some-group c.next_group-group.ensures c.is_empty.ensures c.if-is_empty.false in
     let few = written-few (after_group now
     (gathered-next now c.requires.front c.next_group-group.ensures some) some
@@ -52,7 +56,8 @@ overflow_add-written g c =
 pub returns-then-is_end-clause-ended : goal.returns-then-is_end-clause-ended
 returns-then-is_end-clause-ended g c =
     let group = IsGroup-same c.WIDTH.ensures refl refl g.G.GroupSize.is_group in
-    let now = under_way group (c.requires.width ∙ sym c.WIDTH.ensures) c.requires.exact c.requires.so_far in
+    let now = under_way group (c.requires.width ∙ sym c.WIDTH.ensures) c.requires.exact
+    c.requires.so_far in
     let some = some-group c.next_group-group.ensures c.is_empty.ensures c.if-is_empty.false in
     let last = after_group now
     (gathered-next now c.requires.front c.next_group-group.ensures some) some
@@ -63,39 +68,28 @@ returns-then-is_end-clause-ended g c =
 pub returns-then-not-self-clause-faulty : goal.returns-then-not-self-clause-faulty
 returns-then-not-self-clause-faulty g c =
     let group = IsGroup-same c.WIDTH.ensures refl refl g.G.GroupSize.is_group in
-    let now = under_way group (c.requires.width ∙ sym c.WIDTH.ensures) c.requires.exact c.requires.so_far in
+    let now = under_way group (c.requires.width ∙ sym c.WIDTH.ensures) c.requires.exact
+    c.requires.so_far in
     let some = some-group c.next_group-group.ensures c.is_empty.ensures c.if-is_empty.false in
     let last = group-final now
     (gathered-next now c.requires.front c.next_group-group.ensures some) some
     c.decode_group.auto.output c.in-Ok.ensures.sound
-    (c.args.at.read + c.args.at.ignored + c.next_group-group.result.span) (omega arith) c.self.view_is
+    (c.args.at.read + c.args.at.ignored + c.next_group-group.result.span) (omega arith)
+    c.self.view_is
     c.if-not-self.true c.if-count-group.true in
     λ _. rw c.new-2.ensures (final-stopped last (c.if-is_end.ensures.more refl))
-
-pub returns-then-read-input-clause-ended : goal.returns-then-read-input-clause-ended
-returns-then-read-input-clause-ended g c =
-    let group = IsGroup-same c.WIDTH.ensures refl refl g.G.GroupSize.is_group in
-    let now = under_way group (c.requires.width ∙ sym c.WIDTH.ensures) c.requires.exact c.requires.so_far in
-    let some = some-group c.next_group-group.ensures c.is_empty.ensures c.if-is_empty.false in
-    let more = group-more now
-    (gathered-next now c.requires.front c.next_group-group.ensures some) some
-    c.decode_group.auto.output c.in-Ok.ensures.sound
-    (c.args.at.read + c.args.at.ignored + c.next_group-group.result.span) (omega arith) c.self.view_is
-    (elim c.else-count-group.branch [
-      | else-count-group-via-then-count-group+else-not-self b ↦ inl b.if-not-self.false
-      | else-count-group-via-else-count-group b ↦ inr b.if-count-group.false
-    ]) in
-    λ _. rw c.new-2.ensures (decoded-all more (omega (arith, c.if-read-input.true)))
 
 pub returns-clause-more : goal.returns-clause-more
 returns-clause-more g c =
     let group = IsGroup-same c.WIDTH.ensures refl refl g.G.GroupSize.is_group in
-    let now = under_way group (c.requires.width ∙ sym c.WIDTH.ensures) c.requires.exact c.requires.so_far in
+    let now = under_way group (c.requires.width ∙ sym c.WIDTH.ensures) c.requires.exact
+    c.requires.so_far in
     let some = some-group c.next_group-group.ensures c.is_empty.ensures c.if-is_empty.false in
     let more = group-more now
     (gathered-next now c.requires.front c.next_group-group.ensures some) some
     c.decode_group.auto.output c.in-Ok.ensures.sound
-    (c.args.at.read + c.args.at.ignored + c.next_group-group.result.span) (omega arith) c.self.view_is
+    (c.args.at.read + c.args.at.ignored + c.next_group-group.result.span) (omega arith)
+    c.self.view_is
     (elim c.else-count-group.branch [
       | else-count-group-via-then-count-group+else-not-self b ↦ inl b.if-not-self.false
       | else-count-group-via-else-count-group b ↦ inr b.if-count-group.false
@@ -110,7 +104,8 @@ returns-clause-further g c =
 
 pub returns-in-Err-clause-faulty : goal.returns-in-Err-clause-faulty
 returns-in-Err-clause-faulty g c =
-    let now = under_way g.G.GroupSize.is_group c.requires.width c.requires.exact c.requires.so_far in
+    let now = under_way g.G.GroupSize.is_group c.requires.width c.requires.exact
+    c.requires.so_far in
     let some = some-group c.next_group-group.ensures c.is_empty.ensures c.if-is_empty.false in
     λ _. rw c.new.ensures (group-stopped now
     (gathered-next now c.requires.front c.next_group-group.ensures some) some

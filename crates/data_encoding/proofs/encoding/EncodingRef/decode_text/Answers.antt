@@ -1,6 +1,7 @@
-use Rattle.std.proofs.Common.{sym, subst}
+use Rattle.std.proofs.Common.{Ok, refl, sym, ap, ◌∙◌, subst, arith}
 use Rattle.data_encoding.specs.Base.{IsWidth}
 use Rattle.data_encoding.proofs.decoding.IgnoredFrontLemmas.{no_front}
+use Rattle.data_encoding.proofs.decoding.LoopLemmas.{decoded-all, under_way}
 use Rattle.data_encoding.proofs.decoding.ProgressLemmas.{begin}
 use Rattle.data_encoding.proofs.tables.TableLemmas.{Reads-seen}
 use Rattle.data_encoding.proofs.encoding.EncodingRef.decode_text.Goals as goal
@@ -17,3 +18,10 @@ decode_run_behind-at-requires-clause-so_far g c =
 
 pub decode_run_behind-at-requires-clause-front : goal.decode_run_behind-at-requires-clause-front
 decode_run_behind-at-requires-clause-front g c = no_front c.args.self.now c.args.input.now
+
+pub returns-then-stop-input-clause-decoded : goal.returns-then-stop-input-clause-decoded
+returns-then-stop-input-clause-decoded g c =
+    let len = c.decode_next.auto.output ∙ c.decode_run_behind-at.auto.output in
+    let now = under_way g.G.GroupSize.is_group c.requires.width
+    (c.requires.exact ∙ ap Ok (sym len)) (c.in-More.ensures.more refl) in
+    λ _. decoded-all now (omega (arith, c.if-stop-input.true))
