@@ -8,8 +8,6 @@ pub mod LineLemmas
 pub mod LinePieceLemmas
 pub mod BlockLemmas
 pub mod WrittenLemmas
-pub mod PlainLoopLemmas
-pub mod PlainRestLemmas
 pub mod EightGroupLemmas
 pub mod SymbolMeaningLemmas
 pub mod ExchangeLemmas

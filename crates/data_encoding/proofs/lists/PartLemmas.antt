@@ -50,17 +50,7 @@ module _ (m d from to extra : ℕ) (same : m * from ≡ d * to) (pos : 0 < d) wh
   quotient n q r e =
       ap (λ k. k / d) (split n q r e) ∙ mul-add-div pos (q * to) (m * r + extra)
 
-  -- there is room for the groups that are left
-  pub room-next : (n i : ℕ) → i * from + from ≤ n → i * to + to ≤ (m * n + extra) / d
-  room-next n i h =
-      let next : (i + 1) * from ≡ i * from + from = add-mul i 1 from ∙ omega arith in
-      let next_to : (i + 1) * to ≡ i * to + to = add-mul i 1 to ∙ omega arith in
-      omega (
-        arith,
-        quotient n (i + 1) (n - (i * from + from)) (omega (arith, next, h)),
-        next_to,
-      )
-
+  -- whole groups have room
   pub room-rest : (n i : ℕ) → i * from ≤ n → i * to ≤ (m * n + extra) / d
   room-rest n i h = omega (arith, quotient n i (n - i * from) (omega (arith, h)))
 

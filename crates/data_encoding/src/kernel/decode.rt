@@ -7,7 +7,7 @@ use crate::encoding::BitOrder;
 use crate::kernel::group_size::GroupSize;
 use crate::kernel::lanes::look_up::LookUp;
 use crate::kernel::lanes::rows::{Rows, rows_of};
-use crate::kernel::turn::{Lanes, Turn};
+use crate::kernel::turn::{DecodeTurn, Lanes};
 use crate::kernel::words::{decode_symbols, entry_of};
 
 /// Decodes whole groups in a row, from the front of the input to the front of the output, up to the
@@ -105,7 +105,7 @@ fn decode_by_lanes<G: GroupSize>(
 
 // Turn after turn; the groups of a turn with a byte that is no symbol are left.
 #[inline(always)]
-fn decode_turns<T: Turn, G: GroupSize>(
+fn decode_turns<T: DecodeTurn, G: GroupSize>(
     turn: &T,
     order: BitOrder,
     input: &[u8],

@@ -11,7 +11,7 @@ use crate::kernel::lanes::look_up::LookUp;
 use crate::kernel::words::decode_entries;
 
 /// What decodes several whole groups by one turn of a loop, in each turn as many.
-pub(crate) trait Turn {
+pub(crate) trait DecodeTurn {
     ghost GROUPS: { ℕ };
 
     ghost some_groups: { 0 < GROUPS };
@@ -34,7 +34,7 @@ pub(crate) struct Lanes<L> {
     pub(crate) look_up: L,
 }
 
-impl<L: LookUp> Turn for Lanes<L> {
+impl<L: LookUp> DecodeTurn for Lanes<L> {
     ghost GROUPS = { 8 };
 
     ghost some_groups = { lit< tt };
@@ -50,7 +50,7 @@ impl<L: LookUp> Turn for Lanes<L> {
 }
 
 // By the table itself: four groups word by word, tested together.
-impl Turn for [u8; 256] {
+impl DecodeTurn for [u8; 256] {
     ghost GROUPS = { 4 };
 
     ghost some_groups = { lit< tt };

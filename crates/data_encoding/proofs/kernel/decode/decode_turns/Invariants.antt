@@ -4,7 +4,7 @@ use Rattle.data_encoding.proofs.kernel.decode.decode_turns.Given as goal
 
 abbrev pub invariant-loop-index : goal.invariant-loop-index
 invariant-loop-index g l = record {
-  run : (values : List ℕ) → g.T.Turn.holds values l.turn
+  run : (values : List ℕ) → g.T.DecodeTurn.holds values l.turn
       → IsRunBy values g.G.GroupSize.WIDTH l.order l.input (l.index * l.groups) l.initial.output
       l.output;
 }

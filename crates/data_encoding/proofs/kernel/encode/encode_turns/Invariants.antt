@@ -1,6 +1,6 @@
 use Rattle.std.proofs.Common.{◌*◌, take}
 use Rattle.data_encoding.specs.Tables.{IsTextBy}
-use Rattle.data_encoding.proofs.kernel.encode.encode_by_lanes.Given as goal
+use Rattle.data_encoding.proofs.kernel.encode.encode_turns.Given as goal
 
 abbrev pub invariant-loop-index : goal.invariant-loop-index
 invariant-loop-index g l = record {

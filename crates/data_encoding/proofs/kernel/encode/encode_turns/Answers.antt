@@ -1,0 +1,113 @@
+use Rattle.std.proofs.Common.{◌≡◌, ◌-◌, ◌+◌, ◌*◌, ◌/◌, ◌≤◌, drop, length, take, ap, ◌∙◌, arith, sym, subst}
+use Rattle.std.proofs.lemmas.List.{take-take}
+use Rattle.data_encoding.specs.Text.{plain_text}
+use Rattle.data_encoding.proofs.lists.PartLemmas.{group-before, groups-within, length-rest, part-is}
+use Rattle.data_encoding.proofs.text.PlainGroupLemmas.{IsWhole-turn, groups_fit, next_fits, rest_fits, written-next, written-none, written-rest}
+use Rattle.data_encoding.proofs.kernel.encode.encode_turns.Goals as goal
+
+pub loop-index-init : goal.loop-index-init
+loop-index-init g c =
+    let whole = IsWhole-turn c.GROUPS-groups.ensures c.BYTES-bytes.ensures c.SYMBOLS.ensures
+    g.T.EncodeTurn.some_groups g.G.GroupSize.is_group in
+    record {
+      written = λ base writes.
+          written-none whole base writes.width_is c.args.input.now c.args.output.now;
+    }
+
+pub overflow_mul-written : goal.overflow_mul-written
+overflow_mul-written g c =
+    let whole = IsWhole-turn c.GROUPS-groups.ensures c.BYTES-bytes.ensures c.SYMBOLS.ensures
+    g.T.EncodeTurn.some_groups g.G.GroupSize.is_group in
+    omega (
+      arith,
+      next_fits whole (length c.args.input.now) (length c.loop-index.output)
+          c.saturating_sub.result _ c.loop-index.index (c.loop-index.auto.output ∙ c.requires.exact)
+          c.saturating_sub.ensures c.loop-index-test.true,
+    )
+
+pub slice_bounds-encode-end-in-loop-index : goal.slice_bounds-encode-end-in-loop-index
+slice_bounds-encode-end-in-loop-index g c =
+    let whole = IsWhole-turn c.GROUPS-groups.ensures c.BYTES-bytes.ensures c.SYMBOLS.ensures
+    g.T.EncodeTurn.some_groups g.G.GroupSize.is_group in
+    next_fits whole (length c.args.input.now) (length c.loop-index.output) c.saturating_sub.result _
+    c.loop-index.index (c.loop-index.auto.output ∙ c.requires.exact) c.saturating_sub.ensures
+    c.loop-index-test.true
+
+pub overflow_add-written : goal.overflow_add-written
+overflow_add-written g c = omega (arith, slice_bounds-encode-end-in-loop-index g c)
+
+pub loop-index-preserved : goal.loop-index-preserved
+loop-index-preserved g c =
+    let whole = IsWhole-turn c.GROUPS-groups.ensures c.BYTES-bytes.ensures c.SYMBOLS.ensures
+    g.T.EncodeTurn.some_groups g.G.GroupSize.is_group in
+    let input = c.args.input.now in
+    let i = c.loop-index.index in
+    let bytes = c.GROUPS-groups.result * c.BYTES-bytes.result in
+    let loaded = bytes + c.AHEAD.result * (c.BYTES-bytes.result - 1) in
+    let read = take (i * bytes + loaded - i * bytes) (drop (i * bytes) input) in
+    let room = next_fits whole (length input) (length c.loop-index.output) c.saturating_sub.result _
+    i (c.loop-index.auto.output ∙ c.requires.exact) c.saturating_sub.ensures
+    c.loop-index-test.true in
+    record {
+      written = λ base writes.
+          written-next whole base writes.width_is input c.loop-index.output c.encode.new.output i
+          (c.loop-index.invariant.written base writes)
+          (omega (
+            arith,
+            group-before c.saturating_sub.result bytes i c.loop-index-test.true,
+            c.saturating_sub.ensures,
+          )) room c.encode.auto.output
+          (c.encode.ensures base writes
+          ∙ (λ k. plain_text base (take
+          (sym c.GROUPS-groups.ensures k * sym c.BYTES-bytes.ensures k) read))
+          ∙ ap (λ l. plain_text base (take bytes l)) (part-is (i * bytes) loaded input)
+          ∙ ap (plain_text base) (take-take bytes loaded (drop (i * bytes) input) (omega arith)));
+    }
+
+pub slice_bounds-encode_rest-count-2 : goal.slice_bounds-encode_rest-count-2
+slice_bounds-encode_rest-count-2 g c =
+    let whole = IsWhole-turn c.GROUPS-groups.ensures c.BYTES-bytes.ensures c.SYMBOLS.ensures
+    g.T.EncodeTurn.some_groups g.G.GroupSize.is_group in
+    let bytes = c.GROUPS-groups.result * c.BYTES-bytes.result in
+    groups_fit whole (length c.args.input.now) (length c.loop-index.output)
+    (c.saturating_sub.result / bytes) (c.loop-index.auto.output ∙ c.requires.exact)
+    (omega (arith, groups-within c.saturating_sub.result bytes, c.saturating_sub.ensures))
+
+pub slice_bounds-encode_rest-start-2 : goal.slice_bounds-encode_rest-start-2
+slice_bounds-encode_rest-start-2 g c = slice_bounds-encode_rest-count-2 g c
+
+pub overflow_mul-count-2 : goal.overflow_mul-count-2
+overflow_mul-count-2 g c = omega (arith, slice_bounds-encode_rest-count-2 g c)
+
+pub encode_rest-requires-clause-exact : goal.encode_rest-requires-clause-exact
+encode_rest-requires-clause-exact g c =
+    let whole = IsWhole-turn c.GROUPS-groups.ensures c.BYTES-bytes.ensures c.SYMBOLS.ensures
+    g.T.EncodeTurn.some_groups g.G.GroupSize.is_group in
+    let width = g.G.GroupSize.WIDTH in
+    let bytes = c.GROUPS-groups.result * c.BYTES-bytes.result in
+    let count = c.saturating_sub.result / bytes in
+    length-rest (count * (c.GROUPS-groups.result * c.SYMBOLS.result)) c.loop-index.output
+    ∙ rest_fits whole (length c.args.input.now) (length c.loop-index.output) count
+    (c.loop-index.auto.output ∙ c.requires.exact)
+    (omega (arith, groups-within c.saturating_sub.result bytes, c.saturating_sub.ensures))
+    ∙ ap (λ n. (8 * n + (width - 1)) / width) (sym (length-rest (count * bytes) c.args.input.now))
+
+pub returns : goal.returns
+returns g c base writes =
+    let whole = IsWhole-turn c.GROUPS-groups.ensures c.BYTES-bytes.ensures c.SYMBOLS.ensures
+    g.T.EncodeTurn.some_groups g.G.GroupSize.is_group in
+    let input = c.args.input.now in
+    let output = c.loop-index.output in
+    let bytes = c.GROUPS-groups.result * c.BYTES-bytes.result in
+    let symbols = c.GROUPS-groups.result * c.SYMBOLS.result in
+    let count = c.saturating_sub.result / bytes in
+    let all : c.loop-index.index ≡ count =
+    omega (arith, c.loop-index-test.false, c.loop-index.auto.index-end) in
+    let within : count * bytes ≤ length input =
+    omega (arith, groups-within c.saturating_sub.result bytes, c.saturating_sub.ensures) in
+    written-rest whole base writes.width_is input output c.encode_rest.new.output count
+    (subst (λ n. take (n * symbols) output ≡ plain_text base (take (n * bytes) input)) all
+    (c.loop-index.invariant.written base writes)) within
+    (groups_fit whole (length input) (length output) count
+    (c.loop-index.auto.output ∙ c.requires.exact) within)
+    c.encode_rest.auto.output (c.encode_rest.ensures base writes)
