@@ -18,19 +18,6 @@ use Rattle.encoding_stream.proofs.WriteLemmas.{AppendsFront-all, AppendsFront-mo
 none-whole : (size : ℕ) → 0 % size ≡ 0
 none-whole size = subst (λ n. n % size ≡ 0) (zero-mul size) (mul-mod_left 0 size)
 
--- the whole blocks that fit so much room
-module _ (room size : ℕ) where
-  pub blocks-few : room / size * size ≤ room
-  blocks-few = div-mul-le_self room size
-
-  pub blocks-some : 0 < size → size ≤ room → 0 < room / size * size
-  blocks-some some fits =
-      let one : 1 ≤ room / size = (le-div_iff_mul-le some).1 (omega (arith, fits)) in
-      omega (arith, mul-le 1 1 (room / size) size one some)
-
-  pub blocks-whole : room / size * size % size ≡ 0
-  blocks-whole = mul-mod_left (room / size) size
-
 -- the lengths of whole blocks, one behind the other
 whole-both : (m n size : ℕ) → m % size ≡ 0 → n % size ≡ 0 → (m + n) % size ≡ 0
 whole-both m n size one other =
@@ -44,81 +31,6 @@ module _ (base : Base) (specified : IsSpecified base) (join : JoinEncode) where
       let twice = join base specified [] [] (none-whole (alignment base)) in
       nil_from_length (text_of base [])
       (omega (arith, ap length twice, length-append (text_of base []) (text_of base [])))
-
-  -- the text of whole blocks, and then that of the others
-  text_of-split : (input : List ℕ) (n : ℕ) → n ≤ length input → n % alignment base ≡ 0
-      → text_of base input ≡ text_of base (take n input) ++ text_of base (drop n input)
-  text_of-split input n within whole =
-      ap (text_of base) (sym (take-append-drop n input))
-      ∙ join base specified (take n input) (drop n input)
-      (ap (λ k. k % alignment base) (length-take-le n input within) ∙ whole)
-
--- Some text was written: that of the data without the rest.
-pub record IsWrittenBefore (base : Base) (input rest : List ℕ) (old new : Option (List ℕ))
-    : Type 0 where
-  pub text : List ℕ
-  pub written : Appends old new text
-  pub whole : text ++ text_of base rest ≡ text_of base input
-  pub within : length rest ≤ length input
-
-pub written-none : (base : Base) (input : List ℕ) (old : Option (List ℕ))
-    → IsWrittenBefore base input input old old
-written-none base input old = record {
-  text = [];
-  written = Appends-nil old;
-  whole = refl;
-  within = omega arith;
-}
-
-module _ (base : Base) (input rest : List ℕ) (old now : Option (List ℕ))
-    (before : IsWrittenBefore base input rest old now) where
-  -- a piece of whole blocks more
-  pub written-more : IsSpecified base → JoinEncode → (n : ℕ) → n ≤ length rest
-      → n % alignment base ≡ 0
-      → (next : Option (List ℕ)) → Appends now next (text_of base (take n rest))
-      → IsWrittenBefore base input (drop n rest) old next
-  written-more specified join n within whole next more =
-      let piece = text_of base (take n rest) in
-      let others = text_of base (drop n rest) in
-      record {
-        text = before.text ++ piece;
-        written = Appends-trans old now next before.text piece before.written more;
-        whole =
-            append_assoc before.text piece others
-            ∙ ap (λ l. before.text ++ l)
-            (sym (text_of-split base specified join rest n within whole)) ∙ before.whole;
-        within = omega (arith, length-drop n rest, before.within);
-      }
-
-  -- a beginning of the text of the rest more
-  pub written-front : (next : Option (List ℕ)) → AppendsFront now next (text_of base rest)
-      → AppendsFront old next (text_of base input)
-  written-front next more =
-      subst (AppendsFront old next) before.whole
-      (AppendsFront-more old now next before.text (text_of base rest) before.written more)
-
-  -- a beginning of the text of a piece of whole blocks more
-  pub written-piece : IsSpecified base → JoinEncode → (n : ℕ) → n ≤ length rest
-      → n % alignment base ≡ 0
-      → (next : Option (List ℕ)) → AppendsFront now next (text_of base (take n rest))
-      → AppendsFront old next (text_of base input)
-  written-piece specified join n within whole next more =
-      let piece = text_of base (take n rest) in
-      let others = text_of base (drop n rest) in
-      let few = AppendsFront-more old now next before.text piece before.written more in
-      let is : (before.text ++ piece) ++ others ≡ text_of base input =
-      append_assoc before.text piece others
-      ∙ ap (λ l. before.text ++ l) (sym (text_of-split base specified join rest n within whole))
-      ∙ before.whole in
-      subst (AppendsFront old next) is
-      (AppendsFront-within old next (before.text ++ piece) others few)
-
-  -- the text of the rest more
-  pub written-all : (next : Option (List ℕ)) → Appends now next (text_of base rest)
-      → Appends old next (text_of base input)
-  written-all next more =
-      subst (Appends old next) before.whole
-      (Appends-trans old now next before.text (text_of base rest) before.written more)
 
 -- Whole blocks of data were read and counted, and their text was written.
 pub record Encoded (base : Base) (read_old read_new written_old written_new : Option (List ℕ))

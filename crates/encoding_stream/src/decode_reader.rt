@@ -17,7 +17,7 @@ use data_encoding::{DECODE_LIMIT, DecodeError, Encoding};
 use std::io::{Read, Write};
 
 // The bytes of text that are asked for at a time.
-const CHUNK: usize = 8192;
+const CHUNK: usize = 32768;
 
 // The room for what they decode to.
 const ROOM: usize = CHUNK + 8;

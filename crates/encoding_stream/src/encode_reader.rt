@@ -14,15 +14,8 @@ use data_encoding::{DecodeError, ENCODE_LIMIT, Encoding};
 use std::io;
 use std::io::{Read, Write};
 
-// The bytes of data that are asked for at a time, less what fills no block.
-const CHUNK: usize = 8192;
-
-// The room for text: as much as `CHUNK` bytes have where a symbol has one bit and there are no
-// lines, and enough for a block of any encoding.
-const ROOM: usize = 8 * CHUNK;
-
-// No byte of data has a longer text.
-const MOST_PER_BYTE: usize = 263;
+// The room for the text of what is read at a time: its text is written in one call.
+const ROOM: usize = 49152;
 
 /// Reads data to the end, writes its text, and then flushes once. It takes no memory.
 ///
@@ -62,9 +55,8 @@ pub fn encode_stream<R: Read, W: Write>(
         (R.remaining (inner_of reader.new)) }
     ensures no_text { (error : DecodeError) → result ≢ Err (StreamFault.Decode error) }
 {
-    let align = encoding.encode_align();
-    let asked = CHUNK / align * align;
-    let mut buffer = [0; CHUNK];
+    let asked = encoding.encode_piece_len(ROOM);
+    let mut buffer = [0; ROOM];
     let mut output = [0; ROOM];
     let mut total: u64 = 0;
     join_encode();
@@ -89,7 +81,7 @@ pub fn encode_stream<R: Read, W: Write>(
     }
 }
 
-// Writes the text of the data: at once where it fits the room, and else piece by piece.
+// Writes the text of the data, which fits `output`, in one call of `write_all`.
 fn write_text<W: Write>(
     encoding: &Encoding,
     input: &[u8],
@@ -97,7 +89,7 @@ fn write_text<W: Write>(
     writer: &mut Watch<W>,
 ) -> io::Result<()>
     requires limit { length input.now ≤ ENCODE_LIMIT }
-    requires room { length output.old ≡ ROOM }
+    requires fits { length (text_of encoding.now input.now) ≤ length output.old }
     requires works { has_failed writer.old ≡ false }
     ensures text { OnOk result (Appends (W.contents (inner_of writer.old))
         (W.contents (inner_of writer.new)) (text_of encoding.now input.now)) }
@@ -105,38 +97,7 @@ fn write_text<W: Write>(
         (W.contents (inner_of writer.new)) (text_of encoding.now input.now) }
     ensures failed { has_failed writer.new ≡ is_err result }
 {
-    let align = encoding.encode_align();
-    let most = ROOM / MOST_PER_BYTE / align * align;
-    let most_len = encoding.encode_len(most);
-    join_encode();
-    let mut rest = input;
-    loop {
-        let len = encoding.encode_len(rest.len());
-        if len <= output.len() {
-            return write_piece(encoding, rest, &mut output[..len], writer);
-        }
-        let (piece, others) = rest.split_at(most);
-        write_piece(encoding, piece, &mut output[..most_len], writer)?;
-        rest = others;
-    }
-}
-
-// Writes the text of data, which `output` has the room for exactly, in one call of `write_all`.
-fn write_piece<W: Write>(
-    encoding: &Encoding,
-    input: &[u8],
-    output: &mut [u8],
-    writer: &mut Watch<W>,
-) -> io::Result<()>
-    requires limit { length input.now ≤ ENCODE_LIMIT }
-    requires exact { length output.old ≡ length (text_of encoding.now input.now) }
-    requires works { has_failed writer.old ≡ false }
-    ensures text { OnOk result (Appends (W.contents (inner_of writer.old))
-        (W.contents (inner_of writer.new)) (text_of encoding.now input.now)) }
-    ensures begun { AppendsFront (W.contents (inner_of writer.old))
-        (W.contents (inner_of writer.new)) (text_of encoding.now input.now) }
-    ensures failed { has_failed writer.new ≡ is_err result }
-{
-    encoding.encode_mut(input, output);
-    writer.write_all(output)
+    let text = &mut output[..encoding.encode_len(input.len())];
+    encoding.encode_mut(input, text);
+    writer.write_all(text)
 }

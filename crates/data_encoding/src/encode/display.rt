@@ -33,7 +33,7 @@ impl Encoding {
             (WritesInCalls W.write_str_gives output.old (text_of self.now input.now) output.new) }
         ensures empty { length input.now ≡ 0 → IsOk result × (output.new ≡ output.old) }
     {
-        let most = self.piece_len(buffer.len());
+        let most = self.encode_piece_len(buffer.len());
         if input.is_empty() {
             return Ok(());
         }
@@ -57,6 +57,22 @@ impl Encoding {
         self.encode_write_buffer(input, output, &mut buffer)
     }
 
+    /// How many bytes of data, in whole groups or whole lines, have a text that surely fits an output
+    /// of `output_len` bytes, at least 510. The text of fewer bytes fits too.
+    ///
+    /// The texts of pieces of this length, and of a last one of any length, may be joined.
+    pub fn encode_piece_len(&self, output_len: usize) -> usize
+        requires room { 510 ≤ output_len }
+        ensures some { 0 < result }
+        ensures few { result ≤ output_len }
+        ensures whole { result % alignment self.now ≡ 0 }
+        ensures fits { (bytes : List ℕ) → length bytes ≤ result
+            → length (text_of self.now bytes) ≤ output_len }
+        ensures base { IsSpecified self.now }
+    {
+        output_len / self.block_len() * self.encode_align()
+    }
+
     /// The data as a value that prints their text, in the calls of `encode_write`.
     pub fn encode_display<'a>(&'a self, input: &'a [u8]) -> Display<'a>
         ensures text { shown_text result ≡ text_of self.now input.now }
@@ -66,20 +82,6 @@ impl Encoding {
             encoding: self,
             input,
         }
-    }
-
-    // As many bytes of data as have a text that surely fits a buffer of this length: whole groups,
-    // or whole lines.
-    fn piece_len(&self, buffer_len: usize) -> usize
-        requires room { 510 ≤ buffer_len }
-        ensures some { 0 < result }
-        ensures few { result ≤ buffer_len }
-        ensures whole { result % alignment self.now ≡ 0 }
-        ensures fits { (bytes : List ℕ) → length bytes ≤ result
-            → length (text_of self.now bytes) ≤ buffer_len }
-        ensures base { IsSpecified self.now }
-    {
-        buffer_len / self.block_len() * self.encode_align()
     }
 
     // The length of the text of a whole group, or of a whole line with its separator.

@@ -13,8 +13,8 @@ invariant-loop-count g l = record {
   reader_works : has_failed l.reader ≡ false;
   writer_works : has_failed l.writer ≡ false;
   limit : l.pieces.kept.len ≤ 2305843009213693951;
-  chunk : length l.buffer ≡ 8192;
-  room : length l.output ≡ 8200;
+  chunk : length l.buffer ≡ 32768;
+  room : length l.output ≡ 32776;
 }
 
 -- each turn but the last counts a byte

@@ -1,4 +1,4 @@
-use Rattle.std.proofs.Common.{◌≡◌, ℕ, ◌+◌, ◌*◌, ◌/◌, ◌%◌, ◌<◌, ◌≤◌, ◌⊎◌, ⊎_elim, inl, inr, List, length, length-append, drop, take, refl, ap, ◌∙◌, subst, rules, arith, length-take-le}
+use Rattle.std.proofs.Common.{◌≡◌, ℕ, ◌+◌, ◌%◌, ◌<◌, ◌≤◌, ◌⊎◌, ⊎_elim, inl, inr, List, ◌++◌, length, length-append, length-take, drop, take, refl, ap, ◌∙◌, rules, arith, length-take-le}
 use Rattle.std.proofs.lemmas.Bool.{cases_lt}
 use Rattle.std.proofs.lemmas.Option.{IfSome_then}
 use Rattle.std.proofs.lemmas.List.{length-drop, take-append-le}
@@ -8,32 +8,22 @@ use Rattle.data_encoding.specs.Base.{Base}
 use Rattle.data_encoding.specs.Lengths.{alignment}
 use Rattle.encoding_stream.specs.Watch.{inner_of}
 use Rattle.encoding_stream.proofs.WriteLemmas.{AppendsFront-nothing}
-use Rattle.encoding_stream.proofs.EncodedLemmas.{all-front, all-known, blocks-few, blocks-whole, encoded-all, encoded-front, encoded-more, encoded-nothing, encoded-past, front-nothing, front-of_rest}
+use Rattle.encoding_stream.proofs.EncodedLemmas.{all-front, all-known, encoded-all, encoded-front, encoded-more, encoded-nothing, encoded-past, front-nothing, front-of_rest}
 use Rattle.encoding_stream.proofs.DecodedLemmas.{not-both, past-few}
 use Rattle.encoding_stream.proofs.encode_reader.encode_stream.Goals as goal
 
 -- a full buffer has whole blocks
-full-whole : (base : Base) (size : ℕ) → size ≡ alignment base → (buffer : List ℕ)
-    → length buffer ≡ 8192 / size * size → (count : ℕ) → count ≤ length buffer
-    → length buffer ≤ count → length (take count buffer) % alignment base ≡ 0
-full-whole base size size-is buffer filled count few full =
-    let all : length (take count buffer) ≡ 8192 / size * size =
-    length-take-le count buffer few ∙ omega (arith, few, full, filled) in
-    ap (λ n. n % alignment base) all
-    ∙ subst (λ n. 8192 / size * size % n ≡ 0) size-is (blocks-whole 8192 size)
-
--- as many bytes are asked for as are whole blocks of a buffer
-asked-filled : (size : ℕ) (buffer filled : List ℕ) → length buffer ≡ 8192
-    → length filled ≡ length (take (8192 / size * size) buffer)
-    → length filled ≡ 8192 / size * size
-asked-filled size buffer filled chunk same =
-    same
-    ∙ length-take-le (8192 / size * size) buffer (omega (arith, blocks-few 8192 size, chunk))
+full-whole : (base : Base) (asked count : ℕ) (buffer : List ℕ) → asked % alignment base ≡ 0
+    → length buffer ≡ asked → count ≤ length buffer → length buffer ≤ count
+    → length (take count buffer) % alignment base ≡ 0
+full-whole base asked count buffer whole filled few full =
+    ap (λ n. n % alignment base)
+    (length-take-le count buffer few ∙ omega (arith, few, full, filled)) ∙ whole
 
 pub loop-count-init : goal.loop-count-init
 loop-count-init g c = record {
   encoded =
-      encoded-nothing c.args.encoding.now c.encode_align-align.ensures.base c.join_encode.ensures
+      encoded-nothing c.args.encoding.now c.encode_piece_len-asked.ensures.base c.join_encode.ensures
       _ _;
   reader_works = c.requires.reader_works;
   writer_works = c.requires.writer_works;
@@ -44,13 +34,13 @@ loop-count-init g c = record {
 pub returns-in-Err-clause-begun : goal.returns-in-Err-clause-begun
 returns-in-Err-clause-begun g c =
     let more = c.in-Err.ensures.begun in
-    encoded-front c.args.encoding.now c.encode_align-align.ensures.base c.join_encode.ensures
+    encoded-front c.args.encoding.now c.encode_piece_len-asked.ensures.base c.join_encode.ensures
     _ _ _ _ _ c.loop-count.total c.loop-count.invariant.encoded more.0 more.1 _
     (AppendsFront-nothing _ _) (front-nothing c.args.encoding.now _ _)
 
 pub returns-in_default-clause-begun : goal.returns-in_default-clause-begun
 returns-in_default-clause-begun g c =
-    encoded-front c.args.encoding.now c.encode_align-align.ensures.base c.join_encode.ensures
+    encoded-front c.args.encoding.now c.encode_piece_len-asked.ensures.base c.join_encode.ensures
     _ _ _ _ _ c.loop-count.total c.loop-count.invariant.encoded _ c.in-Ok.ensures.bytes _
     (AppendsFront-nothing _ _) (front-nothing c.args.encoding.now _ _)
 
@@ -59,7 +49,7 @@ returns-in_default-clause-too_long g c =
     let more = take c.in-Ok.count c.fill.new.buffer in
     let taken : length more ≡ c.in-Ok.count =
     length-take-le c.in-Ok.count c.fill.new.buffer c.in-Ok.ensures.bound in
-    λ _. encoded-past c.args.encoding.now c.encode_align-align.ensures.base c.join_encode.ensures
+    λ _. encoded-past c.args.encoding.now c.encode_piece_len-asked.ensures.base c.join_encode.ensures
     _ _ _ _ _ c.loop-count.total c.loop-count.invariant.encoded more c.in-Ok.ensures.bytes _
     (omega (arith, taken, c.in_default.ensures))
 
@@ -67,40 +57,40 @@ pub returns-in_default-write_text-clause-begun : goal.returns-in_default-write_t
 returns-in_default-write_text-clause-begun g c =
     let base = c.args.encoding.now in
     let count = c.in-Ok.count in
-    let size = c.encode_align-align.result in
-    let asked = 8192 / size * size in
+    let asked = c.encode_piece_len-asked.result in
     let more = take count c.fill.new.buffer in
     let piece =
     take-append-le count c.fill.new.buffer (drop asked c.loop-count.buffer)
     c.in-Ok.ensures.bound in
     let filled =
-    asked-filled size c.loop-count.buffer c.fill.new.buffer c.loop-count.invariant.chunk
-    c.fill.auto.buffer in
+    c.fill.auto.buffer
+    ∙ length-take-le asked c.loop-count.buffer
+    (omega (arith, c.encode_piece_len-asked.ensures.few, c.loop-count.invariant.chunk)) in
     let ends : IsAtEnd (g.R.Read.remaining (inner_of c.fill.new.reader))
     ⊎ (length more % alignment base ≡ 0) =
     ⊎_elim
     (λ (short : count < length c.fill.new.buffer). inl (c.in-Ok.ensures.at_end short))
-    (λ (full : length c.fill.new.buffer ≤ count). inr (full-whole base size
-    c.encode_align-align.ensures.value c.fill.new.buffer filled count c.in-Ok.ensures.bound full))
+    (λ (full : length c.fill.new.buffer ≤ count). inr (full-whole base asked count
+    c.fill.new.buffer c.encode_piece_len-asked.ensures.whole filled c.in-Ok.ensures.bound full))
     (cases_lt count (length c.fill.new.buffer)) in
     let front = rw piece at c.write_text.ensures.begun in
-    encoded-front base c.encode_align-align.ensures.base c.join_encode.ensures
+    encoded-front base c.encode_piece_len-asked.ensures.base c.join_encode.ensures
     _ _ _ _ _ c.loop-count.total c.loop-count.invariant.encoded _ c.in-Ok.ensures.bytes _ front
-    (front-of_rest base c.encode_align-align.ensures.base c.join_encode.ensures _ _ _ _ more
+    (front-of_rest base c.encode_piece_len-asked.ensures.base c.join_encode.ensures _ _ _ _ more
     c.in-Ok.ensures.bytes ends front)
 
 pub returns-in-Ok-flush-clause-whole : goal.returns-in-Ok-flush-clause-whole
 returns-in-Ok-flush-clause-whole g c =
     let count = c.in-Ok.count in
-    let size = c.encode_align-align.result in
-    let asked = 8192 / size * size in
+    let asked = c.encode_piece_len-asked.result in
     let piece =
     take-append-le count c.fill.new.buffer (drop asked c.loop-count.buffer)
     c.in-Ok.ensures.bound in
     let filled =
-    asked-filled size c.loop-count.buffer c.fill.new.buffer c.loop-count.invariant.chunk
-    c.fill.auto.buffer in
-    encoded-all c.args.encoding.now c.encode_align-align.ensures.base c.join_encode.ensures
+    c.fill.auto.buffer
+    ∙ length-take-le asked c.loop-count.buffer
+    (omega (arith, c.encode_piece_len-asked.ensures.few, c.loop-count.invariant.chunk)) in
+    encoded-all c.args.encoding.now c.encode_piece_len-asked.ensures.base c.join_encode.ensures
     _ _ _ _ _ c.loop-count.total c.loop-count.invariant.encoded _ c.in-Ok.ensures.bytes _
     (c.in-Ok.ensures.at_end (omega (arith, filled, c.if-count-asked.true)))
     (Appends-kept _ _ _ _ (rw piece at c.in-Ok-write_text.ensures.text)
@@ -117,16 +107,16 @@ returns-in-Ok-flush-clause-begun g c =
 pub returns-in-Err-flush-clause-begun : goal.returns-in-Err-flush-clause-begun
 returns-in-Err-flush-clause-begun g c =
     let count = c.in-Ok.count in
-    let size = c.encode_align-align.result in
-    let asked = 8192 / size * size in
+    let asked = c.encode_piece_len-asked.result in
     let piece =
     take-append-le count c.fill.new.buffer (drop asked c.loop-count.buffer)
     c.in-Ok.ensures.bound in
     let filled =
-    asked-filled size c.loop-count.buffer c.fill.new.buffer c.loop-count.invariant.chunk
-    c.fill.auto.buffer in
+    c.fill.auto.buffer
+    ∙ length-take-le asked c.loop-count.buffer
+    (omega (arith, c.encode_piece_len-asked.ensures.few, c.loop-count.invariant.chunk)) in
     all-front c.args.encoding.now _ _ _ _
-    (encoded-all c.args.encoding.now c.encode_align-align.ensures.base c.join_encode.ensures
+    (encoded-all c.args.encoding.now c.encode_piece_len-asked.ensures.base c.join_encode.ensures
     _ _ _ _ _ c.loop-count.total c.loop-count.invariant.encoded _ c.in-Ok.ensures.bytes _
     (c.in-Ok.ensures.at_end (omega (arith, filled, c.if-count-asked.true)))
     (Appends-kept _ _ _ _ (rw piece at c.in-Ok-write_text.ensures.text)
@@ -135,24 +125,25 @@ returns-in-Err-flush-clause-begun g c =
 pub loop-count-preserved : goal.loop-count-preserved
 loop-count-preserved g c =
     let count = c.in-Ok.count in
-    let size = c.encode_align-align.result in
-    let asked = 8192 / size * size in
+    let asked = c.encode_piece_len-asked.result in
     let piece =
     take-append-le count c.fill.new.buffer (drop asked c.loop-count.buffer)
     c.in-Ok.ensures.bound in
     let filled =
-    asked-filled size c.loop-count.buffer c.fill.new.buffer c.loop-count.invariant.chunk
-    c.fill.auto.buffer in
+    c.fill.auto.buffer
+    ∙ length-take-le asked c.loop-count.buffer
+    (omega (arith, c.encode_piece_len-asked.ensures.few, c.loop-count.invariant.chunk)) in
     let more = take count c.fill.new.buffer in
     let taken : length more ≡ count =
     length-take-le count c.fill.new.buffer c.in-Ok.ensures.bound in
     let whole =
-    full-whole c.args.encoding.now size c.encode_align-align.ensures.value c.fill.new.buffer filled
-    count c.in-Ok.ensures.bound (omega (arith, filled, c.if-count-asked.false)) in
+    full-whole c.args.encoding.now asked count c.fill.new.buffer
+    c.encode_piece_len-asked.ensures.whole filled c.in-Ok.ensures.bound
+    (omega (arith, filled, c.if-count-asked.false)) in
     let sum : c.loop-count.total + length more ≡ c.in-Some.sum =
     omega (arith, taken, c.in-Some.ensures) in
     let encoded =
-    encoded-more c.args.encoding.now c.encode_align-align.ensures.base c.join_encode.ensures
+    encoded-more c.args.encoding.now c.encode_piece_len-asked.ensures.base c.join_encode.ensures
     _ _ _ _ _ c.loop-count.total c.loop-count.invariant.encoded _ c.in-Ok.ensures.bytes _ whole
     (rw piece at c.in-Ok-write_text.ensures.text) in
     record {
@@ -165,7 +156,7 @@ loop-count-preserved g c =
             arith,
             filled,
             length-drop asked c.loop-count.buffer,
-            blocks-few 8192 size,
+            c.encode_piece_len-asked.ensures.few,
             c.loop-count.invariant.chunk,
           );
       room = c.write_text.auto.output ∙ c.loop-count.invariant.room;
@@ -180,3 +171,19 @@ returns-in_default-clause-succeeds g c =
     IfSome_then (g.R.Read.remaining (inner_of c.args.reader.now))
     (past-few 18446744073709551615 _ _ (λ bytes. ⊥) (returns-in_default-clause-too_long g c refl))
     (λ bytes fails few. absurd (fails (omega (arith, few))))
+
+pub write_text-requires-clause-fits : goal.write_text-requires-clause-fits
+write_text-requires-clause-fits g c =
+    let buffer = c.fill.new.buffer ++ drop c.encode_piece_len-asked.result c.loop-count.buffer in
+    let more = take c.in-Ok.count buffer in
+    omega (
+      arith,
+      c.encode_piece_len-asked.ensures.fits more (omega (
+        arith,
+        length-take c.in-Ok.count buffer,
+        c.in-Ok.ensures.bound,
+        c.fill.auto.buffer,
+        length-take c.encode_piece_len-asked.result c.loop-count.buffer,
+      )),
+      c.loop-count.invariant.room,
+    )

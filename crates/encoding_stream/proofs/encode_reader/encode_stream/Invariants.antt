@@ -10,8 +10,8 @@ invariant-loop-count g l = record {
       (g.W.Write.contents (inner_of l.writer)) l.total;
   reader_works : has_failed l.reader ≡ false;
   writer_works : has_failed l.writer ≡ false;
-  chunk : length l.buffer ≡ 8192;
-  room : length l.output ≡ 65536;
+  chunk : length l.buffer ≡ 49152;
+  room : length l.output ≡ 49152;
 }
 
 -- each turn but the last counts a byte

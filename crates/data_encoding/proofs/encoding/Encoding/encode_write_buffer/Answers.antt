@@ -8,7 +8,7 @@ use Rattle.data_encoding.proofs.encoding.Encoding.encode_write_buffer.Goals as g
 pub returns-then-is_empty-clause-written : goal.returns-then-is_empty-clause-written
 returns-then-is_empty-clause-written g c =
     let seen = c.args.self.now in
-    let base = c.piece_len-most.ensures.base in
+    let base = c.encode_piece_len-most.ensures.base in
     written-nothing g.W.Write.write_str_gives seen (IsRuled-yield base.fields seen base.yields)
     c.args.input.now (eqb-true (length c.args.input.now) 0 (sym c.if-is_empty.ensures))
     c.args.output.now
@@ -16,11 +16,11 @@ returns-then-is_empty-clause-written g c =
 pub loop-rest-preserved : goal.loop-rest-preserved
 loop-rest-preserved g c =
     let seen = c.args.self.now in
-    let base = c.piece_len-most.ensures.base in
+    let base = c.encode_piece_len-most.ensures.base in
     written-next g.W.Write.write_str_gives seen (IsRuled-yield base.fields seen base.yields)
     c.args.input.now c.loop-rest.rest.now c.args.output.now c.loop-rest.output
-    c.loop-rest.invariant c.piece_len-most.result (omega (arith, c.loop-rest-test.true))
-    c.piece_len-most.ensures.whole c.split_at.result.0.now c.split_at.result.1.now
+    c.loop-rest.invariant c.encode_piece_len-most.result (omega (arith, c.loop-rest-test.true))
+    c.encode_piece_len-most.ensures.whole c.split_at.result.0.now c.split_at.result.1.now
     c.split_at.ensures.front c.split_at.ensures.back c.write_piece.new.output
     c.in_ok-write_piece.ensures
 
