@@ -9,10 +9,10 @@ ghost use Rattle.data_encoding.specs.Text.{text_of};
 ghost use Rattle.data_encoding_c.specs.Calls.{decode_len_status, decode_status, encode_len_status, encode_status, over, HasStopped};
 
 use crate::status::{OK, SHORT_BUFFER, TOO_LONG, status_of_kind};
-use data_encoding::{DECODE_LIMIT, DecodeError, DecodePartial, ENCODE_LIMIT, Encoding};
+use data_encoding::{DECODE_LIMIT, DecodeError, DecodePartial, ENCODE_LIMIT, EncodingRef};
 
 /// The length of the text of `len` bytes.
-pub(crate) fn encode_len_by(encoding: &Encoding, len: usize, text_len: &mut usize) -> u32
+pub(crate) fn encode_len_by(encoding: &EncodingRef<'_>, len: usize, text_len: &mut usize) -> u32
     ensures status { result ≡ encode_len_status len }
     ensures length { result ≡ OK → (bytes : List ℕ) → length bytes ≡ len
         → length (text_of encoding.now bytes) ≡ text_len.new }
@@ -26,8 +26,9 @@ pub(crate) fn encode_len_by(encoding: &Encoding, len: usize, text_len: &mut usiz
 }
 
 /// Writes the text of data to the front of the output.
+#[inline(always)]
 pub(crate) fn encode_by(
-    encoding: &Encoding,
+    encoding: &EncodingRef<'_>,
     input: &[u8],
     output: &mut [u8],
     written: &mut usize,
@@ -66,7 +67,7 @@ pub struct Decoded {
 
 /// The greatest number of bytes that a text of `len` bytes may mean, or the position of the fault
 /// of that length.
-pub(crate) fn decode_len_by(encoding: &Encoding, len: usize, most: &mut usize) -> u32
+pub(crate) fn decode_len_by(encoding: &EncodingRef<'_>, len: usize, most: &mut usize) -> u32
     ensures status { result ≡ decode_len_status encoding.now len }
     ensures value { result ≡ OK → decoded_len encoding.now len ≡ Ok most.new }
     ensures fault { (error : DecodeError) → decoded_len encoding.now len ≡ Err error
@@ -90,8 +91,9 @@ pub(crate) fn decode_len_by(encoding: &Encoding, len: usize, most: &mut usize) -
 
 /// Writes the data that a text means to the front of the output, of which as many bytes are used as
 /// its length may mean.
+#[inline(always)]
 pub(crate) fn decode_by(
-    encoding: &Encoding,
+    encoding: &EncodingRef<'_>,
     input: &[u8],
     output: &mut [u8],
     decoded: &mut Decoded,
@@ -156,7 +158,7 @@ pub(crate) fn decode_by(
 }
 
 /// Whether no two different texts decode to the same data.
-pub(crate) fn is_canonical_by(encoding: &Encoding, answer: &mut bool) -> u32
+pub(crate) fn is_canonical_by(encoding: &EncodingRef<'_>, answer: &mut bool) -> u32
     ensures status { result ≡ OK }
     ensures canonical { IsTrue answer.new ↔ IsCanonical encoding.now }
 {

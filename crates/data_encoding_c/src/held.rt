@@ -1,5 +1,5 @@
 //! Encodings of a caller's own, which it holds as plain data: their tables stand in them, so that a
-//! call copies these and builds nothing.
+//! call builds nothing and copies none.
 
 ghost use Rattle.std.specs.Prelude.{◌≡◌};
 ghost use Rattle.data_encoding.specs.Plain.{base_of_plain};
@@ -15,7 +15,7 @@ use data_encoding::PlainEncoding;
 pub extern "C" fn de_held_encode_len(held: &PlainEncoding, len: usize, text_len: &mut usize) -> u32
     ensures { TellsTextLength (base_of_plain held.now) len text_len.old text_len.new result }
 {
-    encode_len_by(&held.encoding(), len, text_len)
+    encode_len_by(&held.by_ref(), len, text_len)
 }
 
 /// Writes the text of data to the front of the output, and its length to `written`.
@@ -29,7 +29,7 @@ pub extern "C" fn de_held_encode(
     ensures { Encodes (base_of_plain held.now) input.now output.old output.new written.old
         written.new result }
 {
-    encode_by(&held.encoding(), input, output, written)
+    encode_by(&held.by_ref(), input, output, written)
 }
 
 /// The greatest number of bytes that a text of `len` bytes may mean, or the position of the fault
@@ -38,7 +38,7 @@ pub extern "C" fn de_held_encode(
 pub extern "C" fn de_held_decode_len(held: &PlainEncoding, len: usize, most: &mut usize) -> u32
     ensures { TellsMost (base_of_plain held.now) len most.old most.new result }
 {
-    decode_len_by(&held.encoding(), len, most)
+    decode_len_by(&held.by_ref(), len, most)
 }
 
 /// Writes the data that a text means to the front of the output, or as much as stands before its
@@ -53,7 +53,7 @@ pub extern "C" fn de_held_decode(
     ensures { Decodes (base_of_plain held.now) input.now output.old output.new decoded.old
         decoded.new result }
 {
-    decode_by(&held.encoding(), input, output, decoded)
+    decode_by(&held.by_ref(), input, output, decoded)
 }
 
 /// Whether no two different texts decode to the same data.
@@ -61,5 +61,5 @@ pub extern "C" fn de_held_decode(
 pub extern "C" fn de_held_is_canonical(held: &PlainEncoding, answer: &mut bool) -> u32
     ensures { TellsCanonical (base_of_plain held.now) answer.new result }
 {
-    is_canonical_by(&held.encoding(), answer)
+    is_canonical_by(&held.by_ref(), answer)
 }

@@ -24,7 +24,7 @@ pub extern "C" fn de_held_layout(
     ensures { WritesFront (layout (base_of_plain held.now)) output.old output.new written.old
         written.new result }
 {
-    let bytes = held.encoding().internal_implementation();
+    let bytes = held.by_ref().internal_implementation();
     let bytes = bytes.as_slice();
     if output.len() < bytes.len() {
         return SHORT_BUFFER;

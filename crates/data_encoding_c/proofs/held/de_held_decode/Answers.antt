@@ -8,7 +8,7 @@ returns c =
     subst
     (λ b. Decodes b c.args.input.now c.args.output.now c.decode_by.new.output
     c.args.decoded.now c.decode_by.new.decoded c.decode_by.result)
-    c.encoding.ensures
+    c.by_ref.ensures
     (record {
       status = told.status;
       means = told.means;

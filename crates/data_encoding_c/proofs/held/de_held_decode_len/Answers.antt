@@ -7,7 +7,7 @@ returns c =
     let told = c.decode_len_by.ensures in
     subst
     (λ b. TellsMost b c.args.len c.args.most.now c.decode_len_by.new.most c.decode_len_by.result)
-    c.encoding.ensures
+    c.by_ref.ensures
     (record {
       status = told.status;
       value = told.value;

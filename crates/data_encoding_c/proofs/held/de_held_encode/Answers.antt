@@ -8,7 +8,7 @@ returns c =
     subst
     (λ b. Encodes b c.args.input.now c.args.output.now c.encode_by.new.output
     c.args.written.now c.encode_by.new.written c.encode_by.result)
-    c.encoding.ensures
+    c.by_ref.ensures
     (record {
       status = told.status;
       text = told.text;

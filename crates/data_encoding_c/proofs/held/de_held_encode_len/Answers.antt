@@ -8,7 +8,7 @@ returns c =
     subst
     (λ b. TellsTextLength b c.args.len c.args.text_len.now c.encode_len_by.new.text_len
     c.encode_len_by.result)
-    c.encoding.ensures
+    c.by_ref.ensures
     (record {
       status = told.status;
       text_length = told.length;

@@ -7,7 +7,7 @@ returns c =
     let told = c.is_canonical_by.ensures in
     subst
     (λ b. TellsCanonical b c.is_canonical_by.new.answer c.is_canonical_by.result)
-    c.encoding.ensures
+    c.by_ref.ensures
     (record {
       status = told.status;
       is_canonical = told.canonical;
