@@ -144,49 +144,60 @@ weaker : (few most : ℕ) → few ≤ most → (xs : List ℕ) → AllByRecursio
 weaker few most h [] all = tt
 weaker few most h (x ∷ xs) all = (omega (arith, h, all.0), weaker few most h xs all.1)
 
--- where all entries are below the limit, they are those of the input
-module _ (width symbols : ℕ) (values input entries : List ℕ) (k : ℕ) (is : IsWidth width)
-    (same : symbols ≡ k) (long : length input ≡ 8 * symbols)
-    (small : AllByRecursion (λ entry. entry < 1 * 2 ^ width % 256) entries)
-    (found : AllByRecursion (λ entry. entry < 128) entries
-    → entries ≡ map (slice_index values) (take (8 * k) input)) where
-  below : AllByRecursion (λ entry. entry < 2 ^ width) entries
-  below = subst (λ n. AllByRecursion (λ entry. entry < n) entries) (limit-is width is) small
+-- The sizes of a group as they are read: its width, and how many symbols it has.
+pub record AreSizes (width symbols read count : ℕ) : Type 0 where
+  pub is_width : IsWidth width
+  pub same_width : read ≡ width
+  pub same_symbols : symbols ≡ count
 
-  low : AllByRecursion (λ entry. entry < 128) entries
-  low = weaker (2 ^ width) 128 (omega (arith, symbols-few width is)) entries below
+module _ {width symbols read count : ℕ} (sizes : AreSizes width symbols read count)
+    (entries : List ℕ) (small : AllByRecursion (λ entry. entry < 1 * 2 ^ read % 256) entries) where
+  below : AllByRecursion (λ entry. entry < 2 ^ read) entries
+  below =
+      subst (λ n. AllByRecursion (λ entry. entry < n) entries)
+      (limit-is read (subst IsWidth (sym sizes.same_width) sizes.is_width)) small
 
-  entries-are : entries ≡ map (slice_index values) input
-  entries-are =
-      let whole : take (8 * k) input ≡ input =
-      take_all (8 * k) input (omega (arith, long, same)) in
-      found low ∙ ap (map (slice_index values)) whole
+  -- where all entries are below the limit, their words fit
+  pub words-fit : (made : List ℕ)
+      → (AllByRecursion (λ entry. entry < 2 ^ read) entries
+      → AllByRecursion (λ word. word < 2 ^ (read * count)) made)
+      → AllByRecursion (λ word. word < 2 ^ (width * symbols)) made
+  words-fit made fit =
+      subst (λ n. AllByRecursion (λ word. word < 2 ^ n) made)
+      (λ i. sizes.same_width i * sym sizes.same_symbols i) (fit below)
 
-  -- and so are their words
-  pub words-of-input : (order : BitOrder) (words : List ℕ)
-      → (AllByRecursion (λ entry. entry < 2 ^ width) entries
-      → words ≡ map (word_of order width k) (first_chunks k 8 entries))
-      → words ≡ map (word_of order width symbols)
-      (first_chunks symbols 8 (map (slice_index values) input))
-  words-of-input order words made =
-      made below
-      ∙ (λ i. map (word_of order width (sym same i)) (first_chunks (sym same i) 8 (entries-are i)))
+  -- and they are those of the input
+  module _ (values input : List ℕ) (long : length input ≡ 8 * symbols)
+      (found : AllByRecursion (λ entry. entry < 128) entries
+      → entries ≡ map (slice_index values) (take (8 * count) input)) where
+    low : AllByRecursion (λ entry. entry < 128) entries
+    low =
+        weaker (2 ^ read) 128
+        (omega (arith, symbols-few width sizes.is_width, ap (λ n. 2 ^ n) sizes.same_width)) entries
+        below
 
-  -- and each byte is a symbol
-  pub symbols-of-input : (j : ℕ) → j < length input
-      → slice_index values (slice_index input j) < 128
-  symbols-of-input j h =
-      let inside : j < length (map (slice_index values) input) =
-      omega (arith, h, length-map input (slice_index values)) in
-      subst (λ n. n < 128) (get_or-map (slice_index values) input j 0 0 h)
-      (all-at (λ entry. entry < 128) (map (slice_index values) input)
-      (subst (AllByRecursion (λ entry. entry < 128)) entries-are low) j inside)
+    entries-are : entries ≡ map (slice_index values) input
+    entries-are =
+        found low
+        ∙ ap (map (slice_index values))
+        (take_all (8 * count) input (omega (arith, long, sizes.same_symbols)))
 
-pub words-fit-input : (width symbols : ℕ) (entries words : List ℕ) → (k : ℕ) → IsWidth width
-    → symbols ≡ k → AllByRecursion (λ entry. entry < 1 * 2 ^ width % 256) entries
-    → (AllByRecursion (λ entry. entry < 2 ^ width) entries
-    → AllByRecursion (λ word. word < 2 ^ (width * k)) words)
-    → AllByRecursion (λ word. word < 2 ^ (width * symbols)) words
-words-fit-input width symbols entries words k is same small made =
-    subst (λ n. AllByRecursion (λ word. word < 2 ^ (width * n)) words) (sym same)
-    (made (subst (λ n. AllByRecursion (λ entry. entry < n) entries) (limit-is width is) small))
+    -- and so are their words
+    pub words-of-input : (order : BitOrder) (made : List ℕ)
+        → (AllByRecursion (λ entry. entry < 2 ^ read) entries
+        → made ≡ map (word_of order read count) (first_chunks count 8 entries))
+        → made ≡ map (word_of order width symbols)
+        (first_chunks symbols 8 (map (slice_index values) input))
+    words-of-input order made are =
+        are below
+        ∙ (λ i. map (word_of order (sizes.same_width i) (sym sizes.same_symbols i))
+        (first_chunks (sym sizes.same_symbols i) 8 (entries-are i)))
+
+    -- and each byte is a symbol
+    pub symbols-of-input : (j : ℕ) → j < length input
+        → slice_index values (slice_index input j) < 128
+    symbols-of-input j h =
+        subst (λ n. n < 128) (get_or-map (slice_index values) input j 0 0 h)
+        (all-at (λ entry. entry < 128) (map (slice_index values) input)
+        (subst (AllByRecursion (λ entry. entry < 128)) entries-are low) j
+        (omega (arith, h, length-map input (slice_index values))))

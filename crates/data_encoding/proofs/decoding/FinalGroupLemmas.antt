@@ -61,7 +61,8 @@ module _ (base : Base) where
     group_full : (group : List Character) (bytes : List ℕ) → GroupMeans base group bytes
         → list_any is_padding group ≡ false → length bytes ≡ size
     group_full group bytes means none =
-        let test : nat_lt 0 means.padding ≡ false = sym (GroupMeans-padding base group bytes means) ∙ none in
+        let test : nat_lt 0 means.padding ≡ false =
+        sym (GroupMeans-padding base group bytes means) ∙ none in
         let no_padding : means.padding ≡ 0 = grind (arith, nat_tests) in
         let all : length means.symbols ≡ group_symbols base.width =
         omega (arith, GroupMeans-length base group bytes means, no_padding) in
@@ -73,7 +74,8 @@ module _ (base : Base) where
     group_part : (group : List Character) (bytes : List ℕ) → GroupMeans base group bytes
         → list_any is_padding group ≡ true → 0 < length bytes % size
     group_part group bytes means some =
-        let test : nat_lt 0 means.padding ≡ true = sym (GroupMeans-padding base group bytes means) ∙ some in
+        let test : nat_lt 0 means.padding ≡ true =
+        sym (GroupMeans-padding base group bytes means) ∙ some in
         let padded : 0 < means.padding = grind (arith, nat_tests) in
         let few : length means.symbols < group_symbols base.width =
         omega (arith, GroupMeans-length base group bytes means, padded) in
@@ -109,7 +111,8 @@ module _ (base : Base) where
                 let last = h.4 (final_is g ∙ some) in
                 let nothing = subst (λ l. GroupsMean base l h.1) last h.5 in
                 let all : length bytes ≡ length h.0 = omega (arith, len, ap length nothing) in
-                let part = subst (λ n. 0 < n % size) (sym all) (group_part (meanings_in base g) h.0 h.3 some) in
+                let part = subst (λ n. 0 < n % size) (sym all)
+                (group_part (meanings_in base g) h.0 h.3 some) in
                 ap (λ b. b || list_any (is_final base) gs) (final_is g ∙ some)
                 ∙ sym (some_is (length bytes % size) part)
 

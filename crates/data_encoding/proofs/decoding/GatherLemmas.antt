@@ -220,7 +220,8 @@ length-left base text read =
 
 pub nothing-kept : (base : Base) (text : List ℕ) (read : ℕ)
     → length (kept base (drop read text)) ≡ 0 → kept_from base read text ≡ []
-nothing-kept base text read h = nil_from_length (kept_from base read text) (length-left base text read ∙ h)
+nothing-kept base text read h =
+    nil_from_length (kept_from base read text) (length-left base text read ∙ h)
 
 -- What was gathered of a part is in it.
 module _ (base : Base) (size : ℕ) (part group : List ℕ) (span : ℕ)

@@ -76,8 +76,8 @@ length-bytes_of_groups base (group ∷ groups) =
     )
 
 -- Of the symbols of a text some are read, and the bytes of no more written.
-module _ (width bytes symbols len read written : ℕ) (same : width * symbols ≡ 8 * bytes) (within : read ≤ len)
-  where
+module _ (width bytes symbols len read written : ℕ) (same : width * symbols ≡ 8 * bytes)
+    (within : read ≤ len) where
     regroup : (count : ℕ) → width * (count * symbols) ≡ 8 * (count * bytes)
     regroup count =
         mul_left_comm width count symbols ∙ ap (λ n. count * n) same ∙ mul_left_comm count 8 bytes
@@ -96,8 +96,9 @@ module _ (width bytes symbols len read written : ℕ) (same : width * symbols �
         omega (arith, room-bits h (count * symbols) few, regroup count)
 
     -- and for as many whole groups, where whole ones were read
-    pub room-whole : 0 < symbols → (q count : ℕ) → 8 * written ≤ width * (q * symbols) → q * symbols ≤ read
-        → count * symbols ≤ len - read → written + count * bytes ≤ len / symbols * bytes
+    pub room-whole : 0 < symbols → (q count : ℕ) → 8 * written ≤ width * (q * symbols)
+        → q * symbols ≤ read → count * symbols ≤ len - read
+        → written + count * bytes ≤ len / symbols * bytes
     room-whole pos q count h before few =
         let fits : (q + count) * symbols ≤ len =
         omega (arith, add-mul q count symbols, before, few, within) in

@@ -59,7 +59,8 @@ module _ (base : Base) (width : IsWidth base.width) (bytes : List ℕ) where
 
   module _ (some : 0 < len) where
     -- a group without a fault means something
-    pub sound_run-group : len ≤ size → group_fault base front ≡ None → is_sound_run base bytes ≡ true
+    pub sound_run-group : len ≤ size → group_fault base front ≡ None
+        → is_sound_run base bytes ≡ true
     sound_run-group few sound =
         let group = positioned front in
         ap is_none (strict_fault
@@ -81,7 +82,8 @@ module _ (base : Base) (width : IsWidth base.width) (bytes : List ℕ) where
         ap (first_after false strict) (sym first) ∙ sym strict_fault
         ∙ is_none-none (fault_of strict front) h in
         let sound = neither_fault (fault_after false strict group)
-        (first_after (is_final strict group) strict (runs size (drop size (positioned front)))) none in
+        (first_after (is_final strict group) strict (runs size (drop size (positioned front))))
+        none in
         let same : bytes_in group ≡ take size front =
         sym (take-map (λ (k : Positioned). k.byte) size (positioned front))
         ∙ ap (take size) (bytes-positioned_from 0 front) in

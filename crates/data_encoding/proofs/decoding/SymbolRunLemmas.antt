@@ -38,12 +38,13 @@ module _ (base : Base) (width : IsWidth base.width) where
   }
 
   kept : (part old output piece : List ℕ) (i k : ℕ) → IsRun base part i old output
-      → i * byte_count ≤ length output → IsRun base part i old (put_mid (i * byte_count) k output piece)
+      → i * byte_count ≤ length output
+      → IsRun base part i old (put_mid (i * byte_count) k output piece)
   kept part old output piece i k run fits = record {
     within = run.within;
     are_symbols = run.are_symbols;
-    bytes = take_at (take (i * byte_count) output) (piece ++ drop k (drop (i * byte_count) output)) (i * byte_count)
-        (length-take-le (i * byte_count) output fits) ∙ run.bytes;
+    bytes = take_at (take (i * byte_count) output) (piece ++ drop k (drop (i * byte_count) output))
+        (i * byte_count) (length-take-le (i * byte_count) output fits) ∙ run.bytes;
   }
 
   symbols-more : (part : List ℕ) (i m : ℕ)
@@ -81,7 +82,8 @@ module _ (base : Base) (width : IsWidth base.width) where
       let ns = map (meaning base) back in
       let whole : length ms % size ≡ 0 =
       ap (λ n. n % size) (length-map front (meaning base) ∙ front_len) ∙ mul-mod_left i size in
-      let again : take (m * size) back ≡ back = take_all (m * size) back (omega (arith, back_len)) in
+      let again : take (m * size) back ≡ back =
+      take_all (m * size) back (omega (arith, back_len)) in
       ap (λ l. run_bytes base front ++ run_bytes base l) again
       ∙ sym (flat_map-append (symbol_bytes base) (runs size ms) (runs size ns))
       ∙ ap (flat_map (symbol_bytes base)) (sym (runs-join size ms ns pos whole)
@@ -90,13 +92,14 @@ module _ (base : Base) (width : IsWidth base.width) where
       ∙ ap (λ n. run_bytes base (take n part)) (sym sum)
 
   more : (part old output before piece : List ℕ) (i m k : ℕ) → (i + m) * size ≤ length part
-      → i * byte_count ≤ length output → length piece ≡ m * byte_count → IsRun base part i old output
-      → IsRun base (take (m * size) (drop (i * size) part)) m before piece
+      → i * byte_count ≤ length output → length piece ≡ m * byte_count
+      → IsRun base part i old output → IsRun base (take (m * size) (drop (i * size) part)) m before piece
       → IsRun base part (i + m) old (put_mid (i * byte_count) k output piece)
   more part old output before piece i m k within fits len first second =
       let sum : (i + m) * byte_count ≡ i * byte_count + length piece =
       add-mul i m byte_count ∙ ap (λ n. i * byte_count + n) (sym len) in
-      let all : take (m * byte_count) piece ≡ piece = take_all (m * byte_count) piece (omega (arith, len)) in
+      let all : take (m * byte_count) piece ≡ piece =
+      take_all (m * byte_count) piece (omega (arith, len)) in
       record {
         within = within;
         are_symbols = symbols-more part i m first.are_symbols second.are_symbols;

@@ -17,15 +17,15 @@ use Rattle.data_encoding.proofs.lists.EachLemmas.{all-at}
 abbrev pub equal : ℕ → ℕ → ℕ
 equal a b = cond (eqb a b) 255 0
 
-abbrev pub plus : ℕ → ℕ → ℕ
+abbrev plus : ℕ → ℕ → ℕ
 plus a b = (a + b) % 2 ^ 8
 
 -- lanes chosen by whether two others are equal
-chosen-equal : (f g h k : ℕ → ℕ) (bytes xs ys us vs : List ℕ) → xs ≡ map f bytes
+chosen-equal : (f g h k : ℕ → ℕ) (bytes us vs : List ℕ) {xs ys : List ℕ} → xs ≡ map f bytes
     → ys ≡ map g bytes → us ≡ map h bytes → vs ≡ map k bytes
     → sel_l (map (top 7) (zip2 equal xs ys)) us vs
     ≡ map (λ byte. cond (eqb (f byte) (g byte)) (h byte) (k byte)) bytes
-chosen-equal f g h k bytes xs ys us vs at_f at_g at_h at_k =
+chosen-equal f g h k bytes us vs {xs} {ys} at_f at_g at_h at_k =
     let tests : map (top 7) (zip2 equal xs ys) ≡ map (λ byte. eqb (f byte) (g byte)) bytes =
     tops_compared w8 eqb xs ys ∙ zip2_of_maps eqb f g bytes at_f at_g in
     (λ i. sel_l (tests i) (at_h i) (at_k i)) ∙ selected (λ byte. eqb (f byte) (g byte)) h k bytes
@@ -57,11 +57,11 @@ pub found-are : (affine : Affine) (count : ℕ) (bytes symbols bits deltas : Lis
     ≡ map (affine_entry affine) bytes
 found-are affine count bytes symbols bits deltas long at_symbols at_bits at_deltas =
     let own : bytes ≡ map (λ (byte : ℕ). byte) bytes = sym (map-id bytes) in
-    chosen-equal (symbol_bit affine) (λ _. 0) (λ _. 255) (affine_value affine) bytes _ _ _ _
+    chosen-equal (symbol_bit affine) (λ _. 0) (λ _. 255) (affine_value affine) bytes _ _
     (zip2_of_maps bit_and (in_row affine.symbols 0) (at_row bits_of_rows) bytes at_symbols at_bits)
     (splat_is_map bytes count 0 long) (splat_is_map bytes count 255 long)
     (chosen-equal (λ byte. byte) (λ _. affine.odd) (λ _. affine.odd_value)
-    (λ byte. plus byte (at_row affine.deltas byte)) bytes _ _ _ _ own
+    (λ byte. plus byte (at_row affine.deltas byte)) bytes _ _ own
     (splat_is_map bytes count affine.odd long) (splat_is_map bytes count affine.odd_value long)
     (zip2_of_maps plus (λ byte. byte) (at_row affine.deltas) bytes own at_deltas))
 
@@ -174,9 +174,8 @@ agreed affine values bytes found row long few are_bytes are_found passes k h sma
     (omega (arith, length-chunk (16 * row) 16 values (omega (arith, long, few)))))
     (row-of (16 * row) values) in
     let lanes_are =
-    chosen-equal entry own (λ _. 0) (λ j. plus (entry j) 128) places found
-    (entries_of row values) (replicate 16 0) (zip2 plus found (replicate 16 128))
-    found_are own_are
+    chosen-equal entry own (λ _. 0) (λ j. plus (entry j) 128) places (replicate 16 0)
+    (zip2 plus found (replicate 16 128)) found_are own_are
     (splat_is_map places 16 0 refl)
     (zip2_of_maps plus entry (λ _. 128) places found_are (splat_is_map places 16 128 refl)) in
     let inside : k < length (map lane places) =

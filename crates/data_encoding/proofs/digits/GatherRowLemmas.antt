@@ -241,7 +241,7 @@ of_rows-is values byte h =
     ))
 
 -- a byte from 128 on keeps its highest bit
-abbrev pub of_byte : List ℕ → ℕ → ℕ
+abbrev of_byte : List ℕ → ℕ → ℕ
 of_byte values byte = bit_or (of_rows values byte) (bit_and byte 128)
 
 of_byte-is : (values : List ℕ) (byte : ℕ) → byte < 256 → of_byte values byte < 128

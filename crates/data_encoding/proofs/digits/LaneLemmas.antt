@@ -1,12 +1,13 @@
 -- Lanes: digits that make a wider lane, and what is computed lane by lane.
-use Rattle.std.proofs.Common.{◌≡◌, ℕ, ◌+◌, ◌*◌, ◌/◌, ◌%◌, ◌^◌, ◌<◌, ◌≤◌, Bool, cond, List, [], ◌∷◌, ◌++◌, length, map, refl, sym, ap, ◌∙◌, arith}
+use Rattle.std.proofs.Common.{◌≡◌, ℕ, ◌+◌, ◌*◌, ◌/◌, ◌%◌, ◌^◌, ◌<◌, ◌≤◌, Bool, cond, List, [], ◌∷◌, ◌++◌, length, map, replicate, bit_and, bit_or, refl, sym, ap, ◌∙◌, arith}
 use Rattle.std.proofs.Math.Nat.{pow-zero, pow-succ', mul_comm, mul-add, mul_assoc, mod-lt}
 use Rattle.std.proofs.lemmas.Nat.{div-mul-add, mod-mul-add, pow_pos}
+use Rattle.std.proofs.lemmas.Simd.{zip2_splat, zip2_of_maps, splat_is_map}
 use Rattle.std.specs.Prelude.{flat_map}
 use Rattle.std.specs.List.{AllByRecursion, range_with_len}
-use Rattle.std.specs.Simd.Lanes.{number_l, digits_l, sel_l}
+use Rattle.std.specs.Simd.Lanes.{number_l, digits_l, sel_l, zip2}
 use Rattle.data_encoding.specs.declared.encoding.BitOrder.{BitOrder}
-use Rattle.data_encoding.specs.Lanes.{digits_of}
+use Rattle.data_encoding.specs.Lanes.{digits_of, halved_lane}
 use Rattle.data_encoding.specs.Words.{digit, weight}
 use Rattle.data_encoding.proofs.digits.BitLemmas.{length-pieces}
 use Rattle.data_encoding.proofs.lists.EachLemmas.{all_joined}
@@ -109,3 +110,15 @@ by_eight P is (a ∷ b ∷ []) e = absurd (omega (arith, e))
 by_eight P is (a ∷ b ∷ c ∷ []) e = absurd (omega (arith, e))
 by_eight P is (a ∷ b ∷ c ∷ d ∷ ws) e =
     by_four (λ l. P (a ∷ b ∷ c ∷ d ∷ l)) (is a b c d) ws (omega (arith, e))
+
+-- what stays under one mask, and what moves up under another, in each of eight lanes
+pub halved-lanes : (bits low high up : ℕ) (lanes : List ℕ) → length lanes ≡ 8
+    → zip2 bit_or (zip2 bit_and lanes (replicate 8 low))
+    (zip2 (λ a b. a * 2 ^ b % 2 ^ bits) (zip2 bit_and lanes (replicate 8 high)) (replicate 8 up))
+    ≡ map (halved_lane bits low high up) lanes
+halved-lanes bits low high up lanes long =
+    let moved = λ (a b : ℕ). a * 2 ^ b % 2 ^ bits in
+    zip2_of_maps bit_or (λ a. bit_and a low) (λ a. moved (bit_and a high) up) lanes
+    (zip2_splat bit_and lanes 8 low long)
+    (zip2_of_maps moved (λ a. bit_and a high) (λ _. up) lanes
+    (zip2_splat bit_and lanes 8 high long) (splat_is_map lanes 8 up long))

@@ -78,7 +78,7 @@ differs a b = cond (not (eqb a b)) 255 0
 abbrev has : ℕ → ℕ → Bool
 has bit value = not (eqb (bit_and value bit) 0)
 
-abbrev pub lanes_with : ℕ → List ℕ → List Bool
+abbrev lanes_with : ℕ → List ℕ → List Bool
 lanes_with bit values =
     map (top 7) (zip2 differs (zip2 bit_and values (replicate 64 bit)) (replicate 64 0))
 

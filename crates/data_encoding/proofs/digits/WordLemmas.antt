@@ -162,7 +162,7 @@ word_of-more MostSignificantFirst size count index digits d is h k =
     (more_most size index r digits d is k)
 
 -- the number of the bits below some that stand between a front and a rest
-abbrev pub bits_below : BitOrder → List ℕ → List ℕ → ℕ
+abbrev bits_below : BitOrder → List ℕ → List ℕ → ℕ
 bits_below LeastSignificantFirst front rest = length front
 bits_below MostSignificantFirst front rest = length rest
 

@@ -13,7 +13,7 @@ use crate::kernel::lanes::look_up::LookUp;
 use crate::kernel::words::weight_at;
 use std::simd::prelude::*;
 
-// The two halves of each lane, of so many bits each, as one number.
+// The two halves of each lane, each a digit of `size` bits, as one number.
 #[inline(always)]
 fn halves_16<const N: usize>(order: BitOrder, size: usize, lanes: Simd<u16, N>) -> Simd<u16, N>
     requires { size ≤ 8 }

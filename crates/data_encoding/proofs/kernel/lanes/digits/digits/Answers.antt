@@ -1,4 +1,4 @@
-use Rattle.std.proofs.Common.{◌≡◌, ℕ, ◌+◌, ◌*◌, ◌<◌, ◌≤◌, ◌^◌, List, length, take, flat_map, sym, ◌∙◌, subst, arith}
+use Rattle.std.proofs.Common.{◌≡◌, ℕ, ◌+◌, ◌*◌, ◌<◌, ◌≤◌, ◌^◌, List, take, flat_map, sym, ◌∙◌, subst, arith}
 use Rattle.std.specs.List.{AllByRecursion}
 use Rattle.data_encoding.specs.declared.encoding.BitOrder.{BitOrder}
 use Rattle.data_encoding.specs.Base.{group_bytes, group_symbols}
@@ -6,185 +6,104 @@ use Rattle.data_encoding.specs.Lanes.{group_words, digits_of}
 use Rattle.data_encoding.specs.Tables.{IsGroup}
 use Rattle.data_encoding.proofs.kernel.lanes.digits.digits.Goals as goal
 
--- what holds of one width holds of a width that equals it
-abbrev HasBytes : List ℕ → ℕ → Type 0
-HasBytes input width = 10 * group_bytes width ≤ length input + 2
+-- lanes hold the digits of eight groups of these sizes
+abbrev HasDigits : BitOrder → List ℕ → List ℕ → ℕ → ℕ → ℕ → Type 0
+HasDigits order input lanes width bytes symbols = record {
+  digits : take (8 * symbols) lanes
+      ≡ flat_map (digits_of order width symbols) (group_words order bytes 8 input);
+  below : AllByRecursion (λ digit. digit < 2 ^ width) lanes;
+}
 
-abbrev HasDigits : BitOrder → List ℕ → List ℕ → ℕ → Type 0
-HasDigits order input lanes width =
-    take (8 * group_symbols width) lanes
-    ≡ flat_map (digits_of order width (group_symbols width))
-    (group_words order (group_bytes width) 8 input)
-
--- the digits of a width are those of its groups
+-- and a width that equals theirs has these sizes
 digits-at : (order : BitOrder) (input lanes : List ℕ) {width bytes symbols k : ℕ}
-    → IsGroup width bytes symbols → width ≡ k → HasDigits order input lanes k
-    → take (8 * symbols) lanes
-    ≡ flat_map (digits_of order width symbols) (group_words order bytes 8 input)
+    → IsGroup width bytes symbols → width ≡ k
+    → HasDigits order input lanes k (group_bytes k) (group_symbols k)
+    → HasDigits order input lanes width bytes symbols
 digits-at order input lanes {width} {bytes} {symbols} {k} group is has =
-    let by_width = subst (HasDigits order input lanes) (sym is) has in
-    let by_bytes = subst (λ n. take (8 * group_symbols width) lanes
-    ≡ flat_map (digits_of order width (group_symbols width)) (group_words order n 8 input))
-    (sym group.has_bytes) by_width in
-    subst (λ n. take (8 * n) lanes
-    ≡ flat_map (digits_of order width n) (group_words order bytes 8 input))
-    (sym group.has_symbols) by_bytes
+    subst (HasDigits order input lanes width bytes) (sym group.has_symbols)
+    (subst (λ n. HasDigits order input lanes width n (group_symbols width)) (sym group.has_bytes)
+    (subst (λ n. HasDigits order input lanes n (group_bytes n) (group_symbols n)) (sym is) has))
 
-abbrev IsBelow : List ℕ → ℕ → Type 0
-IsBelow lanes width = AllByRecursion (λ digit. digit < 2 ^ width) lanes
+bytes-at : (n : ℕ) {width bytes symbols k : ℕ} → IsGroup width bytes symbols → width ≡ k
+    → 10 * bytes ≤ n + 2 → 10 * group_bytes k ≤ n + 2
+bytes-at n group is enough =
+    subst (λ w. 10 * group_bytes w ≤ n + 2) is
+    (subst (λ b. 10 * b ≤ n + 2) group.has_bytes enough)
 
 pub one_bit_digits-requires : goal.one_bit_digits-requires
 one_bit_digits-requires g c =
-    let is : g.G.GroupSize.WIDTH ≡ 1 = sym c.WIDTH-width.ensures ∙ c.if-width-eq1.true in
     omega (
       arith,
-      subst (HasBytes c.args.input.now) is
-          (subst (λ n. 10 * n ≤ length c.args.input.now + 2) g.G.GroupSize.is_group.has_bytes
-          c.requires.bytes),
+      bytes-at _ g.G.GroupSize.is_group (sym c.WIDTH-width.ensures ∙ c.if-width-eq1.true)
+          c.requires.bytes,
     )
 
-pub returns-then-width-eq1-clause-digits : goal.returns-then-width-eq1-clause-digits
-returns-then-width-eq1-clause-digits g c =
-    let is : g.G.GroupSize.WIDTH ≡ 1 = sym c.WIDTH-width.ensures ∙ c.if-width-eq1.true in
-    digits-at c.args.order c.args.input.now c.one_bit_digits.result g.G.GroupSize.is_group is
-    c.one_bit_digits.ensures.digits
-
-pub returns-then-width-eq1-clause-below : goal.returns-then-width-eq1-clause-below
-returns-then-width-eq1-clause-below g c =
-    let is : g.G.GroupSize.WIDTH ≡ 1 = sym c.WIDTH-width.ensures ∙ c.if-width-eq1.true in
-    subst (IsBelow c.one_bit_digits.result) (sym is) c.one_bit_digits.ensures.below
+pub returns-then-width-eq1 : goal.returns-then-width-eq1
+returns-then-width-eq1 g c =
+    digits-at c.args.order c.args.input.now c.one_bit_digits.result g.G.GroupSize.is_group
+    (sym c.WIDTH-width.ensures ∙ c.if-width-eq1.true) c.one_bit_digits.ensures
 
 pub two_bit_digits-requires : goal.two_bit_digits-requires
 two_bit_digits-requires g c =
-    let is : g.G.GroupSize.WIDTH ≡ 2 = sym c.WIDTH-width.ensures ∙ c.if-width-eq2.true in
     omega (
       arith,
-      subst (HasBytes c.args.input.now) is
-          (subst (λ n. 10 * n ≤ length c.args.input.now + 2) g.G.GroupSize.is_group.has_bytes
-          c.requires.bytes),
+      bytes-at _ g.G.GroupSize.is_group (sym c.WIDTH-width.ensures ∙ c.if-width-eq2.true)
+          c.requires.bytes,
     )
 
-pub returns-then-width-eq2-clause-digits : goal.returns-then-width-eq2-clause-digits
-returns-then-width-eq2-clause-digits g c =
-    let is : g.G.GroupSize.WIDTH ≡ 2 = sym c.WIDTH-width.ensures ∙ c.if-width-eq2.true in
-    digits-at c.args.order c.args.input.now c.two_bit_digits.result g.G.GroupSize.is_group is
-    c.two_bit_digits.ensures.digits
-
-pub returns-then-width-eq2-clause-below : goal.returns-then-width-eq2-clause-below
-returns-then-width-eq2-clause-below g c =
-    let is : g.G.GroupSize.WIDTH ≡ 2 = sym c.WIDTH-width.ensures ∙ c.if-width-eq2.true in
-    subst (IsBelow c.two_bit_digits.result) (sym is) c.two_bit_digits.ensures.below
+pub returns-then-width-eq2 : goal.returns-then-width-eq2
+returns-then-width-eq2 g c =
+    digits-at c.args.order c.args.input.now c.two_bit_digits.result g.G.GroupSize.is_group
+    (sym c.WIDTH-width.ensures ∙ c.if-width-eq2.true) c.two_bit_digits.ensures
 
 pub three_bit_digits-requires : goal.three_bit_digits-requires
 three_bit_digits-requires g c =
-    let is : g.G.GroupSize.WIDTH ≡ 3 = sym c.WIDTH-width.ensures ∙ c.if-width-eq3.true in
     omega (
       arith,
-      subst (HasBytes c.args.input.now) is
-          (subst (λ n. 10 * n ≤ length c.args.input.now + 2) g.G.GroupSize.is_group.has_bytes
-          c.requires.bytes),
+      bytes-at _ g.G.GroupSize.is_group (sym c.WIDTH-width.ensures ∙ c.if-width-eq3.true)
+          c.requires.bytes,
     )
 
-pub returns-then-width-eq3-clause-digits : goal.returns-then-width-eq3-clause-digits
-returns-then-width-eq3-clause-digits g c =
-    let is : g.G.GroupSize.WIDTH ≡ 3 = sym c.WIDTH-width.ensures ∙ c.if-width-eq3.true in
-    digits-at c.args.order c.args.input.now c.three_bit_digits.result g.G.GroupSize.is_group is
-    c.three_bit_digits.ensures.digits
-
-pub returns-then-width-eq3-clause-below : goal.returns-then-width-eq3-clause-below
-returns-then-width-eq3-clause-below g c =
-    let is : g.G.GroupSize.WIDTH ≡ 3 = sym c.WIDTH-width.ensures ∙ c.if-width-eq3.true in
-    subst (IsBelow c.three_bit_digits.result) (sym is) c.three_bit_digits.ensures.below
+pub returns-then-width-eq3 : goal.returns-then-width-eq3
+returns-then-width-eq3 g c =
+    digits-at c.args.order c.args.input.now c.three_bit_digits.result g.G.GroupSize.is_group
+    (sym c.WIDTH-width.ensures ∙ c.if-width-eq3.true) c.three_bit_digits.ensures
 
 pub four_bit_digits-requires : goal.four_bit_digits-requires
 four_bit_digits-requires g c =
-    let is : g.G.GroupSize.WIDTH ≡ 4 = sym c.WIDTH-width.ensures ∙ c.if-width-eq4.true in
     omega (
       arith,
-      subst (HasBytes c.args.input.now) is
-          (subst (λ n. 10 * n ≤ length c.args.input.now + 2) g.G.GroupSize.is_group.has_bytes
-          c.requires.bytes),
+      bytes-at _ g.G.GroupSize.is_group (sym c.WIDTH-width.ensures ∙ c.if-width-eq4.true)
+          c.requires.bytes,
     )
 
-pub returns-then-width-eq4-clause-digits : goal.returns-then-width-eq4-clause-digits
-returns-then-width-eq4-clause-digits g c =
-    let is : g.G.GroupSize.WIDTH ≡ 4 = sym c.WIDTH-width.ensures ∙ c.if-width-eq4.true in
-    digits-at c.args.order c.args.input.now c.four_bit_digits.result g.G.GroupSize.is_group is
-    c.four_bit_digits.ensures.digits
-
-pub returns-then-width-eq4-clause-below : goal.returns-then-width-eq4-clause-below
-returns-then-width-eq4-clause-below g c =
-    let is : g.G.GroupSize.WIDTH ≡ 4 = sym c.WIDTH-width.ensures ∙ c.if-width-eq4.true in
-    subst (IsBelow c.four_bit_digits.result) (sym is) c.four_bit_digits.ensures.below
+pub returns-then-width-eq4 : goal.returns-then-width-eq4
+returns-then-width-eq4 g c =
+    digits-at c.args.order c.args.input.now c.four_bit_digits.result g.G.GroupSize.is_group
+    (sym c.WIDTH-width.ensures ∙ c.if-width-eq4.true) c.four_bit_digits.ensures
 
 pub five_bit_digits-requires : goal.five_bit_digits-requires
 five_bit_digits-requires g c =
-    let is : g.G.GroupSize.WIDTH ≡ 5 = sym c.WIDTH-width.ensures ∙ c.if-width-eq5.true in
     omega (
       arith,
-      subst (HasBytes c.args.input.now) is
-          (subst (λ n. 10 * n ≤ length c.args.input.now + 2) g.G.GroupSize.is_group.has_bytes
-          c.requires.bytes),
+      bytes-at _ g.G.GroupSize.is_group (sym c.WIDTH-width.ensures ∙ c.if-width-eq5.true)
+          c.requires.bytes,
     )
 
-pub returns-then-width-eq5-clause-digits : goal.returns-then-width-eq5-clause-digits
-returns-then-width-eq5-clause-digits g c =
-    let is : g.G.GroupSize.WIDTH ≡ 5 = sym c.WIDTH-width.ensures ∙ c.if-width-eq5.true in
-    digits-at c.args.order c.args.input.now c.five_bit_digits.result g.G.GroupSize.is_group is
-    c.five_bit_digits.ensures.digits
-
-pub returns-then-width-eq5-clause-below : goal.returns-then-width-eq5-clause-below
-returns-then-width-eq5-clause-below g c =
-    let is : g.G.GroupSize.WIDTH ≡ 5 = sym c.WIDTH-width.ensures ∙ c.if-width-eq5.true in
-    subst (IsBelow c.five_bit_digits.result) (sym is) c.five_bit_digits.ensures.below
+pub returns-then-width-eq5 : goal.returns-then-width-eq5
+returns-then-width-eq5 g c =
+    digits-at c.args.order c.args.input.now c.five_bit_digits.result g.G.GroupSize.is_group
+    (sym c.WIDTH-width.ensures ∙ c.if-width-eq5.true) c.five_bit_digits.ensures
 
 pub six_bit_digits-requires : goal.six_bit_digits-requires
 six_bit_digits-requires g c =
-    let is : g.G.GroupSize.WIDTH ≡ 6 = omega (
-      arith,
-      g.G.GroupSize.is_group.is_width.some,
-      g.G.GroupSize.is_group.is_width.few,
-      c.WIDTH-width.ensures,
-      c.if-width-eq1.false,
-      c.if-width-eq2.false,
-      c.if-width-eq3.false,
-      c.if-width-eq4.false,
-      c.if-width-eq5.false,
-    ) in
-    omega (
-      arith,
-      subst (HasBytes c.args.input.now) is
-          (subst (λ n. 10 * n ≤ length c.args.input.now + 2) g.G.GroupSize.is_group.has_bytes
-          c.requires.bytes),
-    )
+    let is : g.G.GroupSize.WIDTH ≡ 6 =
+    omega (arith, g.G.GroupSize.is_group.is_width.some, g.G.GroupSize.is_group.is_width.few) in
+    omega (arith, bytes-at _ g.G.GroupSize.is_group is c.requires.bytes)
 
-pub returns-clause-digits : goal.returns-clause-digits
-returns-clause-digits g c =
-    let is : g.G.GroupSize.WIDTH ≡ 6 = omega (
-      arith,
-      g.G.GroupSize.is_group.is_width.some,
-      g.G.GroupSize.is_group.is_width.few,
-      c.WIDTH-width.ensures,
-      c.if-width-eq1.false,
-      c.if-width-eq2.false,
-      c.if-width-eq3.false,
-      c.if-width-eq4.false,
-      c.if-width-eq5.false,
-    ) in
+pub returns : goal.returns
+returns g c =
+    let is : g.G.GroupSize.WIDTH ≡ 6 =
+    omega (arith, g.G.GroupSize.is_group.is_width.some, g.G.GroupSize.is_group.is_width.few) in
     digits-at c.args.order c.args.input.now c.six_bit_digits.result g.G.GroupSize.is_group is
-    c.six_bit_digits.ensures.digits
-
-pub returns-clause-below : goal.returns-clause-below
-returns-clause-below g c =
-    let is : g.G.GroupSize.WIDTH ≡ 6 = omega (
-      arith,
-      g.G.GroupSize.is_group.is_width.some,
-      g.G.GroupSize.is_group.is_width.few,
-      c.WIDTH-width.ensures,
-      c.if-width-eq1.false,
-      c.if-width-eq2.false,
-      c.if-width-eq3.false,
-      c.if-width-eq4.false,
-      c.if-width-eq5.false,
-    ) in
-    subst (IsBelow c.six_bit_digits.result) (sym is) c.six_bit_digits.ensures.below
+    c.six_bit_digits.ensures
