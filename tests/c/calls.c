@@ -1,27 +1,11 @@
 /* Calls each function of data_encoding.h with vectors from outside, with damaged texts, and so that
  * each status is returned. Prints a line for each test that fails, and then how many passed. */
 #include "data_encoding.h"
+#include "tests.h"
 
 #include <stdio.h>
 #include <stdlib.h>
 #include <string.h>
-
-static int passed;
-static int failed;
-
-static void is(const char *name, size_t wanted, size_t given) {
-    if (wanted == given) {
-        passed++;
-    } else {
-        failed++;
-        printf("FAILED: %s: wanted %lu, given %lu\n", name, (unsigned long)wanted,
-               (unsigned long)given);
-    }
-}
-
-static void holds(const char *name, bool is_so) {
-    is(name, 1, is_so);
-}
 
 static const char *const names[] = {
     "HEXLOWER", "HEXLOWER_PERMISSIVE", "HEXUPPER", "HEXUPPER_PERMISSIVE", "BASE32",

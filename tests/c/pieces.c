@@ -2,27 +2,11 @@
  * caller's own, and compares with what de_decode tells of the whole; and calls so that each status
  * of a decoder is returned. Prints a line for each test that fails, and then how many passed. */
 #include "data_encoding.h"
+#include "tests.h"
 
 #include <stdio.h>
 #include <stdlib.h>
 #include <string.h>
-
-static int passed;
-static int failed;
-
-static void is(const char *name, size_t wanted, size_t given) {
-    if (wanted == given) {
-        passed++;
-    } else {
-        failed++;
-        printf("FAILED: %s: wanted %lu, given %lu\n", name, (unsigned long)wanted,
-               (unsigned long)given);
-    }
-}
-
-static void holds(const char *name, bool is_so) {
-    is(name, 1, is_so);
-}
 
 /* By which encoding a text is decoded: one of the caller's own, or where that is null a number. */
 struct by {

@@ -24,18 +24,18 @@ base64|most|check|=||76|←↵|||!|Invalid None false false true
 base64|most|check|=||76|←↵|||\u{c8}|Invalid None false false true
 01|most|check|||0||ab|0a|b|Symbol { value: 0 } Some(0) false false false";
 
-// The bits of a symbol, the symbols of a group, the bytes of a group or of a line, whether a byte
-// is ignored, and whether texts may be concatenated.
+// The bits of a symbol, the symbols of a group, the bytes of a group or of a line and of a piece
+// whose text fits 1,024 bytes, whether a byte is ignored, and whether texts may be concatenated.
 const SIZES: &str = "\
-binary|most|check|||0||||1, 8, 1, false, true
-quaternary|most|check|||0||||2, 4, 1, false, true
-octal|most|check|||0||||3, 8, 3, false, true
-hex|most|check|||0||||4, 2, 1, false, true
-base32|most|check|||0||||5, 8, 5, false, true
-base64|most|check|||0||||6, 4, 3, false, true
-base64|most|check|=||76|←↵|||6, 4, 57, true, true
-base64|most|check||~|0||||6, 4, 3, true, true
-base64|most|single check|=||0||||6, 4, 3, false, false";
+binary|most|check|||0||||1, 8, 1, 128, false, true
+quaternary|most|check|||0||||2, 4, 1, 256, false, true
+octal|most|check|||0||||3, 8, 3, 384, false, true
+hex|most|check|||0||||4, 2, 1, 512, false, true
+base32|most|check|||0||||5, 8, 5, 640, false, true
+base64|most|check|||0||||6, 4, 3, 768, false, true
+base64|most|check|=||76|←↵|||6, 4, 57, 741, true, true
+base64|most|check||~|0||||6, 4, 3, 768, true, true
+base64|most|single check|=||0||||6, 4, 3, 768, false, false";
 
 // Two rows, and whether their encodings are equal. Concatenation tells two apart where there is
 // padding.
@@ -113,9 +113,10 @@ fn is_aligned(alloc: Global, line: &str) -> Result<bool, Fail> {
     let case = case_of(alloc, line)?;
     let (width, len) = (case.encoding.bit_width(), case.encoding.group_len());
     let align = case.encoding.encode_align();
+    let piece = case.encoding.encode_piece_len(1024);
     let ignores = case.encoding.ignores_bytes();
     let concatenates = case.encoding.concatenates();
-    let sizes = format!(in alloc; "{width}, {len}, {align}, {ignores}, {concatenates}")?;
+    let sizes = format!(in alloc; "{width}, {len}, {align}, {piece}, {ignores}, {concatenates}")?;
     Ok(sizes.as_str() == case.want)
 }
 

@@ -104,7 +104,7 @@ fn decodes_lines(rt: HostRuntime) -> Result<(), Fail> {
     }
     let got = decode_slowly(rt.alloc(), &base64_mime(), sound.as_bytes(), usize::MAX);
     assert!(rt; got.is_whole(None, zeros.as_bytes()));
-    assert!(rt; got.reads <= 20, "{} reads", got.reads);
+    assert_eq!(rt; got.reads, 4);
     Ok(())
 }
 

@@ -1,5 +1,4 @@
-//! Data of each length up to 8,200 bytes, some more than a stream reads at a time: a call with
-//! ample memory never says that it ran out.
+//! Data of each length up to 8,200 bytes: a call with ample memory never says that it ran out.
 
 ghost use Rattle.std.specs.Prelude.{◌≤◌, length};
 

@@ -18,6 +18,9 @@ base64|most|check|=||76|←↵|||
 binary|most|check|||0||||
 binary|most|check|||8|dashes|||";
 
+// The room for the text of what a stream reads at a time.
+const ROOM: usize = 49_152;
+
 fn stream(encoding: &Encoding, reader: Slow<'_>, writer: Narrow) -> Outcome {
     let mut reader = Watch::new(reader);
     let mut writer = Watch::new(writer);
@@ -36,9 +39,8 @@ fn text_of(alloc: Global, encoding: &Encoding, bytes: &[u8]) -> Result<String, A
 fn streams_what_encode_answers(rt: HostRuntime) -> Result<(), Fail> {
     for line in ROWS.split('\n') {
         let encoding = row_of(rt.alloc(), line)?.specification.encoding()?;
-        for len in [
-            0usize, 1, 2, 5, 250, 251, 8150, 8151, 8190, 8191, 8192, 8193, 16384,
-        ] {
+        let most = encoding.encode_piece_len(ROOM);
+        for len in [0, 1, 2, 5, most - 1, most, most.saturating_add(1)] {
             let bytes = bytes_of_length(rt.alloc(), len)?;
             let text = text_of(rt.alloc(), &encoding, &bytes)?;
             let writer = Narrow::new(rt.alloc(), usize::MAX, Failure::Nothing, 0);
@@ -93,15 +95,15 @@ fn streams_in_large_pieces(rt: HostRuntime) -> Result<(), Fail> {
     // Where the last piece is not full, one read more finds the end.
     let hex = "hex|most|check|||0||||";
     assert_eq!(rt; calls_of(rt.alloc(), hex, 0)?, (1, 0));
-    assert_eq!(rt; calls_of(rt.alloc(), hex, 8191)?, (2, 1));
-    assert_eq!(rt; calls_of(rt.alloc(), hex, 8192)?, (2, 1));
-    assert_eq!(rt; calls_of(rt.alloc(), hex, 81_920)?, (11, 10));
+    assert_eq!(rt; calls_of(rt.alloc(), hex, 24_575)?, (2, 1));
+    assert_eq!(rt; calls_of(rt.alloc(), hex, 24_576)?, (2, 1));
+    assert_eq!(rt; calls_of(rt.alloc(), hex, 98_304)?, (5, 4));
     let mime = "base64|most|check|=||76|←↵|||";
-    assert_eq!(rt; calls_of(rt.alloc(), mime, 8151)?, (2, 1));
-    assert_eq!(rt; calls_of(rt.alloc(), mime, 8152)?, (3, 2));
+    assert_eq!(rt; calls_of(rt.alloc(), mime, 35_910)?, (2, 1));
+    assert_eq!(rt; calls_of(rt.alloc(), mime, 35_911)?, (3, 2));
     let dashes = "binary|most|check|||8|dashes|||";
-    assert_eq!(rt; calls_of(rt.alloc(), dashes, 249)?, (2, 1));
-    assert_eq!(rt; calls_of(rt.alloc(), dashes, 500)?, (2, 3));
+    assert_eq!(rt; calls_of(rt.alloc(), dashes, 186)?, (2, 1));
+    assert_eq!(rt; calls_of(rt.alloc(), dashes, 187)?, (3, 2));
     Ok(())
 }
 
