@@ -1,6 +1,6 @@
 //! A text that is decoded piece by piece, into buffers: what is kept of it, and how it is read on.
 
-ghost use Rattle.std.specs.Prelude.{◌≡◌, ℕ, ◌+◌, ◌<◌, ◌≤◌, ◌%◌, true, false, List, [], ◌∷◌, length, take, IfSome, IsSome, None};
+ghost use Rattle.std.specs.Prelude.{◌≡◌, ℕ, ◌+◌, ◌<◌, ◌≤◌, ◌%◌, ◌⊎◌, true, false, List, [], ◌∷◌, length, take, IfSome, IsSome, None, Ok};
 ghost use Rattle.data_encoding.specs.declared.decode.TheConstants.{DECODE_LIMIT};
 ghost use Rattle.data_encoding.specs.Base.{IsWidth, group_bytes, group_symbols, ignores_some};
 ghost use Rattle.data_encoding.specs.Fields.{IsSpecified};
@@ -8,7 +8,7 @@ ghost use Rattle.data_encoding.specs.Grammar.{Means};
 ghost use Rattle.data_encoding.specs.Lengths.{decoded_len, most_bytes};
 
 use data_encoding::laws::steps::{pieces, whole_groups};
-use data_encoding::{DECODE_LIMIT, DecodeError, Encoding};
+use data_encoding::{DECODE_LIMIT, DecodeError, DecodeKind, Encoding};
 
 /// What is kept of a text between its pieces: plain numbers, from which decoding goes on.
 #[derive(Clone, Copy, Debug, Drop)]
@@ -53,10 +53,18 @@ pub struct BufferDecoder<'a> {
     ghost limit: { kept.len ≤ DECODE_LIMIT },
 }
 
+// Whole groups that were decoded where they lie, with the fault of one of them.
+#[derive(Clone, Copy, Drop)]
+struct Run {
+    read: usize,
+    written: usize,
+    fault: Option<DecodeError>,
+}
+
 impl<'a> BufferDecoder<'a> {
-    ghost use Rattle.data_encoding.specs.Pieces.{whole_bytes};
+    ghost use Rattle.data_encoding.specs.Pieces.{whole_bytes, IsOfWholeGroup};
     ghost use Rattle.encoding_stream.specs.Pieces.{base_of_pieces, bytes_due, kept_by, most_completed, FillsGroups, GoesOn, Keeps};
-    ghost use Rattle.encoding_stream.specs.Reading.{whole_len, AreWholeGroups, ReadsAllGroups, ReadsOn};
+    ghost use Rattle.encoding_stream.specs.Reading.{whole_len, AreWholeGroups, ReadsAllGroups, ReadsOn, ReadsRun};
 
     /// A decoder that has read nothing.
     pub fn new(encoding: &'a Encoding) -> BufferDecoder<'a>
@@ -134,12 +142,25 @@ impl<'a> BufferDecoder<'a> {
         if self.kept.fault.is_some() {
             return 0;
         }
+        self.due(self.kept.count + len).1
+    }
+
+    // The length of the whole groups of this many bytes, and how many bytes are due for them.
+    fn due(&self, len: usize) -> (usize, usize)
+        requires limit { len ≤ DECODE_LIMIT }
+        ensures len { result.0 ≡ whole_len (base_of_pieces self.now) len }
+        ensures few { result.0 ≤ len }
+        ensures whole { result.0 % self.now.size ≡ 0 }
+        ensures due { decoded_len (base_of_pieces self.now) result.0 ≡ Ok result.1 }
+        ensures bytes { result.1 ≡ bytes_due (base_of_pieces self.now) len }
+        ensures specified { IsSpecified (base_of_pieces self.now) }
+    {
         whole_groups();
-        let whole = (self.kept.count + len) / self.size * self.size;
-        match self.encoding.decode_len(whole) {
-            Ok(most) => most,
-            Err(_) => unreachable!(),
-        }
+        let whole = len / self.size * self.size;
+        let Ok(most) = self.encoding.decode_len(whole) else {
+            unreachable!()
+        };
+        (whole, most)
     }
 
     /// Reads a piece, writes the bytes of the groups that are then whole to the front of the
@@ -186,7 +207,7 @@ impl<'a> BufferDecoder<'a> {
         (read, written)
     }
 
-    // Reads whole groups, where they lie, as far as they have no fault.
+    // Reads whole groups where they lie: all before a fault, or all, if the fault is that of one.
     fn read_run(&mut self, piece: &[u8], output: &mut [u8]) -> (usize, usize)
         requires limit { self.old.kept.len + length piece.now ≤ DECODE_LIMIT }
         requires room { most_completed (base_of_pieces self.old) self.old.kept
@@ -204,40 +225,78 @@ impl<'a> BufferDecoder<'a> {
         if self.kept.count != 0 || self.kept.fault.is_some() || self.kept.ended {
             return (0, 0);
         }
-        let (read, written) = self.decode_run(piece, output);
-        if !self.are_whole(read, written) {
+        let (len, most) = self.due(piece.len());
+        let run = self.decode_run(&piece[..len], &mut output[..most]);
+        if let Some(error) = run.fault {
+            self.kept.fault = Some(DecodeError {
+                position: self.kept.len + error.position,
+                kind: error.kind,
+            });
+            self.kept.len += run.read;
+            return (run.read, run.written);
+        }
+        if !self.are_whole(run.read, run.written) {
             return (0, 0);
         }
         pieces();
-        self.kept.len += read;
-        (read, written)
+        self.kept.len += run.read;
+        (run.read, run.written)
     }
 
-    // Decodes as much of the whole groups of the piece, by its length, as means something where it
-    // lies.
-    fn decode_run(&self, piece: &[u8], output: &mut [u8]) -> (usize, usize)
-        requires limit { length piece.now ≤ DECODE_LIMIT }
-        requires room { bytes_due (base_of_pieces self.now) (length piece.now)
-            ≤ length output.old }
-        ensures means { Means (base_of_pieces self.now) (take result.0 piece.now)
-            (take result.1 output.new) }
-        ensures most { result.1 ≤ most_bytes (base_of_pieces self.now) result.0 }
-        ensures all { ReadsAllGroups (base_of_pieces self.now) piece.now result.0 }
-        ensures read { result.0 ≤ length piece.now }
-        ensures within { result.1 ≤ length output.new }
+    // Decodes a text that is whole groups by its length: all of it, if its fault is that of one of
+    // them, and else as much as means something.
+    fn decode_run(&self, text: &[u8], output: &mut [u8]) -> Run
+        requires limit { length text.now ≤ DECODE_LIMIT }
+        requires whole { length text.now % self.now.size ≡ 0 }
+        requires exact { decoded_len (base_of_pieces self.now) (length text.now)
+            ≡ Ok (length output.old) }
+        ensures means { result.fault ≡ None → Means (base_of_pieces self.now)
+            (take result.read text.now) (take result.written output.new) }
+        ensures most { result.fault ≡ None
+            → result.written ≤ most_bytes (base_of_pieces self.now) result.read }
+        ensures reads { IsSome result.fault → ReadsRun (base_of_pieces self.now)
+            text.now (take result.written output.new) result.fault }
+        ensures position { IfSome result.fault (λ error. error.position < length text.now) }
+        ensures all { (IsSome result.fault
+            ⊎ (bytes : List ℕ) × Means (base_of_pieces self.now) text.now bytes)
+            → result.read ≡ length text.now }
+        ensures read { result.read ≤ length text.now }
+        ensures within { result.written ≤ length output.new }
         ensures len { length output.new ≡ length output.old }
     {
         // It tells that the laws hold of the encoding.
         self.encoding.bit_width();
-        whole_groups();
-        let len = piece.len() / self.size * self.size;
-        let Ok(most) = self.encoding.decode_len(len) else {
-            unreachable!()
-        };
-        match self.encoding.decode_mut(&piece[..len], &mut output[..most]) {
-            Ok(written) => (len, written),
-            Err(partial) => (partial.read, partial.written),
+        pieces();
+        let len = text.len();
+        match self.encoding.decode_mut(text, output) {
+            Ok(written) => Run {
+                read: len,
+                written,
+                fault: None,
+            },
+            Err(partial) if self.is_of_whole_group(len, partial.error.kind) => Run {
+                read: len,
+                written: partial.written,
+                fault: Some(partial.error),
+            },
+            Err(partial) => Run {
+                read: partial.read,
+                written: partial.written,
+                fault: None,
+            },
         }
+    }
+
+    // Whether a fault of this kind, of whole groups by this length, is that of a whole group: what
+    // an unfinished group has is a fault of its length.
+    fn is_of_whole_group(&self, len: usize, kind: DecodeKind) -> bool
+        requires whole { len % self.now.size ≡ 0 }
+        ensures { result ≡ true → IsOfWholeGroup (base_of_pieces self.now) len kind }
+    {
+        if matches!(kind, DecodeKind::Length) || !self.concatenates {
+            return false;
+        }
+        !self.ignores || matches!(self.encoding.decode_len(self.size - 1), Ok(0))
     }
 
     // Whether a text of this length that means this many bytes is whole groups of which none is

@@ -7,8 +7,8 @@ use Rattle.data_encoding.specs.declared.encoding.Character.{Character}
 use Rattle.data_encoding.specs.declared.error.DecodeError.{DecodeError}
 use Rattle.data_encoding.specs.declared.error.DecodeKind.TheVariants.{Length as LengthFault, Padding as PaddingFault}
 use Rattle.data_encoding.specs.Base.{Base, IsWidth, group_symbols, ignores_some, is_padded}
-use Rattle.data_encoding.specs.Fault.{character_fault, count_before_padding, fault_at, fault_of, faulty_at, first_fault, group_fault, located, or_else, padded_fault_at, plain_fault, symbols_fault}
-use Rattle.data_encoding.specs.Grammar.{Positioned, bytes_in, groups, is_final, kept, meanings_in}
+use Rattle.data_encoding.specs.Fault.{character_fault, count_before_padding, fault_of, faulty_at, first_fault, located, or_else, padded_fault_at, plain_fault, symbols_fault}
+use Rattle.data_encoding.specs.Grammar.{Positioned, groups, is_final, kept, meanings_in}
 use Rattle.data_encoding.specs.Lengths.{greatest_valid_count, greatest_valid_length, is_valid_count, is_valid_length, length_fault, most_bytes}
 use Rattle.data_encoding.specs.Partial.{is_length_fault}
 use Rattle.data_encoding.specs.Pieces.{IsOfWholeGroup, held_fault, unfinished, whole_groups}
