@@ -2,6 +2,7 @@
 use Rattle.std.proofs.Common.{◌≡◌, inr, ℕ, ◌+◌, ◌*◌, ◌/◌, ◌%◌, ◌<◌, ◌≤◌, ◌==◌, Bool, true, false, not, ◌&&◌, if◌then◌else◌, List, [], ◌++◌, Option, None, Some, Ok, is_some, length, refl, sym, subst, ap, ◌∙◌, arith, IsOkAnd}
 use Rattle.std.proofs.Math.Nat.{div-mul-le_self, le-div_iff_mul-le, le_of_mul-le-mul_left, mul-le-mul_left, mul-le-mul_right}
 use Rattle.data_encoding.specs.declared.error.DecodeError.{DecodeError}
+use Rattle.data_encoding.specs.declared.error.DecodePartial.{DecodePartial}
 use Rattle.data_encoding.specs.Base.{Base, IsWidth, group_bytes, group_symbols, ignores_some, is_padded}
 use Rattle.data_encoding.specs.Fields.{IsSpecified}
 use Rattle.data_encoding.specs.Grammar.{Means, Positioned}
@@ -13,7 +14,7 @@ use Rattle.encoding_stream.specs.Pieces.{at_positions, held, FillsGroups, Keeps}
 use Rattle.encoding_stream.specs.Reading.{AreWholeGroups, ReadsOn, ReadsRun}
 use Rattle.encoding_stream.proofs.PieceLemmas.{no-fault}
 use Rattle.encoding_stream.proofs.ReadPieceLemmas.{fills-few}
-use Rattle.encoding_stream.proofs.SizeLemmas.{bytes-some, due-most}
+use Rattle.encoding_stream.proofs.SizeLemmas.{bytes-some, due-most, symbols-some}
 
 -- Nothing is held, no group has a fault, and none is final.
 pub record IsFresh (kept : Kept) : Type 0 where
@@ -161,12 +162,14 @@ stopped-most base read written is =
     due-within (length_fault base read) (most_bytes base read) written is
 
 -- a decoding that stopped wrote no more than is due
-pub stopped-within : (base : Base) → 0 < group_symbols base.width → (len most : ℕ)
-    → decoded_len base len ≡ Ok most → (read written : ℕ) → read ≤ len
-    → IsOkAnd (decoded_len base read) (λ n. written ≤ n) → written ≤ most
-stopped-within base some len most due read written few is =
-    let here = stopped-most base read written is in
+pub stopped-within : (base : Base) → IsWidth base.width → (len most : ℕ)
+    → decoded_len base len ≡ Ok most → (partial : DecodePartial)
+    → (partial.read ≤ partial.error.position) × (partial.error.position < len)
+    → IsOkAnd (decoded_len base partial.read) (λ n. partial.written ≤ n)
+    → partial.written ≤ most
+stopped-within base width len most due partial bounds is =
+    let here = stopped-most base partial.read partial.written is in
     let grows =
-    grows-by (is_padded base) base.width (group_symbols base.width) (group_bytes base.width) read
-    len some few in
+    grows-by (is_padded base) base.width (group_symbols base.width) (group_bytes base.width)
+    partial.read len (symbols-some base.width width) (omega (arith, bounds.0, bounds.1)) in
     omega (arith, here, grows, due-most base len most due)

@@ -1,6 +1,6 @@
 //! A text that is decoded piece by piece, into buffers: what is kept of it, and how it is read on.
 
-ghost use Rattle.std.specs.Prelude.{◌≡◌, ℕ, ◌+◌, ◌<◌, ◌≤◌, ◌%◌, ◌⊎◌, true, false, List, [], ◌∷◌, length, take, IfSome, IsSome, None, Ok};
+ghost use Rattle.std.specs.Prelude.{◌≡◌, ℕ, ◌+◌, ◌<◌, ◌≤◌, ◌%◌, true, false, List, [], ◌∷◌, length, take, IfOk, IfErr, IfSome, IsSome, None, Ok, Some};
 ghost use Rattle.data_encoding.specs.declared.decode.TheConstants.{DECODE_LIMIT};
 ghost use Rattle.data_encoding.specs.Base.{IsWidth, group_bytes, group_symbols, ignores_some};
 ghost use Rattle.data_encoding.specs.Fields.{IsSpecified};
@@ -8,7 +8,7 @@ ghost use Rattle.data_encoding.specs.Grammar.{Means};
 ghost use Rattle.data_encoding.specs.Lengths.{decoded_len, most_bytes};
 
 use data_encoding::laws::steps::{pieces, whole_groups};
-use data_encoding::{DECODE_LIMIT, DecodeError, DecodeKind, Encoding};
+use data_encoding::{DECODE_LIMIT, DecodeError, DecodeKind, DecodePartial, Encoding};
 
 /// What is kept of a text between its pieces: plain numbers, from which decoding goes on.
 #[derive(Clone, Copy, Debug, Drop)]
@@ -51,14 +51,6 @@ pub struct BufferDecoder<'a> {
     ghost held: { kept.count ≤ kept.len },
     ghost clear: { IsSome kept.fault → kept.count ≡ 0 },
     ghost limit: { kept.len ≤ DECODE_LIMIT },
-}
-
-// Whole groups that were decoded where they lie, with the fault of one of them.
-#[derive(Clone, Copy, Drop)]
-struct Run {
-    read: usize,
-    written: usize,
-    fault: Option<DecodeError>,
 }
 
 impl<'a> BufferDecoder<'a> {
@@ -226,42 +218,44 @@ impl<'a> BufferDecoder<'a> {
             return (0, 0);
         }
         let (len, most) = self.due(piece.len());
-        let run = self.decode_run(&piece[..len], &mut output[..most]);
-        if let Some(error) = run.fault {
-            self.kept.fault = Some(DecodeError {
-                position: self.kept.len + error.position,
-                kind: error.kind,
-            });
-            self.kept.len += run.read;
-            return (run.read, run.written);
-        }
-        if !self.are_whole(run.read, run.written) {
+        let (read, written) = match self.decode_run(&piece[..len], &mut output[..most]) {
+            Ok(run) => run,
+            Err(partial) => {
+                self.kept.fault = Some(DecodeError {
+                    position: self.kept.len + partial.error.position,
+                    kind: partial.error.kind,
+                });
+                self.kept.len += len;
+                return (len, partial.written);
+            }
+        };
+        if !self.are_whole(read, written) {
             return (0, 0);
         }
         pieces();
-        self.kept.len += run.read;
-        (run.read, run.written)
+        self.kept.len += read;
+        (read, written)
     }
 
-    // Decodes a text that is whole groups by its length: all of it, if its fault is that of one of
-    // them, and else as much as means something.
-    fn decode_run(&self, text: &[u8], output: &mut [u8]) -> Run
+    // Decodes a text that is whole groups by its length, as far as it means something, and returns
+    // how much of it was read and how many bytes were written; a fault only if it is that of a
+    // whole group.
+    fn decode_run(&self, text: &[u8], output: &mut [u8]) -> Result<(usize, usize), DecodePartial>
         requires limit { length text.now ≤ DECODE_LIMIT }
         requires whole { length text.now % self.now.size ≡ 0 }
         requires exact { decoded_len (base_of_pieces self.now) (length text.now)
             ≡ Ok (length output.old) }
-        ensures means { result.fault ≡ None → Means (base_of_pieces self.now)
-            (take result.read text.now) (take result.written output.new) }
-        ensures most { result.fault ≡ None
-            → result.written ≤ most_bytes (base_of_pieces self.now) result.read }
-        ensures reads { IsSome result.fault → ReadsRun (base_of_pieces self.now)
-            text.now (take result.written output.new) result.fault }
-        ensures position { IfSome result.fault (λ error. error.position < length text.now) }
-        ensures all { (IsSome result.fault
-            ⊎ (bytes : List ℕ) × Means (base_of_pieces self.now) text.now bytes)
-            → result.read ≡ length text.now }
-        ensures read { result.read ≤ length text.now }
-        ensures within { result.written ≤ length output.new }
+        ensures means { IfOk result (λ run. Means (base_of_pieces self.now) (take run.0 text.now)
+            (take run.1 output.new)) }
+        ensures most { IfOk result (λ run. run.1 ≤ most_bytes (base_of_pieces self.now) run.0) }
+        ensures all { IfOk result (λ run. (bytes : List ℕ)
+            → Means (base_of_pieces self.now) text.now bytes → run.0 ≡ length text.now) }
+        ensures read { IfOk result (λ run. run.0 ≤ length text.now) }
+        ensures written { IfOk result (λ run. run.1 ≤ length output.new) }
+        ensures fault { IfErr result (λ partial. ReadsRun (base_of_pieces self.now) text.now
+            (take partial.written output.new) (Some partial.error)) }
+        ensures position { IfErr result (λ partial. partial.error.position < length text.now) }
+        ensures within { IfErr result (λ partial. partial.written ≤ length output.new) }
         ensures len { length output.new ≡ length output.old }
     {
         // It tells that the laws hold of the encoding.
@@ -269,21 +263,9 @@ impl<'a> BufferDecoder<'a> {
         pieces();
         let len = text.len();
         match self.encoding.decode_mut(text, output) {
-            Ok(written) => Run {
-                read: len,
-                written,
-                fault: None,
-            },
-            Err(partial) if self.is_of_whole_group(len, partial.error.kind) => Run {
-                read: len,
-                written: partial.written,
-                fault: Some(partial.error),
-            },
-            Err(partial) => Run {
-                read: partial.read,
-                written: partial.written,
-                fault: None,
-            },
+            Ok(written) => Ok((len, written)),
+            Err(partial) if self.is_of_whole_group(len, partial.error.kind) => Err(partial),
+            Err(partial) => Ok((partial.read, partial.written)),
         }
     }
 
