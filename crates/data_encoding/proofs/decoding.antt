@@ -18,6 +18,7 @@ pub mod StepLemmas
 pub mod ReadLemmas
 pub mod ResumeLemmas
 pub mod PieceLemmas
+pub mod WholeFaultLemmas
 pub mod WholePieceLemmas
 pub mod WholeLengthLemmas
 pub mod FinalGroupLemmas

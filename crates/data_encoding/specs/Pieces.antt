@@ -1,13 +1,17 @@
 -- A text that is decoded piece by piece.
-use Rattle.std.specs.Prelude.{◌≡◌, ℕ, ◌+◌, ◌<◌, ◌*◌, ◌/◌, ◌%◌, ◌==◌, ◌&&◌, ◌⊎◌, Bool, true, false, not, if◌then◌else◌, ◌≤◌, List, [], ◌∷◌, ◌++◌, length, drop, filter, flat_map, All, Option, Some, None, is_some, Ok}
+use Rattle.std.specs.Prelude.{◌≡◌, ℕ, ◌+◌, ◌-◌, ◌<◌, ◌*◌, ◌/◌, ◌%◌, ◌==◌, ◌&&◌, ◌⊎◌, Bool, true, false, not, if◌then◌else◌, ◌≤◌, List, [], ◌∷◌, ◌++◌, length, drop, take, filter, flat_map, All, Option, Some, None, is_some, Ok}
 use Rattle.std.specs.List.{list_any}
 use Rattle.std.specs.Simd.{first_chunks}
 use Rattle.data_encoding.specs.declared.error.DecodeError.{DecodeError}
+use Rattle.data_encoding.specs.declared.error.DecodeKind.{DecodeKind}
+use Rattle.data_encoding.specs.declared.error.DecodePartial.{DecodePartial}
 use Rattle.data_encoding.specs.Base.{Base, meaning, is_ignored, is_padded, ignores_some, group_bytes, group_symbols}
 use Rattle.data_encoding.specs.Fault.{bytes_of_group, fault_after, fault_at, fault_of, first_fault, or_else, sound_bytes, sound_groups}
 use Rattle.data_encoding.specs.Fields.{IsSpecified}
 use Rattle.data_encoding.specs.Grammar.{Means, Positioned, positioned, positioned_from, groups, kept, is_final, bytes_in}
+use Rattle.data_encoding.specs.Laws.{further}
 use Rattle.data_encoding.specs.Lengths.{decoded_len, length_fault, most_bytes}
+use Rattle.data_encoding.specs.Partial.{is_length_fault, partial_of}
 
 -- the whole groups of a text so far, and the bytes after the last of them
 abbrev pub whole_groups : Base → List ℕ → List (List Positioned)
@@ -134,6 +138,27 @@ ReadsSound =
     → length (kept base piece) % group_symbols base.width ≡ 0
     → HasRead base (text ++ piece) (len + length piece) None []
     (list_any (is_final base) (groups base piece))
+    × (whole_bytes base (text ++ piece) ≡ whole_bytes base text ++ bytes)
+
+-- A fault of this kind of a text of this length is that of a whole group: it is not of a length,
+-- texts may be concatenated, and either nothing is ignored and the length is that of whole groups,
+-- or fewer symbols than a group's mean no byte.
+pub record IsOfWholeGroup (base : Base) (len : ℕ) (kind : DecodeKind) : Type 0 where
+  pub not_length : is_length_fault kind ≡ false
+  pub joins : base.concatenates ≡ true
+  pub whole : ((ignores_some base ≡ false) × (len % group_symbols base.width ≡ 0))
+      ⊎ (most_bytes base (group_symbols base.width - 1) ≡ 0)
+
+-- A piece with a fault of a whole group, behind whole groups of which none was final, has that
+-- fault kept, as far on as they are long, and the data before it appended.
+abbrev pub ReadsFaulty : Type 0
+ReadsFaulty =
+    (base : Base) → IsSpecified base → (text piece bytes : List ℕ) (len : ℕ)
+    (partial : DecodePartial) → HasRead base text len None [] false
+    → partial_of base piece ≡ Some partial
+    → IsOfWholeGroup base (length piece) partial.error.kind
+    → Means base (take partial.read piece) bytes
+    → HasRead base (text ++ piece) (len + length piece) (further len (Some partial.error)) [] false
     × (whole_bytes base (text ++ piece) ≡ whole_bytes base text ++ bytes)
 
 -- A text that means data is whole groups where it is padded, or where eight bits are whole symbols;

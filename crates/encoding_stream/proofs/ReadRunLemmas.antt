@@ -1,57 +1,67 @@
 -- Lemmas on whole groups that are decoded where they lie.
-use Rattle.std.proofs.Common.{◌≡◌, inr, ℕ, ◌+◌, ◌*◌, ◌/◌, ◌%◌, ◌<◌, ◌≤◌, ◌==◌, Bool, true, false, not, ◌&&◌, if◌then◌else◌, List, [], ◌++◌, Option, None, Some, Result, Ok, is_some, length, take, drop, refl, sym, subst, ap, ◌∙◌, arith, length-take-le, IsOkAnd}
+use Rattle.std.proofs.Common.{◌≡◌, inr, ℕ, ◌+◌, ◌*◌, ◌/◌, ◌%◌, ◌<◌, ◌≤◌, ◌==◌, Bool, true, false, not, ◌&&◌, if◌then◌else◌, List, [], ◌++◌, Option, None, Some, Ok, is_some, length, refl, sym, subst, ap, ◌∙◌, arith, IsOkAnd}
 use Rattle.std.proofs.Math.Nat.{div-mul-le_self, le-div_iff_mul-le, le_of_mul-le-mul_left, mul-le-mul_left, mul-le-mul_right}
-use Rattle.std.proofs.lemmas.List.{take-append-le, take-take}
 use Rattle.data_encoding.specs.declared.error.DecodeError.{DecodeError}
+use Rattle.data_encoding.specs.declared.error.DecodePartial.{DecodePartial}
 use Rattle.data_encoding.specs.Base.{Base, IsWidth, group_bytes, group_symbols, ignores_some, is_padded}
 use Rattle.data_encoding.specs.Fields.{IsSpecified}
 use Rattle.data_encoding.specs.Grammar.{Means, Positioned}
+use Rattle.data_encoding.specs.Laws.{further}
 use Rattle.data_encoding.specs.Lengths.{decoded_len, length_fault, most_bytes, unless_fault}
 use Rattle.data_encoding.specs.Pieces.{whole_bytes, AreWhole, CountsGroups, EndsNowhere, HasRead, MeansWhole, ReadsSound, TellsEnd}
 use Rattle.encoding_stream.specs.declared.pieces.Kept.{Kept}
-use Rattle.encoding_stream.specs.Pieces.{at_positions, bytes_due, held, FillsGroups, Keeps}
-use Rattle.encoding_stream.specs.Reading.{whole_len, AreWholeGroups, ReadsOn}
+use Rattle.encoding_stream.specs.Pieces.{at_positions, held, FillsGroups, Keeps}
+use Rattle.encoding_stream.specs.Reading.{AreWholeGroups, ReadsOn, ReadsRun}
 use Rattle.encoding_stream.proofs.PieceLemmas.{no-fault}
 use Rattle.encoding_stream.proofs.ReadPieceLemmas.{fills-few}
-use Rattle.encoding_stream.proofs.SizeLemmas.{bytes-some, due-most}
+use Rattle.encoding_stream.proofs.SizeLemmas.{bytes-some, due-most, symbols-some}
+
+-- Nothing is held, no group has a fault, and none is final.
+pub record IsFresh (kept : Kept) : Type 0 where
+  pub none : kept.count ≡ 0
+  pub sound : is_some kept.fault ≡ false
+  pub goes_on : kept.ended ≡ false
 
 -- nothing is held
 nothing-held : (count : ℕ) (positions bytes : List ℕ) → count ≡ 0
     → at_positions count positions bytes ≡ []
 nothing-held count positions bytes none = ap (λ n. at_positions n positions bytes) none
 
--- whole groups that mean bytes, behind whole groups
-run-read : (base : Base) → IsSpecified base → ReadsSound → (text piece bytes : List ℕ) (len : ℕ)
-    (fault : Option DecodeError) (held : List Positioned) (ended : Bool) → fault ≡ None
-    → held ≡ [] → ended ≡ false → Means base piece bytes → AreWholeGroups base piece
+run-read : (base : Base) (piece bytes : List ℕ) (error : Option DecodeError)
+    → ReadsRun base piece bytes error → (text : List ℕ) (len : ℕ) (fault : Option DecodeError)
+    (held : List Positioned) (ended : Bool) → fault ≡ None → held ≡ [] → ended ≡ false
     → HasRead base text len fault held ended
-    → HasRead base (text ++ piece) (len + length piece) fault held ended
+    → HasRead base (text ++ piece) (len + length piece) (further len error) held ended
     × (whole_bytes base (text ++ piece) ≡ whole_bytes base text ++ bytes)
-run-read base is law text piece bytes len fault held ended f h e means whole reads =
-    let start = rw (f, h, e) at reads in
-    let next = law base is text piece bytes len start means whole.whole in
-    (rw (f, h, e) (rw whole.not_final at next.0), next.1)
+run-read base piece bytes error run text len fault held ended f h e reads =
+    let next = run text len (rw (f, h, e) at reads) in (rw (h, e) next.0, next.1)
 
-pub reads-run : (base : Base) → IsWidth base.width → IsSpecified base → ReadsSound
-    → (old : Kept) → old.count ≡ 0 → is_some old.fault ≡ false → old.ended ≡ false
-    → (piece bytes : List ℕ)
-    → Means base piece bytes → AreWholeGroups base piece
+pub reads-run : (base : Base) → IsWidth base.width → (old : Kept) → IsFresh old
+    → (piece bytes : List ℕ) (error : Option DecodeError) → ReadsRun base piece bytes error
     → FillsGroups base 0 (length piece) 0 (length bytes)
-    → ReadsOn base old (record old { len = old.len + length piece }) piece bytes
-reads-run base width is law old count fault ended piece bytes means whole few =
+    → ReadsOn base old
+    (record old { len = old.len + length piece; fault = further old.len error }) piece bytes
+reads-run base width old fresh piece bytes error run few =
     let next = λ (text : List ℕ) (keeps : Keeps base old text).
-    run-read base is law text piece bytes old.len old.fault (held old) old.ended
-    (no-fault old.fault fault) (nothing-held old.count old.positions old.bytes count) ended
-    means whole keeps in
+    run-read base piece bytes error run text old.len old.fault (held old) old.ended
+    (no-fault old.fault fresh.sound)
+    (nothing-held old.count old.positions old.bytes fresh.none) fresh.goes_on keeps in
     record {
       keeps = λ text keeps. (next text keeps).0;
       decodes = λ text keeps. (next text keeps).1;
       counted = refl;
       few =
-          fills-few base width old.fault old.fault old.count (length piece) old.count
-          (length bytes) fault
-          (subst (λ n. FillsGroups base n (length piece) n (length bytes)) (sym count) few);
+          fills-few base width old.fault (further old.len error) old.count (length piece) old.count
+          (length bytes) fresh.sound
+          (subst (λ n. FillsGroups base n (length piece) n (length bytes)) (sym fresh.none) few);
     }
+
+-- whole groups that mean bytes
+pub run-sound : (base : Base) → IsSpecified base → ReadsSound → (piece bytes : List ℕ)
+    → Means base piece bytes → AreWholeGroups base piece → ReadsRun base piece bytes None
+run-sound base is law piece bytes means whole text len reads =
+    let next = law base is text piece bytes len reads means whole.whole in
+    (rw whole.not_final at next.0, next.1)
 
 pub due-group : (base : Base) → IsSpecified base → CountsGroups → (size : ℕ)
     → size ≡ group_symbols base.width → decoded_len base size ≡ Ok (group_bytes base.width)
@@ -60,17 +70,6 @@ due-group base is law size same =
     let bytes : 1 * group_bytes base.width ≡ group_bytes base.width = omega arith in
     subst (λ n. decoded_len base n ≡ Ok (group_bytes base.width)) symbols
     (subst (λ n. decoded_len base (1 * group_symbols base.width) ≡ Ok n) bytes (law base is 1))
-
-one-due : (due : Result ℕ DecodeError) (m n : ℕ) → due ≡ Ok m → due ≡ Ok n → m ≡ n
-one-due due m n one other = cc (one, other)
-
--- what is due for so many whole groups
-pub due-whole : (base : Base) → IsSpecified base → CountsGroups → (count size due : ℕ)
-    → size ≡ group_symbols base.width → decoded_len base (count * size) ≡ Ok due
-    → due ≡ count * group_bytes base.width
-due-whole base is law count size due same found =
-    one-due (decoded_len base (count * size)) due (count * group_bytes base.width) found
-    (ap (λ n. decoded_len base (count * n)) same ∙ law base is count)
 
 -- no group is final where the bytes are whole groups
 not-both : (a b : Bool) → b ≡ true → (a && not b) ≡ false
@@ -162,55 +161,15 @@ pub stopped-most : (base : Base) (read written : ℕ)
 stopped-most base read written is =
     due-within (length_fault base read) (most_bytes base read) written is
 
-stopped-within : (base : Base) (read written len most : ℕ) → 0 < group_symbols base.width
-    → read ≤ len
-    → decoded_len base len ≡ Ok most → IsOkAnd (decoded_len base read) (λ n. written ≤ n)
-    → written ≤ most
-stopped-within base read written len most some few due is =
-    let here = stopped-most base read written is in
+-- a decoding that stopped wrote no more than is due
+pub stopped-within : (base : Base) → IsWidth base.width → (len most : ℕ)
+    → decoded_len base len ≡ Ok most → (partial : DecodePartial)
+    → (partial.read ≤ partial.error.position) × (partial.error.position < len)
+    → IsOkAnd (decoded_len base partial.read) (λ n. partial.written ≤ n)
+    → partial.written ≤ most
+stopped-within base width len most due partial bounds is =
+    let here = stopped-most base partial.read partial.written is in
     let grows =
-    grows-by (is_padded base) base.width (group_symbols base.width) (group_bytes base.width) read
-    len some few in
-    let all = due-most base len most due in
-    omega (arith, here, grows, all)
-
--- The whole groups of a piece, decoded as a text of their own into as much of the output as is due
--- for them.
-module _ (base : Base) (specified : IsSpecified base) (law : CountsGroups) (len most : ℕ)
-    (piece output : List ℕ) (whole : len ≡ whole_len base (length piece))
-    (room : bytes_due base (length piece) ≤ length output) (due : decoded_len base len ≡ Ok most)
-  where
-    pub run-few : len ≤ length piece
-    run-few = omega (arith, whole, div-mul-le_self (length piece) (group_symbols base.width))
-
-    run-most : most ≡ bytes_due base (length piece)
-    run-most =
-        due-whole base specified law (length piece / group_symbols base.width)
-        (group_symbols base.width) most refl (sym (ap (decoded_len base) whole) ∙ due)
-
-    pub run-room : most ≤ length output
-    run-room = omega (arith, run-most, room)
-
-    pub run-part : length (take most output) ≡ most
-    run-part = length-take-le most output run-room
-
-    pub run-exact : decoded_len base (length (take len piece)) ≡ Ok (length (take most output))
-    run-exact = rw (length-take-le len piece run-few, run-part) due
-
-    -- where it stops
-    module _ (new : List ℕ) (same : length new ≡ length (take most output)) (read at written : ℕ)
-        (some : 0 < group_symbols base.width) (before : read ≤ at)
-        (inside : at < length (take len piece))
-        (is : IsOkAnd (decoded_len base read) (λ n. written ≤ n)) where
-      begun : read ≤ len
-      begun = omega (arith, before, inside, length-take-le len piece run-few)
-
-      pub stopped-fits : written ≤ length new
-      stopped-fits =
-          omega (arith, same, run-part, stopped-within base read written len most some begun due is)
-
-      pub stopped-means : Means base (take read (take len piece)) (take written new)
-          → Means base (take read piece) (take written (new ++ drop most output))
-      stopped-means means =
-          let front = rw (take-take read len piece begun) at means in
-          rw (take-append-le written new (drop most output) stopped-fits) front
+    grows-by (is_padded base) base.width (group_symbols base.width) (group_bytes base.width)
+    partial.read len (symbols-some base.width width) (omega (arith, bounds.0, bounds.1)) in
+    omega (arith, here, grows, due-most base len most due)

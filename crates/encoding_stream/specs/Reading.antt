@@ -1,10 +1,12 @@
 -- How a decoder by pieces reads on.
-use Rattle.std.specs.Prelude.{◌≡◌, ℕ, ◌+◌, ◌*◌, ◌/◌, ◌≤◌, ◌%◌, false, List, ◌++◌, length, take}
+use Rattle.std.specs.Prelude.{◌≡◌, ℕ, ◌+◌, ◌*◌, ◌/◌, ◌≤◌, ◌%◌, false, List, [], ◌++◌, length, take, Option, None}
 use Rattle.std.specs.List.{list_any}
+use Rattle.data_encoding.specs.declared.error.DecodeError.{DecodeError}
 use Rattle.data_encoding.specs.Base.{Base, group_symbols, ignores_some}
 use Rattle.data_encoding.specs.Fault.{sound_bytes}
 use Rattle.data_encoding.specs.Grammar.{Means, groups, is_final, kept}
-use Rattle.data_encoding.specs.Pieces.{whole_bytes}
+use Rattle.data_encoding.specs.Laws.{further}
+use Rattle.data_encoding.specs.Pieces.{whole_bytes, HasRead}
 use Rattle.encoding_stream.specs.declared.pieces.Kept.{Kept}
 use Rattle.encoding_stream.specs.Appending.{AppendsDecoded}
 use Rattle.encoding_stream.specs.Pieces.{most_completed, Keeps}
@@ -30,6 +32,14 @@ pub record AppendsPiece (base : Base) (old new : Kept) (piece output_old output_
 pub record AreWholeGroups (base : Base) (text : List ℕ) : Type 0 where
   pub whole : length (kept base text) % group_symbols base.width ≡ 0
   pub not_final : list_any (is_final base) (groups base text) ≡ false
+
+-- Behind whole groups, of which none is final or has a fault, whole groups have this fault or none,
+-- as far on as those are long, and the ones before the faulty one append these bytes.
+abbrev pub ReadsRun : Base → List ℕ → List ℕ → Option DecodeError → Type 0
+ReadsRun base piece bytes fault =
+    (text : List ℕ) (len : ℕ) → HasRead base text len None [] false
+    → HasRead base (text ++ piece) (len + length piece) (further len fault) [] false
+    × (whole_bytes base (text ++ piece) ≡ whole_bytes base text ++ bytes)
 
 -- the length of the whole groups of this many bytes
 abbrev pub whole_len : Base → ℕ → ℕ

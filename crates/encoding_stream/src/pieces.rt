@@ -1,6 +1,6 @@
 //! A text that is decoded piece by piece, into buffers: what is kept of it, and how it is read on.
 
-ghost use Rattle.std.specs.Prelude.{◌≡◌, ℕ, ◌+◌, ◌<◌, ◌≤◌, ◌%◌, true, false, List, [], ◌∷◌, length, take, IfSome, IsSome, None};
+ghost use Rattle.std.specs.Prelude.{◌≡◌, ℕ, ◌+◌, ◌<◌, ◌≤◌, ◌%◌, true, false, List, [], ◌∷◌, length, take, IfOk, IfErr, IfSome, IsSome, None, Ok, Some};
 ghost use Rattle.data_encoding.specs.declared.decode.TheConstants.{DECODE_LIMIT};
 ghost use Rattle.data_encoding.specs.Base.{IsWidth, group_bytes, group_symbols, ignores_some};
 ghost use Rattle.data_encoding.specs.Fields.{IsSpecified};
@@ -8,7 +8,7 @@ ghost use Rattle.data_encoding.specs.Grammar.{Means};
 ghost use Rattle.data_encoding.specs.Lengths.{decoded_len, most_bytes};
 
 use data_encoding::laws::steps::{pieces, whole_groups};
-use data_encoding::{DECODE_LIMIT, DecodeError, Encoding};
+use data_encoding::{DECODE_LIMIT, DecodeError, DecodeKind, DecodePartial, Encoding};
 
 /// What is kept of a text between its pieces: plain numbers, from which decoding goes on.
 #[derive(Clone, Copy, Debug, Drop)]
@@ -54,9 +54,9 @@ pub struct BufferDecoder<'a> {
 }
 
 impl<'a> BufferDecoder<'a> {
-    ghost use Rattle.data_encoding.specs.Pieces.{whole_bytes};
+    ghost use Rattle.data_encoding.specs.Pieces.{whole_bytes, IsOfWholeGroup};
     ghost use Rattle.encoding_stream.specs.Pieces.{base_of_pieces, bytes_due, kept_by, most_completed, FillsGroups, GoesOn, Keeps};
-    ghost use Rattle.encoding_stream.specs.Reading.{whole_len, AreWholeGroups, ReadsAllGroups, ReadsOn};
+    ghost use Rattle.encoding_stream.specs.Reading.{whole_len, AreWholeGroups, ReadsAllGroups, ReadsOn, ReadsRun};
 
     /// A decoder that has read nothing.
     pub fn new(encoding: &'a Encoding) -> BufferDecoder<'a>
@@ -134,12 +134,25 @@ impl<'a> BufferDecoder<'a> {
         if self.kept.fault.is_some() {
             return 0;
         }
+        self.due(self.kept.count + len).1
+    }
+
+    // The length of the whole groups of this many bytes, and how many bytes are due for them.
+    fn due(&self, len: usize) -> (usize, usize)
+        requires limit { len ≤ DECODE_LIMIT }
+        ensures len { result.0 ≡ whole_len (base_of_pieces self.now) len }
+        ensures few { result.0 ≤ len }
+        ensures whole { result.0 % self.now.size ≡ 0 }
+        ensures due { decoded_len (base_of_pieces self.now) result.0 ≡ Ok result.1 }
+        ensures bytes { result.1 ≡ bytes_due (base_of_pieces self.now) len }
+        ensures specified { IsSpecified (base_of_pieces self.now) }
+    {
         whole_groups();
-        let whole = (self.kept.count + len) / self.size * self.size;
-        match self.encoding.decode_len(whole) {
-            Ok(most) => most,
-            Err(_) => unreachable!(),
-        }
+        let whole = len / self.size * self.size;
+        let Ok(most) = self.encoding.decode_len(whole) else {
+            unreachable!()
+        };
+        (whole, most)
     }
 
     /// Reads a piece, writes the bytes of the groups that are then whole to the front of the
@@ -186,7 +199,7 @@ impl<'a> BufferDecoder<'a> {
         (read, written)
     }
 
-    // Reads whole groups, where they lie, as far as they have no fault.
+    // Reads whole groups where they lie: all before a fault, or all, if the fault is that of one.
     fn read_run(&mut self, piece: &[u8], output: &mut [u8]) -> (usize, usize)
         requires limit { self.old.kept.len + length piece.now ≤ DECODE_LIMIT }
         requires room { most_completed (base_of_pieces self.old) self.old.kept
@@ -204,7 +217,18 @@ impl<'a> BufferDecoder<'a> {
         if self.kept.count != 0 || self.kept.fault.is_some() || self.kept.ended {
             return (0, 0);
         }
-        let (read, written) = self.decode_run(piece, output);
+        let (len, most) = self.due(piece.len());
+        let (read, written) = match self.decode_run(&piece[..len], &mut output[..most]) {
+            Ok(run) => run,
+            Err(partial) => {
+                self.kept.fault = Some(DecodeError {
+                    position: self.kept.len + partial.error.position,
+                    kind: partial.error.kind,
+                });
+                self.kept.len += len;
+                return (len, partial.written);
+            }
+        };
         if !self.are_whole(read, written) {
             return (0, 0);
         }
@@ -213,31 +237,48 @@ impl<'a> BufferDecoder<'a> {
         (read, written)
     }
 
-    // Decodes as much of the whole groups of the piece, by its length, as means something where it
-    // lies.
-    fn decode_run(&self, piece: &[u8], output: &mut [u8]) -> (usize, usize)
-        requires limit { length piece.now ≤ DECODE_LIMIT }
-        requires room { bytes_due (base_of_pieces self.now) (length piece.now)
-            ≤ length output.old }
-        ensures means { Means (base_of_pieces self.now) (take result.0 piece.now)
-            (take result.1 output.new) }
-        ensures most { result.1 ≤ most_bytes (base_of_pieces self.now) result.0 }
-        ensures all { ReadsAllGroups (base_of_pieces self.now) piece.now result.0 }
-        ensures read { result.0 ≤ length piece.now }
-        ensures within { result.1 ≤ length output.new }
+    // Decodes a text that is whole groups by its length, as far as it means something, and returns
+    // how much of it was read and how many bytes were written; a fault only if it is that of a
+    // whole group.
+    fn decode_run(&self, text: &[u8], output: &mut [u8]) -> Result<(usize, usize), DecodePartial>
+        requires limit { length text.now ≤ DECODE_LIMIT }
+        requires whole { length text.now % self.now.size ≡ 0 }
+        requires exact { decoded_len (base_of_pieces self.now) (length text.now)
+            ≡ Ok (length output.old) }
+        ensures means { IfOk result (λ run. Means (base_of_pieces self.now) (take run.0 text.now)
+            (take run.1 output.new)) }
+        ensures most { IfOk result (λ run. run.1 ≤ most_bytes (base_of_pieces self.now) run.0) }
+        ensures all { IfOk result (λ run. (bytes : List ℕ)
+            → Means (base_of_pieces self.now) text.now bytes → run.0 ≡ length text.now) }
+        ensures read { IfOk result (λ run. run.0 ≤ length text.now) }
+        ensures written { IfOk result (λ run. run.1 ≤ length output.new) }
+        ensures fault { IfErr result (λ partial. ReadsRun (base_of_pieces self.now) text.now
+            (take partial.written output.new) (Some partial.error)) }
+        ensures position { IfErr result (λ partial. partial.error.position < length text.now) }
+        ensures within { IfErr result (λ partial. partial.written ≤ length output.new) }
         ensures len { length output.new ≡ length output.old }
     {
         // It tells that the laws hold of the encoding.
         self.encoding.bit_width();
-        whole_groups();
-        let len = piece.len() / self.size * self.size;
-        let Ok(most) = self.encoding.decode_len(len) else {
-            unreachable!()
-        };
-        match self.encoding.decode_mut(&piece[..len], &mut output[..most]) {
-            Ok(written) => (len, written),
-            Err(partial) => (partial.read, partial.written),
+        pieces();
+        let len = text.len();
+        match self.encoding.decode_mut(text, output) {
+            Ok(written) => Ok((len, written)),
+            Err(partial) if self.is_of_whole_group(len, partial.error.kind) => Err(partial),
+            Err(partial) => Ok((partial.read, partial.written)),
         }
+    }
+
+    // Whether a fault of this kind, of whole groups by this length, is that of a whole group: what
+    // an unfinished group has is a fault of its length.
+    fn is_of_whole_group(&self, len: usize, kind: DecodeKind) -> bool
+        requires whole { len % self.now.size ≡ 0 }
+        ensures { result ≡ true → IsOfWholeGroup (base_of_pieces self.now) len kind }
+    {
+        if matches!(kind, DecodeKind::Length) || !self.concatenates {
+            return false;
+        }
+        !self.ignores || matches!(self.encoding.decode_len(self.size - 1), Ok(0))
     }
 
     // Whether a text of this length that means this many bytes is whole groups of which none is

@@ -27,7 +27,7 @@ module _ (base : Base) (width : IsWidth base.width) (text : List ℕ) where
   size = group_symbols base.width
 
   -- what is kept of the text
-  kept_of : HasRead base text (length text) (first_fault base (whole_groups base text))
+  pub kept_of : HasRead base text (length text) (first_fault base (whole_groups base text))
       (unfinished base text) (list_any (is_final base) (whole_groups base text))
   kept_of = record {
     counted = refl;

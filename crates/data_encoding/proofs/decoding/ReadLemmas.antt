@@ -1,6 +1,6 @@
 -- What is read of a text with a fault means bytes.
 use Rattle.std.proofs.Common.{◌≡◌, ℕ, zero, suc, ◌+◌, ◌<◌, ◌≤◌, ◌⊎◌, Bool, true, false, List, [], ◌++◌, length, set, take, drop, get_or, replicate, Option, Some, None, is_some, refl, sym, ap, ◌∙◌, subst, arith, length-append, ⊎_elim, inl, inr, map}
-use Rattle.std.proofs.lemmas.Bool.{cases_lt}
+use Rattle.std.proofs.lemmas.Bool.{cases_lt, false≢true}
 use Rattle.std.proofs.lemmas.List.{length-replicate, length-set, take_all}
 use Rattle.data_encoding.specs.declared.decode.group.GroupFault.{GroupFault}
 use Rattle.data_encoding.specs.declared.error.DecodeError.{DecodeError}
@@ -15,7 +15,7 @@ use Rattle.data_encoding.proofs.grammar.MeaningLemmas.{sound_bytes-Means}
 use Rattle.data_encoding.proofs.decoding.GatherLemmas.{HasGathered, gather-ignored, gather-kept, gathered, gathered-few, is-next, next_bytes, none-next, nothing-gathered}
 use Rattle.data_encoding.proofs.decoding.LastRunLemmas.{last-none, last-sound, last-unsound}
 use Rattle.data_encoding.proofs.decoding.ProgressLemmas.{IsNext, after-group, at-end, begin, written_len}
-use Rattle.data_encoding.proofs.decoding.StopLemmas.{IsAtFault, at-fault, fault-partial}
+use Rattle.data_encoding.proofs.decoding.StopLemmas.{IsAtFault, at-fault, fault-partial, sound-front}
 
 -- the next kept bytes of a part: a group, or all
 record Gathers (base : Base) (size : ℕ) (part : List ℕ) : Type 0 where
@@ -77,11 +77,18 @@ module _ (base : Base) (size : ℕ) (part : List ℕ) where
       (nothing-gathered base part (replicate size 0)) (omega arith) (omega arith) (omega arith)
       (length-replicate size 0)
 
+-- the bytes of a text with such a fault, unless it is of a length, are those of what is read
+abbrev HasSoundFront : Base → List ℕ → DecodePartial → Type 0
+HasSoundFront base text partial =
+    is_length_fault partial.error.kind ≡ false
+    → sound_bytes base text ≡ sound_bytes base (take partial.read text)
+
 -- a decoding of the text stops somewhere
 record Stops (base : Base) (text : List ℕ) : Type 0 where
   output : List ℕ
   partial : DecodePartial
   is : StopsAt base text output partial
+  front : HasSoundFront base text partial
 
 -- more was read than so much
 record HasReadPast (base : Base) (text : List ℕ) (read : ℕ) : Type 0 where
@@ -150,6 +157,7 @@ module _ (base : Base) (width : IsWidth base.width) (text : List ℕ)
         partial = record { read = read; written = written; error = error };
         is = last-unsound base text read written output error here kind some bad output
             so_far.fits refl;
+        front = λ other. absurd (false≢true (sym other ∙ kind));
       }
 
       run : is_length_fault error.kind ≡ true → 0 < len → len ≤ size → (o : Option GroupFault)
@@ -168,6 +176,7 @@ module _ (base : Base) (width : IsWidth base.width) (text : List ℕ)
                 (take written output ++ bytes)
                 (behind_fits read written ended output so_far bytes)
                 (behind_all read written ended output so_far bytes);
+            front = λ other. absurd (false≢true (sym other ∙ kind));
           }
 
       by : (b : Bool) → is_length_fault error.kind ≡ b → Stops base text
@@ -175,6 +184,7 @@ module _ (base : Base) (width : IsWidth base.width) (text : List ℕ)
         output = output;
         partial = record { read = read; written = written; error = error };
         is = at-fault base text read written output error here kind;
+        front = λ _. sound-front base text read written output error here;
       }
       by true kind =
           ⊎_elim {C = Stops base text}
@@ -188,6 +198,7 @@ module _ (base : Base) (width : IsWidth base.width) (text : List ℕ)
             partial = record { read = error.position; written = written; error = error };
             is = last-none base text read written output error here kind (omega (arith, none))
                 output so_far.fits refl;
+            front = λ other. absurd (false≢true (sym other ∙ kind));
           })
           (cases_lt 0 len)
 
@@ -256,11 +267,12 @@ module _ (base : Base) (width : IsWidth base.width) (text : List ℕ)
   stops_somewhere =
       walk (length text) 0 0 false [] (begin base width text []) (omega arith)
 
--- what is read means bytes, and is no more than the text
+-- what is read means bytes, is no more than the text, and has its bytes
 pub Means-partial : (base : Base) → IsWidth base.width → (text : List ℕ) (partial : DecodePartial)
     → length_fault base (length text) ≡ None → partial_of base text ≡ Some partial
     → (partial.read ≤ length text)
     × Means base (take partial.read text) (sound_bytes base (take partial.read text))
+    × HasSoundFront base text partial
 Means-partial base width text partial no_length_fault is =
     let stops = stops_somewhere base width text no_length_fault partial.error
     (fault-partial base text partial is) in
@@ -269,11 +281,13 @@ Means-partial base width text partial no_length_fault is =
     let read = stops.partial.read in
     let written = take stops.partial.written stops.output in
     subst (λ (p : DecodePartial). (p.read ≤ length text)
-    × Means base (take p.read text) (sound_bytes base (take p.read text))) same (
+    × Means base (take p.read text) (sound_bytes base (take p.read text))
+    × HasSoundFront base text p) same (
       omega (arith, stops.is.read_before, stops.is.within),
       subst (Means base (take read text))
           (sym (sound_bytes-Means base width (take read text) written stops.is.means))
           stops.is.means,
+      stops.front,
     ) where
       same_some : (p q : DecodePartial) → Some p ≡ Some q → p ≡ q
       same_some p q h = cc

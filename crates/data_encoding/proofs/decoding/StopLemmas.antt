@@ -14,7 +14,7 @@ use Rattle.data_encoding.specs.Base.{Base, is_symbol, is_padded, ignores_some, g
 use Rattle.data_encoding.specs.Bits.{runs}
 use Rattle.data_encoding.specs.Grammar.{Positioned, positioned_from, kept, groups, is_final, Means, kept_from, bytes_in, meanings_in}
 use Rattle.data_encoding.specs.Lengths.{is_valid_count, is_valid_length, length_fault, decoded_len}
-use Rattle.data_encoding.specs.Fault.{character_fault, count_before_padding, fault_after, fault_at_first, fault_of, faulty_at, first_after, group_fault, located, or_else, padded_fault_at, plain_fault, position_of, sound_after, sound_bytes, sound_groups, symbols_fault, trailing_bits}
+use Rattle.data_encoding.specs.Fault.{bytes_of_group, character_fault, count_before_padding, fault_after, fault_at_first, fault_of, faulty_at, first_after, group_fault, located, or_else, padded_fault_at, plain_fault, position_of, sound_after, sound_bytes, sound_groups, symbols_fault, trailing_bits}
 use Rattle.data_encoding.specs.Partial.{StopsAt, position_after, sound_len, read_len, is_length_fault, is_sound_run, partial_at, partial_by, partial_of}
 use Rattle.data_encoding.specs.Decoding.{HasDecodedTo}
 use Rattle.data_encoding.proofs.digits.WidthLemmas.{group_symbols-pos}
@@ -23,7 +23,7 @@ use Rattle.data_encoding.proofs.grammar.PositionLemmas.{length-kept_plain, lengt
 use Rattle.data_encoding.proofs.grammar.KeptLemmas.{between, kept-split, kept_from-more, kept_in-stands, length-between}
 use Rattle.data_encoding.proofs.grammar.LengthLemmas.{length_fault-none, length_fault-valid, valid-whole, whole-length}
 use Rattle.data_encoding.proofs.grammar.GroupLemmas.{group_fault-inside, plain_fault-valid, located-inside}
-use Rattle.data_encoding.proofs.grammar.SoundLemmas.{first-AreSound, sound-AreSound, first-none}
+use Rattle.data_encoding.proofs.grammar.SoundLemmas.{first-AreSound, sound-AreSound, sound-all, first-none}
 use Rattle.data_encoding.proofs.grammar.MeaningLemmas.{Means-no_fault, sound_bytes-Means, decoded_len-Means}
 use Rattle.data_encoding.proofs.decoding.ProgressLemmas.{IsNext, whole-before, written_len, sound_bytes-front}
 
@@ -148,6 +148,12 @@ module _ (base : Base) (text : List ℕ) (read written : ℕ) (output : List ℕ
       ∙ ap (λ o. groups base (take read text) ++ cond (is_some o) []
       (at.group ∷ sound_after (is_final base at.group) base others)) at.faulty
       ∙ append-nil (groups base (take read text))
+
+  pub sound-front : sound_bytes base text ≡ sound_bytes base (take read text)
+  sound-front =
+      ap (flat_map (bytes_of_group base))
+      (sound_are ∙ sym (sound-all base false at.ended (groups base (take read text))
+      at.so_far.sound))
 
   pub sound_len_is : sound_len base text ≡ read
   sound_len_is =

@@ -1,10 +1,10 @@
 -- The whole runs of a list, and what is left of it.
-use Rattle.std.proofs.Common.{◌≡◌, ℕ, ◌+◌, ◌*◌, ◌/◌, ◌%◌, ◌<◌, List, [], ◌∷◌, ◌++◌, length, take, drop, sym, ap, ◌∙◌, arith, length-append, append_assoc, take-append-drop, length-take-le}
-use Rattle.std.proofs.lemmas.List.{append-nil, drop_at, length-drop}
+use Rattle.std.proofs.Common.{◌≡◌, ℕ, ◌+◌, ◌*◌, ◌/◌, ◌%◌, ◌<◌, List, [], ◌∷◌, ◌++◌, length, map, take, drop, sym, ap, ◌∙◌, arith, length-append, append_assoc, take-append-drop, length-take-le}
+use Rattle.std.proofs.lemmas.List.{append-nil, drop_at, drop-map, length-drop, length-map, take-map}
 use Rattle.std.proofs.Math.Nat.{add-mul, div-add-mod', div-eq_of_lt-le, div-mul-le_self, lt-div-mul-add, mul_comm, mul-mod_left, zero-mul}
 use Rattle.std.specs.Simd.{first_chunks}
 use Rattle.data_encoding.specs.Bits.{runs}
-use Rattle.data_encoding.proofs.lists.RunLemmas.{first_chunks-append, run_count, runs-join, runs-nil, runs-short}
+use Rattle.data_encoding.proofs.lists.RunLemmas.{first_chunks-append, run_count, runs-join, runs-map, runs-nil, runs-short}
 
 abbrev pub whole_runs : {X : Type 0} → ℕ → List X → List (List X)
 whole_runs size xs = first_chunks size (length xs / size) xs
@@ -13,7 +13,7 @@ abbrev pub left : {X : Type 0} → ℕ → List X → List X
 left size xs = drop (length xs / size * size) xs
 
 -- the part of the whole runs
-abbrev front_of : {X : Type 0} → ℕ → List X → List X
+abbrev pub front_of : {X : Type 0} → ℕ → List X → List X
 front_of size xs = take (length xs / size * size) xs
 
 module _ {X : Type 0} (size : ℕ) (some : 0 < size) where
@@ -49,7 +49,7 @@ module _ {X : Type 0} (size : ℕ) (some : 0 < size) where
         ap (λ n. drop (n * size) (front ++ rest)) parts ∙ drop_at front rest (count * size) whole,
       )
 
-  whole_runs-front : (xs : List X) → whole_runs size xs ≡ runs size (front_of size xs)
+  pub whole_runs-front : (xs : List X) → whole_runs size xs ≡ runs size (front_of size xs)
   whole_runs-front xs =
       ap (whole_runs size) (sym (front_left xs))
       ∙ (whole_runs-is (length xs / size) (front_of size xs) (left size xs) (front_len xs)
@@ -117,3 +117,19 @@ module _ {X : Type 0} (size : ℕ) (some : 0 < size) where
             ∙ runs-short size xs (omega (arith, whole, some)) (omega (arith, whole)),
         ap (left size) (sym (append-nil xs)) ∙ is.1,
       )
+
+-- The whole runs of a list of other members, and what is left of it.
+module _ {X Y : Type 0} (size : ℕ) (some : 0 < size) (f : X → Y) (xs : List X) where
+  same_len : length (map f xs) / size * size ≡ length xs / size * size
+  same_len = ap (λ n. n / size * size) (length-map xs f)
+
+  pub whole_runs-map : whole_runs size (map f xs) ≡ map (map f) (whole_runs size xs)
+  whole_runs-map =
+      whole_runs-front size some (map f xs)
+      ∙ ap (runs size) (ap (λ n. take n (map f xs)) same_len
+      ∙ take-map f (length xs / size * size) xs)
+      ∙ runs-map size f (front_of size xs) some
+      ∙ ap (map (map f)) (sym (whole_runs-front size some xs))
+
+  pub left-map : left size (map f xs) ≡ map f (left size xs)
+  left-map = ap (λ n. drop n (map f xs)) same_len ∙ drop-map f (length xs / size * size) xs

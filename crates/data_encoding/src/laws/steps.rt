@@ -1,13 +1,13 @@
 //! Steps of a decoder that reads a text in pieces: what it proves of itself one piece at a time.
 
-ghost use Rattle.data_encoding.specs.Pieces.{AreWhole, CountsGroups, EndsNowhere, HoldsPiece, IsNoLonger, JoinsUnpadded, JudgesGroup, KeepsBytes, KeepsEach, KeepsFault, MeansWhole, ReadsGroup, ReadsNothing, ReadsSound, TellsBytes, TellsEnd, TellsFault};
+ghost use Rattle.data_encoding.specs.Pieces.{AreWhole, CountsGroups, EndsNowhere, HoldsPiece, IsNoLonger, JoinsUnpadded, JudgesGroup, KeepsBytes, KeepsEach, KeepsFault, MeansWhole, ReadsFaulty, ReadsGroup, ReadsNothing, ReadsSound, TellsBytes, TellsEnd, TellsFault};
 
 /// A text may be decoded piece by piece, for each encoding that a specification yields: what is
 /// kept of it, and the data of its whole groups, follow from what was kept and the next piece; and
 /// at the end they tell its fault and its data. A group is judged, and decoded, as a text of its
 /// own. A piece of whole groups that means data is read at once where no group before it is final;
 /// it is whole groups where it is padded, where eight bits are whole symbols, or, where nothing is
-/// ignored, by its length.
+/// ignored, by its length. The fault of a whole group of a piece is read at once too.
 pub fn pieces()
     ensures nothing { ReadsNothing }
     ensures held { HoldsPiece }
@@ -18,6 +18,7 @@ pub fn pieces()
     ensures bytes { TellsBytes }
     ensures alone { JudgesGroup }
     ensures sound { ReadsSound }
+    ensures stops { ReadsFaulty }
     ensures whole { AreWhole }
 {}
 

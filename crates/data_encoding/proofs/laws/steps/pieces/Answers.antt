@@ -5,7 +5,7 @@ use Rattle.data_encoding.specs.Grammar.{Positioned}
 use Rattle.data_encoding.specs.Pieces.{HasRead, held_with, whole_bytes}
 use Rattle.data_encoding.proofs.decoding.LoneGroupLemmas.{bytes-alone, fault-alone}
 use Rattle.data_encoding.proofs.decoding.PieceLemmas.{HasRead-faulty, HasRead-group, HasRead-held, HasRead-nothing, fault_of-read, sound_bytes-read, whole_bytes-group, whole_bytes-grows, whole_bytes-nothing}
-use Rattle.data_encoding.proofs.decoding.WholePieceLemmas.{HasRead-whole, kept-whole, whole_bytes-whole}
+use Rattle.data_encoding.proofs.decoding.WholePieceLemmas.{ReadsFaulty-whole, ReadsSound-whole, kept-whole}
 use Rattle.data_encoding.proofs.judgement.RuleLemmas.{IsRuled-yield}
 use Rattle.data_encoding.proofs.laws.steps.pieces.Goals as goal
 
@@ -63,10 +63,13 @@ returns-clause-alone c base is group plain some few =
 
 pub returns-clause-sound : goal.returns-clause-sound
 returns-clause-sound c base is text piece bytes len read means whole =
-    let width = (IsRuled-yield is.fields base is.yields).is_width in (
-      HasRead-whole base width text piece bytes len read means whole,
-      whole_bytes-whole base width text piece bytes len read means whole,
-    )
+    ReadsSound-whole base (IsRuled-yield is.fields base is.yields).is_width text piece len read
+    bytes means whole
+
+pub returns-clause-stops : goal.returns-clause-stops
+returns-clause-stops c base is text piece bytes len partial read stops of_whole means =
+    ReadsFaulty-whole base (IsRuled-yield is.fields base is.yields).is_width text piece len read
+    bytes partial stops of_whole means
 
 pub returns-clause-whole : goal.returns-clause-whole
 returns-clause-whole c base is piece bytes means by =

@@ -1,38 +1,84 @@
-use Rattle.std.proofs.Common.{◌≡◌, ◌+◌, ◌/◌, ◌%◌, take, length, rules, subst, length-take-le}
-use Rattle.std.proofs.Math.Nat.{mul-mod_left}
+use Rattle.std.proofs.Common.{◌≡◌, ◌+◌, ◌/◌, None, Some, take, drop, length, rules, sym, subst, arith, length-take, length-take-le}
+use Rattle.std.proofs.lemmas.List.{take-append-le, take-take}
 use Rattle.data_encoding.specs.Base.{group_symbols}
+use Rattle.data_encoding.specs.Grammar.{Means}
 use Rattle.encoding_stream.specs.Pieces.{base_of_pieces, FillsGroups}
 use Rattle.encoding_stream.specs.Reading.{ReadsOn}
-use Rattle.encoding_stream.proofs.ReadRunLemmas.{reads-run}
+use Rattle.encoding_stream.proofs.PieceLemmas.{no-fault}
+use Rattle.encoding_stream.proofs.ReadRunLemmas.{IsFresh, reads-run, run-sound}
 use Rattle.encoding_stream.proofs.pieces.BufferDecoder.read_run.Goals as goal
+
+pub returns-in-Err-clause-reads : goal.returns-in-Err-clause-reads
+returns-in-Err-clause-reads c =
+    let s = c.args.self.now in
+    let base = base_of_pieces s in
+    let old = s.kept in
+    let partial = c.in-Err.partial in
+    let new = c.decode_run.new.output in
+    let text = take c.due-len.result.0 c.args.piece.now in
+    let bytes = take partial.written new in
+    let text-is : length text ≡ c.due-len.result.0 =
+    length-take-le c.due-len.result.0 c.args.piece.now c.due-len.ensures.few in
+    let within = c.in-Err.ensures.within in
+    let few : FillsGroups base 0 (length text) 0 (length bytes) = record {
+      groups = length c.args.piece.now / group_symbols base.width;
+      symbols = omega (arith, text-is, c.due-len.ensures.len);
+      bytes = omega (
+        arith,
+        length-take-le partial.written new within,
+        within,
+        c.decode_run.ensures.len,
+        length-take c.due-len.result.1 c.args.output.now,
+        c.due-len.ensures.bytes,
+      );
+    } in
+    let fresh : IsFresh old = record {
+      none = search rules;
+      sound = search rules;
+      goes_on = search rules;
+    } in
+    rw (take-append-le partial.written new (drop c.due-len.result.1 c.args.output.now) within)
+    (subst (λ n. ReadsOn base old (record old { len = old.len + n; fault = Some (record {
+      position = old.len + partial.error.position;
+      kind = partial.error.kind;
+    }) }) text bytes) text-is
+    (reads-run base s.width old fresh text bytes (Some partial.error) c.in-Err.ensures.fault few))
 
 pub returns-clause-reads : goal.returns-clause-reads
 returns-clause-reads c =
-    let base = base_of_pieces c.args.self.now in
-    let old = c.args.self.now.kept in
-    let run = c.decode_run-read in
-    let read = run.result.0 in
-    let written = run.result.1 in
-    let piece = take read c.args.piece.now in
-    let bytes = take written run.new.output in
-    let piece-is : length piece ≡ read = length-take-le read c.args.piece.now run.ensures.read in
-    let bytes-is : length bytes ≡ written =
-    length-take-le written run.new.output run.ensures.within in
-    let few : FillsGroups base 0 (length piece) 0 (length bytes) =
-    rw (piece-is, bytes-is) (c.are_whole.ensures.few c.if-not-are_whole.false run.ensures.most) in
+    let s = c.args.self.now in
+    let base = base_of_pieces s in
+    let old = s.kept in
+    let run = c.in-Ok in
+    let new = c.decode_run.new.output in
+    let read = run.run'.0 in
+    let written = run.run'.1 in
+    let front = take read c.args.piece.now in
+    let bytes = take written new in
+    let within = length-take-le c.due-len.result.0 c.args.piece.now c.due-len.ensures.few in
+    let front-is : length front ≡ read =
+    length-take-le read c.args.piece.now
+    (omega (arith, run.ensures.read, within, c.due-len.ensures.few)) in
+    let bytes-is : length bytes ≡ written = length-take-le written new run.ensures.written in
+    let means : Means base front bytes =
+    rw (take-take read c.due-len.result.0 c.args.piece.now
+    (omega (arith, run.ensures.read, within))) at run.ensures.means in
+    let few : FillsGroups base 0 (length front) 0 (length bytes) =
+    rw (front-is, bytes-is)
+    (c.are_whole.ensures.few c.if-not-are_whole.false run.ensures.most) in
     let whole =
-    c.are_whole.ensures.whole c.if-not-are_whole.false piece bytes piece-is bytes-is
-    run.ensures.means in
-    subst (λ n. ReadsOn base old (record old { len = old.len + n }) piece bytes) piece-is
-    (reads-run base c.args.self.now.width c.are_whole.ensures.specified c.pieces.ensures.sound old
-    (search rules)
-    (search rules) (search rules) piece bytes run.ensures.means whole few)
-
-pub returns-then-not-are_whole-clause-all : goal.returns-then-not-are_whole-clause-all
-returns-then-not-are_whole-clause-all c =
-    let symbols = group_symbols (base_of_pieces c.args.self.now).width in
-    λ _ _ _ joins none bytes means.
-    let read-is = c.decode_run-read.ensures.all none bytes means in
-    let divides : c.decode_run-read.result.0 % symbols ≡ 0 =
-    rw read-is (mul-mod_left (length c.args.piece.now / symbols) symbols) in
-    absurd (cc (c.are_whole.ensures.by_length none joins divides, c.if-not-are_whole.true))
+    c.are_whole.ensures.whole c.if-not-are_whole.false front bytes front-is bytes-is means in
+    let fresh : IsFresh old = record {
+      none = search rules;
+      sound = search rules;
+      goes_on = search rules;
+    } in
+    rw (take-append-le written new (drop c.due-len.result.1 c.args.output.now)
+    run.ensures.written)
+    (subst (λ f. ReadsOn base old (record old { len = old.len + read; fault = f }) front bytes)
+    (sym (no-fault old.fault fresh.sound))
+    (subst (λ n. ReadsOn base old (record old { len = old.len + n; fault = None }) front bytes)
+    front-is
+    (reads-run base s.width old fresh front bytes None
+    (run-sound base c.are_whole.ensures.specified c.pieces.ensures.sound front bytes means whole)
+    few)))
