@@ -127,7 +127,7 @@ impl EncodingRef<'_> {
     pub(crate) fn encode_align(&self) -> usize
         ensures value { result ≡ alignment self.now }
         ensures some { 0 < result }
-        ensures most { result ≤ 189 }
+        ensures few { result ≤ 189 }
         ensures base { IsSpecified self.now }
     {
         if self.fields.column != 0 {

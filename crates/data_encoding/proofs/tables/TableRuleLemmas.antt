@@ -216,7 +216,8 @@ module _ (e : EncodingTables) (rules : KeepsRules e) where
   is_base_of = IsSpecified-ruled (base_of_tables e) (IsRuled-tables)
 
 -- from the base to the tables
-module _ (e : EncodingTables) (ruled : IsRuled (base_of_tables e)) (holds : HoldsEntries e.values) where
+module _ (e : EncodingTables) (ruled : IsRuled (base_of_tables e))
+    (holds : HoldsEntries e.values) where
   own-entry : (i : ℕ) → i < length (take (2 ^ e.width) e.symbols)
       → get_or e.values (get_or (take (2 ^ e.width) e.symbols) i 0) 0 ≡ i
   own-entry i h =

@@ -266,7 +266,8 @@ ascii-text_of base ruled bytes ascii = by base.wrapping ruled.wrapping where
       (padded_text base bytes) ascii
 
 -- what the tables of an encoding say of its lines
-module _ (e : EncodingTables) (rules : KeepsRules e) (seen : Base) (is : base_of_tables e ≡ seen) where
+module _ (e : EncodingTables) (rules : KeepsRules e) (seen : Base)
+    (is : base_of_tables e ≡ seen) where
   pub IsRuled-seen : IsRuled seen
   IsRuled-seen = subst IsRuled is (IsRuled-tables e rules)
 

@@ -1,5 +1,5 @@
 -- Worked rows of what the functions below the public calls promise.
-use Rattle.std.proofs.Common.{List, ◌≡◌, ℕ, ◌<◌, true, false, [], ◌∷◌, ◌++◌, map, drop, codes, replicate, Some, None, refl, ap, lit<, arith, lit≤, sym, inl, inr, subst, zero, suc, take}
+use Rattle.std.proofs.Common.{◌≡◌, ℕ, ◌<◌, true, false, [], ◌∷◌, ◌++◌, map, drop, codes, replicate, Some, None, refl, ap, lit<, arith, lit≤, sym, inl, inr, subst, zero, suc, take}
 use Rattle.std.proofs.lemmas.Bool.{false≢true}
 use Rattle.data_encoding.specs.declared.encoding.Character.TheVariants.{Symbol as SymbolCharacter, Padding as PaddingCharacter, Ignored, Invalid}
 use Rattle.data_encoding.specs.declared.error.DecodeKind.TheVariants.{Symbol, Trailing}

@@ -14,7 +14,8 @@ pub returns-then-trailing-width-clause-fault : goal.returns-then-trailing-width-
 returns-then-trailing-width-clause-fault g c =
     subst (HasFault c.args.self.now c.args.group.now) (sym c.faulty.ensures)
     (length-invalid c.args.self.now c.args.group.now
-    (ap is_padded (sym c.self.view_is) ∙ sym c.is_padded.ensures ∙ c.if-not-is_padded.true) c.requires.some c.WIDTH-width.result
+    (ap is_padded (sym c.self.view_is) ∙ sym c.is_padded.ensures ∙ c.if-not-is_padded.true)
+    c.requires.some c.WIDTH-width.result
     (c.requires.width ∙ sym c.WIDTH-width.ensures)
     (omega (arith, g.G.GroupSize.is_group.is_width.some, c.WIDTH-width.ensures))
     c.if-trailing-width.true)
@@ -24,7 +25,8 @@ returns-then-not-is_padded-clause-symbols g c =
     let group = c.args.group.now in
     let valid : is_valid_count c.WIDTH-width.result (length group) ≡ true = grind (arith, nat_tests)
     in
-    symbols-all c.args.self.now group (ap is_padded (sym c.self.view_is) ∙ sym c.is_padded.ensures ∙ c.if-not-is_padded.true)
+    symbols-all c.args.self.now group
+    (ap is_padded (sym c.self.view_is) ∙ sym c.is_padded.ensures ∙ c.if-not-is_padded.true)
     (ap (λ w. is_valid_count w (length group)) (c.requires.width ∙ sym c.WIDTH-width.ensures)
     ∙ valid)
 
@@ -34,7 +36,8 @@ returns-then-group-SYMBOLS-clause-fault g c =
     (sym c.requires.width) in
     subst (HasFault c.args.self.now c.args.group.now) (sym c.faulty-then-group-SYMBOLS.ensures)
     (group-short c.args.self.now c.args.group.now
-    (ap is_padded (sym c.self.view_is) ∙ sym c.is_padded.ensures ∙ c.if-not-is_padded.false) c.requires.some
+    (ap is_padded (sym c.self.view_is) ∙ sym c.is_padded.ensures ∙ c.if-not-is_padded.false)
+    c.requires.some
     (subst (λ n. length c.args.group.now < n) symbols c.if-group-SYMBOLS.true))
 
 pub returns-then-count-eq0-clause-fault : goal.returns-then-count-eq0-clause-fault
@@ -52,7 +55,8 @@ returns-then-count-eq0-clause-fault g c =
           (arith, nat_tests, w.if-width-count.true)
     ] in
     subst (HasFault seen group) (sym c.faulty-then-count-eq0.ensures)
-    (padding-invalid seen group (ap is_padded (sym c.self.view_is) ∙ sym c.is_padded.ensures ∙ c.if-not-is_padded.false) whole
+    (padding-invalid seen group
+    (ap is_padded (sym c.self.view_is) ∙ sym c.is_padded.ensures ∙ c.if-not-is_padded.false) whole
     count
     (c.before_padding-count.ensures.count seen
     (HoldsValues-seen _ c.self.invariant seen c.self.view_is))
@@ -71,7 +75,9 @@ returns-clause-symbols g c =
     in
     let begun : (count == 0) ≡ false = grind (arith, nat_tests) in
     let valid : is_valid_count c.WIDTH-width.result count ≡ true = grind (arith, nat_tests) in
-    symbols-before seen group (ap is_padded (sym c.self.view_is) ∙ sym c.is_padded.ensures ∙ c.if-not-is_padded.false) whole count
+    symbols-before seen group
+    (ap is_padded (sym c.self.view_is) ∙ sym c.is_padded.ensures ∙ c.if-not-is_padded.false) whole
+    count
     (c.before_padding-count.ensures.count seen
     (HoldsValues-seen _ c.self.invariant seen c.self.view_is))
     c.before_padding-count.ensures.within begun

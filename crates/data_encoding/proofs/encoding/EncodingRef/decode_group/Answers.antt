@@ -99,7 +99,8 @@ returns-then-has_trailing-clause-fault g c =
     let count = c.in-Ok.count in
     let holds = HoldsValues-seen _ c.self.invariant seen c.self.view_is in
     subst (HasFault seen group) (sym c.faulty-then-has_trailing.ensures)
-    (trailing-fault seen c.self.inside.fields.now.values holds group (λ k. (c.type_inv.group k).fits) count
+    (trailing-fault seen c.self.inside.fields.now.values holds group
+    (λ k. (c.type_inv.group k).fits) count
     c.in-Ok.ensures.symbols (c.if-not-decode_symbols.ensures.symbols.0 refl)
     (ap (λ (b : Base). b.checks_trailing_bits) (sym c.self.view_is) ∙ c.if-self.true)
     (sym (c.if-has_trailing.ensures.any seen
@@ -132,7 +133,8 @@ returns-clause-sound g c =
           ap (λ b. b && list_any (λ bit. not (bit == 0)) (trailing_bits seen judged))
           (checks ∙ w.if-self.false)
     ] in
-    group-sound seen c.self.inside.fields.now.values reads.holds group (λ k. (c.type_inv.group k).fits) count
+    group-sound seen c.self.inside.fields.now.values reads.holds group
+    (λ k. (c.type_inv.group k).fits) count
     c.in-Ok.ensures.symbols (c.if-not-decode_symbols.ensures.symbols.0 refl) quiet
     c.decode_symbols.new.output (drop (c.WIDTH.result * count / 8) c.args.output.now)
     (c.decode_symbols.auto.output

@@ -2,7 +2,6 @@ use Rattle.std.proofs.Common.{◌≡◌, ◌≢◌, ℕ, zero, suc, ◌*◌, ◌
 use Rattle.data_encoding.specs.Base.{IsWidth}
 use Rattle.data_encoding.specs.Encoding.{KeepsWrapping, wrapping_by}
 use Rattle.data_encoding.specs.Lengths.{align_by}
-use Rattle.data_encoding.specs.PlainTables.{plain_tables}
 use Rattle.data_encoding.proofs.digits.WidthLemmas.{group_bytes-pos}
 use Rattle.data_encoding.proofs.tables.TableRuleLemmas.{is_base_of}
 use Rattle.data_encoding.proofs.text.BlockLemmas.{few-columns}
@@ -23,7 +22,7 @@ few-lines (suc n) separator width values is keeps =
 pub returns-then-self-ne0-clause-value : goal.returns-then-self-ne0-clause-value
 returns-then-self-ne0-clause-value c =
     rw (← c.self.view_is)
-    (by_column c.self.inside.fields.now.column c.self.inside.fields.now.width (plain_tables c.self.inside.fields.now).separator
+    (by_column c.self.inside.fields.now.column c.self.inside.fields.now.width _
     c.if-self-ne0.true)
 
 pub returns-then-self-ne0-clause-some : goal.returns-then-self-ne0-clause-some
@@ -35,9 +34,9 @@ returns-then-self-ne0-clause-some c =
     subst (λ n. 0 < n) (sym (returns-then-self-ne0-clause-value c))
     (alignment-some seen ruled _ wrapping)
 
-pub returns-then-self-ne0-clause-most : goal.returns-then-self-ne0-clause-most
-returns-then-self-ne0-clause-most c =
-    few-lines c.self.inside.fields.now.column (plain_tables c.self.inside.fields.now).separator c.self.inside.fields.now.width
+pub returns-then-self-ne0-clause-few : goal.returns-then-self-ne0-clause-few
+returns-then-self-ne0-clause-few c =
+    few-lines c.self.inside.fields.now.column _ c.self.inside.fields.now.width
     c.self.inside.fields.now.values c.self.invariant.is_width c.self.invariant.wrapping
 
 pub returns-clause-some : goal.returns-clause-some

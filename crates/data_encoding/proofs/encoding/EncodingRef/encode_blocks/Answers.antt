@@ -39,7 +39,7 @@ overflow_add-read g c =
         before c.loop-index.invariant c.div_ceil-index-end.ensures c.loop-index-test.true,
         mul-le (1024 / c.self.inside.fields.now.column) c.encode_align.result 1024 189
             (lines-few c.self.invariant c.self.view_is c.requires.lines 1024)
-            c.encode_align.ensures.most,
+            c.encode_align.ensures.few,
         c.requires.limit,
       );
     }
@@ -62,9 +62,11 @@ overflow_add-written g c =
         arith,
         piece-begins c.loop-index.invariant c.div_ceil-index-end.ensures c.loop-index-test.true,
         text-few c.self.invariant c.self.view_is c.requires.lines c.args.input.now,
-        mul-le (1024 / c.self.inside.fields.now.column) (c.self.inside.fields.now.column + c.line_separator_len.result) 1024 510
+        mul-le (1024 / c.self.inside.fields.now.column)
+            (c.self.inside.fields.now.column + c.line_separator_len.result) 1024 510
             (lines-few c.self.invariant c.self.view_is c.requires.lines 1024)
-            (line-few c.self.invariant c.self.view_is c.requires.lines c.line_separator_len.ensures.value),
+            (line-few c.self.invariant c.self.view_is c.requires.lines
+            c.line_separator_len.ensures.value),
         c.requires.limit,
       );
     }

@@ -27,7 +27,7 @@ overflow_add-read g c =
       fits = omega (
         arith,
         before c.loop-index.invariant c.div_ceil-index-end.ensures c.loop-index-test.true,
-        c.encode_align-line_bytes.ensures.most,
+        c.encode_align-line_bytes.ensures.few,
         c.requires.limit,
       );
     }
@@ -39,7 +39,8 @@ overflow_add-written g c =
         arith,
         piece-begins c.loop-index.invariant c.div_ceil-index-end.ensures c.loop-index-test.true,
         text-few c.self.invariant c.self.view_is c.requires.lines c.args.input.now,
-        line-few c.self.invariant c.self.view_is c.requires.lines c.line_separator_len.ensures.value,
+        line-few c.self.invariant c.self.view_is c.requires.lines
+            c.line_separator_len.ensures.value,
         c.requires.limit,
       );
     }

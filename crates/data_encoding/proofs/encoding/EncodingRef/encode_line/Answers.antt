@@ -4,7 +4,6 @@ use borrow.Rule.Slice.PartMut.{put_mid}
 use Rattle.data_encoding.specs.Base.{Base}
 use Rattle.data_encoding.specs.Encoding.{EncodingTables, KeepsRules, base_of_tables}
 use Rattle.data_encoding.specs.Lengths.{alignment}
-use Rattle.data_encoding.specs.PlainTables.{plain_tables}
 use Rattle.data_encoding.specs.Text.{padded_text, text_of}
 use Rattle.data_encoding.proofs.lists.PartLemmas.{length-rest}
 use Rattle.data_encoding.proofs.text.LineLemmas.{IsRuled-seen, separator-seen, text_of-line}
@@ -67,7 +66,7 @@ pub overflow_sub-end : goal.overflow_sub-end
 overflow_sub-end g c =
     let seen = c.args.self.now in
     let input = c.args.input.now in
-    inside (text_of seen input) (padded_text seen input) (plain_tables c.self.inside.fields.now).separator
+    inside (text_of seen input) (padded_text seen input) _
     c.args.output.now
     (text-is _ c.self.invariant seen c.self.view_is input c.requires.some
     c.requires.line)
@@ -77,7 +76,7 @@ pub encode_padded-requires-clause-exact : goal.encode_padded-requires-clause-exa
 encode_padded-requires-clause-exact g c =
     let seen = c.args.self.now in
     let input = c.args.input.now in
-    front (text_of seen input) (padded_text seen input) (plain_tables c.self.inside.fields.now).separator
+    front (text_of seen input) (padded_text seen input) _
     c.args.output.now
     (text-is _ c.self.invariant seen c.self.view_is input c.requires.some
     c.requires.line)
@@ -87,11 +86,12 @@ pub write_separator-requires : goal.write_separator-requires
 write_separator-requires g c =
     let seen = c.args.self.now in
     let input = c.args.input.now in
-    room (text_of seen input) (padded_text seen input) (plain_tables c.self.inside.fields.now).separator
+    room (text_of seen input) (padded_text seen input) _
     c.args.output.now
     (text-is _ c.self.invariant seen c.self.view_is input c.requires.some
     c.requires.line)
-    c.requires.exact c.line_separator_len.result c.line_separator_len.ensures.value c.encode_padded.new.output
+    c.requires.exact c.line_separator_len.result c.line_separator_len.ensures.value
+    c.encode_padded.new.output
     c.line_separator.result.now c.encode_padded.ensures c.line_separator.ensures.value
     ∙ ap length (sym c.line_separator.ensures.value)
 
@@ -99,10 +99,11 @@ pub returns : goal.returns
 returns g c =
     let seen = c.args.self.now in
     let input = c.args.input.now in
-    written (text_of seen input) (padded_text seen input) (plain_tables c.self.inside.fields.now).separator
+    written (text_of seen input) (padded_text seen input) _
     c.args.output.now
     (text-is _ c.self.invariant seen c.self.view_is input c.requires.some
     c.requires.line)
-    c.requires.exact c.line_separator_len.result c.line_separator_len.ensures.value c.encode_padded.new.output
+    c.requires.exact c.line_separator_len.result c.line_separator_len.ensures.value
+    c.encode_padded.new.output
     c.write_separator.new.output c.encode_padded.ensures
     (c.write_separator.ensures ∙ c.line_separator.ensures.value)

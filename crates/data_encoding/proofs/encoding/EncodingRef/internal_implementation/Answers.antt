@@ -7,7 +7,8 @@ pub returns-then-self-ne0 : goal.returns-then-self-ne0
 returns-then-self-ne0 c =
     let e = plain_tables c.self.inside.fields.now in
     let flags = rw (← c.self.view_is) at c.flags.ensures in
-    let head = rw (c.padding_entry.ensures, c.padding_character.ensures, flags) at c.put-3.ensures in
+    let head = rw (c.padding_entry.ensures, c.padding_character.ensures, flags)
+    at c.put-3.ensures in
     let last = c.put-then-self-ne0-2.ensures
     ∙ (λ i. c.put-then-self-ne0.ensures i ++ c.line_separator.ensures.value i)
     ∙ append_assoc c.put-3.new.layout.items (e.column ∷ []) e.separator in
@@ -18,7 +19,8 @@ returns-then-self-ne0 c =
 pub returns-then-self : goal.returns-then-self
 returns-then-self c =
     let flags = rw (← c.self.view_is) at c.flags.ensures in
-    let head = rw (c.padding_entry.ensures, c.padding_character.ensures, flags) at c.put-3.ensures in
+    let head = rw (c.padding_entry.ensures, c.padding_character.ensures, flags)
+    at c.put-3.ensures in
     rw (← c.self.view_is) (layout-joined _ c.self.invariant _ _ _ _ _ (0 ∷ [])
     c.new-bytes.ensures c.put.ensures c.put-2.ensures head c.put-then-self.ensures
     (no_lines-tail _ c.self.invariant true c.if-self-ne0.false
@@ -27,7 +29,8 @@ returns-then-self c =
 pub returns-else-self : goal.returns-else-self
 returns-else-self c =
     let flags = rw (← c.self.view_is) at c.flags.ensures in
-    let head = rw (c.padding_entry.ensures, c.padding_character.ensures, flags) at c.put-3.ensures in
+    let head = rw (c.padding_entry.ensures, c.padding_character.ensures, flags)
+    at c.put-3.ensures in
     rw (← c.self.view_is) (layout-joined _ c.self.invariant _ _ _ _ _ []
     c.new-bytes.ensures c.put.ensures c.put-2.ensures head
     (sym (append-nil c.put-3.new.layout.items))

@@ -10,11 +10,11 @@ returns-then-is_padded c =
     subst (λ b. (c.args.len % c.group_symbols.result == 0) ≡ is_valid_length b c.args.len)
     c.self.view_is
     (ap (λ n. c.args.len % n == 0) c.group_symbols.ensures.value
-    ∙ sym (is_valid_length-by (base_of_tables (plain_tables c.self.inside.fields.now)) c.args.len true
-    (sym c.is_padded.ensures ∙ c.if-is_padded.true)))
+    ∙ sym (is_valid_length-by (base_of_tables (plain_tables c.self.inside.fields.now))
+    c.args.len true (sym c.is_padded.ensures ∙ c.if-is_padded.true)))
 
 pub returns : goal.returns
 returns c =
     rw (← c.self.view_is)
-    (sym (is_valid_length-by (base_of_tables (plain_tables c.self.inside.fields.now)) c.args.len false
-    (sym c.is_padded.ensures ∙ c.if-is_padded.false)))
+    (sym (is_valid_length-by (base_of_tables (plain_tables c.self.inside.fields.now))
+    c.args.len false (sym c.is_padded.ensures ∙ c.if-is_padded.false)))

@@ -12,7 +12,8 @@ use Rattle.data_encoding.proofs.encoding.EncodingRef.pad.Goals as goal
 pub returns-in_default-clause-count : goal.returns-in_default-clause-count
 returns-in_default-clause-count g c =
     let seen = c.args.self.now in
-    let none = ap is_padded (sym c.self.view_is) ∙ ap is_some (sym c.padding_character.ensures ∙ c.in_default.is) in
+    let none = ap is_padded (sym c.self.view_is)
+    ∙ ap is_some (sym c.padding_character.ensures ∙ c.in_default.is) in
     c.requires.exact
     ∙ length-unpadded seen c.args.input.now
     (IsWidth-seen _ c.self.invariant seen c.self.view_is) none
@@ -21,7 +22,8 @@ returns-in_default-clause-count g c =
 pub returns-in_default-clause-padding : goal.returns-in_default-clause-padding
 returns-in_default-clause-padding g c =
     let seen = c.args.self.now in
-    let none = ap is_padded (sym c.self.view_is) ∙ ap is_some (sym c.padding_character.ensures ∙ c.in_default.is) in
+    let none = ap is_padded (sym c.self.view_is)
+    ∙ ap is_some (sym c.padding_character.ensures ∙ c.in_default.is) in
     let text = plain_text seen c.args.input.now in
     padded_text-unpadded seen c.args.input.now
     (IsWidth-seen _ c.self.invariant seen c.self.view_is) none
@@ -60,4 +62,5 @@ returns-clause-padding g c =
     (c.symbol_count-count.ensures
     ∙ ap (λ n. run_count n (8 * length c.args.input.now))
     (c.WIDTH.ensures ∙ sym c.requires.width))
-    c.in-Some.character (sym c.padding_character.ensures ∙ c.in-Some.is) _ (c.fill.ensures.after (λ y same. same))
+    c.in-Some.character (sym c.padding_character.ensures ∙ c.in-Some.is) _
+    (c.fill.ensures.after (λ y same. same))
