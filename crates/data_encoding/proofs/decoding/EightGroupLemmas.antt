@@ -158,7 +158,7 @@ module _ {width symbols read count : ℕ} (sizes : AreSizes width symbols read c
       (limit-is read (subst IsWidth (sym sizes.same_width) sizes.is_width)) small
 
   -- where all entries are below the limit, their words fit
-  pub words-fit : (made : List ℕ)
+  words-fit : (made : List ℕ)
       → (AllByRecursion (λ entry. entry < 2 ^ read) entries
       → AllByRecursion (λ word. word < 2 ^ (read * count)) made)
       → AllByRecursion (λ word. word < 2 ^ (width * symbols)) made
@@ -183,7 +183,7 @@ module _ {width symbols read count : ℕ} (sizes : AreSizes width symbols read c
         (take_all (8 * count) input (omega (arith, long, sizes.same_symbols)))
 
     -- and so are their words
-    pub words-of-input : (order : BitOrder) (made : List ℕ)
+    words-of-input : (order : BitOrder) (made : List ℕ)
         → (AllByRecursion (λ entry. entry < 2 ^ read) entries
         → made ≡ map (word_of order read count) (first_chunks count 8 entries))
         → made ≡ map (word_of order width symbols)
@@ -194,10 +194,37 @@ module _ {width symbols read count : ℕ} (sizes : AreSizes width symbols read c
         (first_chunks (sym sizes.same_symbols i) 8 (entries-are i)))
 
     -- and each byte is a symbol
-    pub symbols-of-input : (j : ℕ) → j < length input
+    symbols-of-input : (j : ℕ) → j < length input
         → slice_index values (slice_index input j) < 128
     symbols-of-input j h =
         subst (λ n. n < 128) (get_or-map (slice_index values) input j 0 0 h)
         (all-at (λ entry. entry < 128) (map (slice_index values) input)
         (subst (AllByRecursion (λ entry. entry < 128)) entries-are low) j
         (omega (arith, h, length-map input (slice_index values))))
+
+-- what is found of eight groups: their words, and that each byte is a symbol
+pub words-found : {width number read count : ℕ} → AreSizes width number read count
+    → (holds : List ℕ → Type 0) (all : Type 0) (order : BitOrder) (input entries made : List ℕ)
+    → length input ≡ 8 * number
+    → (all → AllByRecursion (λ entry. entry < 1 * 2 ^ read % 256) entries)
+    → ((values : List ℕ) → holds values → AllByRecursion (λ entry. entry < 128) entries
+    → entries ≡ map (slice_index values) (take (8 * count) input))
+    → (AllByRecursion (λ entry. entry < 2 ^ read) entries
+    → made ≡ map (word_of order read count) (first_chunks count 8 entries))
+    → (AllByRecursion (λ entry. entry < 2 ^ read) entries
+    → AllByRecursion (λ word. word < 2 ^ (read * count)) made)
+    → record {
+      words : (values : List ℕ) → holds values → all
+          → made ≡ map (word_of order width number)
+          (first_chunks number 8 (map (slice_index values) input));
+      symbols : (values : List ℕ) → holds values → all → (j : ℕ) → j < length input
+          → slice_index values (slice_index input j) < 128;
+      fit : all → AllByRecursion (λ word. word < 2 ^ (width * number)) made;
+    }
+words-found sizes holds all order input entries made long small found are fit = record {
+  words = λ values held h.
+      words-of-input sizes entries (small h) values input long (found values held) order made are;
+  symbols = λ values held h.
+      symbols-of-input sizes entries (small h) values input long (found values held);
+  fit = λ h. words-fit sizes entries (small h) made fit;
+}

@@ -78,30 +78,30 @@ length-bytes_of_groups base (group ∷ groups) =
 -- Of the symbols of a text some are read, and the bytes of no more written.
 module _ (width bytes symbols len read written : ℕ) (same : width * symbols ≡ 8 * bytes)
     (within : read ≤ len) where
-    regroup : (count : ℕ) → width * (count * symbols) ≡ 8 * (count * bytes)
-    regroup count =
-        mul_left_comm width count symbols ∙ ap (λ n. count * n) same ∙ mul_left_comm count 8 bytes
+  regroup : (count : ℕ) → width * (count * symbols) ≡ 8 * (count * bytes)
+  regroup count =
+      mul_left_comm width count symbols ∙ ap (λ n. count * n) same ∙ mul_left_comm count 8 bytes
 
-    -- there is room for as many bits as are left
-    pub room-bits : 8 * written ≤ width * read → (more : ℕ) → more ≤ len - read
-        → 8 * written + width * more ≤ width * len
-    room-bits h more few =
-        let all : width * (read + more) ≤ width * len =
-        mul-le-mul_left width (omega (arith, few, within)) in
-        omega (arith, mul-add width read more, all, h)
+  -- there is room for as many bits as are left
+  pub room-bits : 8 * written ≤ width * read → (more : ℕ) → more ≤ len - read
+      → 8 * written + width * more ≤ width * len
+  room-bits h more few =
+      let all : width * (read + more) ≤ width * len =
+      mul-le-mul_left width (omega (arith, few, within)) in
+      omega (arith, mul-add width read more, all, h)
 
-    pub room-plain : 8 * written ≤ width * read → (count : ℕ) → count * symbols ≤ len - read
-        → written + count * bytes ≤ width * len / 8
-    room-plain h count few =
-        omega (arith, room-bits h (count * symbols) few, regroup count)
+  pub room-plain : 8 * written ≤ width * read → (count : ℕ) → count * symbols ≤ len - read
+      → written + count * bytes ≤ width * len / 8
+  room-plain h count few =
+      omega (arith, room-bits h (count * symbols) few, regroup count)
 
-    -- and for as many whole groups, where whole ones were read
-    pub room-whole : 0 < symbols → (q count : ℕ) → 8 * written ≤ width * (q * symbols)
-        → q * symbols ≤ read → count * symbols ≤ len - read
-        → written + count * bytes ≤ len / symbols * bytes
-    room-whole pos q count h before few =
-        let fits : (q + count) * symbols ≤ len =
-        omega (arith, add-mul q count symbols, before, few, within) in
-        let least : q + count ≤ len / symbols =
-        (le-div_iff_mul-le {k = symbols} {x = q + count} {y = len} pos).1 fits in
-        omega (arith, regroup q, h, add-mul q count bytes, mul-le-mul_right bytes least)
+  -- and for as many whole groups, where whole ones were read
+  pub room-whole : 0 < symbols → (q count : ℕ) → 8 * written ≤ width * (q * symbols)
+      → q * symbols ≤ read → count * symbols ≤ len - read
+      → written + count * bytes ≤ len / symbols * bytes
+  room-whole pos q count h before few =
+      let fits : (q + count) * symbols ≤ len =
+      omega (arith, add-mul q count symbols, before, few, within) in
+      let least : q + count ≤ len / symbols =
+      (le-div_iff_mul-le {k = symbols} {x = q + count} {y = len} pos).1 fits in
+      omega (arith, regroup q, h, add-mul q count bytes, mul-le-mul_right bytes least)

@@ -93,7 +93,8 @@ module _ (base : Base) (width : IsWidth base.width) where
 
   more : (part old output before piece : List ℕ) (i m k : ℕ) → (i + m) * size ≤ length part
       → i * byte_count ≤ length output → length piece ≡ m * byte_count
-      → IsRun base part i old output → IsRun base (take (m * size) (drop (i * size) part)) m before piece
+      → IsRun base part i old output
+      → IsRun base (take (m * size) (drop (i * size) part)) m before piece
       → IsRun base part (i + m) old (put_mid (i * byte_count) k output piece)
   more part old output before piece i m k within fits len first second =
       let sum : (i + m) * byte_count ≡ i * byte_count + length piece =

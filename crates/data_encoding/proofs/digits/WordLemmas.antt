@@ -289,17 +289,16 @@ digits-runs order size count n bits h e k =
     ∙ ap (map (number_of order)) (first_chunks-places size n all)
 
 -- a shifted byte
-pub record IsTerm (byte shift : ℕ) : Type 0 where
-  pub whole : byte * 2 ^ shift % 18446744073709551616 ≡ byte * 2 ^ shift
-  pub small : byte * 2 ^ shift % 18446744073709551616 ≤ 281474976710656
+pub shifted-whole : (byte shift : ℕ) → byte < 256 → shift ≤ 40
+    → byte * 2 ^ shift % 18446744073709551616 ≡ byte * 2 ^ shift
+shifted-whole byte shift h k = shl_whole byte 8 shift 64 h (omega (arith, k))
 
-pub term : (byte shift : ℕ) → byte < 256 → shift ≤ 40 → IsTerm byte shift
-term byte shift h k =
-    let whole : byte * 2 ^ shift % 18446744073709551616 ≡ byte * 2 ^ shift =
-    shl_whole byte 8 shift 64 h (omega arith) in
+pub shifted-small : (byte shift : ℕ) → byte < 256 → shift ≤ 40
+    → byte * 2 ^ shift % 18446744073709551616 ≤ 281474976710656
+shifted-small byte shift h k =
     let most : byte * 2 ^ shift ≤ 255 * 1099511627776 =
-    mul-le byte (2 ^ shift) 255 1099511627776 (omega arith) (pow_mono k) in
-    record { whole = whole; small = omega (arith, whole, most) }
+    mul-le byte (2 ^ shift) 255 1099511627776 (omega (arith, h)) (pow_mono k) in
+    omega (arith, shifted-whole byte shift h k, most)
 
 -- no more digits than bits
 pub few_digits : (size count bits : ℕ) → 0 < size → size * count ≤ bits → count ≤ bits

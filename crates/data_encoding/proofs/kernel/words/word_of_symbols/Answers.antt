@@ -1,10 +1,10 @@
-use Rattle.std.proofs.Common.{◌≡◌, ◌+◌, ◌*◌, ◌^◌, ◌<◌, ◌∷◌, [], ◌++◌, length, map, take, slice_index, refl, sym, ap, ◌∙◌, subst, arith}
+use Rattle.std.proofs.Common.{◌≡◌, ◌+◌, ◌*◌, ◌^◌, ◌<◌, ◌≤◌, ◌∷◌, [], ◌++◌, length, map, take, slice_index, refl, sym, ap, ◌∙◌, subst, arith}
 use Rattle.std.proofs.lemmas.List.{take_more, length-take-le, length-map, map-append}
 use Rattle.std.proofs.lemmas.Nat.{le_or_l, le_or_r, or_lt}
 use borrow.Author.Count.{below_more}
 use Rattle.data_encoding.specs.Words.{weight, word_of}
 use Rattle.data_encoding.proofs.digits.SizeLemmas.{IsSmall-group, IsGroup-same}
-use Rattle.data_encoding.proofs.digits.WordLemmas.{word_of-nil, word_of-more, term, few_digits}
+use Rattle.data_encoding.proofs.digits.WordLemmas.{word_of-nil, word_of-more, shifted-small, shifted-whole, few_digits}
 use Rattle.data_encoding.proofs.kernel.words.word_of_symbols.Goals as goal
 
 pub loop-index-init : goal.loop-index-init
@@ -23,10 +23,10 @@ overflow_add-word g c =
     let group = IsGroup-same c.WIDTH-width.ensures refl c.SYMBOLS-count.ensures
     g.G.GroupSize.is_group in
     let bits = (IsSmall-group group).few_bits in
-    let added = term c.entry_of-entry.result c.weight_at.result c.entry_of-entry.type_inv
+    let small = shifted-small c.entry_of-entry.result c.weight_at.result c.entry_of-entry.type_inv
     (omega (arith, bits)) in
     let few = few_digits width count 40 group.is_width.some bits in
-    record { fits = omega (arith, added.small) }
+    record { fits = omega (arith, small) }
 
 pub loop-index-preserved : goal.loop-index-preserved
 loop-index-preserved g c =
@@ -40,7 +40,7 @@ loop-index-preserved g c =
     let group = IsGroup-same c.WIDTH-width.ensures refl c.SYMBOLS-count.ensures
     g.G.GroupSize.is_group in
     let bits = (IsSmall-group group).few_bits in
-    let added = term entry c.weight_at.result c.entry_of-entry.type_inv (omega (arith, bits)) in
+    let fits : c.weight_at.result ≤ 40 = omega (arith, bits) in
     let weight_is = c.weight_at.ensures.weight
     ∙ (λ i. weight c.args.order (c.WIDTH-width.ensures i) (c.SYMBOLS-count.ensures i) index) in
     let before = map (slice_index values) (take index input) in
@@ -52,7 +52,8 @@ loop-index-preserved g c =
     ∙ length-take-le index input (omega arith) in
     record {
       so_far = λ h.
-          (λ i. c.loop-index.invariant.so_far (λ k less. h k (omega arith)) i + added.whole i)
+          (λ i. c.loop-index.invariant.so_far (λ k less. h k (omega arith)) i
+          + shifted-whole entry c.weight_at.result c.entry_of-entry.type_inv fits i)
           ∙ ap (λ w. word_of c.args.order g.G.GroupSize.WIDTH g.G.GroupSize.SYMBOLS before + entry *
           2 ^ w)
           weight_is
@@ -68,5 +69,8 @@ loop-index-preserved g c =
           (c.loop-index.invariant.all (λ k less. h k (omega arith)))
           (omega (arith, h index (omega arith), same));
       within = omega (arith, inside);
-      small = omega (arith, added.small);
+      small = omega (
+        arith,
+        shifted-small entry c.weight_at.result c.entry_of-entry.type_inv fits,
+      );
     }

@@ -1,5 +1,5 @@
-use Rattle.std.proofs.Common.{sym, ◌∙◌, arith}
-use Rattle.data_encoding.proofs.decoding.EightGroupLemmas.{AreSizes, symbol-counts, symbols-of-input, words-of-input, words-fit}
+use Rattle.std.proofs.Common.{IsTrue, sym, ◌∙◌, arith}
+use Rattle.data_encoding.proofs.decoding.EightGroupLemmas.{AreSizes, symbol-counts, words-found}
 use Rattle.data_encoding.proofs.kernel.lanes.decode.words_of_groups.Goals as goal
 
 pub returns-in-2 : goal.returns-in-2
@@ -10,18 +10,10 @@ returns-in-2 g c =
       same_width = c.WIDTH-width.ensures;
       same_symbols = sym c.SYMBOLS.ensures ∙ c.in-2.is;
     } in
-    let entries = c.look_up_16-values.result in
-    let words = c.words_of_two.result in
-    record {
-      words = λ values held all.
-          words-of-input sizes entries (c.are_below.ensures all) values c.args.input.now
-          c.requires.symbols (c.look_up_16-values.ensures values held) c.args.order words
-          c.words_of_two.ensures.words;
-      symbols = λ values held all.
-          symbols-of-input sizes entries (c.are_below.ensures all) values c.args.input.now
-          c.requires.symbols (c.look_up_16-values.ensures values held);
-      fit = λ all. words-fit sizes entries (c.are_below.ensures all) words c.words_of_two.ensures.fit;
-    }
+    words-found sizes (λ values. g.L.LookUp.holds values c.args.look_up.now)
+    (IsTrue c.are_below.result) c.args.order c.args.input.now c.look_up_16-values.result
+    c.words_of_two.result c.requires.symbols c.are_below.ensures c.look_up_16-values.ensures
+    c.words_of_two.ensures.words c.words_of_two.ensures.fit
 
 pub returns-in-4 : goal.returns-in-4
 returns-in-4 g c =
@@ -31,18 +23,10 @@ returns-in-4 g c =
       same_width = c.WIDTH-width.ensures;
       same_symbols = sym c.SYMBOLS.ensures ∙ c.in-4.is;
     } in
-    let entries = c.look_up_32-values.result in
-    let words = c.words_of_four.result in
-    record {
-      words = λ values held all.
-          words-of-input sizes entries (c.are_below-in-4.ensures all) values c.args.input.now
-          c.requires.symbols (c.look_up_32-values.ensures values held) c.args.order words
-          c.words_of_four.ensures.words;
-      symbols = λ values held all.
-          symbols-of-input sizes entries (c.are_below-in-4.ensures all) values c.args.input.now
-          c.requires.symbols (c.look_up_32-values.ensures values held);
-      fit = λ all. words-fit sizes entries (c.are_below-in-4.ensures all) words c.words_of_four.ensures.fit;
-    }
+    words-found sizes (λ values. g.L.LookUp.holds values c.args.look_up.now)
+    (IsTrue c.are_below-in-4.result) c.args.order c.args.input.now c.look_up_32-values.result
+    c.words_of_four.result c.requires.symbols c.are_below-in-4.ensures c.look_up_32-values.ensures
+    c.words_of_four.ensures.words c.words_of_four.ensures.fit
 
 pub returns-in_default : goal.returns-in_default
 returns-in_default g c =
@@ -57,18 +41,10 @@ returns-in_default g c =
         g.G.GroupSize.is_group.has_symbols,
       );
     } in
-    let entries = c.look_up_64-values.result in
-    let words = c.words_of_eight.result in
-    record {
-      words = λ values held all.
-          words-of-input sizes entries (c.are_below-in_default.ensures all) values c.args.input.now
-          c.requires.symbols (c.look_up_64-values.ensures values held) c.args.order words
-          c.words_of_eight.ensures.words;
-      symbols = λ values held all.
-          symbols-of-input sizes entries (c.are_below-in_default.ensures all) values c.args.input.now
-          c.requires.symbols (c.look_up_64-values.ensures values held);
-      fit = λ all. words-fit sizes entries (c.are_below-in_default.ensures all) words c.words_of_eight.ensures.fit;
-    }
+    words-found sizes (λ values. g.L.LookUp.holds values c.args.look_up.now)
+    (IsTrue c.are_below-in_default.result) c.args.order c.args.input.now c.look_up_64-values.result
+    c.words_of_eight.result c.requires.symbols c.are_below-in_default.ensures c.look_up_64-values.ensures
+    c.words_of_eight.ensures.words c.words_of_eight.ensures.fit
 
 pub bounds-input-0-in_default : goal.bounds-input-0-in_default
 bounds-input-0-in_default g c =
