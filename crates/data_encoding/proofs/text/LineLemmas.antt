@@ -1,7 +1,7 @@
 -- Texts in lines: their lengths, and one line after the other.
-use Rattle.std.proofs.Common.{◌≡◌, ◌≢◌, ℕ, zero, suc, ◌+◌, ◌*◌, ◌/◌, ◌<◌, ◌≤◌, Bool, true, false, Option, Some, None, IsSome, is_some, List, [], ◌∷◌, ◌++◌, length, refl, sym, ap, ◌∙◌, subst, arith, ⊎_elim, append-nil}
+use Rattle.std.proofs.Common.{◌≡◌, ◌≢◌, ℕ, zero, suc, ◌+◌, ◌*◌, ◌/◌, ◌<◌, ◌≤◌, Bool, true, false, Option, Some, None, IsSome, is_some, List, [], ◌∷◌, ◌++◌, length, refl, sym, ap, ◌∙◌, subst, arith, append-nil}
 use Rattle.std.proofs.Math.Nat.{le-mul_of_pos_right, mul-add, mul-le-mul_right, mul_assoc, zero-mul}
-use Rattle.std.proofs.lemmas.Bool.{cases_lt, false≢true}
+use Rattle.std.proofs.lemmas.Bool.{false≢true}
 use Rattle.std.proofs.lemmas.List.{nil_from_length}
 use Rattle.std.proofs.lemmas.Nat.{mul-le}
 use Rattle.std.specs.List.{AllByRecursion}
@@ -41,6 +41,18 @@ module _ (base : Base) (width : IsWidth base.width) (bytes : List ℕ) where
           runs-reach (group_symbols base.width) count (group_symbols-pos base.width width),
           same,
         )
+
+  -- nor than any number of whole groups that holds the data
+  pub padded-fits : (count : ℕ) → length bytes ≤ count * group_bytes base.width
+      → length (padded_text base bytes) ≤ count * group_symbols base.width
+  padded-fits count few =
+      omega (
+        arith,
+        padded-few,
+        mul-le-mul_right (group_symbols base.width)
+            (run_count-few (group_bytes base.width) (length bytes) count
+            (group_bytes-pos base.width width) few),
+      )
 
   -- and some where there are some data
   padded-some : 0 < length bytes → 0 < length (padded_text base bytes)
@@ -86,19 +98,10 @@ module _ (base : Base) (ruled : IsRuled base) (lines : Wrapping) (some : base.wr
         ∙ line-groups lines.column base.width ruled.is_width are.whole
 
     groups-some : 0 < groups
-    groups-some =
-        ⊎_elim {C = 0 < groups}
-        (λ (more : 0 < groups). more)
-        (λ (none : groups ≤ 0).
-        let no_groups : groups ≡ 0 = omega (arith, none) in
-        absurd (omega (
-          arith,
-          are.some,
-          column-is,
-          ap (λ n. n * group_symbols base.width) no_groups,
-          zero-mul (group_symbols base.width),
-        )))
-        (cases_lt 0 groups)
+    groups-some = by groups column-is where
+      by : (n : ℕ) → lines.column ≡ n * group_symbols base.width → 0 < n
+      by zero e = absurd (omega (arith, are.some, e, zero-mul (group_symbols base.width)))
+      by (suc n) e = omega arith
 
     pub alignment-some : 0 < alignment base
     alignment-some =
@@ -162,19 +165,17 @@ module _ (base : Base) (ruled : IsRuled base) (lines : Wrapping) (some : base.wr
     module _ (count : ℕ) (bytes : List ℕ) (few : length bytes ≤ count * alignment base) where
       pub padded-lines : length (padded_text base bytes) ≤ count * lines.column
       padded-lines =
-          let size = group_bytes base.width in
-          let symbols = group_symbols base.width in
-          let reach : length bytes ≤ count * groups * size =
-          omega (arith, few, ap (λ n. count * n) alignment-is, mul_assoc count groups size) in
-          let all : run_count size (length bytes) ≤ count * groups =
-          run_count-few size (length bytes) (count * groups)
-          (group_bytes-pos base.width ruled.is_width) reach in
           omega (
             arith,
-            padded-few base ruled.is_width bytes,
-            mul-le-mul_right symbols all,
+            padded-fits base ruled.is_width bytes (count * groups)
+                (omega (
+                  arith,
+                  few,
+                  ap (λ n. count * n) alignment-is,
+                  mul_assoc count groups (group_bytes base.width),
+                )),
             ap (λ n. count * n) column-is,
-            mul_assoc count groups symbols,
+            mul_assoc count groups (group_symbols base.width),
           )
 
       pub short-lines : length (text_of base bytes)
