@@ -1,7 +1,8 @@
 -- Whole groups of symbols alone.
-use Rattle.std.proofs.Common.{◌≡◌, ℕ, zero, suc, ◌+◌, ◌-◌, ◌*◌, ◌/◌, ◌<◌, ◌==◌, Bool, true, false, not, cond, ◌&&◌, List, [], ◌∷◌, ◌++◌, length, map, take, drop, None, refl, sym, ap, ◌∙◌, subst, arith, take-append-drop, length-take-le}
+use Rattle.std.proofs.Common.{◌≡◌, ℕ, zero, suc, ◌+◌, ◌-◌, ◌*◌, ◌/◌, ◌==◌, Bool, true, false, not, cond, ◌&&◌, List, [], ◌∷◌, length, map, take, drop, None, refl, sym, ap, ◌∙◌, subst, arith, take-append-drop, length-take-le}
 use Rattle.std.proofs.Math.Nat.{zero-mul, suc-mul}
-use Rattle.std.proofs.lemmas.List.{length-map, length-drop, drop_all, append-nil, nil_from_length}
+use Rattle.std.proofs.lemmas.List.{length-map, length-drop, drop_all, nil_from_length}
+use Rattle.std.proofs.lemmas.List.Folds.{flat_map-map}
 use Rattle.std.specs.Prelude.{flat_map}
 use Rattle.std.specs.List.{filter_map, list_any, position}
 use Rattle.std.proofs.Math.Bool.{and-false}
@@ -19,8 +20,8 @@ use Rattle.data_encoding.proofs.lists.EachLemmas.{all_parts}
 use Rattle.data_encoding.proofs.lists.EndLemmas.{AllSo}
 use Rattle.data_encoding.proofs.lists.ListLemmas.{AllFail, position-none, filter-all}
 use Rattle.data_encoding.proofs.lists.RunLemmas.{runs-nil, runs-append}
-use Rattle.data_encoding.proofs.grammar.UnpaddedGroupLemmas.{are_symbols, length-bits_of_values, PlainMeans-sound}
-use Rattle.data_encoding.proofs.grammar.GroupLemmas.{plain_fault-valid, whole-valid, GroupMeans-no_fault}
+use Rattle.data_encoding.proofs.grammar.UnpaddedGroupLemmas.{plain_fault-valid, are_symbols, length-bits_of_values, PlainMeans-sound}
+use Rattle.data_encoding.proofs.grammar.GroupLemmas.{whole-valid, GroupMeans-no_fault, GroupMeans-whole}
 use Rattle.data_encoding.proofs.grammar.PositionLemmas.{bytes-positioned_from, length-meanings, runs-meanings}
 use Rattle.data_encoding.proofs.grammar.SoundLemmas.{symbols-not_final}
 
@@ -74,14 +75,7 @@ module _ (base : Base) (width : IsWidth base.width) (group : List Positioned)
     by : (b : Bool) → is_padded base ≡ b → group_fault base (bytes_in group) ≡ None
     by true is =
         GroupMeans-no_fault base width is meant (symbol_bytes base meant)
-        (record {
-          symbols = meant;
-          padding = 0;
-          is_group = sym (append-nil meant);
-          is_whole = meant_len;
-          is_begun = subst (λ n. 0 < n) (sym meant_len) (group_symbols-pos base.width width);
-          means = PlainMeans-sound base width meant plain;
-        })
+        (GroupMeans-whole base width meant _ meant_len (PlainMeans-sound base width meant plain))
     by false is =
         ap (λ b. cond b (padded_fault_at base meant (count_before_padding meant))
         (plain_fault base meant)) is
@@ -147,13 +141,7 @@ AreSound-symbols base width (suc count) ks len symbols =
           (AreSound-symbols base width count back back_len parts.1),
     )
 
--- the bytes of groups are those of what their bytes mean
-pub joined-meanings : (base : Base) (gs : List (List Positioned))
-    → flat_map (symbol_bytes base) (map (meanings_in base) gs) ≡ flat_map (bytes_of_group base) gs
-joined-meanings base [] = refl
-joined-meanings base (g ∷ gs) = ap (λ l. bytes_of_group base g ++ l) (joined-meanings base gs)
-
--- so are those of a run, wherever it stands
+-- the bytes of a run are those of its groups, wherever it stands
 pub run_bytes-positioned : (base : Base) → IsWidth base.width → (start : ℕ) (part : List ℕ)
     → run_bytes base part
     ≡ flat_map (bytes_of_group base) (runs (group_symbols base.width) (positioned_from start part))
@@ -163,4 +151,4 @@ run_bytes-positioned base width start part =
     ap (run_bytes base) (sym (bytes-positioned_from start part))
     ∙ ap (flat_map (symbol_bytes base))
     (runs-meanings base size ks (group_symbols-pos base.width width))
-    ∙ joined-meanings base (runs size ks)
+    ∙ flat_map-map (symbol_bytes base) (meanings_in base) (runs size ks)
