@@ -118,15 +118,10 @@ module _ (base : Base) (width : IsWidth base.width) (group : List Character)
   inside-characters : IsInside (length group) (character_fault base group)
   inside-characters =
       let count = count_before_padding group in
-      inside-either (length group) (is_padded base) (padded_fault_at base group count)
-      (plain_fault base group)
-      (λ padded. inside-either (length group) (nat_lt (length group) (group_symbols base.width))
-      (faulty_at LengthFault 0)
-      (cond (count == 0 || not (is_valid_count base.width count)) (faulty_at PaddingFault count)
-      (symbols_fault base (take count group)))
+      inside-either _ (is_padded base) _ _
+      (λ padded. inside-either _ (nat_lt (length group) (group_symbols base.width)) _ _
       (λ short. some)
-      (λ whole. inside-either (length group) (count == 0 || not (is_valid_count base.width count))
-      (faulty_at PaddingFault count) (symbols_fault base (take count group))
+      (λ whole. inside-either _ (count == 0 || not (is_valid_count base.width count)) _ _
       (λ bad. inside-padding whole count (few_before group) bad)
       (λ good. inside-more (length (take count group)) (length group)
       (omega (arith, length-take-le count group (few_before group)))

@@ -19,6 +19,7 @@ use Rattle.data_encoding.specs.Fault.{symbol_bits, trailing_bits, symbol_bytes, 
 use Rattle.data_encoding.specs.declared.error.DecodeKind.TheVariants.{Length as LengthFault}
 use Rattle.data_encoding.proofs.digits.BitLemmas.{AreBits, AreBits-take, AreBits-flat_map, AreBits-bits_of, length-bits_of, length-pieces, number_of-bits_of}
 use Rattle.data_encoding.proofs.digits.ValueLemmas.{AreValuesOf-runs}
+use Rattle.data_encoding.proofs.lists.EachLemmas.{all_weaker}
 use Rattle.data_encoding.proofs.lists.ListLemmas.{AllFail, position-none, AllFail-position, list_any-none, AllFail-list_any, zeros}
 use Rattle.data_encoding.proofs.lists.RunLemmas.{runs-flat_map}
 
@@ -89,14 +90,6 @@ no_fault-branches false fault o h = (refl, h)
 both_false : (a b : Bool) → a && b ≡ false → a ≡ true → b ≡ false
 both_false true b h e = h
 both_false false b h e = cc
-
-zero_bit : (bit : ℕ) → not (bit == 0) ≡ false → bit ≡ 0
-zero_bit bit h = grind (arith, nat_tests)
-
-zero_bits : (bits : List ℕ) → AllFail (λ bit. not (bit == 0)) bits
-    → AllByRecursion (λ bit. bit ≡ 0) bits
-zero_bits [] h = tt
-zero_bits (bit ∷ bits) h = (zero_bit bit h.0, zero_bits bits h.1)
 
 zeros_pass : (n : ℕ) → AllFail (λ bit. not (bit == 0)) (replicate n 0)
 zeros_pass zero = tt
@@ -177,7 +170,9 @@ module _ (base : Base) (width : IsWidth base.width) (group : List Character) whe
         rest_is_short = short_rest bits base.width (length group) bits_len valid.0;
         rest_is_zero =
             λ e. zeros rest
-            (zero_bits rest (AllFail-list_any (λ bit. not (bit == 0)) rest
+            (all_weaker (λ bit. not (bit == 0) ≡ false) (λ bit. bit ≡ 0)
+            (λ bit h. grind (arith, nat_tests)) rest
+            (AllFail-list_any (λ bit. not (bit == 0)) rest
             (both_false base.checks_trailing_bits _ zero_rest.0 e)));
         are_bytes = All-from_recursion (λ byte. byte < 256) (symbol_bytes base group) bytes.below;
       }

@@ -16,7 +16,7 @@ use Rattle.data_encoding.specs.Lengths.{is_valid_count}
 use Rattle.data_encoding.specs.Fault.{bytes_of_group, count_before_padding, fault_at_first, faulty_at, group_fault, located, padded_fault_at, plain_fault, symbol_bits, symbol_bytes, trailing_bits, trailing_fault}
 use Rattle.data_encoding.specs.Decoding.{AreSound, run_bytes}
 use Rattle.data_encoding.proofs.digits.WidthLemmas.{group_bits, group_symbols-pos}
-use Rattle.data_encoding.proofs.lists.EachLemmas.{all_parts}
+use Rattle.data_encoding.proofs.lists.EachLemmas.{all_parts, all_weaker}
 use Rattle.data_encoding.proofs.lists.EndLemmas.{AllSo}
 use Rattle.data_encoding.proofs.lists.ListLemmas.{AllFail, position-none, filter-all}
 use Rattle.data_encoding.proofs.lists.RunLemmas.{runs-nil, runs-append}
@@ -90,12 +90,6 @@ symbol_kept Padding h = cc
 symbol_kept Ignored h = cc
 symbol_kept Invalid h = cc
 
-each_kept : (base : Base) (ks : List Positioned)
-    → AllSo (λ k. is_symbol (meaning base k.byte)) ks
-    → AllSo (λ k. not (is_ignored (meaning base k.byte))) ks
-each_kept base [] h = tt
-each_kept base (k ∷ ks) h = (symbol_kept (meaning base k.byte) h.0, each_kept base ks h.1)
-
 pub symbols-positioned : (base : Base) (start : ℕ) (part : List ℕ)
     → AllSo (λ byte. is_symbol (meaning base byte)) part
     → AllSo (λ k. is_symbol (meaning base k.byte)) (positioned_from start part)
@@ -109,7 +103,10 @@ pub kept_in-symbols : (base : Base) (start : ℕ) (part : List ℕ)
 kept_in-symbols base start part h =
     filter-all (λ (k : Positioned). not (is_ignored (meaning base k.byte)))
     (positioned_from start part)
-    (each_kept base (positioned_from start part) (symbols-positioned base start part h))
+    (all_weaker (λ k. is_symbol (meaning base k.byte) ≡ true)
+    (λ k. not (is_ignored (meaning base k.byte)) ≡ true)
+    (λ k h. symbol_kept (meaning base k.byte) h) (positioned_from start part)
+    (symbols-positioned base start part h))
 
 -- whole groups of symbols are sound
 pub AreSound-symbols : (base : Base) → IsWidth base.width → (count : ℕ) (ks : List Positioned)

@@ -21,7 +21,7 @@ run_count-add size n h =
     let regroup : size + n + (size - 1) ≡ size + (n + (size - 1)) = omega arith in
     ap (λ k. k / size) regroup ∙ add-div_left (n + (size - 1)) h ∙ omega arith
 
-run_count-short : (size n : ℕ) → 0 < n → n ≤ size → run_count size n ≡ 1
+pub run_count-short : (size n : ℕ) → 0 < n → n ≤ size → run_count size n ≡ 1
 run_count-short size n h k =
     div-eq_of_lt-le size (omega arith) (omega arith)
 

@@ -1,5 +1,5 @@
 -- Texts in lines: their lengths, and one line after the other.
-use Rattle.std.proofs.Common.{◌≡◌, ◌≢◌, ℕ, zero, suc, ◌+◌, ◌*◌, ◌/◌, ◌<◌, ◌≤◌, Bool, true, false, Option, Some, None, IsSome, is_some, List, [], ◌∷◌, ◌++◌, length, refl, sym, ap, ◌∙◌, subst, arith, append-nil}
+use Rattle.std.proofs.Common.{◌≡◌, ◌≢◌, ℕ, zero, suc, ◌+◌, ◌*◌, ◌/◌, ◌<◌, ◌≤◌, Bool, true, false, Option, Some, None, IsSome, is_some, List, [], ◌++◌, length, refl, sym, ap, ◌∙◌, subst, arith, append-nil}
 use Rattle.std.proofs.Math.Nat.{le-mul_of_pos_right, mul-add, mul-le-mul_right, mul_assoc, zero-mul}
 use Rattle.std.proofs.lemmas.Bool.{false≢true}
 use Rattle.std.proofs.lemmas.List.{nil_from_length}
@@ -11,6 +11,7 @@ use Rattle.data_encoding.specs.Encoding.{EncodingTables, KeepsRules, KeepsWrappi
 use Rattle.data_encoding.specs.Lengths.{align_by, alignment}
 use Rattle.data_encoding.specs.Text.{in_lines, padded_text, text_of}
 use Rattle.data_encoding.proofs.digits.WidthLemmas.{group_bytes-few, group_bytes-pos, group_symbols-few, group_symbols-pos}
+use Rattle.data_encoding.proofs.lists.EachLemmas.{all_weaker}
 use Rattle.data_encoding.proofs.lists.RunLemmas.{all_ended, ended-short, length-ended, run_count, run_count-few, run_count-some, run_count-whole, runs-reach}
 use Rattle.data_encoding.proofs.judgement.RuleLemmas.{AreLines, IsRuled, IsRuledWrapping}
 use Rattle.data_encoding.proofs.tables.TableLemmas.{padding-seen, symbols-seen}
@@ -246,11 +247,6 @@ text_of-line base ruled bytes any few = by base.wrapping refl where
   by None is = text_of-unwrapped base bytes is ∙ sym (append-nil (padded_text base bytes))
   by (Some lines) is = one-line base ruled lines is bytes few any
 
-first-of-both : (P Q : ℕ → Type 0) (xs : List ℕ) → AllByRecursion (λ x. P x × Q x) xs
-    → AllByRecursion P xs
-first-of-both P Q [] h = tt
-first-of-both P Q (x ∷ xs) h = (h.0.0, first-of-both P Q xs h.1)
-
 -- a text is ASCII with its separators too
 ascii-text_of : (base : Base) → IsRuled base → (bytes : List ℕ)
     → AllByRecursion (λ byte. byte < 128) (padded_text base bytes)
@@ -261,8 +257,8 @@ ascii-text_of base ruled bytes ascii = by base.wrapping ruled.wrapping where
   by None rule = ascii
   by (Some lines) rule =
       all_ended (λ byte. byte < 128) lines.separator
-      (first-of-both (λ byte. byte < 128) (λ byte. meaning base byte ≡ Ignored) lines.separator
-      rule.ignored)
+      (all_weaker (λ byte. (byte < 128) × (meaning base byte ≡ Ignored)) (λ byte. byte < 128)
+      (λ byte both. both.0) lines.separator rule.ignored)
       lines.column (run_count lines.column (length (padded_text base bytes)))
       (padded_text base bytes) ascii
 
