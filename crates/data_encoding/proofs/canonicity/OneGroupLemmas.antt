@@ -12,12 +12,12 @@ use Rattle.data_encoding.proofs.grammar.PositionLemmas.{runs-meanings}
 use Rattle.data_encoding.proofs.grammar.SameBytesLemmas.{Means-same, bytes-kept_in}
 use Rattle.data_encoding.proofs.lists.EachLemmas.{all_joined}
 use Rattle.data_encoding.proofs.lists.ListLemmas.{AllFail}
-use Rattle.data_encoding.proofs.lists.RunLemmas.{runs-short}
+use Rattle.data_encoding.proofs.lists.RunLemmas.{run_count-some, runs-short}
 use Rattle.data_encoding.proofs.judgement.RuleLemmas.{IsRuled, IsRuledPadding}
 use Rattle.data_encoding.proofs.text.KeptTextLemmas.{bytes-kept_text, filter-kept, none_ignored}
 use Rattle.data_encoding.proofs.text.LastGroupLemmas.{AreFillers, AreFillers-replicate, GroupMeans-fillers, length-filled_once}
 use Rattle.data_encoding.proofs.text.PlainTextLemmas.{length-plain_text}
-use Rattle.data_encoding.proofs.text.TextMeaningLemmas.{Means-text_of, few_symbols, some_symbols}
+use Rattle.data_encoding.proofs.text.TextMeaningLemmas.{Means-text_of, few_symbols}
 
 -- symbols are not ignored
 symbols_kept : (base : Base) (text values : List ℕ)
@@ -126,7 +126,7 @@ module _ (base : Base) (ruled : IsRuled base) where
   pub zero_some : 0 < length (plain_text base (0 ∷ []))
   zero_some =
       subst (λ n. 0 < n) (sym (length-plain_text base (0 ∷ []) width.some))
-      (some_symbols base.width width 1 (omega arith))
+      (run_count-some base.width 8 width.some (omega arith))
 
   pub zero_few : length (plain_text base (0 ∷ [])) ≤ group_symbols base.width
   zero_few =

@@ -3,7 +3,7 @@
 use Rattle.std.proofs.Common.{◌≡◌, ◌↔◌, ℕ, ◌+◌, ◌*◌, ◌%◌, ◌<◌, ◌==◌, Bool, true, false, not, ◌&&◌, List, [], ◌∷◌, ◌++◌, length, map, replicate, Option, Some, None, is_some, unwrap_or, refl, sym, ap, ◌∙◌, subst, arith, zero, suc, nat_lt, take, drop, length-take-le, take-append-drop}
 use Rattle.std.proofs.lemmas.Bool.{and_parts, eqb-true}
 use Rattle.std.proofs.lemmas.List.{append-nil, length-map, map-append, nil_from_length}
-use Rattle.std.proofs.Math.Nat.{mod_self, mul-mod_left, mul_comm}
+use Rattle.std.proofs.Math.Nat.{mod-eq_of_lt, mod_self, mul-mod_left, mul_comm}
 use Rattle.std.specs.Prelude.{flat_map}
 use Rattle.std.specs.List.{list_any}
 use Rattle.std.proofs.lemmas.Bool.Decides.{nat_tests}
@@ -27,8 +27,7 @@ use Rattle.data_encoding.proofs.lists.ListLemmas.{parts_same}
 use Rattle.data_encoding.proofs.lists.RunLemmas.{flat_map-runs}
 use Rattle.data_encoding.proofs.judgement.RuleLemmas.{IsRuled}
 use Rattle.data_encoding.proofs.text.PaddedTextLemmas.{text_of-unwrapped}
-use Rattle.data_encoding.proofs.text.PlainTextLemmas.{plain_text-join, plain_text-nil}
-use Rattle.data_encoding.proofs.text.TextMeaningLemmas.{filled-behind, filled-nil}
+use Rattle.data_encoding.proofs.text.PlainTextLemmas.{filled-join, filled-whole, plain_text-join, plain_text-nil}
 
 -- What a base keeps that has no cause of a second text but a translated byte.
 record HasOneForm (base : Base) : Type 0 where
@@ -167,13 +166,15 @@ module _ (base : Base) (ruled : IsRuled base) (one : HasOneForm base) where
           ∙ mul-mod_left size base.width in
           ap (λ l. l ++ filled more)
           (group_is ∙ ap (λ n. text ++ replicate n character) none ∙ append-nil text)
-          ∙ sym (filled-behind character size text (plain_text base more) (count ∙ all))
+          ∙ sym (filled-join character size text (plain_text base more)
+          (group_symbols-pos base.width width)
+          (ap (λ n. n % size) (count ∙ all) ∙ mod_self size))
           ∙ ap (filled_with character size) (sym (plain_text-join base piece more width.some exact))
 
     filled_none : (bytes : List ℕ) → bytes ≡ [] → filled bytes ≡ []
     filled_none bytes none =
         ap filled none ∙ ap (filled_with character size) (plain_text-nil base width.some)
-        ∙ filled-nil character size (group_symbols-pos base.width width)
+        ∙ filled-whole character size [] (mod-eq_of_lt (group_symbols-pos base.width width))
 
     groups_are : (gs : List (List Positioned)) (bytes : List ℕ)
         → GroupsMean base (map (meanings_in base) gs) bytes

@@ -16,8 +16,8 @@ use Rattle.data_encoding.specs.Lengths.{is_valid_count, greatest_valid_count, gr
 use Rattle.data_encoding.specs.Tables.{HoldsValues}
 use Rattle.data_encoding.proofs.lists.EndLemmas.{AllSo, count_before_end-at, count_before_end-map, end-passes}
 use Rattle.data_encoding.proofs.lists.ListLemmas.{list_any-none}
-use Rattle.data_encoding.proofs.grammar.GroupLemmas.{all_padding, any_padding, bytes_before_padding, inside-padding, plain_fault-valid, symbols_alone}
-use Rattle.data_encoding.proofs.grammar.UnpaddedGroupLemmas.{are_symbols}
+use Rattle.data_encoding.proofs.grammar.GroupLemmas.{all_padding, any_padding, bytes_before_padding, inside-padding, symbols_alone}
+use Rattle.data_encoding.proofs.grammar.UnpaddedGroupLemmas.{plain_fault-valid, are_symbols}
 use Rattle.data_encoding.proofs.decoding.TrailingBitLemmas.{no_symbol-none, no_symbol-some}
 
 -- where the padding of a group begins, by its table

@@ -22,7 +22,8 @@ use Rattle.data_encoding.proofs.lists.RunLemmas.{runs-nil, runs-append, runs-joi
 use Rattle.data_encoding.proofs.grammar.PositionLemmas.{length-kept_plain, length-positioned_from, filter-plain, length-meanings}
 use Rattle.data_encoding.proofs.grammar.KeptLemmas.{between, kept-split, kept_from-more, kept_in-stands, length-between}
 use Rattle.data_encoding.proofs.grammar.LengthLemmas.{length_fault-none, length_fault-valid, valid-whole, whole-length}
-use Rattle.data_encoding.proofs.grammar.GroupLemmas.{group_fault-inside, plain_fault-valid, located-inside}
+use Rattle.data_encoding.proofs.grammar.GroupLemmas.{group_fault-inside, located-inside}
+use Rattle.data_encoding.proofs.grammar.UnpaddedGroupLemmas.{plain_fault-valid}
 use Rattle.data_encoding.proofs.grammar.SoundLemmas.{first-AreSound, sound-AreSound, sound-all, first-none}
 use Rattle.data_encoding.proofs.grammar.MeaningLemmas.{Means-no_fault, sound_bytes-Means, decoded_len-Means}
 use Rattle.data_encoding.proofs.decoding.ProgressLemmas.{IsNext, whole-before, written_len, sound_bytes-front}

@@ -18,9 +18,9 @@ use Rattle.data_encoding.specs.Grammar.{Positioned, PlainMeans, GroupMeans, byte
 use Rattle.data_encoding.specs.Laws.{further}
 use Rattle.data_encoding.specs.Lengths.{is_valid_count, greatest_valid_count}
 use Rattle.data_encoding.specs.Fault.{character_fault, count_before_padding, fault_at_first, faulty_at, group_fault, located, padded_fault_at, plain_fault, position_of, symbol_bytes, symbols_fault, trailing_bits, trailing_fault}
-use Rattle.data_encoding.proofs.digits.WidthLemmas.{by_width}
+use Rattle.data_encoding.proofs.digits.WidthLemmas.{by_width, group_symbols-pos}
 use Rattle.data_encoding.proofs.grammar.PositionLemmas.{length-meanings}
-use Rattle.data_encoding.proofs.grammar.UnpaddedGroupLemmas.{PlainMeans-sound, PlainMeans-valid, PlainMeans-bytes, PlainMeans-no_fault}
+use Rattle.data_encoding.proofs.grammar.UnpaddedGroupLemmas.{no_fault-branches, plain_fault-valid, PlainMeans-sound, PlainMeans-valid, PlainMeans-bytes, PlainMeans-no_fault}
 use Rattle.data_encoding.proofs.lists.ListLemmas.{AllFail, list_any-none}
 use Rattle.data_encoding.proofs.lists.EndLemmas.{AllSo, count_before_end-is, end-passes}
 
@@ -68,14 +68,6 @@ inside-symbols : (base : Base) (group : List Character)
 inside-symbols base group =
     inside-position (λ m. not (is_symbol m)) group (trailing_fault base group)
     (inside-trailing base group)
-
--- a group of a valid number has the fault of its symbols
-pub plain_fault-valid : (base : Base) (group : List Character)
-    → is_valid_count base.width (length group) ≡ true
-    → plain_fault base group ≡ symbols_fault base group
-plain_fault-valid base group h =
-    ap (λ b. cond b (symbols_fault base group)
-    (faulty_at LengthFault (greatest_valid_count base.width (length group)))) h
 
 -- what is taken off a count that is not valid
 some_over : (width : ℕ) → IsWidth width → (bits : ℕ) → width ≤ bits → 1 ≤ bits / width
@@ -126,15 +118,10 @@ module _ (base : Base) (width : IsWidth base.width) (group : List Character)
   inside-characters : IsInside (length group) (character_fault base group)
   inside-characters =
       let count = count_before_padding group in
-      inside-either (length group) (is_padded base) (padded_fault_at base group count)
-      (plain_fault base group)
-      (λ padded. inside-either (length group) (nat_lt (length group) (group_symbols base.width))
-      (faulty_at LengthFault 0)
-      (cond (count == 0 || not (is_valid_count base.width count)) (faulty_at PaddingFault count)
-      (symbols_fault base (take count group)))
+      inside-either _ (is_padded base) _ _
+      (λ padded. inside-either _ (nat_lt (length group) (group_symbols base.width)) _ _
       (λ short. some)
-      (λ whole. inside-either (length group) (count == 0 || not (is_valid_count base.width count))
-      (faulty_at PaddingFault count) (symbols_fault base (take count group))
+      (λ whole. inside-either _ (count == 0 || not (is_valid_count base.width count)) _ _
       (λ bad. inside-padding whole count (few_before group) bad)
       (λ good. inside-more (length (take count group)) (length group)
       (omega (arith, length-take-le count group (few_before group)))
@@ -169,6 +156,19 @@ pub located-further : (ks js : List Positioned) (count : ℕ) (o : Option GroupF
 located-further ks js count None inside behind = refl
 located-further ks js count (Some fault) inside behind =
     ap (λ n. Some (record { position = n; kind = fault.kind })) (behind fault.index inside)
+
+-- a whole group of symbols means what they mean
+pub GroupMeans-whole : (base : Base) → IsWidth base.width → (group : List Character)
+    → (bytes : List ℕ) → length group ≡ group_symbols base.width → PlainMeans base group bytes
+    → GroupMeans base group bytes
+GroupMeans-whole base width group bytes whole means = record {
+  symbols = group;
+  padding = 0;
+  is_group = sym (append-nil group);
+  is_whole = whole;
+  is_begun = omega (arith, whole, group_symbols-pos base.width width);
+  means = means;
+}
 
 -- A group of a padded base.
 
@@ -212,11 +212,6 @@ bytes_before_padding base symbols count =
     (filter_map-append value_of symbols (replicate count Padding)
     ∙ ap (λ l. filter_map value_of symbols ++ l) (no_values count)
     ∙ append-nil (filter_map value_of symbols))
-
-no_fault-branches : {A : Type 0} (b : Bool) (fault : A) (o : Option A)
-    → cond b (Some fault) o ≡ None → (b ≡ false) × (o ≡ None)
-no_fault-branches true fault o h = cc
-no_fault-branches false fault o h = (refl, h)
 
 -- the symbols of a group, and the padding behind them
 padding-behind : (group : List Character)

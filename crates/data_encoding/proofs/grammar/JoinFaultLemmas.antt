@@ -8,14 +8,13 @@ use Rattle.data_encoding.specs.declared.error.DecodeKind.TheVariants.{Length as 
 use Rattle.data_encoding.specs.Base.{Base, IsWidth, meaning, is_ignored, is_padded, ignores_some, group_symbols, is_padding}
 use Rattle.data_encoding.specs.Bits.{runs}
 use Rattle.data_encoding.specs.Grammar.{Positioned, kept, groups, is_final, Means, kept_in, bytes_in}
-use Rattle.data_encoding.specs.Lengths.{greatest_valid_count, greatest_valid_length, is_valid_count, is_valid_length, length_fault}
+use Rattle.data_encoding.specs.Lengths.{greatest_valid_count, greatest_valid_length, is_valid_length, length_fault}
 use Rattle.data_encoding.specs.Fault.{bytes_of_group, fault_after, fault_of, first_after, first_fault, or_else, position_of, sound_after, sound_bytes, group_fault, located, symbol_bytes}
 use Rattle.data_encoding.specs.Laws.{MayBeFollowed, further}
 use Rattle.data_encoding.specs.Decoding.{AreSound}
 use Rattle.data_encoding.proofs.digits.WidthLemmas.{by_width, group_symbols-pos}
 use Rattle.data_encoding.proofs.grammar.GroupLemmas.{group_fault-inside, located-further}
 use Rattle.data_encoding.proofs.grammar.JoinLemmas.{followed, joined}
-use Rattle.data_encoding.proofs.grammar.LengthLemmas.{greatest_valid_length-by, is_valid_length-by}
 use Rattle.data_encoding.proofs.grammar.MeaningLemmas.{no_fault-Means, sound_bytes-Means}
 use Rattle.data_encoding.proofs.grammar.PositionLemmas.{length-kept_plain}
 use Rattle.data_encoding.proofs.grammar.SoundLemmas.{AreSound-none, ends_after, first-AreSound, neither_fault, sound-AreSound, sound-all}
@@ -49,49 +48,32 @@ is_some-further count (Some error) = refl
 
 -- What stands behind whole groups is as valid as alone.
 
-count_behind : (width : ℕ) → IsWidth width → (m n : ℕ) → m % group_symbols width ≡ 0
-    → is_valid_count width (m + n) ≡ is_valid_count width n
-count_behind width is m n h = ap (λ r. nat_lt r width) (bits width is m n h) where
-  bits : (width : ℕ) → IsWidth width → (m n : ℕ) → m % group_symbols width ≡ 0
-      → width * (m + n) % 8 ≡ width * n % 8
-  bits =
-      by_width
-      (λ w. (m n : ℕ) → m % group_symbols w ≡ 0 → w * (m + n) % 8 ≡ w * n % 8)
-      (λ m n h. omega (arith, h)) (λ m n h. omega (arith, h)) (λ m n h. omega (arith, h))
-      (λ m n h. omega (arith, h)) (λ m n h. omega (arith, h)) (λ m n h. omega (arith, h))
-
-greatest_count_behind : (width : ℕ) → IsWidth width → (m n : ℕ) → m % group_symbols width ≡ 0
-    → greatest_valid_count width (m + n) ≡ m + greatest_valid_count width n
-greatest_count_behind =
-    by_width
-    (λ w. (m n : ℕ) → m % group_symbols w ≡ 0
-    → greatest_valid_count w (m + n) ≡ m + greatest_valid_count w n)
-    (λ m n h. omega (arith, h)) (λ m n h. omega (arith, h)) (λ m n h. omega (arith, h))
-    (λ m n h. omega (arith, h)) (λ m n h. omega (arith, h)) (λ m n h. omega (arith, h))
-
-whole_behind : (width : ℕ) → IsWidth width → (m n : ℕ) → m % group_symbols width ≡ 0
-    → ((m + n) % group_symbols width ≡ n % group_symbols width)
+-- its bits and the greatest valid count, and the part of a group and the whole groups
+abbrev IsBehind : ℕ → ℕ → ℕ → Type 0
+IsBehind width m n =
+    (width * (m + n) % 8 ≡ width * n % 8)
+    × (greatest_valid_count width (m + n) ≡ m + greatest_valid_count width n)
+    × ((m + n) % group_symbols width ≡ n % group_symbols width)
     × ((m + n) / group_symbols width * group_symbols width
     ≡ m + n / group_symbols width * group_symbols width)
-whole_behind =
-    by_width
-    (λ w. (m n : ℕ) → m % group_symbols w ≡ 0
-    → ((m + n) % group_symbols w ≡ n % group_symbols w)
-    × ((m + n) / group_symbols w * group_symbols w
-    ≡ m + n / group_symbols w * group_symbols w))
-    (λ m n h. (omega (arith, h), omega (arith, h))) (λ m n h. (omega (arith, h), omega (arith, h)))
-    (λ m n h. (omega (arith, h), omega (arith, h))) (λ m n h. (omega (arith, h), omega (arith, h)))
-    (λ m n h. (omega (arith, h), omega (arith, h))) (λ m n h. (omega (arith, h), omega (arith, h)))
 
-further_if : (count : ℕ) (ignores valid : Bool) (position : ℕ)
-    → cond (not ignores && not valid)
-    (Some (record { position = count + position; kind = LengthFault })) None
+is_behind : (width : ℕ) → IsWidth width → (m n : ℕ) → m % group_symbols width ≡ 0
+    → IsBehind width m n
+is_behind =
+    by_width (λ w. (m n : ℕ) → m % group_symbols w ≡ 0 → IsBehind w m n)
+    (λ m n h. (omega arith, omega arith, omega arith, omega arith))
+    (λ m n h. (omega arith, omega arith, omega arith, omega arith))
+    (λ m n h. (omega arith, omega arith, omega arith, omega arith))
+    (λ m n h. (omega arith, omega arith, omega arith, omega arith))
+    (λ m n h. (omega arith, omega arith, omega arith, omega arith))
+    (λ m n h. (omega arith, omega arith, omega arith, omega arith))
+
+further_if : (count position : ℕ) (valid : Bool)
+    → cond (not valid) (Some (record { position = count + position; kind = LengthFault })) None
     ≡ further count
-    (cond (not ignores && not valid) (Some (record { position = position; kind = LengthFault }))
-    None)
-further_if count true valid position = refl
-further_if count false true position = refl
-further_if count false false position = refl
+    (cond (not valid) (Some (record { position = position; kind = LengthFault })) None)
+further_if count position true = refl
+further_if count position false = refl
 
 module _ (base : Base) (width : IsWidth base.width) where
   abbrev size : ℕ
@@ -99,28 +81,18 @@ module _ (base : Base) (width : IsWidth base.width) where
 
   pub valid_behind : (m n : ℕ) → m % size ≡ 0
       → is_valid_length base (m + n) ≡ is_valid_length base n
-  valid_behind m n h = by (is_padded base) refl where
-    by : (b : Bool) → is_padded base ≡ b → is_valid_length base (m + n) ≡ is_valid_length base n
-    by true is =
-        is_valid_length-by base (m + n) true is
-        ∙ ap (λ r. r == 0) (whole_behind base.width width m n h).0
-        ∙ sym (is_valid_length-by base n true is)
-    by false is =
-        is_valid_length-by base (m + n) false is ∙ count_behind base.width width m n h
-        ∙ sym (is_valid_length-by base n false is)
+  valid_behind m n h =
+      let is = is_behind base.width width m n h in
+      λ i. cond (is_padded base) (is.2 i == 0) (nat_lt (is.0 i) base.width)
 
   greatest_behind : (m n : ℕ) → m % size ≡ 0
       → greatest_valid_length base (m + n) ≡ m + greatest_valid_length base n
-  greatest_behind m n h = by (is_padded base) refl where
-    by : (b : Bool) → is_padded base ≡ b
-        → greatest_valid_length base (m + n) ≡ m + greatest_valid_length base n
-    by true is =
-        greatest_valid_length-by base (m + n) true is ∙ (whole_behind base.width width m n h).1
-        ∙ ap (λ k. m + k) (sym (greatest_valid_length-by base n true is))
-    by false is =
-        greatest_valid_length-by base (m + n) false is
-        ∙ greatest_count_behind base.width width m n h
-        ∙ ap (λ k. m + k) (sym (greatest_valid_length-by base n false is))
+  greatest_behind m n h = by (is_padded base) where
+    by : (b : Bool)
+        → cond b ((m + n) / size * size) (greatest_valid_count base.width (m + n))
+        ≡ m + cond b (n / size * size) (greatest_valid_count base.width n)
+    by true = (is_behind base.width width m n h).3
+    by false = (is_behind base.width width m n h).1
 
   pub length_fault-behind : (m n : ℕ) → (ignores_some base ≡ false → m % size ≡ 0)
       → length_fault base (m + n) ≡ further m (length_fault base n)
@@ -136,7 +108,7 @@ module _ (base : Base) (width : IsWidth base.width) where
         let greatest = greatest_behind m n (whole is) in
         (λ i. cond (not (valid i))
         (Some (record { position = greatest i; kind = LengthFault })) None)
-        ∙ further_if m false (is_valid_length base n) (greatest_valid_length base n)
+        ∙ further_if m (greatest_valid_length base n) (is_valid_length base n)
 
   -- the kept bytes of a part that stands further on
   pub kept_in-moved : (count start : ℕ) (part : List ℕ)

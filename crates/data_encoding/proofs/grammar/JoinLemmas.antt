@@ -2,9 +2,9 @@
 use Rattle.std.proofs.Common.{◌≡◌, ℕ, ◌⊎◌, flat_map, ◌+◌, ◌*◌, ◌%◌, ◌<◌, ◌==◌, Bool, true, false, not, ◌&&◌, List, [], ◌∷◌, ◌++◌, length, Option, Some, None, is_some, inl, inr, refl, sym, ap, ◌∙◌, subst, arith, append_assoc, ⊎_elim, map}
 use Rattle.std.proofs.Math.Nat.{mul-mod_left}
 use Rattle.std.proofs.lemmas.Bool.{false≢true}
-use Rattle.std.proofs.lemmas.List.Elements.{All-filter, recursion_from_All}
+use Rattle.std.proofs.lemmas.List.Elements.{All-filter, All-map, recursion_from_All}
 use Rattle.std.specs.Prelude.{All}
-use Rattle.std.specs.List.{filter, list_any}
+use Rattle.std.specs.List.{list_any}
 use Rattle.std.proofs.Math.Bool.{and-false}
 use Rattle.data_encoding.proofs.grammar.PositionLemmas.{length-meanings, meanings-append}
 use Rattle.data_encoding.specs.declared.encoding.Character.{Character}
@@ -31,17 +31,16 @@ none_left =
     by_width
     (λ w. (symbols bytes rest : ℕ) → 8 % w ≡ 0 → w * symbols ≡ 8 * bytes + rest → rest < w
     → rest ≡ 0)
-    (λ s b r e h k. omega (arith, h, k)) (λ s b r e h k. omega (arith, h, k))
-    (λ s b r e h k. omega (arith, e)) (λ s b r e h k. omega (arith, h, k))
-    (λ s b r e h k. omega (arith, e)) (λ s b r e h k. omega (arith, e))
+    (λ s b r e h k. omega arith) (λ s b r e h k. omega arith) (λ s b r e h k. omega arith)
+    (λ s b r e h k. omega arith) (λ s b r e h k. omega arith) (λ s b r e h k. omega arith)
 
 -- symbols of whole bytes are whole groups
 whole_symbols : (width : ℕ) → IsWidth width → (symbols bytes : ℕ) → width * symbols ≡ 8 * bytes
     → symbols % group_symbols width ≡ 0
 whole_symbols =
     by_width (λ w. (symbols bytes : ℕ) → w * symbols ≡ 8 * bytes → symbols % group_symbols w ≡ 0)
-    (λ s b h. omega (arith, h)) (λ s b h. omega (arith, h)) (λ s b h. omega (arith, h))
-    (λ s b h. omega (arith, h)) (λ s b h. omega (arith, h)) (λ s b h. omega (arith, h))
+    (λ s b h. omega arith) (λ s b h. omega arith) (λ s b h. omega arith)
+    (λ s b h. omega arith) (λ s b h. omega arith) (λ s b h. omega arith)
 
 module _ (base : Base) (ruled : IsRuled base) where
   width : IsWidth base.width
@@ -88,10 +87,6 @@ module _ (base : Base) (ruled : IsRuled base) where
         no_final gs parts.1,
       )
 
-  of_bytes : (bytes : List ℕ) → AllFail pads bytes → AllFail is_padding (map (meaning base) bytes)
-  of_bytes [] h = tt
-  of_bytes (byte ∷ bytes) h = (h.0, of_bytes bytes h.1)
-
   module _ (text after bytes more : List ℕ) where
     abbrev rest : List Positioned
     rest = kept_in base (0 + length text) after
@@ -106,9 +101,9 @@ module _ (base : Base) (ruled : IsRuled base) where
         → AllFail is_padding (meanings_in base (kept base text))
     none_kept h =
         let keeps : ℕ → Bool = λ byte. not (is_ignored (meaning base byte)) in
-        of_bytes (bytes_in (kept base text))
-        (subst (AllFail pads) (sym (bytes-kept_in base 0 text))
-        (recursion_from_All (λ byte. pads byte ≡ false) (filter keeps text)
+        recursion_from_All (λ m. is_padding m ≡ false) (meanings_in base (kept base text))
+        (All-map (λ m. is_padding m ≡ false) (meaning base) (bytes_in (kept base text))
+        (subst (All (λ byte. pads byte ≡ false)) (sym (bytes-kept_in base 0 text))
         (All-filter keeps (λ byte. pads byte ≡ false) text h)))
 
     none_final-kept : AllFail is_padding (meanings_in base (kept base text))

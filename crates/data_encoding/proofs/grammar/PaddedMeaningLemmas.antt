@@ -1,8 +1,7 @@
 -- A text of a padded base means something exactly where it has no fault.
-use Rattle.std.proofs.Common.{◌≡◌, ℕ, zero, suc, ◌+◌, ◌*◌, ◌/◌, ◌%◌, ◌≤◌, Bool, true, false, List, [], ◌∷◌, ◌++◌, length, drop, None, refl, sym, ap, ◌∙◌, subst, arith, length-append, length-take, replicate, map}
+use Rattle.std.proofs.Common.{◌≡◌, ℕ, ◌+◌, ◌*◌, ◌/◌, ◌%◌, ◌<◌, ◌≤◌, Bool, true, false, List, [], ◌∷◌, ◌++◌, length, None, refl, sym, ap, ◌∙◌, subst, arith, length-append, replicate, map}
 use Rattle.std.proofs.Math.Nat.{mul-mod_left, mul-le-mul_right, mul-le-mul_left, add_comm, zero-mul, suc-mul, le-div_iff_mul-le}
 use Rattle.std.specs.Prelude.{flat_map}
-use Rattle.std.specs.Simd.{first_chunks}
 use Rattle.std.specs.List.{AllByRecursion}
 use Rattle.data_encoding.specs.declared.encoding.Character.TheVariants.{Padding}
 use Rattle.data_encoding.specs.declared.encoding.Character.{Character}
@@ -12,19 +11,12 @@ use Rattle.data_encoding.specs.Lengths.{length_fault, most_bytes}
 use Rattle.data_encoding.specs.Fault.{bytes_of_group, fault_after, fault_of, first_fault, or_else, sound_bytes, located}
 use Rattle.data_encoding.specs.Decoding.{AreSound}
 use Rattle.data_encoding.proofs.digits.WidthLemmas.{group_bits, group_symbols-pos}
-use Rattle.data_encoding.proofs.lists.RunLemmas.{flat_map-runs}
+use Rattle.data_encoding.proofs.lists.RunLemmas.{few_runs, flat_map-runs}
 use Rattle.data_encoding.proofs.grammar.UnpaddedGroupLemmas.{PlainMeans-count}
 use Rattle.data_encoding.proofs.grammar.GroupLemmas.{GroupMeans-sound, GroupMeans-no_fault, GroupMeans-bytes}
 use Rattle.data_encoding.proofs.grammar.PositionLemmas.{length-kept, length-kept_plain, length-meanings}
 use Rattle.data_encoding.proofs.grammar.LengthLemmas.{length_fault-none, most_bytes-by, whole-length}
 use Rattle.data_encoding.proofs.grammar.SoundLemmas.{AreSound-none, ends_after, fault_after-none, neither_fault, first-none, sound-all}
-
--- the groups of a text are no longer than a whole one
-few_in_chunks : {X : Type 0} (size count : ℕ) (xs : List X)
-    → AllByRecursion (λ (run : List X). length run ≤ size) (first_chunks size count xs)
-few_in_chunks size zero xs = tt
-few_in_chunks size (suc count) xs =
-    (omega (arith, length-take size xs), few_in_chunks size count (drop size xs))
 
 -- none follows one that ended
 none_follow : (base : Base) (ended : Bool) (gs : List (List Positioned))
@@ -34,7 +26,9 @@ none_follow base ended (g ∷ gs) h = let never = fault_after-none base true g h
 
 module _ (base : Base) (width : IsWidth base.width) (padded : is_padded base ≡ true) where
   abbrev AreFew : List (List Positioned) → Type 0
-  AreFew gs = AllByRecursion (λ (g : List Positioned). length g ≤ group_symbols base.width) gs
+  AreFew gs =
+      AllByRecursion (λ (g : List Positioned).
+      (0 < length g) × (length g ≤ group_symbols base.width)) gs
 
   -- groups without a fault mean their bytes joined
   GroupsMean-sound : (begun ended : Bool) (gs : List (List Positioned)) → AreFew gs
@@ -46,7 +40,7 @@ module _ (base : Base) (width : IsWidth base.width) (padded : is_padded base ≡
     flat_map (bytes_of_group base) gs,
     refl,
     GroupMeans-sound base width padded (meanings_in base g)
-        (omega (arith, few.0, length-meanings base g)) (fault_after-none base begun g h.0).1,
+        (omega (arith, few.0.1, length-meanings base g)) (fault_after-none base begun g h.0).1,
     (λ final. ap (map (meanings_in base))
         (none_follow base ended gs (subst (λ b. AreSound base b gs ended) final h.1))),
     GroupsMean-sound (is_final base g) ended gs few.1 h.1,
@@ -125,7 +119,8 @@ module _ (base : Base) (width : IsWidth base.width) (padded : is_padded base ≡
         subst (λ l. GroupsMean base (map (meanings_in base) gs) (flat_map (bytes_of_group base) l))
         (sym (sound-all base false (ends_after base false gs) gs sound))
         (GroupsMean-sound false (ends_after base false gs) gs
-        (few_in_chunks (group_symbols base.width) _ (kept base text)) sound)
+        (few_runs (group_symbols base.width) (kept base text)
+        (group_symbols-pos base.width width)) sound)
 
     module _ (bytes : List ℕ)
         (means : GroupsMean base (map (meanings_in base) (groups base text)) bytes)

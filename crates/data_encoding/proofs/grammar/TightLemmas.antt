@@ -39,9 +39,8 @@ symbols_of =
     by_width
     (λ w. (symbols bytes rest : ℕ) → w * symbols ≡ 8 * bytes + rest → rest < w
     → run_count w (8 * bytes) ≡ symbols)
-    (λ m n r h k. omega (arith, h, k)) (λ m n r h k. omega (arith, h, k))
-    (λ m n r h k. omega (arith, h, k)) (λ m n r h k. omega (arith, h, k))
-    (λ m n r h k. omega (arith, h, k)) (λ m n r h k. omega (arith, h, k))
+    (λ m n r h k. omega arith) (λ m n r h k. omega arith) (λ m n r h k. omega arith)
+    (λ m n r h k. omega arith) (λ m n r h k. omega arith) (λ m n r h k. omega arith)
 
 -- texts of as many bytes are as long
 pub length-plain_text_of : (base : Base) → IsRuled base → base.padding ≡ None

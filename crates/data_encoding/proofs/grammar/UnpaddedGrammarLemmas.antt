@@ -1,7 +1,7 @@
 -- Symbols alone, group by group.
-use Rattle.std.proofs.Common.{◌≡◌, ℕ, zero, suc, ◌+◌, ◌*◌, ◌<◌, ◌≤◌, List, [], ◌∷◌, ◌++◌, length, map, take, drop, None, refl, sym, ap, ◌∙◌, subst, arith, ⊎_elim, length-append, append_assoc, take-append-drop, length-take-le}
+use Rattle.std.proofs.Common.{◌≡◌, ℕ, ◌+◌, ◌*◌, ◌<◌, ◌≤◌, List, [], ◌++◌, length, map, take, drop, None, refl, sym, ap, ◌∙◌, subst, arith, ⊎_elim, length-append, append_assoc, take-append-drop, length-take-le}
 use Rattle.std.proofs.lemmas.Bool.{cases_lt}
-use Rattle.std.proofs.lemmas.List.{length-map, length-drop, map-append, append-nil, nil_from_length}
+use Rattle.std.proofs.lemmas.List.{length-map, map-append, append-nil, nil_from_length}
 use Rattle.std.proofs.lemmas.List.Concat.{flat_map-append}
 use Rattle.std.proofs.lemmas.List.Elements.{All-append, All-take, All-drop, All-from_recursion}
 use Rattle.std.specs.Prelude.{flat_map}
@@ -14,10 +14,16 @@ use Rattle.data_encoding.specs.Grammar.{PlainMeans}
 use Rattle.data_encoding.specs.Fault.{plain_fault, symbol_bytes}
 use Rattle.data_encoding.proofs.grammar.UnpaddedGroupLemmas.{PlainMeans-count, PlainMeans-sound, PlainMeans-no_fault, length-bits_of_bytes, length-bits_of_values}
 use Rattle.data_encoding.proofs.lists.ListLemmas.{parts_same}
-use Rattle.data_encoding.proofs.lists.RunLemmas.{runs-first, runs-nil, runs-short}
+use Rattle.data_encoding.proofs.lists.RunLemmas.{by_runs, runs-first, runs-nil, runs-short}
 use Rattle.data_encoding.proofs.digits.WidthLemmas.{group_bits, group_symbols-pos}
 
 module _ (base : Base) (width : IsWidth base.width) where
+  abbrev size : ℕ
+  size = group_symbols base.width
+
+  size-pos : 0 < size
+  size-pos = group_symbols-pos base.width width
+
   abbrev bits : List ℕ → List ℕ
   bits values = flat_map (bits_of base.order base.width) values
 
@@ -60,7 +66,7 @@ module _ (base : Base) (width : IsWidth base.width) where
       }
 
   PlainMeans-join : (group others : List Character) (bytes more : List ℕ)
-      → length group ≡ group_symbols base.width → PlainMeans base group bytes
+      → length group ≡ size → PlainMeans base group bytes
       → PlainMeans base others more → PlainMeans base (group ++ others) (bytes ++ more)
   PlainMeans-join group others bytes more whole first second =
       PlainMeans-append group others bytes more (group_bytes base.width)
@@ -72,10 +78,9 @@ module _ (base : Base) (width : IsWidth base.width) where
     second : PlainMeans base others (drop (group_bytes base.width) bytes)
 
   PlainMeans-split : (group others : List Character) (bytes : List ℕ)
-      → length group ≡ group_symbols base.width → PlainMeans base (group ++ others) bytes
+      → length group ≡ size → PlainMeans base (group ++ others) bytes
       → AreJoined group others bytes
   PlainMeans-split group others bytes whole means =
-      let size = group_symbols base.width in
       let byte_count = group_bytes base.width in
       let count = PlainMeans-count base width (group ++ others) bytes means in
       let full : base.width * size ≡ 8 * byte_count = group_bits base.width width in
@@ -135,75 +140,52 @@ module _ (base : Base) (width : IsWidth base.width) where
   ArePlain groups = AllByRecursion (λ group. plain_fault base group ≡ None) groups
 
   abbrev groups_of : List Character → List (List Character)
-  groups_of ks = runs (group_symbols base.width) ks
+  groups_of ks = runs size ks
 
   abbrev bytes_of : List (List Character) → List ℕ
   bytes_of groups = flat_map (symbol_bytes base) groups
 
-  size-pos : 0 < group_symbols base.width
-  size-pos = group_symbols-pos base.width width
-
-  joined_groups : (n : ℕ) (ks : List Character) → length ks ≤ n → ArePlain (groups_of ks)
-      → PlainMeans base ks (bytes_of (groups_of ks))
-  joined_groups n [] e sound =
-      subst (λ groups. PlainMeans base [] (bytes_of groups))
-      (sym (runs-nil {X = Character} (group_symbols base.width) size-pos)) PlainMeans-nil
-  joined_groups zero (k ∷ ks) e sound = absurd (omega (arith, e))
-  joined_groups (suc n) (k ∷ ks) e sound =
-      let size = group_symbols base.width in
-      let all = k ∷ ks in
-      let some : 0 < length all = omega arith in
-      let pos = size-pos in
-      ⊎_elim
-      (λ (short : length all < size).
-      let one = runs-short size all some (omega arith) in
-      let fine = subst ArePlain one sound in
-      subst (λ groups. PlainMeans base all (bytes_of groups)) (sym one)
-      (subst (PlainMeans base all) (sym (append-nil (symbol_bytes base all)))
-      (PlainMeans-sound base width all fine.0)))
-      (λ (long : size ≤ length all).
-      let first = runs-first size all pos some in
-      let fine = subst ArePlain first sound in
-      let rest_len : length (drop size all) ≤ n = omega (arith, length-drop size all, e) in
-      subst (λ groups. PlainMeans base all (bytes_of groups)) (sym first)
-      (subst (λ l. PlainMeans base l (symbol_bytes base (take size all)
-      ++ bytes_of (groups_of (drop size all)))) (take-append-drop size all)
-      (PlainMeans-join (take size all) (drop size all) _ _ (length-take-le size all long)
-      (PlainMeans-sound base width (take size all) fine.0)
-      (joined_groups n (drop size all) rest_len fine.1))))
-      (cases_lt (length all) size)
-
   -- groups with no fault mean their bytes joined
   pub PlainMeans-from_groups : (ks : List Character) → ArePlain (groups_of ks)
       → PlainMeans base ks (bytes_of (groups_of ks))
-  PlainMeans-from_groups ks sound = joined_groups (length ks) ks (omega arith) sound
-
-  split_groups : (n : ℕ) (ks : List Character) (bytes : List ℕ) → length ks ≤ n
-      → PlainMeans base ks bytes → ArePlain (groups_of ks)
-  split_groups n [] bytes e means =
-      subst ArePlain (sym (runs-nil {X = Character} (group_symbols base.width) size-pos)) tt
-  split_groups zero (k ∷ ks) bytes e means = absurd (omega (arith, e))
-  split_groups (suc n) (k ∷ ks) bytes e means =
-      let size = group_symbols base.width in
-      let all = k ∷ ks in
-      let some : 0 < length all = omega arith in
-      let pos = size-pos in
+  PlainMeans-from_groups =
+      by_runs size size-pos
+      (λ ks. ArePlain (groups_of ks) → PlainMeans base ks (bytes_of (groups_of ks)))
+      (λ sound. subst (λ groups. PlainMeans base [] (bytes_of groups))
+      (sym (runs-nil {X = Character} size size-pos)) PlainMeans-nil)
+      (λ ks some others sound.
       ⊎_elim
-      (λ (short : length all < size).
-      subst ArePlain (sym (runs-short size all some (omega arith)))
-      (PlainMeans-no_fault base width all bytes means, tt))
-      (λ (long : size ≤ length all).
-      let rest_len : length (drop size all) ≤ n = omega (arith, length-drop size all, e) in
-      let parts = PlainMeans-split (take size all) (drop size all) bytes
-      (length-take-le size all long)
-      (subst (λ l. PlainMeans base l bytes) (sym (take-append-drop size all)) means) in
-      subst ArePlain (sym (runs-first size all pos some)) (
-        PlainMeans-no_fault base width (take size all) _ parts.first,
-        split_groups n (drop size all) _ rest_len parts.second,
-      ))
-      (cases_lt (length all) size)
+      (λ (short : length ks < size).
+      let one = runs-short size ks some (omega arith) in
+      subst (λ groups. PlainMeans base ks (bytes_of groups)) (sym one)
+      (subst (PlainMeans base ks) (sym (append-nil (symbol_bytes base ks)))
+      (PlainMeans-sound base width ks (subst ArePlain one sound).0)))
+      (λ (long : size ≤ length ks).
+      let first = runs-first size ks size-pos some in
+      let fine = subst ArePlain first sound in
+      subst (λ groups. PlainMeans base ks (bytes_of groups)) (sym first)
+      (subst (λ l. PlainMeans base l (symbol_bytes base (take size ks)
+      ++ bytes_of (groups_of (drop size ks)))) (take-append-drop size ks)
+      (PlainMeans-join (take size ks) (drop size ks) _ _ (length-take-le size ks long)
+      (PlainMeans-sound base width (take size ks) fine.0) (others fine.1))))
+      (cases_lt (length ks) size))
 
   -- the groups of what means something have no fault
   pub groups-PlainMeans : (ks : List Character) (bytes : List ℕ) → PlainMeans base ks bytes
       → ArePlain (groups_of ks)
-  groups-PlainMeans ks bytes means = split_groups (length ks) ks bytes (omega arith) means
+  groups-PlainMeans =
+      by_runs size size-pos
+      (λ ks. (bytes : List ℕ) → PlainMeans base ks bytes → ArePlain (groups_of ks))
+      (λ bytes means. subst ArePlain (sym (runs-nil {X = Character} size size-pos)) tt)
+      (λ ks some others bytes means.
+      ⊎_elim
+      (λ (short : length ks < size).
+      subst ArePlain (sym (runs-short size ks some (omega arith)))
+      (PlainMeans-no_fault base width ks bytes means, tt))
+      (λ (long : size ≤ length ks).
+      let parts = PlainMeans-split (take size ks) (drop size ks) bytes
+      (length-take-le size ks long)
+      (subst (λ l. PlainMeans base l bytes) (sym (take-append-drop size ks)) means) in
+      subst ArePlain (sym (runs-first size ks size-pos some))
+      (PlainMeans-no_fault base width (take size ks) _ parts.first, others _ parts.second))
+      (cases_lt (length ks) size))

@@ -19,6 +19,7 @@ use Rattle.data_encoding.specs.Fault.{symbol_bits, trailing_bits, symbol_bytes, 
 use Rattle.data_encoding.specs.declared.error.DecodeKind.TheVariants.{Length as LengthFault}
 use Rattle.data_encoding.proofs.digits.BitLemmas.{AreBits, AreBits-take, AreBits-flat_map, AreBits-bits_of, length-bits_of, length-pieces, number_of-bits_of}
 use Rattle.data_encoding.proofs.digits.ValueLemmas.{AreValuesOf-runs}
+use Rattle.data_encoding.proofs.lists.EachLemmas.{all_weaker}
 use Rattle.data_encoding.proofs.lists.ListLemmas.{AllFail, position-none, AllFail-position, list_any-none, AllFail-list_any, zeros}
 use Rattle.data_encoding.proofs.lists.RunLemmas.{runs-flat_map}
 
@@ -80,21 +81,15 @@ none_found : (o : Option ℕ) (otherwise : Option GroupFault)
 none_found None otherwise h = (refl, h)
 none_found (Some index) otherwise h = cc
 
-unless : {A : Type 0} (b : Bool) (fault : A) → cond b (Some fault) None ≡ None → b ≡ false
-unless true fault h = cc
-unless false fault h = refl
+-- what a test may find faulty is not, where there is no fault
+pub no_fault-branches : {A : Type 0} (b : Bool) (fault : A) (o : Option A)
+    → cond b (Some fault) o ≡ None → (b ≡ false) × (o ≡ None)
+no_fault-branches true fault o h = cc
+no_fault-branches false fault o h = (refl, h)
 
 both_false : (a b : Bool) → a && b ≡ false → a ≡ true → b ≡ false
 both_false true b h e = h
 both_false false b h e = cc
-
-zero_bit : (bit : ℕ) → not (bit == 0) ≡ false → bit ≡ 0
-zero_bit bit h = grind (arith, nat_tests)
-
-zero_bits : (bits : List ℕ) → AllFail (λ bit. not (bit == 0)) bits
-    → AllByRecursion (λ bit. bit ≡ 0) bits
-zero_bits [] h = tt
-zero_bits (bit ∷ bits) h = (zero_bit bit h.0, zero_bits bits h.1)
 
 zeros_pass : (n : ℕ) → AllFail (λ bit. not (bit == 0)) (replicate n 0)
 zeros_pass zero = tt
@@ -117,6 +112,14 @@ quiet : {A : Type 0} (checks any : Bool) (fault : A) → (checks ≡ true → an
     → cond (checks && any) (Some fault) None ≡ None
 quiet true any fault h = ap (λ b. cond b (Some fault) None) (h refl)
 quiet false any fault h = refl
+
+-- a group of a valid number has the fault of its symbols
+pub plain_fault-valid : (base : Base) (group : List Character)
+    → is_valid_count base.width (length group) ≡ true
+    → plain_fault base group ≡ symbols_fault base group
+plain_fault-valid base group h =
+    ap (λ b. cond b (symbols_fault base group)
+    (faulty_at LengthFault (greatest_valid_count base.width (length group)))) h
 
 -- bits that are bytes and a short rest
 record AreSplit (bits front rest : List ℕ) : Type 0 where
@@ -147,8 +150,8 @@ module _ (base : Base) (width : IsWidth base.width) (group : List Character) whe
       let bits = symbol_bits base group in
       let whole = length bits / 8 * 8 in
       let rest = trailing_bits base group in
-      let zero_rest = unless (base.checks_trailing_bits && list_any (λ bit. not (bit == 0)) rest)
-      _ none.1 in
+      let zero_rest = no_fault-branches
+      (base.checks_trailing_bits && list_any (λ bit. not (bit == 0)) rest) _ None none.1 in
       let are_bits : AreBits bits = AreBits-flat_map (bits_of base.order base.width) values
       (AreBits-bits_of base.order base.width) in
       let front_len : length (take whole bits) ≡ whole = length-take-le whole bits (omega arith) in
@@ -167,8 +170,10 @@ module _ (base : Base) (width : IsWidth base.width) (group : List Character) whe
         rest_is_short = short_rest bits base.width (length group) bits_len valid.0;
         rest_is_zero =
             λ e. zeros rest
-            (zero_bits rest (AllFail-list_any (λ bit. not (bit == 0)) rest
-            (both_false base.checks_trailing_bits _ zero_rest e)));
+            (all_weaker (λ bit. not (bit == 0) ≡ false) (λ bit. bit ≡ 0)
+            (λ bit h. grind (arith, nat_tests)) rest
+            (AllFail-list_any (λ bit. not (bit == 0)) rest
+            (both_false base.checks_trailing_bits _ zero_rest.0 e)));
         are_bytes = All-from_recursion (λ byte. byte < 256) (symbol_bytes base group) bytes.below;
       }
 
@@ -219,9 +224,7 @@ module _ (base : Base) (width : IsWidth base.width) (group : List Character) whe
     -- what means something has no fault
     pub PlainMeans-no_fault : plain_fault base group ≡ None
     PlainMeans-no_fault =
-        ap (λ b. cond b (symbols_fault base group)
-        (faulty_at LengthFault (greatest_valid_count base.width (length group))))
-        PlainMeans-valid
+        plain_fault-valid base group PlainMeans-valid
         ∙ ap (λ o. fault_at_first o (trailing_fault base group))
         (ap (position (λ m. not (is_symbol m))) means.are_symbols
         ∙ position-none (λ m. not (is_symbol m)) _ (symbols_pass means.values))

@@ -2,7 +2,7 @@
 use Rattle.std.proofs.Common.{◌≡◌, ℕ, ◌*◌, ◌/◌, ◌≤◌, Bool, false, cond, List, [], ◌∷◌, length, None, refl, sym, ap, ◌∙◌, subst, arith, map}
 use Rattle.std.proofs.Math.Nat.{mul-le-mul_left}
 use Rattle.std.specs.Prelude.{flat_map}
-use Rattle.data_encoding.proofs.grammar.WholeGroupLemmas.{joined-meanings}
+use Rattle.std.proofs.lemmas.List.Folds.{flat_map-map}
 use Rattle.data_encoding.proofs.digits.WidthLemmas.{group_symbols-pos}
 use Rattle.data_encoding.specs.Bits.{runs}
 use Rattle.data_encoding.specs.declared.encoding.Character.{Character}
@@ -60,7 +60,7 @@ module _ (base : Base) (width : IsWidth base.width) (unpadded : is_padded base �
         let none = neither_fault (length_fault base (length text)) (first_fault base gs) h in
         let sound = AreSound-none base false gs none.1 in
         subst (PlainMeans base meant)
-        (ap (flat_map (symbol_bytes base)) runs_are ∙ joined-meanings base gs
+        (ap (flat_map (symbol_bytes base)) runs_are ∙ flat_map-map (symbol_bytes base) (meanings_in base) gs
         ∙ ap (flat_map (bytes_of_group base))
         (sym (sound-all base false (ends_after base false gs) gs sound)))
         (PlainMeans-from_groups base width meant

@@ -1,7 +1,8 @@
 -- Whole groups of symbols alone.
-use Rattle.std.proofs.Common.{◌≡◌, ℕ, zero, suc, ◌+◌, ◌-◌, ◌*◌, ◌/◌, ◌<◌, ◌==◌, Bool, true, false, not, cond, ◌&&◌, List, [], ◌∷◌, ◌++◌, length, map, take, drop, None, refl, sym, ap, ◌∙◌, subst, arith, take-append-drop, length-take-le}
+use Rattle.std.proofs.Common.{◌≡◌, ℕ, zero, suc, ◌+◌, ◌-◌, ◌*◌, ◌/◌, ◌==◌, Bool, true, false, not, cond, ◌&&◌, List, [], ◌∷◌, length, map, take, drop, None, refl, sym, ap, ◌∙◌, subst, arith, take-append-drop, length-take-le}
 use Rattle.std.proofs.Math.Nat.{zero-mul, suc-mul}
-use Rattle.std.proofs.lemmas.List.{length-map, length-drop, drop_all, append-nil, nil_from_length}
+use Rattle.std.proofs.lemmas.List.{length-map, length-drop, drop_all, nil_from_length}
+use Rattle.std.proofs.lemmas.List.Folds.{flat_map-map}
 use Rattle.std.specs.Prelude.{flat_map}
 use Rattle.std.specs.List.{filter_map, list_any, position}
 use Rattle.std.proofs.Math.Bool.{and-false}
@@ -15,12 +16,12 @@ use Rattle.data_encoding.specs.Lengths.{is_valid_count}
 use Rattle.data_encoding.specs.Fault.{bytes_of_group, count_before_padding, fault_at_first, faulty_at, group_fault, located, padded_fault_at, plain_fault, symbol_bits, symbol_bytes, trailing_bits, trailing_fault}
 use Rattle.data_encoding.specs.Decoding.{AreSound, run_bytes}
 use Rattle.data_encoding.proofs.digits.WidthLemmas.{group_bits, group_symbols-pos}
-use Rattle.data_encoding.proofs.lists.EachLemmas.{all_parts}
+use Rattle.data_encoding.proofs.lists.EachLemmas.{all_parts, all_weaker}
 use Rattle.data_encoding.proofs.lists.EndLemmas.{AllSo}
 use Rattle.data_encoding.proofs.lists.ListLemmas.{AllFail, position-none, filter-all}
 use Rattle.data_encoding.proofs.lists.RunLemmas.{runs-nil, runs-append}
-use Rattle.data_encoding.proofs.grammar.UnpaddedGroupLemmas.{are_symbols, length-bits_of_values, PlainMeans-sound}
-use Rattle.data_encoding.proofs.grammar.GroupLemmas.{plain_fault-valid, whole-valid, GroupMeans-no_fault}
+use Rattle.data_encoding.proofs.grammar.UnpaddedGroupLemmas.{plain_fault-valid, are_symbols, length-bits_of_values, PlainMeans-sound}
+use Rattle.data_encoding.proofs.grammar.GroupLemmas.{whole-valid, GroupMeans-no_fault, GroupMeans-whole}
 use Rattle.data_encoding.proofs.grammar.PositionLemmas.{bytes-positioned_from, length-meanings, runs-meanings}
 use Rattle.data_encoding.proofs.grammar.SoundLemmas.{symbols-not_final}
 
@@ -74,14 +75,7 @@ module _ (base : Base) (width : IsWidth base.width) (group : List Positioned)
     by : (b : Bool) → is_padded base ≡ b → group_fault base (bytes_in group) ≡ None
     by true is =
         GroupMeans-no_fault base width is meant (symbol_bytes base meant)
-        (record {
-          symbols = meant;
-          padding = 0;
-          is_group = sym (append-nil meant);
-          is_whole = meant_len;
-          is_begun = subst (λ n. 0 < n) (sym meant_len) (group_symbols-pos base.width width);
-          means = PlainMeans-sound base width meant plain;
-        })
+        (GroupMeans-whole base width meant _ meant_len (PlainMeans-sound base width meant plain))
     by false is =
         ap (λ b. cond b (padded_fault_at base meant (count_before_padding meant))
         (plain_fault base meant)) is
@@ -96,12 +90,6 @@ symbol_kept Padding h = cc
 symbol_kept Ignored h = cc
 symbol_kept Invalid h = cc
 
-each_kept : (base : Base) (ks : List Positioned)
-    → AllSo (λ k. is_symbol (meaning base k.byte)) ks
-    → AllSo (λ k. not (is_ignored (meaning base k.byte))) ks
-each_kept base [] h = tt
-each_kept base (k ∷ ks) h = (symbol_kept (meaning base k.byte) h.0, each_kept base ks h.1)
-
 pub symbols-positioned : (base : Base) (start : ℕ) (part : List ℕ)
     → AllSo (λ byte. is_symbol (meaning base byte)) part
     → AllSo (λ k. is_symbol (meaning base k.byte)) (positioned_from start part)
@@ -115,7 +103,10 @@ pub kept_in-symbols : (base : Base) (start : ℕ) (part : List ℕ)
 kept_in-symbols base start part h =
     filter-all (λ (k : Positioned). not (is_ignored (meaning base k.byte)))
     (positioned_from start part)
-    (each_kept base (positioned_from start part) (symbols-positioned base start part h))
+    (all_weaker (λ k. is_symbol (meaning base k.byte) ≡ true)
+    (λ k. not (is_ignored (meaning base k.byte)) ≡ true)
+    (λ k h. symbol_kept (meaning base k.byte) h) (positioned_from start part)
+    (symbols-positioned base start part h))
 
 -- whole groups of symbols are sound
 pub AreSound-symbols : (base : Base) → IsWidth base.width → (count : ℕ) (ks : List Positioned)
@@ -147,13 +138,7 @@ AreSound-symbols base width (suc count) ks len symbols =
           (AreSound-symbols base width count back back_len parts.1),
     )
 
--- the bytes of groups are those of what their bytes mean
-pub joined-meanings : (base : Base) (gs : List (List Positioned))
-    → flat_map (symbol_bytes base) (map (meanings_in base) gs) ≡ flat_map (bytes_of_group base) gs
-joined-meanings base [] = refl
-joined-meanings base (g ∷ gs) = ap (λ l. bytes_of_group base g ++ l) (joined-meanings base gs)
-
--- so are those of a run, wherever it stands
+-- the bytes of a run are those of its groups, wherever it stands
 pub run_bytes-positioned : (base : Base) → IsWidth base.width → (start : ℕ) (part : List ℕ)
     → run_bytes base part
     ≡ flat_map (bytes_of_group base) (runs (group_symbols base.width) (positioned_from start part))
@@ -163,4 +148,4 @@ run_bytes-positioned base width start part =
     ap (run_bytes base) (sym (bytes-positioned_from start part))
     ∙ ap (flat_map (symbol_bytes base))
     (runs-meanings base size ks (group_symbols-pos base.width width))
-    ∙ joined-meanings base (runs size ks)
+    ∙ flat_map-map (symbol_bytes base) (meanings_in base) (runs size ks)

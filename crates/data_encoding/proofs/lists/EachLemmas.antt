@@ -1,9 +1,12 @@
 -- Tests that all elements of a list pass.
-use Rattle.std.proofs.Common.{◌≡◌, ℕ, zero, suc, ◌+◌, ◌<◌, ◌≤◌, Bool, true, false, ◌&&◌, ◌||◌, cond, List, [], ◌∷◌, ◌++◌, length, map, take, get_or, slice_index, refl, ap, ◌∙◌, subst, arith, ⊎_elim}
+use Rattle.std.proofs.Common.{◌≡◌, ℕ, zero, suc, ◌+◌, ◌<◌, ◌≤◌, Bool, true, false, ◌&&◌, cond, List, [], ◌∷◌, ◌++◌, length, get_or, slice_index, refl, ap, ◌∙◌, subst, arith, ⊎_elim}
 use Rattle.std.proofs.Math.ListN.{set}
 use Rattle.std.specs.Cmp.{first_so, second_so}
 use Rattle.std.specs.List.{AllByRecursion, filter, list_all, list_any, range_with_len}
 use Rattle.std.proofs.lemmas.Bool.{cases_eq}
+use Rattle.std.proofs.lemmas.List.Elements.{All-from_get_or, All-from_recursion, All-get_or, All-set}
+use Rattle.std.proofs.lemmas.List.Folds.{list_any_none}
+use Rattle.std.proofs.lemmas.List.Sums.{AllPass-from_list_all, list_all-from_AllPass}
 
 -- at one place
 pub all-at : (P : ℕ → Type 0) (xs : List ℕ) → AllByRecursion P xs → (k : ℕ) → k < length xs
@@ -15,10 +18,8 @@ all-at P (x ∷ xs) all (suc k) h = all-at P xs all.1 k (omega (arith, h))
 pub passes_at : {X : Type 0} (test : X → Bool) (xs : List X) (i : ℕ) (d : X) → list_all test xs
     ≡ true
     → i < length xs → test (get_or xs i d) ≡ true
-passes_at test [] i d h e = absurd (omega (arith, e))
-passes_at test (x ∷ xs) zero d h e = first_so (test x) (list_all test xs) h
-passes_at test (x ∷ xs) (suc i) d h e =
-    passes_at test xs i d (second_so (test x) (list_all test xs) h) (omega (arith, e))
+passes_at test xs i d h e =
+    All-get_or (λ x. test x ≡ true) xs i d e (AllPass-from_list_all test xs h)
 
 pub list_all-cons : {X : Type 0} (test : X → Bool) (x : X) (xs : List X) → test x ≡ true
     → list_all test xs ≡ true → list_all test (x ∷ xs) ≡ true
@@ -26,31 +27,21 @@ list_all-cons test x xs h k = ap (λ b. b && list_all test xs) h ∙ k
 
 pub list_all-each : {X : Type 0} (test : X → Bool) (xs : List X)
     → AllByRecursion (λ x. test x ≡ true) xs → list_all test xs ≡ true
-list_all-each test [] h = refl
-list_all-each test (x ∷ xs) h = list_all-cons test x xs h.0 (list_all-each test xs h.1)
+list_all-each test xs h =
+    list_all-from_AllPass test xs (All-from_recursion (λ x. test x ≡ true) xs h)
 
 -- after a write
 pub list_all-set : {X : Type 0} (test : X → Bool) (xs : List X) (i : ℕ) (y : X) → test y ≡ true
     → list_all test xs ≡ true → list_all test (set xs i y) ≡ true
-list_all-set test [] i y h k = k
-list_all-set test (x ∷ xs) zero y h k =
-    list_all-cons test y xs h (second_so (test x) (list_all test xs) k)
-list_all-set test (x ∷ xs) (suc i) y h k =
-    list_all-cons test x (set xs i y) (first_so (test x) (list_all test xs) k)
-    (list_all-set test xs i y h (second_so (test x) (list_all test xs) k))
+list_all-set test xs i y h k =
+    list_all-from_AllPass test (set xs i y)
+    (All-set (λ x. test x ≡ true) xs i y h (AllPass-from_list_all test xs k))
 
 -- where each passes at its place
 pub list_all-places : {X : Type 0} (test : X → Bool) (xs : List X) (d : X)
     → ((i : ℕ) → i < length xs → test (get_or xs i d) ≡ true) → list_all test xs ≡ true
-list_all-places test [] d h = refl
-list_all-places test (x ∷ xs) d h =
-    list_all-cons test x xs (h 0 (omega arith))
-    (list_all-places test xs d (λ i less. h (suc i) (omega (arith, less))))
-
-pub list_all-map : {X Y : Type 0} (test : Y → Bool) (f : X → Y) (xs : List X)
-    → list_all test (map f xs) ≡ list_all (λ x. test (f x)) xs
-list_all-map test f [] = refl
-list_all-map test f (x ∷ xs) = ap (λ b. test (f x) && b) (list_all-map test f xs)
+list_all-places test xs d h =
+    list_all-from_AllPass test xs (All-from_get_or (λ x. test x ≡ true) xs d h)
 
 -- a test that follows from two others
 pub list_all-both : {X : Type 0} (a b test : X → Bool)
@@ -63,21 +54,17 @@ list_all-both a b test step (x ∷ xs) h k =
     (list_all-both a b test step xs (second_so (a x) (list_all a xs) h)
     (second_so (b x) (list_all b xs) k))
 
--- a write within a beginning
-pub take-set-lt : {X : Type 0} (n : ℕ) (xs : List X) (i : ℕ) (y : X) → i < n
-    → take n (set xs i y) ≡ set (take n xs) i y
-take-set-lt zero xs i y h = absurd (omega (arith, h))
-take-set-lt (suc n) [] i y h = refl
-take-set-lt (suc n) (x ∷ xs) zero y h = refl
-take-set-lt (suc n) (x ∷ xs) (suc i) y h = ap (λ l. x ∷ l) (take-set-lt n xs i y (omega (arith, h)))
-
 -- a test that each fails is passed by none
 pub none_passes : {X : Type 0} (test : X → Bool) (xs : List X) (d : X)
     → ((i : ℕ) → i < length xs → test (get_or xs i d) ≡ false) → list_any test xs ≡ false
-none_passes test [] d h = refl
-none_passes test (x ∷ xs) d h =
-    ap (λ b. b || list_any test xs) (h 0 (omega arith))
-    ∙ none_passes test xs d (λ i k. h (suc i) (omega (arith, k)))
+none_passes test xs d h =
+    list_any_none test xs (All-from_get_or (λ x. test x ≡ false) xs d h)
+
+-- what follows from what holds of each
+pub all_weaker : {X : Type 0} (P Q : X → Type 0) → ((x : X) → P x → Q x) → (xs : List X)
+    → AllByRecursion P xs → AllByRecursion Q xs
+all_weaker P Q next [] h = tt
+all_weaker P Q next (x ∷ xs) h = (next x h.0, all_weaker P Q next xs h.1)
 
 -- what holds of all of two lists
 pub all_parts : {X : Type 0} (P : X → Type 0) (xs ys : List X) → AllByRecursion P (xs ++ ys)

@@ -3,6 +3,9 @@ use Rattle.std.proofs.Common.{◌≡◌, ℕ, suc, ◌+◌, ◌≤◌, Bool, tru
 use Rattle.std.proofs.lemmas.Bool.Decides.{nat_tests}
 use Rattle.std.specs.List.{AllByRecursion, list_any, filter, position, prefix_len}
 use Rattle.std.proofs.lemmas.List.{take_at, drop_at}
+use Rattle.std.proofs.lemmas.List.Elements.{All-from_recursion}
+use Rattle.std.proofs.lemmas.List.Folds.{list_any_none}
+use Rattle.std.proofs.lemmas.List.Sums.{count_by-le-length, length-filter as length-filter_is}
 
 -- none passes the test
 abbrev pub AllFail : {X : Type 0} → (X → Bool) → List X → Type 0
@@ -49,8 +52,7 @@ AllFail-position test xs h =
 -- the same of a test of each
 pub list_any-none : {X : Type 0} (test : X → Bool) (xs : List X) → AllFail test xs
     → list_any test xs ≡ false
-list_any-none test [] h = refl
-list_any-none test (x ∷ xs) h = ap (λ b. b || list_any test xs) h.0 ∙ list_any-none test xs h.1
+list_any-none test xs h = list_any_none test xs (All-from_recursion (λ x. test x ≡ false) xs h)
 
 neither : (a b : Bool) → (a || b) ≡ false → (a ≡ false) × (b ≡ false)
 neither true b h = cc
@@ -71,16 +73,9 @@ filter-all test (x ∷ xs) h =
     ap (λ b. cond b (x ∷ filter test xs) (filter test xs)) h.0
     ∙ ap (λ l. x ∷ l) (filter-all test xs h.1)
 
-shorter : {X : Type 0} (b : Bool) (x : X) (xs ys : List X) → length ys ≤ length xs
-    → length (cond b (x ∷ ys) ys) ≤ suc (length xs)
-shorter true x xs ys h = omega (arith, h)
-shorter false x xs ys h = omega (arith, h)
-
 pub length-filter : {X : Type 0} (test : X → Bool) (xs : List X)
     → length (filter test xs) ≤ length xs
-length-filter test [] = omega arith
-length-filter test (x ∷ xs) =
-    shorter (test x) x xs (filter test xs) (length-filter test xs)
+length-filter test xs = omega (arith, length-filter_is test xs, count_by-le-length test xs)
 
 -- two lists that are joined alike at the same place have the same parts
 pub parts_same : {X : Type 0} (xs ys zs ws : List X) → xs ++ ys ≡ zs ++ ws

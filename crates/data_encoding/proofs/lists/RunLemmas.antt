@@ -2,7 +2,7 @@
 use Rattle.std.proofs.Common.{◌≡◌, ℕ, zero, suc, ◌+◌, ◌-◌, ◌*◌, ◌/◌, ◌%◌, ◌<◌, ◌≤◌, List, [], ◌∷◌, ◌++◌, length, map, take, drop, refl, sym, ap, ◌∙◌, arith, length-append, append-nil, append_assoc, take-append-drop, length-take, length-take-le, subst, ⊎_elim}
 use Rattle.std.proofs.Math.Nat.{add-div_left, add-mul, div-eq_of_lt, div-eq_of_lt-le, div-mul-le_self, lt-div-mul-add, mul-le-mul_right, mul-suc, zero-mul, suc-mul}
 use Rattle.std.proofs.lemmas.List.{take_at, drop_at, take_all, drop_all, length-map, take-map, drop-map, nil_from_length, length-drop, take-append-le, drop-append-le}
-use Rattle.std.proofs.lemmas.Nat.{div-add-mod'}
+use Rattle.std.proofs.lemmas.Nat.{div-add-mod', div_below, le-div}
 use Rattle.std.proofs.lemmas.Bool.{cases_lt}
 use Rattle.std.proofs.lemmas.Grind.{div_ceil_times}
 use Rattle.std.specs.Int.{div_ceil}
@@ -21,7 +21,7 @@ run_count-add size n h =
     let regroup : size + n + (size - 1) ≡ size + (n + (size - 1)) = omega arith in
     ap (λ k. k / size) regroup ∙ add-div_left (n + (size - 1)) h ∙ omega arith
 
-run_count-short : (size n : ℕ) → 0 < n → n ≤ size → run_count size n ≡ 1
+pub run_count-short : (size n : ℕ) → 0 < n → n ≤ size → run_count size n ≡ 1
 run_count-short size n h k =
     div-eq_of_lt-le size (omega arith) (omega arith)
 
@@ -46,10 +46,7 @@ div_ceil-runs size n h =
 
 pub run_count-few : (size n k : ℕ) → 0 < size → n ≤ k * size → run_count size n ≤ k
 run_count-few size n k h few =
-    ⊎_elim {C = run_count size n ≤ k}
-    (λ (more : k < run_count size n). absurd (omega (arith, run-before size n k h more, few)))
-    (λ (less : run_count size n ≤ k). less)
-    (cases_lt k (run_count size n))
+    omega (arith, div_below (n + (size - 1)) size (suc k) h (omega (arith, suc-mul k size)))
 
 pub run_count-whole : (size k : ℕ) → 0 < size → run_count size (k * size) ≡ k
 run_count-whole size k h =
@@ -57,19 +54,18 @@ run_count-whole size k h =
     (omega (arith, h, add-mul k 1 size))
 
 pub run_count-some : (size n : ℕ) → 0 < size → 0 < n → 0 < run_count size n
-run_count-some size n h some =
-    ⊎_elim {C = 0 < run_count size n}
-    (λ (more : 0 < run_count size n). more)
-    (λ (none : run_count size n ≤ 0).
-    let no_more : run_count size n ≡ 0 = omega (arith, none) in
-    absurd (omega (
-      arith,
-      runs-reach size n h,
-      some,
-      ap (λ k. k * size) no_more,
-      zero-mul size,
-    )))
-    (cases_lt 0 (run_count size n))
+run_count-some size n h some = le-div 1 (n + (size - 1)) size h (omega arith)
+
+-- an induction over runs
+pub by_runs : {X : Type 0} (size : ℕ) → 0 < size → (P : List X → Type 0) → P []
+    → ((xs : List X) → 0 < length xs → P (drop size xs) → P xs) → (xs : List X) → P xs
+by_runs {X} size h P none next xs = within (length xs) xs (omega arith) where
+  within : (n : ℕ) (xs : List X) → length xs ≤ n → P xs
+  within n [] few = none
+  within zero (x ∷ xs) few = absurd (omega arith)
+  within (suc n) (x ∷ xs) few =
+      next (x ∷ xs) (omega arith)
+      (within n (drop size (x ∷ xs)) (simp length-drop (omega arith)))
 
 pub runs-nil : {X : Type 0} (size : ℕ) → 0 < size → runs {X = X} size [] ≡ []
 runs-nil size h = ap (λ k. first_chunks size k []) (div-eq_of_lt (omega arith))
@@ -120,25 +116,18 @@ runs-first {X} size xs h k =
     ∙ runs-append size (take size xs) (drop size xs) h (length-take-le size xs long))
     (cases_lt (length xs) size)
 
-few_runs_within : {X : Type 0} (n size : ℕ) (xs : List X) → 0 < size → length xs ≤ n
-    → AllByRecursion (λ (run : List X). (0 < length run) × (length run ≤ size)) (runs size xs)
-few_runs_within {X} n size [] h e =
-    subst (AllByRecursion (λ (run : List X). (0 < length run) × (length run ≤ size)))
-    (sym (runs-nil {X = X} size h)) tt
-few_runs_within zero size (x ∷ xs) h e = absurd (omega (arith, e))
-few_runs_within {X} (suc n) size (x ∷ xs) h e =
-    let front = length-take size (x ∷ xs) in
-    let rest_len : length (drop size (x ∷ xs)) ≤ n = simp length-drop (omega (arith, e)) in
-    subst (AllByRecursion (λ (run : List X). (0 < length run) × (length run ≤ size)))
-    (sym (runs-first size (x ∷ xs) h (omega arith))) (
-      (omega (arith, front, h), omega (arith, front)),
-      few_runs_within n size (drop size (x ∷ xs)) h rest_len,
-    )
-
 -- no run is empty, nor longer than the size
 pub few_runs : {X : Type 0} (size : ℕ) (xs : List X) → 0 < size
     → AllByRecursion (λ (run : List X). (0 < length run) × (length run ≤ size)) (runs size xs)
-few_runs size xs h = few_runs_within (length xs) size xs h (omega arith)
+few_runs {X} size xs h =
+    let AreFew : List (List X) → Type 0 =
+    AllByRecursion (λ (run : List X). (0 < length run) × (length run ≤ size)) in
+    by_runs size h (λ l. AreFew (runs size l)) (subst AreFew (sym (runs-nil {X = X} size h)) tt)
+    (λ l some others.
+    let front = length-take size l in
+    subst AreFew (sym (runs-first size l h some))
+    ((omega (arith, front, h), omega (arith, front)), others))
+    xs
 
 runs-join_within : {X : Type 0} (size k : ℕ) (xs ys : List X) → 0 < size → length xs ≡ k * size
     → runs size (xs ++ ys) ≡ runs size xs ++ runs size ys
@@ -167,23 +156,17 @@ runs-join size xs ys h e =
     runs-join_within size (length xs / size) xs ys h
     (sym (div-add-mod' (length xs) size) ∙ ap (λ r. length xs / size * size + r) e ∙ omega arith)
 
--- an induction over runs: n is at least the length
-runs-map_within : {X Y : Type 0} (n size : ℕ) (f : X → Y) (xs : List X) → 0 < size → length xs ≤ n
-    → runs size (map f xs) ≡ map (map f) (runs size xs)
-runs-map_within {X} {Y} n size f [] h e =
-    runs-nil {X = Y} size h ∙ ap (map (map f)) (sym (runs-nil {X = X} size h))
-runs-map_within zero size f (x ∷ xs) h e = absurd (omega (arith, e))
-runs-map_within (suc n) size f (x ∷ xs) h e =
-    let rest = drop size (x ∷ xs) in
-    let rest_len : length rest ≤ n = simp length-drop (omega (arith, e)) in
-    runs-first size (map f (x ∷ xs)) h (omega (arith, length-map (x ∷ xs) f))
-    ∙ (λ i. take-map f size (x ∷ xs) i ∷ runs size (drop-map f size (x ∷ xs) i))
-    ∙ ap (λ l. map f (take size (x ∷ xs)) ∷ l) (runs-map_within n size f rest h rest_len)
-    ∙ ap (map (map f)) (sym (runs-first size (x ∷ xs) h (omega arith)))
-
 pub runs-map : {X Y : Type 0} (size : ℕ) (f : X → Y) (xs : List X) → 0 < size
     → runs size (map f xs) ≡ map (map f) (runs size xs)
-runs-map size f xs h = runs-map_within (length xs) size f xs h (omega arith)
+runs-map {X} {Y} size f xs h =
+    by_runs size h (λ l. runs size (map f l) ≡ map (map f) (runs size l))
+    (runs-nil {X = Y} size h ∙ ap (map (map f)) (sym (runs-nil {X = X} size h)))
+    (λ l some others.
+    runs-first size (map f l) h (omega (arith, length-map l f))
+    ∙ (λ i. take-map f size l i ∷ runs size (drop-map f size l i))
+    ∙ ap (λ gs. map f (take size l) ∷ gs) others
+    ∙ ap (map (map f)) (sym (runs-first size l h some)))
+    xs
 
 -- pieces of the size of a run are its runs
 pub runs-flat_map : {X Y : Type 0} (size : ℕ) (f : X → List Y) (xs : List X) → 0 < size
@@ -192,21 +175,16 @@ runs-flat_map {X} {Y} size f [] h e = runs-nil {X = Y} size h
 runs-flat_map size f (x ∷ xs) h e =
     runs-append size (f x) (flat_map f xs) h (e x) ∙ ap (λ l. f x ∷ l) (runs-flat_map size f xs h e)
 
-joined_within : {X : Type 0} (n size : ℕ) (xs : List X) → 0 < size → length xs ≤ n
-    → flat_map (λ run. run) (runs size xs) ≡ xs
-joined_within {X} n size [] h e = ap (flat_map (λ run. run)) (runs-nil {X = X} size h)
-joined_within zero size (x ∷ xs) h e = absurd (omega (arith, e))
-joined_within (suc n) size (x ∷ xs) h e =
-    let rest = drop size (x ∷ xs) in
-    let rest_len : length rest ≤ n = simp length-drop (omega (arith, e)) in
-    ap (flat_map (λ run. run)) (runs-first size (x ∷ xs) h (omega arith))
-    ∙ ap (λ l. take size (x ∷ xs) ++ l) (joined_within n size rest h rest_len)
-    ∙ take-append-drop size (x ∷ xs)
-
 -- the runs joined are the list
 pub flat_map-runs : {X : Type 0} (size : ℕ) (xs : List X) → 0 < size
     → flat_map (λ run. run) (runs size xs) ≡ xs
-flat_map-runs size xs h = joined_within (length xs) size xs h (omega arith)
+flat_map-runs {X} size xs h =
+    let join : List (List X) → List X = flat_map (λ run. run) in
+    by_runs size h (λ l. join (runs size l) ≡ l) (ap join (runs-nil {X = X} size h))
+    (λ l some others.
+    ap join (runs-first size l h some) ∙ ap (λ rest. take size l ++ rest) others
+    ∙ take-append-drop size l)
+    xs
 
 length-first_chunks : {X : Type 0} (size k : ℕ) (xs : List X) → length (first_chunks size k xs) ≡ k
 length-first_chunks size zero xs = refl

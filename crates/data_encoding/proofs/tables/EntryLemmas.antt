@@ -12,7 +12,8 @@ use Rattle.data_encoding.specs.declared.specification.meanings.Refusal.TheVarian
 use Rattle.data_encoding.specs.Entries.{meaning_of_entry, is_entry_of, HoldsEntries}
 use Rattle.data_encoding.specs.Fields.{defined, is_same}
 use Rattle.data_encoding.specs.Layout.{code_of}
-use Rattle.data_encoding.proofs.lists.EachLemmas.{passes_at, list_all-set, take-set-lt}
+use Rattle.std.proofs.Math.Seq.{take-set-lt}
+use Rattle.data_encoding.proofs.lists.EachLemmas.{passes_at, list_all-set}
 
 pub entry_back : (v : ℕ) → is_entry_of 64 v ≡ true → code_of (meaning_of_entry v) ≡ v
 entry_back v h = grind (arith, nat_tests)

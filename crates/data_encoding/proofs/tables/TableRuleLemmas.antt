@@ -14,7 +14,8 @@ use Rattle.data_encoding.specs.Fields.{IsSpecified}
 use Rattle.data_encoding.specs.Layout.{code_of}
 use Rattle.data_encoding.proofs.judgement.RoundTripLemmas.{IsSpecified-ruled}
 use Rattle.data_encoding.proofs.tables.EntryLemmas.{entry_back, high_entry, is_entry-low, length-entries, length-low, meaning-low}
-use Rattle.data_encoding.proofs.lists.EachLemmas.{list_all-both, list_all-cons, list_all-map, list_all-places, passes_at}
+use Rattle.std.proofs.lemmas.List.Folds.{list_all-map}
+use Rattle.data_encoding.proofs.lists.EachLemmas.{list_all-both, list_all-cons, list_all-places, passes_at}
 use Rattle.data_encoding.proofs.judgement.RuleLemmas.{IsRuled, IsRuledPadding, IsRuledWrapping, is_no_padding, is_within}
 use Rattle.data_encoding.proofs.digits.WidthLemmas.{symbols-few}
 

@@ -5,6 +5,7 @@ use Rattle.std.proofs.Math.Pow.{pow_mono}
 use Rattle.std.proofs.Math.Seq.{take-add}
 use Rattle.std.proofs.lemmas.List.{drop-drop, length-drop, map-append}
 use Rattle.std.proofs.lemmas.Nat.{pow_pos}
+use Rattle.std.proofs.lemmas.List.Folds.{flat_map-map}
 use Rattle.std.specs.Prelude.{flat_map}
 use Rattle.std.specs.List.{range_with_len}
 use Rattle.data_encoding.specs.declared.encoding.BitOrder.{BitOrder}
@@ -24,11 +25,6 @@ map-pieces : {X Y Z : Type 0} (f : Y → Z) (g : X → List Y) (xs : List X)
 map-pieces f g [] = refl
 map-pieces f g (x ∷ xs) =
     map-append f (g x) (flat_map g xs) ∙ ap (λ l. map f (g x) ++ l) (map-pieces f g xs)
-
-pieces-map : {X Y Z : Type 0} (f : Y → List Z) (g : X → Y) (xs : List X)
-    → flat_map f (map g xs) ≡ flat_map (λ x. f (g x)) xs
-pieces-map f g [] = refl
-pieces-map f g (x ∷ xs) = ap (λ l. f (g x) ++ l) (pieces-map f g xs)
 
 module _ (base : Base) (order : BitOrder) (width bytes count : ℕ) (symbols : List ℕ)
     (group : IsGroup width bytes count) (writes : Writes base symbols width order) where
@@ -108,7 +104,7 @@ module _ (base : Base) (order : BitOrder) (width bytes count : ℕ) (symbols : L
       let all : bytes * 8 ≡ 8 * bytes = omega arith in
       map-pieces (slice_index symbols) (digits_of order width count)
       (group_words order bytes 8 input)
-      ∙ pieces-map (λ word. map (slice_index symbols) (digits_of order width count word))
+      ∙ flat_map-map (λ word. map (slice_index symbols) (digits_of order width count word))
       (group_word order bytes input) (range_with_len 0 8)
       ∙ groups_text input 8 0 (omega (arith, h))
       ∙ (λ i. plain_text base (take (all i) (drop (none i) input)))

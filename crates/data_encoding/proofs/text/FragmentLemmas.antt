@@ -1,13 +1,12 @@
 -- Data that is encoded piece by piece: blocks as they fill, and the rest at the end.
-use Rattle.std.proofs.Common.{[], refl, append-nil, ◌≡◌, ℕ, ◌+◌, ◌%◌, ◌<◌, List, ◌++◌, length, sym, ap, ◌∙◌, arith, append_assoc, length-append}
+use Rattle.std.proofs.Common.{[], refl, append-nil, ◌≡◌, ℕ, ◌+◌, ◌%◌, ◌<◌, List, ◌++◌, length, sym, ap, ◌∙◌, append_assoc, length-append}
 use Rattle.std.proofs.Math.Nat.{mod-add-mod, mod-eq_of_lt, mod_self, zero-add}
-use Rattle.std.proofs.lemmas.List.{nil_from_length}
 use Rattle.data_encoding.specs.Base.{Base}
 use Rattle.data_encoding.specs.Fragments.{HasEncoded}
 use Rattle.data_encoding.specs.Lengths.{alignment}
 use Rattle.data_encoding.specs.Text.{text_of}
 use Rattle.data_encoding.proofs.judgement.RuleLemmas.{IsRuled}
-use Rattle.data_encoding.proofs.text.LineLemmas.{text-most}
+use Rattle.data_encoding.proofs.text.LineLemmas.{text_of-nil}
 use Rattle.data_encoding.proofs.text.TextJoinLemmas.{text_of-join}
 
 -- two lengths of whole blocks together
@@ -15,11 +14,6 @@ whole-both : (m n size : ℕ) → m % size ≡ 0 → n % size ≡ 0 → (m + n) 
 whole-both m n size one other =
     sym (mod-add-mod m size n) ∙ ap (λ k. (k + n) % size) one ∙ ap (λ k. k % size) (zero-add n) ∙
     other
-
--- the text of nothing is nothing
-text_of-empty : (base : Base) → IsRuled base → text_of base [] ≡ []
-text_of-empty base ruled =
-    nil_from_length (text_of base []) (omega (arith, text-most base ruled []))
 
 -- nothing was handed over yet
 pub HasEncoded-nothing : (base : Base) → IsRuled base → (text : List ℕ) → 0 < alignment base
@@ -29,7 +23,7 @@ HasEncoded-nothing base ruled text some = record {
   are_bytes = refl;
   is_aligned = mod-eq_of_lt some;
   is_short = some;
-  is_written = sym (ap (λ l. text ++ l) (text_of-empty base ruled) ∙ append-nil text);
+  is_written = sym (ap (λ l. text ++ l) (text_of-nil base ruled) ∙ append-nil text);
 }
 
 module _ (base : Base) (ruled : IsRuled base) (before bytes text held : List ℕ)

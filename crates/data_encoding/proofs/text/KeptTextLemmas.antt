@@ -2,14 +2,14 @@
 use Rattle.std.proofs.Common.{◌≡◌, ℕ, ◌<◌, append-nil, Bool, false, not, cond, List, [], ◌∷◌, ◌++◌, length, replicate, Option, Some, None, refl, sym, ap, ◌∙◌}
 use Rattle.std.proofs.lemmas.List.Elements.{All-replicate, filter-append, recursion_from_All}
 use Rattle.std.specs.Prelude.{flat_map}
-use Rattle.std.specs.List.{AllByRecursion, filter}
+use Rattle.std.specs.List.{filter}
 use Rattle.data_encoding.specs.declared.encoding.Character.TheVariants.{Ignored}
 use Rattle.data_encoding.specs.Base.{Base, Wrapping, meaning, is_ignored, group_symbols}
 use Rattle.data_encoding.specs.Bits.{missing, runs}
 use Rattle.data_encoding.specs.Grammar.{kept, bytes_in}
 use Rattle.data_encoding.specs.Text.{in_lines, padded_text, plain_text, text_of, with_padding}
 use Rattle.data_encoding.proofs.grammar.SameBytesLemmas.{bytes-kept_in}
-use Rattle.data_encoding.proofs.lists.EachLemmas.{all_joined}
+use Rattle.data_encoding.proofs.lists.EachLemmas.{all_joined, all_weaker}
 use Rattle.data_encoding.proofs.lists.ListLemmas.{AllFail}
 use Rattle.data_encoding.proofs.lists.RunLemmas.{flat_map-runs}
 use Rattle.data_encoding.proofs.judgement.RuleLemmas.{IsRuled, IsRuledPadding, IsRuledWrapping}
@@ -37,13 +37,6 @@ module _ (base : Base) (ruled : IsRuled base) where
   abbrev keeps : ℕ → Bool
   keeps byte = not (is_ignored (meaning base byte))
 
-  separator_fails : (bytes : List ℕ)
-      → AllByRecursion (λ byte. (byte < 128) × (meaning base byte ≡ Ignored)) bytes
-      → AllFail keeps bytes
-  separator_fails [] h = tt
-  separator_fails (byte ∷ bytes) h =
-      (ap (λ m. not (is_ignored m)) h.0.1, separator_fails bytes h.1)
-
   kept-in_lines : (text : List ℕ) → filter keeps (in_lines base.wrapping text) ≡ filter keeps text
   kept-in_lines text = by base.wrapping ruled.wrapping where
     by : (o : Option Wrapping) → IsRuledWrapping base o
@@ -51,7 +44,10 @@ module _ (base : Base) (ruled : IsRuled base) where
     by None h = refl
     by (Some lines) h =
         filter-ended keeps lines.separator
-        (filter-none keeps lines.separator (separator_fails lines.separator h.ignored))
+        (filter-none keeps lines.separator
+        (all_weaker (λ byte. (byte < 128) × (meaning base byte ≡ Ignored))
+        (λ byte. keeps byte ≡ false) (λ byte rule. ap (λ m. not (is_ignored m)) rule.1)
+        lines.separator h.ignored))
         (runs lines.column text)
         ∙ ap (filter keeps) (flat_map-runs lines.column text h.some)
 

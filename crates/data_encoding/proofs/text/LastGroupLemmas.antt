@@ -1,6 +1,5 @@
 -- A group of symbols, and of padding behind them.
 use Rattle.std.proofs.Common.{◌≡◌, ℕ, ◌*◌, ◌<◌, ◌≤◌, List, [], ◌∷◌, ◌++◌, length, map, replicate, refl, sym, ap, ◌∙◌, subst, arith}
-use Rattle.std.proofs.Math.Nat.{div-eq_of_lt-le}
 use Rattle.std.proofs.lemmas.List.{length-map, map-append}
 use Rattle.std.proofs.lemmas.List.Elements.{All-replicate, recursion_from_All}
 use Rattle.std.specs.List.{AllByRecursion}
@@ -9,11 +8,8 @@ use Rattle.data_encoding.specs.Base.{Base, meaning, group_symbols}
 use Rattle.data_encoding.specs.Grammar.{GroupMeans, PlainMeans}
 use Rattle.data_encoding.specs.Text.{filled_with}
 use Rattle.data_encoding.proofs.digits.KernelLemmas.{filled_count}
-use Rattle.data_encoding.proofs.lists.RunLemmas.{run_count}
+use Rattle.data_encoding.proofs.lists.RunLemmas.{run_count-short}
 use Rattle.data_encoding.proofs.text.PaddedTextLemmas.{length-filled_with}
-
-one_run : (size n : ℕ) → 0 < n → n ≤ size → run_count size n ≡ 1
-one_run size n h k = div-eq_of_lt-le size (omega (arith, h, k)) (omega (arith, h, k))
 
 -- a few, filled, are one whole
 pub length-filled_once : (character size : ℕ) (text : List ℕ) → 0 < length text
@@ -21,7 +17,7 @@ pub length-filled_once : (character size : ℕ) (text : List ℕ) → 0 < length
 length-filled_once character size text some few =
     length-filled_with character size text
     ∙ filled_count size (length text) (omega (arith, some, few))
-    ∙ ap (λ n. size * n) (one_run size (length text) some few) ∙ omega arith
+    ∙ ap (λ n. size * n) (run_count-short size (length text) some few) ∙ omega arith
 
 module _ (base : Base) where
   -- bytes that each mean padding

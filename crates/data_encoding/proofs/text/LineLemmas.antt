@@ -1,7 +1,7 @@
 -- Texts in lines: their lengths, and one line after the other.
-use Rattle.std.proofs.Common.{◌≡◌, ◌≢◌, ℕ, zero, suc, ◌+◌, ◌*◌, ◌/◌, ◌<◌, ◌≤◌, Bool, true, false, Option, Some, None, IsSome, is_some, List, [], ◌∷◌, ◌++◌, length, refl, sym, ap, ◌∙◌, subst, arith, ⊎_elim, append-nil}
+use Rattle.std.proofs.Common.{◌≡◌, ◌≢◌, ℕ, zero, suc, ◌+◌, ◌*◌, ◌/◌, ◌<◌, ◌≤◌, Bool, true, false, Option, Some, None, IsSome, is_some, List, [], ◌++◌, length, refl, sym, ap, ◌∙◌, subst, arith, append-nil}
 use Rattle.std.proofs.Math.Nat.{le-mul_of_pos_right, mul-add, mul-le-mul_right, mul_assoc, zero-mul}
-use Rattle.std.proofs.lemmas.Bool.{cases_lt, false≢true}
+use Rattle.std.proofs.lemmas.Bool.{false≢true}
 use Rattle.std.proofs.lemmas.List.{nil_from_length}
 use Rattle.std.proofs.lemmas.Nat.{mul-le}
 use Rattle.std.specs.List.{AllByRecursion}
@@ -11,6 +11,7 @@ use Rattle.data_encoding.specs.Encoding.{EncodingTables, KeepsRules, KeepsWrappi
 use Rattle.data_encoding.specs.Lengths.{align_by, alignment}
 use Rattle.data_encoding.specs.Text.{in_lines, padded_text, text_of}
 use Rattle.data_encoding.proofs.digits.WidthLemmas.{group_bytes-few, group_bytes-pos, group_symbols-few, group_symbols-pos}
+use Rattle.data_encoding.proofs.lists.EachLemmas.{all_weaker}
 use Rattle.data_encoding.proofs.lists.RunLemmas.{all_ended, ended-short, length-ended, run_count, run_count-few, run_count-some, run_count-whole, runs-reach}
 use Rattle.data_encoding.proofs.judgement.RuleLemmas.{AreLines, IsRuled, IsRuledWrapping}
 use Rattle.data_encoding.proofs.tables.TableLemmas.{padding-seen, symbols-seen}
@@ -41,6 +42,18 @@ module _ (base : Base) (width : IsWidth base.width) (bytes : List ℕ) where
           runs-reach (group_symbols base.width) count (group_symbols-pos base.width width),
           same,
         )
+
+  -- nor than any number of whole groups that holds the data
+  pub padded-fits : (count : ℕ) → length bytes ≤ count * group_bytes base.width
+      → length (padded_text base bytes) ≤ count * group_symbols base.width
+  padded-fits count few =
+      omega (
+        arith,
+        padded-few,
+        mul-le-mul_right (group_symbols base.width)
+            (run_count-few (group_bytes base.width) (length bytes) count
+            (group_bytes-pos base.width width) few),
+      )
 
   -- and some where there are some data
   padded-some : 0 < length bytes → 0 < length (padded_text base bytes)
@@ -86,19 +99,10 @@ module _ (base : Base) (ruled : IsRuled base) (lines : Wrapping) (some : base.wr
         ∙ line-groups lines.column base.width ruled.is_width are.whole
 
     groups-some : 0 < groups
-    groups-some =
-        ⊎_elim {C = 0 < groups}
-        (λ (more : 0 < groups). more)
-        (λ (none : groups ≤ 0).
-        let no_groups : groups ≡ 0 = omega (arith, none) in
-        absurd (omega (
-          arith,
-          are.some,
-          column-is,
-          ap (λ n. n * group_symbols base.width) no_groups,
-          zero-mul (group_symbols base.width),
-        )))
-        (cases_lt 0 groups)
+    groups-some = by groups column-is where
+      by : (n : ℕ) → lines.column ≡ n * group_symbols base.width → 0 < n
+      by zero e = absurd (omega (arith, are.some, e, zero-mul (group_symbols base.width)))
+      by (suc n) e = omega arith
 
     pub alignment-some : 0 < alignment base
     alignment-some =
@@ -162,19 +166,17 @@ module _ (base : Base) (ruled : IsRuled base) (lines : Wrapping) (some : base.wr
     module _ (count : ℕ) (bytes : List ℕ) (few : length bytes ≤ count * alignment base) where
       pub padded-lines : length (padded_text base bytes) ≤ count * lines.column
       padded-lines =
-          let size = group_bytes base.width in
-          let symbols = group_symbols base.width in
-          let reach : length bytes ≤ count * groups * size =
-          omega (arith, few, ap (λ n. count * n) alignment-is, mul_assoc count groups size) in
-          let all : run_count size (length bytes) ≤ count * groups =
-          run_count-few size (length bytes) (count * groups)
-          (group_bytes-pos base.width ruled.is_width) reach in
           omega (
             arith,
-            padded-few base ruled.is_width bytes,
-            mul-le-mul_right symbols all,
+            padded-fits base ruled.is_width bytes (count * groups)
+                (omega (
+                  arith,
+                  few,
+                  ap (λ n. count * n) alignment-is,
+                  mul_assoc count groups (group_bytes base.width),
+                )),
             ap (λ n. count * n) column-is,
-            mul_assoc count groups symbols,
+            mul_assoc count groups (group_symbols base.width),
           )
 
       pub short-lines : length (text_of base bytes)
@@ -245,11 +247,6 @@ text_of-line base ruled bytes any few = by base.wrapping refl where
   by None is = text_of-unwrapped base bytes is ∙ sym (append-nil (padded_text base bytes))
   by (Some lines) is = one-line base ruled lines is bytes few any
 
-first-of-both : (P Q : ℕ → Type 0) (xs : List ℕ) → AllByRecursion (λ x. P x × Q x) xs
-    → AllByRecursion P xs
-first-of-both P Q [] h = tt
-first-of-both P Q (x ∷ xs) h = (h.0.0, first-of-both P Q xs h.1)
-
 -- a text is ASCII with its separators too
 ascii-text_of : (base : Base) → IsRuled base → (bytes : List ℕ)
     → AllByRecursion (λ byte. byte < 128) (padded_text base bytes)
@@ -260,8 +257,8 @@ ascii-text_of base ruled bytes ascii = by base.wrapping ruled.wrapping where
   by None rule = ascii
   by (Some lines) rule =
       all_ended (λ byte. byte < 128) lines.separator
-      (first-of-both (λ byte. byte < 128) (λ byte. meaning base byte ≡ Ignored) lines.separator
-      rule.ignored)
+      (all_weaker (λ byte. (byte < 128) × (meaning base byte ≡ Ignored)) (λ byte. byte < 128)
+      (λ byte both. both.0) lines.separator rule.ignored)
       lines.column (run_count lines.column (length (padded_text base bytes)))
       (padded_text base bytes) ascii
 

@@ -1,7 +1,7 @@
 -- Texts in lines, made by pieces: line by line, and by blocks of lines.
-use Rattle.std.proofs.Common.{◌≡◌, ℕ, ◌+◌, ◌*◌, ◌/◌, ◌%◌, ◌<◌, ◌≤◌, Some, IsSome, List, ◌++◌, length, sym, ap, ◌∙◌, subst, arith, ⊎_elim, length-append}
-use Rattle.std.proofs.Math.Nat.{le-mul_of_pos_right, lt-div-mul-add, mul-mod_left, mul_assoc, zero-mul}
-use Rattle.std.proofs.lemmas.Bool.{cases_lt}
+use Rattle.std.proofs.Common.{◌≡◌, ℕ, ◌+◌, ◌*◌, ◌/◌, ◌%◌, ◌<◌, ◌≤◌, Some, IsSome, List, ◌++◌, length, sym, ap, ◌∙◌, subst, arith, length-append}
+use Rattle.std.proofs.Math.Nat.{le-mul_of_pos_right, mul-mod_left, mul_assoc}
+use Rattle.std.proofs.lemmas.Nat.{le-div}
 use Rattle.std.proofs.lemmas.List.Concat.{flat_map-append}
 use Rattle.std.specs.Prelude.{flat_map}
 use Rattle.data_encoding.specs.Base.{Base, Wrapping}
@@ -126,22 +126,7 @@ module _ {e : EncodingTables} {seen : Base} (rules : KeepsRules e) (is : base_of
 
     pub lines-some : 256 ≤ room → 0 < room / e.column
     lines-some enough =
-        let columns : e.column < 256 = lines-are.short in
-        ⊎_elim {C = 0 < room / e.column}
-        (λ (more : 0 < room / e.column). more)
-        (λ (none : room / e.column ≤ 0).
-        let no_lines : room / e.column ≡ 0 = omega (arith, none) in
-        let past : room < room / e.column * e.column + e.column =
-        lt-div-mul-add columns-some in
-        absurd (omega (
-          arith,
-          past,
-          columns,
-          enough,
-          ap (λ n. n * e.column) no_lines,
-          zero-mul e.column,
-        )))
-        (cases_lt 0 (room / e.column))
+        le-div 1 room e.column columns-some (omega (arith, lines-are.short, enough))
 
     pub lines-fit : {size : ℕ} (bytes : List ℕ) → size ≡ alignment seen
         → length bytes ≤ room / e.column * size → length (padded_text seen bytes) ≤ room

@@ -1,8 +1,8 @@
 -- The text of bytes means the bytes.
-use Rattle.std.proofs.Common.{◌≡◌, ℕ, zero, suc, ◌+◌, ◌-◌, ◌*◌, ◌%◌, ◌<◌, ◌≤◌, true, List, [], ◌++◌, length, take, drop, replicate, Option, Some, None, is_some, refl, sym, ap, ◌∙◌, subst, arith, ⊎_elim, append_assoc, length-append, take-append-drop, length-take-le, map}
-use Rattle.std.proofs.Math.Nat.{add-mod_left, mod-eq_of_lt}
+use Rattle.std.proofs.Common.{◌≡◌, ℕ, ◌+◌, ◌-◌, ◌*◌, ◌%◌, ◌<◌, ◌≤◌, true, List, [], ◌++◌, length, take, drop, replicate, Option, Some, None, is_some, refl, sym, ap, ◌∙◌, subst, arith, ⊎_elim, take-append-drop, length-take-le, map}
+use Rattle.std.proofs.Math.Nat.{mod-eq_of_lt, mod_self}
 use Rattle.std.proofs.lemmas.Bool.{cases_lt, false≢true}
-use Rattle.std.proofs.lemmas.List.{append-nil, length-drop, nil_from_length, length-map, map-append}
+use Rattle.std.proofs.lemmas.List.{append-nil, length-map, map-append}
 use Rattle.std.proofs.lemmas.List.Elements.{All-take, All-drop}
 use Rattle.std.specs.Prelude.{All}
 use Rattle.data_encoding.specs.declared.encoding.Character.TheVariants.{Padding}
@@ -11,22 +11,17 @@ use Rattle.data_encoding.specs.Bits.{missing, runs}
 use Rattle.data_encoding.specs.Grammar.{GroupMeans, GroupsMean, Means, MeansBy, PlainMeans, bytes_in, kept}
 use Rattle.data_encoding.specs.Text.{filled_with, plain_text, text_of, with_padding}
 use Rattle.data_encoding.proofs.digits.WidthLemmas.{by_width, group_bytes-pos, group_symbols-pos}
+use Rattle.data_encoding.proofs.grammar.GroupLemmas.{GroupMeans-whole}
 use Rattle.data_encoding.proofs.grammar.PositionLemmas.{runs-meanings}
 use Rattle.data_encoding.proofs.grammar.SoundLemmas.{symbols-not_final}
-use Rattle.data_encoding.proofs.lists.RunLemmas.{run_count, runs-append, runs-nil, runs-short}
+use Rattle.data_encoding.proofs.lists.RunLemmas.{by_runs, run_count, run_count-some, runs-append, runs-nil, runs-short}
 use Rattle.data_encoding.proofs.judgement.RuleLemmas.{IsRuled, IsRuledPadding}
 use Rattle.data_encoding.proofs.text.LastGroupLemmas.{AreFillers-replicate, GroupMeans-fillers, length-filled_once}
 use Rattle.data_encoding.proofs.text.KeptTextLemmas.{bytes-kept_text}
 use Rattle.data_encoding.proofs.text.SymbolMeaningLemmas.{PlainMeans-plain_text}
-use Rattle.data_encoding.proofs.text.PlainTextLemmas.{length-plain_text, plain_text-join, plain_text-nil, missing-none}
+use Rattle.data_encoding.proofs.text.PlainTextLemmas.{filled-join, filled-whole, length-plain_text, plain_text-join, plain_text-nil}
 
--- a symbol or more of a byte or more; a whole group of a whole group; one group of no more
-pub some_symbols : (width : ℕ) → IsWidth width → (n : ℕ) → 0 < n → 0 < run_count width (8 * n)
-some_symbols =
-    by_width (λ w. (n : ℕ) → 0 < n → 0 < run_count w (8 * n))
-    (λ n h. omega (arith, h)) (λ n h. omega (arith, h)) (λ n h. omega (arith, h))
-    (λ n h. omega (arith, h)) (λ n h. omega (arith, h)) (λ n h. omega (arith, h))
-
+-- a whole group of symbols of a whole group; one group of no more
 whole_bits : (width : ℕ) → IsWidth width → 8 * group_bytes width % width ≡ 0
 whole_bits = by_width (λ w. 8 * group_bytes w % w ≡ 0) refl refl refl refl refl refl
 
@@ -41,20 +36,6 @@ few_symbols =
     by_width (λ w. (n : ℕ) → n ≤ group_bytes w → run_count w (8 * n) ≤ group_symbols w)
     (λ n h. omega (arith, h)) (λ n h. omega (arith, h)) (λ n h. omega (arith, h))
     (λ n h. omega (arith, h)) (λ n h. omega (arith, h)) (λ n h. omega (arith, h))
-
--- what fills a list fills it behind a whole run
-pub filled-behind : (filler size : ℕ) (xs ys : List ℕ) → length xs ≡ size
-    → filled_with filler size (xs ++ ys) ≡ xs ++ filled_with filler size ys
-filled-behind filler size xs ys e =
-    let same : length (xs ++ ys) % size ≡ length ys % size =
-    ap (λ n. n % size) (length-append xs ys ∙ ap (λ n. n + length ys) e)
-    ∙ add-mod_left size (length ys) in
-    ap (λ n. (xs ++ ys) ++ replicate ((size - n) % size) filler) same
-    ∙ append_assoc xs ys (replicate (missing size (length ys)) filler)
-
-pub filled-nil : (filler size : ℕ) → 0 < size → filled_with filler size [] ≡ []
-filled-nil filler size h =
-    ap (λ n. replicate n filler) (missing-none size 0 (mod-eq_of_lt h))
 
 module _ (base : Base) (ruled : IsRuled base) where
   width : IsWidth base.width
@@ -82,14 +63,7 @@ module _ (base : Base) (ruled : IsRuled base) where
         length-map (plain_text base bytes) (meaning base)
         ∙ length-plain_text base bytes width.some ∙ ap (λ n. run_count base.width (8 * n)) e
         ∙ whole_symbols base.width width in
-        record {
-          symbols = group;
-          padding = 0;
-          is_group = sym (append-nil group);
-          is_whole = len;
-          is_begun = subst (λ n. 0 < n) (sym len) (group_symbols-pos base.width width);
-          means = plain_means bytes below;
-        }
+        GroupMeans-whole base width group bytes len (plain_means bytes below)
 
     -- the last group
     last_group : (bytes : List ℕ) → All (λ byte. byte < 256) bytes → 0 < length bytes
@@ -99,7 +73,7 @@ module _ (base : Base) (ruled : IsRuled base) where
         let text = plain_text base bytes in
         let len = length-plain_text base bytes width.some in
         let count = missing size (length text) in
-        let begun = some_symbols base.width width (length bytes) some in
+        let begun = run_count-some base.width (8 * length bytes) width.some (omega arith) in
         let within = few_symbols base.width width (length bytes) few in
         GroupMeans-fillers base text (replicate count character) bytes (plain_means bytes below)
         (omega (arith, len, begun))
@@ -110,16 +84,14 @@ module _ (base : Base) (ruled : IsRuled base) where
     abbrev AreMeant : List ℕ → Type 0
     AreMeant bytes = GroupsMean base (runs size (map (meaning base) (filled bytes))) bytes
 
-    none_meant : (bytes : List ℕ) → length bytes ≤ 0 → AreMeant bytes
-    none_meant bytes few =
-        let none : bytes ≡ [] = nil_from_length bytes (omega (arith, few)) in
+    none_meant : AreMeant []
+    none_meant =
         let positive = group_symbols-pos base.width width in
-        let empty : filled bytes ≡ [] =
-        ap filled none
-        ∙ ap (filled_with character size) (plain_text-nil base width.some)
-        ∙ filled-nil character size positive in
-        subst (λ gs. GroupsMean base gs bytes)
-        (sym (ap (λ l. runs size (map (meaning base) l)) empty ∙ runs-nil size positive)) none
+        let empty : filled [] ≡ [] =
+        ap (filled_with character size) (plain_text-nil base width.some)
+        ∙ filled-whole character size [] (mod-eq_of_lt positive) in
+        subst (λ gs. GroupsMean base gs [])
+        (sym (ap (λ l. runs size (map (meaning base) l)) empty ∙ runs-nil size positive)) refl
 
     last_meant : (bytes : List ℕ) → All (λ byte. byte < 256) bytes → 0 < length bytes
         → length bytes ≤ group_bytes base.width → AreMeant bytes
@@ -153,7 +125,8 @@ module _ (base : Base) (ruled : IsRuled base) where
         ≡ map (meaning base) text ++ map (meaning base) (filled rest) =
         ap (λ l. map (meaning base) (filled_with character size l)) joined
         ∙ ap (map (meaning base))
-        (filled-behind character size text (plain_text base rest) text_len)
+        (filled-join character size text (plain_text base rest)
+        (group_symbols-pos base.width width) (ap (λ n. n % size) text_len ∙ mod_self size))
         ∙ map-append (meaning base) text (filled rest) in
         subst (λ gs. GroupsMean base gs bytes)
         (sym (ap (runs size) parts
@@ -171,23 +144,16 @@ module _ (base : Base) (ruled : IsRuled base) where
         )
 
     -- group after group
-    groups_meant : (fuel : ℕ) (bytes : List ℕ) → length bytes ≤ fuel
-        → All (λ byte. byte < 256) bytes → AreMeant bytes
-    groups_meant zero bytes few below = none_meant bytes few
-    groups_meant (suc fuel) bytes few below =
+    groups_meant : (bytes : List ℕ) → All (λ byte. byte < 256) bytes → AreMeant bytes
+    groups_meant =
         let count = group_bytes base.width in
-        let rest_len = length-drop count bytes in
-        let taken = group_bytes-pos base.width width in
-        ⊎_elim
-        (λ (long : count < length bytes).
-        next_meant bytes below (omega (arith, long))
-        (groups_meant fuel (drop count bytes) (omega (arith, few, rest_len, taken, long))
-        (All-drop (λ byte. byte < 256) count bytes below)))
-        (λ (short : length bytes ≤ count).
-        ⊎_elim (λ (some : 0 < length bytes). last_meant bytes below some short)
-        (λ (none : length bytes ≤ 0). none_meant bytes none)
-        (cases_lt 0 (length bytes)))
-        (cases_lt count (length bytes))
+        by_runs count (group_bytes-pos base.width width)
+        (λ bytes. All (λ byte. byte < 256) bytes → AreMeant bytes) (λ below. none_meant)
+        (λ bytes some others below.
+        ⊎_elim (λ (short : length bytes < count). last_meant bytes below some (omega arith))
+        (λ (long : count ≤ length bytes).
+        next_meant bytes below long (others (All-drop (λ byte. byte < 256) count bytes below)))
+        (cases_lt (length bytes) count))
 
   -- the text of bytes means the bytes
   pub Means-text_of : (bytes : List ℕ) → All (λ byte. byte < 256) bytes
@@ -208,4 +174,4 @@ module _ (base : Base) (ruled : IsRuled base) where
             subst (λ gs. GroupsMean base gs bytes)
             (ap (λ l. runs size (map (meaning base) l)) (sym same)
             ∙ runs-meanings base size kept_bytes (group_symbols-pos base.width width))
-            (groups_meant (ap is_some is) character h.1 (length bytes) bytes (omega arith) below)
+            (groups_meant (ap is_some is) character h.1 bytes below)
