@@ -19,22 +19,25 @@ Judged = Result (List Character) Refusal
 -- the first judgements, and then the others
 pub meanings_after-append : (r : Judged) (js ks : List Judgement)
     → meanings_after r (js ++ ks) ≡ meanings_after (meanings_after r js) ks
-meanings_after-append (Err refusal) [] ks = refl
-meanings_after-append (Err refusal) (j ∷ js) ks = refl
-meanings_after-append (Ok meanings) [] ks = refl
 meanings_after-append (Ok meanings) (j ∷ js) ks =
     meanings_after-append (judged meanings j) js ks
+meanings_after-append _ _ ks = refl
 
 pub after-ok : (r : Judged) (meanings : List Character) (js : List Judgement) → r ≡ Ok meanings
     → meanings_after r js ≡ meanings_after (Ok meanings) js
 after-ok r meanings js h = ap (λ s. meanings_after s js) h
 
--- What a definition that is not refused does: it writes the meaning, or it was there.
+-- the meaning was there, or is written where nothing was
+abbrev IsWritten : List Character → ℕ → Character → List Character → Type 0
+IsWritten before byte m after =
+    ((get_or before byte Invalid ≡ m) × (after ≡ before))
+    ⊎ ((get_or before byte Invalid ≡ Invalid) × (after ≡ set before byte m))
+
+-- What a definition that is not refused does.
 record IsDefined (before : List Character) (byte : ℕ) (m : Character) (after : List Character)
     : Type 0 where
   pub ascii : byte < 128
-  pub written : ((get_or before byte Invalid ≡ m) × (after ≡ before))
-      ⊎ ((get_or before byte Invalid ≡ Invalid) × (after ≡ set before byte m))
+  pub written : IsWritten before byte m after
 
 defined_by-ok : (past same free : Bool) (before after : List Character) (byte : ℕ) (m : Character)
     → defined_by past same free before byte m ≡ Ok after
@@ -88,47 +91,31 @@ required-ok : (holds : Bool) (refusal : Refusal) (before after : List Character)
 required-ok true refusal before after h = (refl, ok-same before after h)
 required-ok false refusal before after h = cc
 
-IsDefined-kept : (before after : List Character) (byte : ℕ) (m : Character)
-    → IsDefined before byte m after → AreKept before after
-IsDefined-kept before after byte m is other some =
-    ⊎_elim
-    (λ (same : (get_or before byte Invalid ≡ m) × (after ≡ before)).
-    ap (λ l. get_or l other Invalid) same.1)
-    (λ (free : (get_or before byte Invalid ≡ Invalid) × (after ≡ set before byte m)).
+written-kept : (before after : List Character) (byte : ℕ) (m : Character)
+    → IsWritten before byte m after → AreKept before after
+written-kept before after byte m (inl same) other some = ap (λ l. get_or l other Invalid) same.1
+written-kept before after byte m (inr free) other some =
     let apart : other ≢ byte = λ e. some (ap (λ n. get_or before n Invalid) e ∙ free.0) in
-    ap (λ l. get_or l other Invalid) free.1 ∙ get_or-set_other before byte other m Invalid apart)
-    is.written
+    ap (λ l. get_or l other Invalid) free.1 ∙ get_or-set_other before byte other m Invalid apart
 
-IsDefined-length : (before after : List Character) (byte : ℕ) (m : Character)
-    → IsDefined before byte m after → length after ≡ length before
-IsDefined-length before after byte m is =
-    ⊎_elim
-    (λ (same : (get_or before byte Invalid ≡ m) × (after ≡ before)). ap length same.1)
-    (λ (free : (get_or before byte Invalid ≡ Invalid) × (after ≡ set before byte m)).
-    ap length free.1 ∙ length-set before byte m)
-    is.written
+written-length : (before after : List Character) (byte : ℕ) (m : Character)
+    → IsWritten before byte m after → length after ≡ length before
+written-length before after byte m (inl same) = ap length same.1
+written-length before after byte m (inr free) = ap length free.1 ∙ length-set before byte m
 
-IsDefined-there : (before after : List Character) (byte : ℕ) (m : Character)
-    → length before ≡ 128 → IsDefined before byte m after → get_or after byte Invalid ≡ m
-IsDefined-there before after byte m long is =
-    ⊎_elim
-    (λ (same : (get_or before byte Invalid ≡ m) × (after ≡ before)).
-    ap (λ l. get_or l byte Invalid) same.1 ∙ same.0)
-    (λ (free : (get_or before byte Invalid ≡ Invalid) × (after ≡ set before byte m)).
-    ap (λ l. get_or l byte Invalid) free.1
-    ∙ get_or-set_same before byte m Invalid (omega (arith, is.ascii, long)))
-    is.written
+written-there : (before after : List Character) (byte : ℕ) (m : Character)
+    → byte < length before → IsWritten before byte m after → get_or after byte Invalid ≡ m
+written-there before after byte m low (inl same) =
+    ap (λ l. get_or l byte Invalid) same.1 ∙ same.0
+written-there before after byte m low (inr free) =
+    ap (λ l. get_or l byte Invalid) free.1 ∙ get_or-set_same before byte m Invalid low
 
-IsDefined-passes : (test : Character → Bool) (before after : List Character) (byte : ℕ)
+written-passes : (test : Character → Bool) (before after : List Character) (byte : ℕ)
     (m : Character) → test m ≡ true → list_all test before ≡ true
-    → IsDefined before byte m after → list_all test after ≡ true
-IsDefined-passes test before after byte m passes all is =
-    ⊎_elim
-    (λ (same : (get_or before byte Invalid ≡ m) × (after ≡ before)).
-    ap (list_all test) same.1 ∙ all)
-    (λ (free : (get_or before byte Invalid ≡ Invalid) × (after ≡ set before byte m)).
-    ap (list_all test) free.1 ∙ list_all-set test before byte m passes all)
-    is.written
+    → IsWritten before byte m after → list_all test after ≡ true
+written-passes test before after byte m passes all (inl same) = ap (list_all test) same.1 ∙ all
+written-passes test before after byte m passes all (inr free) =
+    ap (list_all test) free.1 ∙ list_all-set test before byte m passes all
 
 -- What a translation that is not refused does.
 record IsTranslated (before : List Character) (from to : ℕ) (after : List Character)
@@ -178,22 +165,27 @@ judged-ok before after (Require holds refusal) h =
 judged-ok before after (Define byte m) h =
     let is = defined-ok before after byte m h in
     record {
-      kept = IsDefined-kept before after byte m is;
-      long = IsDefined-length before after byte m is;
-      held = λ long. (is.ascii, λ some. IsDefined-there before after byte m long is);
+      kept = written-kept before after byte m is.written;
+      long = written-length before after byte m is.written;
+      held = λ long. (
+        is.ascii,
+        λ some. written-there before after byte m (omega (arith, is.ascii, long)) is.written,
+      );
     }
 judged-ok before after (Translate from to) h =
     let is = translated-ok before after from to h in
     let m = get_or before to Invalid in
-    let stays = IsDefined-kept before after from m is.is_defined to is.means in
+    let written = is.is_defined.written in
+    let stays = written-kept before after from m written to is.means in
     record {
-      kept = IsDefined-kept before after from m is.is_defined;
-      long = IsDefined-length before after from m is.is_defined;
+      kept = written-kept before after from m written;
+      long = written-length before after from m written;
       held = λ long. (
         is.ascii,
         is.is_defined.ascii,
         (λ e. is.means (sym stays ∙ e)),
-        IsDefined-there before after from m long is.is_defined ∙ sym stays,
+        written-there before after from m (omega (arith, is.is_defined.ascii, long)) written
+            ∙ sym stays,
       );
     }
 
@@ -267,11 +259,11 @@ judged-passes : (test : Character → Bool) (before after : List Character) (j :
 judged-passes test before after (Require holds refusal) none brings all h =
     ap (list_all test) (required-ok holds refusal before after h).1 ∙ all
 judged-passes test before after (Define byte m) none brings all h =
-    IsDefined-passes test before after byte m brings all (defined-ok before after byte m h)
+    written-passes test before after byte m brings all (defined-ok before after byte m h).written
 judged-passes test before after (Translate from to) none brings all h =
     let is = translated-ok before after from to h in
-    IsDefined-passes test before after from (get_or before to Invalid)
-    (passes_or test before to none all) all is.is_defined
+    written-passes test before after from (get_or before to Invalid)
+    (passes_or test before to none all) all is.is_defined.written
 
 pub meanings_after-pass : (test : Character → Bool) (js : List Judgement)
     (before after : List Character) → test Invalid ≡ true → AllByRecursion (Brings test) js

@@ -1,5 +1,5 @@
 -- The specification of a base yields it again.
-use Rattle.std.proofs.Common.{◌≡◌, ◌≢◌, ◌⊎◌, ℕ, suc, ◌+◌, ◌%◌, ◌<◌, ◌≤◌, ◌==◌, Bool, true, false, not, ◌&&◌, nat_le, nat_lt, cond, if◌then◌else◌, List, [], ◌∷◌, ◌++◌, length, map, get_or, Option, Some, None, unwrap_or, Ok, Err, refl, sym, ap, ◌∙◌, subst, arith, inl, inr, ⊎_elim, get_or-set_same, get_or-set_other}
+use Rattle.std.proofs.Common.{◌≡◌, ◌≢◌, ◌⊎◌, ℕ, suc, ◌+◌, ◌%◌, ◌<◌, ◌≤◌, ◌==◌, Bool, true, false, not, ◌&&◌, nat_le, nat_lt, cond, if◌then◌else◌, List, [], ◌∷◌, length, map, get_or, Option, Some, None, unwrap_or, Ok, Err, refl, sym, ap, ◌∙◌, subst, arith, inl, inr, ⊎_elim, get_or-set_same, get_or-set_other}
 use Rattle.std.proofs.lemmas.Bool.{and_from, cases_Bool, cases_eq, cases_lt, eq-eqb, ltb-true, lt-ltb, lt-leb}
 use Rattle.std.proofs.lemmas.Bool.Decides.{nat_tests}
 use Rattle.std.proofs.lemmas.List.{ext_get_or, get_or-replicate, get_or_past, length-map}
@@ -9,12 +9,12 @@ use Rattle.data_encoding.specs.declared.encoding.Character.{Character}
 use Rattle.data_encoding.specs.declared.encoding.Character.TheVariants.{Symbol, Padding, Ignored, Invalid}
 use Rattle.data_encoding.specs.declared.specification.meanings.Refusal.TheVariants.{NotAscii, Undefined, WrapLength, WrapWidth}
 use Rattle.data_encoding.specs.Base.{Base, Wrapping, group_symbols, is_ignored, meaning, symbol}
-use Rattle.data_encoding.specs.Fields.{Fields, Judgement, base_of, base_with, defined, ignored_judgements, is_same, judged, judgements, meanings_after, no_meanings, padding_judgements, pair_judgements, symbol_judgements, translated, translation_judgements, width_of, wrapping_judgements, wraps, Require, Define, Translate, IsSpecified}
+use Rattle.data_encoding.specs.Fields.{Judgement, base_of, base_with, defined, ignored_judgements, is_same, judged, judgements, meanings_after, no_meanings, padding_judgements, pair_judgements, symbol_judgements, translated, translation_judgements, width_of, wrapping_judgements, wraps, Require, Define, Translate, IsSpecified}
 use Rattle.data_encoding.specs.Layout.{column_of, fields_of, is_translated, own_character, separator_of, translated_bytes}
 use Rattle.data_encoding.proofs.tables.EntryLemmas.{defined_by, false_or, is_same-self, same-is_same}
 use Rattle.data_encoding.proofs.judgement.JudgementLemmas.{AreKept, AreKept-join, IsHeld, Judged, after-ok, judged-ok, meanings_after-append, meanings_after-ok, symbols-held}
-use Rattle.data_encoding.proofs.lists.EachLemmas.{all_joined, all_parts, all_in_range, at_in_range, passes_at}
-use Rattle.data_encoding.proofs.judgement.RuleLemmas.{IsRuled, IsRuledPadding, IsRuledWrapping, base_of-width, ignored-held, is_no_padding, is_within, IsRuled-yield, width_of-power}
+use Rattle.data_encoding.proofs.lists.EachLemmas.{all_parts, all_in_range, at_in_range, passes_at}
+use Rattle.data_encoding.proofs.judgement.RuleLemmas.{IsRuled, IsRuledPadding, IsRuledWrapping, base_of-width, first_judgements, from_parts, ignored-held, is_no_padding, is_within, IsRuled-yield, parts_of, width_of-power}
 
 -- A judgement agrees with the meanings in the end, where what is translated to is known before.
 abbrev Agrees : List Character → List Character → Judgement → Type 0
@@ -186,10 +186,8 @@ pairs-held meanings f [] all = tt
 pairs-held meanings f (byte ∷ bytes) all = (all.0, pairs-held meanings f bytes all.1)
 
 ignored-is : (m : Character) → is_ignored m ≡ true → m ≡ Ignored
-ignored-is (Symbol value) h = cc
-ignored-is Padding h = cc
 ignored-is Ignored h = refl
-ignored-is Invalid h = cc
+ignored-is _ h = cc
 
 not_zero : (n : ℕ) → 0 < n → not (n == 0) ≡ true
 not_zero n h = grind (arith, nat_tests)
@@ -219,14 +217,8 @@ module _ (base : Base) (ruled : IsRuled base) where
       × (meaning base character ≡ Padding)
   padding-own byte low m = no_padding byte low base.padding refl ruled.padding m
 
-  abbrev fields : Fields
-  fields = fields_of base
-
   abbrev before_pairs : List Judgement
-  before_pairs =
-      symbol_judgements 0 base.symbols ++ padding_judgements base.width base.padding
-      ++ ignored_judgements (fields_of base).ignored
-      ++ wrapping_judgements base.width (column_of base.wrapping) (separator_of base.wrapping)
+  before_pairs = first_judgements base.width (fields_of base)
 
   padding-agrees : (o : Option ℕ) → IsRuledPadding base o
       → AllByRecursion (Agrees base.meanings no_meanings) (padding_judgements base.width o)
@@ -260,25 +252,18 @@ module _ (base : Base) (ruled : IsRuled base) where
 
   before_pairs-agree : AllByRecursion (Agrees base.meanings no_meanings) before_pairs
   before_pairs-agree =
-      let P = Agrees base.meanings no_meanings in
-      let a = symbol_judgements 0 base.symbols in
-      let b = padding_judgements base.width base.padding in
-      let c = ignored_judgements (fields_of base).ignored in
-      let d = wrapping_judgements base.width (column_of base.wrapping)
-      (separator_of base.wrapping) in
-      all_joined P (a ++ b ++ c) d
-      (all_joined P (a ++ b) c
-      (all_joined P a b
-      (symbols-agree base.meanings no_meanings 0 base.symbols (λ i h.
-      let own = ruled.own i h in
-      let first : i ≡ 0 + i = omega arith in
-      (own.0, own.1 ∙ ap (λ v. Symbol v) first)))
-      (padding-agrees base.padding ruled.padding))
-      (ignored-agree base.meanings no_meanings (fields_of base).ignored
-      (all_in_range (λ byte. (byte < 128) × (get_or base.meanings byte Invalid ≡ Ignored))
-      (λ byte. is_ignored (meaning base byte)) 0 128
-      (λ byte from low is. (omega arith, ignored-is (meaning base byte) is)))))
-      (wrapping-agrees base.wrapping ruled.wrapping)
+      from_parts (Agrees base.meanings no_meanings) base.width (fields_of base) (
+        symbols-agree base.meanings no_meanings 0 base.symbols (λ i h.
+            let own = ruled.own i h in
+            let first : i ≡ 0 + i = omega arith in
+            (own.0, own.1 ∙ ap (λ v. Symbol v) first)),
+        padding-agrees base.padding ruled.padding,
+        ignored-agree base.meanings no_meanings (fields_of base).ignored
+            (all_in_range (λ byte. (byte < 128) × (get_or base.meanings byte Invalid ≡ Ignored))
+            (λ byte. is_ignored (meaning base byte)) 0 128
+            (λ byte from low is. (omega arith, ignored-is (meaning base byte) is))),
+        wrapping-agrees base.wrapping ruled.wrapping,
+      )
 
   -- the meanings before the translations
   first : GoesOn (meanings_after (Ok no_meanings) before_pairs) base.meanings
@@ -301,46 +286,27 @@ module _ (base : Base) (ruled : IsRuled base) where
       → (i : ℕ) → i < length base.symbols
       → get_or meanings (get_or base.symbols i 0) Invalid ≡ Symbol i
   symbol-there meanings held i h =
-      let a = symbol_judgements 0 base.symbols in
-      let b = padding_judgements base.width base.padding in
-      let c = ignored_judgements (fields_of base).ignored in
-      let d = wrapping_judgements base.width (column_of base.wrapping)
-      (separator_of base.wrapping) in
-      let P = IsHeld meanings in
-      let all = (all_parts P a b (all_parts P (a ++ b) c (all_parts P (a ++ b ++ c) d held).0).0).0
-      in
+      let all = parts_of (IsHeld meanings) base.width (fields_of base) held in
       let here : 0 + i ≡ i = omega arith in
-      (symbols-held meanings 0 base.symbols all i h).1 ∙ ap (λ v. Symbol v) here
+      (symbols-held meanings 0 base.symbols all.0 i h).1 ∙ ap (λ v. Symbol v) here
 
   padding-there : (meanings : List Character) → AllByRecursion (IsHeld meanings) before_pairs
       → (character : ℕ) → base.padding ≡ Some character
       → get_or meanings character Invalid ≡ Padding
   padding-there meanings held character is =
-      let a = symbol_judgements 0 base.symbols in
-      let b = padding_judgements base.width base.padding in
-      let c = ignored_judgements (fields_of base).ignored in
-      let d = wrapping_judgements base.width (column_of base.wrapping)
-      (separator_of base.wrapping) in
-      let P = IsHeld meanings in
-      let all = (all_parts P a b (all_parts P (a ++ b) c (all_parts P (a ++ b ++ c) d held).0).0).1
-      in
-      let one = subst (λ o. AllByRecursion P (padding_judgements base.width o)) is all in
+      let all = parts_of (IsHeld meanings) base.width (fields_of base) held in
+      let one = subst (λ o. AllByRecursion (IsHeld meanings) (padding_judgements base.width o)) is
+      all.1 in
       one.1.1.0.1 (λ e. cc)
 
   ignored-there : (meanings : List Character) → AllByRecursion (IsHeld meanings) before_pairs
       → (byte : ℕ) → byte < 128 → meaning base byte ≡ Ignored
       → get_or meanings byte Invalid ≡ Ignored
   ignored-there meanings held byte low is =
-      let a = symbol_judgements 0 base.symbols in
-      let b = padding_judgements base.width base.padding in
-      let c = ignored_judgements (fields_of base).ignored in
-      let d = wrapping_judgements base.width (column_of base.wrapping)
-      (separator_of base.wrapping) in
-      let P = IsHeld meanings in
-      let all = (all_parts P (a ++ b) c (all_parts P (a ++ b ++ c) d held).0).1 in
+      let all = parts_of (IsHeld meanings) base.width (fields_of base) held in
       (at_in_range (λ k. (k < 128) × (get_or meanings k Invalid ≡ Ignored))
       (λ k. is_ignored (meaning base k)) 0 128 byte
-      (ignored-held meanings (fields_of base).ignored all) (omega arith) (omega arith)
+      (ignored-held meanings (fields_of base).ignored all.2) (omega arith) (omega arith)
       (ap is_ignored is)).1
 
   -- a translated byte agrees, once what it stands for is known
@@ -359,8 +325,7 @@ module _ (base : Base) (ruled : IsRuled base) where
       (sym own.1)
       (let there = padding-there halfway halfway-held own.0 own.1 in
       (low, own.2, (λ e. let bad : Padding ≡ Invalid = sym there ∙ e in cc), is ∙ sym own.3))
-  pair-agrees byte low Ignored is t = cc
-  pair-agrees byte low Invalid is t = cc
+  pair-agrees byte low _ is t = cc
 
   abbrev from : List ℕ
   from = translated_bytes base

@@ -114,8 +114,6 @@ with-ok width fields (Err refusal) base h = cc
 
 by-ok : (o : Option ℕ) (fields : Fields) (base : Base) → width_of (length fields.symbols) ≡ o
     → base_by o fields ≡ Ok base → IsYield fields base
-by-ok None fields base w h = cc
-by-ok (Some zero) fields base w h = cc
 by-ok (Some (suc n)) fields base w h =
     let is = with-ok (suc n) fields
     (meanings_after (Ok no_meanings) (judgements (suc n) fields)) base h in
@@ -127,44 +125,51 @@ by-ok (Some (suc n)) fields base w h =
       judged = is.1;
       is_base = is.2;
     }
+by-ok _ fields base w h = cc
 
 base_of-ok : (fields : Fields) (base : Base) → base_of fields ≡ Ok base → IsYield fields base
 base_of-ok fields base h = by-ok (width_of (length fields.symbols)) fields base refl h
 
+-- the judgements before the translations
+abbrev pub first_judgements : ℕ → Fields → List Judgement
+first_judgements width fields =
+    symbol_judgements 0 fields.symbols ++ padding_judgements width fields.padding
+    ++ ignored_judgements fields.ignored
+    ++ wrapping_judgements width fields.column fields.separator
+
 -- the judgements part by part
-abbrev AllParts : (Judgement → Type 0) → ℕ → Fields → Type 0
+abbrev pub AllParts : (Judgement → Type 0) → ℕ → Fields → Type 0
 AllParts P width fields =
     AllByRecursion P (symbol_judgements 0 fields.symbols)
     × AllByRecursion P (padding_judgements width fields.padding)
     × AllByRecursion P (ignored_judgements fields.ignored)
     × AllByRecursion P (wrapping_judgements width fields.column fields.separator)
-    × AllByRecursion P (translation_judgements fields.from fields.to)
 
-parts_of : (P : Judgement → Type 0) (width : ℕ) (fields : Fields)
-    → AllByRecursion P (judgements width fields) → AllParts P width fields
-parts_of P width fields all =
-    let a = symbol_judgements 0 fields.symbols in
-    let b = padding_judgements width fields.padding in
-    let c = ignored_judgements fields.ignored in
-    let d = wrapping_judgements width fields.column fields.separator in
-    let e = translation_judgements fields.from fields.to in
-    let four = all_parts P (a ++ b ++ c ++ d) e all in
-    let three = all_parts P (a ++ b ++ c) d four.0 in
-    let two = all_parts P (a ++ b) c three.0 in
-    let one = all_parts P a b two.0 in
-    (one.0, one.1, two.1, three.1, four.1)
+module _ (P : Judgement → Type 0) (width : ℕ) (fields : Fields) where
+  abbrev one : List Judgement
+  one = symbol_judgements 0 fields.symbols
 
-from_parts : (P : Judgement → Type 0) (width : ℕ) (fields : Fields)
-    → AllParts P width fields → AllByRecursion P (judgements width fields)
-from_parts P width fields parts =
-    let a = symbol_judgements 0 fields.symbols in
-    let b = padding_judgements width fields.padding in
-    let c = ignored_judgements fields.ignored in
-    let d = wrapping_judgements width fields.column fields.separator in
-    let e = translation_judgements fields.from fields.to in
-    all_joined P (a ++ b ++ c ++ d) e
-    (all_joined P (a ++ b ++ c) d
-    (all_joined P (a ++ b) c (all_joined P a b parts.0 parts.1) parts.2) parts.3) parts.4
+  abbrev two : List Judgement
+  two = one ++ padding_judgements width fields.padding
+
+  abbrev three : List Judgement
+  three = two ++ ignored_judgements fields.ignored
+
+  abbrev lines : List Judgement
+  lines = wrapping_judgements width fields.column fields.separator
+
+  pub parts_of : AllByRecursion P (first_judgements width fields) → AllParts P width fields
+  parts_of all =
+      let fourth = all_parts P three lines all in
+      let third = all_parts P two (ignored_judgements fields.ignored) fourth.0 in
+      let second = all_parts P one (padding_judgements width fields.padding) third.0 in
+      (second.0, second.1, third.1, fourth.1)
+
+  pub from_parts : AllParts P width fields → AllByRecursion P (first_judgements width fields)
+  from_parts parts =
+      all_joined P three lines
+      (all_joined P two (ignored_judgements fields.ignored)
+      (all_joined P one (padding_judgements width fields.padding) parts.0 parts.1) parts.2) parts.3
 
 -- what the judgements bring in
 ignored-bring : (test : Character → Bool) (bytes : List ℕ) → test Ignored ≡ true
@@ -193,13 +198,15 @@ judgements-bring : (test : Character → Bool) (width : ℕ) (fields : Fields)
     → AllByRecursion (Brings test) (padding_judgements width fields.padding)
     → AllByRecursion (Brings test) (judgements width fields)
 judgements-bring test width fields symbols ignored padding =
-    from_parts (Brings test) width fields (
+    all_joined (Brings test) (first_judgements width fields)
+    (translation_judgements fields.from fields.to)
+    (from_parts (Brings test) width fields (
       symbols-bring test 0 fields.symbols (λ v h. symbols v (omega (arith, h))),
       padding,
       ignored-bring test fields.ignored ignored,
       wrapping-bring test width fields.column fields.separator ignored,
-      (tt, pairs-bring test (zip fields.from fields.to)),
-    )
+    ))
+    (tt, pairs-bring test (zip fields.from fields.to))
 
 padding-within : (width limit : ℕ) (padding : Option ℕ)
     → AllByRecursion (Brings (is_within limit)) (padding_judgements width padding)
@@ -223,7 +230,10 @@ module _ (width : ℕ) (fields : Fields) (meanings : List Character)
   steps = meanings_after-ok (judgements width fields) no_meanings meanings judged
 
   held : AllParts (IsHeld meanings) width fields
-  held = parts_of (IsHeld meanings) width fields ((steps).held refl)
+  held =
+      parts_of (IsHeld meanings) width fields
+      (all_parts (IsHeld meanings) (first_judgements width fields)
+      (translation_judgements fields.from fields.to) ((steps).held refl)).0
 
   passes : (test : Character → Bool) → test Invalid ≡ true
       → ((v : ℕ) → v < length fields.symbols → test (Symbol v) ≡ true) → test Ignored ≡ true
@@ -264,9 +274,8 @@ module _ (width : ℕ) (fields : Fields) (meanings : List Character)
   ruled-wrapping false is all = tt
 
   or_again : (a b : Bool) → ((a || b) || b) ≡ (a || b)
-  or_again true b = refl
   or_again false true = refl
-  or_again false false = refl
+  or_again _ _ = refl
 
   pub IsRuled-from : IsRuled (base_from width fields meanings)
   IsRuled-from =

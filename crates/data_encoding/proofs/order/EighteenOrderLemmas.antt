@@ -1,16 +1,18 @@
 -- Which of the sixteen without lines are ordered.
-use Rattle.std.proofs.Common.{◌≡◌, ℕ, ◌+◌, ◌<◌, nat_lt, Bool, true, false, ◌&&◌, List, [], ◌∷◌, length, get_or, All, AllPairs, Some, None, refl, sym, ◌∙◌, arith}
+use Rattle.std.proofs.Common.{◌≡◌, ℕ, ◌+◌, ◌<◌, ◌==◌, nat_lt, Bool, true, false, ◌&&◌, List, [], ◌∷◌, length, get_or, All, AllPairs, Some, is_none, refl, sym, ap, ◌∙◌, arith}
 use Rattle.std.proofs.lemmas.Bool.{and_parts, false≢true, lt-ltb, ltb-true}
 use Rattle.std.proofs.lemmas.List.Elements.{All-from_recursion}
 use Rattle.std.proofs.lemmas.List.Kept.{AllPairs-cons}
 use Rattle.std.specs.List.{AllByRecursion, list_all}
+use Rattle.data_encoding.specs.declared.encoding.BitOrder.{BitOrder}
 use Rattle.data_encoding.specs.declared.encoding.BitOrder.TheVariants.{MostSignificantFirst, LeastSignificantFirst}
 use Rattle.data_encoding.specs.Base.{Base}
 use Rattle.data_encoding.specs.Eighteen.{Yields, ordered_fields, unordered_fields}
 use Rattle.data_encoding.specs.Fields.{Fields, base_of}
+use Rattle.data_encoding.specs.Layout.{order_flag}
 use Rattle.data_encoding.specs.Order.{IsOrdered}
-use Rattle.data_encoding.specs.Predefined.{hexlower_fields, hexlower_permissive_fields, hexupper_fields, hexupper_permissive_fields, base32_fields, base32_nopad_fields, base32_nopad_nocase_fields, base32_nopad_visual_fields, base32hex_fields, base32hex_nopad_fields, base32_dnssec_fields, base32_dnscurve_fields, base64_fields, base64_nopad_fields, base64url_fields, base64url_nopad_fields}
-use Rattle.data_encoding.proofs.judgement.YieldLemmas.{IsOfBase, yields}
+use Rattle.data_encoding.specs.Predefined.{base32_fields, base32_nopad_fields, base32_nopad_nocase_fields, base32_nopad_visual_fields, base32hex_fields, base32_dnscurve_fields, base64_fields, base64_nopad_fields, base64url_fields, base64url_nopad_fields}
+use Rattle.data_encoding.proofs.judgement.YieldLemmas.{IsOfBase, yields, yields_all}
 
 -- each is below all that follow
 abbrev ascends : List ℕ → Bool
@@ -30,47 +32,30 @@ pairs-ascend (x ∷ xs) h =
     AllPairs-cons (λ a b. a < b) x xs
     (All-from_recursion (λ y. x < y) xs (above x xs parts.0)) (pairs-ascend xs parts.1)
 
--- What shows that a base is ordered.
-record IsAscending (base : Base) : Type 0 where
-  pub first : base.order ≡ MostSignificantFirst
-  pub symbols : ascends base.symbols ≡ true
-  pub unpadded : base.padding ≡ None
+is_most : (order : BitOrder) → (order_flag order == 8) ≡ true → order ≡ MostSignificantFirst
+is_most MostSignificantFirst h = refl
+is_most LeastSignificantFirst h = cc
 
-is_ordered : (fields : Fields) → IsOfBase IsAscending (base_of fields) → Yields IsOrdered fields
-is_ordered fields h base is =
-    let shown = yields IsAscending fields h base is in
+-- what shows that a base is ordered
+abbrev is_ascending : Base → Bool
+is_ascending base =
+    (order_flag base.order == 8) && ascends base.symbols && is_none base.padding
+
+is_ordered : (base : Base) → is_ascending base ≡ true → IsOrdered base
+is_ordered base h =
+    let most = order_flag base.order == 8 in
+    let both = and_parts (most && ascends base.symbols) (is_none base.padding) h in
+    let first = and_parts most (ascends base.symbols) both.0 in
     record {
-      most_significant_first = shown.first;
-      ascending = pairs-ascend base.symbols shown.symbols;
+      most_significant_first = is_most base.order first.0;
+      ascending = pairs-ascend base.symbols first.1;
       padding_first =
-          λ character padded. let never = sym padded ∙ shown.unpadded in cc;
+          λ character padded. absurd (false≢true (sym (ap is_none padded) ∙ both.1));
     }
 
 pub six-ordered : All (Yields IsOrdered) ordered_fields
 six-ordered =
-    All-from_recursion (Yields IsOrdered) ordered_fields (
-      is_ordered hexlower_fields (record { first = refl; symbols = refl; unpadded = refl }),
-      (
-        is_ordered hexlower_permissive_fields
-            (record { first = refl; symbols = refl; unpadded = refl }),
-        (
-          is_ordered hexupper_fields (record { first = refl; symbols = refl; unpadded = refl }),
-          (
-            is_ordered hexupper_permissive_fields
-                (record { first = refl; symbols = refl; unpadded = refl }),
-            (
-              is_ordered base32hex_nopad_fields
-                  (record { first = refl; symbols = refl; unpadded = refl }),
-              (
-                is_ordered base32_dnssec_fields
-                    (record { first = refl; symbols = refl; unpadded = refl }),
-                tt,
-              ),
-            ),
-          ),
-        ),
-      ),
-    )
+    yields_all IsOrdered is_ascending (λ base ruled. is_ordered base) ordered_fields refl
 
 -- a symbol that is not below the next
 abbrev Descends : ℕ → Base → Type 0
@@ -109,29 +94,27 @@ least_first fields h base is ordered =
 
 pub ten-not : All (Yields (λ base. IsOrdered base → ⊥)) unordered_fields
 ten-not =
+    let first = descends 25 base32_fields (refl, refl) in
+    let second = descends 25 base32_nopad_fields (refl, refl) in
+    let third = descends 25 base32_nopad_nocase_fields (refl, refl) in
+    let fourth = descends 25 base32_nopad_visual_fields (refl, refl) in
+    let fifth = padded_later base32hex_fields (refl, refl, refl) in
+    let sixth = least_first base32_dnscurve_fields refl in
+    let seventh = descends 51 base64_fields (refl, refl) in
+    let eighth = descends 51 base64_nopad_fields (refl, refl) in
+    let ninth = descends 51 base64url_fields (refl, refl) in
+    let tenth = descends 51 base64url_nopad_fields (refl, refl) in
     All-from_recursion (Yields (λ base. IsOrdered base → ⊥)) unordered_fields (
-      descends 25 base32_fields (refl, refl),
+      first,
       (
-        descends 25 base32_nopad_fields (refl, refl),
+        second,
         (
-          descends 25 base32_nopad_nocase_fields (refl, refl),
+          third,
           (
-            descends 25 base32_nopad_visual_fields (refl, refl),
+            fourth,
             (
-              padded_later base32hex_fields (refl, refl, refl),
-              (
-                least_first base32_dnscurve_fields refl,
-                (
-                  descends 51 base64_fields (refl, refl),
-                  (
-                    descends 51 base64_nopad_fields (refl, refl),
-                    (
-                      descends 51 base64url_fields (refl, refl),
-                      (descends 51 base64url_nopad_fields (refl, refl), tt),
-                    ),
-                  ),
-                ),
-              ),
+              fifth,
+              (sixth, (seventh, (eighth, (ninth, (tenth, tt))))),
             ),
           ),
         ),

@@ -26,27 +26,14 @@ own_number a = grind (arith, nat_tests)
 
 pub is_same-self : (m : Character) → is_same m m ≡ true
 is_same-self (Symbol value) = own_number value
-is_same-self Padding = refl
-is_same-self Ignored = refl
-is_same-self Invalid = refl
+is_same-self _ = refl
 
 pub same-is_same : (m n : Character) → is_same m n ≡ true → m ≡ n
 same-is_same (Symbol a) (Symbol b) h = ap (λ v. Symbol v) (same_number a b h)
-same-is_same (Symbol a) Padding h = cc
-same-is_same (Symbol a) Ignored h = cc
-same-is_same (Symbol a) Invalid h = cc
-same-is_same Padding (Symbol b) h = cc
 same-is_same Padding Padding h = refl
-same-is_same Padding Ignored h = cc
-same-is_same Padding Invalid h = cc
-same-is_same Ignored (Symbol b) h = cc
-same-is_same Ignored Padding h = cc
 same-is_same Ignored Ignored h = refl
-same-is_same Ignored Invalid h = cc
-same-is_same Invalid (Symbol b) h = cc
-same-is_same Invalid Padding h = cc
-same-is_same Invalid Ignored h = cc
 same-is_same Invalid Invalid h = refl
+same-is_same _ _ h = cc
 
 pub false_or : (b : Bool) → (b ≡ true → ⊥) → b ≡ false
 false_or true h = absurd (h refl)

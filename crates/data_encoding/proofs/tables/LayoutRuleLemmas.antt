@@ -1,12 +1,13 @@
 -- Bytes are the layout of a base exactly where they keep the rules of layouts.
-use Rattle.std.proofs.Common.{◌≡◌, ◌≢◌, ◌⊎◌, ℕ, zero, suc, ◌+◌, ◌-◌, ◌*◌, ◌/◌, ◌%◌, ◌^◌, ◌<◌, ◌≤◌, ◌==◌, Bool, true, false, not, ◌||◌, cond, if◌then◌else◌, nat_lt, List, [], ◌∷◌, ◌++◌, length, map, take, drop, replicate, get_or, Option, Some, None, is_none, unwrap_or, refl, sym, ap, ◌∙◌, subst, arith, inl, inr, ⊎_elim, append_assoc, length-append, drop-cons, drop_of_length-le, length-drop}
+use Rattle.std.proofs.Common.{◌≡◌, ◌≢◌, ◌⊎◌, ℕ, zero, suc, ◌+◌, ◌-◌, ◌*◌, ◌/◌, ◌%◌, ◌^◌, ◌<◌, ◌≤◌, ◌==◌, Bool, true, false, not, ◌||◌, cond, nat_lt, List, [], ◌∷◌, ◌++◌, length, map, take, drop, replicate, get_or, Option, Some, None, is_none, unwrap_or, refl, sym, ap, ◌∙◌, subst, arith, inl, inr, ⊎_elim, append_assoc, drop-cons, drop_of_length-le, length-drop}
 use Rattle.std.proofs.Math.Nat.{mod-lt, mod-eq_of_lt}
 use Rattle.std.proofs.lemmas.Bool.{cases_Bool, eq-eqb, eqb-true, lt-ltb, ltb-true}
 use Rattle.std.proofs.lemmas.Bool.Decides.{nat_tests}
 use Rattle.std.proofs.lemmas.Nat.{pow_pos}
-use Rattle.std.proofs.lemmas.List.{drop-drop, ext_get_or, get_or-append_right, get_or_append_left, get_or-drop, get_or-map, get_or-replicate, get_or-take, get_or_past, length-map, length-replicate, length-take-le, take-append-drop}
+use Rattle.std.proofs.lemmas.List.{drop-drop, ext_get_or, get_or-drop, get_or-map, get_or-replicate, get_or-take, get_or_past, length-map, length-replicate, length-take-le, take-append-drop}
 use Rattle.std.proofs.lemmas.List.Folds.{list_any_at}
-use Rattle.std.specs.List.{AllByRecursion, list_all, list_any}
+use Rattle.std.proofs.lemmas.List.FromFn.{get_or-range_with_len}
+use Rattle.std.specs.List.{AllByRecursion, list_all, list_any, range_with_len}
 use Rattle.data_encoding.specs.declared.encoding.BitOrder.TheVariants.{MostSignificantFirst, LeastSignificantFirst}
 use Rattle.data_encoding.specs.declared.encoding.Character.{Character}
 use Rattle.data_encoding.specs.declared.encoding.Character.TheVariants.{Symbol, Padding, Ignored, Invalid}
@@ -14,16 +15,15 @@ use Rattle.data_encoding.specs.Base.{Base, Wrapping, group_symbols, ignores_some
 use Rattle.data_encoding.specs.Encoding.{wrapping_by}
 use Rattle.data_encoding.specs.Entries.{is_entry_of, meaning_of_entry}
 use Rattle.data_encoding.specs.Fields.{IsSpecified}
-use Rattle.data_encoding.specs.Layout.{code_of, layout, order_flag, wrapping_bytes}
+use Rattle.data_encoding.specs.Layout.{code_of, column_of, layout, separator_of, wrapping_bytes}
 use Rattle.data_encoding.specs.OneLayout.{IsIgnoredIn, IsLayout, IsLayoutOf, Layouts, TellsWrapping, TellsPadding, entry_in}
 use Rattle.data_encoding.proofs.digits.WidthLemmas.{symbols-few, times_symbols}
-use Rattle.data_encoding.proofs.lists.EachLemmas.{list_all-places, passes_at}
+use Rattle.data_encoding.proofs.lists.EachLemmas.{all-at, list_all-places, none_passes, passes_at}
 use Rattle.data_encoding.proofs.lists.RepeatLemmas.{get_or-repeats, length-repeats}
 use Rattle.data_encoding.proofs.judgement.RoundTripLemmas.{IsSpecified-ruled}
 use Rattle.data_encoding.proofs.judgement.RuleLemmas.{IsRuled, IsRuledPadding, IsRuledWrapping, IsRuled-yield, is_no_padding, is_within}
 use Rattle.data_encoding.proofs.tables.LayoutLemmas.{codes-back}
-use Rattle.data_encoding.proofs.tables.OneLayoutLemmas.{are_bits, ends, flags, length-table, symbol_table}
-use Rattle.data_encoding.proofs.tables.ReadingLemmas.{HasFlags, flags-back}
+use Rattle.data_encoding.proofs.tables.ReadingLemmas.{IsReadAs, code-read, end-read, ends, flags, high-read, is_read_as, long-layout, symbol-read, symbol_table}
 use Rattle.data_encoding.proofs.tables.TableRuleLemmas.{value-symbol}
 
 -- what holds of each member by its place
@@ -31,12 +31,6 @@ places : (P : ℕ → Type 0) (xs : List ℕ) → ((i : ℕ) → i < length xs �
     → AllByRecursion P xs
 places P [] h = tt
 places P (x ∷ xs) h = (h 0 (omega arith), places P xs (λ i less. h (suc i) (omega (arith, less))))
-
-at_place : (P : ℕ → Type 0) (xs : List ℕ) → AllByRecursion P xs → (i : ℕ) → i < length xs
-    → P (get_or xs i 0)
-at_place P [] h i less = absurd (omega (arith, less))
-at_place P (x ∷ xs) h zero less = h.0
-at_place P (x ∷ xs) h (suc i) less = at_place P xs h.1 i (omega (arith, less))
 
 -- one of which some do
 some_passes : {X : Type 0} (test : X → Bool) (xs : List X) (d : X) → list_any test xs ≡ true
@@ -49,92 +43,22 @@ some_passes test (x ∷ xs) d h =
     (suc rest.0, omega (arith, rest.1), rest.2))
     (cases_Bool (test x))
 
--- tables of 256 and of 128 bytes, 128 times 128, two bytes and an end
-module _ (table low : List ℕ) (end : List ℕ) (long_table : length table ≡ 256)
-    (long_low : length low ≡ 128) where
-  abbrev joined : List ℕ
-  joined = table ++ low ++ replicate 128 128 ++ end
-
-  in_parts : joined ≡ table ++ (low ++ (replicate 128 128 ++ end))
-  in_parts =
-      append_assoc (table ++ low) (replicate 128 128) end
-      ∙ append_assoc table low (replicate 128 128 ++ end)
-
-  pub at_table : (k : ℕ) → k < 256 → get_or joined k 0 ≡ get_or table k 0
-  at_table k h =
-      ap (λ l. get_or l k 0) in_parts
-      ∙ get_or_append_left table (low ++ (replicate 128 128 ++ end)) 0 k
-      (omega (arith, h, long_table))
-
-  behind_table : (k : ℕ)
-      → get_or joined (256 + k) 0 ≡ get_or (low ++ (replicate 128 128 ++ end)) k 0
-  behind_table k =
-      let place : 256 + k - 256 ≡ k = omega arith in
-      ap (λ l. get_or l (256 + k) 0) in_parts
-      ∙ get_or-append_right table (low ++ (replicate 128 128 ++ end)) 256 (256 + k) 0 long_table
-      (omega arith)
-      ∙ ap (λ n. get_or (low ++ (replicate 128 128 ++ end)) n 0) place
-
-  pub at_low : (k : ℕ) → k < 128 → get_or joined (256 + k) 0 ≡ get_or low k 0
-  at_low k h =
-      behind_table k
-      ∙ get_or_append_left low (replicate 128 128 ++ end) 0 k (omega (arith, h, long_low))
-
-  pub at_high : (k : ℕ) → 128 ≤ k → k < 256 → get_or joined (256 + k) 0 ≡ 128
-  at_high k from to =
-      behind_table k
-      ∙ get_or-append_right low (replicate 128 128 ++ end) 128 k 0 long_low from
-      ∙ get_or_append_left (replicate 128 128) end 0 (k - 128)
-      (omega (arith, from, to, length-replicate {A = ℕ} 128 128))
-      ∙ get_or-replicate 128 (k - 128) 128 0 (omega (arith, from, to))
-
-  pub long_joined : length joined ≡ 512 + length end
-  long_joined =
-      omega (
-        arith,
-        length-append (table ++ low ++ replicate 128 128) end,
-        length-append (table ++ low) (replicate 128 128),
-        length-append table low,
-        length-replicate {A = ℕ} 128 128,
-        long_table,
-        long_low,
-      )
-
-  pub at_end : (k : ℕ) → get_or joined (512 + k) 0 ≡ get_or end k 0
-  at_end k =
-      let place : 512 + k - 512 ≡ k = omega arith in
-      get_or-append_right (table ++ low ++ replicate 128 128) end 512 (512 + k) 0
-      (omega (
-        arith,
-        length-append (table ++ low) (replicate 128 128),
-        length-append table low,
-        length-replicate {A = ℕ} 128 128,
-        long_table,
-        long_low,
-      ))
-      (omega arith)
-      ∙ ap (λ n. get_or end n 0) place
-
 code-few : (n : ℕ) (m : Character) → is_within n m ≡ true
     → (code_of m < n) ⊎ ((128 ≤ code_of m) × (code_of m ≤ 130))
 code-few n (Symbol value) h = inl (ltb-true value n h)
-code-few n Padding h = inr (omega arith, omega arith)
-code-few n Ignored h = inr (omega arith, omega arith)
-code-few n Invalid h = inr (omega arith, omega arith)
+code-few n _ h = inr (omega arith, omega arith)
 
 code-ignored : (n : ℕ) (m : Character) → n ≤ 64 → is_within n m ≡ true → code_of m ≡ 129
     → m ≡ Ignored
 code-ignored n (Symbol value) few h e = absurd (omega (arith, few, ltb-true value n h, e))
-code-ignored n Padding few h e = absurd (omega (arith, e))
 code-ignored n Ignored few h e = refl
-code-ignored n Invalid few h e = absurd (omega (arith, e))
+code-ignored n _ few h e = absurd (omega (arith, e))
 
 code-padding : (n : ℕ) (m : Character) → n ≤ 64 → is_within n m ≡ true → is_no_padding m ≡ true
     → code_of m ≢ 130
 code-padding n (Symbol value) few h k e = omega (arith, few, ltb-true value n h, e)
 code-padding n Padding few h k e = cc
-code-padding n Ignored few h k e = omega (arith, e)
-code-padding n Invalid few h k e = omega (arith, e)
+code-padding n _ few h k e = omega (arith, e)
 
 or_true : (a b : Bool) → (a || b) ≡ a → b ≡ true → a ≡ true
 or_true true b h k = refl
@@ -145,42 +69,25 @@ or_false true b h k = cc
 or_false false b h k = h
 
 ignored-is : (m : Character) → is_ignored m ≡ true → m ≡ Ignored
-ignored-is (Symbol value) h = cc
-ignored-is Padding h = cc
 ignored-is Ignored h = refl
-ignored-is Invalid h = cc
+ignored-is _ h = cc
 
 no_eight : (n : ℕ) → not (n == 0) ≡ true → n ≢ 0
 no_eight n h e = grind (arith, nat_tests)
 
 -- a base, and its layout
 module _ (base : Base) (ruled : IsRuled base) where
-  abbrev codes : List ℕ
-  codes = map code_of base.meanings
-
   abbrev count : ℕ
   count = 2 ^ base.width
 
   count-few : count ≤ 64
   count-few = symbols-few base.width ruled.is_width
 
-  long-table : length (symbol_table base) ≡ 256
-  long-table = length-table base ruled
-
-  long-codes : length codes ≡ 128
-  long-codes = length-map base.meanings code_of ∙ ruled.long
-
-  code-at : (byte : ℕ) → byte < 128 → entry_in (layout base) byte ≡ code_of (meaning base byte)
-  code-at byte low =
-      at_low (symbol_table base) codes (ends base) long-table long-codes byte low
-      ∙ get_or-map code_of base.meanings byte Invalid 0 (omega (arith, low, ruled.long))
-
   symbol-at : (k : ℕ) → k < 256 → get_or (layout base) k 0 ≡ get_or base.symbols (k % count) 0
   symbol-at k h =
       let all : 256 / count * length base.symbols ≡ 256 =
       ap (λ n. 256 / count * n) ruled.count ∙ times_symbols base.width ruled.is_width in
-      at_table (symbol_table base) codes (ends base) long-table long-codes k h
-      ∙ get_or-repeats (256 / count) base.symbols k (omega (arith, h, all))
+      symbol-read base ruled k h ∙ get_or-repeats (256 / count) base.symbols k (omega (arith, h, all))
       ∙ ap (λ n. get_or base.symbols (k % n) 0) ruled.count
 
   within-at : (byte : ℕ) → byte < 128 → is_within count (meaning base byte) ≡ true
@@ -189,43 +96,13 @@ module _ (base : Base) (ruled : IsRuled base) where
       ∙ passes_at (is_within (length base.symbols)) base.meanings byte Invalid ruled.within
       (omega (arith, low, ruled.long))
 
-  end-at : (k : ℕ) → get_or (layout base) (512 + k) 0 ≡ get_or (ends base) k 0
-  end-at = at_end (symbol_table base) codes (ends base) long-table long-codes
-
-  flags-at : get_or (layout base) 513 0
-      ≡ flags base.width base.order base.checks_trailing_bits base.concatenates
-  flags-at = end-at 1
-
-  padding-at : get_or (layout base) 512 0 ≡ unwrap_or base.padding 128
-  padding-at = end-at 0
-
-  has_flags : HasFlags (get_or (layout base) 513 0) base.width base.order base.checks_trailing_bits
-      base.concatenates
-  has_flags =
-      subst
-      (λ n. HasFlags n base.width base.order base.checks_trailing_bits base.concatenates)
-      (sym flags-at)
-      (flags-back base.width base.order base.checks_trailing_bits base.concatenates
-      ruled.is_width.few)
-
-  few-flags : get_or (layout base) 513 0 < 64
-  few-flags =
-      let bits = are_bits base.order base.checks_trailing_bits base.concatenates in
-      omega (
-        arith,
-        flags-at,
-        ruled.is_width.few,
-        bits.order_is,
-        bits.order_few,
-        bits.check_is,
-        bits.check_few,
-        bits.single_is,
-      )
+  read : IsReadAs base (layout base)
+  read = is_read_as base ruled
 
   checked-flag : 8 % base.width ≡ 0 → get_or (layout base) 513 0 / 16 % 2 ≡ 1
   checked-flag whole =
       eqb-true (get_or (layout base) 513 0 / 16 % 2) 1
-      (has_flags.checks_is
+      ((read).has_flags.checks_is
       ∙ or_true base.checks_trailing_bits (8 % base.width == 0) ruled.checked
       (eq-eqb (8 % base.width) 0 whole))
 
@@ -236,8 +113,8 @@ module _ (base : Base) (ruled : IsRuled base) where
   single-flag : get_or (layout base) 513 0 / 32 % 2 ≡ 1 → get_or (layout base) 512 0 < 128
   single-flag set =
       let single : base.concatenates ≡ false =
-      sym has_flags.concatenates_is ∙ ap (λ n. n == 0) set in
-      subst (λ n. n < 128) (sym padding-at)
+      sym (read).has_flags.concatenates_is ∙ ap (λ n. n == 0) set in
+      subst (λ n. n < 128) (sym (end-read base ruled 0))
       (has-padding base.padding ruled.padding
       (or_false base.concatenates (is_none base.padding) ruled.concatenated single))
 
@@ -253,7 +130,7 @@ module _ (base : Base) (ruled : IsRuled base) where
       let own = ruled.own value (omega (arith, h, ruled.count)) in
       let same = symbol-own value h in (
         subst (λ n. n < 128) (sym same) own.0,
-        ap (entry_in (layout base)) same ∙ code-at (get_or base.symbols value 0) own.0
+        ap (entry_in (layout base)) same ∙ code-read base ruled (get_or base.symbols value 0) own.0
             ∙ ap code_of own.1,
       )
 
@@ -272,12 +149,12 @@ module _ (base : Base) (ruled : IsRuled base) where
             code-padding count (meaning base byte) count-few (within-at byte low)
             (passes_at is_no_padding base.meanings byte Invalid rule
             (omega (arith, low, ruled.long)))
-            (sym (code-at byte low) ∙ e),
+            (sym (code-read base ruled byte low) ∙ e),
       )
   padding-told (Some character) rule is =
       inr (
         subst (λ n. n < 128) (sym is) rule.0,
-        ap (entry_in (layout base)) is ∙ code-at character rule.0 ∙ ap code_of rule.1,
+        ap (entry_in (layout base)) is ∙ code-read base ruled character rule.0 ∙ ap code_of rule.1,
         λ e. no_eight (8 % base.width) rule.2 e,
       )
 
@@ -285,28 +162,16 @@ module _ (base : Base) (ruled : IsRuled base) where
   told-ignored : (byte : ℕ) → IsIgnoredIn (layout base) byte → meaning base byte ≡ Ignored
   told-ignored byte is =
       code-ignored count (meaning base byte) count-few (within-at byte is.0)
-      (sym (code-at byte is.0) ∙ is.1)
+      (sym (code-read base ruled byte is.0) ∙ is.1)
 
   ignored-told : (byte : ℕ) → byte < 128 → meaning base byte ≡ Ignored
       → IsIgnoredIn (layout base) byte
-  ignored-told byte low is = (low, code-at byte low ∙ ap code_of is)
-
-  long-layout : length (layout base)
-      ≡ 514 + length (wrapping_bytes (ignores_some base) base.wrapping)
-  long-layout =
-      long_joined (symbol_table base) codes (ends base) long-table long-codes ∙ omega arith
-
-  behind : (k : ℕ) → 514 ≤ k
-      → get_or (layout base) k 0
-      ≡ get_or (wrapping_bytes (ignores_some base) base.wrapping) (k - 514) 0
-  behind k from =
-      let place : k ≡ 512 + suc (suc (k - 514)) = omega (arith, from) in
-      ap (λ n. get_or (layout base) n 0) place ∙ end-at (suc (suc (k - 514)))
+  ignored-told byte low is = (low, code-read base ruled byte low ∙ ap code_of is)
 
   end-told : (ignores : Bool) (o : Option Wrapping) → ignores_some base ≡ ignores
       → base.wrapping ≡ o → IsRuledWrapping base o → TellsWrapping base.width (layout base)
   end-told false None none no_lines rule =
-      let long = long-layout ∙ (λ i. 514 + length (wrapping_bytes (none i) (no_lines i))) in
+      let long = long-layout base ruled ∙ (λ i. 514 + length (wrapping_bytes (none i) (no_lines i))) in
       inl (
         omega (arith, long),
         λ byte is.
@@ -316,22 +181,18 @@ module _ (base : Base) (ruled : IsRuled base) where
             cc,
       )
   end-told true None some no_lines rule =
-      let long = long-layout ∙ (λ i. 514 + length (wrapping_bytes (some i) (no_lines i))) in
-      let here = behind 514 (omega arith)
-      ∙ (λ i. get_or (wrapping_bytes (some i) (no_lines i)) 0 0) in
+      let long = long-layout base ruled ∙ (λ i. 514 + length (wrapping_bytes (some i) (no_lines i))) in
       let found = some_passes is_ignored base.meanings Invalid some in
       let low : found.0 < 128 = omega (arith, found.1, ruled.long) in
       inr (inl (
         omega (arith, long),
-        here,
+        (read).column ∙ ap column_of no_lines,
         (found.0, ignored-told found.0 low (ignored-is (meaning base found.0) found.2)),
       ))
   end-told ignores (Some lines) is some rule =
-      let tail : wrapping_bytes (ignores_some base) base.wrapping ≡ lines.column ∷ lines.separator =
-      ap (wrapping_bytes (ignores_some base)) some in
-      let long = long-layout ∙ ap (λ l. 514 + length l) tail in
-      let here : get_or (layout base) 514 0 ≡ lines.column =
-      behind 514 (omega arith) ∙ ap (λ l. get_or l 0 0) tail in
+      let long = long-layout base ruled
+      ∙ ap (λ w. 514 + length (wrapping_bytes (ignores_some base) w)) some in
+      let here : get_or (layout base) 514 0 ≡ lines.column = (read).column ∙ ap column_of some in
       inr (inr (record {
         some = omega (arith, here, rule.some);
         short = omega (arith, here, rule.short);
@@ -339,10 +200,12 @@ module _ (base : Base) (ruled : IsRuled base) where
         ended = omega (arith, long, rule.ended);
         ends_short = omega (arith, long, rule.ends_short);
         ignored = λ k from less.
-            let place : k - 514 ≡ suc (k - 515) = omega (arith, from) in
+            let place : k ≡ 515 + (k - 515) = omega arith in
             let at : get_or (layout base) k 0 ≡ get_or lines.separator (k - 515) 0 =
-            behind k (omega (arith, from)) ∙ (λ i. get_or (tail i) (place i) 0) in
-            let told = at_place (λ byte. (byte < 128) × (meaning base byte ≡ Ignored))
+            ap (λ n. get_or (layout base) n 0) place
+            ∙ sym (get_or-drop 515 (layout base) (k - 515) 0)
+            ∙ ap (λ l. get_or l (k - 515) 0) ((read).separator ∙ ap separator_of some) in
+            let told = all-at (λ byte. (byte < 128) × (meaning base byte ≡ Ignored))
             lines.separator rule.ignored (k - 515) (omega (arith, from, less, long)) in
             subst (IsIgnoredIn (layout base)) (sym at) (ignored-told _ told.0 told.1);
       }))
@@ -350,22 +213,22 @@ module _ (base : Base) (ruled : IsRuled base) where
   is_layout_of : IsLayoutOf base.width (layout base)
   is_layout_of = record {
     is_width = ruled.is_width;
-    flags = few-flags;
+    flags = (read).has_flags.few;
     checked = checked-flag;
     single = single-flag;
     repeated = again;
     own = own-value;
     entries = λ byte low.
-        subst (λ n. (n < count) ⊎ ((128 ≤ n) × (n ≤ 130))) (sym (code-at byte low))
+        subst (λ n. (n < count) ⊎ ((128 ≤ n) × (n ≤ 130))) (sym (code-read base ruled byte low))
         (code-few count (meaning base byte) (within-at byte low));
-    invalid_from_128 = at_high (symbol_table base) codes (ends base) long-table long-codes;
-    padding = padding-told base.padding ruled.padding padding-at;
+    invalid_from_128 = high-read base ruled;
+    padding = padding-told base.padding ruled.padding (end-read base ruled 0);
     end = end-told (ignores_some base) base.wrapping refl refl ruled.wrapping;
   }
 
   pub is_layout : IsLayout (layout base)
   is_layout =
-      subst (λ width. IsLayoutOf width (layout base)) (sym has_flags.width_is) is_layout_of
+      subst (λ width. IsLayoutOf width (layout base)) (sym (read).has_flags.width_is) is_layout_of
 
 layout-rules : (base : Base) (bytes : List ℕ) → IsSpecified base → layout base ≡ bytes
     → IsLayout bytes
@@ -394,43 +257,18 @@ entry-not_ignored v h = grind (arith, nat_tests)
 eight-no : (n : ℕ) → n ≢ 0 → not (n == 0) ≡ true
 eight-no n h = grind (arith, nat_tests)
 
--- none passes where none does at its place
-none_passes : {X : Type 0} (test : X → Bool) (xs : List X) (d : X)
-    → ((i : ℕ) → i < length xs → test (get_or xs i d) ≡ false) → list_any test xs ≡ false
-none_passes test [] d h = refl
-none_passes test (x ∷ xs) d h =
-    ap (λ b. b || list_any test xs) (h 0 (omega arith))
-    ∙ none_passes test xs d (λ i less. h (suc i) (omega (arith, less)))
-
--- a sum of its bits
-order-bit : (n : ℕ) → n < 2
-    → order_flag (cond (n == 1) MostSignificantFirst LeastSignificantFirst) ≡ 8 * n
-order-bit zero h = refl
-order-bit (suc zero) h = refl
-order-bit (suc (suc n)) h = absurd (omega (arith, h))
-
-check-bit : (n : ℕ) → n < 2 → (if n == 1 then 16 else 0) ≡ 16 * n
-check-bit zero h = refl
-check-bit (suc zero) h = refl
-check-bit (suc (suc n)) h = absurd (omega (arith, h))
-
-single-bit : (n : ℕ) → n < 2 → (if n == 0 then 0 else 32) ≡ 32 * n
-single-bit zero h = refl
-single-bit (suc zero) h = refl
-single-bit (suc (suc n)) h = absurd (omega (arith, h))
-
-sum-is : (sum : ℕ) → sum < 64
-    → flags (sum % 8) (cond (sum / 8 % 2 == 1) MostSignificantFirst LeastSignificantFirst)
+abbrev sum_of_flags : ℕ → ℕ
+sum_of_flags sum =
+    flags (sum % 8) (cond (sum / 8 % 2 == 1) MostSignificantFirst LeastSignificantFirst)
     (sum / 16 % 2 == 1) (sum / 32 % 2 == 0)
-    ≡ sum
+
+sum-is : (sum : ℕ) → sum < 64 → sum_of_flags sum ≡ sum
 sum-is sum few =
-    omega (
-      arith,
-      few,
-      order-bit (sum / 8 % 2) (omega arith),
-      check-bit (sum / 16 % 2) (omega arith),
-      single-bit (sum / 32 % 2) (omega arith),
-    )
+    let test = λ (n : ℕ). sum_of_flags n == n in
+    let place : 0 + sum ≡ sum = omega arith in
+    eqb-true (sum_of_flags sum) sum (subst (λ n. test n ≡ true)
+    (get_or-range_with_len 0 64 sum 0 few ∙ place)
+    (passes_at test (range_with_len 0 64) sum 0 refl few))
 
 checks-rule : (check whole : Bool) → (whole ≡ true → check ≡ true) → (check || whole) ≡ check
 checks-rule true whole h = refl

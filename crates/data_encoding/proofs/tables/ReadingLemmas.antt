@@ -1,22 +1,26 @@
 -- What is read off the layout of a base.
-use Rattle.std.proofs.Common.{◌≡◌, ℕ, ◌+◌, ◌-◌, ◌*◌, ◌/◌, ◌%◌, ◌^◌, ◌<◌, ◌≤◌, ◌==◌, Bool, true, false, cond, nat_lt, List, ◌++◌, length, map, take, drop, replicate, get_or, Option, Some, None, unwrap_or, Result, Ok, Err, IfOk, IfErr, IfSome, refl, sym, ap, ◌∙◌, subst, arith, append_assoc, length-append}
+use Rattle.std.proofs.Common.{◌≡◌, ℕ, ◌+◌, ◌-◌, ◌*◌, ◌/◌, ◌%◌, ◌^◌, ◌<◌, ◌≤◌, ◌==◌, Bool, true, false, cond, if◌then◌else◌, nat_lt, List, [], ◌∷◌, ◌++◌, length, map, take, drop, replicate, get_or, Option, Some, None, unwrap_or, Result, Ok, Err, IfOk, IfErr, IfSome, refl, sym, ap, ◌∙◌, subst, arith, append_assoc, length-append}
 use Rattle.std.proofs.lemmas.Bool.{lt-ltb}
 use Rattle.std.proofs.lemmas.Bool.Decides.{nat_tests}
-use Rattle.std.proofs.lemmas.List.{drop-drop, drop_at, get_or-append_right, get_or-map, length-map, take-append-le, take_at}
+use Rattle.std.proofs.lemmas.List.{drop-drop, drop_at, get_or-append_right, get_or_append_left, get_or-drop, get_or-map, get_or-replicate, get_or-take, length-map, length-replicate, take-append-le, take_at}
+use Rattle.std.specs.Cmp.{first_so, second_so}
+use Rattle.std.specs.List.{concat, list_all}
 use Rattle.std.specs.Result.{result_ok}
 use Rattle.data_encoding.specs.declared.encoding.BitOrder.{BitOrder}
 use Rattle.data_encoding.specs.declared.encoding.BitOrder.TheVariants.{MostSignificantFirst, LeastSignificantFirst}
-use Rattle.data_encoding.specs.declared.encoding.Character.TheVariants.{Invalid}
+use Rattle.data_encoding.specs.declared.encoding.Character.{Character}
+use Rattle.data_encoding.specs.declared.encoding.Character.TheVariants.{Symbol, Padding, Ignored, Invalid}
 use Rattle.data_encoding.specs.declared.specification.tables.Tables.{Tables}
 use Rattle.data_encoding.specs.declared.specification.meanings.Refusal.{Refusal}
 use Rattle.data_encoding.specs.Base.{Base, Wrapping, ignores_some, is_ignored, meaning}
 use Rattle.data_encoding.specs.Entries.{meaning_of_entry}
 use Rattle.data_encoding.specs.Fields.{Fields, IsSpecified, base_of}
-use Rattle.data_encoding.specs.Layout.{code_of, column_of, layout, separator_of, wrapping_bytes}
+use Rattle.data_encoding.specs.Layout.{code_of, column_of, layout, order_flag, separator_of, wrapping_bytes}
 use Rattle.data_encoding.specs.Tables.{HasTables}
-use Rattle.data_encoding.proofs.digits.WidthLemmas.{symbols-few}
-use Rattle.data_encoding.proofs.judgement.RuleLemmas.{IsRuled, IsRuledPadding, IsRuledWrapping, IsRuled-yield}
-use Rattle.data_encoding.proofs.tables.OneLayoutLemmas.{are_bits, check_bit, ends, flags, length-table, length-tables, meanings-of_codes, order_bit, symbol_table, symbols-of_table}
+use Rattle.data_encoding.proofs.digits.WidthLemmas.{symbols-few, times_symbols, times-pos}
+use Rattle.data_encoding.proofs.lists.RepeatLemmas.{length-repeats, take-repeats}
+use Rattle.data_encoding.proofs.judgement.RuleLemmas.{IsRuled, IsRuledPadding, IsRuledWrapping, IsRuled-yield, is_within}
+use Rattle.data_encoding.proofs.tables.TableRuleLemmas.{value-symbol}
 
 -- a byte is ignored where its entry says so
 pub ignored-at : (base : Base) (tables : Tables) → HasTables base tables → (byte : ℕ)
@@ -29,46 +33,92 @@ ignored-at base tables has byte h =
       by_entry : (v : ℕ) → is_ignored (meaning_of_entry v) ≡ (v == 129)
       by_entry v = grind (arith, nat_tests)
 
+abbrev pub flags : ℕ → BitOrder → Bool → Bool → ℕ
+flags w o c s = w + order_flag o + (if c then 16 else 0) + (if s then 0 else 32)
+
+-- the parts of a layout
+abbrev pub symbol_table : Base → List ℕ
+symbol_table base = concat (replicate (256 / 2 ^ base.width) base.symbols)
+
+abbrev pub ends : Base → List ℕ
+ends base =
+    unwrap_or base.padding 128
+    ∷ flags base.width base.order base.checks_trailing_bits base.concatenates
+    ∷ wrapping_bytes (ignores_some base) base.wrapping
+
+pub length-table : (base : Base) → IsRuled base → length (symbol_table base) ≡ 256
+length-table base ruled =
+    let times = 256 / 2 ^ base.width in
+    length-repeats times base.symbols ∙ ap (λ n. times * n) ruled.count
+    ∙ times_symbols base.width ruled.is_width
+
+character-back : (n : ℕ) (m : Character) → n ≤ 64 → is_within n m ≡ true
+    → meaning_of_entry (code_of m) ≡ m
+character-back n (Symbol value) few h = value-symbol value (grind (arith, nat_tests))
+character-back n Padding few h = refl
+character-back n Ignored few h = refl
+character-back n Invalid few h = refl
+
+meanings-back : (n : ℕ) (ms : List Character) → n ≤ 64 → list_all (is_within n) ms ≡ true
+    → map meaning_of_entry (map code_of ms) ≡ ms
+meanings-back n [] few h = refl
+meanings-back n (m ∷ ms) few h =
+    let here = character-back n m few (first_so (is_within n m) (list_all (is_within n) ms) h) in
+    let rest = meanings-back n ms few (second_so (is_within n m) (list_all (is_within n) ms) h) in
+    λ i. here i ∷ rest i
+
+symbols-of_table : (base : Base) → IsRuled base
+    → take (length base.symbols) (symbol_table base) ≡ base.symbols
+symbols-of_table base ruled =
+    take-repeats (256 / 2 ^ base.width) base.symbols (times-pos base.width ruled.is_width)
+
+meanings-of_codes : (base : Base) → IsRuled base
+    → map meaning_of_entry (map code_of base.meanings) ≡ base.meanings
+meanings-of_codes base ruled =
+    meanings-back (length base.symbols) base.meanings
+    (omega (arith, ruled.count, symbols-few base.width ruled.is_width)) ruled.within
+
 -- What a sum of flags says.
 pub record HasFlags (sum width : ℕ) (order : BitOrder) (checks concatenates : Bool)
     : Type 0 where
+  pub few : sum < 64
   pub width_is : sum % 8 ≡ width
   pub order_is : cond (sum / 8 % 2 == 1) MostSignificantFirst LeastSignificantFirst ≡ order
   pub checks_is : (sum / 16 % 2 == 1) ≡ checks
   pub concatenates_is : (sum / 32 % 2 == 0) ≡ concatenates
 
-order-of_bit : (o : BitOrder) (n : ℕ) → n ≡ order_bit o
-    → cond (n == 1) MostSignificantFirst LeastSignificantFirst ≡ o
-order-of_bit MostSignificantFirst n h =
-    ap (λ k. cond (k == 1) MostSignificantFirst LeastSignificantFirst) h
-order-of_bit LeastSignificantFirst n h =
-    ap (λ k. cond (k == 1) MostSignificantFirst LeastSignificantFirst) h
+-- each flag has a bit
+order_bit : (o : BitOrder) → (bit : ℕ) × (bit ≤ 1) × (order_flag o ≡ 8 * bit)
+    × (cond (bit == 1) MostSignificantFirst LeastSignificantFirst ≡ o)
+order_bit MostSignificantFirst = (1, omega arith, refl, refl)
+order_bit LeastSignificantFirst = (0, omega arith, refl, refl)
 
-check-of_bit : (c : Bool) (n : ℕ) → n ≡ check_bit c → (n == 1) ≡ c
-check-of_bit true n h = ap (λ k. k == 1) h
-check-of_bit false n h = ap (λ k. k == 1) h
+check_bit : (c : Bool)
+    → (bit : ℕ) × (bit ≤ 1) × ((if c then 16 else 0) ≡ 16 * bit) × ((bit == 1) ≡ c)
+check_bit true = (1, omega arith, refl, refl)
+check_bit false = (0, omega arith, refl, refl)
 
-single-of_bit : (s : Bool) (n : ℕ) → n + check_bit s ≡ 1 → (n == 0) ≡ s
-single-of_bit true n h = let none : n ≡ 0 = omega (arith, h) in ap (λ k. k == 0) none
-single-of_bit false n h = let one : n ≡ 1 = omega (arith, h) in ap (λ k. k == 0) one
+single_bit : (s : Bool)
+    → (bit : ℕ) × (bit ≤ 1) × ((if s then 0 else 32) ≡ 32 * bit) × ((bit == 0) ≡ s)
+single_bit true = (0, omega arith, refl, refl)
+single_bit false = (1, omega arith, refl, refl)
 
-pub flags-back : (w : ℕ) (o : BitOrder) (c s : Bool) → w ≤ 6 → HasFlags (flags w o c s) w o c s
+flags-back : (w : ℕ) (o : BitOrder) (c s : Bool) → w ≤ 6 → HasFlags (flags w o c s) w o c s
 flags-back w o c s few =
-    let bits = are_bits o c s in
+    let first = order_bit o in
+    let second = check_bit c in
+    let third = single_bit s in
     let sum = flags w o c s in
-    let is : sum + 32 * check_bit s ≡ w + 8 * order_bit o + 16 * check_bit c + 32 =
-    omega (arith, bits.order_is, bits.check_is, bits.single_is) in
-    let order : sum / 8 % 2 ≡ order_bit o =
-    omega (arith, is, few, bits.order_few, bits.check_few, bits.single_few) in
-    let check : sum / 16 % 2 ≡ check_bit c =
-    omega (arith, is, few, bits.order_few, bits.check_few, bits.single_few) in
-    let single : sum / 32 % 2 + check_bit s ≡ 1 =
-    omega (arith, is, few, bits.order_few, bits.check_few, bits.single_few) in
+    let order : sum / 8 % 2 ≡ first.0 = omega (arith, first.2, second.2, third.2) in
+    let check : sum / 16 % 2 ≡ second.0 = omega (arith, first.2, second.2, third.2) in
+    let single : sum / 32 % 2 ≡ third.0 = omega (arith, first.2, second.2, third.2) in
     record {
-      width_is = omega (arith, is, few, bits.order_few, bits.check_few, bits.single_few);
-      order_is = order-of_bit o (sum / 8 % 2) order;
-      checks_is = check-of_bit c (sum / 16 % 2) check;
-      concatenates_is = single-of_bit s (sum / 32 % 2) single;
+      few = omega (arith, first.2, second.2, third.2);
+      width_is = omega (arith, first.2, second.2, third.2);
+      order_is =
+          ap (λ n. cond (n == 1) MostSignificantFirst LeastSignificantFirst) order ∙ first.3;
+      checks_is = ap (λ n. n == 1) check ∙ second.3;
+      concatenates_is = ap (λ n. n == 0) single ∙ third.3;
     }
 
 padding-back : (base : Base) (o : Option ℕ) → IsRuledPadding base o
@@ -126,6 +176,16 @@ module _ (base : Base) (ruled : IsRuled base) where
   long-codes : length codes ≡ 128
   long-codes = length-map base.meanings code_of ∙ ruled.long
 
+  long-front : length front ≡ 512
+  long-front =
+      omega (
+        arith,
+        length-append (symbol_table base ++ codes) (replicate 128 128),
+        length-append (symbol_table base) codes,
+        length-table base ruled,
+        long-codes,
+      )
+
   symbols-read : take (2 ^ base.width) (layout base) ≡ base.symbols
   symbols-read =
       let few = symbols-few base.width ruled.is_width in
@@ -134,32 +194,51 @@ module _ (base : Base) (ruled : IsRuled base) where
       (omega (arith, few, length-table base ruled))
       ∙ ap (λ n. take n (symbol_table base)) (sym ruled.count) ∙ symbols-of_table base ruled
 
-  codes-read : take 128 (drop 256 (layout base)) ≡ codes
-  codes-read =
-      ap (λ l. take 128 (drop 256 l)) in_parts
-      ∙ ap (take 128) (drop_at (symbol_table base) (codes ++ rest) 256 (length-table base ruled))
-      ∙ take_at codes rest 128 long-codes
+  pub symbol-read : (k : ℕ) → k < 256 → get_or (layout base) k 0 ≡ get_or (symbol_table base) k 0
+  symbol-read k h =
+      ap (λ l. get_or l k 0) in_parts
+      ∙ get_or_append_left (symbol_table base) (codes ++ rest) 0 k
+      (omega (arith, h, length-table base ruled))
 
-  end-read : (k : ℕ) → get_or (layout base) (512 + k) 0 ≡ get_or (ends base) k 0
-  end-read k =
-      let place : 512 + k - 512 ≡ k = omega arith in
-      get_or-append_right front (ends base) 512 (512 + k) 0 (length-tables base ruled)
-      (omega arith)
-      ∙ ap (λ n. get_or (ends base) n 0) place
+  behind-table : drop 256 (layout base) ≡ codes ++ rest
+  behind-table =
+      ap (drop 256) in_parts
+      ∙ drop_at (symbol_table base) (codes ++ rest) 256 (length-table base ruled)
+
+  codes-read : take 128 (drop 256 (layout base)) ≡ codes
+  codes-read = ap (take 128) behind-table ∙ take_at codes rest 128 long-codes
+
+  pub code-read : (byte : ℕ) → byte < 128
+      → get_or (layout base) (256 + byte) 0 ≡ code_of (meaning base byte)
+  code-read byte low =
+      sym (get_or-take 128 (drop 256 (layout base)) byte 0 low
+      ∙ get_or-drop 256 (layout base) byte 0)
+      ∙ ap (λ l. get_or l byte 0) codes-read
+      ∙ get_or-map code_of base.meanings byte Invalid 0 (omega (arith, low, ruled.long))
+
+  pub high-read : (k : ℕ) → 128 ≤ k → k < 256 → get_or (layout base) (256 + k) 0 ≡ 128
+  high-read k from to =
+      sym (get_or-drop 256 (layout base) k 0) ∙ ap (λ l. get_or l k 0) behind-table
+      ∙ get_or-append_right codes rest 128 k 0 long-codes from
+      ∙ get_or_append_left (replicate 128 128) (ends base) 0 (k - 128)
+      (omega (arith, length-replicate {A = ℕ} 128 128))
+      ∙ get_or-replicate 128 (k - 128) 128 0 (omega arith)
+
+  ends-read : drop 512 (layout base) ≡ ends base
+  ends-read = drop_at front (ends base) 512 long-front
+
+  pub end-read : (k : ℕ) → get_or (layout base) (512 + k) 0 ≡ get_or (ends base) k 0
+  end-read k = sym (get_or-drop 512 (layout base) k 0) ∙ ap (λ l. get_or l k 0) ends-read
 
   separator-read : drop 515 (layout base)
       ≡ drop 1 (wrapping_bytes (ignores_some base) base.wrapping)
-  separator-read =
-      sym (drop-drop 3 512 (layout base))
-      ∙ ap (drop 3) (drop_at front (ends base) 512 (length-tables base ruled))
+  separator-read = sym (drop-drop 3 512 (layout base)) ∙ ap (drop 3) ends-read
 
-  long-layout : length (layout base)
+  pub long-layout : length (layout base)
       ≡ 514 + length (wrapping_bytes (ignores_some base) base.wrapping)
-  long-layout =
-      length-append front (ends base)
-      ∙ ap (λ n. n + length (ends base)) (length-tables base ruled) ∙ omega arith
+  long-layout = omega (arith, length-append front (ends base), long-front)
 
-  is_read_as : IsReadAs base (layout base)
+  pub is_read_as : IsReadAs base (layout base)
   is_read_as =
       let lines = few-lines base (ignores_some base) base.wrapping ruled.wrapping in
       record {
