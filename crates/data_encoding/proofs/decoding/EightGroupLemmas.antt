@@ -1,5 +1,5 @@
 -- Eight groups of symbols that are decoded together.
-use Rattle.std.proofs.Common.{◌≡◌, ℕ, zero, suc, ◌+◌, ◌*◌, ◌/◌, ◌%◌, ◌^◌, ◌<◌, ◌≤◌, ◌⊎◌, inl, inr, List, [], ◌∷◌, ◌++◌, length, length-take-le, map, take, drop, slice_index, refl, sym, ap, ◌∙◌, subst, arith, ⊎_elim}
+use Rattle.std.proofs.Common.{◌≡◌, ℕ, zero, suc, ◌+◌, ◌*◌, ◌/◌, ◌%◌, ◌^◌, ◌<◌, ◌≤◌, List, [], ◌∷◌, ◌++◌, length, length-take-le, map, take, drop, slice_index, sym, ap, ◌∙◌, subst, arith, ⊎_elim}
 use Rattle.std.proofs.lemmas.Bool.{cases_lt}
 use Rattle.std.proofs.lemmas.List.{drop-map, get_or-drop, get_or-map, get_or-take, get_or_past, length-drop, length-map, length-take, nil_from_length, take-map, take_all}
 use Rattle.std.proofs.Math.Nat.{mod-eq_of_lt, mul-div_cancel_left}
@@ -15,7 +15,7 @@ use Rattle.data_encoding.specs.Fault.{symbol_bytes}
 use Rattle.data_encoding.specs.Tables.{IsGroup, Reads}
 use Rattle.data_encoding.specs.Words.{digit, word_of}
 use Rattle.data_encoding.proofs.digits.KernelLemmas.{symbol_bytes-word}
-use Rattle.data_encoding.proofs.digits.WidthLemmas.{by_width, symbols-few}
+use Rattle.data_encoding.proofs.digits.WidthLemmas.{symbols-few}
 use Rattle.data_encoding.proofs.lists.EachLemmas.{all-at}
 use Rattle.data_encoding.proofs.lists.PartLemmas.{IsWhole, IsWhole-group}
 use Rattle.data_encoding.proofs.lists.RunLemmas.{runs-first, runs-nil}
@@ -120,19 +120,6 @@ module _ (base : Base) (values : List ℕ) (width bytes symbols : ℕ) (order : 
             (sym (take_all (8 * group_symbols base.width) input (omega (arith, all_symbols))) i))));
       }
 
--- the sizes of groups
-pub symbol-counts : (width : ℕ) → IsWidth width
-    → (group_symbols width ≡ 2) ⊎ (group_symbols width ≡ 4) ⊎ (group_symbols width ≡ 8)
-symbol-counts =
-    by_width (λ w. (group_symbols w ≡ 2) ⊎ (group_symbols w ≡ 4) ⊎ (group_symbols w ≡ 8))
-    (inr (inr refl)) (inr (inl refl)) (inr (inr refl)) (inl refl) (inr (inr refl)) (inr (inl refl))
-
-pub byte-counts : (width : ℕ) → IsWidth width
-    → (group_bytes width ≡ 1) ⊎ (group_bytes width ≡ 3) ⊎ (group_bytes width ≡ 5)
-byte-counts =
-    by_width (λ w. (group_bytes w ≡ 1) ⊎ (group_bytes w ≡ 3) ⊎ (group_bytes w ≡ 5))
-    (inl refl) (inl refl) (inr (inl refl)) (inl refl) (inr (inr refl)) (inr (inl refl))
-
 -- the limit of values
 limit-is : (width : ℕ) → IsWidth width → 1 * 2 ^ width % 256 ≡ 2 ^ width
 limit-is width is =
@@ -144,18 +131,14 @@ weaker : (few most : ℕ) → few ≤ most → (xs : List ℕ) → AllByRecursio
 weaker few most h [] all = tt
 weaker few most h (x ∷ xs) all = (omega (arith, h, all.0), weaker few most h xs all.1)
 
--- The sizes of a group as they are read: its width, and how many symbols it has.
-pub record AreSizes (width symbols read count : ℕ) : Type 0 where
-  pub is_width : IsWidth width
-  pub same_width : read ≡ width
-  pub same_symbols : symbols ≡ count
-
-module _ {width symbols read count : ℕ} (sizes : AreSizes width symbols read count)
-    (entries : List ℕ) (small : AllByRecursion (λ entry. entry < 1 * 2 ^ read % 256) entries) where
+-- the width and how many symbols a group has, as they are read
+module _ {width symbols read count : ℕ} (is : IsWidth width) (same : read ≡ width)
+    (many : symbols ≡ count) (entries : List ℕ)
+    (small : AllByRecursion (λ entry. entry < 1 * 2 ^ read % 256) entries) where
   below : AllByRecursion (λ entry. entry < 2 ^ read) entries
   below =
       subst (λ n. AllByRecursion (λ entry. entry < n) entries)
-      (limit-is read (subst IsWidth (sym sizes.same_width) sizes.is_width)) small
+      (limit-is read (subst IsWidth (sym same) is)) small
 
   -- where all entries are below the limit, their words fit
   words-fit : (made : List ℕ)
@@ -164,7 +147,7 @@ module _ {width symbols read count : ℕ} (sizes : AreSizes width symbols read c
       → AllByRecursion (λ word. word < 2 ^ (width * symbols)) made
   words-fit made fit =
       subst (λ n. AllByRecursion (λ word. word < 2 ^ n) made)
-      (λ i. sizes.same_width i * sym sizes.same_symbols i) (fit below)
+      (λ i. same i * sym many i) (fit below)
 
   -- and they are those of the input
   module _ (values input : List ℕ) (long : length input ≡ 8 * symbols)
@@ -172,15 +155,14 @@ module _ {width symbols read count : ℕ} (sizes : AreSizes width symbols read c
       → entries ≡ map (slice_index values) (take (8 * count) input)) where
     low : AllByRecursion (λ entry. entry < 128) entries
     low =
-        weaker (2 ^ read) 128
-        (omega (arith, symbols-few width sizes.is_width, ap (λ n. 2 ^ n) sizes.same_width)) entries
+        weaker (2 ^ read) 128 (omega (arith, symbols-few width is, ap (λ n. 2 ^ n) same)) entries
         below
 
     entries-are : entries ≡ map (slice_index values) input
     entries-are =
         found low
         ∙ ap (map (slice_index values))
-        (take_all (8 * count) input (omega (arith, long, sizes.same_symbols)))
+        (take_all (8 * count) input (omega (arith, long, many)))
 
     -- and so are their words
     words-of-input : (order : BitOrder) (made : List ℕ)
@@ -190,8 +172,8 @@ module _ {width symbols read count : ℕ} (sizes : AreSizes width symbols read c
         (first_chunks symbols 8 (map (slice_index values) input))
     words-of-input order made are =
         are below
-        ∙ (λ i. map (word_of order (sizes.same_width i) (sym sizes.same_symbols i))
-        (first_chunks (sym sizes.same_symbols i) 8 (entries-are i)))
+        ∙ (λ i. map (word_of order (same i) (sym many i))
+        (first_chunks (sym many i) 8 (entries-are i)))
 
     -- and each byte is a symbol
     symbols-of-input : (j : ℕ) → j < length input
@@ -203,7 +185,7 @@ module _ {width symbols read count : ℕ} (sizes : AreSizes width symbols read c
         (omega (arith, h, length-map input (slice_index values))))
 
 -- what is found of eight groups: their words, and that each byte is a symbol
-pub words-found : {width number read count : ℕ} → AreSizes width number read count
+pub words-found : {width number read count : ℕ} → IsWidth width → read ≡ width → number ≡ count
     → (holds : List ℕ → Type 0) (all : Type 0) (order : BitOrder) (input entries made : List ℕ)
     → length input ≡ 8 * number
     → (all → AllByRecursion (λ entry. entry < 1 * 2 ^ read % 256) entries)
@@ -221,10 +203,11 @@ pub words-found : {width number read count : ℕ} → AreSizes width number read
           → slice_index values (slice_index input j) < 128;
       fit : all → AllByRecursion (λ word. word < 2 ^ (width * number)) made;
     }
-words-found sizes holds all order input entries made long small found are fit = record {
+words-found is same many holds all order input entries made long small found are fit = record {
   words = λ values held h.
-      words-of-input sizes entries (small h) values input long (found values held) order made are;
+      words-of-input is same many entries (small h) values input long (found values held) order
+      made are;
   symbols = λ values held h.
-      symbols-of-input sizes entries (small h) values input long (found values held);
-  fit = λ h. words-fit sizes entries (small h) made fit;
+      symbols-of-input is same many entries (small h) values input long (found values held);
+  fit = λ h. words-fit is same many entries (small h) made fit;
 }

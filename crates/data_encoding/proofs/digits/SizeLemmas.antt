@@ -1,14 +1,16 @@
 -- The sizes of a group.
-use Rattle.std.proofs.Common.{◌≡◌, ℕ, ◌+◌, ◌-◌, ◌*◌, ◌/◌, ◌≤◌, ap, ◌∙◌, subst, sym, arith}
+use Rattle.std.proofs.Common.{◌≡◌, ◌⊎◌, inl, inr, ℕ, ◌+◌, ◌-◌, ◌*◌, ◌/◌, ◌≤◌, ap, ◌∙◌, refl, subst, sym, arith}
 use Rattle.data_encoding.specs.Base.{IsWidth, group_bytes, group_symbols}
 use Rattle.data_encoding.specs.Tables.{IsGroup}
 use Rattle.data_encoding.proofs.digits.WidthLemmas.{by_width}
 
 -- a whole group is small enough for a word
-pub record IsSmall (width bytes symbols : ℕ) : Type 0 where
-  pub few_bytes : bytes ≤ 5
-  pub few_symbols : symbols ≤ 8
-  pub few_bits : width * symbols ≤ 40
+abbrev IsSmall : ℕ → ℕ → ℕ → Type 0
+IsSmall width bytes symbols = record {
+  few_bytes : bytes ≤ 5;
+  few_symbols : symbols ≤ 8;
+  few_bits : width * symbols ≤ 40;
+}
 
 IsSmall-width : (width : ℕ) → IsWidth width
     → IsSmall width (group_bytes width) (group_symbols width)
@@ -33,6 +35,24 @@ IsSmall-group {width} {bytes} {symbols} group =
       few_symbols = subst (λ n. n ≤ 8) (sym group.has_symbols) small.few_symbols;
       few_bits = subst (λ n. width * n ≤ 40) (sym group.has_symbols) small.few_bits;
     }
+
+-- a group has eight, four or two symbols
+pub symbols-are : {width bytes symbols : ℕ} → IsGroup width bytes symbols
+    → (symbols ≡ 8) ⊎ (symbols ≡ 4) ⊎ (symbols ≡ 2)
+symbols-are {width} group =
+    subst (λ n. (n ≡ 8) ⊎ (n ≡ 4) ⊎ (n ≡ 2)) (sym group.has_symbols)
+    (by_width (λ w. (group_symbols w ≡ 8) ⊎ (group_symbols w ≡ 4) ⊎ (group_symbols w ≡ 2))
+    (inl refl) (inr (inl refl)) (inl refl) (inr (inr refl)) (inl refl) (inr (inl refl)) width
+    group.is_width)
+
+-- and one, three or five bytes
+pub bytes-are : {width bytes symbols : ℕ} → IsGroup width bytes symbols
+    → (bytes ≡ 1) ⊎ (bytes ≡ 3) ⊎ (bytes ≡ 5)
+bytes-are {width} group =
+    subst (λ n. (n ≡ 1) ⊎ (n ≡ 3) ⊎ (n ≡ 5)) (sym group.has_bytes)
+    (by_width (λ w. (group_bytes w ≡ 1) ⊎ (group_bytes w ≡ 3) ⊎ (group_bytes w ≡ 5))
+    (inl refl) (inl refl) (inr (inl refl)) (inl refl) (inr (inr refl)) (inr (inl refl)) width
+    group.is_width)
 
 -- the bytes of a group have no more symbols than a group
 pub symbols-within : {width bytes symbols : ℕ} → IsGroup width bytes symbols

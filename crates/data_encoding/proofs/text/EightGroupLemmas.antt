@@ -1,5 +1,5 @@
 -- The symbols of groups in a row, by the digits of their words.
-use Rattle.std.proofs.Common.{◌≡◌, ℕ, zero, suc, ◌+◌, ◌-◌, ◌*◌, ◌/◌, ◌%◌, ◌^◌, ◌<◌, ◌≤◌, ◌⊎◌, inl, inr, List, [], ◌∷◌, ◌++◌, length, map, take, drop, slice_index, refl, sym, ap, ◌∙◌, subst, arith, length-take-le}
+use Rattle.std.proofs.Common.{◌≡◌, ℕ, zero, suc, ◌+◌, ◌-◌, ◌*◌, ◌/◌, ◌%◌, ◌^◌, ◌<◌, ◌≤◌, List, [], ◌∷◌, ◌++◌, length, map, take, drop, slice_index, refl, sym, ap, ◌∙◌, subst, arith, length-take-le}
 use Rattle.std.proofs.Math.Nat.{mul-add, mod-lt, mod-mod, mul-mod_right}
 use Rattle.std.proofs.Math.Pow.{pow_mono}
 use Rattle.std.proofs.Math.Seq.{take-add}
@@ -9,13 +9,12 @@ use Rattle.std.proofs.lemmas.List.Folds.{flat_map-map}
 use Rattle.std.specs.Prelude.{flat_map}
 use Rattle.std.specs.List.{range_with_len}
 use Rattle.data_encoding.specs.declared.encoding.BitOrder.{BitOrder}
-use Rattle.data_encoding.specs.Base.{Base, group_symbols, symbol}
+use Rattle.data_encoding.specs.Base.{Base, symbol}
 use Rattle.data_encoding.specs.Lanes.{group_word, group_words, digits_of}
 use Rattle.data_encoding.specs.Tables.{IsGroup, Writes}
 use Rattle.data_encoding.specs.Text.{plain_text}
 use Rattle.data_encoding.specs.Words.{digit, low_byte, weight, word_of}
 use Rattle.data_encoding.proofs.digits.KernelLemmas.{lowest_bits, plain_text-word}
-use Rattle.data_encoding.proofs.digits.WidthLemmas.{by_width}
 use Rattle.data_encoding.proofs.digits.WordLemmas.{map-range-same, map-twice}
 use Rattle.data_encoding.proofs.lists.PartLemmas.{IsWhole, IsWhole-group, whole-group}
 use Rattle.data_encoding.proofs.text.PlainTextLemmas.{plain_text-join, plain_text-nil}
@@ -108,12 +107,3 @@ module _ (base : Base) (order : BitOrder) (width bytes count : ℕ) (symbols : L
       (group_word order bytes input) (range_with_len 0 8)
       ∙ groups_text input 8 0 (omega (arith, h))
       ∙ (λ i. plain_text base (take (all i) (drop (none i) input)))
-
--- a group has eight, four or two symbols
-pub symbols-are : (width bytes count : ℕ) → IsGroup width bytes count
-    → (count ≡ 8) ⊎ (count ≡ 4) ⊎ (count ≡ 2)
-symbols-are width bytes count group =
-    subst (λ n. (n ≡ 8) ⊎ (n ≡ 4) ⊎ (n ≡ 2)) (sym group.has_symbols)
-    (by_width (λ w. (group_symbols w ≡ 8) ⊎ (group_symbols w ≡ 4) ⊎ (group_symbols w ≡ 2))
-    (inl refl) (inr (inl refl)) (inl refl) (inr (inr refl)) (inl refl) (inr (inl refl)) width
-    group.is_width)

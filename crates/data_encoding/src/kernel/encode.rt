@@ -74,7 +74,7 @@ fn encode_turns<T: EncodeTurn, G: GroupSize>(
     );
 }
 
-/// What encodes several whole groups by one turn of a loop, in each turn as many.
+/// What encodes whole groups by one turn of a loop, in each turn as many, and then what is left.
 trait EncodeTurn {
     ghost GROUPS: { ℕ };
 

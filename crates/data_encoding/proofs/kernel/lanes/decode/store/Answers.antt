@@ -1,7 +1,7 @@
 use Rattle.std.proofs.Common.{◌≡◌, ◌*◌, ◌^◌, ◌<◌, sym, ap, ◌∙◌, subst, arith}
 use Rattle.std.specs.List.{AllByRecursion}
-use Rattle.data_encoding.proofs.decoding.EightGroupLemmas.{byte-counts}
 use Rattle.data_encoding.proofs.digits.GatherStoreLemmas.{bytes_of_words, stored-ones}
+use Rattle.data_encoding.proofs.digits.SizeLemmas.{bytes-are}
 use Rattle.data_encoding.proofs.kernel.lanes.decode.store.Goals as goal
 
 pub returns-in-1 : goal.returns-in-1
@@ -21,12 +21,6 @@ returns-in-3 g c =
 pub returns-in_default : goal.returns-in_default
 returns-in_default g c =
     let five : g.G.GroupSize.BYTES ≡ 5 =
-    omega (
-      arith,
-      byte-counts g.G.GroupSize.WIDTH g.G.GroupSize.is_group.is_width,
-      g.G.GroupSize.is_group.has_bytes,
-      c.BYTES.ensures,
-      c.in_default,
-    ) in
+    omega (arith, bytes-are g.G.GroupSize.is_group, c.in_default) in
     c.store_five.ensures
     ∙ ap (λ n. bytes_of_words c.args.order n c.args.words) (sym five)

@@ -1,9 +1,9 @@
-use Rattle.std.proofs.Common.{◌≡◌, ℕ, ◌*◌, ◌≤◌, List, ◌++◌, length, take, sym, ap, ◌∙◌, inl, inr, arith, length-take-le}
+use Rattle.std.proofs.Common.{◌≡◌, ℕ, ◌*◌, ◌≤◌, List, ◌++◌, length, take, sym, ap, ◌∙◌, arith, length-take-le}
 use Rattle.std.proofs.lemmas.List.{take_all}
 use Rattle.std.proofs.lemmas.Simd.{pick_l_left, pick_l-range_with_len, put_chunk_whole}
 use Rattle.std.specs.List.{range_with_len}
 use Rattle.std.specs.Simd.Lanes.{pick_l, put_chunk}
-use Rattle.data_encoding.proofs.text.EightGroupLemmas.{symbols-are}
+use Rattle.data_encoding.proofs.digits.SizeLemmas.{symbols-are}
 use Rattle.data_encoding.proofs.kernel.lanes.encode.store.Goals as goal
 
 -- lanes that are picked from the first on, and stored
@@ -36,15 +36,7 @@ returns-then-count-eq4 g c =
 
 pub returns-else-count-eq4 : goal.returns-else-count-eq4
 returns-else-count-eq4 g c =
-    let two : g.G.GroupSize.SYMBOLS ≡ 2 =
-    elim (symbols-are g.G.GroupSize.WIDTH g.G.GroupSize.BYTES g.G.GroupSize.SYMBOLS
-    g.G.GroupSize.is_group) [
-      | inl is ↦ absurd (c.if-count-eq8.false (c.SYMBOLS-count.ensures ∙ is))
-      | inr others ↦ elim others [
-        | inl is ↦ absurd (c.if-count-eq4.false (c.SYMBOLS-count.ensures ∙ is))
-        | inr is ↦ is
-      ]
-    ] in
+    let two : g.G.GroupSize.SYMBOLS ≡ 2 = omega (arith, symbols-are g.G.GroupSize.is_group) in
     let all : 8 * g.G.GroupSize.SYMBOLS ≡ 16 = ap (λ n. 8 * n) two in
     let lanes = c.args.lanes in
     stored 16 c.args.output.now lanes (pick_l 0 (lanes ++ lanes) (range_with_len 0 16))
