@@ -22,7 +22,8 @@ const CHUNK: usize = 32768;
 // The room for what they decode to.
 const ROOM: usize = CHUNK + 8;
 
-/// Reads a text to the end, writes what it decodes to, and then flushes once. It takes no memory.
+/// Reads a text to the end, writes what it decodes to, and then flushes once. It takes no memory:
+/// its buffers are 64 KiB of the stack.
 ///
 /// The text is read to its end also where it has a fault: the bytes of the groups before the first
 /// faulty one are written, the writer is flushed, and the fault of the whole text is returned. The

@@ -10,8 +10,8 @@ use std::io;
 use std::io::ErrorKind;
 use std::test::Fail;
 
-/// Gives at most so many bytes a call. The call after so many good ones is interrupted, and the
-/// calls after that are good again.
+/// Gives at most `most` bytes a call. The call after the good ones is interrupted, and the calls
+/// after that are good again.
 #[derive(Drop)]
 struct FakeReader<'a> {
     bytes: &'a [u8],
@@ -56,7 +56,7 @@ enum Failure {
     Flush,
 }
 
-/// Takes at most three bytes a call, fails once after so many good writes, and counts its calls.
+/// Takes at most three bytes a call, fails once after the good writes, and counts its calls.
 #[derive(Drop)]
 struct FakeWriter {
     bytes: Vec<u8>,

@@ -57,8 +57,8 @@ impl Encoding {
         self.encode_write_buffer(input, output, &mut buffer)
     }
 
-    /// How many bytes of data, in whole groups or whole lines, have a text that surely fits an output
-    /// of `output_len` bytes, at least 510. The text of fewer bytes fits too.
+    /// How many bytes of data, in whole groups or whole lines, have a text that surely fits an
+    /// output of `output_len` bytes, at least 510. The text of fewer bytes fits too.
     ///
     /// The texts of pieces of this length, and of a last one of any length, may be joined.
     pub fn encode_piece_len(&self, output_len: usize) -> usize

@@ -25,8 +25,8 @@ fn an_interrupted_read_fails(rt: HostRuntime) -> Result<(), Fail> {
     Ok(())
 }
 
-// Whether a run over five bytes ends with the call of its writer that fails, as soon as so many
-// writes and flushes were asked for and this is written.
+// Whether a run over five bytes ends with the call of its writer that fails, after these numbers of
+// writes and flushes, when this is written.
 fn is_end(
     alloc: Global,
     (words, input): (&str, &str),

@@ -23,8 +23,8 @@ full-whole base asked count buffer whole filled few full =
 pub loop-count-init : goal.loop-count-init
 loop-count-init g c = record {
   encoded =
-      encoded-nothing c.args.encoding.now c.encode_piece_len-asked.ensures.base c.join_encode.ensures
-      _ _;
+      encoded-nothing c.args.encoding.now c.encode_piece_len-asked.ensures.base
+      c.join_encode.ensures _ _;
   reader_works = c.requires.reader_works;
   writer_works = c.requires.writer_works;
   chunk = refl;
@@ -49,8 +49,8 @@ returns-in_default-clause-too_long g c =
     let more = take c.in-Ok.count c.fill.new.buffer in
     let taken : length more ≡ c.in-Ok.count =
     length-take-le c.in-Ok.count c.fill.new.buffer c.in-Ok.ensures.bound in
-    λ _. encoded-past c.args.encoding.now c.encode_piece_len-asked.ensures.base c.join_encode.ensures
-    _ _ _ _ _ c.loop-count.total c.loop-count.invariant.encoded more c.in-Ok.ensures.bytes _
+    λ _. encoded-past c.args.encoding.now c.encode_piece_len-asked.ensures.base
+    c.join_encode.ensures _ _ _ _ _ c.loop-count.total c.loop-count.invariant.encoded more c.in-Ok.ensures.bytes _
     (omega (arith, taken, c.in_default.ensures))
 
 pub returns-in_default-write_text-clause-begun : goal.returns-in_default-write_text-clause-begun
