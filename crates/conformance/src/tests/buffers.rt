@@ -17,12 +17,21 @@ base64|most|check|=||0||||Zm9vYmE=Zg==|
 base64|most|check|=||0||||Zm9vYg==!|invalid length at 8
 base64|most|check|=||0||||Zm9vYm!yZm9v|invalid symbol at 6
 base64|most|check|=||0||||Zm9vYmF=Zm9v|non-zero trailing bits at 6
+base64|most|check|=||0||||Zm9vY===Zm9v|invalid padding length at 5
 base64|most|single check|=||0||||Zm9vYg==Zm9v|invalid padding length at 8
+base64|most|single check|=|-|0||||Zm9v-Yg==Z---|invalid padding length at 9
+base64|most|single check|=||0||||Zm9vY!==Zm9v|invalid symbol at 5
 base64|most|check|=||76|←↵|||SGVs←↵bG8=←↵|
 base64|most|check|=||76|←↵|||SGVs←↵b!8=←↵|invalid symbol at 7
+base64|most|check|=||76|←↵|||SGVs←↵bG9=←↵SGVs|non-zero trailing bits at 8
+base64|most|check|=||76|←↵|||SGVs←↵b===←↵SGVs|invalid padding length at 7
+base64|most|check|=||76|←↵|||SGVs←↵SGVs←↵b!|invalid length at 12
 base32|most|check|||0||||MZXW6YTBOI|
 base32|most|check|||0||||MZXW6YTBO|invalid length at 8
 base32|most|check|||0||||MZXW6YTBO!|invalid symbol at 9
+base32|most|check|||0||||MZX!6YTBMZXW6YTB|invalid symbol at 3
+base32|most|check|||0||||MZXW6YTBOJ|non-zero trailing bits at 9
+base32|most|check||-|0||||M!------Z|invalid length at 8
 octal|most|check|=|-|0||||22-06-44-==|
 hex|most|check|||0||||48656c6c6f|";
 
