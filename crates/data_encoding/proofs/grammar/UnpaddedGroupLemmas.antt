@@ -1,5 +1,5 @@
 -- Symbols of one group: the bytes that they mean, and their fault.
-use Rattle.std.proofs.Common.{◌≡◌, ℕ, zero, suc, ◌+◌, ◌*◌, ◌/◌, ◌%◌, ◌<◌, ◌≤◌, ◌==◌, Bool, true, false, not, cond, ◌&&◌, nat_lt, List, [], ◌∷◌, ◌++◌, length, map, take, drop, replicate, Option, Some, None, refl, sym, ap, ◌∙◌, arith, length-append, take-append-drop, length-take-le}
+use Rattle.std.proofs.Common.{◌≡◌, ℕ, ◌+◌, ◌*◌, ◌/◌, ◌%◌, ◌<◌, ◌≤◌, ◌==◌, Bool, true, false, not, cond, ◌&&◌, nat_lt, List, [], ◌∷◌, ◌++◌, length, map, take, drop, Option, Some, None, refl, sym, ap, ◌∙◌, arith, length-append, take-append-drop, length-take-le}
 use Rattle.std.proofs.lemmas.Bool.{false≢true}
 use Rattle.std.proofs.lemmas.Bool.Decides.{nat_tests}
 use Rattle.std.proofs.lemmas.List.{length-map, length-drop, take_at, drop_at}
@@ -19,7 +19,7 @@ use Rattle.data_encoding.specs.Fault.{symbol_bits, trailing_bits, symbol_bytes, 
 use Rattle.data_encoding.specs.declared.error.DecodeKind.TheVariants.{Length as LengthFault}
 use Rattle.data_encoding.proofs.digits.BitLemmas.{AreBits, AreBits-take, AreBits-flat_map, AreBits-bits_of, length-bits_of, length-pieces, number_of-bits_of}
 use Rattle.data_encoding.proofs.digits.ValueLemmas.{AreValuesOf-runs}
-use Rattle.data_encoding.proofs.lists.EachLemmas.{all_weaker}
+use Rattle.data_encoding.proofs.lists.EachLemmas.{all_replicate, all_weaker}
 use Rattle.data_encoding.proofs.lists.ListLemmas.{AllFail, position-none, AllFail-position, list_any-none, AllFail-list_any, zeros}
 use Rattle.data_encoding.proofs.lists.RunLemmas.{runs-flat_map}
 
@@ -90,10 +90,6 @@ no_fault-branches false fault o h = (refl, h)
 both_false : (a b : Bool) → a && b ≡ false → a ≡ true → b ≡ false
 both_false true b h e = h
 both_false false b h e = cc
-
-zeros_pass : (n : ℕ) → AllFail (λ bit. not (bit == 0)) (replicate n 0)
-zeros_pass zero = tt
-zeros_pass (suc n) = (refl, zeros_pass n)
 
 short_rest : (bits : List ℕ) (width count : ℕ) → length bits ≡ width * count
     → is_valid_count width count ≡ true → length (drop (length bits / 8 * 8) bits) < width
@@ -219,7 +215,8 @@ module _ (base : Base) (width : IsWidth base.width) (group : List Character) whe
         (list_any (λ bit. not (bit == 0)) (trailing_bits base group)) _
         (λ e. let zero_rest = split.is_rest ∙ means.rest_is_zero e in
         ap (list_any (λ bit. not (bit == 0))) zero_rest
-        ∙ list_any-none (λ bit. not (bit == 0)) _ (zeros_pass (length means.rest)))
+        ∙ list_any-none (λ bit. not (bit == 0)) _
+        (all_replicate (λ bit. not (bit == 0) ≡ false) (length means.rest) 0 refl))
 
     -- what means something has no fault
     pub PlainMeans-no_fault : plain_fault base group ≡ None
