@@ -1,5 +1,5 @@
 -- Symbols of one group: the bytes that they mean, and their fault.
-use Rattle.std.proofs.Common.{◌≡◌, ℕ, ◌+◌, ◌*◌, ◌/◌, ◌%◌, ◌<◌, ◌≤◌, ◌==◌, Bool, true, false, not, cond, ◌&&◌, nat_lt, List, [], ◌∷◌, ◌++◌, length, map, take, drop, Option, Some, None, refl, sym, ap, ◌∙◌, arith, length-append, take-append-drop, length-take-le}
+use Rattle.std.proofs.Common.{◌≡◌, ℕ, ◌+◌, ◌*◌, ◌/◌, ◌%◌, ◌<◌, ◌==◌, Bool, true, false, not, cond, ◌&&◌, List, [], ◌∷◌, ◌++◌, length, map, take, drop, Option, Some, None, refl, sym, ap, ◌∙◌, arith, length-append, take-append-drop, length-take-le}
 use Rattle.std.proofs.lemmas.Bool.{false≢true}
 use Rattle.std.proofs.lemmas.Bool.Decides.{nat_tests}
 use Rattle.std.proofs.lemmas.List.{length-map, length-drop, take_at, drop_at}
@@ -98,12 +98,6 @@ short_rest bits width count h valid =
     let same : length bits % 8 ≡ width * count % 8 = ap (λ n. n % 8) h in
     omega (arith, length-drop (length bits / 8 * 8) bits, div-add-mod' (length bits) 8)
 
-valid_by : (n width bytes rest : ℕ) → n ≡ 8 * bytes + rest → rest < width → width ≤ 6
-    → nat_lt (n % 8) width ≡ true
-valid_by n width bytes rest h short few =
-    let same : n % 8 ≡ rest = omega arith in
-    grind (arith, nat_tests)
-
 quiet : {A : Type 0} (checks any : Bool) (fault : A) → (checks ≡ true → any ≡ false)
     → cond (checks && any) (Some fault) None ≡ None
 quiet true any fault h = ap (λ b. cond b (Some fault) None) (h refl)
@@ -121,17 +115,6 @@ plain_fault-valid base group h =
 record AreSplit (bits front rest : List ℕ) : Type 0 where
   is_front : take (length bits / 8 * 8) bits ≡ front
   is_rest : drop (length bits / 8 * 8) bits ≡ rest
-
-split_bits : (bits front rest : List ℕ) (count : ℕ) → bits ≡ front ++ rest
-    → length front ≡ 8 * count → length rest < 8 → AreSplit bits front rest
-split_bits bits front rest count h e short =
-    let len : length bits ≡ 8 * count + length rest =
-    ap length h ∙ length-append front rest ∙ ap (λ n. n + length rest) e in
-    let whole : length bits / 8 * 8 ≡ length front = omega arith in
-    record {
-      is_front = (λ i. take (whole i) (h i)) ∙ take_at front rest (length front) refl;
-      is_rest = (λ i. drop (whole i) (h i)) ∙ drop_at front rest (length front) refl;
-    }
 
 module _ (base : Base) (width : IsWidth base.width) (group : List Character) where
   -- a group with no fault means its bytes
@@ -182,10 +165,17 @@ module _ (base : Base) (width : IsWidth base.width) (group : List Character) whe
 
     split : AreSplit (symbol_bits base group) (bits_of_bytes base.order bytes) means.rest
     split =
-        split_bits (symbol_bits base group) (bits_of_bytes base.order bytes) means.rest
-        (length bytes)
-        bits_are (length-bits_of_bytes base.order bytes)
-        (omega (arith, means.rest_is_short, width.few))
+        let front = bits_of_bytes base.order bytes in
+        let bytes_len = length-bits_of_bytes base.order bytes in
+        let len = ap length bits_are ∙ length-append front means.rest in
+        let whole : length (symbol_bits base group) / 8 * 8 ≡ length front =
+        omega (arith, len, bytes_len, means.rest_is_short, width.few) in
+        record {
+          is_front = (λ i. take (whole i) (bits_are i))
+              ∙ take_at front means.rest (length front) refl;
+          is_rest = (λ i. drop (whole i) (bits_are i))
+              ∙ drop_at front means.rest (length front) refl;
+        }
 
     -- symbols have the bits of their bytes, and those that are left
     pub PlainMeans-count : base.width * length group ≡ 8 * length bytes + length means.rest
@@ -200,8 +190,9 @@ module _ (base : Base) (width : IsWidth base.width) (group : List Character) whe
 
     pub PlainMeans-valid : is_valid_count base.width (length group) ≡ true
     PlainMeans-valid =
-        valid_by (base.width * length group) base.width (length bytes) (length means.rest)
-        PlainMeans-count means.rest_is_short width.few
+        let over : base.width * length group % 8 ≡ length means.rest =
+        omega (arith, PlainMeans-count, means.rest_is_short, width.few) in
+        grind (arith, nat_tests, over, means.rest_is_short)
 
     pub PlainMeans-bytes : symbol_bytes base group ≡ bytes
     PlainMeans-bytes =
