@@ -1,9 +1,8 @@
 -- The text and the bytes of a group, from its word.
-use Rattle.std.proofs.Common.{◌≡◌, ℕ, suc, ◌+◌, ◌-◌, ◌*◌, ◌/◌, ◌%◌, ◌^◌, ◌<◌, ◌≤◌, List, [], ◌∷◌, ◌++◌, length, map, take, drop, replicate, slice_index, refl, sym, ap, ◌∙◌, subst, arith, ⊎_elim, length-append, append_assoc, take-append-drop, length-take-le}
-use Rattle.std.proofs.lemmas.Bool.{cases_lt}
+use Rattle.std.proofs.Common.{◌≡◌, ℕ, suc, ◌+◌, ◌-◌, ◌*◌, ◌/◌, ◌%◌, ◌^◌, ◌<◌, ◌≤◌, List, [], ◌∷◌, ◌++◌, length, map, take, drop, replicate, slice_index, refl, sym, ap, ◌∙◌, subst, arith, length-append, append_assoc, take-append-drop, length-take-le}
 use Rattle.std.proofs.lemmas.List.{length-replicate, length-map, replicate-append-replicate}
-use Rattle.std.proofs.lemmas.Nat.{div-add-mod', mod_below, mul-le, pow_pos}
-use Rattle.std.proofs.Math.Nat.{mul_comm, mod-eq_of_lt, mod-lt, div-eq_of_lt-le, div-lt_iff_lt-mul}
+use Rattle.std.proofs.lemmas.Nat.{mul-le, pow_pos}
+use Rattle.std.proofs.Math.Nat.{mod-lt}
 use Rattle.std.proofs.Math.Pow.{mod-mod-pow}
 use Rattle.std.specs.Prelude.{flat_map}
 use Rattle.std.specs.List.{range_with_len, filter_map, cons_option}
@@ -17,37 +16,10 @@ use Rattle.data_encoding.specs.Text.{plain_text}
 use Rattle.data_encoding.specs.Words.{digit, low_byte, weight, zeros_to, word_of}
 use Rattle.data_encoding.proofs.digits.BitLemmas.{AreBits, AreBits-flat_map, AreBits-bits_of}
 use Rattle.data_encoding.proofs.grammar.UnpaddedGroupLemmas.{length-bits_of_bytes, length-bits_of_values}
-use Rattle.data_encoding.proofs.lists.RunLemmas.{first_chunks-append, run_count}
-use Rattle.data_encoding.proofs.text.PlainTextLemmas.{text_by, missing-none, run_count-missing}
+use Rattle.data_encoding.proofs.lists.RunLemmas.{first_chunks-append, run_count, run_count-few}
+use Rattle.data_encoding.proofs.text.PlainTextLemmas.{filled_count, text_by, run_count-missing}
 use Rattle.data_encoding.proofs.digits.WidthLemmas.{group_bits}
 use Rattle.data_encoding.proofs.digits.WordLemmas.{digits-runs, map-twice, map-range-same}
-
--- with what is missing, a list is as long as its runs
-filled_some : (size n q r : ℕ) → n ≡ q * size + r → 0 < r → r < size
-    → n + (size - r) ≡ size * run_count size n
-filled_some size n q r e some few =
-    let count = div-eq_of_lt-le {k = q + 1} size {m = n + (size - 1)} (omega arith) (omega arith) in
-    let next : n + (size - r) ≡ (q + 1) * size = omega arith in
-    next ∙ mul_comm (q + 1) size ∙ ap (λ k. size * k) (sym count)
-
-filled_none : (size n q : ℕ) → n ≡ q * size → 0 < size → n + 0 ≡ size * run_count size n
-filled_none size n q e some =
-    let count = div-eq_of_lt-le {k = q} size {m = n + (size - 1)} (omega arith) (omega arith) in
-    let next : n + 0 ≡ q * size = omega arith in
-    next ∙ mul_comm q size ∙ ap (λ k. size * k) (sym count)
-
-pub filled_count : (size n : ℕ) → 0 < size → n + missing size n ≡ size * run_count size n
-filled_count size n h =
-    let whole = sym (div-add-mod' n size) in
-    let below = mod_below n size h in
-    ⊎_elim
-    (λ (some : 0 < n % size).
-    let extra : missing size n ≡ size - n % size = mod-eq_of_lt (omega arith) in
-    ap (λ k. n + k) extra ∙ filled_some size n (n / size) (n % size) whole some below)
-    (λ (none : n % size ≤ 0).
-    ap (λ k. n + k) (missing-none size n (omega arith))
-    ∙ filled_none size n (n / size) (omega arith) h)
-    (cases_lt 0 (n % size))
 
 -- whole runs of bits and zeros, however many zeros there are
 first_chunks-zeros : (size n a b : ℕ) (bits : List ℕ) → size * n ≤ length bits + a → a ≤ b
@@ -63,14 +35,6 @@ first_chunks-zeros size n a b bits h k =
     ∙ ap (λ m. length bits + m) (length-replicate {A = ℕ} a 0) in
     ap (first_chunks size n) more
     ∙ first_chunks-append size n (bits ++ replicate a 0) (replicate (b - a) 0) (omega arith)
-
--- at most as many runs as there are digits
-run_count-most : (size n count : ℕ) → 0 < size → n ≤ size * count → run_count size n ≤ count
-run_count-most size n count h k =
-    let below : (n + (size - 1)) / size < count + 1 =
-    (div-lt_iff_lt-mul {k = size} {x = n + (size - 1)} {y = count + 1} h).1
-    (omega (arith, mul_comm size count)) in
-    omega arith
 
 -- the lowest bits of a byte
 pub lowest_bits : (n width : ℕ) → width ≤ 8 → n % 2 ^ 8 % 2 ^ width ≡ n % 2 ^ width
@@ -94,7 +58,7 @@ text_by-word base order width bytes count symbols input some same few at narrow 
     let extra = missing width (length bits) in
     let filled : length bits + extra ≡ width * n =
     filled_count width (length bits) some ∙ ap (λ k. width * k) (sym many) in
-    let most : n ≤ count = run_count-most width (8 * length input) count some (omega arith) in
+    let most : n ≤ count = run_count-few width (8 * length input) count some (omega arith) in
     let bound : width * n ≤ width * count = mul-le width n width count (omega arith) most in
     let are : AreBits bits = AreBits-flat_map (bits_of order 8) input (AreBits-bits_of order 8) in
     let word = number_of order (zeros_to (width * count) bits) in

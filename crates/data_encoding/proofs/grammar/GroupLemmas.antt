@@ -5,6 +5,7 @@ use Rattle.std.proofs.lemmas.Bool.Decides.{nat_tests}
 use Rattle.std.proofs.lemmas.List.{length-replicate, take_at, append-nil}
 use Rattle.std.proofs.lemmas.List.Elements.{filter_map-append}
 use Rattle.std.proofs.lemmas.List.Folds.{list_any-append}
+use Rattle.std.proofs.lemmas.Nat.{le-div}
 use Rattle.std.specs.Prelude.{flat_map}
 use Rattle.std.specs.List.{filter_map, list_any, position, prefix_len}
 use Rattle.data_encoding.specs.declared.decode.group.GroupFault.{GroupFault}
@@ -16,11 +17,12 @@ use Rattle.data_encoding.specs.Base.{Base, is_symbol, is_padding, is_padded, val
 use Rattle.data_encoding.specs.Bits.{bits_of, number_of, runs}
 use Rattle.data_encoding.specs.Grammar.{Positioned, PlainMeans, GroupMeans, bytes_in, meanings_in}
 use Rattle.data_encoding.specs.Laws.{further}
-use Rattle.data_encoding.specs.Lengths.{is_valid_count, greatest_valid_count}
+use Rattle.data_encoding.specs.Lengths.{is_valid_count}
 use Rattle.data_encoding.specs.Fault.{character_fault, count_before_padding, fault_at_first, faulty_at, group_fault, located, padded_fault_at, plain_fault, position_of, symbol_bytes, symbols_fault, trailing_bits, trailing_fault}
 use Rattle.data_encoding.proofs.digits.WidthLemmas.{by_width, group_symbols-pos}
 use Rattle.data_encoding.proofs.grammar.PositionLemmas.{length-meanings}
 use Rattle.data_encoding.proofs.grammar.UnpaddedGroupLemmas.{no_fault-branches, plain_fault-valid, PlainMeans-sound, PlainMeans-valid, PlainMeans-bytes, PlainMeans-no_fault}
+use Rattle.data_encoding.proofs.lists.EachLemmas.{all_replicate}
 use Rattle.data_encoding.proofs.lists.ListLemmas.{AllFail, list_any-none}
 use Rattle.data_encoding.proofs.lists.EndLemmas.{AllSo, count_before_end-is, end-passes}
 
@@ -69,13 +71,6 @@ inside-symbols base group =
     inside-position (λ m. not (is_symbol m)) group (trailing_fault base group)
     (inside-trailing base group)
 
--- what is taken off a count that is not valid
-some_over : (width : ℕ) → IsWidth width → (bits : ℕ) → width ≤ bits → 1 ≤ bits / width
-some_over =
-    by_width (λ w. (bits : ℕ) → w ≤ bits → 1 ≤ bits / w) (λ bits h. omega (arith, h))
-    (λ bits h. omega (arith, h)) (λ bits h. omega (arith, h)) (λ bits h. omega (arith, h))
-    (λ bits h. omega (arith, h)) (λ bits h. omega (arith, h))
-
 not_bad : (width count : ℕ) → 0 < count → is_valid_count width count ≡ true
     → (count == 0 || not (is_valid_count width count)) ≡ true → ⊥
 not_bad width count some valid h =
@@ -95,13 +90,12 @@ module _ (base : Base) (width : IsWidth base.width) (group : List Character)
     (some : 0 < length group) (few : length group ≤ group_symbols base.width) where
   inside-plain : IsInside (length group) (plain_fault base group)
   inside-plain =
-      let count = length group in
-      inside-either count (is_valid_count base.width count) (symbols_fault base group)
-      (faulty_at LengthFault (greatest_valid_count base.width count))
+      let bits = base.width * length group % 8 in
+      inside-either _ (is_valid_count base.width (length group)) _ _
       (λ valid. inside-symbols base group)
       (λ invalid.
-      let over : base.width ≤ base.width * count % 8 = grind (arith, nat_tests) in
-      omega (arith, some_over base.width width (base.width * count % 8) over, some))
+      let over : base.width ≤ bits = grind (arith, nat_tests) in
+      omega (arith, le-div 1 bits base.width width.some (omega (arith, over)), some))
 
   -- padding of an invalid number begins in the group
   pub inside-padding : nat_lt (length group) (group_symbols base.width) ≡ false → (count : ℕ)
@@ -182,10 +176,6 @@ pub all_padding : (meanings : List Character) → AllSo is_padding meanings
     → meanings ≡ replicate (length meanings) Padding
 all_padding [] h = refl
 all_padding (m ∷ meanings) h = λ i. padding_only m h.0 i ∷ all_padding meanings h.1 i
-
-padding_all : (count : ℕ) → AllSo is_padding (replicate count Padding)
-padding_all zero = tt
-padding_all (suc count) = (refl, padding_all count)
 
 -- and is found where there is some
 pub any_padding : (count : ℕ) → list_any is_padding (replicate count Padding) ≡ nat_lt 0 count
@@ -292,7 +282,8 @@ module _ (base : Base) (width : IsWidth base.width) (padded : is_padded base ≡
     count_is =
         count_before_end-is is_padding group means.symbols (replicate means.padding Padding)
         means.is_group
-        (symbols_fail base group bytes means) (padding_all means.padding)
+        (symbols_fail base group bytes means)
+        (all_replicate (λ m. is_padding m ≡ true) means.padding Padding refl)
 
     -- and one that means something has no fault
     pub GroupMeans-no_fault : character_fault base group ≡ None
@@ -302,17 +293,12 @@ module _ (base : Base) (width : IsWidth base.width) (padded : is_padded base ≡
         let whole : nat_lt (length group) (group_symbols base.width) ≡ false =
         grind (arith, nat_tests, means.is_whole) in
         let begun : (count == 0) ≡ false = grind (arith, nat_tests, means.is_begun) in
-        let good : (count == 0 || not (is_valid_count base.width count)) ≡ false =
-        λ i. begun i || not (valid i) in
         let front : take count group ≡ means.symbols =
         ap (take count) means.is_group
         ∙ take_at means.symbols (replicate means.padding Padding) count refl in
         character_fault-padded ∙ ap (padded_fault_at base group) count_is
-        ∙ ap (λ b. cond b (faulty_at LengthFault 0)
-        (cond (count == 0 || not (is_valid_count base.width count))
-        (faulty_at PaddingFault count) (symbols_fault base (take count group)))) whole
-        ∙ ap (λ b. cond b (faulty_at PaddingFault count)
-        (symbols_fault base (take count group))) good
-        ∙ ap (symbols_fault base) front
+        ∙ (λ i. cond (whole i) (faulty_at LengthFault 0)
+        (cond (begun i || not (valid i)) (faulty_at PaddingFault count)
+        (symbols_fault base (front i))))
         ∙ sym (plain_fault-valid base means.symbols valid)
         ∙ PlainMeans-no_fault base width means.symbols bytes means.means

@@ -2,12 +2,12 @@
 use Rattle.std.proofs.Common.{◌≡◌, ℕ, zero, suc, ◌+◌, ◌*◌, ◌/◌, ◌%◌, ◌<◌, ◌≤◌, ◌==◌, nat_lt, Bool, true, false, not, cond, ◌&&◌, List, [], ◌∷◌, ◌++◌, map, length, Option, Some, None, is_some, refl, sym, ap, ◌∙◌, subst, arith, length-append}
 use Rattle.std.proofs.lemmas.List.Concat.{flat_map-append}
 use Rattle.std.specs.Prelude.{flat_map}
-use Rattle.std.specs.List.{AllByRecursion, list_any}
+use Rattle.std.specs.List.{AllByRecursion, filter, list_any}
 use Rattle.data_encoding.specs.declared.error.DecodeError.{DecodeError}
 use Rattle.data_encoding.specs.declared.error.DecodeKind.TheVariants.{Length as LengthFault, Padding as PaddingFault}
 use Rattle.data_encoding.specs.Base.{Base, IsWidth, meaning, is_ignored, is_padded, ignores_some, group_symbols, is_padding}
 use Rattle.data_encoding.specs.Bits.{runs}
-use Rattle.data_encoding.specs.Grammar.{Positioned, kept, groups, is_final, Means, kept_in, bytes_in}
+use Rattle.data_encoding.specs.Grammar.{Positioned, kept, groups, is_final, Means, kept_in, bytes_in, positioned_from}
 use Rattle.data_encoding.specs.Lengths.{greatest_valid_count, greatest_valid_length, is_valid_length, length_fault}
 use Rattle.data_encoding.specs.Fault.{bytes_of_group, fault_after, fault_of, first_after, first_fault, or_else, position_of, sound_after, sound_bytes, group_fault, located, symbol_bytes}
 use Rattle.data_encoding.specs.Laws.{MayBeFollowed, further}
@@ -18,7 +18,7 @@ use Rattle.data_encoding.proofs.grammar.JoinLemmas.{followed, joined}
 use Rattle.data_encoding.proofs.grammar.MeaningLemmas.{no_fault-Means, sound_bytes-Means}
 use Rattle.data_encoding.proofs.grammar.PositionLemmas.{length-kept_plain}
 use Rattle.data_encoding.proofs.grammar.SoundLemmas.{AreSound-none, ends_after, first-AreSound, neither_fault, sound-AreSound, sound-all}
-use Rattle.data_encoding.proofs.lists.ListLemmas.{AllFail}
+use Rattle.data_encoding.proofs.lists.ListLemmas.{AllFail, map-filter}
 use Rattle.data_encoding.proofs.lists.RunLemmas.{few_runs, runs-join, runs-map}
 use Rattle.data_encoding.proofs.judgement.RuleLemmas.{IsRuled}
 
@@ -29,6 +29,14 @@ moved count ks = map (λ k. record { position = count + k.position; byte = k.byt
 bytes-moved : (count : ℕ) (ks : List Positioned) → bytes_in (moved count ks) ≡ bytes_in ks
 bytes-moved count [] = refl
 bytes-moved count (k ∷ ks) = ap (λ l. k.byte ∷ l) (bytes-moved count ks)
+
+positioned-moved : (count start : ℕ) (part : List ℕ)
+    → positioned_from (count + start) part ≡ moved count (positioned_from start part)
+positioned-moved count start [] = refl
+positioned-moved count start (byte ∷ part) =
+    let next : count + start + 1 ≡ count + (start + 1) = omega arith in
+    ap (λ ks. record { position = count + start; byte = byte } ∷ ks)
+    (ap (λ n. positioned_from n part) next ∙ positioned-moved count (start + 1) part)
 
 position_of-moved : (count : ℕ) (ks : List Positioned) (index : ℕ) → index < length ks
     → position_of (moved count ks) index ≡ count + position_of ks index
@@ -113,20 +121,12 @@ module _ (base : Base) (width : IsWidth base.width) where
   -- the kept bytes of a part that stands further on
   pub kept_in-moved : (count start : ℕ) (part : List ℕ)
       → kept_in base (count + start) part ≡ moved count (kept_in base start part)
-  kept_in-moved count start [] = refl
-  kept_in-moved count start (byte ∷ part) =
-      let others : kept_in base (count + start + 1) part
-      ≡ moved count (kept_in base (start + 1) part) =
-      ap (λ n. kept_in base n part) (omega arith) ∙ kept_in-moved count (start + 1) part in
-      ap (λ ks. cond (not (is_ignored (meaning base byte)))
-      (record { position = count + start; byte = byte } ∷ ks) ks) others
-      ∙ either (not (is_ignored (meaning base byte))) (kept_in base (start + 1) part) where
-        either : (b : Bool) (ks : List Positioned)
-            → cond b (record { position = count + start; byte = byte } ∷ moved count ks)
-            (moved count ks)
-            ≡ moved count (cond b (record { position = start; byte = byte } ∷ ks) ks)
-        either true ks = refl
-        either false ks = refl
+  kept_in-moved count start part =
+      let further_on : Positioned → Positioned =
+      λ k. record { position = count + k.position; byte = k.byte } in
+      let keeps : Positioned → Bool = λ k. not (is_ignored (meaning base k.byte)) in
+      ap (filter keeps) (positioned-moved count start part)
+      ∙ sym (map-filter further_on keeps (positioned_from start part))
 
   abbrev pub AreFew : List (List Positioned) → Type 0
   AreFew gs =

@@ -1,9 +1,8 @@
 -- A text of a padded base means something exactly where it has no fault.
-use Rattle.std.proofs.Common.{◌≡◌, ℕ, ◌+◌, ◌*◌, ◌/◌, ◌%◌, ◌<◌, ◌≤◌, Bool, true, false, List, [], ◌∷◌, ◌++◌, length, None, refl, sym, ap, ◌∙◌, subst, arith, length-append, replicate, map}
+use Rattle.std.proofs.Common.{◌≡◌, ℕ, ◌+◌, ◌*◌, ◌/◌, ◌%◌, ◌<◌, ◌≤◌, Bool, true, false, List, [], ◌∷◌, ◌++◌, length, None, refl, sym, ap, ◌∙◌, subst, arith, length-append, map}
 use Rattle.std.proofs.Math.Nat.{mul-mod_left, mul-le-mul_right, mul-le-mul_left, add_comm, zero-mul, suc-mul, le-div_iff_mul-le}
 use Rattle.std.specs.Prelude.{flat_map}
 use Rattle.std.specs.List.{AllByRecursion}
-use Rattle.data_encoding.specs.declared.encoding.Character.TheVariants.{Padding}
 use Rattle.data_encoding.specs.declared.encoding.Character.{Character}
 use Rattle.data_encoding.specs.Base.{Base, is_padded, group_symbols, group_bytes, IsWidth}
 use Rattle.data_encoding.specs.Grammar.{Positioned, kept, groups, GroupMeans, GroupsMean, is_final, meanings_in}
@@ -13,7 +12,7 @@ use Rattle.data_encoding.specs.Decoding.{AreSound}
 use Rattle.data_encoding.proofs.digits.WidthLemmas.{group_bits, group_symbols-pos}
 use Rattle.data_encoding.proofs.lists.RunLemmas.{few_runs, flat_map-runs}
 use Rattle.data_encoding.proofs.grammar.UnpaddedGroupLemmas.{PlainMeans-count}
-use Rattle.data_encoding.proofs.grammar.GroupLemmas.{GroupMeans-sound, GroupMeans-no_fault, GroupMeans-bytes}
+use Rattle.data_encoding.proofs.grammar.GroupLemmas.{GroupMeans-length, GroupMeans-sound, GroupMeans-no_fault, GroupMeans-bytes}
 use Rattle.data_encoding.proofs.grammar.PositionLemmas.{length-kept, length-kept_plain, length-meanings}
 use Rattle.data_encoding.proofs.grammar.LengthLemmas.{length_fault-none, most_bytes-by, whole-length}
 use Rattle.data_encoding.proofs.grammar.SoundLemmas.{AreSound-none, ends_after, fault_after-none, neither_fault, first-none, sound-all}
@@ -86,12 +85,7 @@ module _ (base : Base) (width : IsWidth base.width) (padded : is_padded base ≡
   most-GroupMeans g bytes means =
       let count = PlainMeans-count base width means.symbols bytes means.means in
       let few : length means.symbols ≤ group_symbols base.width =
-      omega (
-        arith,
-        sym (length-append means.symbols (replicate means.padding Padding))
-            ∙ ap length (sym means.is_group),
-        means.is_whole,
-      ) in
+      omega (arith, GroupMeans-length base g bytes means) in
       let bits = mul-le-mul_left base.width few in
       omega (arith, count, bits, group_bits base.width width)
 

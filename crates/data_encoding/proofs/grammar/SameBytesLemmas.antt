@@ -1,26 +1,22 @@
 -- What a text means is decided by what its bytes that are not ignored mean, wherever they stand.
-use Rattle.std.proofs.Common.{◌≡◌, ℕ, ◌+◌, Bool, true, false, not, cond, List, [], ◌∷◌, map, Option, Some, None, refl, sym, ap, ◌∙◌, subst}
+use Rattle.std.proofs.Common.{◌≡◌, ℕ, Bool, not, List, map, Option, Some, None, sym, ap, ◌∙◌, subst}
 use Rattle.std.specs.List.{filter}
 use Rattle.data_encoding.specs.Base.{Base, IsWidth, meaning, is_ignored, group_symbols}
 use Rattle.data_encoding.specs.Bits.{runs}
-use Rattle.data_encoding.specs.Grammar.{GroupsMean, Means, MeansBy, PlainMeans, Positioned, bytes_in, kept, kept_in, meanings_in}
+use Rattle.data_encoding.specs.Grammar.{GroupsMean, Means, MeansBy, PlainMeans, Positioned, bytes_in, kept, kept_in, meanings_in, positioned_from}
 use Rattle.data_encoding.proofs.digits.WidthLemmas.{group_symbols-pos}
-use Rattle.data_encoding.proofs.grammar.PositionLemmas.{runs-meanings}
+use Rattle.data_encoding.proofs.grammar.PositionLemmas.{bytes-positioned_from, runs-meanings}
+use Rattle.data_encoding.proofs.lists.ListLemmas.{map-filter}
 
 -- the bytes that are kept of a part, wherever it stands
 pub bytes-kept_in : (base : Base) (start : ℕ) (part : List ℕ)
     → bytes_in (kept_in base start part)
     ≡ filter (λ byte. not (is_ignored (meaning base byte))) part
-bytes-kept_in base start [] = refl
-bytes-kept_in base start (byte ∷ part) =
-    either (not (is_ignored (meaning base byte))) (kept_in base (start + 1) part)
-    ∙ ap (λ l. cond (not (is_ignored (meaning base byte))) (byte ∷ l) l)
-    (bytes-kept_in base (start + 1) part) where
-      either : (b : Bool) (ks : List Positioned)
-          → bytes_in (cond b (record { position = start; byte = byte } ∷ ks) ks)
-          ≡ cond b (byte ∷ bytes_in ks) (bytes_in ks)
-      either true ks = refl
-      either false ks = refl
+bytes-kept_in base start part =
+    let byte_of : Positioned → ℕ = λ k. k.byte in
+    let keeps : ℕ → Bool = λ byte. not (is_ignored (meaning base byte)) in
+    map-filter byte_of keeps (positioned_from start part)
+    ∙ ap (filter keeps) (bytes-positioned_from start part)
 
 module _ (base : Base) where
   module _ (width : IsWidth base.width) where

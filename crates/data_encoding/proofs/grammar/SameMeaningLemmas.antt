@@ -1,20 +1,21 @@
 -- Texts whose bytes mean the same one by one mean the same, and have the same fault.
-use Rattle.std.proofs.Common.{◌≡◌, ℕ, ◌+◌, ◌&&◌, Bool, true, false, not, cond, List, [], ◌∷◌, length, map, Option, Some, None, get_or, refl, sym, ap, ◌∙◌}
+use Rattle.std.proofs.Common.{◌≡◌, ℕ, ◌+◌, ◌&&◌, Bool, false, not, cond, List, [], ◌∷◌, length, map, Option, Some, None, get_or, refl, sym, ap, ◌∙◌}
 use Rattle.std.proofs.lemmas.List.{length-map}
 use Rattle.std.proofs.Math.ListN.{get_or-map}
-use Rattle.std.specs.List.{list_any}
+use Rattle.std.specs.List.{enumerate_from, filter, list_any}
 use Rattle.data_encoding.specs.declared.decode.group.GroupFault.{GroupFault}
 use Rattle.data_encoding.specs.declared.encoding.Character.{Character}
 use Rattle.data_encoding.specs.declared.error.DecodeKind.{DecodeKind}
 use Rattle.data_encoding.specs.declared.error.DecodeKind.TheVariants.{Padding as PaddingFault}
 use Rattle.data_encoding.specs.Base.{Base, IsWidth, meaning, is_ignored, is_padding, group_symbols}
 use Rattle.data_encoding.specs.Bits.{runs}
-use Rattle.data_encoding.specs.Grammar.{Positioned, Means, bytes_in, groups, is_final, kept, kept_in, meanings_in}
+use Rattle.data_encoding.specs.Grammar.{Positioned, Means, bytes_in, groups, is_final, kept, kept_in, meanings_in, positioned_from}
 use Rattle.data_encoding.specs.Fault.{character_fault, fault_after, fault_at, fault_of, first_after, group_fault, located, or_else}
 use Rattle.data_encoding.specs.Lengths.{length_fault}
 use Rattle.data_encoding.proofs.digits.WidthLemmas.{group_symbols-pos}
 use Rattle.data_encoding.proofs.digits.WordLemmas.{map-twice}
 use Rattle.data_encoding.proofs.grammar.SameBytesLemmas.{Means-alike}
+use Rattle.data_encoding.proofs.lists.ListLemmas.{map-filter}
 use Rattle.data_encoding.proofs.lists.RunLemmas.{runs-map}
 
 -- Members that stand at the same positions have their faults there.
@@ -56,27 +57,22 @@ module _ (base : Base) where
       map-twice (meaning base) byte_of ks ∙ sym (map-twice second seen ks) ∙ ap (map second) same
       ∙ map-twice second seen js ∙ sym (map-twice (meaning base) byte_of js)
 
-  kept_one : (b : Bool) (k : Positioned) (ks : List Positioned)
-      → seen_in (cond b (k ∷ ks) ks) ≡ cond b (seen k ∷ seen_in ks) (seen_in ks)
-  kept_one true k ks = refl
-  kept_one false k ks = refl
+  seen-positioned : (start : ℕ) (text : List ℕ)
+      → seen_in (positioned_from start text) ≡ enumerate_from start (map (meaning base) text)
+  seen-positioned start [] = refl
+  seen-positioned start (byte ∷ text) =
+      ap (λ l. (start, meaning base byte) ∷ l) (seen-positioned (start + 1) text)
 
   -- bytes that mean the same are kept at the same positions
   kept_in-seen : (start : ℕ) (text other : List ℕ)
       → map (meaning base) text ≡ map (meaning base) other
       → seen_in (kept_in base start text) ≡ seen_in (kept_in base start other)
-  kept_in-seen start [] [] same = refl
-  kept_in-seen start [] (byte ∷ other) same = cc
-  kept_in-seen start (byte ∷ text) [] same = cc
-  kept_in-seen start (byte ∷ text) (another ∷ other) same =
-      let here : meaning base byte ≡ meaning base another = cc in
-      let others : map (meaning base) text ≡ map (meaning base) other = cc in
-      let rest = kept_in-seen (start + 1) text other others in
-      kept_one (not (is_ignored (meaning base byte))) (record { position = start; byte = byte })
-      (kept_in base (start + 1) text)
-      ∙ (λ i. cond (not (is_ignored (here i))) ((start, here i) ∷ rest i) (rest i))
-      ∙ sym (kept_one (not (is_ignored (meaning base another)))
-      (record { position = start; byte = another }) (kept_in base (start + 1) other))
+  kept_in-seen start text other same =
+      let keeps : ℕ × Character → Bool = λ s. not (is_ignored s.1) in
+      map-filter seen keeps (positioned_from start text)
+      ∙ ap (filter keeps) (seen-positioned start text ∙ ap (enumerate_from start) same
+      ∙ sym (seen-positioned start other))
+      ∙ sym (map-filter seen keeps (positioned_from start other))
 
   fault_after-seen : (ended : Bool) (ks js : List Positioned) → seen_in ks ≡ seen_in js
       → fault_after ended base ks ≡ fault_after ended base js

@@ -1,5 +1,5 @@
 -- Symbols of one group: the bytes that they mean, and their fault.
-use Rattle.std.proofs.Common.{◌≡◌, ℕ, zero, suc, ◌+◌, ◌*◌, ◌/◌, ◌%◌, ◌<◌, ◌≤◌, ◌==◌, Bool, true, false, not, cond, ◌&&◌, nat_lt, List, [], ◌∷◌, ◌++◌, length, map, take, drop, replicate, Option, Some, None, refl, sym, ap, ◌∙◌, arith, length-append, take-append-drop, length-take-le}
+use Rattle.std.proofs.Common.{◌≡◌, ℕ, ◌+◌, ◌*◌, ◌/◌, ◌%◌, ◌<◌, ◌==◌, Bool, true, false, not, cond, ◌&&◌, List, [], ◌∷◌, ◌++◌, length, map, take, drop, Option, Some, None, refl, sym, ap, ◌∙◌, arith, length-append, take-append-drop, length-take-le}
 use Rattle.std.proofs.lemmas.Bool.{false≢true}
 use Rattle.std.proofs.lemmas.Bool.Decides.{nat_tests}
 use Rattle.std.proofs.lemmas.List.{length-map, length-drop, take_at, drop_at}
@@ -19,7 +19,7 @@ use Rattle.data_encoding.specs.Fault.{symbol_bits, trailing_bits, symbol_bytes, 
 use Rattle.data_encoding.specs.declared.error.DecodeKind.TheVariants.{Length as LengthFault}
 use Rattle.data_encoding.proofs.digits.BitLemmas.{AreBits, AreBits-take, AreBits-flat_map, AreBits-bits_of, length-bits_of, length-pieces, number_of-bits_of}
 use Rattle.data_encoding.proofs.digits.ValueLemmas.{AreValuesOf-runs}
-use Rattle.data_encoding.proofs.lists.EachLemmas.{all_weaker}
+use Rattle.data_encoding.proofs.lists.EachLemmas.{all_replicate, all_weaker}
 use Rattle.data_encoding.proofs.lists.ListLemmas.{AllFail, position-none, AllFail-position, list_any-none, AllFail-list_any, zeros}
 use Rattle.data_encoding.proofs.lists.RunLemmas.{runs-flat_map}
 
@@ -91,22 +91,12 @@ both_false : (a b : Bool) → a && b ≡ false → a ≡ true → b ≡ false
 both_false true b h e = h
 both_false false b h e = cc
 
-zeros_pass : (n : ℕ) → AllFail (λ bit. not (bit == 0)) (replicate n 0)
-zeros_pass zero = tt
-zeros_pass (suc n) = (refl, zeros_pass n)
-
 short_rest : (bits : List ℕ) (width count : ℕ) → length bits ≡ width * count
     → is_valid_count width count ≡ true → length (drop (length bits / 8 * 8) bits) < width
 short_rest bits width count h valid =
     let short : width * count % 8 < width = grind (arith, nat_tests) in
     let same : length bits % 8 ≡ width * count % 8 = ap (λ n. n % 8) h in
     omega (arith, length-drop (length bits / 8 * 8) bits, div-add-mod' (length bits) 8)
-
-valid_by : (n width bytes rest : ℕ) → n ≡ 8 * bytes + rest → rest < width → width ≤ 6
-    → nat_lt (n % 8) width ≡ true
-valid_by n width bytes rest h short few =
-    let same : n % 8 ≡ rest = omega arith in
-    grind (arith, nat_tests)
 
 quiet : {A : Type 0} (checks any : Bool) (fault : A) → (checks ≡ true → any ≡ false)
     → cond (checks && any) (Some fault) None ≡ None
@@ -125,17 +115,6 @@ plain_fault-valid base group h =
 record AreSplit (bits front rest : List ℕ) : Type 0 where
   is_front : take (length bits / 8 * 8) bits ≡ front
   is_rest : drop (length bits / 8 * 8) bits ≡ rest
-
-split_bits : (bits front rest : List ℕ) (count : ℕ) → bits ≡ front ++ rest
-    → length front ≡ 8 * count → length rest < 8 → AreSplit bits front rest
-split_bits bits front rest count h e short =
-    let len : length bits ≡ 8 * count + length rest =
-    ap length h ∙ length-append front rest ∙ ap (λ n. n + length rest) e in
-    let whole : length bits / 8 * 8 ≡ length front = omega arith in
-    record {
-      is_front = (λ i. take (whole i) (h i)) ∙ take_at front rest (length front) refl;
-      is_rest = (λ i. drop (whole i) (h i)) ∙ drop_at front rest (length front) refl;
-    }
 
 module _ (base : Base) (width : IsWidth base.width) (group : List Character) where
   -- a group with no fault means its bytes
@@ -186,10 +165,17 @@ module _ (base : Base) (width : IsWidth base.width) (group : List Character) whe
 
     split : AreSplit (symbol_bits base group) (bits_of_bytes base.order bytes) means.rest
     split =
-        split_bits (symbol_bits base group) (bits_of_bytes base.order bytes) means.rest
-        (length bytes)
-        bits_are (length-bits_of_bytes base.order bytes)
-        (omega (arith, means.rest_is_short, width.few))
+        let front = bits_of_bytes base.order bytes in
+        let bytes_len = length-bits_of_bytes base.order bytes in
+        let len = ap length bits_are ∙ length-append front means.rest in
+        let whole : length (symbol_bits base group) / 8 * 8 ≡ length front =
+        omega (arith, len, bytes_len, means.rest_is_short, width.few) in
+        record {
+          is_front = (λ i. take (whole i) (bits_are i))
+              ∙ take_at front means.rest (length front) refl;
+          is_rest = (λ i. drop (whole i) (bits_are i))
+              ∙ drop_at front means.rest (length front) refl;
+        }
 
     -- symbols have the bits of their bytes, and those that are left
     pub PlainMeans-count : base.width * length group ≡ 8 * length bytes + length means.rest
@@ -204,8 +190,9 @@ module _ (base : Base) (width : IsWidth base.width) (group : List Character) whe
 
     pub PlainMeans-valid : is_valid_count base.width (length group) ≡ true
     PlainMeans-valid =
-        valid_by (base.width * length group) base.width (length bytes) (length means.rest)
-        PlainMeans-count means.rest_is_short width.few
+        let over : base.width * length group % 8 ≡ length means.rest =
+        omega (arith, PlainMeans-count, means.rest_is_short, width.few) in
+        grind (arith, nat_tests, over, means.rest_is_short)
 
     pub PlainMeans-bytes : symbol_bytes base group ≡ bytes
     PlainMeans-bytes =
@@ -219,7 +206,8 @@ module _ (base : Base) (width : IsWidth base.width) (group : List Character) whe
         (list_any (λ bit. not (bit == 0)) (trailing_bits base group)) _
         (λ e. let zero_rest = split.is_rest ∙ means.rest_is_zero e in
         ap (list_any (λ bit. not (bit == 0))) zero_rest
-        ∙ list_any-none (λ bit. not (bit == 0)) _ (zeros_pass (length means.rest)))
+        ∙ list_any-none (λ bit. not (bit == 0)) _
+        (all_replicate (λ bit. not (bit == 0) ≡ false) (length means.rest) 0 refl))
 
     -- what means something has no fault
     pub PlainMeans-no_fault : plain_fault base group ≡ None

@@ -1,5 +1,5 @@
 -- Lists: what is found first, what is left out, and parts that are joined.
-use Rattle.std.proofs.Common.{◌≡◌, ℕ, suc, ◌+◌, ◌≤◌, Bool, true, false, not, cond, ◌||◌, nat_lt, List, [], ◌∷◌, ◌++◌, length, take, drop, replicate, Some, None, refl, sym, ap, ◌∙◌, arith}
+use Rattle.std.proofs.Common.{◌≡◌, ℕ, suc, ◌+◌, ◌≤◌, Bool, true, false, not, cond, ◌||◌, nat_lt, List, [], ◌∷◌, ◌++◌, length, map, take, drop, replicate, Some, None, refl, sym, ap, ◌∙◌, arith}
 use Rattle.std.proofs.lemmas.Bool.Decides.{nat_tests}
 use Rattle.std.specs.List.{AllByRecursion, list_any, filter, position, prefix_len}
 use Rattle.std.proofs.lemmas.List.{take_at, drop_at}
@@ -72,6 +72,17 @@ filter-all test [] h = refl
 filter-all test (x ∷ xs) h =
     ap (λ b. cond b (x ∷ filter test xs) (filter test xs)) h.0
     ∙ ap (λ l. x ∷ l) (filter-all test xs h.1)
+
+-- what is left of the images are the images of what is left
+pub map-filter : {X Y : Type 0} (f : X → Y) (test : Y → Bool) (xs : List X)
+    → map f (filter (λ x. test (f x)) xs) ≡ filter test (map f xs)
+map-filter f test [] = refl
+map-filter {X} f test (x ∷ xs) =
+    by (test (f x)) (filter (λ y. test (f y)) xs)
+    ∙ ap (λ l. cond (test (f x)) (f x ∷ l) l) (map-filter f test xs) where
+      by : (b : Bool) (l : List X) → map f (cond b (x ∷ l) l) ≡ cond b (f x ∷ map f l) (map f l)
+      by true l = refl
+      by false l = refl
 
 pub length-filter : {X : Type 0} (test : X → Bool) (xs : List X)
     → length (filter test xs) ≤ length xs

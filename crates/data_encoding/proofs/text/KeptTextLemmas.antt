@@ -1,6 +1,6 @@
 -- The bytes of a text that are not ignored are its symbols and its padding.
-use Rattle.std.proofs.Common.{◌≡◌, ℕ, ◌<◌, append-nil, Bool, false, not, cond, List, [], ◌∷◌, ◌++◌, length, replicate, Option, Some, None, refl, sym, ap, ◌∙◌}
-use Rattle.std.proofs.lemmas.List.Elements.{All-replicate, filter-append, recursion_from_All}
+use Rattle.std.proofs.Common.{◌≡◌, ℕ, ◌<◌, append-nil, Bool, true, false, not, cond, List, [], ◌∷◌, ◌++◌, length, replicate, Option, Some, None, refl, sym, ap, ◌∙◌}
+use Rattle.std.proofs.lemmas.List.Elements.{filter-append}
 use Rattle.std.specs.Prelude.{flat_map}
 use Rattle.std.specs.List.{filter}
 use Rattle.data_encoding.specs.declared.encoding.Character.TheVariants.{Ignored}
@@ -9,8 +9,8 @@ use Rattle.data_encoding.specs.Bits.{missing, runs}
 use Rattle.data_encoding.specs.Grammar.{kept, bytes_in}
 use Rattle.data_encoding.specs.Text.{in_lines, padded_text, plain_text, text_of, with_padding}
 use Rattle.data_encoding.proofs.grammar.SameBytesLemmas.{bytes-kept_in}
-use Rattle.data_encoding.proofs.lists.EachLemmas.{all_joined, all_weaker}
-use Rattle.data_encoding.proofs.lists.ListLemmas.{AllFail}
+use Rattle.data_encoding.proofs.lists.EachLemmas.{all_joined, all_replicate, all_weaker}
+use Rattle.data_encoding.proofs.lists.ListLemmas.{AllFail, filter-all}
 use Rattle.data_encoding.proofs.lists.RunLemmas.{flat_map-runs}
 use Rattle.data_encoding.proofs.judgement.RuleLemmas.{IsRuled, IsRuledPadding, IsRuledWrapping}
 use Rattle.data_encoding.proofs.text.SymbolMeaningLemmas.{none_ignored-plain_text}
@@ -63,15 +63,14 @@ module _ (base : Base) (ruled : IsRuled base) where
         let Kept : ℕ → Type 0 = λ byte. is_ignored (meaning base byte) ≡ false in
         all_joined Kept (plain_text base bytes) (replicate lack character)
         (none_ignored-plain_text base ruled bytes)
-        (recursion_from_All Kept (replicate lack character)
-        (All-replicate Kept lack character (ap is_ignored h.1)))
+        (all_replicate Kept lack character (ap is_ignored h.1))
 
   pub filter-kept : (text : List ℕ) → AllFail (λ byte. is_ignored (meaning base byte)) text
       → filter keeps text ≡ text
-  filter-kept [] h = refl
-  filter-kept (byte ∷ text) h =
-      ap (λ b. cond (not b) (byte ∷ filter keeps text) (filter keeps text)) h.0
-      ∙ ap (λ l. byte ∷ l) (filter-kept text h.1)
+  filter-kept text h =
+      filter-all keeps text
+      (all_weaker (λ byte. is_ignored (meaning base byte) ≡ false) (λ byte. keeps byte ≡ true)
+      (λ byte here. ap not here) text h)
 
   pub bytes-kept_text : (bytes : List ℕ)
       → bytes_in (kept base (text_of base bytes)) ≡ padded_text base bytes

@@ -1,13 +1,13 @@
 -- A group of symbols, and of padding behind them.
 use Rattle.std.proofs.Common.{◌≡◌, ℕ, ◌*◌, ◌<◌, ◌≤◌, List, [], ◌∷◌, ◌++◌, length, map, replicate, refl, sym, ap, ◌∙◌, subst, arith}
 use Rattle.std.proofs.lemmas.List.{length-map, map-append}
-use Rattle.std.proofs.lemmas.List.Elements.{All-replicate, recursion_from_All}
 use Rattle.std.specs.List.{AllByRecursion}
 use Rattle.data_encoding.specs.declared.encoding.Character.TheVariants.{Padding}
 use Rattle.data_encoding.specs.Base.{Base, meaning, group_symbols}
 use Rattle.data_encoding.specs.Grammar.{GroupMeans, PlainMeans}
 use Rattle.data_encoding.specs.Text.{filled_with}
-use Rattle.data_encoding.proofs.digits.KernelLemmas.{filled_count}
+use Rattle.data_encoding.proofs.text.PlainTextLemmas.{filled_count}
+use Rattle.data_encoding.proofs.lists.EachLemmas.{all_replicate}
 use Rattle.data_encoding.proofs.lists.RunLemmas.{run_count-short}
 use Rattle.data_encoding.proofs.text.PaddedTextLemmas.{length-filled_with}
 
@@ -32,8 +32,7 @@ module _ (base : Base) where
   pub AreFillers-replicate : (count character : ℕ) → meaning base character ≡ Padding
       → AreFillers (replicate count character)
   AreFillers-replicate count character is =
-      recursion_from_All (λ byte. meaning base byte ≡ Padding) (replicate count character)
-      (All-replicate (λ byte. meaning base byte ≡ Padding) count character is)
+      all_replicate (λ byte. meaning base byte ≡ Padding) count character is
 
   -- symbols that mean bytes, with padding up to a whole group, are a group that means them
   pub GroupMeans-fillers : (text fillers bytes : List ℕ)

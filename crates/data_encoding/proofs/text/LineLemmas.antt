@@ -1,6 +1,6 @@
 -- Texts in lines: their lengths, and one line after the other.
 use Rattle.std.proofs.Common.{◌≡◌, ◌≢◌, ℕ, zero, suc, ◌+◌, ◌*◌, ◌/◌, ◌<◌, ◌≤◌, Bool, true, false, Option, Some, None, IsSome, is_some, List, [], ◌++◌, length, refl, sym, ap, ◌∙◌, subst, arith, append-nil}
-use Rattle.std.proofs.Math.Nat.{le-mul_of_pos_right, mul-add, mul-le-mul_right, mul_assoc, zero-mul}
+use Rattle.std.proofs.Math.Nat.{le-mul_of_pos_right, mul-add, mul-le-mul_left, mul-le-mul_right, mul_assoc, zero-mul}
 use Rattle.std.proofs.lemmas.Bool.{false≢true}
 use Rattle.std.proofs.lemmas.List.{nil_from_length}
 use Rattle.std.proofs.lemmas.Nat.{mul-le}
@@ -65,20 +65,18 @@ module _ (base : Base) (width : IsWidth base.width) (bytes : List ℕ) where
         run_count-some base.width (8 * length bytes) width.some (omega (arith, some)),
       )
 
-  groups-few : run_count (group_bytes base.width) (length bytes) ≤ length bytes
-  groups-few =
-      let size = group_bytes-pos base.width width in
-      run_count-few (group_bytes base.width) (length bytes) (length bytes) size
-      (le-mul_of_pos_right (length bytes) size)
+  -- at most a whole group of each byte
+  padded-each : length (padded_text base bytes) ≤ length bytes * group_symbols base.width
+  padded-each =
+      padded-fits (length bytes)
+      (le-mul_of_pos_right (length bytes) (group_bytes-pos base.width width))
 
   padded-most : length (padded_text base bytes) ≤ 8 * length bytes
   padded-most =
-      let groups = run_count (group_bytes base.width) (length bytes) in
       omega (
         arith,
-        padded-few,
-        mul-le groups (group_symbols base.width) (length bytes) 8 groups-few
-            (group_symbols-few base.width width),
+        padded-each,
+        mul-le-mul_left (length bytes) (group_symbols-few base.width width),
       )
 
 module _ (base : Base) (ruled : IsRuled base) (lines : Wrapping) (some : base.wrapping ≡ Some lines)
@@ -140,14 +138,13 @@ module _ (base : Base) (ruled : IsRuled base) (lines : Wrapping) (some : base.wr
         → run_count lines.column (length (padded_text base bytes)) ≤ length bytes
     lines-few bytes =
         let size = group_symbols base.width in
-        let count = run_count (group_bytes base.width) (length bytes) in
         let long : size ≤ lines.column =
         omega (arith, column-is, mul-le 1 size groups size groups-some (omega arith)) in
         run_count-few lines.column (length (padded_text base bytes)) (length bytes) are.some
         (omega (
           arith,
-          padded-few base ruled.is_width bytes,
-          mul-le count size (length bytes) lines.column (groups-few base ruled.is_width bytes) long,
+          padded-each base ruled.is_width bytes,
+          mul-le-mul_left (length bytes) long,
         ))
 
     lines-most : (bytes : List ℕ) → length (text_of base bytes) ≤ 263 * length bytes

@@ -1,5 +1,5 @@
 -- The text of data with padding.
-use Rattle.std.proofs.Common.{◌≡◌, ℕ, zero, suc, ◌+◌, ◌-◌, ◌*◌, ◌<◌, ◌≤◌, true, false, Option, Some, None, IfSome, is_some, List, ◌++◌, length, take, drop, replicate, refl, sym, ap, ◌∙◌, subst, arith, length-append}
+use Rattle.std.proofs.Common.{◌≡◌, ℕ, ◌+◌, ◌-◌, ◌*◌, ◌<◌, ◌≤◌, true, false, Option, Some, None, IfSome, is_some, List, ◌++◌, length, take, drop, replicate, refl, sym, ap, ◌∙◌, subst, arith, length-append}
 use Rattle.std.proofs.Math.Nat.{mul_comm}
 use Rattle.std.proofs.lemmas.List.{length-replicate}
 use Rattle.std.specs.List.{AllByRecursion}
@@ -8,14 +8,13 @@ use Rattle.data_encoding.specs.Encoding.{EncodingTables, base_of_tables, KeepsRu
 use Rattle.data_encoding.specs.Base.{Base, symbol, is_padded, group_bytes, group_symbols, IsWidth}
 use Rattle.data_encoding.specs.Bits.{missing}
 use Rattle.data_encoding.specs.Text.{filled_with, in_lines, padded_text, plain_text, text_of, with_padding}
-use Rattle.data_encoding.proofs.digits.KernelLemmas.{filled_count}
 use Rattle.data_encoding.proofs.digits.WidthLemmas.{by_width, group_symbols-pos}
-use Rattle.data_encoding.proofs.lists.EachLemmas.{all_joined}
+use Rattle.data_encoding.proofs.lists.EachLemmas.{all_joined, all_replicate}
 use Rattle.data_encoding.proofs.lists.PartLemmas.{length-rest}
 use Rattle.data_encoding.proofs.lists.RunLemmas.{run_count}
 use Rattle.data_encoding.proofs.tables.TableLemmas.{IsWidth-seen}
 use Rattle.data_encoding.proofs.lists.WriteLemmas.{drop-put_mid_at}
-use Rattle.data_encoding.proofs.text.PlainTextLemmas.{ascii-plain_text, length-plain_text}
+use Rattle.data_encoding.proofs.text.PlainTextLemmas.{filled_count, ascii-plain_text, length-plain_text}
 
 -- the symbols of data are as many groups as its bytes
 pub groups-same : (width : ℕ) → IsWidth width → (n : ℕ)
@@ -103,10 +102,6 @@ module _ (base : Base) (bytes : List ℕ) (width : IsWidth base.width) where
         by_padding (Some character) h =
             length-filled_with character (group_symbols base.width) (plain_text base bytes)
 
-all-replicate : (P : ℕ → Type 0) (n x : ℕ) → P x → AllByRecursion P (replicate n x)
-all-replicate P zero x h = tt
-all-replicate P (suc n) x h = (h, all-replicate P n x h)
-
 -- a text of ASCII symbols and ASCII padding is ASCII
 pub ascii-padded_text : (base : Base) (bytes : List ℕ) → ((value : ℕ) → symbol base value < 128)
     → IfSome base.padding (λ character. character < 128)
@@ -121,7 +116,7 @@ ascii-padded_text base bytes symbols padding = by_padding base.padding padding w
       all_joined (λ byte. byte < 128) text
       (replicate (missing (group_symbols base.width) (length text)) character)
       (ascii-plain_text base symbols bytes)
-      (all-replicate (λ byte. byte < 128) (missing (group_symbols base.width) (length text))
+      (all_replicate (λ byte. byte < 128) (missing (group_symbols base.width) (length text))
       character h)
 
 -- what is written behind the symbols, by the tables of an encoding

@@ -4,14 +4,14 @@ use Rattle.std.proofs.lemmas.List.{length-map, map-append, append-nil, length-re
 use Rattle.std.proofs.lemmas.List.Concat.{flat_map-append}
 use Rattle.std.proofs.lemmas.Bool.{cases_lt}
 use Rattle.std.proofs.lemmas.Nat.{div-add-mod', mod_below}
-use Rattle.std.proofs.Math.Nat.{add-mod, mod-mod, mod-eq_of_lt, mod_self, div-eq_of_lt-le, div-eq_of_lt}
+use Rattle.std.proofs.Math.Nat.{add-mod, mul_comm, mod-mod, mod-eq_of_lt, mod_self, div-eq_of_lt-le, div-eq_of_lt}
 use Rattle.std.specs.List.{AllByRecursion}
 use Rattle.data_encoding.specs.declared.encoding.BitOrder.{BitOrder}
 use Rattle.data_encoding.specs.Base.{Base, symbol}
 use Rattle.data_encoding.specs.Bits.{bits_of, number_of, bits_of_bytes, missing, runs}
 use Rattle.data_encoding.specs.Text.{filled_with, plain_text}
 use Rattle.data_encoding.proofs.grammar.UnpaddedGroupLemmas.{length-bits_of_bytes}
-use Rattle.data_encoding.proofs.lists.RunLemmas.{run_count, length-runs, runs-join}
+use Rattle.data_encoding.proofs.lists.RunLemmas.{run_count, run_count-whole, length-runs, runs-join}
 
 missing-join : (size a b : ℕ) → 0 < size → a % size ≡ 0 → missing size (a + b) ≡ missing size b
 missing-join size a b h e =
@@ -29,25 +29,28 @@ pub missing-some : (size n : ℕ) → 0 < size → 0 < n % size → missing size
 missing-some size n h e =
     mod-eq_of_lt (let below = mod_below n size h in omega arith)
 
-run_count-with : (size n q r extra : ℕ) → n ≡ q * size + r → 0 < r → r < size
-    → extra ≡ size - r → run_count size (n + extra) ≡ run_count size n
-run_count-with size n q r extra e some few is =
-    div-eq_of_lt-le {k = q + 1} size {m = n + extra + (size - 1)} (omega arith) (omega arith)
-    ∙ sym (div-eq_of_lt-le {k = q + 1} size {m = n + (size - 1)} (omega arith) (omega arith))
+-- with what is missing, a list is as long as its runs
+pub filled_count : (size n : ℕ) → 0 < size → n + missing size n ≡ size * run_count size n
+filled_count size n h =
+    let whole = div-add-mod' n size in
+    ⊎_elim
+    (λ (some : 0 < n % size).
+    let below = mod_below n size h in
+    let count : run_count size n ≡ n / size + 1 =
+    div-eq_of_lt-le {k = n / size + 1} size {m = n + (size - 1)} (omega arith) (omega arith) in
+    omega (arith, missing-some size n h some, ap (λ k. size * k) count))
+    (λ (none : n % size ≤ 0).
+    let count : run_count size n ≡ n / size =
+    div-eq_of_lt-le {k = n / size} size {m = n + (size - 1)} (omega arith) (omega arith) in
+    omega (arith, missing-none size n (omega arith), ap (λ k. size * k) count))
+    (cases_lt 0 (n % size))
 
--- as many runs with what is missing as without
+-- so it has as many runs with it as without
 pub run_count-missing : (size n : ℕ) → 0 < size
     → run_count size (n + missing size n) ≡ run_count size n
 run_count-missing size n h =
-    ⊎_elim
-    (λ (some : 0 < n % size).
-    run_count-with size n (n / size) (n % size) (missing size n) (sym (div-add-mod' n size)) some
-    (mod_below n size h) (missing-some size n h some))
-    (λ (none : n % size ≤ 0).
-    let whole : n + missing size n ≡ n =
-    ap (λ k. n + k) (missing-none size n (omega arith)) ∙ omega arith in
-    ap (run_count size) whole)
-    (cases_lt 0 (n % size))
+    ap (run_count size) (filled_count size n h ∙ mul_comm size (run_count size n))
+    ∙ run_count-whole size (run_count size n) h
 
 -- each run of bits as a symbol
 abbrev pub text_by : Base → ℕ → BitOrder → List ℕ → List ℕ

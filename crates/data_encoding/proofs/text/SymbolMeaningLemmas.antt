@@ -10,7 +10,7 @@ use Rattle.data_encoding.specs.Bits.{bits_of, bits_of_bytes, number_of, missing,
 use Rattle.data_encoding.specs.Grammar.{PlainMeans}
 use Rattle.data_encoding.specs.Text.{filled_with, plain_text}
 use Rattle.data_encoding.proofs.digits.BitLemmas.{AreBits-append, AreBits-flat_map, AreBits-bits_of}
-use Rattle.data_encoding.proofs.digits.KernelLemmas.{filled_count}
+use Rattle.data_encoding.proofs.text.PlainTextLemmas.{filled_count}
 use Rattle.data_encoding.proofs.digits.ValueLemmas.{AreValuesOf, AreValuesOf-runs}
 use Rattle.data_encoding.proofs.digits.WordLemmas.{AreBits-zeros, map-twice}
 use Rattle.data_encoding.proofs.lists.ListLemmas.{AllFail}
