@@ -11,7 +11,7 @@ use Rattle.data_encoding.specs.declared.specification.meanings.Refusal.TheVarian
 use Rattle.data_encoding.specs.Base.{Base, Wrapping, group_symbols, is_ignored, meaning, symbol}
 use Rattle.data_encoding.specs.Fields.{Judgement, base_of, base_with, defined, ignored_judgements, is_same, judged, judgements, meanings_after, no_meanings, padding_judgements, pair_judgements, symbol_judgements, translated, translation_judgements, width_of, wrapping_judgements, wraps, Require, Define, Translate, IsSpecified}
 use Rattle.data_encoding.specs.Layout.{column_of, fields_of, is_translated, own_character, separator_of, translated_bytes}
-use Rattle.data_encoding.proofs.tables.EntryLemmas.{defined_by, false_or, is_same-self, same-is_same}
+use Rattle.data_encoding.proofs.tables.EntryLemmas.{apart_test, defined_by, false_or, is_same-self, same-is_same}
 use Rattle.data_encoding.proofs.judgement.JudgementLemmas.{AreKept, AreKept-join, IsHeld, Judged, after-ok, judged-ok, meanings_after-append, meanings_after-ok, symbols-held}
 use Rattle.data_encoding.proofs.lists.EachLemmas.{all_parts, all_in_range, at_in_range, passes_at}
 use Rattle.data_encoding.proofs.judgement.RuleLemmas.{IsRuled, IsRuledPadding, IsRuledWrapping, base_of-width, first_judgements, from_parts, ignored-held, is_no_padding, is_within, IsRuled-yield, parts_of, width_of-power}
@@ -189,9 +189,6 @@ ignored-is : (m : Character) → is_ignored m ≡ true → m ≡ Ignored
 ignored-is Ignored h = refl
 ignored-is _ h = cc
 
-not_zero : (n : ℕ) → 0 < n → not (n == 0) ≡ true
-not_zero n h = grind (arith, nat_tests)
-
 module _ (base : Base) (ruled : IsRuled base) where
   value-small : (byte value : ℕ) → byte < 128 → meaning base byte ≡ Symbol value
       → value < length base.symbols
@@ -234,8 +231,8 @@ module _ (base : Base) (ruled : IsRuled base) where
       let column = lines.column in
       let separator = lines.separator in
       let on : wraps column separator ≡ true =
-      and_from (not (column == 0)) (not (length separator == 0)) (not_zero column rule.some)
-      (not_zero (length separator) rule.ended) in
+      and_from (not (column == 0)) (not (length separator == 0)) (apart_test column 0 (λ e. omega (arith, e, rule.some)))
+      (apart_test (length separator) 0 (λ e. omega (arith, e, rule.ended))) in
       subst
       (λ b. AllByRecursion (Agrees base.meanings no_meanings) (cond b
       (Require (nat_lt column 256 && nat_lt (length separator) 256) WrapLength
@@ -398,9 +395,7 @@ module _ (base : Base) (ruled : IsRuled base) where
       let t : is_translated base byte (own_character base (meaning base byte)) ≡ true =
       ap (is_translated base byte) is ∙ apart_test character byte apart in
       translated-there byte low t)
-      (cases_eq character byte) where
-        apart_test : (a b : ℕ) → a ≢ b → not (a == b) ≡ true
-        apart_test a b ne = grind (arith, nat_tests)
+      (cases_eq character byte)
 
   all-there : (byte : ℕ) → byte < 128 → (m : Character) → meaning base byte ≡ m → m ≢ Invalid
       → get_or last byte Invalid ≢ Invalid
@@ -443,7 +438,8 @@ module _ (base : Base) (ruled : IsRuled base) where
   wrapping-again (Some lines) rule =
       let on : wraps lines.column lines.separator ≡ true =
       and_from (not (lines.column == 0)) (not (length lines.separator == 0))
-      (not_zero lines.column rule.some) (not_zero (length lines.separator) rule.ended) in
+      (apart_test lines.column 0 (λ e. omega (arith, e, rule.some)))
+      (apart_test (length lines.separator) 0 (λ e. omega (arith, e, rule.ended))) in
       ap (λ b. cond b (Some lines) None) on
 
   pub base_of-again : base_of (fields_of base) ≡ Ok base

@@ -20,17 +20,12 @@ use Rattle.data_encoding.proofs.judgement.RuleLemmas.{IsRuled, IsRuledPadding}
 use Rattle.data_encoding.proofs.text.PaddedTextLemmas.{text_of-unwrapped}
 use Rattle.data_encoding.proofs.text.PlainTextLemmas.{text_by}
 
-not-descending : (x y : ℕ) (xs ys : List ℕ) → y < x → IsBefore (x ∷ xs) (y ∷ ys) → ⊥
-not-descending x y xs ys h before =
-    ⊎_elim (λ (less : x < y). absurd (omega (arith, h, less)))
-    (λ (same : (x ≡ y) × IsBefore xs ys). absurd (omega (arith, h, same.0)))
-    before
-
-behind-first : (x : ℕ) (xs ys : List ℕ) → IsBefore (x ∷ xs) (x ∷ ys) → IsBefore xs ys
-behind-first x xs ys before =
-    ⊎_elim (λ (less : x < x). absurd (omega (arith, less)))
-    (λ (same : (x ≡ x) × IsBefore xs ys). same.1)
-    before
+not-descending : (same : List ℕ) (x y : ℕ) (xs ys : List ℕ) → y < x
+    → IsBefore (same ++ x ∷ xs) (same ++ y ∷ ys) → ⊥
+not-descending [] x y xs ys h (inl less) = omega (arith, h, less)
+not-descending [] x y xs ys h (inr equal) = omega (arith, h, equal.0)
+not-descending (s ∷ same) x y xs ys h (inl less) = omega (arith, less)
+not-descending (s ∷ same) x y xs ys h (inr equal) = not-descending same x y xs ys h equal.1
 
 -- the value of the first symbol of one byte
 abbrev first_value : ℕ → BitOrder → ℕ → ℕ
@@ -104,20 +99,10 @@ padding-not_before base character later =
     → IsBefore (padded_by base character w (0 ∷ [])) (padded_by base character w (0 ∷ 0 ∷ []))
     → ⊥)
     (λ h. absurd (false≢true h)) (λ h. absurd (false≢true h))
-    (λ h before.
-    not-descending c s (c ∷ c ∷ c ∷ c ∷ []) (s ∷ s ∷ c ∷ c ∷ []) later
-    (behind-first s (c ∷ c ∷ c ∷ c ∷ c ∷ []) (s ∷ s ∷ s ∷ c ∷ c ∷ [])
-    (behind-first s (s ∷ c ∷ c ∷ c ∷ c ∷ c ∷ []) (s ∷ s ∷ s ∷ s ∷ c ∷ c ∷ [])
-    (behind-first s (s ∷ s ∷ c ∷ c ∷ c ∷ c ∷ c ∷ []) (s ∷ s ∷ s ∷ s ∷ s ∷ c ∷ c ∷ []) before))))
+    (λ h. not-descending (s ∷ s ∷ s ∷ []) c s (c ∷ c ∷ c ∷ c ∷ []) (s ∷ s ∷ c ∷ c ∷ []) later)
     (λ h. absurd (false≢true h))
-    (λ h before.
-    not-descending c s (c ∷ c ∷ c ∷ c ∷ c ∷ []) (s ∷ c ∷ c ∷ c ∷ c ∷ []) later
-    (behind-first s (c ∷ c ∷ c ∷ c ∷ c ∷ c ∷ []) (s ∷ s ∷ c ∷ c ∷ c ∷ c ∷ [])
-    (behind-first s (s ∷ c ∷ c ∷ c ∷ c ∷ c ∷ c ∷ []) (s ∷ s ∷ s ∷ c ∷ c ∷ c ∷ c ∷ []) before)))
-    (λ h before.
-    not-descending c s (c ∷ []) (c ∷ []) later
-    (behind-first s (c ∷ c ∷ []) (s ∷ c ∷ [])
-    (behind-first s (s ∷ c ∷ c ∷ []) (s ∷ s ∷ c ∷ []) before))) where
+    (λ h. not-descending (s ∷ s ∷ []) c s (c ∷ c ∷ c ∷ c ∷ c ∷ []) (s ∷ c ∷ c ∷ c ∷ c ∷ []) later)
+    (λ h. not-descending (s ∷ s ∷ []) c s (c ∷ []) (c ∷ []) later) where
       c : ℕ
       c = character
 
@@ -163,7 +148,7 @@ module _ (base : Base) (ruled : IsRuled base) (unwrapped : base.wrapping ≡ Non
         others_are_bytes = one_byte other below;
         in_order = inl less;
         not_in_order =
-            λ before. not-descending (symbol base value) (symbol base next) one.0 two.0 descends
+            λ before. not-descending [] (symbol base value) (symbol base next) one.0 two.0 descends
             (subst (λ l. IsBefore l (symbol base next ∷ two.0))
             (one.1 ∙ ap (λ v. symbol base v ∷ one.0) is)
             (subst (IsBefore (text_of base (byte ∷ []))) (two.1

@@ -1,5 +1,5 @@
 -- The table of values, and what its entries mean.
-use Rattle.std.proofs.Common.{◌≡◌, ◌≢◌, ℕ, ◌+◌, ◌-◌, ◌<◌, ◌≤◌, ◌==◌, Bool, true, false, nat_le, if◌then◌else◌, List, length, map, take, get_or, Result, Ok, Err, refl, sym, ap, ◌∙◌, subst, arith, ⊎_elim}
+use Rattle.std.proofs.Common.{◌≡◌, ◌≢◌, ℕ, ◌+◌, ◌-◌, ◌<◌, ◌≤◌, ◌==◌, Bool, true, false, not, nat_le, if◌then◌else◌, List, length, map, take, get_or, Result, Ok, Err, refl, sym, ap, ◌∙◌, subst, arith, ⊎_elim}
 use Rattle.std.proofs.lemmas.Bool.Decides.{nat_tests}
 use Rattle.std.proofs.lemmas.Bool.{cases_lt}
 use Rattle.std.proofs.lemmas.List.{get_or-drop, get_or-replicate, get_or_past, length-map, get_or-map, get_or-take, length-take-le, length-drop, length-replicate, drop-set-lt, map-set}
@@ -19,6 +19,12 @@ entry_back v h = grind (arith, nat_tests)
 
 same_number : (a b : ℕ) → (a == b) ≡ true → a ≡ b
 same_number a b h = grind (arith, nat_tests)
+
+pub apart_test : (a b : ℕ) → a ≢ b → not (a == b) ≡ true
+apart_test a b h = grind (arith, nat_tests)
+
+pub test_apart : (a b : ℕ) → not (a == b) ≡ true → a ≢ b
+test_apart a b h same = grind (arith, nat_tests)
 
 own_number : (a : ℕ) → (a == a) ≡ true
 own_number a = grind (arith, nat_tests)
