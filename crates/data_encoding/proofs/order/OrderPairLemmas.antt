@@ -14,6 +14,8 @@ use Rattle.data_encoding.specs.Order.{IsBefore, IsOrdered, KeepsOrder, BreaksOrd
 use Rattle.data_encoding.specs.Text.{with_padding, plain_text, text_of}
 use Rattle.data_encoding.proofs.digits.BitLemmas.{length-bits_of, low_bits-add, number_of-bits_of}
 use Rattle.data_encoding.proofs.digits.WidthLemmas.{by_width}
+use Rattle.data_encoding.proofs.canonicity.ConcatenatedTextLemmas.{partly}
+use Rattle.data_encoding.proofs.tables.EntryLemmas.{test_apart}
 use Rattle.data_encoding.proofs.order.FrontLemmas.{front, front-long}
 use Rattle.data_encoding.proofs.order.TextOrderLemmas.{text_by-first}
 use Rattle.data_encoding.proofs.judgement.RuleLemmas.{IsRuled, IsRuledPadding}
@@ -91,18 +93,15 @@ padded_by base character width bytes =
 
 -- the padding of one byte against a symbol of the second
 padding-not_before : (base : Base) (character : ℕ) → symbol base 0 < character
-    → (width : ℕ) → IsWidth width → not (8 % width == 0) ≡ true
+    → (width : ℕ) → IsWidth width → (8 % width ≡ 0 → ⊥)
     → IsBefore (padded_by base character width (0 ∷ []))
     (padded_by base character width (0 ∷ 0 ∷ [])) → ⊥
 padding-not_before base character later =
-    by_width (λ w. not (8 % w == 0) ≡ true
-    → IsBefore (padded_by base character w (0 ∷ [])) (padded_by base character w (0 ∷ 0 ∷ []))
-    → ⊥)
-    (λ h. absurd (false≢true h)) (λ h. absurd (false≢true h))
-    (λ h. not-descending (s ∷ s ∷ s ∷ []) c s (c ∷ c ∷ c ∷ c ∷ []) (s ∷ s ∷ c ∷ c ∷ []) later)
-    (λ h. absurd (false≢true h))
-    (λ h. not-descending (s ∷ s ∷ []) c s (c ∷ c ∷ c ∷ c ∷ c ∷ []) (s ∷ c ∷ c ∷ c ∷ c ∷ []) later)
-    (λ h. not-descending (s ∷ s ∷ []) c s (c ∷ []) (c ∷ []) later) where
+    partly (λ w. IsBefore (padded_by base character w (0 ∷ []))
+    (padded_by base character w (0 ∷ 0 ∷ [])) → ⊥)
+    (not-descending (s ∷ s ∷ s ∷ []) c s (c ∷ c ∷ c ∷ c ∷ []) (s ∷ s ∷ c ∷ c ∷ []) later)
+    (not-descending (s ∷ s ∷ []) c s (c ∷ c ∷ c ∷ c ∷ c ∷ []) (s ∷ c ∷ c ∷ c ∷ c ∷ []) later)
+    (not-descending (s ∷ s ∷ []) c s (c ∷ []) (c ∷ []) later) where
       c : ℕ
       c = character
 
@@ -206,15 +205,15 @@ module _ (base : Base) (ruled : IsRuled base) (unwrapped : base.wrapping ≡ Non
       λ bytes. text_of-unwrapped base bytes unwrapped
       ∙ (λ i. with_padding (padded i) (group_symbols base.width)
       (text_by base base.width (is i) (bits_of_bytes (is i) bytes))) in
-      let rule : not (8 % base.width == 0) ≡ true =
-      (subst (λ o. IsRuledPadding base o) padded ruled.padding).2 in
+      let rule = (subst (λ o. IsRuledPadding base o) padded ruled.padding).2 in
       record {
         are_bytes = one_byte 0 (omega arith);
         others_are_bytes =
             All-from_recursion (λ b. b < 256) (0 ∷ 0 ∷ []) (omega arith, (omega arith, tt));
         in_order = inr (refl, tt);
         not_in_order =
-            λ before. padding-not_before base character later base.width ruled.is_width rule
+            λ before. padding-not_before base character later base.width ruled.is_width
+            (test_apart (8 % base.width) 0 rule)
             (subst (λ l. IsBefore l (padded_by base character base.width (0 ∷ 0 ∷ [])))
             (written (0 ∷ []))
             (subst (IsBefore (text_of base (0 ∷ []))) (written (0 ∷ 0 ∷ [])) before));

@@ -9,6 +9,7 @@ use Rattle.data_encoding.specs.declared.encoding.Character.{Character}
 use Rattle.data_encoding.specs.declared.encoding.Character.TheVariants.{Symbol, Padding, Ignored, Invalid}
 use Rattle.data_encoding.specs.declared.specification.meanings.Refusal.{Refusal}
 use Rattle.data_encoding.specs.declared.specification.meanings.Refusal.TheVariants.{NotAscii, Duplicate}
+use Rattle.data_encoding.specs.Base.{is_ignored}
 use Rattle.data_encoding.specs.Entries.{meaning_of_entry, is_entry_of, HoldsEntries}
 use Rattle.data_encoding.specs.Fields.{defined, is_same}
 use Rattle.data_encoding.specs.Layout.{code_of}
@@ -39,6 +40,13 @@ same-is_same Padding Padding h = refl
 same-is_same Ignored Ignored h = refl
 same-is_same Invalid Invalid h = refl
 same-is_same _ _ h = cc
+
+pub ignored-is : (m : Character) → is_ignored m ≡ true → m ≡ Ignored
+ignored-is Ignored h = refl
+ignored-is _ h = cc
+
+pub ignored_entry : (v : ℕ) → is_ignored (meaning_of_entry v) ≡ (v == 129)
+ignored_entry v = grind (arith, nat_tests)
 
 pub false_or : (b : Bool) → (b ≡ true → ⊥) → b ≡ false
 false_or true h = absurd (h refl)

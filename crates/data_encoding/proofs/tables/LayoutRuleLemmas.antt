@@ -23,7 +23,7 @@ use Rattle.data_encoding.proofs.lists.EachLemmas.{all-at, list_all-places, none_
 use Rattle.data_encoding.proofs.lists.RepeatLemmas.{get_or-repeats, length-repeats}
 use Rattle.data_encoding.proofs.judgement.RoundTripLemmas.{IsSpecified-ruled}
 use Rattle.data_encoding.proofs.judgement.RuleLemmas.{IsRuled, IsRuledPadding, IsRuledWrapping, IsRuled-yield, is_no_padding, is_within}
-use Rattle.data_encoding.proofs.tables.EntryLemmas.{apart_test, test_apart}
+use Rattle.data_encoding.proofs.tables.EntryLemmas.{apart_test, ignored-is, test_apart}
 use Rattle.data_encoding.proofs.tables.LayoutLemmas.{codes-back}
 use Rattle.data_encoding.proofs.tables.ReadingLemmas.{IsReadAs, code-read, end-read, ends, flags, high-read, is_read_as, long-layout, symbol-read, symbol_table}
 use Rattle.data_encoding.proofs.tables.TableRuleLemmas.{entry-no_padding, entry-weaker, entry-within, value-symbol}
@@ -61,10 +61,6 @@ code-padding : (n : ℕ) (m : Character) → n ≤ 64 → is_within n m ≡ true
 code-padding n (Symbol value) few h k e = omega (arith, few, ltb-true value n h, e)
 code-padding n Padding few h k e = cc
 code-padding n _ few h k e = omega (arith, e)
-
-ignored-is : (m : Character) → is_ignored m ≡ true → m ≡ Ignored
-ignored-is Ignored h = refl
-ignored-is _ h = cc
 
 -- a base, and its layout
 module _ (base : Base) (ruled : IsRuled base) where

@@ -6,6 +6,7 @@ use Rattle.std.proofs.lemmas.List.{ext_get_or, get_or-map, get_or_past, length-m
 use Rattle.std.proofs.lemmas.List.FromFn.{get_or-range_with_len, length-range_with_len}
 use Rattle.std.specs.Cmp.{first_so, second_so}
 use Rattle.std.specs.List.{AllByRecursion, concat, list_all, range_with_len}
+use Rattle.data_encoding.specs.declared.encoding.Character.{Character}
 use Rattle.data_encoding.specs.declared.encoding.Character.TheVariants.{Symbol, Padding, Ignored, Invalid}
 use Rattle.data_encoding.specs.Base.{meaning, ignores_some, IsWidth}
 use Rattle.data_encoding.specs.Encoding.{EncodingTables, KeepsPadding, KeepsRules, KeepsWrapping, base_of_tables, wrapping_by}
@@ -37,22 +38,15 @@ no_padding-entry : (v : ℕ) → is_no_padding (meaning_of_entry v) ≡ true →
 no_padding-entry v h = grind (arith, nat_tests)
 
 pub value-symbol : (v : ℕ) → v < 64 → meaning_of_entry v ≡ Symbol v
-value-symbol v h =
-    ap (λ b. cond b (Symbol v) (cond (v == 129) Ignored (cond (v == 130) Padding Invalid)))
-    (lt-ltb v 64 h)
+value-symbol v h = grind (arith, nat_tests)
 
 all-weaker : {X : Type 0} (a b : X → Bool) → ((x : X) → a x ≡ true → b x ≡ true) → (xs : List X)
     → list_all a xs ≡ true → list_all b xs ≡ true
 all-weaker a b step xs h = list_all-both a a b (λ x e f. step x e) xs h h
 
-symbol_entry : (v n : ℕ) → is_entry_of 64 v ≡ true → meaning_of_entry v ≡ Symbol n → v ≡ n
-symbol_entry v n h e = sym (entry_back v h) ∙ ap code_of e
-
-padding_entry : (v : ℕ) → is_entry_of 64 v ≡ true → meaning_of_entry v ≡ Padding → v ≡ 130
-padding_entry v h e = sym (entry_back v h) ∙ ap code_of e
-
-ignored_entry : (v : ℕ) → is_entry_of 64 v ≡ true → meaning_of_entry v ≡ Ignored → v ≡ 129
-ignored_entry v h e = sym (entry_back v h) ∙ ap code_of e
+entry_code : (v : ℕ) (m : Character) → is_entry_of 64 v ≡ true → meaning_of_entry v ≡ m
+    → v ≡ code_of m
+entry_code v m h e = sym (entry_back v h) ∙ ap code_of e
 
 checked-rule : (check whole : Bool)
     → ((check || not whole) ≡ true) ↔ ((check || whole) ≡ check)
@@ -211,7 +205,7 @@ module _ (e : EncodingTables) (ruled : IsRuled (base_of_tables e)) (holds : Hold
   own-entry i h =
       let own = ruled.own i h in
       let s = get_or (take (2 ^ e.width) e.symbols) i 0 in
-      symbol_entry (get_or e.values s 0) i (is_entry-low e.values holds s own.0)
+      entry_code (get_or e.values s 0) (Symbol i) (is_entry-low e.values holds s own.0)
       (sym (meaning-low e.values holds s own.0) ∙ own.1)
 
   own-values : map (λ s. get_or e.values s 0) (take (2 ^ e.width) e.symbols)
@@ -236,7 +230,7 @@ module _ (e : EncodingTables) (ruled : IsRuled (base_of_tables e)) (holds : Hold
       (sym (list_all-map is_no_padding meaning_of_entry (take 128 e.values)) ∙ rule)
   keeps-padding (Some character) rule = (
     rule.0,
-    padding_entry (get_or e.values character 0) (is_entry-low e.values holds character rule.0)
+    entry_code (get_or e.values character 0) Padding (is_entry-low e.values holds character rule.0)
         (sym (meaning-low e.values holds character rule.0) ∙ rule.1),
     rule.2,
   )
@@ -248,7 +242,7 @@ module _ (e : EncodingTables) (ruled : IsRuled (base_of_tables e)) (holds : Hold
   keeps-separator (byte ∷ bytes) all =
       list_all-cons (λ b. get_or e.values b 0 == 129) byte bytes
       (eq-eqb (get_or e.values byte 0) 129
-      (ignored_entry (get_or e.values byte 0) (is_entry-low e.values holds byte all.0.0)
+      (entry_code (get_or e.values byte 0) Ignored (is_entry-low e.values holds byte all.0.0)
       (sym (meaning-low e.values holds byte all.0.0) ∙ all.0.1)))
       (keeps-separator bytes all.1)
 
