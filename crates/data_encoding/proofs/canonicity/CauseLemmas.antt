@@ -16,21 +16,15 @@ use Rattle.data_encoding.proofs.canonicity.TranslatedTextLemmas.{padding-second,
 use Rattle.data_encoding.proofs.lists.EachLemmas.{all_in_range, none_passes}
 use Rattle.data_encoding.proofs.judgement.RuleLemmas.{IsRuled}
 use Rattle.data_encoding.proofs.judgement.TranslationLemmas.{is_translated_byte}
+use Rattle.data_encoding.proofs.tables.EntryLemmas.{false_or, test_apart}
 
 none_in : (l : List ℕ) → AllByRecursion (λ _. ⊥) l → l ≡ []
 none_in [] h = refl
 none_in (x ∷ l) h = absurd h.0
 
-unless_true : (b : Bool) → (b ≡ true → ⊥) → b ≡ false
-unless_true true h = absurd (h refl)
-unless_true false h = refl
-
 unless_false : (b : Bool) → (b ≡ false → ⊥) → b ≡ true
 unless_false true h = refl
 unless_false false h = absurd (h refl)
-
-apart_by : (a b : ℕ) → not (a == b) ≡ true → a ≡ b → ⊥
-apart_by a b h same = grind (arith, nat_tests)
 
 module _ (base : Base) (ruled : IsRuled base) where
   module _ (one : IsCanonical base) where
@@ -47,7 +41,7 @@ module _ (base : Base) (ruled : IsRuled base) where
 
     alone : (is_padded base && base.concatenates) ≡ false
     alone =
-        unless_true (is_padded base && base.concatenates)
+        false_or (is_padded base && base.concatenates)
         (λ both.
         let parts = and_parts (is_padded base) base.concatenates both in
         no_two _ _ _ (concatenated-second base ruled parts.0 parts.1))
@@ -55,7 +49,7 @@ module _ (base : Base) (ruled : IsRuled base) where
     keeps : ignores_some base ≡ false
     keeps =
         none_passes is_ignored base.meanings Invalid
-        (λ byte within. unless_true (is_ignored (meaning base byte))
+        (λ byte within. false_or (is_ignored (meaning base byte))
         (λ is. no_two _ _ _ (ignored-second base ruled byte is)))
 
     own : (byte : ℕ) → is_translated_byte base byte ≡ true → ⊥
@@ -65,12 +59,12 @@ module _ (base : Base) (ruled : IsRuled base) where
       by_padding None some is h = false≢true h
       by_padding (Some character) some is h =
           no_two _ _ _
-          (padding-second base ruled byte character is some (apart_by character byte h))
+          (padding-second base ruled byte character is some (test_apart character byte h))
 
       by_meaning : (m : Character) → meaning base byte ≡ m
           → is_translated base byte (own_character base m) ≡ true → ⊥
       by_meaning (Symbol value) is h =
-          let apart = apart_by (symbol base value) byte h in
+          let apart = test_apart (symbol base value) byte h in
           no_two _ _ _ (symbol-second base ruled byte value is apart).1
       by_meaning Padding is h = by_padding base.padding refl is h
       by_meaning Ignored is h = false≢true h

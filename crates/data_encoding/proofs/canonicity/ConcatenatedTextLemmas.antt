@@ -20,15 +20,19 @@ padded-partly base ruled padded whole = by base.padding padded ruled.padding whe
   by None is h = cc
   by (Some character) is h = false≢true (sym (ap (λ n. not (n == 0)) whole) ∙ h.2)
 
+-- what holds of 3, 5 and 6
+pub partly : (P : ℕ → Type 0) → P 3 → P 5 → P 6 → (width : ℕ) → IsWidth width
+    → (8 % width ≡ 0 → ⊥) → P width
+partly P three five six =
+    by_width (λ w. (8 % w ≡ 0 → ⊥) → P w) (λ h. absurd (h refl)) (λ h. absurd (h refl))
+    (λ h. three) (λ h. absurd (h refl)) (λ h. five) (λ h. six)
+
 -- one byte is one group then, and two are
 one_group : (width : ℕ) → IsWidth width → (8 % width ≡ 0 → ⊥)
     → (run_count (group_bytes width) 1 ≡ 1) × (run_count (group_bytes width) 2 ≡ 1)
 one_group =
-    by_width
-    (λ w. (8 % w ≡ 0 → ⊥)
-    → (run_count (group_bytes w) 1 ≡ 1) × (run_count (group_bytes w) 2 ≡ 1))
-    (λ h. absurd (h refl)) (λ h. absurd (h refl)) (λ h. (refl, refl))
-    (λ h. absurd (h refl)) (λ h. (refl, refl)) (λ h. (refl, refl))
+    partly (λ w. (run_count (group_bytes w) 1 ≡ 1) × (run_count (group_bytes w) 2 ≡ 1))
+    (refl, refl) (refl, refl) (refl, refl)
 
 pub zero_byte : All (λ byte. byte < 256) (0 ∷ [])
 zero_byte = All-from_recursion (λ byte. byte < 256) (0 ∷ []) (omega arith, tt)

@@ -113,23 +113,21 @@ module _ (base : Base) (ruled : IsRuled base) where
       → map (meaning base) text ≡ map (λ value. Symbol value) values
       → own_form base text ≡ map (symbol base) values
   symbols_are [] [] h = refl
-  symbols_are [] (value ∷ values) h = cc
-  symbols_are (byte ∷ text) [] h = cc
   symbols_are (byte ∷ text) (value ∷ values) h =
       let here : meaning base byte ≡ Symbol value = cc in
       let others : map (meaning base) text ≡ map (λ value. Symbol value) values = cc in
       (λ i. symbol_is byte value here i ∷ symbols_are text values others i)
+  symbols_are _ _ h = cc
 
   pub paddings_are : (text : List ℕ) (count character : ℕ) → base.padding ≡ Some character
       → map (meaning base) text ≡ replicate count Padding
       → own_form base text ≡ replicate count character
   paddings_are [] zero character some h = refl
-  paddings_are [] (suc count) character some h = cc
-  paddings_are (byte ∷ text) zero character some h = cc
   paddings_are (byte ∷ text) (suc count) character some h =
       let here : meaning base byte ≡ Padding = cc in
       let others : map (meaning base) text ≡ replicate count Padding = cc in
       (λ i. padding_is byte character some here i ∷ paddings_are text count character some others i)
+  paddings_are _ _ character some h = cc
 
   -- the own form of symbols that mean bytes is their text, where trailing bits are checked
   pub plain_is : base.checks_trailing_bits ≡ true → (text bytes : List ℕ)

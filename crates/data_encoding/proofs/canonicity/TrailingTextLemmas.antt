@@ -1,6 +1,6 @@
 -- A trailing bit that is not checked gives a second text.
 use Rattle.std.proofs.Common.{◌≡◌, ℕ, zero, suc, ◌+◌, ◌/◌, ◌%◌, ◌^◌, ◌<◌, ◌≤◌, ◌==◌, nat_lt, true, false, ◌&&◌, ◌||◌, List, [], ◌∷◌, ◌++◌, length, map, drop, get_or, replicate, Option, Some, None, refl, sym, ap, ◌∙◌, arith, append_assoc, length-append, unwrap_or}
-use Rattle.std.proofs.lemmas.Bool.{and_parts, false≢true, ltb-true}
+use Rattle.std.proofs.lemmas.Bool.{false≢true, ltb-true}
 use Rattle.std.proofs.lemmas.List.{length-replicate}
 use Rattle.std.specs.Prelude.{flat_map}
 use Rattle.data_encoding.specs.declared.encoding.BitOrder.{BitOrder}
@@ -11,9 +11,8 @@ use Rattle.data_encoding.specs.Bits.{bits_of, bits_of_bytes, missing}
 use Rattle.data_encoding.specs.Canonical.{AreTwoTexts, last_bit, trailing_text}
 use Rattle.data_encoding.specs.Grammar.{PlainMeans}
 use Rattle.data_encoding.specs.Text.{padded_text, with_padding}
-use Rattle.data_encoding.proofs.canonicity.ConcatenatedTextLemmas.{zero_byte}
+use Rattle.data_encoding.proofs.canonicity.ConcatenatedTextLemmas.{partly, zero_byte}
 use Rattle.data_encoding.proofs.canonicity.OneGroupLemmas.{Means-group, Means-padded_text, length-group, length-zero}
-use Rattle.data_encoding.proofs.digits.WidthLemmas.{by_width}
 use Rattle.data_encoding.proofs.judgement.RuleLemmas.{IsRuled}
 use Rattle.data_encoding.proofs.text.SymbolMeaningLemmas.{own_meaning}
 use Rattle.data_encoding.proofs.text.PlainTextLemmas.{text_by}
@@ -38,44 +37,28 @@ record TrailsAt (order : BitOrder) (width : ℕ) : Type 0 where
 trails : (order : BitOrder) (width : ℕ)
     → flat_map (bits_of order width) (values_with width (last_bit order width))
     ≡ bits_of_bytes order (0 ∷ []) ++ trailing_bits order width
-    → (nat_lt (length (trailing_bits order width)) width
-    && nat_lt (last_bit order width) (2 ^ width) && nat_lt 0 (last_bit order width)
-    && nat_lt (8 / width) (group_symbols width)) ≡ true
-    → TrailsAt order width
-trails order width same h =
-    let bits = trailing_bits order width in
-    let last = last_bit order width in
-    let short = nat_lt (length bits) width in
-    let below = nat_lt last (2 ^ width) in
-    let first = and_parts (short && below && nat_lt 0 last)
-    (nat_lt (8 / width) (group_symbols width)) h in
-    let second = and_parts (short && below) (nat_lt 0 last) first.0 in
-    let third = and_parts short below second.0 in
-    let some = ltb-true 0 last second.1 in
-    let few = ltb-true (8 / width) (group_symbols width) first.1 in
+    → nat_lt (length (trailing_bits order width)) width ≡ true
+    → nat_lt (last_bit order width) (2 ^ width) ≡ true → nat_lt 0 (last_bit order width) ≡ true
+    → nat_lt (8 / width) (group_symbols width) ≡ true → TrailsAt order width
+trails order width same short below some few =
+    let more = ltb-true 0 (last_bit order width) some in
+    let less = ltb-true (8 / width) (group_symbols width) few in
     record {
       same_bits = same;
-      short = ltb-true (length bits) width third.0;
-      below = ltb-true last (2 ^ width) third.1;
-      not_zero = λ none. omega (arith, none, some);
-      few = omega (arith, few);
+      short = ltb-true (length (trailing_bits order width)) width short;
+      below = ltb-true (last_bit order width) (2 ^ width) below;
+      not_zero = λ none. omega (arith, none, more);
+      few = omega (arith, less);
     }
-
--- what holds of 3, 5 and 6
-partly : (P : ℕ → Type 0) → P 3 → P 5 → P 6 → (width : ℕ) → IsWidth width
-    → (8 % width ≡ 0 → ⊥) → P width
-partly P three five six =
-    by_width (λ w. (8 % w ≡ 0 → ⊥) → P w) (λ h. absurd (h refl)) (λ h. absurd (h refl))
-    (λ h. three) (λ h. absurd (h refl)) (λ h. five) (λ h. six)
 
 trails_at : (order : BitOrder) (width : ℕ) → IsWidth width → (8 % width ≡ 0 → ⊥)
     → TrailsAt order width
 trails_at MostSignificantFirst =
-    partly (TrailsAt MostSignificantFirst) (trails MostSignificantFirst 3 refl refl)
-    (trails MostSignificantFirst 5 refl refl) (trails MostSignificantFirst 6 refl refl)
+    partly (TrailsAt MostSignificantFirst) (trails MostSignificantFirst 3 refl refl refl refl refl)
+    (trails MostSignificantFirst 5 refl refl refl refl refl) (trails MostSignificantFirst 6 refl refl refl refl refl)
 trails_at LeastSignificantFirst =
-    partly (TrailsAt LeastSignificantFirst) (trails LeastSignificantFirst 3 refl refl)
-    (trails LeastSignificantFirst 5 refl refl) (trails LeastSignificantFirst 6 refl refl)
+    partly (TrailsAt LeastSignificantFirst) (trails LeastSignificantFirst 3 refl refl refl refl refl)
+    (trails LeastSignificantFirst 5 refl refl refl refl refl) (trails LeastSignificantFirst 6 refl refl refl refl refl)
 
 -- symbols of the value 0, and another
 abbrev symbols_with : ℕ → ℕ → ℕ → List ℕ

@@ -10,12 +10,12 @@ use Rattle.data_encoding.specs.Bits.{bits_of, missing, number_of, runs}
 use Rattle.data_encoding.specs.Canonical.{PaddingIsSecond, SymbolIsSecond, text_ending_in}
 use Rattle.data_encoding.specs.Grammar.{Means, PlainMeans}
 use Rattle.data_encoding.specs.Text.{padded_text, plain_text, with_padding}
-use Rattle.data_encoding.proofs.canonicity.ConcatenatedTextLemmas.{padded-partly, zero_byte}
+use Rattle.data_encoding.proofs.canonicity.ConcatenatedTextLemmas.{padded-partly, partly, zero_byte}
 use Rattle.data_encoding.proofs.canonicity.OneGroupLemmas.{Means-fillers, Means-group, Means-padded_text, length-zero, zero_few, zero_some}
 use Rattle.data_encoding.proofs.canonicity.OwnTextLemmas.{value_below}
 use Rattle.data_encoding.proofs.digits.BitLemmas.{AreBits-bits_of, AreBits-flat_map}
 use Rattle.data_encoding.proofs.digits.ValueLemmas.{AreValuesOf, AreValuesOf-runs}
-use Rattle.data_encoding.proofs.digits.WidthLemmas.{by_width, group_bits, group_symbols-few, group_symbols-pos}
+use Rattle.data_encoding.proofs.digits.WidthLemmas.{group_bits, group_symbols-few, group_symbols-pos}
 use Rattle.data_encoding.proofs.grammar.UnpaddedGroupLemmas.{length-bits_of_values}
 use Rattle.data_encoding.proofs.lists.EachLemmas.{all_joined}
 use Rattle.data_encoding.proofs.lists.ListLemmas.{parts_same}
@@ -59,10 +59,8 @@ whole-unpadded (Some character) size text e =
 one_byte_lacks : (width : ℕ) → IsWidth width → (8 % width ≡ 0 → ⊥)
     → 0 < missing (group_symbols width) (run_count width (8 * 1))
 one_byte_lacks =
-    by_width
-    (λ w. (8 % w ≡ 0 → ⊥) → 0 < missing (group_symbols w) (run_count w (8 * 1)))
-    (λ h. absurd (h refl)) (λ h. absurd (h refl)) (λ h. omega arith)
-    (λ h. absurd (h refl)) (λ h. omega arith) (λ h. omega arith)
+    partly (λ w. 0 < missing (group_symbols w) (run_count w (8 * 1))) (omega arith) (omega arith)
+    (omega arith)
 
 module _ (base : Base) (ruled : IsRuled base) where
   width : IsWidth base.width

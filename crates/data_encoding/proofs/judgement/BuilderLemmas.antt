@@ -10,7 +10,7 @@ use Rattle.data_encoding.specs.Fields.{Fields, Judgement, base_of, base_with, ig
 use Rattle.data_encoding.proofs.judgement.JudgementLemmas.{Judged, meanings_after-append}
 use Rattle.data_encoding.proofs.tables.TableRuleLemmas.{KeepsRules-ruled}
 use Rattle.data_encoding.proofs.lists.RepeatLemmas.{take-repeats}
-use Rattle.data_encoding.proofs.judgement.RuleLemmas.{IsRuledPadding, IsRuledWrapping, IsRuled-yield, base_from, base_of-width}
+use Rattle.data_encoding.proofs.judgement.RuleLemmas.{IsRuled, IsRuledPadding, IsRuledWrapping, IsRuled-from, IsRuled-yield, base_from, base_of-width}
 use Rattle.data_encoding.proofs.digits.WidthLemmas.{times-pos}
 
 -- the judgements, part after part
@@ -53,38 +53,35 @@ module _ (width : ℕ) (fields : Fields) where
   abbrev all : Judged
   all = meanings_after (Ok no_meanings) (judgements width fields)
 
-  pub after-symbols : (r : Judged) → meanings_after (Ok no_meanings) a ≡ r
-      → all ≡ meanings_after (meanings_after (meanings_after (meanings_after r b) c) d) e
-  after-symbols r h =
-      judged-parts width fields (Ok no_meanings)
-      ∙ ap (λ s. meanings_after (meanings_after (meanings_after (meanings_after s b) c) d) e) h
+  module _ {none : List Character} (is : none ≡ no_meanings) where
+    pub after-symbols : (r : Judged) → meanings_after (Ok none) a ≡ r
+        → all ≡ meanings_after (meanings_after (meanings_after (meanings_after r b) c) d) e
+    after-symbols r h =
+        judged-parts width fields (Ok no_meanings)
+        ∙ ap (λ s. meanings_after (meanings_after (meanings_after (meanings_after s b) c) d) e)
+        (ap (λ l. meanings_after (Ok l) a) (sym is) ∙ h)
 
-  pub after-padding : (one : List Character) (r : Judged)
-      → meanings_after (Ok no_meanings) a ≡ Ok one → meanings_after (Ok one) b ≡ r
-      → all ≡ meanings_after (meanings_after (meanings_after r c) d) e
-  after-padding one r h k =
-      after-symbols (Ok one) h
-      ∙ ap (λ s. meanings_after (meanings_after (meanings_after s c) d) e) k
+    module _ {one : List Character} (h : meanings_after (Ok none) a ≡ Ok one) where
+      pub after-padding : (r : Judged) → meanings_after (Ok one) b ≡ r
+          → all ≡ meanings_after (meanings_after (meanings_after r c) d) e
+      after-padding r k =
+          after-symbols (Ok one) h
+          ∙ ap (λ s. meanings_after (meanings_after (meanings_after s c) d) e) k
 
-  pub after-ignored : (one two : List Character) (r : Judged)
-      → meanings_after (Ok no_meanings) a ≡ Ok one → meanings_after (Ok one) b ≡ Ok two
-      → meanings_after (Ok two) c ≡ r → all ≡ meanings_after (meanings_after r d) e
-  after-ignored one two r h k l =
-      after-padding one (Ok two) h k ∙ ap (λ s. meanings_after (meanings_after s d) e) l
+      module _ {two : List Character} (k : meanings_after (Ok one) b ≡ Ok two) where
+        pub after-ignored : (r : Judged) → meanings_after (Ok two) c ≡ r
+            → all ≡ meanings_after (meanings_after r d) e
+        after-ignored r l =
+            after-padding (Ok two) k ∙ ap (λ s. meanings_after (meanings_after s d) e) l
 
-  pub after-wrapping : (one two three : List Character) (r : Judged)
-      → meanings_after (Ok no_meanings) a ≡ Ok one → meanings_after (Ok one) b ≡ Ok two
-      → meanings_after (Ok two) c ≡ Ok three → meanings_after (Ok three) d ≡ r
-      → all ≡ meanings_after r e
-  after-wrapping one two three r h k l m =
-      after-ignored one two (Ok three) h k l ∙ ap (λ s. meanings_after s e) m
+        module _ {three : List Character} (l : meanings_after (Ok two) c ≡ Ok three) where
+          pub after-wrapping : (r : Judged) → meanings_after (Ok three) d ≡ r
+              → all ≡ meanings_after r e
+          after-wrapping r m = after-ignored (Ok three) l ∙ ap (λ s. meanings_after s e) m
 
-  pub after-translation : (one two three four : List Character) (r : Judged)
-      → meanings_after (Ok no_meanings) a ≡ Ok one → meanings_after (Ok one) b ≡ Ok two
-      → meanings_after (Ok two) c ≡ Ok three → meanings_after (Ok three) d ≡ Ok four
-      → meanings_after (Ok four) e ≡ r → all ≡ r
-  after-translation one two three four r h k l m n =
-      after-wrapping one two three (Ok four) h k l m ∙ n
+          pub after-translation : {four : List Character} (r : Judged)
+              → meanings_after (Ok three) d ≡ Ok four → meanings_after (Ok four) e ≡ r → all ≡ r
+          after-translation {four} r m n = after-wrapping (Ok four) m ∙ n
 
 -- the lines that the builder keeps
 wrapping_by-kept : (column : ℕ) (separator : List ℕ)
@@ -118,16 +115,29 @@ nothing-kept column separator = by_test (wraps column separator) refl where
   by_test true h e = by_number column h e
   by_test false h e = refl
 
-pub padding-ascii : (base : Base) (o : Option ℕ) → IsRuledPadding base o
-    → IfSome o (λ character. character < 128)
-padding-ascii base None rule = tt
-padding-ascii base (Some character) rule = rule.0
+-- the padding and the lines of fields that are not refused
+module _ (width : ℕ) (fields : Fields) (meanings : List Character)
+    (sized : width_of (length fields.symbols) ≡ Some width) (some : 0 < width)
+    (judged : meanings_after (Ok no_meanings) (judgements width fields) ≡ Ok meanings) where
+  ruled : IsRuled (base_from width fields meanings)
+  ruled = IsRuled-from width fields meanings sized some judged
 
-pub lines-short : (base : Base) (b : Bool) (column : ℕ) (separator : List ℕ)
-    → IsRuledWrapping base (cond b (Some (record { column = column; separator = separator })) None)
-    → b ≡ true → (column < 256) × (length separator < 256)
-lines-short base true column separator rule h = (rule.short, rule.ends_short)
-lines-short base false column separator rule h = cc
+  pub padding-ascii : IfSome fields.padding (λ character. character < 128)
+  padding-ascii = by fields.padding (ruled).padding where
+    by : (o : Option ℕ) → IsRuledPadding (base_from width fields meanings) o
+        → IfSome o (λ character. character < 128)
+    by None rule = tt
+    by (Some character) rule = rule.0
+
+  pub lines-short : wraps fields.column fields.separator ≡ true
+      → (fields.column < 256) × (length fields.separator < 256)
+  lines-short = by (wraps fields.column fields.separator) (ruled).wrapping where
+    by : (b : Bool)
+        → IsRuledWrapping (base_from width fields meanings)
+        (cond b (Some (record { column = fields.column; separator = fields.separator })) None)
+        → b ≡ true → (fields.column < 256) × (length fields.separator < 256)
+    by true rule h = (rule.short, rule.ends_short)
+    by false rule h = cc
 
 -- What the builder has of a specification that is not refused.
 pub record IsMadeOf (fields : Fields) (e : EncodingTables) (meanings : List Character) : Type 0

@@ -43,12 +43,11 @@ defined_by-ok : (past same free : Bool) (before after : List Character) (byte : 
     → defined_by past same free before byte m ≡ Ok after
     → (past ≡ false)
     × (((same ≡ true) × (after ≡ before)) ⊎ ((free ≡ true) × (after ≡ set before byte m)))
-defined_by-ok true same free before after byte m h = cc
 defined_by-ok false true free before after byte m h =
     let same : before ≡ after = cc in (refl, inl (refl, sym same))
 defined_by-ok false false true before after byte m h =
     let same : set before byte m ≡ after = cc in (refl, inr (refl, sym same))
-defined_by-ok false false false before after byte m h = cc
+defined_by-ok _ _ _ before after byte m h = cc
 
 defined-ok : (before after : List Character) (byte : ℕ) (m : Character)
     → defined before byte m ≡ Ok after → IsDefined before byte m after
@@ -127,9 +126,8 @@ record IsTranslated (before : List Character) (from to : ℕ) (after : List Char
 translated_by-ok : (past none : Bool) (r : Judged) (to : ℕ) (after : List Character)
     → (if past then Err NotAscii else if none then Err (Undefined to) else r) ≡ Ok after
     → (past ≡ false) × (none ≡ false) × (r ≡ Ok after)
-translated_by-ok true none r to after h = cc
-translated_by-ok false true r to after h = cc
 translated_by-ok false false r to after h = (refl, refl, h)
+translated_by-ok _ _ r to after h = cc
 
 not_same : (m : Character) → is_same m Invalid ≡ false → m ≢ Invalid
 not_same m h e = let same : is_same m Invalid ≡ true = ap (λ n. is_same n Invalid) e in cc

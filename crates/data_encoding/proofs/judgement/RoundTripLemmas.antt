@@ -11,8 +11,8 @@ use Rattle.data_encoding.specs.declared.specification.meanings.Refusal.TheVarian
 use Rattle.data_encoding.specs.Base.{Base, Wrapping, group_symbols, is_ignored, meaning, symbol}
 use Rattle.data_encoding.specs.Fields.{Judgement, base_of, base_with, defined, ignored_judgements, is_same, judged, judgements, meanings_after, no_meanings, padding_judgements, pair_judgements, symbol_judgements, translated, translation_judgements, width_of, wrapping_judgements, wraps, Require, Define, Translate, IsSpecified}
 use Rattle.data_encoding.specs.Layout.{column_of, fields_of, is_translated, own_character, separator_of, translated_bytes}
-use Rattle.data_encoding.proofs.tables.EntryLemmas.{defined_by, false_or, is_same-self, same-is_same}
-use Rattle.data_encoding.proofs.judgement.JudgementLemmas.{AreKept, AreKept-join, IsHeld, Judged, after-ok, judged-ok, meanings_after-append, meanings_after-ok, symbols-held}
+use Rattle.data_encoding.proofs.tables.EntryLemmas.{apart_test, defined_by, false_or, ignored-is, is_same-self, same-is_same}
+use Rattle.data_encoding.proofs.judgement.JudgementLemmas.{AreKept, AreKept-join, AreSteps, IsHeld, Judged, after-ok, judged-ok, meanings_after-append, meanings_after-ok, symbols-held}
 use Rattle.data_encoding.proofs.lists.EachLemmas.{all_parts, all_in_range, at_in_range, passes_at}
 use Rattle.data_encoding.proofs.judgement.RuleLemmas.{IsRuled, IsRuledPadding, IsRuledWrapping, base_of-width, first_judgements, from_parts, ignored-held, is_no_padding, is_within, IsRuled-yield, parts_of, width_of-power}
 
@@ -185,13 +185,6 @@ pairs-held : (meanings : List Character) (f : ℕ → ℕ) (bytes : List ℕ)
 pairs-held meanings f [] all = tt
 pairs-held meanings f (byte ∷ bytes) all = (all.0, pairs-held meanings f bytes all.1)
 
-ignored-is : (m : Character) → is_ignored m ≡ true → m ≡ Ignored
-ignored-is Ignored h = refl
-ignored-is _ h = cc
-
-not_zero : (n : ℕ) → 0 < n → not (n == 0) ≡ true
-not_zero n h = grind (arith, nat_tests)
-
 module _ (base : Base) (ruled : IsRuled base) where
   value-small : (byte value : ℕ) → byte < 128 → meaning base byte ≡ Symbol value
       → value < length base.symbols
@@ -234,8 +227,8 @@ module _ (base : Base) (ruled : IsRuled base) where
       let column = lines.column in
       let separator = lines.separator in
       let on : wraps column separator ≡ true =
-      and_from (not (column == 0)) (not (length separator == 0)) (not_zero column rule.some)
-      (not_zero (length separator) rule.ended) in
+      and_from (not (column == 0)) (not (length separator == 0)) (apart_test column 0 (λ e. omega (arith, e, rule.some)))
+      (apart_test (length separator) 0 (λ e. omega (arith, e, rule.ended))) in
       subst
       (λ b. AllByRecursion (Agrees base.meanings no_meanings) (cond b
       (Require (nat_lt column 256 && nat_lt (length separator) 256) WrapLength
@@ -333,8 +326,10 @@ module _ (base : Base) (ruled : IsRuled base) where
   abbrev own : ℕ → ℕ
   own byte = unwrap_or (own_character base (meaning base byte)) 0
 
-  pairs-all : AllByRecursion (Agrees base.meanings halfway)
-      (translation_judgements (fields_of base).from (fields_of base).to)
+  abbrev pairs : List Judgement
+  pairs = translation_judgements (fields_of base).from (fields_of base).to
+
+  pairs-all : AllByRecursion (Agrees base.meanings halfway) pairs
   pairs-all = (
     eq-eqb (length from) (length (map own from)) (sym (length-map from own)),
     pairs-agree base.meanings halfway own from
@@ -343,48 +338,38 @@ module _ (base : Base) (ruled : IsRuled base) where
         (λ byte from low is. pair-agrees byte (omega arith) (meaning base byte) refl is)),
   )
 
-  second : GoesOn (meanings_after (Ok halfway)
-      (translation_judgements (fields_of base).from (fields_of base).to)) base.meanings
+  second : GoesOn (meanings_after (Ok halfway) pairs) base.meanings
   second =
-      all-go base.meanings halfway
-      (translation_judgements (fields_of base).from (fields_of base).to) halfway long-halfway
-      pairs-all (λ byte some. refl) (first).below
+      all-go base.meanings halfway pairs halfway long-halfway pairs-all (λ byte some. refl)
+      (first).below
 
   abbrev last : List Character
   last = (second).after
 
   judged-all : meanings_after (Ok no_meanings) (judgements base.width (fields_of base)) ≡ Ok last
   judged-all =
-      meanings_after-append (Ok no_meanings) before_pairs
-      (translation_judgements (fields_of base).from (fields_of base).to)
-      ∙ after-ok (meanings_after (Ok no_meanings) before_pairs) halfway
-      (translation_judgements (fields_of base).from (fields_of base).to) (first).is
+      meanings_after-append (Ok no_meanings) before_pairs pairs
+      ∙ after-ok (meanings_after (Ok no_meanings) before_pairs) halfway pairs (first).is
       ∙ (second).is
 
-  last-held : AllByRecursion (IsHeld last) (judgements base.width (fields_of base))
-  last-held =
-      (meanings_after-ok (judgements base.width (fields_of base)) no_meanings last judged-all).held
-      refl
+  last-steps : AreSteps no_meanings (judgements base.width (fields_of base)) last
+  last-steps =
+      meanings_after-ok (judgements base.width (fields_of base)) no_meanings last judged-all
 
-  long-last : length last ≡ 128
-  long-last =
-      (meanings_after-ok (judgements base.width (fields_of base)) no_meanings last judged-all).long
+  last-held : AllByRecursion (IsHeld last) before_pairs × AllByRecursion (IsHeld last) pairs
+  last-held = all_parts (IsHeld last) before_pairs pairs ((last-steps).held refl)
 
-  first-held : AllByRecursion (IsHeld last) before_pairs
-  first-held =
-      (all_parts (IsHeld last) before_pairs
-      (translation_judgements (fields_of base).from (fields_of base).to) last-held).0
+  abbrev first-held : AllByRecursion (IsHeld last) before_pairs
+  first-held = (last-held).0
 
   -- a translated byte means something in the end
   translated-there : (byte : ℕ) → byte < 128
       → is_translated base byte (own_character base (meaning base byte)) ≡ true
       → get_or last byte Invalid ≢ Invalid
   translated-there byte low is e =
-      let pairs = (all_parts (IsHeld last) before_pairs
-      (translation_judgements (fields_of base).from (fields_of base).to) last-held).1 in
       let at = at_in_range (λ k. IsHeld last (Translate k (own k)))
       (λ k. is_translated base k (own_character base (meaning base k))) 0 128 byte
-      (pairs-held last own from pairs.1) (omega arith) (omega arith) is in
+      (pairs-held last own from (last-held).1.1) (omega arith) (omega arith) is in
       at.2 (sym at.3 ∙ e)
 
   -- a byte is translated, or is the character itself
@@ -398,41 +383,31 @@ module _ (base : Base) (ruled : IsRuled base) where
       let t : is_translated base byte (own_character base (meaning base byte)) ≡ true =
       ap (is_translated base byte) is ∙ apart_test character byte apart in
       translated-there byte low t)
-      (cases_eq character byte) where
-        apart_test : (a b : ℕ) → a ≢ b → not (a == b) ≡ true
-        apart_test a b ne = grind (arith, nat_tests)
+      (cases_eq character byte)
 
-  all-there : (byte : ℕ) → byte < 128 → (m : Character) → meaning base byte ≡ m → m ≢ Invalid
-      → get_or last byte Invalid ≢ Invalid
-  all-there byte low (Symbol value) is some =
+  all-there : (byte : ℕ) → byte < 128 → (m : Character) → meaning base byte ≡ m
+      → get_or last byte Invalid ≡ Invalid → m ≡ Invalid
+  all-there byte low (Symbol value) is none =
       let there = symbol-there last first-held value (value-small byte value low is) in
-      self-there byte (symbol base value) low (ap (own_character base) is)
-      (λ e. let bad : Symbol value ≡ Invalid = sym there ∙ e in cc)
-  all-there byte low Padding is some =
+      absurd (self-there byte (symbol base value) low (ap (own_character base) is)
+      (λ e. let bad : Symbol value ≡ Invalid = sym there ∙ e in cc) none)
+  all-there byte low Padding is none =
       let own_padding = padding-own byte low is in
       let there = padding-there last first-held own_padding.0 own_padding.1 in
-      self-there byte own_padding.0 low (ap (own_character base) is ∙ own_padding.1)
-      (λ e. let bad : Padding ≡ Invalid = sym there ∙ e in cc)
-  all-there byte low Ignored is some =
-      let there = ignored-there last first-held byte low is in
-      λ e. let bad : Ignored ≡ Invalid = sym there ∙ e in cc
-  all-there byte low Invalid is some = absurd (some refl)
+      absurd (self-there byte own_padding.0 low (ap (own_character base) is ∙ own_padding.1)
+      (λ e. let bad : Padding ≡ Invalid = sym there ∙ e in cc) none)
+  all-there byte low Ignored is none =
+      sym (ignored-there last first-held byte low is) ∙ none
+  all-there byte low Invalid is none = refl
 
   last-is : last ≡ base.meanings
   last-is =
-      ext_get_or Invalid last base.meanings (long-last ∙ sym ruled.long)
+      ext_get_or Invalid last base.meanings ((last-steps).long ∙ sym ruled.long)
       (λ byte h.
-      let low : byte < 128 = omega (arith, h, long-last) in
+      let low : byte < 128 = omega (arith, h, (last-steps).long) in
       ⊎_elim
       (λ (none : get_or last byte Invalid ≡ Invalid).
-      ⊎_elim
-      (λ (same : is_same (meaning base byte) Invalid ≡ true).
-      none ∙ sym (same-is_same (meaning base byte) Invalid same))
-      (λ (other : is_same (meaning base byte) Invalid ≡ false).
-      absurd (all-there byte low (meaning base byte) refl
-      (λ e. let same : is_same (meaning base byte) Invalid ≡ true
-      = ap (λ n. is_same n Invalid) e in cc) none))
-      (cases_Bool (is_same (meaning base byte) Invalid)))
+      none ∙ sym (all-there byte low (meaning base byte) refl none))
       (λ (there : get_or last byte Invalid ≡ meaning base byte). there)
       ((second).below byte))
 
@@ -443,7 +418,8 @@ module _ (base : Base) (ruled : IsRuled base) where
   wrapping-again (Some lines) rule =
       let on : wraps lines.column lines.separator ≡ true =
       and_from (not (lines.column == 0)) (not (length lines.separator == 0))
-      (not_zero lines.column rule.some) (not_zero (length lines.separator) rule.ended) in
+      (apart_test lines.column 0 (λ e. omega (arith, e, rule.some)))
+      (apart_test (length lines.separator) 0 (λ e. omega (arith, e, rule.ended))) in
       ap (λ b. cond b (Some lines) None) on
 
   pub base_of-again : base_of (fields_of base) ≡ Ok base

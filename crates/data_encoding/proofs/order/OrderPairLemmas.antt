@@ -14,23 +14,20 @@ use Rattle.data_encoding.specs.Order.{IsBefore, IsOrdered, KeepsOrder, BreaksOrd
 use Rattle.data_encoding.specs.Text.{with_padding, plain_text, text_of}
 use Rattle.data_encoding.proofs.digits.BitLemmas.{length-bits_of, low_bits-add, number_of-bits_of}
 use Rattle.data_encoding.proofs.digits.WidthLemmas.{by_width}
+use Rattle.data_encoding.proofs.canonicity.ConcatenatedTextLemmas.{partly}
+use Rattle.data_encoding.proofs.tables.EntryLemmas.{test_apart}
 use Rattle.data_encoding.proofs.order.FrontLemmas.{front, front-long}
 use Rattle.data_encoding.proofs.order.TextOrderLemmas.{text_by-first}
 use Rattle.data_encoding.proofs.judgement.RuleLemmas.{IsRuled, IsRuledPadding}
 use Rattle.data_encoding.proofs.text.PaddedTextLemmas.{text_of-unwrapped}
 use Rattle.data_encoding.proofs.text.PlainTextLemmas.{text_by}
 
-not-descending : (x y : ℕ) (xs ys : List ℕ) → y < x → IsBefore (x ∷ xs) (y ∷ ys) → ⊥
-not-descending x y xs ys h before =
-    ⊎_elim (λ (less : x < y). absurd (omega (arith, h, less)))
-    (λ (same : (x ≡ y) × IsBefore xs ys). absurd (omega (arith, h, same.0)))
-    before
-
-behind-first : (x : ℕ) (xs ys : List ℕ) → IsBefore (x ∷ xs) (x ∷ ys) → IsBefore xs ys
-behind-first x xs ys before =
-    ⊎_elim (λ (less : x < x). absurd (omega (arith, less)))
-    (λ (same : (x ≡ x) × IsBefore xs ys). same.1)
-    before
+not-descending : (same : List ℕ) (x y : ℕ) (xs ys : List ℕ) → y < x
+    → IsBefore (same ++ x ∷ xs) (same ++ y ∷ ys) → ⊥
+not-descending [] x y xs ys h (inl less) = omega (arith, h, less)
+not-descending [] x y xs ys h (inr equal) = omega (arith, h, equal.0)
+not-descending (s ∷ same) x y xs ys h (inl less) = omega (arith, less)
+not-descending (s ∷ same) x y xs ys h (inr equal) = not-descending same x y xs ys h equal.1
 
 -- the value of the first symbol of one byte
 abbrev first_value : ℕ → BitOrder → ℕ → ℕ
@@ -96,28 +93,15 @@ padded_by base character width bytes =
 
 -- the padding of one byte against a symbol of the second
 padding-not_before : (base : Base) (character : ℕ) → symbol base 0 < character
-    → (width : ℕ) → IsWidth width → not (8 % width == 0) ≡ true
+    → (width : ℕ) → IsWidth width → (8 % width ≡ 0 → ⊥)
     → IsBefore (padded_by base character width (0 ∷ []))
     (padded_by base character width (0 ∷ 0 ∷ [])) → ⊥
 padding-not_before base character later =
-    by_width (λ w. not (8 % w == 0) ≡ true
-    → IsBefore (padded_by base character w (0 ∷ [])) (padded_by base character w (0 ∷ 0 ∷ []))
-    → ⊥)
-    (λ h. absurd (false≢true h)) (λ h. absurd (false≢true h))
-    (λ h before.
-    not-descending c s (c ∷ c ∷ c ∷ c ∷ []) (s ∷ s ∷ c ∷ c ∷ []) later
-    (behind-first s (c ∷ c ∷ c ∷ c ∷ c ∷ []) (s ∷ s ∷ s ∷ c ∷ c ∷ [])
-    (behind-first s (s ∷ c ∷ c ∷ c ∷ c ∷ c ∷ []) (s ∷ s ∷ s ∷ s ∷ c ∷ c ∷ [])
-    (behind-first s (s ∷ s ∷ c ∷ c ∷ c ∷ c ∷ c ∷ []) (s ∷ s ∷ s ∷ s ∷ s ∷ c ∷ c ∷ []) before))))
-    (λ h. absurd (false≢true h))
-    (λ h before.
-    not-descending c s (c ∷ c ∷ c ∷ c ∷ c ∷ []) (s ∷ c ∷ c ∷ c ∷ c ∷ []) later
-    (behind-first s (c ∷ c ∷ c ∷ c ∷ c ∷ c ∷ []) (s ∷ s ∷ c ∷ c ∷ c ∷ c ∷ [])
-    (behind-first s (s ∷ c ∷ c ∷ c ∷ c ∷ c ∷ c ∷ []) (s ∷ s ∷ s ∷ c ∷ c ∷ c ∷ c ∷ []) before)))
-    (λ h before.
-    not-descending c s (c ∷ []) (c ∷ []) later
-    (behind-first s (c ∷ c ∷ []) (s ∷ c ∷ [])
-    (behind-first s (s ∷ c ∷ c ∷ []) (s ∷ s ∷ c ∷ []) before))) where
+    partly (λ w. IsBefore (padded_by base character w (0 ∷ []))
+    (padded_by base character w (0 ∷ 0 ∷ [])) → ⊥)
+    (not-descending (s ∷ s ∷ s ∷ []) c s (c ∷ c ∷ c ∷ c ∷ []) (s ∷ s ∷ c ∷ c ∷ []) later)
+    (not-descending (s ∷ s ∷ []) c s (c ∷ c ∷ c ∷ c ∷ c ∷ []) (s ∷ c ∷ c ∷ c ∷ c ∷ []) later)
+    (not-descending (s ∷ s ∷ []) c s (c ∷ []) (c ∷ []) later) where
       c : ℕ
       c = character
 
@@ -163,7 +147,7 @@ module _ (base : Base) (ruled : IsRuled base) (unwrapped : base.wrapping ≡ Non
         others_are_bytes = one_byte other below;
         in_order = inl less;
         not_in_order =
-            λ before. not-descending (symbol base value) (symbol base next) one.0 two.0 descends
+            λ before. not-descending [] (symbol base value) (symbol base next) one.0 two.0 descends
             (subst (λ l. IsBefore l (symbol base next ∷ two.0))
             (one.1 ∙ ap (λ v. symbol base v ∷ one.0) is)
             (subst (IsBefore (text_of base (byte ∷ []))) (two.1
@@ -221,15 +205,15 @@ module _ (base : Base) (ruled : IsRuled base) (unwrapped : base.wrapping ≡ Non
       λ bytes. text_of-unwrapped base bytes unwrapped
       ∙ (λ i. with_padding (padded i) (group_symbols base.width)
       (text_by base base.width (is i) (bits_of_bytes (is i) bytes))) in
-      let rule : not (8 % base.width == 0) ≡ true =
-      (subst (λ o. IsRuledPadding base o) padded ruled.padding).2 in
+      let rule = (subst (λ o. IsRuledPadding base o) padded ruled.padding).2 in
       record {
         are_bytes = one_byte 0 (omega arith);
         others_are_bytes =
             All-from_recursion (λ b. b < 256) (0 ∷ 0 ∷ []) (omega arith, (omega arith, tt));
         in_order = inr (refl, tt);
         not_in_order =
-            λ before. padding-not_before base character later base.width ruled.is_width rule
+            λ before. padding-not_before base character later base.width ruled.is_width
+            (test_apart (8 % base.width) 0 rule)
             (subst (λ l. IsBefore l (padded_by base character base.width (0 ∷ 0 ∷ [])))
             (written (0 ∷ []))
             (subst (IsBefore (text_of base (0 ∷ []))) (written (0 ∷ 0 ∷ [])) before));

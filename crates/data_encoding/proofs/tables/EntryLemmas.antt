@@ -1,5 +1,5 @@
 -- The table of values, and what its entries mean.
-use Rattle.std.proofs.Common.{◌≡◌, ◌≢◌, ℕ, ◌+◌, ◌-◌, ◌<◌, ◌≤◌, ◌==◌, Bool, true, false, nat_le, if◌then◌else◌, List, length, map, take, get_or, Result, Ok, Err, refl, sym, ap, ◌∙◌, subst, arith, ⊎_elim}
+use Rattle.std.proofs.Common.{◌≡◌, ◌≢◌, ℕ, ◌+◌, ◌-◌, ◌<◌, ◌≤◌, ◌==◌, Bool, true, false, not, nat_le, if◌then◌else◌, List, length, map, take, get_or, Result, Ok, Err, refl, sym, ap, ◌∙◌, subst, arith, ⊎_elim}
 use Rattle.std.proofs.lemmas.Bool.Decides.{nat_tests}
 use Rattle.std.proofs.lemmas.Bool.{cases_lt}
 use Rattle.std.proofs.lemmas.List.{get_or-drop, get_or-replicate, get_or_past, length-map, get_or-map, get_or-take, length-take-le, length-drop, length-replicate, drop-set-lt, map-set}
@@ -9,6 +9,7 @@ use Rattle.data_encoding.specs.declared.encoding.Character.{Character}
 use Rattle.data_encoding.specs.declared.encoding.Character.TheVariants.{Symbol, Padding, Ignored, Invalid}
 use Rattle.data_encoding.specs.declared.specification.meanings.Refusal.{Refusal}
 use Rattle.data_encoding.specs.declared.specification.meanings.Refusal.TheVariants.{NotAscii, Duplicate}
+use Rattle.data_encoding.specs.Base.{is_ignored}
 use Rattle.data_encoding.specs.Entries.{meaning_of_entry, is_entry_of, HoldsEntries}
 use Rattle.data_encoding.specs.Fields.{defined, is_same}
 use Rattle.data_encoding.specs.Layout.{code_of}
@@ -20,6 +21,12 @@ entry_back v h = grind (arith, nat_tests)
 
 same_number : (a b : ℕ) → (a == b) ≡ true → a ≡ b
 same_number a b h = grind (arith, nat_tests)
+
+pub apart_test : (a b : ℕ) → a ≢ b → not (a == b) ≡ true
+apart_test a b h = grind (arith, nat_tests)
+
+pub test_apart : (a b : ℕ) → not (a == b) ≡ true → a ≢ b
+test_apart a b h same = grind (arith, nat_tests)
 
 own_number : (a : ℕ) → (a == a) ≡ true
 own_number a = grind (arith, nat_tests)
@@ -34,6 +41,13 @@ same-is_same Padding Padding h = refl
 same-is_same Ignored Ignored h = refl
 same-is_same Invalid Invalid h = refl
 same-is_same _ _ h = cc
+
+pub ignored-is : (m : Character) → is_ignored m ≡ true → m ≡ Ignored
+ignored-is Ignored h = refl
+ignored-is _ h = cc
+
+pub ignored_entry : (v : ℕ) → is_ignored (meaning_of_entry v) ≡ (v == 129)
+ignored_entry v = grind (arith, nat_tests)
 
 pub false_or : (b : Bool) → (b ≡ true → ⊥) → b ≡ false
 false_or true h = absurd (h refl)

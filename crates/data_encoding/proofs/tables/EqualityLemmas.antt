@@ -31,19 +31,17 @@ AreSame e f =
 lines-same : (m n : ℕ) (xs ys : List ℕ) (v w : ℕ) (vs ws : List ℕ) → KeepsWrapping m xs v vs
     → KeepsWrapping n ys w ws → wrapping_by m xs ≡ wrapping_by n ys → (m ≡ n) × (xs ≡ ys)
 lines-same zero zero xs ys v w vs ws h k e = (refl, h ∙ sym k)
-lines-same zero (suc n) xs ys v w vs ws h k e = cc
-lines-same (suc m) zero xs ys v w vs ws h k e = cc
 lines-same (suc m) (suc n) xs ys v w vs ws h k e =
     let same : record { column = suc m; separator = xs } ≡ record { column = suc n; separator = ys }
     = cc in
     (ap (λ (l : Wrapping). l.column) same, ap (λ (l : Wrapping). l.separator) same)
+lines-same _ _ xs ys v w vs ws h k e = cc
 
 paddings-Decides : (o p : Option ℕ) → Decides (option_eq ◌==◌ o p) (o ≡ p)
 paddings-Decides None None = (λ h. refl, λ h. refl)
-paddings-Decides None (Some y) = (λ h. cc, λ h. cc)
-paddings-Decides (Some x) None = (λ h. cc, λ h. cc)
 paddings-Decides (Some x) (Some y) =
     Decides-like (x == y) (λ h. ap (λ n. Some n) h) (λ h. cc) (Decides-eqb x y)
+paddings-Decides _ _ = (λ h. cc, λ h. cc)
 
 -- the symbols are among the first 64 of their table
 symbols-first : (e : EncodingTables) → KeepsRules e
@@ -70,37 +68,22 @@ module _ {e f : EncodingTables} (he : KeepsRules e) (hf : KeepsRules f) where
 
   tables-same : base_of_tables e ≡ base_of_tables f → AreSame e f
   tables-same is =
-      let symbols : e.symbols ≡ f.symbols =
-      he.symbols_repeat
+      let symbols : take 64 e.symbols ≡ take 64 f.symbols =
+      ap (take 64) (he.symbols_repeat
       ∙ ap (λ (base : Base). concat (replicate (256 / 2 ^ base.width) base.symbols)) is
-      ∙ sym hf.symbols_repeat in
+      ∙ sym hf.symbols_repeat) in
       let values : take 128 e.values ≡ take 128 f.values =
       sym (codes-back (take 128 e.values) (HoldsEntries-tables e he).entries)
       ∙ ap (λ (base : Base). map code_of base.meanings) is
       ∙ codes-back (take 128 f.values) (HoldsEntries-tables f hf).entries in
       let lines = lines-same e.column f.column e.separator f.separator _ _ _ _
-      he.wrapping hf.wrapping (ap (λ (base : Base). base.wrapping) is) in (
-        (
-          (
-            (
-              (
-                (
-                  (
-                    (ap (λ (base : Base). base.width) is, ap (λ (base : Base). base.order) is),
-                    ap (λ (base : Base). base.checks_trailing_bits) is,
-                  ),
-                  ap (λ (base : Base). base.concatenates) is,
-                ),
-                ap (λ (base : Base). base.padding) is,
-              ),
-              lines.0,
-            ),
-            ap (take 64) symbols,
-          ),
-          values,
-        ),
-        lines.1,
-      )
+      he.wrapping hf.wrapping (ap (λ (base : Base). base.wrapping) is) in
+      let width = ap (λ (base : Base). base.width) is in
+      let order = ap (λ (base : Base). base.order) is in
+      let checks = ap (λ (base : Base). base.checks_trailing_bits) is in
+      let concatenates = ap (λ (base : Base). base.concatenates) is in
+      let padding = ap (λ (base : Base). base.padding) is in
+      ((((((((width, order), checks), concatenates), padding), lines.0), symbols), values), lines.1)
 
   -- what the comparison of the tables tells, whatever compares the orders
   pub base-Decides : {result order : Bool} {a b : Base} → base_of_tables e ≡ a

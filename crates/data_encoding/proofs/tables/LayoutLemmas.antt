@@ -8,7 +8,7 @@ use Rattle.data_encoding.specs.Base.{ignores_some, is_ignored}
 use Rattle.data_encoding.specs.Encoding.{EncodingTables, KeepsRules, base_of_tables, wrapping_by}
 use Rattle.data_encoding.specs.Entries.{is_entry_of, meaning_of_entry}
 use Rattle.data_encoding.specs.Layout.{code_of, layout, order_flag, wrapping_bytes}
-use Rattle.data_encoding.proofs.tables.EntryLemmas.{entry_back}
+use Rattle.data_encoding.proofs.tables.EntryLemmas.{entry_back, ignored_entry}
 use Rattle.data_encoding.proofs.tables.TableRuleLemmas.{HoldsEntries-tables}
 
 pub meaning-ignored : (v : ℕ) → v ≡ 129 → Ignored ≡ meaning_of_entry v
@@ -20,14 +20,11 @@ meaning-padding v h = ap meaning_of_entry (sym h)
 pub meaning-invalid : (v : ℕ) → 64 ≤ v → v ≢ 129 → v ≢ 130 → Invalid ≡ meaning_of_entry v
 meaning-invalid v h k l = grind (arith, nat_tests)
 
-entry-ignored : (v : ℕ) → (v == 129) ≡ is_ignored (meaning_of_entry v)
-entry-ignored v = grind (arith, nat_tests)
-
 -- whether some byte is ignored, by its entry
 pub any-ignored : (values : List ℕ)
     → list_any (λ v. v == 129) values ≡ list_any is_ignored (map meaning_of_entry values)
 any-ignored [] = refl
-any-ignored (v ∷ values) = λ i. entry-ignored v i || any-ignored values i
+any-ignored (v ∷ values) = λ i. sym (ignored_entry v) i || any-ignored values i
 
 pub codes-back : (values : List ℕ) → list_all (is_entry_of 64) values ≡ true
     → map code_of (map meaning_of_entry values) ≡ values

@@ -1,5 +1,6 @@
 -- Bytes are the layout of a base exactly where they keep the rules of layouts.
 use Rattle.std.proofs.Common.{◌≡◌, ◌≢◌, ◌⊎◌, ℕ, zero, suc, ◌+◌, ◌-◌, ◌*◌, ◌/◌, ◌%◌, ◌^◌, ◌<◌, ◌≤◌, ◌==◌, Bool, true, false, not, ◌||◌, cond, nat_lt, List, [], ◌∷◌, ◌++◌, length, map, take, drop, replicate, get_or, Option, Some, None, is_none, unwrap_or, refl, sym, ap, ◌∙◌, subst, arith, inl, inr, ⊎_elim, append_assoc, drop-cons, drop_of_length-le, length-drop}
+use Rattle.std.proofs.Math.Bool.{or-true}
 use Rattle.std.proofs.Math.Nat.{mod-lt, mod-eq_of_lt}
 use Rattle.std.proofs.lemmas.Bool.{cases_Bool, eq-eqb, eqb-true, lt-ltb, ltb-true}
 use Rattle.std.proofs.lemmas.Bool.Decides.{nat_tests}
@@ -22,9 +23,10 @@ use Rattle.data_encoding.proofs.lists.EachLemmas.{all-at, list_all-places, none_
 use Rattle.data_encoding.proofs.lists.RepeatLemmas.{get_or-repeats, length-repeats}
 use Rattle.data_encoding.proofs.judgement.RoundTripLemmas.{IsSpecified-ruled}
 use Rattle.data_encoding.proofs.judgement.RuleLemmas.{IsRuled, IsRuledPadding, IsRuledWrapping, IsRuled-yield, is_no_padding, is_within}
+use Rattle.data_encoding.proofs.tables.EntryLemmas.{apart_test, ignored-is, test_apart}
 use Rattle.data_encoding.proofs.tables.LayoutLemmas.{codes-back}
 use Rattle.data_encoding.proofs.tables.ReadingLemmas.{IsReadAs, code-read, end-read, ends, flags, high-read, is_read_as, long-layout, symbol-read, symbol_table}
-use Rattle.data_encoding.proofs.tables.TableRuleLemmas.{value-symbol}
+use Rattle.data_encoding.proofs.tables.TableRuleLemmas.{entry-no_padding, entry-weaker, entry-within, value-symbol}
 
 -- what holds of each member by its place
 places : (P : ℕ → Type 0) (xs : List ℕ) → ((i : ℕ) → i < length xs → P (get_or xs i 0))
@@ -60,21 +62,6 @@ code-padding n (Symbol value) few h k e = omega (arith, few, ltb-true value n h,
 code-padding n Padding few h k e = cc
 code-padding n _ few h k e = omega (arith, e)
 
-or_true : (a b : Bool) → (a || b) ≡ a → b ≡ true → a ≡ true
-or_true true b h k = refl
-or_true false b h k = sym h ∙ k
-
-or_false : (a b : Bool) → (a || b) ≡ a → a ≡ false → b ≡ false
-or_false true b h k = cc
-or_false false b h k = h
-
-ignored-is : (m : Character) → is_ignored m ≡ true → m ≡ Ignored
-ignored-is Ignored h = refl
-ignored-is _ h = cc
-
-no_eight : (n : ℕ) → not (n == 0) ≡ true → n ≢ 0
-no_eight n h e = grind (arith, nat_tests)
-
 -- a base, and its layout
 module _ (base : Base) (ruled : IsRuled base) where
   abbrev count : ℕ
@@ -103,8 +90,9 @@ module _ (base : Base) (ruled : IsRuled base) where
   checked-flag whole =
       eqb-true (get_or (layout base) 513 0 / 16 % 2) 1
       ((read).has_flags.checks_is
-      ∙ or_true base.checks_trailing_bits (8 % base.width == 0) ruled.checked
-      (eq-eqb (8 % base.width) 0 whole))
+      ∙ sym ruled.checked
+      ∙ ap (λ b. base.checks_trailing_bits || b) (eq-eqb (8 % base.width) 0 whole)
+      ∙ or-true base.checks_trailing_bits)
 
   has-padding : (o : Option ℕ) → IsRuledPadding base o → is_none o ≡ false → unwrap_or o 128 < 128
   has-padding None rule h = cc
@@ -116,7 +104,7 @@ module _ (base : Base) (ruled : IsRuled base) where
       sym (read).has_flags.concatenates_is ∙ ap (λ n. n == 0) set in
       subst (λ n. n < 128) (sym (end-read base ruled 0))
       (has-padding base.padding ruled.padding
-      (or_false base.concatenates (is_none base.padding) ruled.concatenated single))
+      (sym (ap (λ b. b || is_none base.padding) single) ∙ ruled.concatenated ∙ single))
 
   symbol-own : (value : ℕ) → value < count
       → get_or (layout base) value 0 ≡ get_or base.symbols value 0
@@ -155,7 +143,7 @@ module _ (base : Base) (ruled : IsRuled base) where
       inr (
         subst (λ n. n < 128) (sym is) rule.0,
         ap (entry_in (layout base)) is ∙ code-read base ruled character rule.0 ∙ ap code_of rule.1,
-        λ e. no_eight (8 % base.width) rule.2 e,
+        test_apart (8 % base.width) 0 rule.2,
       )
 
   -- where it is told that a byte is ignored, it is
@@ -240,22 +228,8 @@ entry-is n v (inl less) = grind (arith, nat_tests)
 entry-is n v (inr between) =
     let from = between.0 in let to = between.1 in grind (arith, nat_tests)
 
-entry-more : (n v : ℕ) → n ≤ 64 → (v < n) ⊎ ((128 ≤ v) × (v ≤ 130)) → is_entry_of 64 v ≡ true
-entry-more n v few (inl less) = grind (arith, nat_tests)
-entry-more n v few (inr between) =
-    let from = between.0 in let to = between.1 in grind (arith, nat_tests)
-
-entry-within : (n v : ℕ) → is_entry_of n v ≡ true → is_within n (meaning_of_entry v) ≡ true
-entry-within n v h = grind (arith, nat_tests)
-
-entry-no_padding : (v : ℕ) → v ≢ 130 → is_no_padding (meaning_of_entry v) ≡ true
-entry-no_padding v h = grind (arith, nat_tests)
-
 entry-not_ignored : (v : ℕ) → v ≢ 129 → is_ignored (meaning_of_entry v) ≡ false
 entry-not_ignored v h = grind (arith, nat_tests)
-
-eight-no : (n : ℕ) → n ≢ 0 → not (n == 0) ≡ true
-eight-no n h = grind (arith, nat_tests)
 
 abbrev sum_of_flags : ℕ → ℕ
 sum_of_flags sum =
@@ -362,12 +336,12 @@ module _ (bytes : List ℕ) (width : ℕ) (width_is : get_or bytes 513 0 % 8 ≡
       (list_all-places is_no_padding (map meaning_of_entry low) Invalid (λ i h.
       let few : i < 128 = omega (arith, h, length-map low meaning_of_entry, long-low) in
       ap is_no_padding (meaning-at i few)
-      ∙ entry-no_padding (entry_in bytes i) (none.1 i few)))
+      ∙ entry-no_padding (entry_in bytes i) (apart_test (entry_in bytes i) 130 (none.1 i few))))
   ruled-padding (inr some) =
       subst (IsRuledPadding told) (sym (padding_in-some (get_or bytes 512 0) some.0)) (
         some.0,
         meaning-at (get_or bytes 512 0) some.0 ∙ ap meaning_of_entry some.1,
-        eight-no (8 % width) some.2,
+        apart_test (8 % width) 0 some.2,
       )
 
   ignored-at : (byte : ℕ) → IsIgnoredIn bytes byte → meaning told byte ≡ Ignored
@@ -452,7 +426,8 @@ module _ (bytes : List ℕ) (width : ℕ) (width_is : get_or bytes 513 0 % 8 ≡
       codes-back low (list_all-places (is_entry_of 64) low 0 (λ i h.
       let few : i < 128 = omega (arith, h, long-low) in
       ap (is_entry_of 64) (low-at i few)
-      ∙ entry-more size (entry_in bytes i) size-few (rule.entries i few)))
+      ∙ entry-weaker size (entry_in bytes i) size-few
+      (entry-is size (entry_in bytes i) (rule.entries i few))))
 
   high-is : replicate 128 128 ≡ take 128 (drop 384 bytes)
   high-is =

@@ -20,6 +20,7 @@ use Rattle.data_encoding.specs.Tables.{HasTables}
 use Rattle.data_encoding.proofs.digits.WidthLemmas.{symbols-few, times_symbols, times-pos}
 use Rattle.data_encoding.proofs.lists.RepeatLemmas.{length-repeats, take-repeats}
 use Rattle.data_encoding.proofs.judgement.RuleLemmas.{IsRuled, IsRuledPadding, IsRuledWrapping, IsRuled-yield, is_within}
+use Rattle.data_encoding.proofs.tables.EntryLemmas.{ignored_entry}
 use Rattle.data_encoding.proofs.tables.TableRuleLemmas.{value-symbol}
 
 -- a byte is ignored where its entry says so
@@ -29,9 +30,7 @@ pub ignored-at : (base : Base) (tables : Tables) → HasTables base tables → (
 ignored-at base tables has byte h =
     ap (λ l. is_ignored (get_or l byte Invalid)) has.meanings
     ∙ ap is_ignored (get_or-map meaning_of_entry tables.values.now byte 0 Invalid h)
-    ∙ by_entry (get_or tables.values.now byte 0) where
-      by_entry : (v : ℕ) → is_ignored (meaning_of_entry v) ≡ (v == 129)
-      by_entry v = grind (arith, nat_tests)
+    ∙ ignored_entry (get_or tables.values.now byte 0)
 
 abbrev pub flags : ℕ → BitOrder → Bool → Bool → ℕ
 flags w o c s = w + order_flag o + (if c then 16 else 0) + (if s then 0 else 32)

@@ -9,7 +9,7 @@ use Rattle.data_encoding.specs.Base.{Base, symbol, is_ignored, is_padding, is_sy
 use Rattle.data_encoding.specs.Encoding.{EncodingTables, KeepsPadding, KeepsRules, base_of_tables}
 use Rattle.data_encoding.specs.Entries.{is_entry_of, meaning_of_entry}
 use Rattle.data_encoding.specs.Tables.{HoldsSymbols, HoldsValues, Reads, Writes}
-use Rattle.data_encoding.proofs.tables.EntryLemmas.{high_entry, length-low, meaning-any}
+use Rattle.data_encoding.proofs.tables.EntryLemmas.{high_entry, ignored_entry, length-low, meaning-any}
 use Rattle.data_encoding.proofs.tables.TableRuleLemmas.{HoldsEntries-tables, IsWidth-tables, length-symbols, symbol-ascii, value-symbol}
 use Rattle.data_encoding.proofs.lists.EachLemmas.{passes_at}
 use Rattle.data_encoding.proofs.digits.WidthLemmas.{symbols-few, times_symbols}
@@ -19,21 +19,10 @@ small_entry : (v count : ℕ) → is_entry_of count v ≡ true → v < 128 → v
 small_entry v count h k = grind (arith, nat_tests)
 
 no_symbol : (v : ℕ) → 128 ≤ v → is_symbol (meaning_of_entry v) ≡ false
-no_symbol v h =
-    let large : nat_lt v 64 ≡ false = grind (arith, nat_tests) in
-    ap (λ b. is_symbol (cond b (Symbol v)
-    (cond (v == 129) Ignored (cond (v == 130) Padding Invalid)))) large
-    ∙ others (v == 129) (v == 130) where
-      others : (a b : Bool) → is_symbol (cond a Ignored (cond b Padding Invalid)) ≡ false
-      others true b = refl
-      others false true = refl
-      others false false = refl
+no_symbol v h = grind (arith, nat_tests)
 
 padding_entry : (v : ℕ) → is_padding (meaning_of_entry v) ≡ (v == 130)
 padding_entry v = grind (arith, nat_tests)
-
-ignored_entry : (v : ℕ) → is_ignored (meaning_of_entry v) ≡ (v == 129)
-ignored_entry v = grind (arith, nat_tests)
 
 module _ (e : EncodingTables) (rules : KeepsRules e) where
   -- an entry that is a value is that of a symbol

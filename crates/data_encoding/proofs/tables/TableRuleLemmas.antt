@@ -1,11 +1,12 @@
 -- The rules on the tables of an encoding are those on its base.
-use Rattle.std.proofs.Common.{◌≡◌, ℕ, zero, suc, ◌%◌, ◌/◌, ◌^◌, ◌<◌, ◌≤◌, ◌==◌, Bool, true, false, not, ◌||◌, nat_lt, cond, List, [], ◌∷◌, length, map, take, get_or, replicate, Option, Some, None, is_none, is_some, refl, sym, ap, ◌∙◌, arith, ⊎_elim}
+use Rattle.std.proofs.Common.{◌≡◌, ◌↔◌, ℕ, zero, suc, ◌%◌, ◌/◌, ◌^◌, ◌<◌, ◌≤◌, ◌==◌, Bool, true, false, not, ◌||◌, nat_lt, cond, List, [], ◌∷◌, length, map, take, get_or, replicate, Option, Some, None, is_none, is_some, refl, sym, ap, ◌∙◌, arith, ⊎_elim}
 use Rattle.std.proofs.lemmas.Bool.{eqb-true, eq-eqb, lt-ltb, ltb-true, cases_lt}
 use Rattle.std.proofs.lemmas.Bool.Decides.{nat_tests}
 use Rattle.std.proofs.lemmas.List.{ext_get_or, get_or-map, get_or_past, length-map}
 use Rattle.std.proofs.lemmas.List.FromFn.{get_or-range_with_len, length-range_with_len}
 use Rattle.std.specs.Cmp.{first_so, second_so}
 use Rattle.std.specs.List.{AllByRecursion, concat, list_all, range_with_len}
+use Rattle.data_encoding.specs.declared.encoding.Character.{Character}
 use Rattle.data_encoding.specs.declared.encoding.Character.TheVariants.{Symbol, Padding, Ignored, Invalid}
 use Rattle.data_encoding.specs.Base.{meaning, ignores_some, IsWidth}
 use Rattle.data_encoding.specs.Encoding.{EncodingTables, KeepsPadding, KeepsRules, KeepsWrapping, base_of_tables, wrapping_by}
@@ -20,10 +21,10 @@ use Rattle.data_encoding.proofs.judgement.RuleLemmas.{IsRuled, IsRuledPadding, I
 use Rattle.data_encoding.proofs.digits.WidthLemmas.{symbols-few}
 
 -- one entry, and its meaning
-entry-weaker : (count v : ℕ) → count ≤ 64 → is_entry_of count v ≡ true → is_entry_of 64 v ≡ true
+pub entry-weaker : (count v : ℕ) → count ≤ 64 → is_entry_of count v ≡ true → is_entry_of 64 v ≡ true
 entry-weaker count v few h = grind (arith, nat_tests)
 
-entry-within : (count v : ℕ) → is_entry_of count v ≡ true
+pub entry-within : (count v : ℕ) → is_entry_of count v ≡ true
     → is_within count (meaning_of_entry v) ≡ true
 entry-within count v h = grind (arith, nat_tests)
 
@@ -31,53 +32,35 @@ within-entry : (count v : ℕ) → is_entry_of 64 v ≡ true → is_within count
     → is_entry_of count v ≡ true
 within-entry count v h k = grind (arith, nat_tests)
 
-entry-no_padding : (v : ℕ) → not (v == 130) ≡ true → is_no_padding (meaning_of_entry v) ≡ true
+pub entry-no_padding : (v : ℕ) → not (v == 130) ≡ true → is_no_padding (meaning_of_entry v) ≡ true
 entry-no_padding v h = grind (arith, nat_tests)
 
 no_padding-entry : (v : ℕ) → is_no_padding (meaning_of_entry v) ≡ true → not (v == 130) ≡ true
 no_padding-entry v h = grind (arith, nat_tests)
 
 pub value-symbol : (v : ℕ) → v < 64 → meaning_of_entry v ≡ Symbol v
-value-symbol v h =
-    ap (λ b. cond b (Symbol v) (cond (v == 129) Ignored (cond (v == 130) Padding Invalid)))
-    (lt-ltb v 64 h)
+value-symbol v h = grind (arith, nat_tests)
 
 all-weaker : {X : Type 0} (a b : X → Bool) → ((x : X) → a x ≡ true → b x ≡ true) → (xs : List X)
     → list_all a xs ≡ true → list_all b xs ≡ true
 all-weaker a b step xs h = list_all-both a a b (λ x e f. step x e) xs h h
 
-symbol_entry : (v n : ℕ) → is_entry_of 64 v ≡ true → meaning_of_entry v ≡ Symbol n → v ≡ n
-symbol_entry v n h e = sym (entry_back v h) ∙ ap code_of e
+entry_code : (v : ℕ) (m : Character) → is_entry_of 64 v ≡ true → meaning_of_entry v ≡ m
+    → v ≡ code_of m
+entry_code v m h e = sym (entry_back v h) ∙ ap code_of e
 
-padding_entry : (v : ℕ) → is_entry_of 64 v ≡ true → meaning_of_entry v ≡ Padding → v ≡ 130
-padding_entry v h e = sym (entry_back v h) ∙ ap code_of e
-
-ignored_entry : (v : ℕ) → is_entry_of 64 v ≡ true → meaning_of_entry v ≡ Ignored → v ≡ 129
-ignored_entry v h e = sym (entry_back v h) ∙ ap code_of e
-
-checked-rule : (check whole : Bool) → (check || not whole) ≡ true → (check || whole) ≡ check
-checked-rule true whole h = refl
-checked-rule false true h = cc
-checked-rule false false h = refl
-
-rule-checked : (check whole : Bool) → (check || whole) ≡ check → (check || not whole) ≡ true
-rule-checked true whole h = refl
-rule-checked false true h = cc
-rule-checked false false h = refl
+checked-rule : (check whole : Bool)
+    → ((check || not whole) ≡ true) ↔ ((check || whole) ≡ check)
+checked-rule true whole = (λ h. refl, λ h. refl)
+checked-rule false true = (λ h. cc, λ h. cc)
+checked-rule false false = (λ h. refl, λ h. refl)
 
 concatenated-rule : (concatenates : Bool) (padding : Option ℕ)
-    → (concatenates || is_some padding) ≡ true
-    → (concatenates || is_none padding) ≡ concatenates
-concatenated-rule true padding h = refl
-concatenated-rule false (Some character) h = refl
-concatenated-rule false None h = cc
-
-rule-concatenated : (concatenates : Bool) (padding : Option ℕ)
-    → (concatenates || is_none padding) ≡ concatenates
-    → (concatenates || is_some padding) ≡ true
-rule-concatenated true padding h = refl
-rule-concatenated false (Some character) h = refl
-rule-concatenated false None h = cc
+    → ((concatenates || is_some padding) ≡ true)
+    ↔ ((concatenates || is_none padding) ≡ concatenates)
+concatenated-rule true padding = (λ h. refl, λ h. refl)
+concatenated-rule false (Some character) = (λ h. refl, λ h. refl)
+concatenated-rule false None = (λ h. cc, λ h. cc)
 
 -- from the tables to the base
 module _ (e : EncodingTables) (rules : KeepsRules e) where
@@ -189,8 +172,8 @@ module _ (e : EncodingTables) (rules : KeepsRules e) where
   IsRuled-tables = record {
     is_width = IsWidth-tables;
     count = length-symbols;
-    checked = checked-rule e.checks_trailing_bits (8 % e.width == 0) rules.whole_checked;
-    concatenated = concatenated-rule e.concatenates e.padding rules.unpadded_concatenates;
+    checked = (checked-rule e.checks_trailing_bits (8 % e.width == 0)).0 rules.whole_checked;
+    concatenated = (concatenated-rule e.concatenates e.padding).0 rules.unpadded_concatenates;
     long =
         length-map (take 128 e.values) meaning_of_entry
         ∙ length-low e.values (HoldsEntries-tables);
@@ -224,7 +207,7 @@ module _ (e : EncodingTables) (ruled : IsRuled (base_of_tables e))
   own-entry i h =
       let own = ruled.own i h in
       let s = get_or (take (2 ^ e.width) e.symbols) i 0 in
-      symbol_entry (get_or e.values s 0) i (is_entry-low e.values holds s own.0)
+      entry_code (get_or e.values s 0) (Symbol i) (is_entry-low e.values holds s own.0)
       (sym (meaning-low e.values holds s own.0) ∙ own.1)
 
   own-values : map (λ s. get_or e.values s 0) (take (2 ^ e.width) e.symbols)
@@ -249,7 +232,7 @@ module _ (e : EncodingTables) (ruled : IsRuled (base_of_tables e))
       (sym (list_all-map is_no_padding meaning_of_entry (take 128 e.values)) ∙ rule)
   keeps-padding (Some character) rule = (
     rule.0,
-    padding_entry (get_or e.values character 0) (is_entry-low e.values holds character rule.0)
+    entry_code (get_or e.values character 0) Padding (is_entry-low e.values holds character rule.0)
         (sym (meaning-low e.values holds character rule.0) ∙ rule.1),
     rule.2,
   )
@@ -261,7 +244,7 @@ module _ (e : EncodingTables) (ruled : IsRuled (base_of_tables e))
   keeps-separator (byte ∷ bytes) all =
       list_all-cons (λ b. get_or e.values b 0 == 129) byte bytes
       (eq-eqb (get_or e.values byte 0) 129
-      (ignored_entry (get_or e.values byte 0) (is_entry-low e.values holds byte all.0.0)
+      (entry_code (get_or e.values byte 0) Ignored (is_entry-low e.values holds byte all.0.0)
       (sym (meaning-low e.values holds byte all.0.0) ∙ all.0.1)))
       (keeps-separator bytes all.1)
 
@@ -278,8 +261,8 @@ module _ (e : EncodingTables) (ruled : IsRuled (base_of_tables e))
       → (e.column ≡ 0 → e.separator ≡ []) → KeepsRules e
   KeepsRules-ruled ignores repeat none = record {
     is_width = ruled.is_width;
-    unpadded_concatenates = rule-concatenated e.concatenates e.padding ruled.concatenated;
-    whole_checked = rule-checked e.checks_trailing_bits (8 % e.width == 0) ruled.checked;
+    unpadded_concatenates = (concatenated-rule e.concatenates e.padding).1 ruled.concatenated;
+    whole_checked = (checked-rule e.checks_trailing_bits (8 % e.width == 0)).1 ruled.checked;
     symbols_repeat = repeat;
     symbols_are_ascii =
         list_all-places (λ s. nat_lt s 128) (take (2 ^ e.width) e.symbols) 0

@@ -1,37 +1,24 @@
 use Rattle.std.proofs.Common.{◌∙◌, length, take}
 use Rattle.data_encoding.specs.Encoding.{EncodingTables}
-use Rattle.data_encoding.specs.Fields.{wraps}
 use Rattle.data_encoding.specs.PlainTables.{order_by, padding_by}
 use Rattle.data_encoding.specs.Specification.{fields_of_parts}
 use Rattle.data_encoding.proofs.judgement.BuilderLemmas.{IsMadeOf, lines-short, padding-ascii, rules-made, yields-made}
-use Rattle.data_encoding.proofs.judgement.RuleLemmas.{IsRuled-from, base_from}
 use Rattle.data_encoding.proofs.specification.builder.assembled.Goals as goal
 
 pub padding_entry-requires : goal.padding_entry-requires
 padding_entry-requires c =
-    let fields = fields_of_parts c.args.parts.now in
-    let ruled = IsRuled-from c.args.width fields c.args.meanings c.requires.sized
-    c.requires.width.some
-    c.requires.judged in
-    padding-ascii (base_from c.args.width fields c.args.meanings) fields.padding ruled.padding
+    padding-ascii c.args.width (fields_of_parts c.args.parts.now) c.args.meanings c.requires.sized
+    c.requires.width.some c.requires.judged
 
 pub column_byte-requires : goal.column_byte-requires
-column_byte-requires c =
-    let fields = fields_of_parts c.args.parts.now in
-    let ruled = IsRuled-from c.args.width fields c.args.meanings c.requires.sized
-    c.requires.width.some
-    c.requires.judged in
-    λ on. (lines-short (base_from c.args.width fields c.args.meanings)
-    (wraps fields.column fields.separator) fields.column fields.separator ruled.wrapping on).0
+column_byte-requires c = λ on.
+    (lines-short c.args.width (fields_of_parts c.args.parts.now) c.args.meanings
+    c.requires.sized c.requires.width.some c.requires.judged on).0
 
 pub separator_bytes-separator-requires : goal.separator_bytes-separator-requires
-separator_bytes-separator-requires c =
-    let fields = fields_of_parts c.args.parts.now in
-    let ruled = IsRuled-from c.args.width fields c.args.meanings c.requires.sized
-    c.requires.width.some
-    c.requires.judged in
-    λ on. (lines-short (base_from c.args.width fields c.args.meanings)
-    (wraps fields.column fields.separator) fields.column fields.separator ruled.wrapping on).1
+separator_bytes-separator-requires c = λ on.
+    (lines-short c.args.width (fields_of_parts c.args.parts.now) c.args.meanings
+    c.requires.sized c.requires.width.some c.requires.judged on).1
 
 tables : goal.After-concatenates → EncodingTables
 tables c = record {

@@ -1,7 +1,5 @@
-use Rattle.std.proofs.Common.{List, Ok, Err, ap, sym, ◌∙◌, arith}
+use Rattle.std.proofs.Common.{Err, arith}
 use Rattle.std.proofs.lemmas.Result.{err_from_is_err_and}
-use Rattle.data_encoding.specs.declared.encoding.Character.{Character}
-use Rattle.data_encoding.specs.Fields.{meanings_after, symbol_judgements}
 use Rattle.data_encoding.specs.Specification.{fields_of_parts}
 use Rattle.data_encoding.proofs.judgement.BuilderLemmas.{after-ignored, after-padding, after-symbols, after-translation, after-wrapping}
 use Rattle.data_encoding.proofs.digits.WidthLemmas.{symbols-few}
@@ -14,78 +12,52 @@ define_symbols-requires c =
 
 pub returns-in_err-define_symbols-clause-refused : goal.returns-in_err-define_symbols-clause-refused
 returns-in_err-define_symbols-clause-refused c =
-    let fields = fields_of_parts c.args.parts.now in
-    let start = λ (l : List Character).
-    meanings_after (Ok l) (symbol_judgements 0 fields.symbols) in
-    let first = ap start (sym c.new-meanings.ensures) ∙ c.in_err-define_symbols.ensures.refused in
-    let p = err_from_is_err_and c.from_residual.result
-    c.from_residual.ensures.1 in
-    rw (p.1, p.2) (after-symbols c.args.width fields (Err c.in_err-define_symbols.field-0.0)
-    first)
+    let p = err_from_is_err_and c.from_residual.result c.from_residual.ensures.1 in
+    rw (p.1, p.2) (after-symbols c.args.width (fields_of_parts c.args.parts.now)
+    c.new-meanings.ensures (Err c.in_err-define_symbols.field-0.0)
+    c.in_err-define_symbols.ensures.refused)
 
 pub returns-in_err-define_padding-clause-refused : goal.returns-in_err-define_padding-clause-refused
 returns-in_err-define_padding-clause-refused c =
-    let fields = fields_of_parts c.args.parts.now in
-    let start = λ (l : List Character).
-    meanings_after (Ok l) (symbol_judgements 0 fields.symbols) in
-    let first = ap start (sym c.new-meanings.ensures) ∙ c.in_ok-define_symbols.ensures.defined in
-    let p = err_from_is_err_and c.from_residual-in_err-define_padding.result
-    c.from_residual-in_err-define_padding.ensures.1 in
-    rw (p.1, p.2) (after-padding c.args.width fields _ (Err c.in_err-define_padding.field-0.0)
-    first
+    let p = err_from_is_err_and c.from_residual-in_err-define_padding.result c.from_residual-in_err-define_padding.ensures.1 in
+    rw (p.1, p.2) (after-padding c.args.width (fields_of_parts c.args.parts.now)
+    c.new-meanings.ensures c.in_ok-define_symbols.ensures.defined
+    (Err c.in_err-define_padding.field-0.0)
     c.in_err-define_padding.ensures.refused)
 
 pub returns-in_err-define_ignored-clause-refused : goal.returns-in_err-define_ignored-clause-refused
 returns-in_err-define_ignored-clause-refused c =
-    let fields = fields_of_parts c.args.parts.now in
-    let start = λ (l : List Character).
-    meanings_after (Ok l) (symbol_judgements 0 fields.symbols) in
-    let first = ap start (sym c.new-meanings.ensures) ∙ c.in_ok-define_symbols.ensures.defined in
-    let p = err_from_is_err_and c.from_residual-in_err-define_ignored.result
-    c.from_residual-in_err-define_ignored.ensures.1 in
-    rw (p.1, p.2) (after-ignored c.args.width fields _ _ (Err c.in_err-define_ignored.field-0.0)
-    first
+    let p = err_from_is_err_and c.from_residual-in_err-define_ignored.result c.from_residual-in_err-define_ignored.ensures.1 in
+    rw (p.1, p.2) (after-ignored c.args.width (fields_of_parts c.args.parts.now)
+    c.new-meanings.ensures c.in_ok-define_symbols.ensures.defined
     c.in_ok-define_padding.ensures.defined
+    (Err c.in_err-define_ignored.field-0.0)
     c.in_err-define_ignored.ensures.refused)
 
-pub returns-in_err-define_wrapping-clause-refused :
-    goal.returns-in_err-define_wrapping-clause-refused
+pub returns-in_err-define_wrapping-clause-refused : goal.returns-in_err-define_wrapping-clause-refused
 returns-in_err-define_wrapping-clause-refused c =
-    let fields = fields_of_parts c.args.parts.now in
-    let start = λ (l : List Character).
-    meanings_after (Ok l) (symbol_judgements 0 fields.symbols) in
-    let first = ap start (sym c.new-meanings.ensures) ∙ c.in_ok-define_symbols.ensures.defined in
-    let p = err_from_is_err_and c.from_residual-in_err-define_wrapping.result
-    c.from_residual-in_err-define_wrapping.ensures.1 in
-    rw (p.1, p.2) (after-wrapping c.args.width fields _ _ _
-    (Err c.in_err-define_wrapping.field-0.0) first
+    let p = err_from_is_err_and c.from_residual-in_err-define_wrapping.result c.from_residual-in_err-define_wrapping.ensures.1 in
+    rw (p.1, p.2) (after-wrapping c.args.width (fields_of_parts c.args.parts.now)
+    c.new-meanings.ensures c.in_ok-define_symbols.ensures.defined
     c.in_ok-define_padding.ensures.defined
     c.in_ok-define_ignored.ensures.defined
+    (Err c.in_err-define_wrapping.field-0.0)
     c.in_err-define_wrapping.ensures.refused)
 
 pub returns-in_err-translate-clause-refused : goal.returns-in_err-translate-clause-refused
 returns-in_err-translate-clause-refused c =
-    let fields = fields_of_parts c.args.parts.now in
-    let start = λ (l : List Character).
-    meanings_after (Ok l) (symbol_judgements 0 fields.symbols) in
-    let first = ap start (sym c.new-meanings.ensures) ∙ c.in_ok-define_symbols.ensures.defined in
-    let p = err_from_is_err_and c.from_residual-in_err-translate.result
-    c.from_residual-in_err-translate.ensures.1 in
-    rw (p.1, p.2) (after-translation c.args.width fields _ _ _ _ (Err c.in_err-translate.field-0.0)
-    first
+    let p = err_from_is_err_and c.from_residual-in_err-translate.result c.from_residual-in_err-translate.ensures.1 in
+    rw (p.1, p.2) (after-translation c.args.width (fields_of_parts c.args.parts.now)
+    c.new-meanings.ensures c.in_ok-define_symbols.ensures.defined
     c.in_ok-define_padding.ensures.defined
     c.in_ok-define_ignored.ensures.defined
+    (Err c.in_err-translate.field-0.0)
     c.in_ok-define_wrapping.ensures.defined
     c.in_err-translate.ensures.refused)
 
 pub returns-clause-meanings : goal.returns-clause-meanings
 returns-clause-meanings c =
-    let fields = fields_of_parts c.args.parts.now in
-    let start = λ (l : List Character).
-    meanings_after (Ok l) (symbol_judgements 0 fields.symbols) in
-    let first = ap start (sym c.new-meanings.ensures) ∙ c.in_ok-define_symbols.ensures.defined in
-    after-translation c.args.width fields _ _ _ _ _ first
-    c.in_ok-define_padding.ensures.defined
-    c.in_ok-define_ignored.ensures.defined
-    c.in_ok-define_wrapping.ensures.defined
+    after-translation c.args.width (fields_of_parts c.args.parts.now) c.new-meanings.ensures
+    c.in_ok-define_symbols.ensures.defined c.in_ok-define_padding.ensures.defined
+    c.in_ok-define_ignored.ensures.defined _ c.in_ok-define_wrapping.ensures.defined
     c.in_ok-translate.ensures.defined
