@@ -22,6 +22,7 @@ use std::alloc::{AllocError, Global};
 
 pub mod buffers;
 pub mod names;
+pub mod referenced;
 pub mod stored;
 pub mod streamed;
 

@@ -23,6 +23,7 @@ mod names;
 mod order;
 mod parts;
 mod predefined;
+mod referenced;
 mod resuming;
 mod rewritten;
 mod round_trips;
