@@ -50,7 +50,8 @@ returns-in_default-clause-too_long g c =
     let taken : length more ≡ c.in-Ok.count =
     length-take-le c.in-Ok.count c.fill.new.buffer c.in-Ok.ensures.bound in
     λ _. encoded-past c.args.encoding.now c.encode_piece_len-asked.ensures.base
-    c.join_encode.ensures _ _ _ _ _ c.loop-count.total c.loop-count.invariant.encoded more c.in-Ok.ensures.bytes _
+    c.join_encode.ensures _ _ _ _ _
+    c.loop-count.total c.loop-count.invariant.encoded more c.in-Ok.ensures.bytes _
     (omega (arith, taken, c.in_default.ensures))
 
 pub returns-in_default-write_text-clause-begun : goal.returns-in_default-write_text-clause-begun
