@@ -1,6 +1,7 @@
 -- A group of any base: where its fault is, and that it means something exactly where it has none.
-use Rattle.std.proofs.Common.{◌≡◌, ℕ, zero, suc, ◌+◌, ◌-◌, ◌*◌, ◌/◌, ◌%◌, ◌<◌, ◌≤◌, ◌==◌, nat_lt, Bool, true, false, not, cond, ◌&&◌, ◌||◌, List, [], ◌∷◌, ◌++◌, length, map, take, drop, replicate, Option, Some, None, refl, sym, ap, ◌∙◌, subst, arith, length-append, take-append-drop, length-take-le, ⊎_elim}
-use Rattle.std.proofs.lemmas.Bool.{cases_lt, false≢true}
+use Rattle.std.proofs.Common.{◌≡◌, ℕ, zero, suc, ◌+◌, ◌-◌, ◌*◌, ◌/◌, ◌%◌, ◌<◌, ◌≤◌, ◌==◌, nat_lt, Bool, true, false, not, cond, ◌&&◌, ◌||◌, List, [], ◌∷◌, ◌++◌, length, map, take, drop, replicate, Option, Some, None, refl, sym, ap, ◌∙◌, subst, arith, length-append, take-append-drop, length-take-le}
+use Rattle.std.proofs.Math.Nat.{lt_of_not-le}
+use Rattle.std.proofs.lemmas.Bool.{false≢true}
 use Rattle.std.proofs.lemmas.Bool.Decides.{nat_tests}
 use Rattle.std.proofs.lemmas.List.{length-replicate, take_at, append-nil}
 use Rattle.std.proofs.lemmas.List.Elements.{filter_map-append}
@@ -82,10 +83,6 @@ pub whole-valid : (width : ℕ) → IsWidth width → is_valid_count width (grou
 whole-valid =
     by_width (λ w. is_valid_count w (group_symbols w) ≡ true) refl refl refl refl refl refl
 
--- how many come before the padding is no more than there are
-few_before : (group : List Character) → count_before_padding group ≤ length group
-few_before group = omega arith
-
 module _ (base : Base) (width : IsWidth base.width) (group : List Character)
     (some : 0 < length group) (few : length group ≤ group_symbols base.width) where
   inside-plain : IsInside (length group) (plain_fault base group)
@@ -102,12 +99,11 @@ module _ (base : Base) (width : IsWidth base.width) (group : List Character)
       → count ≤ length group → (count == 0 || not (is_valid_count base.width count)) ≡ true
       → count < length group
   inside-padding whole count most h =
-      ⊎_elim (λ (less : count < length group). less)
+      lt_of_not-le
       (λ (all : length group ≤ count).
       let same : group_symbols base.width ≡ count = grind (arith, nat_tests) in
-      absurd (not_bad base.width count (omega (arith, some, all))
-      (subst (λ n. is_valid_count base.width n ≡ true) same (whole-valid base.width width)) h))
-      (cases_lt count (length group))
+      not_bad base.width count (omega (arith, some, all))
+      (subst (λ n. is_valid_count base.width n ≡ true) same (whole-valid base.width width)) h)
 
   inside-characters : IsInside (length group) (character_fault base group)
   inside-characters =
@@ -116,9 +112,9 @@ module _ (base : Base) (width : IsWidth base.width) (group : List Character)
       (λ padded. inside-either _ (nat_lt (length group) (group_symbols base.width)) _ _
       (λ short. some)
       (λ whole. inside-either _ (count == 0 || not (is_valid_count base.width count)) _ _
-      (λ bad. inside-padding whole count (few_before group) bad)
+      (λ bad. inside-padding whole count (omega arith) bad)
       (λ good. inside-more (length (take count group)) (length group)
-      (omega (arith, length-take-le count group (few_before group)))
+      (omega (arith, length-take-le count group (omega arith)))
       (symbols_fault base (take count group)) (inside-symbols base (take count group)))))
       (λ unpadded. inside-plain)
 
@@ -252,7 +248,7 @@ module _ (base : Base) (width : IsWidth base.width) (padded : is_padded base ≡
       let begun = no_fault-branches (count == 0 || not (is_valid_count base.width count)) _ _
       whole.1 in
       let good = both_false (count == 0) (is_valid_count base.width count) begun.0 in
-      let len : length symbols ≡ count = length-take-le count group (few_before group) in
+      let len : length symbols ≡ count = length-take-le count group (omega arith) in
       let sound : plain_fault base symbols ≡ None =
       plain_fault-valid base symbols (ap (is_valid_count base.width) len ∙ good.1) ∙ begun.1 in
       record {

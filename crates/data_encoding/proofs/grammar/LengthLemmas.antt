@@ -2,7 +2,7 @@
 use Rattle.std.proofs.Common.{◌≡◌, ℕ, ◌*◌, ◌/◌, ◌%◌, ◌==◌, Bool, true, false, not, cond, ◌&&◌, Option, Some, None, Ok, Err, refl, ap, ◌<◌, ◌≤◌, nat_lt, sym, ◌∙◌, arith, ⊎_elim}
 use Rattle.std.proofs.lemmas.Bool.{cases_lt, eqb-true, false≢true}
 use Rattle.std.proofs.lemmas.Bool.Decides.{nat_tests}
-use Rattle.std.proofs.Math.Nat.{mod-eq_of_lt, mod_self}
+use Rattle.std.proofs.Math.Nat.{lt_of_not-le, mod-eq_of_lt, mod_self}
 use Rattle.data_encoding.proofs.digits.WidthLemmas.{by_width}
 use Rattle.data_encoding.specs.declared.error.DecodeKind.TheVariants.{Length as LengthFault}
 use Rattle.data_encoding.specs.declared.error.DecodeError.{DecodeError}
@@ -93,12 +93,11 @@ pub whole-less : (base : Base) → IsWidth base.width → (len : ℕ) → len �
     → is_valid_length base len ≡ false → len < group_symbols base.width
 whole-less base width len few invalid =
     let size = group_symbols base.width in
-    ⊎_elim {C = len < size} (λ less. less)
-    (λ all.
+    lt_of_not-le
+    (λ (all : size ≤ len).
     let same : len ≡ size = omega (arith, all, few) in
-    absurd (false≢true (sym invalid
-    ∙ whole-length base width len (ap (λ n. n % size) same ∙ mod_self size))))
-    (cases_lt len size)
+    false≢true (sym invalid
+    ∙ whole-length base width len (ap (λ n. n % size) same ∙ mod_self size)))
 
 -- and a padded one of a valid length is
 pub valid-whole : (base : Base) (len : ℕ) → 0 < len → is_valid_length base len ≡ true

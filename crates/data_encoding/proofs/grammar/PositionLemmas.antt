@@ -1,6 +1,6 @@
 -- Characters with their places.
 use Rattle.std.proofs.Common.{◌≡◌, ℕ, zero, suc, ◌+◌, ◌<◌, ◌≤◌, false, true, not, List, [], ◌∷◌, ◌++◌, length, map, get_or, refl, sym, ap, ◌∙◌, arith}
-use Rattle.std.proofs.lemmas.List.{map-append, length-map}
+use Rattle.std.proofs.lemmas.List.{length-map}
 use Rattle.std.proofs.lemmas.List.FromFn.{length-enumerate_from}
 use Rattle.std.specs.List.{AllByRecursion, enumerate_from, filter}
 use Rattle.data_encoding.specs.declared.encoding.Character.{Character}
@@ -13,21 +13,13 @@ use Rattle.data_encoding.proofs.digits.WordLemmas.{map-twice}
 use Rattle.data_encoding.proofs.lists.ListLemmas.{AllFail, AllFail-list_any, filter-all, length-filter}
 use Rattle.data_encoding.proofs.lists.RunLemmas.{runs-map}
 
-enumerate_from-append : (n : ℕ) (xs ys : List ℕ)
-    → enumerate_from n (xs ++ ys) ≡ enumerate_from n xs ++ enumerate_from (n + length xs) ys
-enumerate_from-append n [] ys = ap (λ k. enumerate_from k ys) (omega arith)
-enumerate_from-append n (x ∷ xs) ys =
-    ap (λ l. (n, x) ∷ l) (enumerate_from-append (n + 1) xs ys
-    ∙ ap (λ k. enumerate_from (n + 1) xs ++ enumerate_from k ys) (omega arith))
-
 pub positioned_from-append : (place : ℕ) (xs ys : List ℕ)
     → positioned_from place (xs ++ ys)
     ≡ positioned_from place xs ++ positioned_from (place + length xs) ys
-positioned_from-append place xs ys =
-    ap (map (λ (p : ℕ × ℕ). record { position = p.0; byte = p.1 }))
-    (enumerate_from-append place xs ys)
-    ∙ map-append (λ (p : ℕ × ℕ). record { position = p.0; byte = p.1 }) (enumerate_from place xs)
-    (enumerate_from (place + length xs) ys)
+positioned_from-append place [] ys = ap (λ k. positioned_from k ys) (omega arith)
+positioned_from-append place (x ∷ xs) ys =
+    ap (λ l. record { position = place; byte = x } ∷ l) (positioned_from-append (place + 1) xs ys
+    ∙ ap (λ k. positioned_from (place + 1) xs ++ positioned_from k ys) (omega arith))
 
 pub length-positioned_from : (place : ℕ) (text : List ℕ)
     → length (positioned_from place text) ≡ length text

@@ -1,9 +1,9 @@
 -- Tests that all elements of a list pass.
-use Rattle.std.proofs.Common.{◌≡◌, ℕ, zero, suc, ◌+◌, ◌<◌, ◌≤◌, Bool, true, false, ◌&&◌, cond, List, [], ◌∷◌, ◌++◌, length, replicate, get_or, slice_index, refl, ap, ◌∙◌, subst, arith, ⊎_elim}
+use Rattle.std.proofs.Common.{◌≡◌, ℕ, zero, suc, ◌+◌, ◌<◌, ◌≤◌, Bool, true, false, ◌&&◌, cond, List, [], ◌∷◌, ◌++◌, length, replicate, get_or, slice_index, refl, sym, ap, ◌∙◌, subst, arith, ⊎_elim}
 use Rattle.std.proofs.Math.ListN.{set}
 use Rattle.std.specs.Cmp.{first_so, second_so}
 use Rattle.std.specs.List.{AllByRecursion, filter, list_all, list_any, range_with_len}
-use Rattle.std.proofs.lemmas.Bool.{cases_eq}
+use Rattle.std.proofs.lemmas.Bool.{cases_eq, false≢true}
 use Rattle.std.proofs.lemmas.List.Elements.{All-from_get_or, All-from_recursion, All-get_or, All-replicate, All-set, recursion_from_All}
 use Rattle.std.proofs.lemmas.List.Folds.{list_any_none}
 use Rattle.std.proofs.lemmas.List.Sums.{AllPass-from_list_all, list_all-from_AllPass}
@@ -112,7 +112,4 @@ at_in_range P test a (suc n) k all low high h =
           (filter test (range_with_len (a + 1) n)))
           → (test a ≡ true → P a) × AllByRecursion P (filter test (range_with_len (a + 1) n))
       split true is all = ((λ e. all.0), all.1)
-      split false is all = ((λ e. absurd (differ (test a) e is)), all)
-        where
-          differ : (b : Bool) → b ≡ true → b ≡ false → ⊥
-          differ b h k = cc
+      split false is all = ((λ e. absurd (false≢true (sym is ∙ e))), all)

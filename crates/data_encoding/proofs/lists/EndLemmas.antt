@@ -1,8 +1,8 @@
 -- The longest end of a list that passes a test.
-use Rattle.std.proofs.Common.{◌≡◌, ℕ, ◌-◌, ◌<◌, ◌≤◌, Bool, true, false, cond, List, [], ◌∷◌, ◌++◌, length, map, drop, get_or, reverse, refl, sym, ap, ◌∙◌, subst, arith, length-append, take-append-drop, ⊎_elim}
+use Rattle.std.proofs.Common.{◌≡◌, ℕ, ◌-◌, ◌<◌, ◌≤◌, Bool, true, false, cond, List, [], ◌∷◌, ◌++◌, length, map, drop, get_or, reverse, refl, sym, ap, ◌∙◌, subst, arith, length-append, take-append-drop}
 use Rattle.std.specs.List.{AllByRecursion, take_while, prefix_len}
 use Rattle.std.proofs.lemmas.List.{length-map, length-reverse, get_or-reverse, reverse-append, reverse-reverse, map-append, drop_at}
-use Rattle.std.proofs.lemmas.Bool.{cases_lt, false≢true}
+use Rattle.std.proofs.lemmas.Bool.{false≢true}
 use Rattle.std.proofs.lemmas.List.Folds.{length-prefix_len}
 use Rattle.std.proofs.lemmas.List.Sums.{prefix_len-le-length, prefix_len_passes, prefix_len_stops, take_while-cons}
 use Rattle.data_encoding.proofs.lists.ListLemmas.{AllFail}
@@ -117,28 +117,17 @@ count_before_end-at test xs d count within all stops =
     let most = prefix_len-le-length test (reverse xs) in
     let at : (k : ℕ) → k < length xs → get_or (reverse xs) k d ≡ get_or xs (length xs - 1 - k) d =
     λ k h. get_or-reverse xs k d h in
-    let least : length xs - count ≤ n =
-    ⊎_elim
-    (λ (few : n < length xs - count).
-    absurd (false≢true (sym (prefix_len_stops test (reverse xs) d (omega (arith, few, len)))
+    let least : n < length xs - count → ⊥ =
+    λ few.
+    false≢true (sym (prefix_len_stops test (reverse xs) d (omega (arith, few, len)))
     ∙ ap test (at n (omega (arith, few)))
-    ∙ all (length xs - 1 - n) (omega (arith, few)) (omega (arith, few)))))
-    (λ (enough : length xs - count ≤ n). enough)
-    (cases_lt n (length xs - count)) in
-    let no_more : n ≤ length xs - count =
-    ⊎_elim
-    (λ (many : length xs - count < n).
-    let place : length xs - 1 - (length xs - count) ≡ count - 1 = omega (
-      arith,
-      many,
-      most,
-      len,
-      within,
-    ) in
-    absurd (false≢true (sym (stops (omega (arith, many, most, len)))
+    ∙ all (length xs - 1 - n) (omega (arith, few)) (omega (arith, few))) in
+    let no_more : length xs - count < n → ⊥ =
+    λ many.
+    let place : length xs - 1 - (length xs - count) ≡ count - 1 =
+    omega (arith, many, most, len, within) in
+    false≢true (sym (stops (omega (arith, many, most, len)))
     ∙ ap (λ k. test (get_or xs k d)) (sym place)
     ∙ ap test (sym (at (length xs - count) (omega (arith, many, most, len))))
-    ∙ prefix_len_passes test (reverse xs) (length xs - count) d many)))
-    (λ (few : n ≤ length xs - count). few)
-    (cases_lt (length xs - count) n) in
+    ∙ prefix_len_passes test (reverse xs) (length xs - count) d many) in
     omega (arith, length-prefix_len test (reverse xs), least, no_more, within)
