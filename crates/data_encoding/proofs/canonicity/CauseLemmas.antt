@@ -1,7 +1,6 @@
 -- A base without a cause of a second text has one text for the same data, and no other base has.
 use Rattle.std.proofs.Common.{◌≡◌, ◌↔◌, ℕ, ◌==◌, Bool, true, false, not, ◌&&◌, IsTrue, List, [], ◌∷◌, length, Option, Some, None, refl, sym, ◌∙◌, arith}
 use Rattle.std.proofs.lemmas.Bool.{and_parts, false≢true}
-use Rattle.std.proofs.lemmas.Bool.Decides.{nat_tests}
 use Rattle.std.specs.List.{AllByRecursion}
 use Rattle.data_encoding.specs.declared.encoding.Character.{Character}
 use Rattle.data_encoding.specs.declared.encoding.Character.TheVariants.{Symbol, Padding, Ignored, Invalid}

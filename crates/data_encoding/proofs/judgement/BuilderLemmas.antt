@@ -1,9 +1,8 @@
 -- What the builder makes of a specification.
-use Rattle.std.proofs.Common.{◌≡◌, ℕ, zero, suc, ◌%◌, ◌/◌, ◌^◌, ◌<◌, ◌==◌, Bool, true, false, ◌||◌, cond, List, [], ◌++◌, length, map, take, replicate, Option, Some, None, is_none, IfSome, Result, Ok, refl, sym, ap, ◌∙◌, arith}
+use Rattle.std.proofs.Common.{◌≡◌, ℕ, zero, suc, ◌%◌, ◌/◌, ◌^◌, ◌<◌, ◌==◌, Bool, true, false, ◌||◌, cond, List, [], ◌++◌, length, map, take, replicate, Option, Some, None, is_none, IfSome, Ok, refl, sym, ap, ◌∙◌, arith}
 use Rattle.std.specs.List.{concat, list_any}
 use Rattle.data_encoding.specs.declared.encoding.Character.{Character}
-use Rattle.data_encoding.specs.declared.specification.meanings.Refusal.{Refusal}
-use Rattle.data_encoding.specs.Base.{Base, IsWidth, is_ignored}
+use Rattle.data_encoding.specs.Base.{IsWidth, is_ignored}
 use Rattle.data_encoding.specs.Encoding.{EncodingTables, KeepsRules, base_of_tables, wrapping_by}
 use Rattle.data_encoding.specs.Entries.{HoldsEntries, meaning_of_entry}
 use Rattle.data_encoding.specs.Fields.{Fields, Judgement, base_of, base_with, ignored_judgements, judgements, meanings_after, no_meanings, padding_judgements, symbol_judgements, translation_judgements, width_of, wrapping_judgements, wraps}
@@ -12,26 +11,6 @@ use Rattle.data_encoding.proofs.tables.TableRuleLemmas.{KeepsRules-ruled}
 use Rattle.data_encoding.proofs.lists.RepeatLemmas.{take-repeats}
 use Rattle.data_encoding.proofs.judgement.RuleLemmas.{IsRuled, IsRuledPadding, IsRuledWrapping, IsRuled-from, IsRuled-yield, base_from, base_of-width}
 use Rattle.data_encoding.proofs.digits.WidthLemmas.{times-pos}
-
--- the judgements, part after part
-judged-parts : (width : ℕ) (fields : Fields) (r : Result (List Character) Refusal)
-    → meanings_after r (judgements width fields)
-    ≡ meanings_after (meanings_after (meanings_after (meanings_after
-    (meanings_after r (symbol_judgements 0 fields.symbols))
-    (padding_judgements width fields.padding))
-    (ignored_judgements fields.ignored))
-    (wrapping_judgements width fields.column fields.separator))
-    (translation_judgements fields.from fields.to)
-judged-parts width fields r =
-    let a = symbol_judgements 0 fields.symbols in
-    let b = padding_judgements width fields.padding in
-    let c = ignored_judgements fields.ignored in
-    let d = wrapping_judgements width fields.column fields.separator in
-    let e = translation_judgements fields.from fields.to in
-    meanings_after-append r (a ++ b ++ c ++ d) e
-    ∙ ap (λ s. meanings_after s e) (meanings_after-append r (a ++ b ++ c) d
-    ∙ ap (λ s. meanings_after s d) (meanings_after-append r (a ++ b) c
-    ∙ ap (λ s. meanings_after s c) (meanings_after-append r a b)))
 
 -- the judgements up to each part
 module _ (width : ℕ) (fields : Fields) where
@@ -53,11 +32,21 @@ module _ (width : ℕ) (fields : Fields) where
   abbrev all : Judged
   all = meanings_after (Ok no_meanings) (judgements width fields)
 
+  judged-parts : all
+      ≡ meanings_after (meanings_after (meanings_after (meanings_after
+      (meanings_after (Ok no_meanings) a) b) c) d) e
+  judged-parts =
+      let r : Judged = Ok no_meanings in
+      meanings_after-append r (a ++ b ++ c ++ d) e
+      ∙ ap (λ s. meanings_after s e) (meanings_after-append r (a ++ b ++ c) d
+      ∙ ap (λ s. meanings_after s d) (meanings_after-append r (a ++ b) c
+      ∙ ap (λ s. meanings_after s c) (meanings_after-append r a b)))
+
   module _ {none : List Character} (is : none ≡ no_meanings) where
     pub after-symbols : (r : Judged) → meanings_after (Ok none) a ≡ r
         → all ≡ meanings_after (meanings_after (meanings_after (meanings_after r b) c) d) e
     after-symbols r h =
-        judged-parts width fields (Ok no_meanings)
+        judged-parts
         ∙ ap (λ s. meanings_after (meanings_after (meanings_after (meanings_after s b) c) d) e)
         (ap (λ l. meanings_after (Ok l) a) (sym is) ∙ h)
 

@@ -127,9 +127,6 @@ by-ok (Some (suc n)) fields base w h =
     }
 by-ok _ fields base w h = cc
 
-base_of-ok : (fields : Fields) (base : Base) → base_of fields ≡ Ok base → IsYield fields base
-base_of-ok fields base h = by-ok (width_of (length fields.symbols)) fields base refl h
-
 -- the judgements before the translations
 abbrev pub first_judgements : ℕ → Fields → List Judgement
 first_judgements width fields =
@@ -301,6 +298,6 @@ module _ (width : ℕ) (fields : Fields) (meanings : List Character)
 -- each yield keeps the rules
 pub IsRuled-yield : (fields : Fields) (base : Base) → base_of fields ≡ Ok base → IsRuled base
 IsRuled-yield fields base h =
-    let is = base_of-ok fields base h in
+    let is = by-ok (width_of (length fields.symbols)) fields base refl h in
     subst IsRuled (sym is.is_base)
     (IsRuled-from is.width fields is.meanings is.width_is is.some is.judged)

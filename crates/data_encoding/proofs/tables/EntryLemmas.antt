@@ -124,10 +124,10 @@ module _ (values : List ℕ) (holds : HoldsEntries values) where
       (cases_lt byte 128)
 
   module _ (byte entry : ℕ) (low : byte < 128) where
-    ms : List Character
+    abbrev ms : List Character
     ms = map meaning_of_entry (take 128 values)
 
-    had : ℕ
+    abbrev had : ℕ
     had = get_or values byte 0
 
     defined-cases : (same free : Bool)
@@ -135,7 +135,6 @@ module _ (values : List ℕ) (holds : HoldsEntries values) where
         → is_same (meaning_of_entry had) Invalid ≡ free
         → defined ms byte (meaning_of_entry entry)
         ≡ defined_by false same free ms byte (meaning_of_entry entry)
-    unfolding ms had
     defined-cases same free s f =
         let past : nat_le 128 byte ≡ false = grind (arith, nat_tests) in
         let at = meaning-low byte low in
@@ -144,25 +143,22 @@ module _ (values : List ℕ) (holds : HoldsEntries values) where
         ∙ (λ i. defined_by false (s i) (f i) ms byte (meaning_of_entry entry))
 
     pub defined-same : get_or values byte 0 ≡ entry
-        → defined (map meaning_of_entry (take 128 values)) byte (meaning_of_entry entry)
-        ≡ Ok (map meaning_of_entry (take 128 values))
-    unfolding ms had
+        → defined ms byte (meaning_of_entry entry)
+        ≡ Ok ms
     defined-same e = defined-cases true _ (same_meanings had entry e) refl
 
     pub defined-other : is_entry_of 64 entry ≡ true → get_or values byte 0 ≢ entry
         → get_or values byte 0 ≢ 128
-        → defined (map meaning_of_entry (take 128 values)) byte (meaning_of_entry entry)
+        → defined ms byte (meaning_of_entry entry)
         ≡ Err (Duplicate byte)
-    unfolding ms had
     defined-other k ne taken =
         defined-cases false false (other_meanings had entry (is_entry-low byte low) k ne)
         (other_meanings had 128 (is_entry-low byte low) refl taken)
 
     pub defined-free : is_entry_of 64 entry ≡ true → get_or values byte 0 ≢ entry
         → get_or values byte 0 ≡ 128
-        → defined (map meaning_of_entry (take 128 values)) byte (meaning_of_entry entry)
+        → defined ms byte (meaning_of_entry entry)
         ≡ Ok (map meaning_of_entry (take 128 (set values byte entry)))
-    unfolding ms had
     defined-free k ne free =
         defined-cases false true (other_meanings had entry (is_entry-low byte low) k ne)
         (same_meanings had 128 free)

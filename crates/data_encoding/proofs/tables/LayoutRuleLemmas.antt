@@ -1,17 +1,19 @@
 -- Bytes are the layout of a base exactly where they keep the rules of layouts.
-use Rattle.std.proofs.Common.{◌≡◌, ◌≢◌, ◌⊎◌, ℕ, zero, suc, ◌+◌, ◌-◌, ◌*◌, ◌/◌, ◌%◌, ◌^◌, ◌<◌, ◌≤◌, ◌==◌, Bool, true, false, not, ◌||◌, cond, nat_lt, List, [], ◌∷◌, ◌++◌, length, map, take, drop, replicate, get_or, Option, Some, None, is_none, unwrap_or, refl, sym, ap, ◌∙◌, subst, arith, inl, inr, ⊎_elim, append_assoc, drop-cons, drop_of_length-le, length-drop}
+use Rattle.std.proofs.Common.{◌≡◌, ◌≢◌, ◌⊎◌, ℕ, zero, suc, ◌+◌, ◌-◌, ◌*◌, ◌/◌, ◌%◌, ◌^◌, ◌<◌, ◌≤◌, ◌==◌, Bool, true, false, ◌||◌, cond, nat_lt, List, [], ◌∷◌, ◌++◌, length, map, take, drop, replicate, get_or, Option, Some, None, is_none, unwrap_or, refl, sym, ap, ◌∙◌, subst, arith, inl, inr, ⊎_elim, drop-cons, drop_of_length-le, length-drop}
 use Rattle.std.proofs.Math.Bool.{or-true}
 use Rattle.std.proofs.Math.Nat.{mod-lt, mod-eq_of_lt}
-use Rattle.std.proofs.lemmas.Bool.{cases_Bool, eq-eqb, eqb-true, lt-ltb, ltb-true}
+use Rattle.std.proofs.Math.Seq.{take-add}
+use Rattle.std.proofs.lemmas.Bool.{cases_Bool, false≢true, eq-eqb, eqb-true, lt-ltb, ltb-true}
 use Rattle.std.proofs.lemmas.Bool.Decides.{nat_tests}
 use Rattle.std.proofs.lemmas.Nat.{pow_pos}
-use Rattle.std.proofs.lemmas.List.{drop-drop, ext_get_or, get_or-drop, get_or-map, get_or-replicate, get_or-take, get_or_past, length-map, length-replicate, length-take-le, take-append-drop}
+use Rattle.std.proofs.lemmas.List.{ext_get_or, get_or-drop, get_or-map, get_or-replicate, get_or-take, get_or_past, length-map, length-replicate, length-take-le, take-append-drop}
 use Rattle.std.proofs.lemmas.List.Folds.{list_any_at}
+use Rattle.std.proofs.lemmas.List.Elements.{All-from_get_or, recursion_from_All}
 use Rattle.std.proofs.lemmas.List.FromFn.{get_or-range_with_len}
-use Rattle.std.specs.List.{AllByRecursion, list_all, list_any, range_with_len}
+use Rattle.std.specs.List.{list_all, list_any, range_with_len}
 use Rattle.data_encoding.specs.declared.encoding.BitOrder.TheVariants.{MostSignificantFirst, LeastSignificantFirst}
 use Rattle.data_encoding.specs.declared.encoding.Character.{Character}
-use Rattle.data_encoding.specs.declared.encoding.Character.TheVariants.{Symbol, Padding, Ignored, Invalid}
+use Rattle.data_encoding.specs.declared.encoding.Character.TheVariants.{Symbol, Ignored, Invalid}
 use Rattle.data_encoding.specs.Base.{Base, Wrapping, group_symbols, ignores_some, is_ignored, meaning}
 use Rattle.data_encoding.specs.Encoding.{wrapping_by}
 use Rattle.data_encoding.specs.Entries.{is_entry_of, meaning_of_entry}
@@ -25,14 +27,8 @@ use Rattle.data_encoding.proofs.judgement.RoundTripLemmas.{IsSpecified-ruled}
 use Rattle.data_encoding.proofs.judgement.RuleLemmas.{IsRuled, IsRuledPadding, IsRuledWrapping, IsRuled-yield, is_no_padding, is_within}
 use Rattle.data_encoding.proofs.tables.EntryLemmas.{apart_test, ignored-is, test_apart}
 use Rattle.data_encoding.proofs.tables.LayoutLemmas.{codes-back}
-use Rattle.data_encoding.proofs.tables.ReadingLemmas.{IsReadAs, code-read, end-read, ends, flags, high-read, is_read_as, long-layout, symbol-read, symbol_table}
+use Rattle.data_encoding.proofs.tables.ReadingLemmas.{IsReadAs, character-back, code-read, end-read, ends, flags, high-read, is_read_as, long-layout, symbol-read, symbol_table}
 use Rattle.data_encoding.proofs.tables.TableRuleLemmas.{entry-no_padding, entry-weaker, entry-within, value-symbol}
-
--- what holds of each member by its place
-places : (P : ℕ → Type 0) (xs : List ℕ) → ((i : ℕ) → i < length xs → P (get_or xs i 0))
-    → AllByRecursion P xs
-places P [] h = tt
-places P (x ∷ xs) h = (h 0 (omega arith), places P xs (λ i less. h (suc i) (omega (arith, less))))
 
 -- one of which some do
 some_passes : {X : Type 0} (test : X → Bool) (xs : List X) (d : X) → list_any test xs ≡ true
@@ -49,18 +45,6 @@ code-few : (n : ℕ) (m : Character) → is_within n m ≡ true
     → (code_of m < n) ⊎ ((128 ≤ code_of m) × (code_of m ≤ 130))
 code-few n (Symbol value) h = inl (ltb-true value n h)
 code-few n _ h = inr (omega arith, omega arith)
-
-code-ignored : (n : ℕ) (m : Character) → n ≤ 64 → is_within n m ≡ true → code_of m ≡ 129
-    → m ≡ Ignored
-code-ignored n (Symbol value) few h e = absurd (omega (arith, few, ltb-true value n h, e))
-code-ignored n Ignored few h e = refl
-code-ignored n _ few h e = absurd (omega (arith, e))
-
-code-padding : (n : ℕ) (m : Character) → n ≤ 64 → is_within n m ≡ true → is_no_padding m ≡ true
-    → code_of m ≢ 130
-code-padding n (Symbol value) few h k e = omega (arith, few, ltb-true value n h, e)
-code-padding n Padding few h k e = cc
-code-padding n _ few h k e = omega (arith, e)
 
 -- a base, and its layout
 module _ (base : Base) (ruled : IsRuled base) where
@@ -127,6 +111,12 @@ module _ (base : Base) (ruled : IsRuled base) where
       let some : 0 < count = omega (arith, mod-lt k {m = count} (pow_pos base.width)) in
       symbol-at k h ∙ sym (symbol-own (k % count) (mod-lt k some))
 
+  meaning-read : (byte : ℕ) → byte < 128
+      → meaning_of_entry (entry_in (layout base) byte) ≡ meaning base byte
+  meaning-read byte low =
+      ap meaning_of_entry (code-read base ruled byte low)
+      ∙ character-back count (meaning base byte) count-few (within-at byte low)
+
   padding-told : (o : Option ℕ) → IsRuledPadding base o
       → get_or (layout base) 512 0 ≡ unwrap_or o 128
       → TellsPadding base.width (layout base)
@@ -134,10 +124,10 @@ module _ (base : Base) (ruled : IsRuled base) where
       inl (
         is,
         λ byte low e.
-            code-padding count (meaning base byte) count-few (within-at byte low)
-            (passes_at is_no_padding base.meanings byte Invalid rule
-            (omega (arith, low, ruled.long)))
-            (sym (code-read base ruled byte low) ∙ e),
+            false≢true (ap (λ v. is_no_padding (meaning_of_entry v)) (sym e)
+            ∙ ap is_no_padding (meaning-read byte low)
+            ∙ passes_at is_no_padding base.meanings byte Invalid rule
+            (omega (arith, low, ruled.long))),
       )
   padding-told (Some character) rule is =
       inr (
@@ -148,9 +138,7 @@ module _ (base : Base) (ruled : IsRuled base) where
 
   -- where it is told that a byte is ignored, it is
   told-ignored : (byte : ℕ) → IsIgnoredIn (layout base) byte → meaning base byte ≡ Ignored
-  told-ignored byte is =
-      code-ignored count (meaning base byte) count-few (within-at byte is.0)
-      (sym (code-read base ruled byte is.0) ∙ is.1)
+  told-ignored byte is = sym (meaning-read byte is.0) ∙ ap meaning_of_entry is.1
 
   ignored-told : (byte : ℕ) → byte < 128 → meaning base byte ≡ Ignored
       → IsIgnoredIn (layout base) byte
@@ -347,9 +335,6 @@ module _ (bytes : List ℕ) (width : ℕ) (width_is : get_or bytes 513 0 % 8 ≡
   ignored-at : (byte : ℕ) → IsIgnoredIn bytes byte → meaning told byte ≡ Ignored
   ignored-at byte is = meaning-at byte is.0 ∙ ap meaning_of_entry is.1
 
-  behind_all : length bytes ≤ 515 → drop 515 bytes ≡ []
-  behind_all few = drop_of_length-le bytes {i = 515} few
-
   wrapping-of : (column : ℕ) → 0 < column → wrapping_by column (drop 515 bytes)
       ≡ Some (record { column = column; separator = drop 515 bytes })
   wrapping-of zero h = absurd (omega (arith, h))
@@ -374,10 +359,12 @@ module _ (bytes : List ℕ) (width : ℕ) (width_is : get_or bytes 513 0 % 8 ≡
         ended = omega (arith, rest, lines.ended);
         ends_short = omega (arith, rest, lines.ends_short);
         ignored =
-            places (λ byte. (byte < 128) × (meaning told byte ≡ Ignored)) (drop 515 bytes) (λ i h.
+            recursion_from_All (λ byte. (byte < 128) × (meaning told byte ≡ Ignored)) (drop 515 bytes)
+            (All-from_get_or (λ byte. (byte < 128) × (meaning told byte ≡ Ignored))
+            (drop 515 bytes) 0 (λ i h.
             let is = lines.ignored (515 + i) (omega arith) (omega (arith, h, rest)) in
             subst (λ byte. (byte < 128) × (meaning told byte ≡ Ignored))
-            (sym (get_or-drop 515 bytes i 0)) (is.0, ignored-at (get_or bytes (515 + i) 0) is));
+            (sym (get_or-drop 515 bytes i 0)) (is.0, ignored-at (get_or bytes (515 + i) 0) is)));
       })
 
   padded-single : (sum / 32 % 2 == 0) ≡ false
@@ -474,7 +461,7 @@ module _ (bytes : List ℕ) (width : ℕ) (width_is : get_or bytes 513 0 % 8 ≡
       (ap is_ignored (ignored-at ignored.0 ignored.1)) in
       (λ i. wrapping_bytes (ignores i) (wrapping_by (some.1 i) (drop 515 bytes)))
       ∙ sym (drop-cons bytes 514 0 (omega (arith, some.0))
-      ∙ (λ i. some.1 i ∷ behind_all (omega (arith, some.0)) i))
+      ∙ (λ i. some.1 i ∷ drop_of_length-le bytes {i = 515} (omega (arith, some.0)) i))
   wrapped (inr (inr lines)) =
       ap (wrapping_bytes (ignores_some told)) (wrapping-of (get_or bytes 514 0) lines.some)
       ∙ sym (drop-cons bytes 514 0 (omega (arith, lines.ended)))
@@ -491,21 +478,12 @@ module _ (bytes : List ℕ) (width : ℕ) (width_is : get_or bytes 513 0 % 8 ≡
       sym (drop-cons bytes 512 0 (omega (arith, long))
       ∙ ap (λ l. get_or bytes 512 0 ∷ l) (drop-cons bytes 513 0 (omega (arith, long))))
 
-  in_halves : bytes ≡ take 256 bytes ++ (low ++ (take 128 (drop 384 bytes) ++ drop 512 bytes))
-  in_halves =
-      sym (ap (λ l. take 256 bytes ++ l)
-      (ap (λ l. low ++ l)
-      (ap (λ l. take 128 (drop 384 bytes) ++ l) (sym (drop-drop 128 384 bytes))
-      ∙ take-append-drop 128 (drop 384 bytes) ∙ sym (drop-drop 128 256 bytes))
-      ∙ take-append-drop 128 (drop 256 bytes))
-      ∙ take-append-drop 256 bytes)
-
   pub layout-told : layout told ≡ bytes
   layout-told =
       (λ i. table-is i ++ codes-are i ++ high-is i ++ (ends-are ∙ end-is) i)
-      ∙ append_assoc (take 256 bytes ++ low) (take 128 (drop 384 bytes)) (drop 512 bytes)
-      ∙ append_assoc (take 256 bytes) low (take 128 (drop 384 bytes) ++ drop 512 bytes)
-      ∙ sym in_halves
+      ∙ ap (λ l. l ++ take 128 (drop 384 bytes) ++ drop 512 bytes) (sym (take-add 256 128 bytes))
+      ∙ ap (λ l. l ++ drop 512 bytes) (sym (take-add 384 128 bytes))
+      ∙ take-append-drop 512 bytes
 
   pub specified-told : (base : Base) × IsSpecified base × (layout base ≡ bytes)
   specified-told = (told, IsSpecified-ruled told is_ruled, layout-told)

@@ -51,7 +51,7 @@ length-table base ruled =
     length-repeats times base.symbols ∙ ap (λ n. times * n) ruled.count
     ∙ times_symbols base.width ruled.is_width
 
-character-back : (n : ℕ) (m : Character) → n ≤ 64 → is_within n m ≡ true
+pub character-back : (n : ℕ) (m : Character) → n ≤ 64 → is_within n m ≡ true
     → meaning_of_entry (code_of m) ≡ m
 character-back n (Symbol value) few h = value-symbol value (grind (arith, nat_tests))
 character-back n Padding few h = refl
@@ -65,17 +65,6 @@ meanings-back n (m ∷ ms) few h =
     let here = character-back n m few (first_so (is_within n m) (list_all (is_within n) ms) h) in
     let rest = meanings-back n ms few (second_so (is_within n m) (list_all (is_within n) ms) h) in
     λ i. here i ∷ rest i
-
-symbols-of_table : (base : Base) → IsRuled base
-    → take (length base.symbols) (symbol_table base) ≡ base.symbols
-symbols-of_table base ruled =
-    take-repeats (256 / 2 ^ base.width) base.symbols (times-pos base.width ruled.is_width)
-
-meanings-of_codes : (base : Base) → IsRuled base
-    → map meaning_of_entry (map code_of base.meanings) ≡ base.meanings
-meanings-of_codes base ruled =
-    meanings-back (length base.symbols) base.meanings
-    (omega (arith, ruled.count, symbols-few base.width ruled.is_width)) ruled.within
 
 -- What a sum of flags says.
 pub record HasFlags (sum width : ℕ) (order : BitOrder) (checks concatenates : Bool)
@@ -191,7 +180,8 @@ module _ (base : Base) (ruled : IsRuled base) where
       ap (take (2 ^ base.width)) in_parts
       ∙ take-append-le (2 ^ base.width) (symbol_table base) (codes ++ rest)
       (omega (arith, few, length-table base ruled))
-      ∙ ap (λ n. take n (symbol_table base)) (sym ruled.count) ∙ symbols-of_table base ruled
+      ∙ ap (λ n. take n (symbol_table base)) (sym ruled.count)
+      ∙ take-repeats (256 / 2 ^ base.width) base.symbols (times-pos base.width ruled.is_width)
 
   pub symbol-read : (k : ℕ) → k < 256 → get_or (layout base) k 0 ≡ get_or (symbol_table base) k 0
   symbol-read k h =
@@ -242,7 +232,10 @@ module _ (base : Base) (ruled : IsRuled base) where
       let lines = few-lines base (ignores_some base) base.wrapping ruled.wrapping in
       record {
         symbols = symbols-read;
-        meanings = ap (map meaning_of_entry) codes-read ∙ meanings-of_codes base ruled;
+        meanings =
+            ap (map meaning_of_entry) codes-read
+            ∙ meanings-back (length base.symbols) base.meanings
+            (omega (arith, ruled.count, symbols-few base.width ruled.is_width)) ruled.within;
         padding =
             ap (λ n. cond (nat_lt n 128) (Some n) None) (end-read 0)
             ∙ padding-back base base.padding ruled.padding;

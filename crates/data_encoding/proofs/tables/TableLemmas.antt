@@ -1,16 +1,15 @@
 -- What the tables of an encoding say of its base.
-use Rattle.std.proofs.Common.{◌≡◌, ℕ, ◌*◌, ◌/◌, ◌%◌, ◌^◌, ◌<◌, ◌≤◌, ◌==◌, Bool, true, false, nat_lt, cond, length, take, get_or, Option, Some, None, IfSome, refl, sym, ap, ◌∙◌, subst, arith, ⊎_elim}
+use Rattle.std.proofs.Common.{◌≡◌, ℕ, ◌*◌, ◌/◌, ◌%◌, ◌^◌, ◌<◌, ◌≤◌, ◌==◌, true, false, length, take, get_or, Option, Some, None, IfSome, refl, sym, ap, ◌∙◌, subst, arith, ⊎_elim}
 use Rattle.std.proofs.lemmas.Bool.{cases_lt}
 use Rattle.std.proofs.lemmas.Bool.Decides.{nat_tests}
 use Rattle.std.proofs.lemmas.List.{get_or-take, get_or_past}
-use Rattle.data_encoding.specs.declared.encoding.Character.TheVariants.{Symbol, Padding, Ignored, Invalid}
 use Rattle.data_encoding.specs.declared.encoding.BitOrder.{BitOrder}
 use Rattle.data_encoding.specs.Base.{Base, symbol, is_ignored, is_padding, is_symbol, IsWidth}
 use Rattle.data_encoding.specs.Encoding.{EncodingTables, KeepsPadding, KeepsRules, base_of_tables}
 use Rattle.data_encoding.specs.Entries.{is_entry_of, meaning_of_entry}
 use Rattle.data_encoding.specs.Tables.{HoldsSymbols, HoldsValues, Reads, Writes}
 use Rattle.data_encoding.proofs.tables.EntryLemmas.{high_entry, ignored_entry, length-low, meaning-any}
-use Rattle.data_encoding.proofs.tables.TableRuleLemmas.{HoldsEntries-tables, IsWidth-tables, length-symbols, symbol-ascii, value-symbol}
+use Rattle.data_encoding.proofs.tables.TableRuleLemmas.{HoldsEntries-tables, length-symbols, symbol-ascii, value-symbol}
 use Rattle.data_encoding.proofs.lists.EachLemmas.{passes_at}
 use Rattle.data_encoding.proofs.digits.WidthLemmas.{symbols-few, times_symbols}
 use Rattle.data_encoding.proofs.lists.RepeatLemmas.{get_or-repeats}
@@ -47,7 +46,7 @@ module _ (e : EncodingTables) (rules : KeepsRules e) where
     symbols = λ byte h small.
         meaning-any e.values (HoldsEntries-tables e rules) byte h
         ∙ value-symbol (get_or e.values byte 0)
-        (omega (arith, entry-below byte h small, symbols-few e.width (IsWidth-tables e rules)));
+        (omega (arith, entry-below byte h small, symbols-few e.width rules.is_width));
     below = entry-below;
     others = λ byte h large.
         ap is_symbol (meaning-any e.values (HoldsEntries-tables e rules) byte h)
@@ -68,7 +67,7 @@ module _ (e : EncodingTables) (rules : KeepsRules e) where
         let times = 256 / 2 ^ e.width in
         let count = length-symbols e rules in
         let whole : times * length front ≡ 256 =
-        ap (λ n. times * n) count ∙ times_symbols e.width (IsWidth-tables e rules) in
+        ap (λ n. times * n) count ∙ times_symbols e.width rules.is_width in
         ap (λ n. get_or front (byte % n) 0) (sym count)
         ∙ sym (get_or-repeats times front byte (omega (arith, h, whole)))
         ∙ ap (λ l. get_or l byte 0) (sym rules.symbols_repeat);
@@ -97,7 +96,7 @@ module _ (e : EncodingTables) (rules : KeepsRules e) where
 module _ (e : EncodingTables) (rules : KeepsRules e) (seen : Base)
     (is : base_of_tables e ≡ seen) where
   pub IsWidth-seen : IsWidth seen.width
-  IsWidth-seen = subst (λ b. IsWidth b.width) is (IsWidth-tables e rules)
+  IsWidth-seen = subst (λ b. IsWidth b.width) is rules.is_width
 
   pub symbols-seen : (value : ℕ) → symbol seen value < 128
   symbols-seen value = subst (λ b. symbol b value < 128) is (any_symbol-ascii e rules value)

@@ -1,5 +1,5 @@
 -- The rules on the tables of an encoding are those on its base.
-use Rattle.std.proofs.Common.{◌≡◌, ◌↔◌, ℕ, zero, suc, ◌%◌, ◌/◌, ◌^◌, ◌<◌, ◌≤◌, ◌==◌, Bool, true, false, not, ◌||◌, nat_lt, cond, List, [], ◌∷◌, length, map, take, get_or, replicate, Option, Some, None, is_none, is_some, refl, sym, ap, ◌∙◌, arith, ⊎_elim}
+use Rattle.std.proofs.Common.{◌≡◌, ◌↔◌, ℕ, zero, suc, ◌%◌, ◌/◌, ◌^◌, ◌<◌, ◌≤◌, ◌==◌, Bool, true, false, not, ◌||◌, nat_lt, List, [], ◌∷◌, length, map, take, get_or, replicate, Option, Some, None, is_none, is_some, refl, sym, ap, ◌∙◌, arith, ⊎_elim}
 use Rattle.std.proofs.lemmas.Bool.{eqb-true, eq-eqb, lt-ltb, ltb-true, cases_lt}
 use Rattle.std.proofs.lemmas.Bool.Decides.{nat_tests}
 use Rattle.std.proofs.lemmas.List.{ext_get_or, get_or-map, get_or_past, length-map}
@@ -7,8 +7,8 @@ use Rattle.std.proofs.lemmas.List.FromFn.{get_or-range_with_len, length-range_wi
 use Rattle.std.specs.Cmp.{first_so, second_so}
 use Rattle.std.specs.List.{AllByRecursion, concat, list_all, range_with_len}
 use Rattle.data_encoding.specs.declared.encoding.Character.{Character}
-use Rattle.data_encoding.specs.declared.encoding.Character.TheVariants.{Symbol, Padding, Ignored, Invalid}
-use Rattle.data_encoding.specs.Base.{meaning, ignores_some, IsWidth}
+use Rattle.data_encoding.specs.declared.encoding.Character.TheVariants.{Symbol, Padding, Ignored}
+use Rattle.data_encoding.specs.Base.{meaning, ignores_some}
 use Rattle.data_encoding.specs.Encoding.{EncodingTables, KeepsPadding, KeepsRules, KeepsWrapping, base_of_tables, wrapping_by}
 use Rattle.data_encoding.specs.Entries.{HoldsEntries, is_entry_of, meaning_of_entry}
 use Rattle.data_encoding.specs.Fields.{IsSpecified}
@@ -64,14 +64,11 @@ concatenated-rule false None = (λ h. cc, λ h. cc)
 
 -- from the tables to the base
 module _ (e : EncodingTables) (rules : KeepsRules e) where
-  pub IsWidth-tables : IsWidth e.width
-  IsWidth-tables = rules.is_width
-
   pub HoldsEntries-tables : HoldsEntries e.values
   HoldsEntries-tables = record {
     entries =
         all-weaker (is_entry_of (2 ^ e.width)) (is_entry_of 64)
-        (λ v. entry-weaker (2 ^ e.width) v (symbols-few e.width (IsWidth-tables)))
+        (λ v. entry-weaker (2 ^ e.width) v (symbols-few e.width rules.is_width))
         (take 128 e.values)
         rules.entries;
     invalid_from_128 = rules.invalid_from_128;
@@ -170,7 +167,7 @@ module _ (e : EncodingTables) (rules : KeepsRules e) where
   -- the base of tables that keep the rules keeps them
   pub IsRuled-tables : IsRuled (base_of_tables e)
   IsRuled-tables = record {
-    is_width = IsWidth-tables;
+    is_width = rules.is_width;
     count = length-symbols;
     checked = (checked-rule e.checks_trailing_bits (8 % e.width == 0)).0 rules.whole_checked;
     concatenated = (concatenated-rule e.concatenates e.padding).0 rules.unpadded_concatenates;
@@ -179,7 +176,7 @@ module _ (e : EncodingTables) (rules : KeepsRules e) where
         ∙ length-low e.values (HoldsEntries-tables);
     own = λ i h.
         let below : i < 2 ^ e.width = omega (arith, h, length-symbols) in
-        let few : i < 64 = omega (arith, below, symbols-few e.width (IsWidth-tables)) in (
+        let few : i < 64 = omega (arith, below, symbols-few e.width rules.is_width) in (
           symbol-ascii i below,
           meaning-at (get_or symbols i 0) (symbol-ascii i below)
               ∙ ap meaning_of_entry (symbol-own_value i below) ∙ value-symbol i few,
