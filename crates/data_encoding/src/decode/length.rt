@@ -1,6 +1,7 @@
 //! The lengths of texts, and how many bytes they may mean.
 
-ghost use Rattle.std.specs.Prelude.{◌≡◌, ℕ, List, false, ◌<◌, ◌≤◌, length, IfErr, IsOkAnd};
+ghost use Rattle.std.specs.Prelude.{◌≡◌, ℕ, ◌/◌, ◌%◌, List, false, ◌<◌, ◌≤◌, length, IfErr, IsOkAnd};
+ghost use Rattle.data_encoding.specs.Base.{IsWidth, group_symbols};
 ghost use Rattle.data_encoding.specs.Fields.{IsSpecified};
 ghost use Rattle.data_encoding.specs.Grammar.{Means};
 ghost use Rattle.data_encoding.specs.Lengths.{decoded_len, greatest_valid_length, is_valid_length, most_bytes};
@@ -57,7 +58,7 @@ impl EncodingRef<'_> {
         ensures { result ≡ is_valid_length self.now len }
     {
         if self.fields.is_padded() {
-            return len % group_symbols(self.fields.width) as usize == 0;
+            return symbols_left(self.fields.width, len) == 0;
         }
         let width = self.fields.width as usize;
         width * len % 8 < width
@@ -84,9 +85,33 @@ impl EncodingRef<'_> {
         ensures { result ≡ most_bytes self.now len }
     {
         if self.fields.is_padded() {
-            return len / group_symbols(self.fields.width) as usize
-                * group_bytes(self.fields.width) as usize;
+            return whole_groups(self.fields.width, len) * group_bytes(self.fields.width) as usize;
         }
         self.fields.width as usize * len / 8
+    }
+}
+
+// The whole groups of as many symbols. What is divided by is a constant, since a division by a
+// variable takes as long as a group.
+fn whole_groups(width: u8, len: usize) -> usize
+    requires { IsWidth width }
+    ensures { result ≡ len / group_symbols width }
+{
+    match width {
+        4 => len / 2,
+        2 | 6 => len / 4,
+        _ => len / 8,
+    }
+}
+
+// How many symbols are left behind them.
+fn symbols_left(width: u8, len: usize) -> usize
+    requires { IsWidth width }
+    ensures { result ≡ len % group_symbols width }
+{
+    match width {
+        4 => len % 2,
+        2 | 6 => len % 4,
+        _ => len % 8,
     }
 }

@@ -1,4 +1,4 @@
-use Rattle.std.proofs.Common.{◌≡◌, ◌%◌, ◌==◌, true, false, sym, ap, ◌∙◌, subst}
+use Rattle.std.proofs.Common.{◌≡◌, ◌==◌, true, false, sym, ap, ◌∙◌, subst}
 use Rattle.data_encoding.specs.Encoding.{base_of_tables}
 use Rattle.data_encoding.specs.Lengths.{is_valid_length}
 use Rattle.data_encoding.specs.PlainTables.{plain_tables}
@@ -7,9 +7,9 @@ use Rattle.data_encoding.proofs.encoding.EncodingRef.is_valid_length.Goals as go
 
 pub returns-then-is_padded : goal.returns-then-is_padded
 returns-then-is_padded c =
-    subst (λ b. (c.args.len % c.group_symbols.result == 0) ≡ is_valid_length b c.args.len)
+    subst (λ b. (c.symbols_left.result == 0) ≡ is_valid_length b c.args.len)
     c.self.view_is
-    (ap (λ n. c.args.len % n == 0) c.group_symbols.ensures.value
+    (ap (λ n. n == 0) c.symbols_left.ensures
     ∙ sym (is_valid_length-by (base_of_tables (plain_tables c.self.inside.fields.now))
     c.args.len true (sym c.is_padded.ensures ∙ c.if-is_padded.true)))
 

@@ -1,4 +1,4 @@
-use Rattle.std.proofs.Common.{◌≡◌, ◌*◌, ◌/◌, true, false, sym, ◌∙◌, subst}
+use Rattle.std.proofs.Common.{◌≡◌, ◌*◌, true, false, sym, ◌∙◌, subst}
 use Rattle.data_encoding.specs.Encoding.{base_of_tables}
 use Rattle.data_encoding.specs.Lengths.{most_bytes}
 use Rattle.data_encoding.specs.PlainTables.{plain_tables}
@@ -8,9 +8,9 @@ use Rattle.data_encoding.proofs.encoding.EncodingRef.most_bytes.Goals as goal
 pub returns-then-is_padded : goal.returns-then-is_padded
 returns-then-is_padded c =
     subst
-    (λ b. c.args.len / c.group_symbols.result * c.group_bytes.result ≡ most_bytes b c.args.len)
+    (λ b. c.whole_groups.result * c.group_bytes.result ≡ most_bytes b c.args.len)
     c.self.view_is
-    ((λ i. c.args.len / c.group_symbols.ensures.value i * c.group_bytes.ensures.value i)
+    ((λ i. c.whole_groups.ensures i * c.group_bytes.ensures.value i)
     ∙ sym (most_bytes-by (base_of_tables (plain_tables c.self.inside.fields.now)) c.args.len true
     (sym c.is_padded.ensures ∙ c.if-is_padded.true)))
 
