@@ -277,7 +277,8 @@ module _ (base : Base) (text : List ℕ) (read written : ℕ) (output : List ℕ
           (other-group base (meanings_in base at.group) (is_padded base) refl
           (subst (λ n. cond (is_padded base) (nat_lt n size ≡ false)
           (is_valid_count base.width n ≡ true))
-          (sym (length-meanings base at.group)) (valid-whole base (length at.group) at.next.is_part.some valid))) h
+          (sym (length-meanings base at.group))
+          (valid-whole base (length at.group) at.next.is_part.some valid))) h
 
 -- what has a fault means nothing
 pub fault-partial : (base : Base) (text : List ℕ) (partial : DecodePartial)
