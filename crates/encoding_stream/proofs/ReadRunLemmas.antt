@@ -1,16 +1,16 @@
 -- Lemmas on whole groups that are decoded where they lie.
-use Rattle.std.proofs.Common.{◌≡◌, inr, ℕ, ◌+◌, ◌*◌, ◌/◌, ◌%◌, ◌<◌, ◌≤◌, ◌==◌, Bool, true, false, not, ◌&&◌, if◌then◌else◌, List, [], ◌++◌, Option, None, Some, Ok, is_some, length, refl, sym, subst, ap, ◌∙◌, arith, IsOkAnd}
+use Rattle.std.proofs.Common.{◌≡◌, inr, ℕ, ◌+◌, ◌*◌, ◌/◌, ◌%◌, ◌<◌, ◌≤◌, ◌==◌, Bool, true, false, not, ◌&&◌, if◌then◌else◌, List, [], Option, None, Some, Ok, is_some, length, refl, sym, subst, ap, ◌∙◌, arith, IsOkAnd}
 use Rattle.std.proofs.Math.Nat.{div-mul-le_self, le-div_iff_mul-le, le_of_mul-le-mul_left, mul-le-mul_left, mul-le-mul_right}
 use Rattle.data_encoding.specs.declared.error.DecodeError.{DecodeError}
 use Rattle.data_encoding.specs.declared.error.DecodePartial.{DecodePartial}
 use Rattle.data_encoding.specs.Base.{Base, IsWidth, group_bytes, group_symbols, ignores_some, is_padded}
 use Rattle.data_encoding.specs.Fields.{IsSpecified}
-use Rattle.data_encoding.specs.Grammar.{Means, Positioned}
+use Rattle.data_encoding.specs.Grammar.{Means}
 use Rattle.data_encoding.specs.Laws.{further}
 use Rattle.data_encoding.specs.Lengths.{decoded_len, length_fault, most_bytes, unless_fault}
-use Rattle.data_encoding.specs.Pieces.{whole_bytes, AreWhole, CountsGroups, EndsNowhere, HasRead, MeansWhole, ReadsSound, TellsEnd}
+use Rattle.data_encoding.specs.Pieces.{AreWhole, CountsGroups, EndsNowhere, MeansWhole, ReadsSound, TellsEnd}
 use Rattle.encoding_stream.specs.declared.pieces.Kept.{Kept}
-use Rattle.encoding_stream.specs.Pieces.{at_positions, held, FillsGroups, Keeps}
+use Rattle.encoding_stream.specs.Pieces.{at_positions, FillsGroups, Keeps}
 use Rattle.encoding_stream.specs.Reading.{AreWholeGroups, ReadsOn, ReadsRun}
 use Rattle.encoding_stream.proofs.PieceLemmas.{no-fault}
 use Rattle.encoding_stream.proofs.ReadPieceLemmas.{fills-few}
@@ -27,27 +27,18 @@ nothing-held : (count : ℕ) (positions bytes : List ℕ) → count ≡ 0
     → at_positions count positions bytes ≡ []
 nothing-held count positions bytes none = ap (λ n. at_positions n positions bytes) none
 
-run-read : (base : Base) (piece bytes : List ℕ) (error : Option DecodeError)
-    → ReadsRun base piece bytes error → (text : List ℕ) (len : ℕ) (fault : Option DecodeError)
-    (held : List Positioned) (ended : Bool) → fault ≡ None → held ≡ [] → ended ≡ false
-    → HasRead base text len fault held ended
-    → HasRead base (text ++ piece) (len + length piece) (further len error) held ended
-    × (whole_bytes base (text ++ piece) ≡ whole_bytes base text ++ bytes)
-run-read base piece bytes error run text len fault held ended f h e reads =
-    let next = run text len (rw (f, h, e) at reads) in (rw (h, e) next.0, next.1)
-
 pub reads-run : (base : Base) → IsWidth base.width → (old : Kept) → IsFresh old
     → (piece bytes : List ℕ) (error : Option DecodeError) → ReadsRun base piece bytes error
     → FillsGroups base 0 (length piece) 0 (length bytes)
     → ReadsOn base old
     (record old { len = old.len + length piece; fault = further old.len error }) piece bytes
 reads-run base width old fresh piece bytes error run few =
+    let sound = no-fault old.fault fresh.sound in
+    let nothing = nothing-held old.count old.positions old.bytes fresh.none in
     let next = λ (text : List ℕ) (keeps : Keeps base old text).
-    run-read base piece bytes error run text old.len old.fault (held old) old.ended
-    (no-fault old.fault fresh.sound)
-    (nothing-held old.count old.positions old.bytes fresh.none) fresh.goes_on keeps in
+    run text old.len (rw (sound, nothing, fresh.goes_on) at keeps) in
     record {
-      keeps = λ text keeps. (next text keeps).0;
+      keeps = λ text keeps. rw (nothing, fresh.goes_on) (next text keeps).0;
       decodes = λ text keeps. (next text keeps).1;
       counted = refl;
       few =

@@ -11,6 +11,7 @@ mod error;
 mod fill;
 mod judge;
 mod pieces;
+mod runs;
 mod watch;
 
 pub use decode_reader::decode_stream;

@@ -37,7 +37,8 @@ module _ (base : Base) (width : IsWidth base.width) where
   size = group_symbols base.width
 
   short-fault : most_bytes base (size - 1) ≡ 0 → (group : List Character) → 0 < length group
-      → length group < size → (index : ℕ) × (character_fault base group ≡ faulty_at LengthFault index)
+      → length group < size
+      → (index : ℕ) × (character_fault base group ≡ faulty_at LengthFault index)
   short-fault none group some few = by (is_padded base) refl where
     count : ℕ
     count = length group

@@ -4,14 +4,14 @@ use Rattle.std.proofs.lemmas.Bool.{false≢true}
 use Rattle.std.proofs.lemmas.List.Elements.{All-from_recursion}
 use Rattle.data_encoding.specs.declared.encoding.Character.TheVariants.{Symbol as SymbolCharacter}
 use Rattle.data_encoding.specs.declared.encoding.BitOrder.TheVariants.{LeastSignificantFirst, MostSignificantFirst}
-use Rattle.data_encoding.specs.declared.error.DecodeKind.TheVariants.{Symbol}
+use Rattle.data_encoding.specs.declared.error.DecodeKind.TheVariants.{Length as LengthFault, Symbol}
 use Rattle.data_encoding.specs.Base.{Base, is_padding, IsWidth, meaning}
 use Rattle.data_encoding.specs.Fault.{fault_of, sound_bytes}
 use Rattle.data_encoding.specs.Grammar.{Means, positioned_from, groups, PlainMeans, GroupMeans, GroupsMean, MeansBy, meanings_in}
 use Rattle.data_encoding.specs.Predefined.{unpadded_fields, translated_fields, hexlower_fields, hexlower_permissive_fields, base64_fields, base64_nopad_fields, base64_mime_fields, base64_mime_permissive_fields}
 use Rattle.data_encoding.specs.Partial.{StopsAt}
 use Rattle.data_encoding.specs.Lengths.{IsBlockLength}
-use Rattle.data_encoding.specs.Pieces.{HasRead, HasDecoded}
+use Rattle.data_encoding.specs.Pieces.{HasRead, HasDecoded, IsOfWholeGroup}
 use Rattle.data_encoding.specs.Laws.{MayBeFollowed, Resumes}
 use Rattle.std.proofs.lemmas.List.Kept.{AllPairs-from_increasing}
 use Rattle.data_encoding.specs.Canonical.{IsCanonical, AreTwoTexts, last_bit, trailing_text, text_ending_in, IgnoredIsSecond, TrailingIsSecond, ConcatenatedIsSecond, SymbolIsSecond, PaddingIsSecond}
@@ -295,4 +295,13 @@ read_so_far :
 read_so_far = (
   record { counted = refl; first = refl; holds = λ h. refl; ends = λ h. refl },
   record { appended = refl },
+)
+
+-- a fault of a symbol, whatever the length, but none of a length
+of_whole_groups :
+    Has base64_mime_fields (λ base. IsOfWholeGroup base 7 Symbol
+    × (IsOfWholeGroup base 8 LengthFault → ⊥))
+of_whole_groups = (
+  record { not_length = refl; joins = refl; whole = inr refl },
+  λ is. false≢true (sym is.not_length),
 )

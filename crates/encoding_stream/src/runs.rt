@@ -1,0 +1,144 @@
+//! Whole groups of a text that is decoded piece by piece, which are decoded where they lie.
+
+ghost use Rattle.std.specs.Prelude.{◌≡◌, ℕ, ◌+◌, ◌≤◌, ◌<◌, ◌%◌, true, false, List, length, take, IfOk, IfErr, None, Ok, Some};
+ghost use Rattle.data_encoding.specs.declared.decode.TheConstants.{DECODE_LIMIT};
+ghost use Rattle.data_encoding.specs.Base.{group_bytes, group_symbols, ignores_some};
+ghost use Rattle.data_encoding.specs.Fields.{IsSpecified};
+ghost use Rattle.data_encoding.specs.Grammar.{Means};
+ghost use Rattle.data_encoding.specs.Lengths.{decoded_len, most_bytes};
+ghost use Rattle.data_encoding.specs.Pieces.{IsOfWholeGroup};
+ghost use Rattle.encoding_stream.specs.Pieces.{base_of_pieces, bytes_due, most_completed, FillsGroups};
+ghost use Rattle.encoding_stream.specs.Reading.{whole_len, AreWholeGroups, ReadsAllGroups, ReadsOn, ReadsRun};
+
+use crate::pieces::BufferDecoder;
+use data_encoding::laws::steps::{pieces, whole_groups};
+use data_encoding::{DECODE_LIMIT, DecodeError, DecodeKind, DecodePartial};
+
+impl BufferDecoder<'_> {
+    /// The length of the whole groups of this many bytes, and how many bytes are due for them.
+    pub(crate) fn due(&self, len: usize) -> (usize, usize)
+        requires limit { len ≤ DECODE_LIMIT }
+        ensures len { result.0 ≡ whole_len (base_of_pieces self.now) len }
+        ensures few { result.0 ≤ len }
+        ensures whole { result.0 % self.now.size ≡ 0 }
+        ensures due { decoded_len (base_of_pieces self.now) result.0 ≡ Ok result.1 }
+        ensures bytes { result.1 ≡ bytes_due (base_of_pieces self.now) len }
+        ensures specified { IsSpecified (base_of_pieces self.now) }
+    {
+        whole_groups();
+        let whole = len / self.size * self.size;
+        let Ok(most) = self.encoding.decode_len(whole) else {
+            unreachable!()
+        };
+        (whole, most)
+    }
+
+    /// Reads whole groups where they lie: all before a fault, or all, if the fault is that of one.
+    pub(crate) fn read_run(&mut self, piece: &[u8], output: &mut [u8]) -> (usize, usize)
+        requires limit { self.old.kept.len + length piece.now ≤ DECODE_LIMIT }
+        requires room { most_completed (base_of_pieces self.old) self.old.kept
+            (length piece.now) ≤ length output.old }
+        ensures base { base_of_pieces self.new ≡ base_of_pieces self.old }
+        ensures reads { ReadsOn (base_of_pieces self.old) self.old.kept self.new.kept
+            (take result.0 piece.now) (take result.1 output.new) }
+        ensures all { self.old.kept.count ≡ 0 → self.old.kept.fault ≡ None
+            → self.old.kept.ended ≡ false → (base_of_pieces self.old).concatenates ≡ true
+            → ReadsAllGroups (base_of_pieces self.old) piece.now result.0 }
+        ensures read { result.0 ≤ length piece.now }
+        ensures within { result.1 ≤ length output.new }
+        ensures len { length output.new ≡ length output.old }
+    {
+        if self.kept.count != 0 || self.kept.fault.is_some() || self.kept.ended {
+            return (0, 0);
+        }
+        let (len, most) = self.due(piece.len());
+        let (read, written) = match self.decode_run(&piece[..len], &mut output[..most]) {
+            Ok(run) => run,
+            Err(partial) => {
+                self.kept.fault = Some(DecodeError {
+                    position: self.kept.len + partial.error.position,
+                    kind: partial.error.kind,
+                });
+                self.kept.len += len;
+                return (len, partial.written);
+            }
+        };
+        if !self.are_whole(read, written) {
+            return (0, 0);
+        }
+        pieces();
+        self.kept.len += read;
+        (read, written)
+    }
+
+    // Decodes a text that is whole groups by its length, as far as it means something, and returns
+    // how much of it was read and how many bytes were written; a fault only if it is that of a
+    // whole group.
+    fn decode_run(&self, text: &[u8], output: &mut [u8]) -> Result<(usize, usize), DecodePartial>
+        requires limit { length text.now ≤ DECODE_LIMIT }
+        requires whole { length text.now % self.now.size ≡ 0 }
+        requires exact { decoded_len (base_of_pieces self.now) (length text.now)
+            ≡ Ok (length output.old) }
+        ensures means { IfOk result (λ run. Means (base_of_pieces self.now) (take run.0 text.now)
+            (take run.1 output.new)) }
+        ensures most { IfOk result (λ run. run.1 ≤ most_bytes (base_of_pieces self.now) run.0) }
+        ensures all { IfOk result (λ run. (bytes : List ℕ)
+            → Means (base_of_pieces self.now) text.now bytes → run.0 ≡ length text.now) }
+        ensures read { IfOk result (λ run. run.0 ≤ length text.now) }
+        ensures written { IfOk result (λ run. run.1 ≤ length output.new) }
+        ensures fault { IfErr result (λ partial. ReadsRun (base_of_pieces self.now) text.now
+            (take partial.written output.new) (Some partial.error)) }
+        ensures position { IfErr result (λ partial. partial.error.position < length text.now) }
+        ensures within { IfErr result (λ partial. partial.written ≤ length output.new) }
+        ensures len { length output.new ≡ length output.old }
+    {
+        // It tells that the laws hold of the encoding.
+        self.encoding.bit_width();
+        pieces();
+        let len = text.len();
+        match self.encoding.decode_mut(text, output) {
+            Ok(written) => Ok((len, written)),
+            Err(partial) if self.is_of_whole_group(len, partial.error.kind) => Err(partial),
+            Err(partial) => Ok((partial.read, partial.written)),
+        }
+    }
+
+    // Whether a fault of this kind, of whole groups by this length, is that of a whole group: what
+    // an unfinished group has is a fault of its length.
+    fn is_of_whole_group(&self, len: usize, kind: DecodeKind) -> bool
+        requires whole { len % self.now.size ≡ 0 }
+        ensures { result ≡ true → IsOfWholeGroup (base_of_pieces self.now) len kind }
+    {
+        if matches!(kind, DecodeKind::Length) || !self.concatenates {
+            return false;
+        }
+        !self.ignores || matches!(self.encoding.decode_len(self.size - 1), Ok(0))
+    }
+
+    // Whether a text of this length that means this many bytes is whole groups of which none is
+    // final: the number of bytes tells it, or its length, where nothing is ignored and no group is
+    // final.
+    fn are_whole(&self, read: usize, written: usize) -> bool
+        ensures whole { result ≡ true → (text bytes : List ℕ) → length text ≡ read
+            → length bytes ≡ written → Means (base_of_pieces self.now) text bytes
+            → AreWholeGroups (base_of_pieces self.now) text }
+        ensures few { result ≡ true → written ≤ most_bytes (base_of_pieces self.now) read
+            → FillsGroups (base_of_pieces self.now) 0 read 0 written }
+        ensures by_bytes { written % group_bytes (base_of_pieces self.now).width ≡ 0
+            → result ≡ true }
+        ensures by_length { ignores_some (base_of_pieces self.now) ≡ false
+            → (base_of_pieces self.now).concatenates ≡ true
+            → read % group_symbols (base_of_pieces self.now).width ≡ 0 → result ≡ true }
+        ensures specified { IsSpecified (base_of_pieces self.now) }
+    {
+        pieces();
+        whole_groups();
+        let Ok(bytes) = self.encoding.decode_len(self.size) else {
+            unreachable!()
+        };
+        if self.concatenates && !self.ignores && read % self.size == 0 {
+            return true;
+        }
+        written % bytes == 0
+    }
+}
