@@ -133,10 +133,7 @@ pub located-inside : (group : List Positioned) (o : Option GroupFault) (error : 
     → (index : ℕ) × (index < length group) × (error.position ≡ position_of group index)
 located-inside group None error inside e = cc
 located-inside group (Some fault) error inside e =
-    let first : DecodeError =
-    record { position = position_of group fault.index; kind = fault.kind } in
-    let here : first ≡ error = cc in
-    (fault.index, inside, sym (ap (λ (x : DecodeError). x.position) here))
+    (fault.index, inside, cc)
 
 -- or further on, where each byte of one group is so far behind that of the other
 pub located-further : (ks js : List Positioned) (count : ℕ) (o : Option GroupFault)
