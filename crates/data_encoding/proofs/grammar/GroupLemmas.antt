@@ -22,9 +22,9 @@ use Rattle.data_encoding.specs.Lengths.{is_valid_count}
 use Rattle.data_encoding.specs.Fault.{character_fault, count_before_padding, fault_at_first, faulty_at, group_fault, located, padded_fault_at, plain_fault, position_of, symbol_bytes, symbols_fault, trailing_bits, trailing_fault}
 use Rattle.data_encoding.proofs.digits.WidthLemmas.{by_width, group_symbols-pos}
 use Rattle.data_encoding.proofs.grammar.PositionLemmas.{length-meanings}
-use Rattle.data_encoding.proofs.grammar.UnpaddedGroupLemmas.{no_fault-branches, plain_fault-valid, PlainMeans-sound, PlainMeans-valid, PlainMeans-bytes, PlainMeans-no_fault}
+use Rattle.data_encoding.proofs.grammar.UnpaddedGroupLemmas.{plain_fault-valid, PlainMeans-sound, PlainMeans-valid, PlainMeans-bytes, PlainMeans-no_fault}
 use Rattle.data_encoding.proofs.lists.EachLemmas.{all_replicate}
-use Rattle.data_encoding.proofs.lists.ListLemmas.{AllFail, list_any-none}
+use Rattle.data_encoding.proofs.lists.ListLemmas.{AllFail, cond-none, list_any-none}
 use Rattle.data_encoding.proofs.lists.EndLemmas.{AllSo, count_before_end-is, end-passes}
 
 -- a fault that is found has an index below a count
@@ -133,10 +133,7 @@ pub located-inside : (group : List Positioned) (o : Option GroupFault) (error : 
     → (index : ℕ) × (index < length group) × (error.position ≡ position_of group index)
 located-inside group None error inside e = cc
 located-inside group (Some fault) error inside e =
-    let first : DecodeError =
-    record { position = position_of group fault.index; kind = fault.kind } in
-    let here : first ≡ error = cc in
-    (fault.index, inside, sym (ap (λ (x : DecodeError). x.position) here))
+    (fault.index, inside, cc)
 
 -- or further on, where each byte of one group is so far behind that of the other
 pub located-further : (ks js : List Positioned) (count : ℕ) (o : Option GroupFault)
@@ -243,9 +240,9 @@ module _ (base : Base) (width : IsWidth base.width) (padded : is_padded base ≡
   GroupMeans-sound few h =
       let count = count_before_padding group in
       let symbols = take count group in
-      let whole = no_fault-branches (nat_lt (length group) (group_symbols base.width)) _ _
+      let whole = cond-none (nat_lt (length group) (group_symbols base.width)) _ _
       (sym character_fault-padded ∙ h) in
-      let begun = no_fault-branches (count == 0 || not (is_valid_count base.width count)) _ _
+      let begun = cond-none (count == 0 || not (is_valid_count base.width count)) _ _
       whole.1 in
       let good = both_false (count == 0) (is_valid_count base.width count) begun.0 in
       let len : length symbols ≡ count = length-take-le count group (omega arith) in

@@ -1,6 +1,6 @@
 -- The fault of a length, for every base.
-use Rattle.std.proofs.Common.{◌≡◌, ℕ, ◌*◌, ◌/◌, ◌%◌, ◌==◌, Bool, true, false, not, cond, ◌&&◌, Option, Some, None, Ok, Err, refl, ap, ◌<◌, ◌≤◌, nat_lt, sym, ◌∙◌, arith, ⊎_elim}
-use Rattle.std.proofs.lemmas.Bool.{cases_lt, eqb-true, false≢true}
+use Rattle.std.proofs.Common.{◌≡◌, ℕ, ◌*◌, ◌/◌, ◌%◌, ◌==◌, Bool, true, false, not, cond, ◌&&◌, Option, Some, None, Ok, Err, refl, ap, ◌<◌, ◌≤◌, nat_lt, sym, ◌∙◌, arith}
+use Rattle.std.proofs.lemmas.Bool.{eqb-true, false≢true}
 use Rattle.std.proofs.lemmas.Bool.Decides.{nat_tests}
 use Rattle.std.proofs.Math.Nat.{lt_of_not-le, mod-eq_of_lt, mod_self}
 use Rattle.data_encoding.proofs.digits.WidthLemmas.{by_width}
@@ -110,7 +110,6 @@ valid-whole base len some valid = by (is_padded base) refl where
       let size = group_symbols base.width in
       let exact : len % size ≡ 0 =
       eqb-true (len % size) 0 (sym (is_valid_length-by base len true is) ∙ valid) in
-      ⊎_elim {C = nat_lt len size ≡ false}
-      (λ less. absurd (omega (arith, mod-eq_of_lt less, exact, some)))
-      (λ all. grind (arith, nat_tests, all)) (cases_lt len size)
+      let never : len < size → ⊥ = λ less. omega (arith, mod-eq_of_lt less, exact, some) in
+      grind (arith, nat_tests, never)
   by false is = sym (is_valid_length-by base len false is) ∙ valid

@@ -65,13 +65,6 @@ module _ (base : Base) (width : IsWidth base.width) where
         are_bytes = All-append (λ byte. byte < 256) bytes more first.are_bytes second.are_bytes;
       }
 
-  PlainMeans-join : (group others : List Character) (bytes more : List ℕ)
-      → length group ≡ size → PlainMeans base group bytes
-      → PlainMeans base others more → PlainMeans base (group ++ others) (bytes ++ more)
-  PlainMeans-join group others bytes more whole first second =
-      PlainMeans-append group others bytes more (group_bytes base.width)
-      (ap (λ n. base.width * n) whole ∙ group_bits base.width width) first second
-
   -- what a whole group and others mean is joined of what each means
   record AreJoined (group others : List Character) (bytes : List ℕ) : Type 0 where
     first : PlainMeans base group (take (group_bytes base.width) bytes)
@@ -166,7 +159,8 @@ module _ (base : Base) (width : IsWidth base.width) where
       subst (λ groups. PlainMeans base ks (bytes_of groups)) (sym first)
       (subst (λ l. PlainMeans base l (symbol_bytes base (take size ks)
       ++ bytes_of (groups_of (drop size ks)))) (take-append-drop size ks)
-      (PlainMeans-join (take size ks) (drop size ks) _ _ (length-take-le size ks long)
+      (PlainMeans-append (take size ks) (drop size ks) _ _ (group_bytes base.width)
+      (ap (λ n. base.width * n) (length-take-le size ks long) ∙ group_bits base.width width)
       (PlainMeans-sound base width (take size ks) fine.0) (others fine.1))))
       (cases_lt (length ks) size))
 

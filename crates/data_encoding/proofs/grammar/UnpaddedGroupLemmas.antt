@@ -20,7 +20,7 @@ use Rattle.data_encoding.specs.declared.error.DecodeKind.TheVariants.{Length as 
 use Rattle.data_encoding.proofs.digits.BitLemmas.{AreBits, AreBits-take, AreBits-flat_map, AreBits-bits_of, length-bits_of, length-pieces, number_of-bits_of}
 use Rattle.data_encoding.proofs.digits.ValueLemmas.{AreValuesOf-runs}
 use Rattle.data_encoding.proofs.lists.EachLemmas.{all_replicate, all_weaker}
-use Rattle.data_encoding.proofs.lists.ListLemmas.{AllFail, position-none, AllFail-position, list_any-none, AllFail-list_any, zeros}
+use Rattle.data_encoding.proofs.lists.ListLemmas.{AllFail, cond-none, position-none, AllFail-position, list_any-none, AllFail-list_any, zeros}
 use Rattle.data_encoding.proofs.lists.RunLemmas.{runs-flat_map}
 
 numbers_back : (order : BitOrder) (bytes : List ℕ) → AllByRecursion (λ byte. byte < 256) bytes
@@ -81,12 +81,6 @@ none_found : (o : Option ℕ) (otherwise : Option GroupFault)
 none_found None otherwise h = (refl, h)
 none_found (Some index) otherwise h = cc
 
--- what a test may find faulty is not, where there is no fault
-pub no_fault-branches : {A : Type 0} (b : Bool) (fault : A) (o : Option A)
-    → cond b (Some fault) o ≡ None → (b ≡ false) × (o ≡ None)
-no_fault-branches true fault o h = cc
-no_fault-branches false fault o h = (refl, h)
-
 both_false : (a b : Bool) → a && b ≡ false → a ≡ true → b ≡ false
 both_false true b h e = h
 both_false false b h e = cc
@@ -129,7 +123,7 @@ module _ (base : Base) (width : IsWidth base.width) (group : List Character) whe
       let bits = symbol_bits base group in
       let whole = length bits / 8 * 8 in
       let rest = trailing_bits base group in
-      let zero_rest = no_fault-branches
+      let zero_rest = cond-none
       (base.checks_trailing_bits && list_any (λ bit. not (bit == 0)) rest) _ None none.1 in
       let are_bits : AreBits bits = AreBits-flat_map (bits_of base.order base.width) values
       (AreBits-bits_of base.order base.width) in

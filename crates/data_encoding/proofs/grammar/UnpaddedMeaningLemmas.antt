@@ -60,7 +60,8 @@ module _ (base : Base) (width : IsWidth base.width) (unpadded : is_padded base �
         let none = neither_fault (length_fault base (length text)) (first_fault base gs) h in
         let sound = AreSound-none base false gs none.1 in
         subst (PlainMeans base meant)
-        (ap (flat_map (symbol_bytes base)) runs_are ∙ flat_map-map (symbol_bytes base) (meanings_in base) gs
+        (ap (flat_map (symbol_bytes base)) runs_are
+        ∙ flat_map-map (symbol_bytes base) (meanings_in base) gs
         ∙ ap (flat_map (bytes_of_group base))
         (sym (sound-all base false (ends_after base false gs) gs sound)))
         (PlainMeans-from_groups base width meant

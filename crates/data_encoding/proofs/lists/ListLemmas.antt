@@ -1,5 +1,5 @@
 -- Lists: what is found first, what is left out, and parts that are joined.
-use Rattle.std.proofs.Common.{◌≡◌, ℕ, suc, ◌+◌, ◌≤◌, Bool, true, false, not, cond, ◌||◌, nat_lt, List, [], ◌∷◌, ◌++◌, length, map, take, drop, replicate, Some, None, refl, sym, ap, ◌∙◌, arith}
+use Rattle.std.proofs.Common.{◌≡◌, ℕ, suc, ◌+◌, ◌≤◌, Bool, true, false, not, cond, ◌||◌, nat_lt, List, [], ◌∷◌, ◌++◌, length, map, take, drop, replicate, Option, Some, None, refl, sym, ap, ◌∙◌, arith}
 use Rattle.std.proofs.lemmas.Bool.Decides.{nat_tests}
 use Rattle.std.specs.List.{AllByRecursion, list_any, filter, position, prefix_len}
 use Rattle.std.proofs.lemmas.List.{take_at, drop_at}
@@ -38,15 +38,17 @@ position-none test xs h =
     ≡ false = grind (arith, nat_tests, prefix_len-all test xs h) in
     ap (λ b. cond b (Some place) None) past
 
-found : (b : Bool) (n : ℕ) → cond b (Some n) None ≡ None → b ≡ false
-found true n h = cc
-found false n h = refl
+-- where a choice gives nothing, its test fails, and the other branch gives nothing
+pub cond-none : {A : Type 0} (b : Bool) (x : A) (o : Option A) → cond b (Some x) o ≡ None
+    → (b ≡ false) × (o ≡ None)
+cond-none true x o h = cc
+cond-none false x o h = (refl, h)
 
 pub AllFail-position : {X : Type 0} (test : X → Bool) (xs : List X) → position test xs ≡ None
     → AllFail test xs
 AllFail-position test xs h =
     let place = prefix_len (λ x. not (test x)) xs in
-    let past = found (nat_lt place (length xs)) place h in
+    let past = (cond-none (nat_lt place (length xs)) place None h).0 in
     AllFail-prefix_len test xs (grind (arith, nat_tests))
 
 -- the same of a test of each

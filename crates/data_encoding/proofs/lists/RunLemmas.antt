@@ -1,8 +1,8 @@
 -- Lists cut into runs.
 use Rattle.std.proofs.Common.{◌≡◌, ℕ, zero, suc, ◌+◌, ◌-◌, ◌*◌, ◌/◌, ◌%◌, ◌<◌, ◌≤◌, List, [], ◌∷◌, ◌++◌, length, map, take, drop, refl, sym, ap, ◌∙◌, arith, length-append, append-nil, append_assoc, take-append-drop, length-take, length-take-le, subst, ⊎_elim}
-use Rattle.std.proofs.Math.Nat.{add-div_left, add-mul, div-eq_of_lt, div-eq_of_lt-le, div-mul-le_self, lt-div-mul-add, mul-le-mul_right, mul-suc, zero-mul, suc-mul}
-use Rattle.std.proofs.lemmas.List.{take_at, drop_at, take_all, drop_all, length-map, take-map, drop-map, nil_from_length, length-drop, take-append-le, drop-append-le}
-use Rattle.std.proofs.lemmas.Nat.{div-add-mod', div_below, le-div}
+use Rattle.std.proofs.Math.Nat.{mod-eq-sub-mod, mod-eq_of_lt, add-div_left, add-mul, div-eq_of_lt, div-eq_of_lt-le, div-mul-le_self, lt-div-mul-add, mul-le-mul_right, mul-suc, zero-mul, suc-mul}
+use Rattle.std.proofs.lemmas.List.{take_at, drop_at, take_all, drop_all, length-map, take-map, drop-map, length-drop, take-append-le, drop-append-le}
+use Rattle.std.proofs.lemmas.Nat.{div_below, le-div}
 use Rattle.std.proofs.lemmas.Bool.{cases_lt}
 use Rattle.std.proofs.lemmas.Grind.{div_ceil_times}
 use Rattle.std.specs.Int.{div_ceil}
@@ -129,32 +129,26 @@ few_runs {X} size xs h =
     ((omega (arith, front, h), omega (arith, front)), others))
     xs
 
-runs-join_within : {X : Type 0} (size k : ℕ) (xs ys : List X) → 0 < size → length xs ≡ k * size
-    → runs size (xs ++ ys) ≡ runs size xs ++ runs size ys
-runs-join_within {X} size zero xs ys h e =
-    let none = nil_from_length xs (e ∙ zero-mul size) in
-    ap (λ l. runs size (l ++ ys)) none
-    ∙ ap (λ l. l ++ runs size ys) (sym (runs-nil {X = X} size h) ∙ ap (runs size) (sym none))
-runs-join_within size (suc k) xs ys h e =
-    let more : length xs ≡ size + k * size = e ∙ suc-mul k size ∙ omega arith in
-    let front = take size xs in
-    let back = drop size xs in
-    let front_len : length front ≡ size = length-take-le size xs (omega arith) in
-    let back_len : length back ≡ k * size = length-drop size xs ∙ omega arith in
-    let parts : front ++ back ≡ xs = take-append-drop size xs in
-    ap (λ l. runs size (l ++ ys)) (sym parts)
-    ∙ ap (runs size) (append_assoc front back ys)
-    ∙ runs-append size front (back ++ ys) h front_len
-    ∙ ap (λ l. front ∷ l) (runs-join_within size k back ys h back_len)
-    ∙ ap (λ l. l ++ runs size ys) (sym (runs-append size front back h front_len)
-    ∙ ap (runs size) parts)
-
 -- whole runs, and then the runs of the others
 pub runs-join : {X : Type 0} (size : ℕ) (xs ys : List X) → 0 < size → length xs % size ≡ 0
     → runs size (xs ++ ys) ≡ runs size xs ++ runs size ys
-runs-join size xs ys h e =
-    runs-join_within size (length xs / size) xs ys h
-    (sym (div-add-mod' (length xs) size) ∙ ap (λ r. length xs / size * size + r) e ∙ omega arith)
+runs-join {X} size xs ys h =
+    by_runs size h
+    (λ l. length l % size ≡ 0 → runs size (l ++ ys) ≡ runs size l ++ runs size ys)
+    (λ e. ap (λ gs. gs ++ runs size ys) (sym (runs-nil {X = X} size h)))
+    (λ l some others e.
+    let never : length l < size → ⊥ = λ short. omega (arith, mod-eq_of_lt short, e, some) in
+    let long : size ≤ length l = omega arith in
+    let front = take size l in
+    let back = drop size l in
+    let back_whole : length back % size ≡ 0 =
+    ap (λ n. n % size) (length-drop size l) ∙ sym (mod-eq-sub-mod long) ∙ e in
+    ap (λ k. runs size (k ++ ys)) (sym (take-append-drop size l))
+    ∙ ap (runs size) (append_assoc front back ys)
+    ∙ runs-append size front (back ++ ys) h (length-take-le size l long)
+    ∙ ap (λ gs. front ∷ gs) (others back_whole)
+    ∙ ap (λ gs. gs ++ runs size ys) (sym (runs-first size l h some)))
+    xs
 
 pub runs-map : {X Y : Type 0} (size : ℕ) (f : X → Y) (xs : List X) → 0 < size
     → runs size (map f xs) ≡ map (map f) (runs size xs)

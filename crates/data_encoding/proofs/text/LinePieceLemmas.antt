@@ -1,6 +1,6 @@
 -- Texts in lines, made by pieces: line by line, and by blocks of lines.
 use Rattle.std.proofs.Common.{◌≡◌, ℕ, ◌+◌, ◌*◌, ◌/◌, ◌%◌, ◌<◌, ◌≤◌, Some, IsSome, List, ◌++◌, length, sym, ap, ◌∙◌, subst, arith, length-append}
-use Rattle.std.proofs.Math.Nat.{le-mul_of_pos_right, mul-mod_left, mul_assoc}
+use Rattle.std.proofs.Math.Nat.{div-le_self, le-mul_of_pos_right, mul-mod_left, mul_assoc}
 use Rattle.std.proofs.lemmas.Nat.{le-div}
 use Rattle.std.proofs.lemmas.List.Concat.{flat_map-append}
 use Rattle.std.specs.Prelude.{flat_map}
@@ -117,12 +117,7 @@ module _ {e : EncodingTables} {seen : Base} (rules : KeepsRules e) (is : base_of
   -- as many lines as there is room for
   module _ (room : ℕ) where
     pub lines-few : room / e.column ≤ room
-    lines-few =
-        omega (
-          arith,
-          le-mul_of_pos_right (room / e.column) columns-some,
-          groups-within room e.column,
-        )
+    lines-few = div-le_self room e.column
 
     pub lines-some : 256 ≤ room → 0 < room / e.column
     lines-some enough =

@@ -1,5 +1,5 @@
 -- The text of data with padding.
-use Rattle.std.proofs.Common.{◌≡◌, ℕ, ◌+◌, ◌-◌, ◌*◌, ◌<◌, ◌≤◌, true, false, Option, Some, None, IfSome, is_some, List, ◌++◌, length, take, drop, replicate, refl, sym, ap, ◌∙◌, subst, arith, length-append}
+use Rattle.std.proofs.Common.{◌≡◌, ℕ, ◌+◌, ◌-◌, ◌*◌, ◌<◌, ◌≤◌, true, false, Option, Some, None, IfSome, cond, is_some, List, ◌++◌, length, take, drop, replicate, refl, sym, ap, ◌∙◌, arith, length-append}
 use Rattle.std.proofs.Math.Nat.{mul_comm}
 use Rattle.std.proofs.lemmas.List.{length-replicate}
 use Rattle.std.specs.List.{AllByRecursion}
@@ -31,6 +31,13 @@ length-filled_with filler size xs =
     length-append xs (replicate (missing size (length xs)) filler)
     ∙ ap (λ n. length xs + n) (length-replicate (missing size (length xs)) filler)
 
+-- padding is what is missing
+length-with_padding : (o : Option ℕ) (size : ℕ) (xs : List ℕ)
+    → length (with_padding o size xs)
+    ≡ length xs + cond (is_some o) (missing size (length xs)) 0
+length-with_padding None size xs = omega arith
+length-with_padding (Some character) size xs = length-filled_with character size xs
+
 -- where there are no lines
 pub text_of-unwrapped : (base : Base) (bytes : List ℕ) → base.wrapping ≡ None
     → text_of base bytes ≡ padded_text base bytes
@@ -61,17 +68,13 @@ module _ (base : Base) (bytes : List ℕ) (width : IsWidth base.width) where
       (whole : size ≡ length (padded_text base bytes)) where
     pub symbols-first : count ≤ size
     symbols-first =
-        subst (λ n. count ≤ n) (sym whole)
-        (subst (λ n. n ≤ length (padded_text base bytes))
-        (length-plain_text base bytes width.some ∙ sym is) (by_padding base.padding)) where
-          by_padding : (o : Option ℕ) → length (plain_text base bytes)
-              ≤ length (with_padding o (group_symbols base.width) (plain_text base bytes))
-          by_padding None = omega arith
-          by_padding (Some character) =
-              omega (
-                arith,
-                length-filled_with character (group_symbols base.width) (plain_text base bytes),
-              )
+        omega (
+          arith,
+          is,
+          whole,
+          length-plain_text base bytes width.some,
+          length-with_padding base.padding (group_symbols base.width) (plain_text base bytes),
+        )
 
     pub padded_text-some : (character : ℕ) → base.padding ≡ Some character
         → padded_text base bytes ≡ plain_text base bytes ++ replicate (size - count) character
@@ -89,18 +92,12 @@ module _ (base : Base) (bytes : List ℕ) (width : IsWidth base.width) where
   length-padded some =
       let size = group_symbols base.width in
       let text = plain_text base bytes in
-      by_padding base.padding some
+      length-with_padding base.padding size text
+      ∙ ap (λ b. length text + cond b (missing size (length text)) 0) some
       ∙ filled_count size (length text) (group_symbols-pos base.width width)
       ∙ ap (λ n. size * run_count size n) (length-plain_text base bytes width.some)
       ∙ ap (λ n. size * n) (groups-same base.width width (length bytes))
-      ∙ mul_comm size (run_count (group_bytes base.width) (length bytes)) where
-        by_padding : (o : Option ℕ) → is_some o ≡ true
-            → length (with_padding o (group_symbols base.width) (plain_text base bytes))
-            ≡ length (plain_text base bytes)
-            + missing (group_symbols base.width) (length (plain_text base bytes))
-        by_padding None h = cc
-        by_padding (Some character) h =
-            length-filled_with character (group_symbols base.width) (plain_text base bytes)
+      ∙ mul_comm size (run_count (group_bytes base.width) (length bytes))
 
 -- a text of ASCII symbols and ASCII padding is ASCII
 pub ascii-padded_text : (base : Base) (bytes : List ℕ) → ((value : ℕ) → symbol base value < 128)

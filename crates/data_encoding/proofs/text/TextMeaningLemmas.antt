@@ -8,7 +8,7 @@ use Rattle.std.specs.Prelude.{All}
 use Rattle.data_encoding.specs.declared.encoding.Character.TheVariants.{Padding}
 use Rattle.data_encoding.specs.Base.{Base, IsWidth, meaning, is_padded, group_bytes, group_symbols}
 use Rattle.data_encoding.specs.Bits.{missing, runs}
-use Rattle.data_encoding.specs.Grammar.{GroupMeans, GroupsMean, Means, MeansBy, PlainMeans, bytes_in, kept}
+use Rattle.data_encoding.specs.Grammar.{GroupsMean, Means, MeansBy, PlainMeans, bytes_in, kept}
 use Rattle.data_encoding.specs.Text.{filled_with, plain_text, text_of, with_padding}
 use Rattle.data_encoding.proofs.digits.WidthLemmas.{by_width, group_bytes-pos, group_symbols-pos}
 use Rattle.data_encoding.proofs.grammar.GroupLemmas.{GroupMeans-whole}
@@ -49,38 +49,6 @@ module _ (base : Base) (ruled : IsRuled base) where
     abbrev filled : List ℕ → List ℕ
     filled bytes = filled_with character size (plain_text base bytes)
 
-    plain_means : (bytes : List ℕ) → All (λ byte. byte < 256) bytes
-        → PlainMeans base (map (meaning base) (plain_text base bytes)) bytes
-    plain_means bytes below = PlainMeans-plain_text base ruled bytes below
-
-    -- a whole group of symbols, which another may follow
-    whole_group : (bytes : List ℕ) → All (λ byte. byte < 256) bytes
-        → length bytes ≡ group_bytes base.width
-        → GroupMeans base (map (meaning base) (plain_text base bytes)) bytes
-    whole_group bytes below e =
-        let group = map (meaning base) (plain_text base bytes) in
-        let len : length group ≡ size =
-        length-map (plain_text base bytes) (meaning base)
-        ∙ length-plain_text base bytes width.some ∙ ap (λ n. run_count base.width (8 * n)) e
-        ∙ whole_symbols base.width width in
-        GroupMeans-whole base width group bytes len (plain_means bytes below)
-
-    -- the last group
-    last_group : (bytes : List ℕ) → All (λ byte. byte < 256) bytes → 0 < length bytes
-        → length bytes ≤ group_bytes base.width
-        → GroupMeans base (map (meaning base) (filled bytes)) bytes
-    last_group bytes below some few =
-        let text = plain_text base bytes in
-        let len = length-plain_text base bytes width.some in
-        let count = missing size (length text) in
-        let begun = run_count-some base.width (8 * length bytes) width.some (omega arith) in
-        let within = few_symbols base.width width (length bytes) few in
-        GroupMeans-fillers base text (replicate count character) bytes (plain_means bytes below)
-        (omega (arith, len, begun))
-        (length-filled_once character size text (omega (arith, len, begun))
-        (omega (arith, len, within)))
-        (AreFillers-replicate base count character means_padding)
-
     abbrev AreMeant : List ℕ → Type 0
     AreMeant bytes = GroupsMean base (runs size (map (meaning base) (filled bytes))) bytes
 
@@ -93,14 +61,24 @@ module _ (base : Base) (ruled : IsRuled base) where
         subst (λ gs. GroupsMean base gs [])
         (sym (ap (λ l. runs size (map (meaning base) l)) empty ∙ runs-nil size positive)) refl
 
+    -- the last group
     last_meant : (bytes : List ℕ) → All (λ byte. byte < 256) bytes → 0 < length bytes
         → length bytes ≤ group_bytes base.width → AreMeant bytes
     last_meant bytes below some few =
-        let means = last_group bytes below some few in
-        let positive = group_symbols-pos base.width width in
+        let text = plain_text base bytes in
+        let len = length-plain_text base bytes width.some in
+        let begun = run_count-some base.width (8 * length bytes) width.some (omega arith) in
+        let within = few_symbols base.width width (length bytes) few in
+        let count = missing size (length text) in
+        let means = GroupMeans-fillers base text (replicate count character) bytes
+        (PlainMeans-plain_text base ruled bytes below) (omega (arith, len, begun))
+        (length-filled_once character size text (omega (arith, len, begun))
+        (omega (arith, len, within)))
+        (AreFillers-replicate base count character means_padding) in
         subst (λ gs. GroupsMean base gs bytes)
         (sym (runs-short size (map (meaning base) (filled bytes))
-        (subst (λ n. 0 < n) (sym means.is_whole) positive) (omega (arith, means.is_whole))))
+        (omega (arith, means.is_whole, group_symbols-pos base.width width))
+        (omega (arith, means.is_whole))))
         (bytes, [], sym (append-nil bytes), means, (λ final. refl), refl)
 
     -- a whole group, and those of the others
@@ -113,14 +91,17 @@ module _ (base : Base) (ruled : IsRuled base) where
         let rest = drop count bytes in
         let text = plain_text base front in
         let front_len : length front ≡ count = length-take-le count bytes long in
-        let means = whole_group front (All-take (λ byte. byte < 256) count bytes below) front_len in
+        let symbols = PlainMeans-plain_text base ruled front
+        (All-take (λ byte. byte < 256) count bytes below) in
         let text_len : length text ≡ size =
-        sym (length-map text (meaning base)) ∙ means.is_whole in
+        length-plain_text base front width.some ∙ ap (λ n. run_count base.width (8 * n)) front_len
+        ∙ whole_symbols base.width width in
+        let means = GroupMeans-whole base width (map (meaning base) text) front
+        (length-map text (meaning base) ∙ text_len) symbols in
         let joined : plain_text base bytes ≡ text ++ plain_text base rest =
         ap (plain_text base) (sym (take-append-drop count bytes))
         ∙ plain_text-join base front rest width.some
         (ap (λ n. 8 * n % base.width) front_len ∙ whole_bits base.width width) in
-        let symbols = plain_means front (All-take (λ byte. byte < 256) count bytes below) in
         let parts : map (meaning base) (filled bytes)
         ≡ map (meaning base) text ++ map (meaning base) (filled rest) =
         ap (λ l. map (meaning base) (filled_with character size l)) joined
