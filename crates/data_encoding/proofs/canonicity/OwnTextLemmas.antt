@@ -21,6 +21,7 @@ use Rattle.data_encoding.proofs.digits.WordLemmas.{map-twice}
 use Rattle.data_encoding.proofs.grammar.UnpaddedGroupLemmas.{length-bits_of_values}
 use Rattle.data_encoding.proofs.lists.EachLemmas.{passes_at}
 use Rattle.data_encoding.proofs.lists.RunLemmas.{runs-flat_map}
+use Rattle.data_encoding.proofs.judgement.RoundTripLemmas.{value-small}
 use Rattle.data_encoding.proofs.judgement.RuleLemmas.{IsRuled, IsRuledPadding, is_within}
 use Rattle.data_encoding.proofs.text.PlainTextLemmas.{missing-none}
 
@@ -83,10 +84,7 @@ module _ (base : Base) (ruled : IsRuled base) where
   pub value_below : (byte value : ℕ) → meaning base byte ≡ Symbol value → value < 2 ^ base.width
   value_below byte value is =
       let low = ascii byte (λ none. cc) in
-      let test = passes_at (is_within (length base.symbols)) base.meanings byte Invalid ruled.within
-      (omega (arith, low, ruled.long)) in
-      let here = sym (ap (is_within (length base.symbols)) is) ∙ test in
-      omega (arith, ltb-true value (length base.symbols) here, ruled.count)
+      omega (arith, value-small base ruled byte value low is, ruled.count)
 
   values_below : (text values : List ℕ)
       → map (meaning base) text ≡ map (λ value. Symbol value) values

@@ -213,8 +213,7 @@ layout-rules base bytes is same =
 
 entry-is : (n v : ℕ) → (v < n) ⊎ ((128 ≤ v) × (v ≤ 130)) → is_entry_of n v ≡ true
 entry-is n v (inl less) = grind (arith, nat_tests)
-entry-is n v (inr between) =
-    let from = between.0 in let to = between.1 in grind (arith, nat_tests)
+entry-is n v (inr between) = grind (arith, nat_tests, between.0, between.1)
 
 entry-not_ignored : (v : ℕ) → v ≢ 129 → is_ignored (meaning_of_entry v) ≡ false
 entry-not_ignored v h = grind (arith, nat_tests)
@@ -233,9 +232,8 @@ sum-is sum few =
     (passes_at test (range_with_len 0 64) sum 0 refl few))
 
 checks-rule : (check whole : Bool) → (whole ≡ true → check ≡ true) → (check || whole) ≡ check
-checks-rule true whole h = refl
 checks-rule false true h = sym (h refl)
-checks-rule false false h = refl
+checks-rule _ _ h = refl
 
 concatenates-rule : (concatenates none : Bool) → (concatenates ≡ false → none ≡ false)
     → (concatenates || none) ≡ concatenates

@@ -109,17 +109,13 @@ module _ (e : EncodingTables) (rules : KeepsRules e) where
   -- a byte whose entry is 129 is ASCII
   ignored-low : (byte : ℕ) → get_or e.values byte 0 ≡ 129 → byte < 128
   ignored-low byte h =
-      ⊎_elim (λ (low : byte < 128). low)
-      (λ (high : 128 ≤ byte).
-      ⊎_elim
-      (λ (within : byte < 256).
-      absurd (omega (arith, h, high_entry e.values (HoldsEntries-tables) byte high within)))
-      (λ (past : 256 ≤ byte).
-      let long : length e.values ≤ byte =
-      omega (arith, past, length-entries e.values (HoldsEntries-tables)) in
-      absurd (omega (arith, h, get_or_past e.values byte 0 long)))
-      (cases_lt byte 256))
-      (cases_lt byte 128)
+      grind (
+        arith,
+        h,
+        high_entry e.values (HoldsEntries-tables) byte,
+        get_or_past e.values byte 0,
+        length-entries e.values (HoldsEntries-tables),
+      )
 
   ruled-separator : (bytes : List ℕ) → list_all (λ byte. get_or e.values byte 0 == 129) bytes ≡ true
       → AllByRecursion (λ byte. (byte < 128) × (meaning (base_of_tables e) byte ≡ Ignored)) bytes
