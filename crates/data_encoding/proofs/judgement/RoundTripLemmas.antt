@@ -224,7 +224,8 @@ module _ (base : Base) (ruled : IsRuled base) where
       let column = lines.column in
       let separator = lines.separator in
       let on : wraps column separator ≡ true =
-      and_from (not (column == 0)) (not (length separator == 0)) (apart_test column 0 (λ e. omega (arith, e, rule.some)))
+      and_from (not (column == 0)) (not (length separator == 0))
+      (apart_test column 0 (λ e. omega (arith, e, rule.some)))
       (apart_test (length separator) 0 (λ e. omega (arith, e, rule.ended))) in
       subst
       (λ b. AllByRecursion (Agrees base.meanings no_meanings) (cond b

@@ -93,7 +93,8 @@ module _ (e : EncodingTables) (rules : KeepsRules e) where
       (cases_lt value (2 ^ e.width))
 
 -- what a contract knows of the base that it sees
-module _ (e : EncodingTables) (rules : KeepsRules e) (seen : Base) (is : base_of_tables e ≡ seen) where
+module _ (e : EncodingTables) (rules : KeepsRules e) (seen : Base)
+    (is : base_of_tables e ≡ seen) where
   pub IsWidth-seen : IsWidth seen.width
   IsWidth-seen = subst (λ b. IsWidth b.width) is rules.is_width
 

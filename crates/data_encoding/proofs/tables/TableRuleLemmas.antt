@@ -1,6 +1,6 @@
 -- The rules on the tables of an encoding are those on its base.
-use Rattle.std.proofs.Common.{◌≡◌, ◌↔◌, ℕ, zero, suc, ◌%◌, ◌/◌, ◌^◌, ◌<◌, ◌≤◌, ◌==◌, Bool, true, false, not, ◌||◌, nat_lt, List, [], ◌∷◌, length, map, take, get_or, replicate, Option, Some, None, is_none, is_some, refl, sym, ap, ◌∙◌, arith, ⊎_elim}
-use Rattle.std.proofs.lemmas.Bool.{eqb-true, eq-eqb, lt-ltb, ltb-true, cases_lt}
+use Rattle.std.proofs.Common.{◌≡◌, ◌↔◌, ℕ, zero, suc, ◌%◌, ◌/◌, ◌^◌, ◌<◌, ◌≤◌, ◌==◌, Bool, true, false, not, ◌||◌, nat_lt, List, [], ◌∷◌, length, map, take, get_or, replicate, Option, Some, None, is_none, is_some, refl, sym, ap, ◌∙◌, arith}
+use Rattle.std.proofs.lemmas.Bool.{eqb-true, eq-eqb, lt-ltb, ltb-true}
 use Rattle.std.proofs.lemmas.Bool.Decides.{nat_tests}
 use Rattle.std.proofs.lemmas.List.{ext_get_or, get_or-map, get_or_past, length-map}
 use Rattle.std.proofs.lemmas.List.FromFn.{get_or-range_with_len, length-range_with_len}
@@ -192,7 +192,8 @@ module _ (e : EncodingTables) (rules : KeepsRules e) where
   is_base_of = IsSpecified-ruled (base_of_tables e) (IsRuled-tables)
 
 -- from the base to the tables
-module _ (e : EncodingTables) (ruled : IsRuled (base_of_tables e)) (holds : HoldsEntries e.values) where
+module _ (e : EncodingTables) (ruled : IsRuled (base_of_tables e))
+    (holds : HoldsEntries e.values) where
   own-entry : (i : ℕ) → i < length (take (2 ^ e.width) e.symbols)
       → get_or e.values (get_or (take (2 ^ e.width) e.symbols) i 0) 0 ≡ i
   own-entry i h =
