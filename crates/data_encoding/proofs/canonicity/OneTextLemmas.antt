@@ -39,10 +39,6 @@ not_true : (b : Bool) → not b ≡ true → b ≡ false
 not_true true h = cc
 not_true false h = refl
 
-second_false : (a b : Bool) → (a && b) ≡ false → a ≡ true → b ≡ false
-second_false true b h e = h
-second_false false b h e = cc
-
 parts_of : (base : Base) → has_one_own_form base ≡ true → HasOneForm base
 parts_of base h =
     let alone = not (is_padded base && base.concatenates) in
@@ -77,7 +73,7 @@ module _ (base : Base) (ruled : IsRuled base) (one : HasOneForm base) where
     filled bytes = filled_with character size (plain_text base bytes)
 
     joins : base.concatenates ≡ false
-    joins = second_false (is_padded base) base.concatenates one.alone (ap is_some some)
+    joins = sym (ap (λ o. is_some o && base.concatenates) some) ∙ one.alone
 
     -- a group that has padding is final
     final : (group : List Positioned) (piece : List ℕ)

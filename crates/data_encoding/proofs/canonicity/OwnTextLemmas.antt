@@ -1,6 +1,6 @@
 -- What the bytes of a text stand for is decided by what they mean.
 use Rattle.std.proofs.Common.{◌≡◌, ℕ, ◌+◌, ◌-◌, ◌%◌, ◌^◌, ◌<◌, ◌≤◌, ◌==◌, true, not, List, [], ◌∷◌, ◌++◌, length, map, replicate, Option, Some, None, unwrap_or, refl, sym, ap, ◌∙◌, subst, arith, ⊎_elim, length-append, zero, suc}
-use Rattle.std.proofs.lemmas.Bool.{cases_eq, cases_lt, ltb-true, ne_eqb}
+use Rattle.std.proofs.lemmas.Bool.{cases_eq, cases_lt, ne_eqb}
 use Rattle.std.proofs.lemmas.Nat.{mod_below}
 use Rattle.std.proofs.lemmas.List.{get_or_past}
 use Rattle.std.proofs.Math.Nat.{add-mod, add-mod_left, mod-eq_of_lt, mul_comm, mul-mod_left}
@@ -19,9 +19,9 @@ use Rattle.data_encoding.proofs.canonicity.TranslatedLemmas.{not_translated}
 use Rattle.data_encoding.proofs.digits.BitLemmas.{length-bits_of, number_of-bits_of}
 use Rattle.data_encoding.proofs.digits.WordLemmas.{map-twice}
 use Rattle.data_encoding.proofs.grammar.UnpaddedGroupLemmas.{length-bits_of_values}
-use Rattle.data_encoding.proofs.lists.EachLemmas.{passes_at}
 use Rattle.data_encoding.proofs.lists.RunLemmas.{runs-flat_map}
-use Rattle.data_encoding.proofs.judgement.RuleLemmas.{IsRuled, IsRuledPadding, is_within}
+use Rattle.data_encoding.proofs.judgement.RoundTripLemmas.{value-small}
+use Rattle.data_encoding.proofs.judgement.RuleLemmas.{IsRuled, IsRuledPadding}
 use Rattle.data_encoding.proofs.text.PlainTextLemmas.{missing-none}
 
 -- what completes a length to a multiple is what is missing
@@ -83,10 +83,7 @@ module _ (base : Base) (ruled : IsRuled base) where
   pub value_below : (byte value : ℕ) → meaning base byte ≡ Symbol value → value < 2 ^ base.width
   value_below byte value is =
       let low = ascii byte (λ none. cc) in
-      let test = passes_at (is_within (length base.symbols)) base.meanings byte Invalid ruled.within
-      (omega (arith, low, ruled.long)) in
-      let here = sym (ap (is_within (length base.symbols)) is) ∙ test in
-      omega (arith, ltb-true value (length base.symbols) here, ruled.count)
+      omega (arith, value-small base ruled byte value low is, ruled.count)
 
   values_below : (text values : List ℕ)
       → map (meaning base) text ≡ map (λ value. Symbol value) values

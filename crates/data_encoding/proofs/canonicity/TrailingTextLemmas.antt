@@ -54,11 +54,15 @@ trails order width same short below some few =
 trails_at : (order : BitOrder) (width : ℕ) → IsWidth width → (8 % width ≡ 0 → ⊥)
     → TrailsAt order width
 trails_at MostSignificantFirst =
-    partly (TrailsAt MostSignificantFirst) (trails MostSignificantFirst 3 refl refl refl refl refl)
-    (trails MostSignificantFirst 5 refl refl refl refl refl) (trails MostSignificantFirst 6 refl refl refl refl refl)
+    partly (TrailsAt MostSignificantFirst)
+    (trails MostSignificantFirst 3 refl refl refl refl refl)
+    (trails MostSignificantFirst 5 refl refl refl refl refl)
+    (trails MostSignificantFirst 6 refl refl refl refl refl)
 trails_at LeastSignificantFirst =
-    partly (TrailsAt LeastSignificantFirst) (trails LeastSignificantFirst 3 refl refl refl refl refl)
-    (trails LeastSignificantFirst 5 refl refl refl refl refl) (trails LeastSignificantFirst 6 refl refl refl refl refl)
+    partly (TrailsAt LeastSignificantFirst)
+    (trails LeastSignificantFirst 3 refl refl refl refl refl)
+    (trails LeastSignificantFirst 5 refl refl refl refl refl)
+    (trails LeastSignificantFirst 6 refl refl refl refl refl)
 
 -- symbols of the value 0, and another
 abbrev symbols_with : ℕ → ℕ → ℕ → List ℕ

@@ -129,8 +129,8 @@ module _ (width : ℕ) (fields : Fields) (meanings : List Character)
     by false rule h = cc
 
 -- What the builder has of a specification that is not refused.
-pub record IsMadeOf (fields : Fields) (e : EncodingTables) (meanings : List Character) : Type 0
-    where
+pub record IsMadeOf (fields : Fields) (e : EncodingTables) (meanings : List Character)
+    : Type 0 where
   pub width_is : width_of (length fields.symbols) ≡ Some e.width
   pub is_width : IsWidth e.width
   pub count : 2 ^ e.width ≡ length fields.symbols

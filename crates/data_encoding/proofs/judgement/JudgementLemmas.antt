@@ -1,6 +1,6 @@
 -- Judgements in turn: what they keep, and what they define.
 use Rattle.std.proofs.Common.{◌≡◌, ◌≢◌, ℕ, zero, suc, ◌+◌, ◌<◌, ◌≤◌, Bool, true, false, nat_le, if◌then◌else◌, List, [], ◌∷◌, ◌++◌, length, get_or, Result, Ok, Err, refl, sym, ap, ◌∙◌, arith, inl, inr, ⊎_elim, ◌⊎◌, get_or-set_same, get_or-set_other}
-use Rattle.std.proofs.lemmas.Bool.{cases_lt}
+use Rattle.std.proofs.lemmas.Bool.{cases_lt, false≢true}
 use Rattle.std.proofs.lemmas.Bool.Decides.{nat_tests}
 use Rattle.std.proofs.lemmas.List.{length-set, get_or_past}
 use Rattle.std.proofs.Math.ListN.{set}
@@ -129,9 +129,6 @@ translated_by-ok : (past none : Bool) (r : Judged) (to : ℕ) (after : List Char
 translated_by-ok false false r to after h = (refl, refl, h)
 translated_by-ok _ _ r to after h = cc
 
-not_same : (m : Character) → is_same m Invalid ≡ false → m ≢ Invalid
-not_same m h e = let same : is_same m Invalid ≡ true = ap (λ n. is_same n Invalid) e in cc
-
 translated-ok : (before after : List Character) (from to : ℕ)
     → translated before from to ≡ Ok after → IsTranslated before from to after
 translated-ok before after from to h =
@@ -141,7 +138,7 @@ translated-ok before after from to h =
     let low : nat_le 128 to ≡ false = cases.0 in
     record {
       ascii = grind (arith, nat_tests);
-      means = not_same had cases.1;
+      means = λ e. false≢true (sym cases.1 ∙ ap (λ m. is_same m Invalid) e);
       is_defined = defined-ok before after from had cases.2;
     }
 

@@ -1,6 +1,6 @@
 -- The specification of a base yields it again.
 use Rattle.std.proofs.Common.{◌≡◌, ◌≢◌, ◌⊎◌, ℕ, suc, ◌+◌, ◌%◌, ◌<◌, ◌≤◌, ◌==◌, Bool, true, false, not, ◌&&◌, nat_le, nat_lt, cond, if◌then◌else◌, List, [], ◌∷◌, length, map, get_or, Option, Some, None, unwrap_or, Ok, Err, refl, sym, ap, ◌∙◌, subst, arith, inl, inr, ⊎_elim, get_or-set_same, get_or-set_other}
-use Rattle.std.proofs.lemmas.Bool.{and_from, cases_eq, cases_lt, eq-eqb, ltb-true, lt-ltb, lt-leb}
+use Rattle.std.proofs.lemmas.Bool.{and_from, false≢true, cases_eq, cases_lt, eq-eqb, ltb-true, lt-ltb, lt-leb}
 use Rattle.std.proofs.lemmas.List.{ext_get_or, get_or-replicate, get_or_past, length-map}
 use Rattle.std.proofs.Math.ListN.{set}
 use Rattle.std.specs.List.{AllByRecursion}
@@ -82,13 +82,11 @@ define-goes target before byte m long low is below =
             (λ (there : get_or before byte Invalid ≡ get_or target byte Invalid).
             let yes : is_same (get_or before byte Invalid) m ≡ true =
             ap (λ n. is_same n m) (there ∙ is) ∙ is_same-self m in
-            absurd (differ (is_same (get_or before byte Invalid) m) yes s))
+            absurd (false≢true (sym s ∙ yes)))
             (below byte) in
             by_cases false false true before byte m past s (ap (λ n. is_same n Invalid) none);
         below = set-below target before byte m long low is below;
-      } where
-        differ : (b : Bool) → b ≡ true → b ≡ false → ⊥
-        differ b h k = cc
+      }
 
 translate-goes : (target known before : List Character) (from to : ℕ) → length before ≡ 128
     → Agrees target known (Translate from to) → AreKept known before → IsBelow before target
@@ -185,7 +183,7 @@ pairs-held meanings f [] all = tt
 pairs-held meanings f (byte ∷ bytes) all = (all.0, pairs-held meanings f bytes all.1)
 
 module _ (base : Base) (ruled : IsRuled base) where
-  value-small : (byte value : ℕ) → byte < 128 → meaning base byte ≡ Symbol value
+  pub value-small : (byte value : ℕ) → byte < 128 → meaning base byte ≡ Symbol value
       → value < length base.symbols
   value-small byte value low is =
       let limit = length base.symbols in
@@ -226,7 +224,8 @@ module _ (base : Base) (ruled : IsRuled base) where
       let column = lines.column in
       let separator = lines.separator in
       let on : wraps column separator ≡ true =
-      and_from (not (column == 0)) (not (length separator == 0)) (apart_test column 0 (λ e. omega (arith, e, rule.some)))
+      and_from (not (column == 0)) (not (length separator == 0))
+      (apart_test column 0 (λ e. omega (arith, e, rule.some)))
       (apart_test (length separator) 0 (λ e. omega (arith, e, rule.ended))) in
       subst
       (λ b. AllByRecursion (Agrees base.meanings no_meanings) (cond b

@@ -241,16 +241,11 @@ module _ (base : Base) (ruled : IsRuled base) (unwrapped : base.wrapping ≡ Non
     next-above : (value : ℕ) → value + 1 < 2 ^ base.width
         → symbol base value < symbol base (value + 1)
     next-above value within =
-        ⊎_elim
-        (λ (less : symbol base (value + 1) < symbol base value).
-        absurd (not-broken (value * 2 ^ (8 - base.width) ∷ [])
-        ((value + 1) * 2 ^ (8 - base.width) ∷ [])
-        (breaks-descending (most-first base.order refl) value within less)))
-        (λ (more : symbol base value ≤ symbol base (value + 1)).
-        let differ : symbol base value ≡ symbol base (value + 1) → ⊥ =
-        symbols-differ value (value + 1) (omega arith) within in
-        omega (arith, more, differ))
-        (cases_lt (symbol base (value + 1)) (symbol base value))
+        let never : symbol base (value + 1) < symbol base value → ⊥ =
+        λ less.
+        not-broken _ _ (breaks-descending (most-first base.order refl) value within less) in
+        let differ = symbols-differ value (value + 1) (omega arith) within in
+        omega (arith, never, differ)
 
     all-above : (a b : ℕ) → a < b → b < 2 ^ base.width → symbol base a < symbol base b
     all-above a zero h k = absurd (omega (arith, h))
@@ -269,9 +264,9 @@ module _ (base : Base) (ruled : IsRuled base) (unwrapped : base.wrapping ≡ Non
     padding-below : (character : ℕ) → base.padding ≡ Some character
         → character < symbol base 0
     padding-below character padded =
-        ⊎_elim
-        (λ (less : character < symbol base 0). less)
-        (λ (more : symbol base 0 ≤ character).
+        let never : symbol base 0 < character → ⊥ =
+        λ later.
+        not-broken _ _ (breaks-padding (most-first base.order refl) character padded later) in
         let differ : symbol base 0 ≡ character → ⊥ =
         λ same.
         let zero_is = (ruled.own 0 (omega (arith, pow_pos base.width, ruled.count))).1 in
@@ -279,10 +274,7 @@ module _ (base : Base) (ruled : IsRuled base) (unwrapped : base.wrapping ≡ Non
         let equal : Some 0 ≡ None =
         ap value_of (sym zero_is ∙ ap (meaning base) same ∙ padding_is) in
         cc in
-        absurd (not-broken (0 ∷ []) (0 ∷ 0 ∷ [])
-        (breaks-padding (most-first base.order refl) character padded
-        (omega (arith, more, differ)))))
-        (cases_lt character (symbol base 0))
+        omega (arith, never, differ)
 
     pub IsOrdered-keeps : IsOrdered base
     IsOrdered-keeps =

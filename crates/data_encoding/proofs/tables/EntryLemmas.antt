@@ -1,7 +1,7 @@
 -- The table of values, and what its entries mean.
 use Rattle.std.proofs.Common.{◌≡◌, ◌≢◌, ℕ, ◌+◌, ◌-◌, ◌<◌, ◌≤◌, ◌==◌, Bool, true, false, not, nat_le, if◌then◌else◌, List, length, map, take, get_or, Result, Ok, Err, refl, sym, ap, ◌∙◌, subst, arith, ⊎_elim}
 use Rattle.std.proofs.lemmas.Bool.Decides.{nat_tests}
-use Rattle.std.proofs.lemmas.Bool.{cases_lt}
+use Rattle.std.proofs.lemmas.Bool.{cases_lt, eq-eqb, eqb-true}
 use Rattle.std.proofs.lemmas.List.{get_or-drop, get_or-replicate, get_or_past, length-map, get_or-map, get_or-take, length-take-le, length-drop, length-replicate, drop-set-lt, map-set}
 use Rattle.std.proofs.Math.ListN.{set}
 use Rattle.std.specs.List.{list_all}
@@ -19,24 +19,18 @@ use Rattle.data_encoding.proofs.lists.EachLemmas.{passes_at, list_all-set}
 pub entry_back : (v : ℕ) → is_entry_of 64 v ≡ true → code_of (meaning_of_entry v) ≡ v
 entry_back v h = grind (arith, nat_tests)
 
-same_number : (a b : ℕ) → (a == b) ≡ true → a ≡ b
-same_number a b h = grind (arith, nat_tests)
-
 pub apart_test : (a b : ℕ) → a ≢ b → not (a == b) ≡ true
 apart_test a b h = grind (arith, nat_tests)
 
 pub test_apart : (a b : ℕ) → not (a == b) ≡ true → a ≢ b
 test_apart a b h same = grind (arith, nat_tests)
 
-own_number : (a : ℕ) → (a == a) ≡ true
-own_number a = grind (arith, nat_tests)
-
 pub is_same-self : (m : Character) → is_same m m ≡ true
-is_same-self (Symbol value) = own_number value
+is_same-self (Symbol value) = eq-eqb value value refl
 is_same-self _ = refl
 
 pub same-is_same : (m n : Character) → is_same m n ≡ true → m ≡ n
-same-is_same (Symbol a) (Symbol b) h = ap (λ v. Symbol v) (same_number a b h)
+same-is_same (Symbol a) (Symbol b) h = ap (λ v. Symbol v) (eqb-true a b h)
 same-is_same Padding Padding h = refl
 same-is_same Ignored Ignored h = refl
 same-is_same Invalid Invalid h = refl

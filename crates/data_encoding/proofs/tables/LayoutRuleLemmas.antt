@@ -58,7 +58,8 @@ module _ (base : Base) (ruled : IsRuled base) where
   symbol-at k h =
       let all : 256 / count * length base.symbols ≡ 256 =
       ap (λ n. 256 / count * n) ruled.count ∙ times_symbols base.width ruled.is_width in
-      symbol-read base ruled k h ∙ get_or-repeats (256 / count) base.symbols k (omega (arith, h, all))
+      symbol-read base ruled k h
+      ∙ get_or-repeats (256 / count) base.symbols k (omega (arith, h, all))
       ∙ ap (λ n. get_or base.symbols (k % n) 0) ruled.count
 
   within-at : (byte : ℕ) → byte < 128 → is_within count (meaning base byte) ≡ true
@@ -147,7 +148,8 @@ module _ (base : Base) (ruled : IsRuled base) where
   end-told : (ignores : Bool) (o : Option Wrapping) → ignores_some base ≡ ignores
       → base.wrapping ≡ o → IsRuledWrapping base o → TellsWrapping base.width (layout base)
   end-told false None none no_lines rule =
-      let long = long-layout base ruled ∙ (λ i. 514 + length (wrapping_bytes (none i) (no_lines i))) in
+      let long = long-layout base ruled
+      ∙ (λ i. 514 + length (wrapping_bytes (none i) (no_lines i))) in
       inl (
         omega (arith, long),
         λ byte is.
@@ -157,7 +159,8 @@ module _ (base : Base) (ruled : IsRuled base) where
             cc,
       )
   end-told true None some no_lines rule =
-      let long = long-layout base ruled ∙ (λ i. 514 + length (wrapping_bytes (some i) (no_lines i))) in
+      let long = long-layout base ruled
+      ∙ (λ i. 514 + length (wrapping_bytes (some i) (no_lines i))) in
       let found = some_passes is_ignored base.meanings Invalid some in
       let low : found.0 < 128 = omega (arith, found.1, ruled.long) in
       inr (inl (
@@ -213,8 +216,7 @@ layout-rules base bytes is same =
 
 entry-is : (n v : ℕ) → (v < n) ⊎ ((128 ≤ v) × (v ≤ 130)) → is_entry_of n v ≡ true
 entry-is n v (inl less) = grind (arith, nat_tests)
-entry-is n v (inr between) =
-    let from = between.0 in let to = between.1 in grind (arith, nat_tests)
+entry-is n v (inr between) = grind (arith, nat_tests, between.0, between.1)
 
 entry-not_ignored : (v : ℕ) → v ≢ 129 → is_ignored (meaning_of_entry v) ≡ false
 entry-not_ignored v h = grind (arith, nat_tests)
@@ -233,9 +235,8 @@ sum-is sum few =
     (passes_at test (range_with_len 0 64) sum 0 refl few))
 
 checks-rule : (check whole : Bool) → (whole ≡ true → check ≡ true) → (check || whole) ≡ check
-checks-rule true whole h = refl
 checks-rule false true h = sym (h refl)
-checks-rule false false h = refl
+checks-rule _ _ h = refl
 
 concatenates-rule : (concatenates none : Bool) → (concatenates ≡ false → none ≡ false)
     → (concatenates || none) ≡ concatenates
@@ -332,6 +333,9 @@ module _ (bytes : List ℕ) (width : ℕ) (width_is : get_or bytes 513 0 % 8 ≡
         apart_test (8 % width) 0 some.2,
       )
 
+  abbrev IsIgnored : ℕ → Type 0
+  IsIgnored byte = (byte < 128) × (meaning told byte ≡ Ignored)
+
   ignored-at : (byte : ℕ) → IsIgnoredIn bytes byte → meaning told byte ≡ Ignored
   ignored-at byte is = meaning-at byte is.0 ∙ ap meaning_of_entry is.1
 
@@ -359,12 +363,11 @@ module _ (bytes : List ℕ) (width : ℕ) (width_is : get_or bytes 513 0 % 8 ≡
         ended = omega (arith, rest, lines.ended);
         ends_short = omega (arith, rest, lines.ends_short);
         ignored =
-            recursion_from_All (λ byte. (byte < 128) × (meaning told byte ≡ Ignored)) (drop 515 bytes)
-            (All-from_get_or (λ byte. (byte < 128) × (meaning told byte ≡ Ignored))
-            (drop 515 bytes) 0 (λ i h.
+            recursion_from_All IsIgnored (drop 515 bytes)
+            (All-from_get_or IsIgnored (drop 515 bytes) 0 (λ i h.
             let is = lines.ignored (515 + i) (omega arith) (omega (arith, h, rest)) in
-            subst (λ byte. (byte < 128) × (meaning told byte ≡ Ignored))
-            (sym (get_or-drop 515 bytes i 0)) (is.0, ignored-at (get_or bytes (515 + i) 0) is)));
+            subst IsIgnored (sym (get_or-drop 515 bytes i 0))
+            (is.0, ignored-at (get_or bytes (515 + i) 0) is)));
       })
 
   padded-single : (sum / 32 % 2 == 0) ≡ false

@@ -1,6 +1,6 @@
 -- The rules on the tables of an encoding are those on its base.
-use Rattle.std.proofs.Common.{◌≡◌, ◌↔◌, ℕ, zero, suc, ◌%◌, ◌/◌, ◌^◌, ◌<◌, ◌≤◌, ◌==◌, Bool, true, false, not, ◌||◌, nat_lt, List, [], ◌∷◌, length, map, take, get_or, replicate, Option, Some, None, is_none, is_some, refl, sym, ap, ◌∙◌, arith, ⊎_elim}
-use Rattle.std.proofs.lemmas.Bool.{eqb-true, eq-eqb, lt-ltb, ltb-true, cases_lt}
+use Rattle.std.proofs.Common.{◌≡◌, ◌↔◌, ℕ, zero, suc, ◌%◌, ◌/◌, ◌^◌, ◌<◌, ◌≤◌, ◌==◌, Bool, true, false, not, ◌||◌, nat_lt, List, [], ◌∷◌, length, map, take, get_or, replicate, Option, Some, None, is_none, is_some, refl, sym, ap, ◌∙◌, arith}
+use Rattle.std.proofs.lemmas.Bool.{eqb-true, eq-eqb, lt-ltb, ltb-true}
 use Rattle.std.proofs.lemmas.Bool.Decides.{nat_tests}
 use Rattle.std.proofs.lemmas.List.{ext_get_or, get_or-map, get_or_past, length-map}
 use Rattle.std.proofs.lemmas.List.FromFn.{get_or-range_with_len, length-range_with_len}
@@ -110,17 +110,13 @@ module _ (e : EncodingTables) (rules : KeepsRules e) where
   -- a byte whose entry is 129 is ASCII
   ignored-low : (byte : ℕ) → get_or e.values byte 0 ≡ 129 → byte < 128
   ignored-low byte h =
-      ⊎_elim (λ (low : byte < 128). low)
-      (λ (high : 128 ≤ byte).
-      ⊎_elim
-      (λ (within : byte < 256).
-      absurd (omega (arith, h, high_entry e.values (HoldsEntries-tables) byte high within)))
-      (λ (past : 256 ≤ byte).
-      let long : length e.values ≤ byte =
-      omega (arith, past, length-entries e.values (HoldsEntries-tables)) in
-      absurd (omega (arith, h, get_or_past e.values byte 0 long)))
-      (cases_lt byte 256))
-      (cases_lt byte 128)
+      grind (
+        arith,
+        h,
+        high_entry e.values (HoldsEntries-tables) byte,
+        get_or_past e.values byte 0,
+        length-entries e.values (HoldsEntries-tables),
+      )
 
   ruled-separator : (bytes : List ℕ) → list_all (λ byte. get_or e.values byte 0 == 129) bytes ≡ true
       → AllByRecursion (λ byte. (byte < 128) × (meaning (base_of_tables e) byte ≡ Ignored)) bytes

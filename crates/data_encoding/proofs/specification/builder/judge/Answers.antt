@@ -19,7 +19,8 @@ returns-in_err-define_symbols-clause-refused c =
 
 pub returns-in_err-define_padding-clause-refused : goal.returns-in_err-define_padding-clause-refused
 returns-in_err-define_padding-clause-refused c =
-    let p = err_from_is_err_and c.from_residual-in_err-define_padding.result c.from_residual-in_err-define_padding.ensures.1 in
+    let p = err_from_is_err_and c.from_residual-in_err-define_padding.result
+    c.from_residual-in_err-define_padding.ensures.1 in
     rw (p.1, p.2) (after-padding c.args.width (fields_of_parts c.args.parts.now)
     c.new-meanings.ensures c.in_ok-define_symbols.ensures.defined
     (Err c.in_err-define_padding.field-0.0)
@@ -27,16 +28,19 @@ returns-in_err-define_padding-clause-refused c =
 
 pub returns-in_err-define_ignored-clause-refused : goal.returns-in_err-define_ignored-clause-refused
 returns-in_err-define_ignored-clause-refused c =
-    let p = err_from_is_err_and c.from_residual-in_err-define_ignored.result c.from_residual-in_err-define_ignored.ensures.1 in
+    let p = err_from_is_err_and c.from_residual-in_err-define_ignored.result
+    c.from_residual-in_err-define_ignored.ensures.1 in
     rw (p.1, p.2) (after-ignored c.args.width (fields_of_parts c.args.parts.now)
     c.new-meanings.ensures c.in_ok-define_symbols.ensures.defined
     c.in_ok-define_padding.ensures.defined
     (Err c.in_err-define_ignored.field-0.0)
     c.in_err-define_ignored.ensures.refused)
 
-pub returns-in_err-define_wrapping-clause-refused : goal.returns-in_err-define_wrapping-clause-refused
+pub returns-in_err-define_wrapping-clause-refused :
+    goal.returns-in_err-define_wrapping-clause-refused
 returns-in_err-define_wrapping-clause-refused c =
-    let p = err_from_is_err_and c.from_residual-in_err-define_wrapping.result c.from_residual-in_err-define_wrapping.ensures.1 in
+    let p = err_from_is_err_and c.from_residual-in_err-define_wrapping.result
+    c.from_residual-in_err-define_wrapping.ensures.1 in
     rw (p.1, p.2) (after-wrapping c.args.width (fields_of_parts c.args.parts.now)
     c.new-meanings.ensures c.in_ok-define_symbols.ensures.defined
     c.in_ok-define_padding.ensures.defined
@@ -46,7 +50,8 @@ returns-in_err-define_wrapping-clause-refused c =
 
 pub returns-in_err-translate-clause-refused : goal.returns-in_err-translate-clause-refused
 returns-in_err-translate-clause-refused c =
-    let p = err_from_is_err_and c.from_residual-in_err-translate.result c.from_residual-in_err-translate.ensures.1 in
+    let p = err_from_is_err_and c.from_residual-in_err-translate.result
+    c.from_residual-in_err-translate.ensures.1 in
     rw (p.1, p.2) (after-translation c.args.width (fields_of_parts c.args.parts.now)
     c.new-meanings.ensures c.in_ok-define_symbols.ensures.defined
     c.in_ok-define_padding.ensures.defined
