@@ -192,20 +192,18 @@ module _ (base : Base) (ruled : IsRuled base) where
       (omega (arith, low, ruled.long)) in
       ltb-true value limit (sym (ap (is_within limit) is) ∙ passes)
 
-  no_padding : (byte : ℕ) → byte < 128 → (o : Option ℕ) → base.padding ≡ o
-      → IsRuledPadding base o → meaning base byte ≡ Padding → (character : ℕ)
-      × (o ≡ Some character) × (character < 128) × (meaning base character ≡ Padding)
-  no_padding byte low None is rule m =
-      let passes : is_no_padding (meaning base byte) ≡ true =
-      passes_at is_no_padding base.meanings byte Invalid rule (omega (arith, low, ruled.long)) in
-      let fails : is_no_padding (meaning base byte) ≡ false = ap is_no_padding m in
-      cc
-  no_padding byte low (Some character) is rule m = (character, refl, rule.0, rule.1)
-
   padding-own : (byte : ℕ) → byte < 128 → meaning base byte ≡ Padding → (character : ℕ)
       × (base.padding ≡ Some character) × (character < 128)
       × (meaning base character ≡ Padding)
-  padding-own byte low m = no_padding byte low base.padding refl ruled.padding m
+  padding-own byte low m = by base.padding refl ruled.padding where
+    by : (o : Option ℕ) → base.padding ≡ o → IsRuledPadding base o → (character : ℕ)
+        × (base.padding ≡ Some character) × (character < 128)
+        × (meaning base character ≡ Padding)
+    by None is rule =
+        let passes = passes_at is_no_padding base.meanings byte Invalid rule
+        (omega (arith, low, ruled.long)) in
+        absurd (false≢true (sym (ap is_no_padding m) ∙ passes))
+    by (Some character) is rule = (character, is, rule.0, rule.1)
 
   abbrev before_pairs : List Judgement
   before_pairs = first_judgements base.width (fields_of base)

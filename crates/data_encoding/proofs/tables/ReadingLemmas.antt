@@ -45,7 +45,7 @@ ends base =
     ∷ flags base.width base.order base.checks_trailing_bits base.concatenates
     ∷ wrapping_bytes (ignores_some base) base.wrapping
 
-pub length-table : (base : Base) → IsRuled base → length (symbol_table base) ≡ 256
+length-table : (base : Base) → IsRuled base → length (symbol_table base) ≡ 256
 length-table base ruled =
     let times = 256 / 2 ^ base.width in
     length-repeats times base.symbols ∙ ap (λ n. times * n) ruled.count
