@@ -38,10 +38,13 @@ returns-in-Err-clause-reads c =
       goes_on = search rules;
     } in
     rw (take-append-le partial.written new (drop c.due-len.result.1 c.args.output.now) within)
-    (subst (λ n. ReadsOn base old (record old { len = old.len + n; fault = Some (record {
-      position = old.len + partial.error.position;
-      kind = partial.error.kind;
-    }) }) text bytes) text-is
+    (subst (λ n. ReadsOn base old (record old {
+      len = old.len + n;
+      fault = Some (record {
+        position = old.len + partial.error.position;
+        kind = partial.error.kind;
+      });
+    }) text bytes) text-is
     (reads-run base s.width old fresh text bytes (Some partial.error) c.in-Err.ensures.fault few))
 
 pub returns-clause-reads : goal.returns-clause-reads
