@@ -8,4 +8,6 @@ returns-clause-known c = λ base is.
     subst
     (λ b. EndsText b c.args.decoder.now c.args.output.now c.finish_by.new.output c.args.decoded.now
     c.finish_by.new.decoded c.finish_by.result)
-    (c.encoding.ensures ∙ one-base c.args.number c.in-Some.encoding base c.in-Some.ensures.known is) c.finish_by.ensures
+    (c.encoding.ensures
+    ∙ one-base c.args.number c.in-Some.encoding base c.in-Some.ensures.known is)
+    c.finish_by.ensures

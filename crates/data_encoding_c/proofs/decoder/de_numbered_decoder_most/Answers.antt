@@ -8,4 +8,6 @@ returns-clause-known c = λ base is.
     subst
     (λ b. TellsRoom b c.args.decoder.now c.args.len c.args.most.now c.most_by.new.most
     c.most_by.result)
-    (c.encoding.ensures ∙ one-base c.args.number c.in-Some.encoding base c.in-Some.ensures.known is) c.most_by.ensures
+    (c.encoding.ensures
+    ∙ one-base c.args.number c.in-Some.encoding base c.in-Some.ensures.known is)
+    c.most_by.ensures

@@ -8,4 +8,6 @@ returns-clause-known c = λ base is.
     subst
     (λ b. ReadsPiece b c.args.decoder.now c.read_by.new.plain c.args.piece.now c.args.output.now
     c.read_by.new.output c.args.written.now c.read_by.new.written c.read_by.result)
-    (c.encoding.ensures ∙ one-base c.args.number c.in-Some.encoding base c.in-Some.ensures.known is) c.read_by.ensures
+    (c.encoding.ensures
+    ∙ one-base c.args.number c.in-Some.encoding base c.in-Some.ensures.known is)
+    c.read_by.ensures
