@@ -20,11 +20,12 @@ static size_t text_len;
 static de_encoding own;
 
 #ifdef OWN_CALLS
-/* They make the library's own call so many times: benches/memory.rt.in, where base64 is 3. */
-size_t own_encode(unsigned number, size_t times, const unsigned char *input, size_t input_len,
-                  unsigned char *output, size_t output_len);
-size_t own_decode(unsigned number, size_t times, const unsigned char *input, size_t input_len,
-                  unsigned char *output, size_t output_len);
+/* They make the library's own calls that many times, of a length and of a text, as a call from C
+ * does: benches/memory.rt.in, where base64 is 3. */
+size_t own_encode_sized(unsigned number, size_t times, const unsigned char *input,
+                        size_t input_len, unsigned char *output, size_t output_len);
+size_t own_decode_sized(unsigned number, size_t times, const unsigned char *input,
+                        size_t input_len, unsigned char *output, size_t output_len);
 #endif
 
 /* Makes a call so many times. */
@@ -65,12 +66,13 @@ static void decode_by_own(size_t times) {
 
 #ifdef OWN_CALLS
 static void encode_in_library(size_t times) {
-    text_len = own_encode(3, times, data, data_len, (unsigned char *)text, sizeof text);
+    text_len =
+        own_encode_sized(3, times, data, data_len, (unsigned char *)text, sizeof text);
 }
 
 static void decode_in_library(size_t times) {
-    if (own_decode(3, times, (const unsigned char *)text, text_len, decoded_data,
-                   sizeof decoded_data) != data_len) {
+    if (own_decode_sized(3, times, (const unsigned char *)text, text_len, decoded_data,
+                         sizeof decoded_data) != data_len) {
         exit(EXIT_FAILURE);
     }
 }
