@@ -194,7 +194,7 @@ fn ends_throughout(alloc: Global, line: &str, calls: (usize, usize)) -> Result<b
     let specification = row_of(alloc, line)?.specification;
     let encoding = specification.encoding()?;
     let judge = Judge::of(&specification);
-    let bytes = bytes_of_length(alloc, 10_000)?;
+    let bytes = bytes_of_length(alloc, 30_000)?;
     let mut text = judge.encode(alloc, &bytes)?;
     let Some(position) = text.len().checked_sub(10) else {
         return Ok(false);
@@ -215,9 +215,9 @@ fn ends_throughout(alloc: Global, line: &str, calls: (usize, usize)) -> Result<b
 #[test]
 fn ends_at_a_failed_call(rt: HostRuntime) -> Result<(), Fail> {
     for (line, calls) in [
-        ("hex|most|check|||0||||", (23, 12)),
-        ("base32|most|check|=||0||||", (18, 11)),
-        ("base64|most|check|=||76|←↵|||", (16, 11)),
+        ("hex|most|check|||0||||", (62, 31)),
+        ("base32|most|check|=||0||||", (50, 31)),
+        ("base64|most|check|=||76|←↵|||", (43, 31)),
     ] {
         assert!(rt; ends_throughout(rt.alloc(), line, calls)?, "{line}");
     }

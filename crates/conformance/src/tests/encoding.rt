@@ -43,7 +43,7 @@ binary|most|check|||8|dashes|||1|263
 binary|most|check|||8|dashes|||36028797018963967|9475573615987523321";
 
 // Whether the data have the text, as it is written into an output of its length.
-fn writes(encoding: &Encoding, input: &[u8], want: &[u8]) -> bool
+pub(super) fn writes(encoding: &Encoding, input: &[u8], want: &[u8]) -> bool
     requires limit { length input.now ≤ ENCODE_LIMIT }
 {
     let mut output = [0; 80];

@@ -155,11 +155,11 @@ fn writes_that_end(
 
 #[test]
 fn ends_at_a_failed_call(rt: HostRuntime) -> Result<(), Fail> {
-    let bytes = bytes_of_length(rt.alloc(), 20_000)?;
+    let bytes = bytes_of_length(rt.alloc(), 60_000)?;
     for (encoding, reads, writes) in [
-        (hexlower(), 23, 42),
-        (base32(), 23, 34),
-        (base64_mime(), 23, 30),
+        (hexlower(), 62, 122),
+        (base32(), 62, 97),
+        (base64_mime(), 62, 83),
     ] {
         let ended = reads_that_end(rt.alloc(), &encoding, &bytes)?;
         assert_eq!(rt; ended, Some(reads));
