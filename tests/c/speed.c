@@ -20,10 +20,14 @@ static size_t text_len;
 static de_encoding own;
 
 #ifdef OWN_CALLS
-/* They make the library's own calls that many times, of a length and of a text, as a call from C
- * does: benches/memory.rt.in, where base64 is 3. */
+/* They make the library's own call that many times, `encode_mut` or `decode_mut` alone, or, where
+ * sized, with the length that a call from C finds too: benches/memory.rt.in, where base64 is 3. */
+size_t own_encode(unsigned number, size_t times, const unsigned char *input, size_t input_len,
+                  unsigned char *output, size_t output_len);
 size_t own_encode_sized(unsigned number, size_t times, const unsigned char *input,
                         size_t input_len, unsigned char *output, size_t output_len);
+size_t own_decode(unsigned number, size_t times, const unsigned char *input, size_t input_len,
+                  unsigned char *output, size_t output_len);
 size_t own_decode_sized(unsigned number, size_t times, const unsigned char *input,
                         size_t input_len, unsigned char *output, size_t output_len);
 #endif
@@ -66,15 +70,27 @@ static void decode_by_own(size_t times) {
 
 #ifdef OWN_CALLS
 static void encode_in_library(size_t times) {
-    text_len =
-        own_encode_sized(3, times, data, data_len, (unsigned char *)text, sizeof text);
+    text_len = own_encode(3, times, data, data_len, (unsigned char *)text, sizeof text);
+}
+
+static void encode_sized(size_t times) {
+    text_len = own_encode_sized(3, times, data, data_len, (unsigned char *)text, sizeof text);
+}
+
+static void check_len(size_t len) {
+    if (len != data_len) {
+        exit(EXIT_FAILURE);
+    }
 }
 
 static void decode_in_library(size_t times) {
-    if (own_decode_sized(3, times, (const unsigned char *)text, text_len, decoded_data,
-                         sizeof decoded_data) != data_len) {
-        exit(EXIT_FAILURE);
-    }
+    check_len(own_decode(3, times, (const unsigned char *)text, text_len, decoded_data,
+                         sizeof decoded_data));
+}
+
+static void decode_sized(size_t times) {
+    check_len(own_decode_sized(3, times, (const unsigned char *)text, text_len, decoded_data,
+                               sizeof decoded_data));
 }
 #endif
 
@@ -85,10 +101,13 @@ static double now(void) {
 }
 
 #ifdef OWN_CALLS
-static const calls columns[] = {encode_by_number, encode_by_own, encode_in_library,
-                                decode_by_number, decode_by_own, decode_in_library};
+static const calls columns[] = {
+    encode_by_number, encode_by_own, encode_in_library, encode_sized,
+    decode_by_number, decode_by_own, decode_in_library, decode_sized,
+};
 static const char title[] =
-    "base64, ns a call: encode by number, by an own encoding, in the library; decode the same";
+    "base64, ns a call: encode by number, by an own encoding, in the library, there with the\n"
+    "length; decode the same";
 #else
 static const calls columns[] = {encode_by_number, encode_by_own, decode_by_number, decode_by_own};
 static const char title[] =
