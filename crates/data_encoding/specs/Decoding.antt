@@ -4,6 +4,8 @@ use Rattle.std.specs.List.{list_any}
 use Rattle.data_encoding.specs.declared.encoding.BitOrder.{BitOrder}
 use Rattle.data_encoding.specs.declared.error.DecodePartial.{DecodePartial}
 use Rattle.data_encoding.specs.declared.decode.Stop.{Stop}
+use Rattle.data_encoding.specs.declared.decode.steps.Step.{Step}
+use Rattle.data_encoding.specs.declared.decode.steps.Step.TheVariants.{More, Ended, Faulty}
 use Rattle.data_encoding.specs.declared.decode.group.GroupFault.{GroupFault}
 use Rattle.data_encoding.specs.Base.{Base, meaning, is_symbol, is_ignored, is_padded, is_padding, group_bytes, group_symbols}
 use Rattle.data_encoding.specs.Bits.{runs}
@@ -164,3 +166,15 @@ pub record IsDecoded (base : Base) (text : List ℕ) (written : ℕ) (output : L
   pub no_fault : fault_of base text ≡ None
   pub bytes_are : sound_bytes base text ≡ take written output
   pub means : Means base text (take written output)
+
+-- Where the steps over a text ended: at its end without a fault, or at a faulty group.
+abbrev pub HasEnded : Base → List ℕ → List ℕ → Stop → Bool → Type 0
+HasEnded base text output stop true = IsDecoded base text stop.written output
+HasEnded base text output stop false = HasStopped base text output stop
+
+-- How a step from a position left a text: it is further on and more is left, or the steps ended.
+abbrev pub HasStepped : Base → List ℕ → ℕ → List ℕ → Stop → Step → Type 0
+HasStepped base text read output stop More =
+    (read < stop.read) × HasDecodedTo base text stop.read stop.written false output
+HasStepped base text read output stop Ended = HasEnded base text output stop true
+HasStepped base text read output stop Faulty = HasEnded base text output stop false

@@ -2,7 +2,7 @@
 
 ghost use Rattle.std.specs.Prelude.{◌≡◌, ℕ, List, true, false, ◌<◌, ◌≤◌, length, drop, Ok, IsTrue, IfSome};
 ghost use Rattle.data_encoding.specs.Base.{Base};
-ghost use Rattle.data_encoding.specs.Decoding.{HasDecodedTo, HasStopped, IsDecoded, IsGathered, IsIgnoredFront};
+ghost use Rattle.data_encoding.specs.Decoding.{HasDecodedTo, HasEnded, HasStepped, IsGathered, IsIgnoredFront};
 ghost use Rattle.data_encoding.specs.Grammar.{kept};
 ghost use Rattle.data_encoding.specs.Lengths.{decoded_len};
 ghost use Rattle.data_encoding.specs.Tables.{HoldsValues, Reads};
@@ -53,9 +53,7 @@ impl EncodingRef<'_> {
         requires exact { decoded_len self.now (length input.now) ≡ Ok (length output.old) }
         requires so_far { HasDecodedTo self.now input.now stop.old.read stop.old.written false
             output.old }
-        ensures decoded { IsTrue result
-            → IsDecoded self.now input.now stop.new.written output.new }
-        ensures stopped { result ≡ false → HasStopped self.now input.now output.new stop.new }
+        ensures { HasEnded self.now input.now output.new stop.new result }
     {
         match self.fields.order() {
             BitOrder::MostSignificantFirst => self.decode_steps::<L, G>(
@@ -94,9 +92,7 @@ impl EncodingRef<'_> {
         requires exact { decoded_len self.now (length input.now) ≡ Ok (length output.old) }
         requires so_far { HasDecodedTo self.now input.now stop.old.read stop.old.written false
             output.old }
-        ensures decoded { IsTrue result
-            → IsDecoded self.now input.now stop.new.written output.new }
-        ensures stopped { result ≡ false → HasStopped self.now input.now output.new stop.new }
+        ensures { HasEnded self.now input.now output.new stop.new result }
     {
         while stop.read < input.len() {
             let at = self.decode_runs::<L, G>(
@@ -230,13 +226,7 @@ impl EncodingRef<'_> {
         requires exact { decoded_len self.now (length input.now) ≡ Ok (length output.old) }
         requires so_far { HasDecodedTo self.now input.now at.read at.written false output.old }
         requires front { IsIgnoredFront self.now (drop at.read input.now) at.ignored }
-        ensures more { result ≡ Step.More → HasDecodedTo self.now input.now stop.new.read
-            stop.new.written false output.new }
-        ensures further { result ≡ Step.More → at.read < stop.new.read }
-        ensures ended { result ≡ Step.Ended
-            → IsDecoded self.now input.now stop.new.written output.new }
-        ensures faulty { result ≡ Step.Faulty
-            → HasStopped self.now input.now output.new stop.new }
+        ensures { HasStepped self.now input.now at.read output.new stop.new result }
     {
         let start = at.read + at.ignored;
         if start == input.len() {

@@ -2,7 +2,7 @@
 
 ghost use Rattle.std.specs.Prelude.{◌≡◌, false, ◌≤◌, length, Ok, IsTrue};
 ghost use Rattle.data_encoding.specs.Base.{IsWidth};
-ghost use Rattle.data_encoding.specs.Decoding.{HasDecodedTo, HasStopped, IsDecoded};
+ghost use Rattle.data_encoding.specs.Decoding.{HasDecodedTo, HasEnded};
 ghost use Rattle.data_encoding.specs.Lengths.{decoded_len};
 
 use crate::decode::steps::{Reached, Step};
@@ -23,9 +23,7 @@ impl EncodingRef<'_> {
     pub(crate) fn decode_by_length(&self, input: &[u8], output: &mut [u8], stop: &mut Stop) -> bool
         requires limit { length input.now ≤ DECODE_LIMIT }
         requires exact { decoded_len self.now (length input.now) ≡ Ok (length output.old) }
-        ensures decoded { IsTrue result
-            → IsDecoded self.now input.now stop.new.written output.new }
-        ensures stopped { result ≡ false → HasStopped self.now input.now output.new stop.new }
+        ensures ends { HasEnded self.now input.now output.new stop.new result }
         ensures width { IsWidth self.now.width }
     {
         if input.len() < AFFINE_FROM {
@@ -39,9 +37,7 @@ impl EncodingRef<'_> {
     fn decode_short(&self, input: &[u8], output: &mut [u8], stop: &mut Stop) -> bool
         requires limit { length input.now ≤ DECODE_LIMIT }
         requires exact { decoded_len self.now (length input.now) ≡ Ok (length output.old) }
-        ensures decoded { IsTrue result
-            → IsDecoded self.now input.now stop.new.written output.new }
-        ensures stopped { result ≡ false → HasStopped self.now input.now output.new stop.new }
+        ensures ends { HasEnded self.now input.now output.new stop.new result }
         ensures width { IsWidth self.now.width }
     {
         match self.fields.width {
@@ -59,9 +55,7 @@ impl EncodingRef<'_> {
     fn decode_by_width(&self, input: &[u8], output: &mut [u8], stop: &mut Stop) -> bool
         requires limit { length input.now ≤ DECODE_LIMIT }
         requires exact { decoded_len self.now (length input.now) ≡ Ok (length output.old) }
-        ensures decoded { IsTrue result
-            → IsDecoded self.now input.now stop.new.written output.new }
-        ensures stopped { result ≡ false → HasStopped self.now input.now output.new stop.new }
+        ensures ends { HasEnded self.now input.now output.new stop.new result }
         ensures width { IsWidth self.now.width }
     {
         match self.fields.width {
@@ -85,9 +79,7 @@ impl EncodingRef<'_> {
         requires width { self.now.width ≡ G.WIDTH }
         requires limit { length input.now ≤ DECODE_LIMIT }
         requires exact { decoded_len self.now (length input.now) ≡ Ok (length output.old) }
-        ensures decoded { IsTrue result
-            → IsDecoded self.now input.now stop.new.written output.new }
-        ensures stopped { result ≡ false → HasStopped self.now input.now output.new stop.new }
+        ensures { HasEnded self.now input.now output.new stop.new result }
     {
         match self.fields.order() {
             BitOrder::MostSignificantFirst => self.decode_text::<G>(
@@ -118,9 +110,7 @@ impl EncodingRef<'_> {
         requires order { self.now.order ≡ order }
         requires limit { length input.now ≤ DECODE_LIMIT }
         requires exact { decoded_len self.now (length input.now) ≡ Ok (length output.old) }
-        ensures decoded { IsTrue result
-            → IsDecoded self.now input.now stop.new.written output.new }
-        ensures stopped { result ≡ false → HasStopped self.now input.now output.new stop.new }
+        ensures { HasEnded self.now input.now output.new stop.new result }
     {
         let at = self.decode_run_behind::<Rows, G>(
             &self.fields.values,
@@ -135,7 +125,8 @@ impl EncodingRef<'_> {
             output,
         );
         match self.decode_next::<G>(order, at, input, output, stop) {
-            Step::More => stop.read == input.len() || self.decode_rest::<G>(input, output, stop),
+            Step::More if stop.read == input.len() => true,
+            Step::More => self.decode_rest::<G>(input, output, stop),
             Step::Ended => true,
             Step::Faulty => false,
         }
@@ -150,9 +141,7 @@ impl EncodingRef<'_> {
         requires exact { decoded_len self.now (length input.now) ≡ Ok (length output.old) }
         requires so_far { HasDecodedTo self.now input.now stop.old.read stop.old.written false
             output.old }
-        ensures decoded { IsTrue result
-            → IsDecoded self.now input.now stop.new.written output.new }
-        ensures stopped { result ≡ false → HasStopped self.now input.now output.new stop.new }
+        ensures { HasEnded self.now input.now output.new stop.new result }
     {
         match self.fields.order() {
             BitOrder::MostSignificantFirst => self.decode_steps::<Rows, G>(
@@ -181,9 +170,7 @@ impl EncodingRef<'_> {
         requires width { self.now.width ≡ G.WIDTH }
         requires limit { length input.now ≤ DECODE_LIMIT }
         requires exact { decoded_len self.now (length input.now) ≡ Ok (length output.old) }
-        ensures decoded { IsTrue result
-            → IsDecoded self.now input.now stop.new.written output.new }
-        ensures stopped { result ≡ false → HasStopped self.now input.now output.new stop.new }
+        ensures { HasEnded self.now input.now output.new stop.new result }
     {
         *stop = Stop::new(0, 0, 0, DecodeKind::Length);
         let values = &self.fields.values;

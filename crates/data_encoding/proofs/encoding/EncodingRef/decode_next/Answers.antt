@@ -1,4 +1,4 @@
-use Rattle.std.proofs.Common.{◌+◌, ◌∙◌, inl, inr, refl, sym, arith}
+use Rattle.std.proofs.Common.{ℕ, ◌+◌, ◌∙◌, inl, inr, refl, sym, arith, length-drop}
 use Rattle.std.proofs.lemmas.Nat.{mul-le}
 use Rattle.data_encoding.proofs.decoding.LoopLemmas.{under_way}
 use Rattle.data_encoding.proofs.decoding.StepLemmas.{after_group, decoded-behind, decoded-ignored, decoded-none, final-stopped, gathered-next, group-final, group-more, group-stopped, room-next_group, some-group, written-few}
@@ -8,17 +8,17 @@ use Rattle.data_encoding.proofs.digits.WidthLemmas.{group_symbols-few}
 use Rattle.data_encoding.proofs.encoding.EncodingRef.decode_next.Goals as goal
 use Rattle.data_encoding.proofs.encoding.EncodingRef.decode_next.Goals.{else-count-group-via-then-count-group+else-not-self, else-count-group-via-else-count-group}
 
-pub returns-then-start-input-clause-ended : goal.returns-then-start-input-clause-ended
-returns-then-start-input-clause-ended g c =
+pub returns-then-start-input : goal.returns-then-start-input
+returns-then-start-input g c =
     let now = under_way g.G.GroupSize.is_group c.requires.width c.requires.exact
     c.requires.so_far in
-    λ _. decoded-behind now c.requires.front (omega (arith, c.if-start-input.true))
+    decoded-behind now c.requires.front (omega (arith, c.if-start-input.true))
 
-pub returns-then-is_empty-clause-ended : goal.returns-then-is_empty-clause-ended
-returns-then-is_empty-clause-ended g c =
+pub returns-then-is_empty : goal.returns-then-is_empty
+returns-then-is_empty g c =
     let now = under_way g.G.GroupSize.is_group c.requires.width c.requires.exact
     c.requires.so_far in
-    λ _. decoded-none now c.requires.front c.next_group-group.ensures c.is_empty.ensures
+    decoded-none now c.requires.front c.next_group-group.ensures c.is_empty.ensures
     c.if-is_empty.true
 
 pub decode_group-requires-clause-room : goal.decode_group-requires-clause-room
@@ -53,8 +53,8 @@ overflow_add-written g c =
     c.decode_group.auto.output c.in-Ok.ensures.sound _ refl refl) in
     record { fits = omega (arith, few, c.requires.limit) }
 
-pub returns-then-is_end-clause-ended : goal.returns-then-is_end-clause-ended
-returns-then-is_end-clause-ended g c =
+pub returns-then-is_end : goal.returns-then-is_end
+returns-then-is_end g c =
     let group = IsGroup-same c.WIDTH.ensures refl refl g.G.GroupSize.is_group in
     let now = under_way group (c.requires.width ∙ sym c.WIDTH.ensures) c.requires.exact
     c.requires.so_far in
@@ -63,10 +63,10 @@ returns-then-is_end-clause-ended g c =
     (gathered-next now c.requires.front c.next_group-group.ensures some) some
     c.decode_group.auto.output c.in-Ok.ensures.sound
     (c.args.at.read + c.args.at.ignored + c.next_group-group.result.span) (omega arith) refl in
-    λ _. rw c.new-2.ensures (decoded-ignored last (c.if-is_end.ensures.end refl))
+    rw c.new-2.ensures (decoded-ignored last (c.if-is_end.ensures.end refl))
 
-pub returns-then-not-self-clause-faulty : goal.returns-then-not-self-clause-faulty
-returns-then-not-self-clause-faulty g c =
+pub returns-then-not-self : goal.returns-then-not-self
+returns-then-not-self g c =
     let group = IsGroup-same c.WIDTH.ensures refl refl g.G.GroupSize.is_group in
     let now = under_way group (c.requires.width ∙ sym c.WIDTH.ensures) c.requires.exact
     c.requires.so_far in
@@ -77,10 +77,10 @@ returns-then-not-self-clause-faulty g c =
     (c.args.at.read + c.args.at.ignored + c.next_group-group.result.span) (omega arith)
     c.self.view_is
     c.if-not-self.true c.if-count-group.true in
-    λ _. rw c.new-2.ensures (final-stopped last (c.if-is_end.ensures.more refl))
+    rw c.new-2.ensures (final-stopped last (c.if-is_end.ensures.more refl))
 
-pub returns-clause-more : goal.returns-clause-more
-returns-clause-more g c =
+pub returns : goal.returns
+returns g c =
     let group = IsGroup-same c.WIDTH.ensures refl refl g.G.GroupSize.is_group in
     let now = under_way group (c.requires.width ∙ sym c.WIDTH.ensures) c.requires.exact
     c.requires.so_far in
@@ -94,19 +94,48 @@ returns-clause-more g c =
       | else-count-group-via-then-count-group+else-not-self b ↦ inl b.if-not-self.false
       | else-count-group-via-else-count-group b ↦ inr b.if-count-group.false
     ]) in
-    λ _. rw c.new-2.ensures more.so_far
-
-pub returns-clause-further : goal.returns-clause-further
-returns-clause-further g c =
-    let some = some-group c.next_group-group.ensures c.is_empty.ensures c.if-is_empty.false in
     let few = gathered-few c.args.self.now g.G.GroupSize.SYMBOLS _ _ _ c.next_group-group.ensures in
-    λ _. rw c.new-2.ensures (omega (arith, some, few))
+    rw c.new-2.ensures (omega (arith, some, few), more.so_far)
 
-pub returns-in-Err-clause-faulty : goal.returns-in-Err-clause-faulty
-returns-in-Err-clause-faulty g c =
+pub returns-in-Err : goal.returns-in-Err
+returns-in-Err g c =
     let now = under_way g.G.GroupSize.is_group c.requires.width c.requires.exact
     c.requires.so_far in
     let some = some-group c.next_group-group.ensures c.is_empty.ensures c.if-is_empty.false in
-    λ _. rw c.new.ensures (group-stopped now
+    rw c.new.ensures (group-stopped now
     (gathered-next now c.requires.front c.next_group-group.ensures some) some
     c.in-Err.ensures.fault _ c.decode_group.auto.output)
+
+pub overflow_add-start : goal.overflow_add-start
+overflow_add-start g c =
+    record { fits = omega (arith, length-drop {A = ℕ}, c.requires.front.within, c.requires.limit) }
+
+pub slice_bounds-next_group-count : goal.slice_bounds-next_group-count
+slice_bounds-next_group-count g c = omega (arith, length-drop {A = ℕ}, c.requires.front.within)
+
+pub slice_bounds-rest-count : goal.slice_bounds-rest-count
+slice_bounds-rest-count g c = c.requires.so_far.fits
+
+pub overflow_add-read : goal.overflow_add-read
+overflow_add-read g c =
+    record {
+      fits = omega (
+        arith,
+        length-drop {A = ℕ},
+        c.requires.front.within,
+        c.next_group-group.ensures.within,
+        c.requires.limit,
+      );
+    }
+
+pub slice_bounds-is_end-count : goal.slice_bounds-is_end-count
+slice_bounds-is_end-count g c =
+    omega (
+      arith,
+      length-drop {A = ℕ},
+      c.requires.front.within,
+      c.next_group-group.ensures.within,
+    )
+
+pub decode_group-requires-clause-few : goal.decode_group-requires-clause-few
+decode_group-requires-clause-few g c = c.next_group-group.ensures.few

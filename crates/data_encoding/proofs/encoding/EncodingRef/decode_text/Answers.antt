@@ -19,9 +19,9 @@ decode_run_behind-at-requires-clause-so_far g c =
 pub decode_run_behind-at-requires-clause-front : goal.decode_run_behind-at-requires-clause-front
 decode_run_behind-at-requires-clause-front g c = no_front c.args.self.now c.args.input.now
 
-pub returns-then-stop-input-clause-decoded : goal.returns-then-stop-input-clause-decoded
-returns-then-stop-input-clause-decoded g c =
+pub returns-in-More : goal.returns-in-More
+returns-in-More g c =
     let len = c.decode_next.auto.output ∙ c.decode_run_behind-at.auto.output in
     let now = under_way g.G.GroupSize.is_group c.requires.width
-    (c.requires.exact ∙ ap Ok (sym len)) (c.in-More.ensures.more refl) in
-    λ _. decoded-all now (omega (arith, c.if-stop-input.true))
+    (c.requires.exact ∙ ap Ok (sym len)) c.in-More.ensures.1 in
+    decoded-all now (omega (arith, c.if-stop-input.true))
