@@ -1,7 +1,8 @@
-use Rattle.std.proofs.Common.{refl, arith}
+use Rattle.std.proofs.Common.{ℕ, ◌+◌, ◌*◌, refl, ap, arith, length-drop}
 use Rattle.data_encoding.proofs.decoding.LoopLemmas.{under_way}
 use Rattle.data_encoding.proofs.decoding.StepLemmas.{after_none, after_run, room-next_run, written-few}
 use Rattle.data_encoding.proofs.digits.SizeLemmas.{IsGroup-same}
+use Rattle.data_encoding.proofs.lists.PartLemmas.{length-rest}
 use Rattle.data_encoding.proofs.encoding.EncodingRef.decode_run_behind.Goals as goal
 
 pub decode_run-count-requires-clause-room : goal.decode_run-count-requires-clause-room
@@ -36,3 +37,37 @@ returns-clause-so_far g c =
     (after_run (under_way group c.requires.reads.width_is c.requires.exact
     c.requires.so_far) c.requires.front c.decode_run-count.auto.output
     (c.decode_run-count.ensures.run c.args.self.now c.requires.reads) (omega arith)).so_far
+
+pub overflow_mul-result : goal.overflow_mul-result
+overflow_mul-result g c =
+    record {
+      fits = omega (
+        arith,
+        ap (λ s. c.decode_run-count.result * s) c.SYMBOLS.ensures,
+        c.decode_run-count.ensures.within,
+        length-rest (c.args.at.read + c.args.at.ignored) c.args.input.now,
+      );
+    }
+
+pub overflow_add-result : goal.overflow_add-result
+overflow_add-result g c =
+    record {
+      fits = omega (
+        arith,
+        ap (λ s. c.decode_run-count.result * s) c.SYMBOLS.ensures,
+        c.decode_run-count.ensures.within,
+        length-rest (c.args.at.read + c.args.at.ignored) c.args.input.now,
+        length-drop {A = ℕ},
+        c.requires.front.within,
+      );
+    }
+
+pub overflow_add-start : goal.overflow_add-start
+overflow_add-start g c =
+    record { fits = omega (arith, length-drop {A = ℕ}, c.requires.front.within) }
+
+pub slice_bounds-decode_run-count : goal.slice_bounds-decode_run-count
+slice_bounds-decode_run-count g c = omega (arith, length-drop {A = ℕ}, c.requires.front.within)
+
+pub slice_bounds-decode_run-count-2 : goal.slice_bounds-decode_run-count-2
+slice_bounds-decode_run-count-2 g c = c.requires.so_far.fits

@@ -8,6 +8,7 @@ use Rattle.data_encoding.specs.Decoding.{HasNoLastRun, HasRoom, IsLastRun}
 use Rattle.data_encoding.specs.Fault.{position_of}
 use Rattle.data_encoding.specs.Grammar.{kept}
 use Rattle.data_encoding.specs.Partial.{is_length_fault}
+use Rattle.data_encoding.proofs.lists.PartLemmas.{length-rest}
 use Rattle.data_encoding.proofs.lists.WriteLemmas.{drop-put_mid_at, length-put_mid}
 use Rattle.data_encoding.proofs.encoding.EncodingRef.stopped.Goals as goal
 use Rattle.data_encoding.proofs.encoding.EncodingRef.stopped.Goals.{in-Length, in_default}
@@ -122,3 +123,25 @@ decode_front-requires-clause-room c =
     subst (HasRoom c.args.self.now _) (sym left)
     (subst (λ l. HasRoom c.args.self.now l (length output - written))
     (sym (take_rest c.args.input.now c.args.stop.read)) (c.requires.room length_is))
+
+pub slice_bounds-rest-count : goal.slice_bounds-rest-count
+slice_bounds-rest-count c = c.requires.within
+
+pub slice_bounds-decode_front-count : goal.slice_bounds-decode_front-count
+slice_bounds-decode_front-count c = c.requires.fits
+
+pub decode_front-requires-clause-limit : goal.decode_front-requires-clause-limit
+decode_front-requires-clause-limit c =
+    omega (arith, length-rest c.args.stop.read c.args.input.now, c.requires.limit)
+
+pub overflow_add-written : goal.overflow_add-written
+overflow_add-written c =
+    record {
+      fits = omega (
+        arith,
+        c.in-Some.ensures.run.0,
+        c.decode_front.auto.output,
+        length-rest c.args.stop.written c.args.output.now,
+        c.requires.fits,
+      );
+    }

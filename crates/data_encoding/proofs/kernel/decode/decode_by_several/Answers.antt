@@ -13,3 +13,13 @@ overflow_mul-eight g c =
 pub returns-then-entry_of-ge128-clause-run : goal.returns-then-entry_of-ge128-clause-run
 returns-then-entry_of-ge128-clause-run g c = λ base reads.
     run-none base reads.holds.is_width c.args.input.now _ _
+
+pub returns-in-Some-clause-run : goal.returns-in-Some-clause-run
+returns-in-Some-clause-run g c =
+    c.decode_turns.ensures.run c.args.values.now (rw c.in-Some.is at c.requires.held)
+
+pub returns-in-Some-clause-within : goal.returns-in-Some-clause-within
+returns-in-Some-clause-within g c = c.decode_turns.ensures.within
+
+pub returns-in-None-clause-within : goal.returns-in-None-clause-within
+returns-in-None-clause-within g c = c.decode_by_lanes.ensures.within

@@ -2,7 +2,7 @@ use Rattle.std.proofs.Common.{◌≡◌, ℕ, ◌+◌, ◌*◌, ◌/◌, ◌<◌
 use Rattle.data_encoding.proofs.digits.SizeLemmas.{IsGroup-same, room-same}
 use Rattle.data_encoding.specs.Decoding.{IsRun}
 use Rattle.data_encoding.proofs.decoding.SymbolRunLemmas.{group-next, run-all, run-kept, run-longest}
-use Rattle.data_encoding.proofs.lists.PartLemmas.{IsWhole-group, group-before, length-part, one-more}
+use Rattle.data_encoding.proofs.lists.PartLemmas.{IsWhole-group, group-before, groups-within, length-part, one-more}
 use Rattle.std.proofs.Math.Nat.{mul-le-mul_right}
 use Rattle.data_encoding.proofs.kernel.decode.decode_run.Goals as goal
 
@@ -174,3 +174,12 @@ decode_symbols-requires-clause-exact g c =
     )) in
     let same = (IsWhole-group g.G.GroupSize.WIDTH bytes symbols group).same_bits in
     omega (arith, wrote, ap (λ n. g.G.GroupSize.WIDTH * n) read, same)
+
+pub returns-clause-within : goal.returns-clause-within
+returns-clause-within g c =
+    let count = length c.args.input.now / c.SYMBOLS-symbols.result in
+    omega (
+      arith,
+      groups-within (length c.args.input.now) c.SYMBOLS-symbols.result,
+      ap (λ s. count * s) c.SYMBOLS-symbols.ensures,
+    )

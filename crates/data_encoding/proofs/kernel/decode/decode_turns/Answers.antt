@@ -1,8 +1,9 @@
-use Rattle.std.proofs.Common.{◌≡◌, ℕ, ◌+◌, ◌-◌, ◌*◌, ◌/◌, ◌≤◌, length, take, drop, refl, sym, ◌∙◌, subst, arith}
+use Rattle.std.proofs.Common.{◌≡◌, ℕ, ◌+◌, ◌-◌, ◌*◌, ◌/◌, ◌≤◌, length, take, drop, refl, sym, ap, ◌∙◌, subst, arith}
+use Rattle.std.proofs.Math.Nat.{div-le_self}
 use Rattle.data_encoding.specs.Decoding.{IsRun}
 use Rattle.data_encoding.proofs.decoding.SymbolRunLemmas.{run-kept, run-none, run-next}
 use Rattle.data_encoding.proofs.digits.SizeLemmas.{IsGroup-same, room-same}
-use Rattle.data_encoding.proofs.lists.PartLemmas.{IsWhole-group, length-part, one-more, turns-before, turn-within}
+use Rattle.data_encoding.proofs.lists.PartLemmas.{IsWhole-group, group-before, groups-within, length-part, one-more, turns-before, turn-within}
 use Rattle.data_encoding.proofs.kernel.decode.decode_turns.Goals as goal
 
 pub nonzero_div-count : goal.nonzero_div-count
@@ -124,3 +125,73 @@ returns-clause-run g c = λ values held base reads.
     (λ n. IsRun base c.args.input.now (n * c.GROUPS-groups.result) c.args.output.now
     c.loop-index.output) all
     (c.loop-index.invariant.run values held base reads)
+
+pub nonzero_div-count-2 : goal.nonzero_div-count-2
+nonzero_div-count-2 g c = omega (arith, c.GROUPS-groups.ensures, g.T.DecodeTurn.some_groups)
+
+pub overflow_mul-first : goal.overflow_mul-first
+overflow_mul-first g c =
+    record {
+      fits = omega (
+        arith,
+        group-before (length c.args.input.now / c.SYMBOLS-symbols.result) c.GROUPS-groups.result
+            c.loop-index.index c.loop-index-test.true,
+        div-le_self (length c.args.input.now) c.SYMBOLS-symbols.result,
+      );
+    }
+
+pub slice_bounds-decode-count : goal.slice_bounds-decode-count
+slice_bounds-decode-count g c =
+    omega (
+      arith,
+      turn-within (length c.args.input.now) c.GROUPS-groups.result c.SYMBOLS-symbols.result
+          c.loop-index.index c.loop-index-test.true,
+    )
+
+pub decode-requires-clause-symbols : goal.decode-requires-clause-symbols
+decode-requires-clause-symbols g c =
+    length-part (c.loop-index.index * c.GROUPS-groups.result * c.SYMBOLS-symbols.result)
+    (c.GROUPS-groups.result * c.SYMBOLS-symbols.result) c.args.input.now
+    (turn-within (length c.args.input.now) c.GROUPS-groups.result c.SYMBOLS-symbols.result
+    c.loop-index.index c.loop-index-test.true)
+    ∙ (λ k. c.GROUPS-groups.ensures k * c.SYMBOLS-symbols.ensures k)
+
+pub decode-requires-clause-exact : goal.decode-requires-clause-exact
+decode-requires-clause-exact g c =
+    length-part (c.loop-index.index * c.GROUPS-groups.result * c.BYTES-bytes.result)
+    (c.GROUPS-groups.result * c.BYTES-bytes.result) c.loop-index.output
+    (omega (
+      arith,
+      turns-before (length c.args.input.now / c.SYMBOLS-symbols.result) c.GROUPS-groups.result
+          c.BYTES-bytes.result c.loop-index.index c.loop-index-test.true,
+      room-same _ _ c.BYTES-bytes.ensures c.SYMBOLS-symbols.ensures c.requires.room,
+      c.loop-index.auto.output,
+    ))
+    ∙ (λ k. c.GROUPS-groups.ensures k * c.BYTES-bytes.ensures k)
+
+pub returns-then-not-decode-clause-within : goal.returns-then-not-decode-clause-within
+returns-then-not-decode-clause-within g c =
+    omega (
+      arith,
+      group-before (length c.args.input.now / c.SYMBOLS-symbols.result) c.GROUPS-groups.result
+          c.loop-index.index c.loop-index-test.true,
+      ap (λ s. length c.args.input.now / s) c.SYMBOLS-symbols.ensures,
+    )
+
+pub overflow_mul-result : goal.overflow_mul-result
+overflow_mul-result g c =
+    record {
+      fits = omega (
+        arith,
+        groups-within (length c.args.input.now / c.SYMBOLS-symbols.result) c.GROUPS-groups.result,
+        div-le_self (length c.args.input.now) c.SYMBOLS-symbols.result,
+      );
+    }
+
+pub returns-clause-within : goal.returns-clause-within
+returns-clause-within g c =
+    omega (
+      arith,
+      groups-within (length c.args.input.now / c.SYMBOLS-symbols.result) c.GROUPS-groups.result,
+      ap (λ s. length c.args.input.now / s) c.SYMBOLS-symbols.ensures,
+    )

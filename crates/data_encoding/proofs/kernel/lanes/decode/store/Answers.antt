@@ -24,3 +24,24 @@ returns-in_default g c =
     omega (arith, bytes-are g.G.GroupSize.is_group, c.in_default) in
     c.store_five.ensures
     ∙ ap (λ n. bytes_of_words c.args.order n c.args.words) (sym five)
+
+pub store_three-requires-clause-words : goal.store_three-requires-clause-words
+store_three-requires-clause-words g c =
+    subst (λ n. AllByRecursion (λ word. word < 2 ^ (8 * n)) c.args.words)
+    (sym c.BYTES.ensures ∙ c.in-3.is) c.requires.words
+
+pub store_three-requires-clause-exact : goal.store_three-requires-clause-exact
+store_three-requires-clause-exact g c =
+    c.requires.exact ∙ ap (λ n. 8 * n) (sym c.BYTES.ensures ∙ c.in-3.is)
+
+pub store_five-requires-clause-words : goal.store_five-requires-clause-words
+store_five-requires-clause-words g c =
+    let five : g.G.GroupSize.BYTES ≡ 5 =
+    omega (arith, bytes-are g.G.GroupSize.is_group, c.in_default) in
+    subst (λ n. AllByRecursion (λ word. word < 2 ^ (8 * n)) c.args.words) five c.requires.words
+
+pub store_five-requires-clause-exact : goal.store_five-requires-clause-exact
+store_five-requires-clause-exact g c =
+    let five : g.G.GroupSize.BYTES ≡ 5 =
+    omega (arith, bytes-are g.G.GroupSize.is_group, c.in_default) in
+    c.requires.exact ∙ ap (λ n. 8 * n) five
