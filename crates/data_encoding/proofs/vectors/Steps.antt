@@ -2,6 +2,8 @@
 use Rattle.std.proofs.Common.{◌≡◌, ℕ, ◌<◌, true, false, [], ◌∷◌, ◌++◌, map, drop, codes, replicate, Some, None, refl, ap, lit<, arith, lit≤, sym, inl, inr, subst, zero, suc, take}
 use Rattle.std.proofs.lemmas.Bool.{false≢true}
 use Rattle.data_encoding.specs.declared.encoding.Character.TheVariants.{Symbol as SymbolCharacter, Padding as PaddingCharacter, Ignored, Invalid}
+use Rattle.data_encoding.specs.declared.decode.Stop.{Stop}
+use Rattle.data_encoding.specs.declared.decode.steps.Step.TheVariants.{Ended}
 use Rattle.data_encoding.specs.declared.error.DecodeKind.TheVariants.{Symbol, Trailing}
 use Rattle.data_encoding.specs.Base.{Base, meaning, is_symbol, ignores_some}
 use Rattle.data_encoding.specs.Layout.{layout, column_of, separator_of}
@@ -16,7 +18,7 @@ use Rattle.data_encoding.specs.Encoding.{EncodingTables, base_of_tables, KeepsRu
 use Rattle.data_encoding.specs.Entries.{meaning_of_entry, is_entry_of, HoldsEntries}
 use Rattle.data_encoding.specs.Meanings.{meanings_of_table, HasEntries}
 use Rattle.data_encoding.specs.Tables.{HasTables, HoldsSymbols, HoldsValues, IsGroup, Reads, Writes}
-use Rattle.data_encoding.specs.Decoding.{AreSound, HasDecodedTo, IsLongest, IsRun, IsDecodedGroup, most_symbols, HasSymbols, HasFault, IsGathered, IsIgnoredFront, valid_front, IsLastRun, HasNoLastRun, HasRoom, IsStop, IsDecoded, fault_of_stop, run_bytes}
+use Rattle.data_encoding.specs.Decoding.{AreSound, HasDecodedTo, IsLongest, IsRun, IsDecodedGroup, most_symbols, HasSymbols, HasFault, IsGathered, IsIgnoredFront, valid_front, IsLastRun, HasNoLastRun, HasRoom, IsStop, IsDecoded, HasEnded, HasStepped, fault_of_stop, run_bytes}
 use Rattle.data_encoding.proofs.tables.TableLemmas.{Reads-seen, Writes-tables}
 use Rattle.data_encoding.proofs.vectors.Examples.{built, Has, nopad_ignoring_lf_fields}
 
@@ -167,6 +169,15 @@ text_decoded = record {
   means = Means-no_fault (built base64_nopad_fields)
       (record { some = lit< tt; few = lit≤ tt }) (codes "QUI") refl;
 }
+
+abbrev stop_at_end : Stop
+stop_at_end = record { read = 3; written = 2; index = 0; kind = Symbol }
+
+text_stepped :
+    Has base64_nopad_fields (λ base.
+    HasStepped base (codes "QUI") 0 (65 ∷ 66 ∷ 0 ∷ []) stop_at_end Ended
+    × HasEnded base (codes "QUI") (65 ∷ 66 ∷ 0 ∷ []) stop_at_end true)
+text_stepped = (text_decoded, text_decoded)
 
 text_stopped :
     Has base64_nopad_fields (λ base.
