@@ -130,23 +130,25 @@ returns-then-count-asked g c =
     let reader_works : has_failed c.fill.new.reader ≡ false = c.in-Ok.ensures.failed in
     record {
       all_read = end-ok failed result fault write judged (λ works sound. at_end);
-      whole =
-          end-ok failed result fault write judged (λ works sound. record {
-            text = done.text;
-            read = done.read;
-            at_end = at_end;
-            fault_is = sound;
-            written = ended-all done ends works;
-          });
-      faulty = λ error told.
-          let because = end-error failed result fault write judged error told in
-          record {
-            text = done.text;
-            read = done.read;
-            at_end = at_end;
-            fault_is = because.1;
-            written = ended-all done ends because.0;
-          };
+      all = record {
+        whole =
+            end-ok failed result fault write judged (λ works sound. record {
+              text = done.text;
+              read = done.read;
+              at_end = at_end;
+              fault_is = sound;
+              written = ended-all done ends works;
+            });
+        faulty = λ error told.
+            let because = end-error failed result fault write judged error told in
+            record {
+              text = done.text;
+              read = done.read;
+              at_end = at_end;
+              fault_is = because.1;
+              written = ended-all done ends because.0;
+            };
+      };
       begun =
           front-all base c.bit_width.ensures.base _ _ _ _ done.text done.read at_end
           (ended-front done ends);
