@@ -39,10 +39,10 @@ impl BufferDecoder<'_> {
     {
         pieces();
         if self.kept.ended {
-            return Err(DecodeError {
-                position: self.kept.positions[0],
+            return Err(self.at(DecodeError {
+                position: 0,
                 kind: DecodeKind::Padding,
-            });
+            }));
         }
         match self.encoding.decode_len(count) {
             Ok(most) => match self
