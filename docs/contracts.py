@@ -235,7 +235,8 @@ def names_in(text):
 
 def complete(call, known, told_of):
     """Adds definitions to the block: those that are whole clauses, of which the words are
-    answered, and those of the crates in `SHOWN` that are named and were not told of before."""
+    answered, and those of the crates in `SHOWN` that are named, by it or by one of these, and were
+    not told of before."""
     words = {}
     texts = clauses(call.block)
     named = names_in(" ".join(texts.values()))
@@ -247,8 +248,11 @@ def complete(call, known, told_of):
             words.update((label, " ".join(line[2:].strip() for line in comment))
                          for label in labels if comment)
         elif key[0] in SHOWN and key not in told_of:
-            call.block += [""] + comment + lines
-            told_of.add(key)
+            below = names_in(" ".join(lines))
+            for other in [key] + [it for it in known if it[0] == key[0] and it[2] in below]:
+                if other not in told_of:
+                    call.block += [""] + known[other][0] + known[other][1]
+                    told_of.add(other)
     return words
 
 

@@ -93,12 +93,12 @@ module _ (base : Base) (specified : IsSpecified base) where
         Consumes-whole r s text (λ l. AppendsFront v w (sound_bytes base l)) read at_end front;
   }
 
-  module _ (old new : Kept) (r s t v w : Option (List ℕ))
-      (so_far : Decoded base old r s v w) (more bytes : List ℕ) (read : Consumes s t more)
+  module _ {old new : Kept} {r s t v w x : Option (List ℕ)} {more bytes : List ℕ}
+      (so_far : Decoded base old r s v w) (read : Consumes s t more)
       (reads : ReadsOn base old new more bytes) where
     -- a piece more
-    pub decoded-more : (x : Option (List ℕ)) → Appends w x bytes → Decoded base new r t v x
-    decoded-more x written = record {
+    pub decoded-more : Appends w x bytes → Decoded base new r t v x
+    decoded-more written = record {
       text = so_far.text ++ more;
       read = Consumes-trans r s t so_far.text more so_far.read read;
       keeps = reads.keeps so_far.text so_far.keeps;
@@ -108,19 +108,19 @@ module _ (base : Base) (specified : IsSpecified base) where
     }
 
     -- a beginning of a piece more
-    pub decoded-front : KeepsBytes → TellsBytes → (x : Option (List ℕ))
-        → AppendsFront w x bytes → DecodesFront base r t v x
-    decoded-front keeps tells x front =
+    pub decoded-front : KeepsBytes → TellsBytes → AppendsFront w x bytes
+        → DecodesFront base r t v x
+    decoded-front keeps tells front =
         front-whole keeps tells r t v x (so_far.text ++ more)
         (Consumes-trans r s t so_far.text more so_far.read read)
         (subst (AppendsFront v x) (sym (reads.decodes so_far.text so_far.keeps))
         (AppendsFront-more v w x (whole_bytes base so_far.text) bytes so_far.written front))
 
   -- nothing is written of what was read last
-  pub decoded-only : KeepsBytes → TellsBytes → (kept : Kept) (r s t v w : Option (List ℕ))
+  pub decoded-only : KeepsBytes → TellsBytes → {kept : Kept} {r s t v w : Option (List ℕ)}
       → Decoded base kept r s v w → (more : List ℕ) → Consumes s t more
       → DecodesFront base r t v w
-  decoded-only keeps tells kept r s t v w so_far more read =
+  decoded-only keeps tells {kept} {r} {s} {t} {v} {w} so_far more read =
       let longer = keeps base specified so_far.text more in
       front-whole keeps tells r t v w (so_far.text ++ more)
       (Consumes-trans r s t so_far.text more so_far.read read)
@@ -129,7 +129,7 @@ module _ (base : Base) (specified : IsSpecified base) where
       (AppendsFront-all v w (whole_bytes base so_far.text) so_far.written)))
 
 -- the last group
-module _ (base : Base) (kept : Kept) (failed : Bool) (r s v w x : Option (List ℕ))
+module _ {base : Base} {kept : Kept} {failed : Bool} {r s v w x : Option (List ℕ)}
     (so_far : Decoded base kept r s v w) (ends : EndsText base kept failed w x) where
   pub ended-all : failed ≡ false → Appends v x (sound_bytes base so_far.text)
   ended-all works =
@@ -156,10 +156,10 @@ ends-all base kept failed v w bytes sound written = record {
 }
 
 -- more than the limit was read
-pub decoded-past : (base : Base) (kept : Kept) (r s t v w : Option (List ℕ))
+pub decoded-past : {base : Base} {kept : Kept} {r s t v w : Option (List ℕ)}
     → Decoded base kept r s v w → (more : List ℕ) → Consumes s t more
     → (limit : ℕ) → limit < kept.len + length more → ReadsMore limit r t
-decoded-past base kept r s t v w so_far more read limit past = record {
+decoded-past {base} {kept} {r} {s} {t} {v} {w} so_far more read limit past = record {
   bytes = so_far.text ++ more;
   read = Consumes-trans r s t so_far.text more so_far.read read;
   more = omega (arith, past, length-append so_far.text more, so_far.keeps.counted);

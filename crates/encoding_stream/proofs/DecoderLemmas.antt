@@ -153,3 +153,10 @@ module _ (base : Base) where
         length-append (whole_bytes base text ++ bytes) more.0,
         length-append (whole_bytes base text) bytes,
       ))
+
+-- what is appended follows what stood before
+pub appended-behind : (before : List ℕ) {old new x y : List ℕ} → x ≡ before ++ old
+    → AppendsDecoded old new x y → y ≡ before ++ new
+appended-behind before {old} is appends =
+    appends.appended ∙ ap (λ l. l ++ appends.bytes) is ∙ append_assoc before old appends.bytes
+    ∙ ap (λ l. before ++ l) (sym appends.decoded)

@@ -1,15 +1,19 @@
 -- The bytes that are held of a text, and how one more is read.
-use Rattle.std.proofs.Common.{◌≡◌, ℕ, zero, suc, ◌+◌, ◌<◌, ◌≤◌, ◌⊎◌, inl, inr, Bool, true, false, not, cond, ◌&&◌, ◌||◌, List, [], ◌∷◌, ◌++◌, length, map, take, Option, None, Some, is_some, slice_index, set, refl, sym, ap, ◌∙◌, subst, arith, length-append, length-take-le}
+use Rattle.std.proofs.Common.{◌≡◌, ℕ, zero, suc, ◌+◌, ◌<◌, ◌≤◌, Bool, true, false, not, cond, ◌&&◌, ◌||◌, List, [], ◌∷◌, ◌++◌, length, map, take, Option, None, Some, is_some, slice_index, set, refl, sym, ap, ◌∙◌, subst, arith, length-append, length-take-le}
 use Rattle.std.specs.List.{list_any}
 use Rattle.std.proofs.lemmas.List.{append-nil, take_more_set}
 use Rattle.std.proofs.lemmas.List.Elements.{All-append, All-cons, All-drop, All-nil, All-weaker, filter_passes}
 use Rattle.data_encoding.specs.declared.error.DecodeError.{DecodeError}
-use Rattle.data_encoding.specs.Base.{Base, IsWidth, group_symbols, is_ignored, is_padding, meaning}
-use Rattle.data_encoding.specs.Fault.{bytes_of_group, fault_after, position_of}
+use Rattle.data_encoding.specs.Base.{Base, IsWidth, group_bytes, group_symbols, is_ignored, is_padding, meaning}
+use Rattle.data_encoding.specs.Fault.{position_of}
 use Rattle.data_encoding.specs.Fields.{IsSpecified}
 use Rattle.data_encoding.specs.Grammar.{Positioned, is_final, kept, positioned, meanings_in}
-use Rattle.data_encoding.specs.Pieces.{bytes_unless, held_with, unfinished, whole_bytes, HasRead, HoldsPiece, KeepsFault, ReadsGroup}
-use Rattle.encoding_stream.specs.Pieces.{at_positions, paired, NoneIgnored}
+use Rattle.data_encoding.specs.Pieces.{bytes_unless, held_with, unfinished, whole_bytes, HasRead, HoldsPiece, ReadsGroup}
+use Rattle.encoding_stream.specs.declared.pieces.Kept.{Kept}
+use Rattle.encoding_stream.specs.Judged.{next_group, JudgesFaulty, JudgesSound}
+use Rattle.encoding_stream.specs.Pieces.{at_positions, held, paired, FillsGroups, Keeps, NoneIgnored}
+use Rattle.encoding_stream.specs.Reading.{ReadsOn}
+use Rattle.encoding_stream.proofs.ReadPieceLemmas.{fills-few, fills-none}
 use Rattle.encoding_stream.proofs.SizeLemmas.{symbols-few}
 
 -- Bytes at their positions.
@@ -85,195 +89,178 @@ module _ (base : Base) where
       (λ k h. passes (is_ignored (meaning base k.byte)) h) (kept base text)
       (filter_passes (λ k. not (is_ignored (meaning base k.byte))) (positioned text)))
 
--- One more byte, behind those that are held.
-module _ (base : Base) (len byte : ℕ) (held : List Positioned) where
-  abbrev pub next : Positioned
-  next = record { position = len; byte = byte }
-
-  pub held_with-ignored : is_ignored (meaning base byte) ≡ true
-      → held_with base len held (byte ∷ []) ≡ held
-  held_with-ignored h =
-      ap (λ b. held ++ cond (not b) (next ∷ []) []) h ∙ append-nil held
-
-  pub held_with-kept : is_ignored (meaning base byte) ≡ false
-      → held_with base len held (byte ∷ []) ≡ held ++ next ∷ []
-  held_with-kept h = ap (λ b. held ++ cond (not b) (next ∷ []) []) h
-
--- A text of which this is kept, and one more byte.
-module _ (base : Base) (is : IsSpecified base) (text : List ℕ) (len byte : ℕ)
-    (held : List Positioned) (ended : Bool) where
-  -- after a fault, and where it is ignored, nothing changes but the length
-  pub read-same : KeepsFault → HoldsPiece → (fault : Option DecodeError)
-      → (is_some fault ≡ true) ⊎ (is_ignored (meaning base byte) ≡ true)
-      → length held < group_symbols base.width → HasRead base text len fault held ended
-      → HasRead base (text ++ byte ∷ []) (len + 1) fault held ended
-      × (whole_bytes base (text ++ byte ∷ []) ≡ whole_bytes base text)
-  read-same faulty holds (Some error) why few read =
-      faulty base is text (byte ∷ []) len error held held ended ended read
-  read-same faulty holds None (inl is_fault) few read = absurd (cc is_fault)
-  read-same faulty holds None (inr ignored) few read =
-      let same = held_with-ignored base len byte held ignored in
-      let next = holds base is text (byte ∷ []) len held ended read
-      (subst (λ ks. length ks < group_symbols base.width) (sym same) few) in
-      (subst (λ ks. HasRead base (text ++ byte ∷ []) (len + 1) None ks ended) same next.0, next.1)
-
-  -- one that completes no group is held
-  pub read-held : HoldsPiece → is_ignored (meaning base byte) ≡ false → (n : ℕ)
-      → length held ≡ n → n + 1 < group_symbols base.width → HasRead base text len None held ended
-      → HasRead base (text ++ byte ∷ []) (len + 1) None
-      (held ++ record { position = len; byte = byte } ∷ []) ended
-      × (whole_bytes base (text ++ byte ∷ []) ≡ whole_bytes base text)
-  read-held holds kept n count few read =
-      let more = held_with-kept base len byte held kept in
-      let size : length (held ++ next base len byte held ∷ []) ≡ n + 1 =
-      length-append held (next base len byte held ∷ []) ∙ ap (λ k. k + 1) count in
-      let after = holds base is text (byte ∷ []) len held ended read
-      (subst (λ ks. length ks < group_symbols base.width) (sym more)
-      (subst (λ k. k < group_symbols base.width) (sym size) few)) in
-      (subst (λ ks. HasRead base (text ++ byte ∷ []) (len + 1) None ks ended) more after.0, after.1)
-
-  -- and one that completes a group has it judged
-  pub read-group : ReadsGroup → is_ignored (meaning base byte) ≡ false → (n : ℕ)
-      → length held ≡ n → n + 1 ≡ group_symbols base.width → (group : List Positioned)
-      → held ++ record { position = len; byte = byte } ∷ [] ≡ group
-      → HasRead base text len None held ended
-      → HasRead base (text ++ byte ∷ []) (len + 1) (fault_after ended base group) []
-      (is_final base group)
-      × (whole_bytes base (text ++ byte ∷ [])
-      ≡ whole_bytes base text ++ bytes_unless (fault_after ended base group) base group)
-  read-group reads kept n count whole group is_group read =
-      let more = held_with-kept base len byte held kept ∙ is_group in
-      let size : length group ≡ n + 1 =
-      ap (λ ks. length ks) (sym is_group)
-      ∙ length-append held (next base len byte held ∷ []) ∙ ap (λ k. k + 1) count in
-      reads base is text (byte ∷ []) len held group ended read more (size ∙ whole)
-
--- After a fault it is not said what is held.
-faulty-any : (base : Base) (text : List ℕ) (len : ℕ) (error : DecodeError)
-    (held other : List Positioned) (ended end : Bool)
-    → HasRead base text len (Some error) held ended → HasRead base text len (Some error) other end
-faulty-any base text len error held other ended end read = record {
-  counted = read.counted;
-  first = read.first;
-  holds = λ none. absurd (cc none);
-  ends = λ none. absurd (cc none);
-}
-
 pub no-fault : (fault : Option DecodeError) → is_some fault ≡ false → fault ≡ None
 no-fault None h = refl
 no-fault (Some error) h = absurd (cc h)
 
--- `BufferDecoder::take`, over what it keeps of a text: the encoding's base, the length, the first
--- fault, the bytes of the unfinished group with their positions, and whether a group was final.
-module _ (base : Base) (is : IsSpecified base) (len : ℕ) (fault : Option DecodeError)
-    (positions bytes : List ℕ) (count : ℕ) (ended : Bool) (byte : ℕ)
-    (width : IsWidth base.width) (short : count < group_symbols base.width)
-    (h : length positions ≡ 8) (k : length bytes ≡ 8) where
-  abbrev old : List Positioned
-  old = at_positions count positions bytes
+-- What a `BufferDecoder` says of what it keeps, and of its encoding.
+pub record IsKept (base : Base) (kept : Kept) : Type 0 where
+  pub specified : IsSpecified base
+  pub width : IsWidth base.width
+  pub short : kept.count < group_symbols base.width
+  pub positions : length kept.positions ≡ 8
+  pub bytes : length kept.bytes ≡ 8
 
-  abbrev group : ℕ → List Positioned
-  group n = at_positions n (set positions count len) (set bytes count byte)
+-- with a byte at its position behind those that are held, which are not counted anew
+abbrev with_byte : Kept → ℕ → Kept
+with_byte kept byte = record kept {
+  len = kept.len + 1;
+  positions = set kept.positions kept.count kept.len;
+  bytes = set kept.bytes kept.count byte;
+}
 
-  size : length (at_positions count positions bytes) ≡ count
+-- `BufferDecoder::take`, where no group before has a fault.
+module _ (base : Base) (kept : Kept) (is : IsKept base kept) (byte : ℕ)
+    (sound : is_some kept.fault ≡ false) where
+  abbrev next : Positioned
+  next = record { position = kept.len; byte = byte }
+
+  clean : kept.fault ≡ None
+  clean = no-fault kept.fault sound
+
+  size : length (held kept) ≡ kept.count
   size =
-      let few = symbols-few base.width width in
-      positions-length count positions bytes (omega arith) (omega arith)
+      let few = symbols-few base.width is.width in
+      let short = is.short in
+      positions-length kept.count kept.positions kept.bytes (omega (arith, short, is.positions))
+      (omega (arith, short, is.bytes))
 
-  more : (n : ℕ) → n ≡ count + 1
-      → at_positions count positions bytes ++ record { position = len; byte = byte } ∷ []
-      ≡ at_positions n (set positions count len) (set bytes count byte)
-  more n is_next =
-      let few = symbols-few base.width width in
-      sym (positions-more count positions bytes len byte (omega arith) (omega arith))
-      ∙ ap (λ m. at_positions m (set positions count len) (set bytes count byte)) (sym is_next)
+  -- the same with no fault and with the one that is kept, which is none
+  again : (text : List ℕ) (one other : List Positioned) (ended : Bool) → one ≡ other
+      → HasRead base text (kept.len + 1) None one ended
+      → HasRead base text (kept.len + 1) kept.fault other ended
+  again text one other ended same read =
+      subst (λ f. HasRead base text (kept.len + 1) f other ended) (sym clean)
+      (subst (λ ks. HasRead base text (kept.len + 1) None ks ended) same read)
 
-  pub take-same : KeepsFault → HoldsPiece
-      → (is_some fault ≡ true) ⊎ (is_ignored (meaning base byte) ≡ true) → (text : List ℕ)
-      → HasRead base text len fault (at_positions count positions bytes) ended
-      → HasRead base (text ++ byte ∷ []) (len + 1) fault (at_positions count positions bytes) ended
-      × (whole_bytes base (text ++ byte ∷ []) ≡ whole_bytes base text ++ [])
-  take-same faulty holds why text read =
-      let after = read-same base is text len byte old ended faulty holds fault why
-      (subst (λ m. m < group_symbols base.width) (sym size) short) read in
-      (after.0, after.1 ∙ sym (append-nil (whole_bytes base text)))
+  -- what holds of each text with no fault so far holds of each of which this is kept
+  reads-byte : (new : Kept) (bytes : List ℕ)
+      → ((text : List ℕ) → HasRead base text kept.len None (held kept) kept.ended
+      → Keeps base new (text ++ byte ∷ [])
+      × (whole_bytes base (text ++ byte ∷ []) ≡ whole_bytes base text ++ bytes))
+      → new.len ≡ kept.len + 1 → FillsGroups base kept.count 1 new.count (length bytes)
+      → ReadsOn base kept new (byte ∷ []) bytes
+  reads-byte new bytes reads counted fills =
+      let begun = λ (text : List ℕ) (keeps : Keeps base kept text).
+      subst (λ f. HasRead base text kept.len f (held kept) kept.ended) clean keeps in
+      record {
+        keeps = λ text keeps. (reads text (begun text keeps)).0;
+        decodes = λ text keeps. (reads text (begun text keeps)).1;
+        counted = counted;
+        few =
+            fills-few base is.width kept.fault new.fault kept.count 1 new.count (length bytes)
+            sound fills;
+      }
 
-  module _ (sound : is_some fault ≡ false) (kept : is_ignored (meaning base byte) ≡ false)
-      (text : List ℕ)
-      (read : HasRead base text len fault (at_positions count positions bytes) ended) where
-    begun : HasRead base text len None (at_positions count positions bytes) ended
-    begun = subst (λ f. HasRead base text len f old ended) (no-fault fault sound) read
+  -- a byte that is ignored is counted
+  pub take-ignored : HoldsPiece → is_ignored (meaning base byte) ≡ true
+      → ReadsOn base kept (record kept { len = kept.len + 1 }) (byte ∷ []) []
+  take-ignored holds ignored =
+      let same : held_with base kept.len (held kept) (byte ∷ []) ≡ held kept =
+      ap (λ b. held kept ++ cond (not b) (next ∷ []) []) ignored ∙ append-nil (held kept) in
+      reads-byte _ []
+      (λ text read.
+      let after = holds base is.specified text (byte ∷ []) kept.len (held kept) kept.ended read
+      (subst (λ ks. length ks < group_symbols base.width) (sym same)
+      (subst (λ m. m < group_symbols base.width) (sym size) is.short)) in (
+        again (text ++ byte ∷ []) _ (held kept) kept.ended same after.0,
+        after.1 ∙ sym (append-nil (whole_bytes base text)),
+      ))
+      refl (fills-none base kept.count 1 kept.count (omega arith))
 
-    pub take-held : HoldsPiece → count + 1 < group_symbols base.width
-        → HasRead base (text ++ byte ∷ []) (len + 1) fault
-        (at_positions (count + 1) (set positions count len) (set bytes count byte)) ended
-        × (whole_bytes base (text ++ byte ∷ []) ≡ whole_bytes base text ++ [])
+  -- one that is not, with those that are held
+  module _ (is_kept : is_ignored (meaning base byte) ≡ false) (count : ℕ)
+      (is_next : count ≡ kept.count + 1) where
+    abbrev group : List Positioned
+    group = next_group (with_byte kept byte) count
+
+    more : held kept ++ next ∷ [] ≡ group
+    more =
+        let few = symbols-few base.width is.width in
+        let short = is.short in
+        sym (positions-more kept.count kept.positions kept.bytes kept.len byte
+        (omega (arith, short, is.positions)) (omega (arith, short, is.bytes)))
+        ∙ ap (λ n. next_group (with_byte kept byte) n) (sym is_next)
+
+    joined : held_with base kept.len (held kept) (byte ∷ []) ≡ group
+    joined = ap (λ b. held kept ++ cond (not b) (next ∷ []) []) is_kept ∙ more
+
+    long : length group ≡ count
+    long =
+        ap (λ ks. length ks) (sym more) ∙ length-append (held kept) (next ∷ [])
+        ∙ ap (λ n. n + 1) size ∙ sym is_next
+
+    -- is held, if it completes no group
+    pub take-held : HoldsPiece → count < group_symbols base.width
+        → ReadsOn base kept (record (with_byte kept byte) { count = count }) (byte ∷ []) []
     take-held holds few =
-        let after = read-held base is text len byte old ended holds kept count size few begun in (
-          subst (λ f. HasRead base (text ++ byte ∷ []) (len + 1) f (group (count + 1)) ended)
-              (sym (no-fault fault sound))
-              (subst (λ ks. HasRead base (text ++ byte ∷ []) (len + 1) None ks ended)
-              (more (count + 1) refl) after.0),
+        reads-byte _ []
+        (λ text read.
+        let after = holds base is.specified text (byte ∷ []) kept.len (held kept) kept.ended read
+        (subst (λ ks. length ks < group_symbols base.width) (sym joined)
+        (subst (λ n. n < group_symbols base.width) (sym long) few)) in (
+          again (text ++ byte ∷ []) _ group kept.ended joined after.0,
           after.1 ∙ sym (append-nil (whole_bytes base text)),
-        )
+        ))
+        refl (fills-none base kept.count 1 count (omega (arith, is_next)))
 
     -- none of the group is ignored
-    none-ignored : (n : ℕ) → n ≡ count + 1
-        → NoneIgnored base (at_positions n (set positions count len) (set bytes count byte))
-    none-ignored n is_next =
-        subst (NoneIgnored base) (more n is_next)
-        (All-append (λ (q : Positioned). is_ignored (meaning base q.byte) ≡ false) old _
-        (subst (NoneIgnored base) (sym (begun.holds refl)) (unfinished-kept base text))
-        (All-cons (λ (q : Positioned). is_ignored (meaning base q.byte) ≡ false)
-        (record { position = len; byte = byte }) [] kept (All-nil _)))
+    none-ignored : (text : List ℕ) → HasRead base text kept.len None (held kept) kept.ended
+        → NoneIgnored base group
+    none-ignored text read =
+        subst (NoneIgnored base) more
+        (All-append (λ (q : Positioned). is_ignored (meaning base q.byte) ≡ false) (held kept) _
+        (subst (NoneIgnored base) (sym (read.holds refl)) (unfinished-kept base text))
+        (All-cons (λ (q : Positioned). is_ignored (meaning base q.byte) ≡ false) next [] is_kept
+        (All-nil _)))
 
-    whole : ReadsGroup → (n : ℕ) → n ≡ count + 1 → n ≡ group_symbols base.width
-        → HasRead base (text ++ byte ∷ []) (len + 1) (fault_after ended base (group n)) []
-        (is_final base (group n))
-        × (whole_bytes base (text ++ byte ∷ []) ≡ whole_bytes base text
-        ++ bytes_unless (fault_after ended base (group n)) base (group n))
-    whole reads n is_next is_whole =
-        read-group base is text len byte old ended reads kept count size
-        (sym is_next ∙ is_whole) (group n) (more n is_next) begun
-
-    pub take-sound : ReadsGroup → (n : ℕ) → n ≡ count + 1 → n ≡ group_symbols base.width
-        → (final : Bool) (output : List ℕ)
-        → final ≡ is_final base
-        (at_positions n (set positions count len) (set bytes count byte))
-        → (NoneIgnored base (at_positions n (set positions count len) (set bytes count byte))
-        → (fault_after ended base (at_positions n (set positions count len)
-        (set bytes count byte)) ≡ None)
-        × (bytes_of_group base (at_positions n (set positions count len)
-        (set bytes count byte)) ≡ output))
-        → HasRead base (text ++ byte ∷ []) (len + 1) fault [] final
-        × (whole_bytes base (text ++ byte ∷ []) ≡ whole_bytes base text ++ output)
-    take-sound reads n is_next is_whole final output is_end judged =
-        let after = whole reads n is_next is_whole in
-        let verdict = judged (none-ignored n is_next) in
-        let clean : fault_after ended base (group n) ≡ fault =
-        verdict.0 ∙ sym (no-fault fault sound) in (
-          subst (λ e. HasRead base (text ++ byte ∷ []) (len + 1) fault [] e) (sym is_end)
+    -- or makes a group whole, which is judged
+    pub take-sound : ReadsGroup → count ≡ group_symbols base.width → (bytes : List ℕ)
+        → JudgesSound base (with_byte kept byte) count bytes
+        → length bytes ≤ group_bytes base.width → (final : Bool) → final ≡ is_final base group
+        → ReadsOn base kept (record (with_byte kept byte) { count = 0; ended = final }) (byte ∷ [])
+        bytes
+    take-sound reads whole bytes judges few final is_end =
+        reads-byte _ bytes
+        (λ text read.
+        let after = reads base is.specified text (byte ∷ []) kept.len (held kept) group
+        kept.ended read joined (long ∙ whole) in
+        let verdict = judges (none-ignored text read) in (
+          again (text ++ byte ∷ []) [] [] final refl
+              (subst (λ e. HasRead base (text ++ byte ∷ []) (kept.len + 1) None [] e) (sym is_end)
               (subst
-              (λ f. HasRead base (text ++ byte ∷ []) (len + 1) f [] (is_final base (group n)))
-              clean after.0),
+              (λ f. HasRead base (text ++ byte ∷ []) (kept.len + 1) f [] (is_final base group))
+              verdict.0 after.0)),
           after.1
-              ∙ ap (λ f. whole_bytes base text ++ bytes_unless f base (group n)) verdict.0
+              ∙ ap (λ f. whole_bytes base text ++ bytes_unless f base group) verdict.0
               ∙ ap (λ xs. whole_bytes base text ++ xs) verdict.1,
-        )
+        ))
+        refl
+        (record {
+          groups = 1;
+          symbols = omega (arith, is_next, whole);
+          bytes = omega (arith, few);
+        })
 
-    pub take-faulty : ReadsGroup → (n : ℕ) → n ≡ count + 1 → n ≡ group_symbols base.width
-        → (error : DecodeError)
-        → (NoneIgnored base (at_positions n (set positions count len) (set bytes count byte))
-        → fault_after ended base (at_positions n (set positions count len)
-        (set bytes count byte)) ≡ Some error)
-        → HasRead base (text ++ byte ∷ []) (len + 1) (Some error) [] ended
-        × (whole_bytes base (text ++ byte ∷ []) ≡ whole_bytes base text ++ [])
-    take-faulty reads n is_next is_whole error judged =
-        let after = whole reads n is_next is_whole in
-        let verdict = judged (none-ignored n is_next) in (
-          faulty-any base (text ++ byte ∷ []) (len + 1) error [] [] (is_final base (group n)) ended
-              (subst
-              (λ f. HasRead base (text ++ byte ∷ []) (len + 1) f [] (is_final base (group n)))
-              verdict after.0),
-          after.1 ∙ ap (λ f. whole_bytes base text ++ bytes_unless f base (group n)) verdict,
-        )
+    pub take-faulty : ReadsGroup → count ≡ group_symbols base.width → (error : DecodeError)
+        → JudgesFaulty base (with_byte kept byte) count error
+        → ReadsOn base kept (record (with_byte kept byte) { count = 0; fault = Some error })
+        (byte ∷ []) []
+    take-faulty reads whole error judges =
+        reads-byte _ []
+        (λ text read.
+        let after = reads base is.specified text (byte ∷ []) kept.len (held kept) group
+        kept.ended read joined (long ∙ whole) in
+        let verdict = judges (none-ignored text read) in
+        let faulty = subst
+        (λ f. HasRead base (text ++ byte ∷ []) (kept.len + 1) f [] (is_final base group))
+        verdict after.0 in (
+          record {
+            counted = faulty.counted;
+            first = faulty.first;
+            holds = λ none. absurd (cc none);
+            ends = λ none. absurd (cc none);
+          },
+          after.1 ∙ ap (λ f. whole_bytes base text ++ bytes_unless f base group) verdict,
+        ))
+        refl (fills-none base kept.count 1 0 (omega arith))

@@ -130,55 +130,9 @@ reads-join base a b c one other bytes more first second = record {
       all (omega (arith, before, after, length-append bytes more));
 }
 
--- the output has room for what is left
-reads-room : (base : Base) (a b : Kept) (piece output : List ℕ) (read written : ℕ)
-    → ReadsOn base a b (take read piece) (take written output)
-    → read ≤ length piece → written ≤ length output
-    → most_completed base a (length piece) ≤ length output
-    → most_completed base b (length piece - read) ≤ length output - written
-reads-room base a b piece output read written reads within fits room =
-    let few = rw (length-take-le read piece within, length-take-le written output fits)
-    at reads.few (length piece - read) in
-    let all : read + (length piece - read) ≡ length piece = omega (arith, within) in
-    let less = rw all at few in
-    omega (arith, less, room)
-
 -- the length of what is left of a list
 length-left : (i : ℕ) (xs : List ℕ) → length (take (length xs - i) (drop i xs)) ≡ length xs - i
 length-left i xs = ap length (take_rest xs i) ∙ length-drop i xs
-
--- the output has room for another byte
-pub next-room : (base : Base) (a b : Kept) (piece output whole : List ℕ) (read written : ℕ)
-    → IsWidth base.width → ReadsOn base a b (take read piece) (take written output)
-    → read < length piece → written ≤ length output → length output ≡ length whole
-    → most_completed base a (length piece) ≤ length whole
-    → most_completed base b 1 ≤ length (take (length output - written) (drop written output))
-next-room base a b piece output whole read written width reads within fits same room =
-    let left =
-    reads-room base a b piece output read written reads (omega arith) fits
-    (omega (arith, same, room)) in
-    let one = most-grows base width b 1 (length piece - read) (omega (arith, within)) in
-    rw (length-left written output) (omega (arith, left, one))
-
--- the output has room for what is left of the piece
-pub rest-room : (base : Base) (a b : Kept) (piece output whole : List ℕ) (read written : ℕ)
-    → ReadsOn base a b (take read piece) (take written output)
-    → read ≤ length piece → written ≤ length output → length output ≡ length whole
-    → most_completed base a (length piece) ≤ length whole
-    → most_completed base b (length (take (length piece - read) (drop read piece)))
-    ≤ length (take (length output - written) (drop written output))
-rest-room base a b piece output whole read written reads within fits same room =
-    let left =
-    reads-room base a b piece output read written reads within fits
-    (omega (arith, same, room)) in
-    rw (length-left read piece, length-left written output) left
-
--- so much of what is left of a list is within it
-pub within-left : (i n : ℕ) (xs : List ℕ) → i ≤ length xs
-    → n ≤ length (take (length xs - i) (drop i xs)) → i + n ≤ length xs
-within-left i n xs within few =
-    let left = length-left i xs in
-    omega (arith, left)
 
 fault-keeps : (base : Base) → IsSpecified base → KeepsFault → (fault : Option DecodeError)
     → is_some fault ≡ true → (text piece : List ℕ) (len : ℕ) (held : List Positioned)
@@ -205,7 +159,7 @@ reads-fault base width is law old some piece =
     }
 
 -- what follows is written behind what was
-pub length-written : (written : ℕ) (output part : List ℕ) → written ≤ length output
+length-written : (written : ℕ) (output part : List ℕ) → written ≤ length output
     → length part ≡ length (take (length output - written) (drop written output))
     → length (put_mid written (length output - written) output part) ≡ length output
 length-written written output part fits same =
@@ -213,7 +167,7 @@ length-written written output part fits same =
     let left = length-left written output in
     omega (arith, length-append {A = ℕ}, length-drop {A = ℕ}, front, left, same)
 
-pub within-written : (written more : ℕ) (output part : List ℕ) → written ≤ length output
+within-written : (written more : ℕ) (output part : List ℕ) → written ≤ length output
     → length part ≡ length (take (length output - written) (drop written output))
     → more ≤ length part
     → written + more ≤ length (put_mid written (length output - written) output part)
@@ -233,69 +187,99 @@ take-written written more output part fits few =
     ∙ take-append-add (take written output) (part ++ post) more
     ∙ ap (λ bs. take written output ++ bs) (take-append-le more part post few)
 
--- one byte, as it is taken
-pub reads-byte : (base : Base) (a b : Kept) (byte : ℕ) (bytes : List ℕ)
-    → ((text : List ℕ) → Keeps base a text → Keeps base b (text ++ byte ∷ [])
-    × (whole_bytes base (text ++ byte ∷ []) ≡ whole_bytes base text ++ bytes))
-    → b.len ≡ a.len + 1
-    → ((more : ℕ) → length bytes + most_completed base b more ≤ most_completed base a (1 + more))
-    → ReadsOn base a b (byte ∷ []) bytes
-reads-byte base a b byte bytes takes counted few = record {
-  keeps = λ text keeps. (takes text keeps).0;
-  decodes = λ text keeps. (takes text keeps).1;
-  counted = counted;
-  few = few;
-}
+-- So much of a piece was read on, and what it decodes to is the front of an output.
+pub record ReadsFront (base : Base) (old now : Kept) (piece output : List ℕ) (read written : ℕ)
+    : Type 0 where
+  pub reads : ReadsOn base old now (take read piece) (take written output)
+  pub begins : read ≤ length piece
+  pub fits : written ≤ length output
 
--- a byte that follows
-pub reads-next : (base other : Base) → other ≡ base → (a b c : Kept) (piece output part : List ℕ)
-    (read written more : ℕ) → ReadsOn base a b (take read piece) (take written output)
-    → ReadsOn other b c (get_or piece read 0 ∷ []) (take more part)
-    → read < length piece → written ≤ length output → more ≤ length part
-    → ReadsOn base a c (take (read + 1) piece)
-    (take (written + more) (put_mid written (length output - written) output part))
-reads-next base other same a b c piece output part read written more first second within fits few =
-    let here = subst (λ k. ReadsOn k b c (get_or piece read 0 ∷ []) (take more part)) same second in
-    rw (take-written written more output part fits few, take_more piece read 0 within)
-    (reads-join base a b c _ _ _ _ first here)
+pub reads-front : {base : Base} {old now : Kept} {piece output : List ℕ} {read written : ℕ}
+    → ReadsOn base old now (take read piece) (take written output) → read ≤ length piece
+    → written ≤ length output → ReadsFront base old now piece output read written
+reads-front reads begins fits = record { reads = reads; begins = begins; fits = fits }
 
--- a part that follows
-pub reads-part : (base other : Base) → other ≡ base → (a b c : Kept) (piece output part : List ℕ)
-    (read written count more : ℕ) → ReadsOn base a b (take read piece) (take written output)
-    → ReadsOn other b c (take count (take (length piece - read) (drop read piece)))
-    (take more part)
-    → written ≤ length output → more ≤ length part
-    → ReadsOn base a c (take (read + count) piece)
-    (take (written + more) (put_mid written (length output - written) output part))
-reads-part base other same a b c piece output part read written count more first second fits few =
-    let here = subst (λ k. ReadsOn k b c (take count (drop read piece)) (take more part)) same
-    (rw (take_rest piece read) at second) in
-    rw (take-written written more output part fits few, take-add read count piece)
-    (reads-join base a b c _ _ _ _ first here)
+module _ {base : Base} {old now : Kept} {piece output : List ℕ} {read written : ℕ}
+    (front : ReadsFront base old now piece output read written) where
+  -- the output has room for what is left of the piece
+  pub rest-room : most_completed base old (length piece) ≤ length output
+      → most_completed base now (length (take (length piece - read) (drop read piece)))
+      ≤ length (take (length output - written) (drop written output))
+  rest-room room =
+      let few =
+      rw (length-take-le read piece front.begins, length-take-le written output front.fits)
+      at front.reads.few (length piece - read) in
+      let all : read + (length piece - read) ≡ length piece = omega (arith, front.begins) in
+      let less = rw all at few in
+      rw (length-left read piece, length-left written output) (omega (arith, less, room))
 
--- the last part
-pub reads-rest : (base other : Base) → other ≡ base → (a b c : Kept) (piece output part : List ℕ)
-    (read written more : ℕ) → ReadsOn base a b (take read piece) (take written output)
-    → ReadsOn other b c (take (length piece - read) (drop read piece)) (take more part)
-    → written ≤ length output → more ≤ length part
-    → ReadsOn base a c piece
-    (take (written + more) (put_mid written (length output - written) output part))
-reads-rest base other same a b c piece output part read written more first second fits few =
-    let here = subst (λ k. ReadsOn k b c (drop read piece) (take more part)) same
-    (rw (take_rest piece read) at second) in
-    rw (take-written written more output part fits few)
-    (subst (λ whole. ReadsOn base a c whole (take written output ++ take more part))
-    (take-append-drop read piece)
-    (reads-join base a b c _ _ _ _ first here))
+  -- and for another byte
+  pub next-room : IsWidth base.width → read < length piece
+      → most_completed base old (length piece) ≤ length output
+      → most_completed base now 1 ≤ length (take (length output - written) (drop written output))
+  next-room width some room =
+      let left = take (length piece - read) (drop read piece) in
+      let one =
+      most-grows base width now 1 (length left) (rw (length-left read piece) (omega (arith, some)))
+      in omega (arith, one, rest-room room)
 
--- what follows decodes to nothing
-pub reads-behind : (base other : Base) → other ≡ base → (a b c : Kept) (piece bytes : List ℕ)
-    (read : ℕ) → ReadsOn base a b (take read piece) bytes
-    → ReadsOn other b c (take (length piece - read) (drop read piece)) []
-    → ReadsOn base a c piece bytes
-reads-behind base other same a b c piece bytes read first second =
-    let here = subst (λ k. ReadsOn k b c (drop read piece) []) same
-    (rw (take_rest piece read) at second) in
-    subst (ReadsOn base a c piece) (append-nil bytes)
-    (subst (λ whole. ReadsOn base a c whole (bytes ++ [])) (take-append-drop read piece)
-    (reads-join base a b c _ _ _ _ first here))
+  -- what follows decodes to nothing
+  pub reads-behind : {new : Kept}
+      → ReadsOn base now new (take (length piece - read) (drop read piece)) []
+      → ReadsOn base old new piece (take written output)
+  reads-behind {new} rest =
+      subst (ReadsOn base old new piece) (append-nil (take written output))
+      (subst (λ whole. ReadsOn base old new whole (take written output ++ []))
+      (take-append-drop read piece)
+      (reads-join base old now new _ _ _ _ front.reads (rw (take_rest piece read) at rest)))
+
+  -- what follows is written behind what was
+  module _ (part : List ℕ) {more : ℕ}
+      (same : length part ≡ length (take (length output - written) (drop written output)))
+      (few : more ≤ length part) where
+    pub length-both : length (put_mid written (length output - written) output part)
+        ≡ length output
+    length-both = length-written written output part front.fits same
+
+    pub within-both : written + more
+        ≤ length (put_mid written (length output - written) output part)
+    within-both = within-written written more output part front.fits same few
+
+    -- a byte
+    pub reads-next : {new : Kept} → ReadsOn base now new (get_or piece read 0 ∷ []) (take more part)
+        → read < length piece
+        → ReadsFront base old new piece (put_mid written (length output - written) output part)
+        (read + 1) (written + more)
+    reads-next {new} byte some = record {
+      reads =
+          rw (take-written written more output part front.fits few, take_more piece read 0 some)
+          (reads-join base old now new _ _ _ _ front.reads byte);
+      begins = omega (arith, some);
+      fits = within-both;
+    }
+
+    -- a part
+    pub reads-part : {new : Kept} (count : ℕ)
+        → count ≤ length (take (length piece - read) (drop read piece))
+        → ReadsOn base now new (take count (take (length piece - read) (drop read piece)))
+        (take more part)
+        → ReadsFront base old new piece (put_mid written (length output - written) output part)
+        (read + count) (written + more)
+    reads-part {new} count within other = record {
+      reads =
+          rw (take-written written more output part front.fits few, take-add read count piece)
+          (reads-join base old now new _ _ _ _ front.reads (rw (take_rest piece read) at other));
+      begins = omega (arith, within, length-left read piece, front.begins);
+      fits = within-both;
+    }
+
+    -- or all that is left
+    pub reads-rest : {new : Kept}
+        → ReadsOn base now new (take (length piece - read) (drop read piece)) (take more part)
+        → ReadsOn base old new piece
+        (take (written + more) (put_mid written (length output - written) output part))
+    reads-rest {new} rest =
+        rw (take-written written more output part front.fits few)
+        (subst (λ whole. ReadsOn base old new whole (take written output ++ take more part))
+        (take-append-drop read piece)
+        (reads-join base old now new _ _ _ _ front.reads (rw (take_rest piece read) at rest)))

@@ -1,7 +1,10 @@
 -- What a contract sees of a `Decoder`.
-use Rattle.std.specs.Prelude.{ℕ, List}
+use Rattle.std.specs.Prelude.{◌≡◌, ℕ, List, ◌++◌}
 use Rattle.data_encoding.specs.Base.{Base}
+use Rattle.data_encoding.specs.Fault.{sound_bytes}
+use Rattle.data_encoding.specs.Pieces.{whole_bytes, HasDecoded}
 use Rattle.encoding_stream.specs.declared.decoder.Decoder.{Decoder}
+use Rattle.encoding_stream.specs.Appending.{AppendsDecoded}
 use Rattle.encoding_stream.specs.Pieces.{base_of_pieces, Keeps}
 
 -- the encoding
@@ -16,3 +19,25 @@ decoder_len decoder = decoder.pieces.kept.len
 -- where there is none the bytes after these with their positions, and whether one was final.
 abbrev pub StandsAfter : Decoder → List ℕ → Type 0
 StandsAfter decoder text = Keeps (base_of_decoder decoder) decoder.pieces.kept text
+
+-- A piece was pushed, and the bytes of the groups that are then whole were appended to an output.
+pub record AppendsPushed (decoder : Decoder) (piece output_old output_new : List ℕ) : Type 0 where
+  -- whatever the output held
+  pub bytes : (text : List ℕ) → StandsAfter decoder text
+      → AppendsDecoded (whole_bytes (base_of_decoder decoder) text)
+      (whole_bytes (base_of_decoder decoder) (text ++ piece)) output_old output_new
+  -- and where it held those of the groups before
+  pub decoded : (before text : List ℕ) → StandsAfter decoder text
+      → HasDecoded (base_of_decoder decoder) before text output_old
+      → HasDecoded (base_of_decoder decoder) before (text ++ piece) output_new
+
+-- The text was ended, and the bytes of its last group were appended to an output.
+pub record AppendsFinished (decoder : Decoder) (output_old output_new : List ℕ) : Type 0 where
+  -- whatever the output held
+  pub bytes : (text : List ℕ) → StandsAfter decoder text
+      → AppendsDecoded (whole_bytes (base_of_decoder decoder) text)
+      (sound_bytes (base_of_decoder decoder) text) output_old output_new
+  -- and where it held those of the groups before
+  pub decoded : (before text : List ℕ) → StandsAfter decoder text
+      → HasDecoded (base_of_decoder decoder) before text output_old
+      → output_new ≡ before ++ sound_bytes (base_of_decoder decoder) text

@@ -61,6 +61,12 @@ CompletesNothing base text piece =
 abbrev pub HasNoLastBytes : Base → List ℕ → Type 0
 HasNoLastBytes base text = sound_bytes base text ≡ whole_bytes base text
 
+-- Where this is kept of a text, its last group has these bytes, and none if a group has a fault.
+abbrev pub HasLastBytes : Base → Kept → List ℕ → Type 0
+HasLastBytes base kept bytes =
+    (text : List ℕ) → Keeps base kept text
+    → sound_bytes base text ≡ whole_bytes base text ++ bytes
+
 -- Where this is kept of a text, the bytes of its last group were appended.
 abbrev pub AppendsLast : Base → Kept → List ℕ → List ℕ → Type 0
 AppendsLast base kept output_old output_new =

@@ -3,7 +3,7 @@
 ghost use Rattle.std.specs.Prelude.{◌≡◌, ℕ, ◌≤◌, ◌↔◌, List, length, false, Err, IfSome, IsTrue, None, OnOk, Some};
 ghost use Rattle.std.specs.Io.KnownBytes.{IsAtEnd};
 ghost use Rattle.data_encoding.specs.Fault.{fault_of};
-ghost use Rattle.encoding_stream.specs.Decoded.{answer_of, DecodesAll, DecodesFront, EndsText};
+ghost use Rattle.encoding_stream.specs.Decoded.{answer_of, AnswersText, DecodesFront, DecodesJudged, EndsText};
 ghost use Rattle.encoding_stream.specs.Encoded.{ReadsMore};
 ghost use Rattle.encoding_stream.specs.Pieces.{base_of_pieces, Keeps};
 ghost use Rattle.encoding_stream.specs.Watch.{has_failed, inner_of};
@@ -40,11 +40,7 @@ pub fn decode_stream<R: Read, W: Write>(
 
     // Where it returns Ok, or the fault of the text, all was read, and what it decodes to written.
     ensures all_read { OnOk result (IsAtEnd (R.remaining (inner_of reader.new))) }
-    ensures whole { OnOk result (DecodesAll encoding.now None
-        (R.remaining (inner_of reader.old)) (R.remaining (inner_of reader.new))
-        (W.contents (inner_of writer.old)) (W.contents (inner_of writer.new))) }
-    ensures faulty { (error : DecodeError) → result ≡ Err (StreamFault.Decode error)
-        → DecodesAll encoding.now (Some error)
+    ensures all { DecodesJudged encoding.now result
         (R.remaining (inner_of reader.old)) (R.remaining (inner_of reader.new))
         (W.contents (inner_of writer.old)) (W.contents (inner_of writer.new)) }
 
@@ -54,10 +50,8 @@ pub fn decode_stream<R: Read, W: Write>(
         (W.contents (inner_of writer.old)) (W.contents (inner_of writer.new)) }
 
     // Each result is returned exactly for its cause.
-    ensures judges { IfSome (R.remaining (inner_of reader.old)) (λ text.
-        length text ≤ DECODE_LIMIT → has_failed reader.new ≡ false
-        → has_failed writer.new ≡ false
-        → result ≡ answer_of (fault_of encoding.now text)) }
+    ensures judges { AnswersText encoding.now result (R.remaining (inner_of reader.old))
+        (has_failed reader.new) (has_failed writer.new) }
     ensures read { (result ≡ Err StreamFault.Read) ↔ IsTrue (has_failed reader.new) }
     ensures write { (result ≡ Err StreamFault.Write) ↔ IsTrue (has_failed writer.new) }
     ensures too_long { result ≡ Err StreamFault.TooLong

@@ -39,9 +39,8 @@ pub struct Finished {
 impl<'a> Decoder<'a> {
     ghost use Rattle.std.specs.Prelude.{◌≡◌, ℕ, ◌+◌, ◌≤◌, List, [], ◌++◌, length, IfErr, IfOk, IsOk, OnErr, OnOk};
     ghost use Rattle.data_encoding.specs.Fault.{fault_of, sound_bytes};
-    ghost use Rattle.data_encoding.specs.Pieces.{whole_bytes, HasDecoded};
-    ghost use Rattle.encoding_stream.specs.Appending.{AppendsDecoded};
-    ghost use Rattle.encoding_stream.specs.Decoder.{base_of_decoder, decoder_len, StandsAfter};
+    ghost use Rattle.data_encoding.specs.Pieces.{whole_bytes};
+    ghost use Rattle.encoding_stream.specs.Decoder.{base_of_decoder, decoder_len, AppendsFinished, AppendsPushed, StandsAfter};
     ghost use Rattle.encoding_stream.specs.Pieces.{verdict_of};
 
     /// A decoder that was pushed nothing.
@@ -79,13 +78,7 @@ impl<'a> Decoder<'a> {
             ≡ decoder_len self.old + length piece.now) }
         ensures stands { OnOk result ((text : List ℕ) → StandsAfter self.old text
             → StandsAfter self.new (text ++ piece.now)) }
-        ensures appends { OnOk result ((text : List ℕ) → StandsAfter self.old text
-            → AppendsDecoded (whole_bytes (base_of_decoder self.old) text)
-            (whole_bytes (base_of_decoder self.old) (text ++ piece.now))
-            output.old.items output.new.items) }
-        ensures decoded { OnOk result ((before text : List ℕ) → StandsAfter self.old text
-            → HasDecoded (base_of_decoder self.old) before text output.old.items
-            → HasDecoded (base_of_decoder self.old) before (text ++ piece.now)
+        ensures appends { OnOk result (AppendsPushed self.old piece.now output.old.items
             output.new.items) }
         ensures unchanged { OnErr result ((self.new ≡ self.old)
             × (output.new.items ≡ output.old.items)) }
@@ -107,13 +100,8 @@ impl<'a> Decoder<'a> {
     pub fn finish(self, output: &mut Vec<u8>) -> Result<Finished, Decoder<'a>>
         ensures verdict { IfOk result (λ finished. (text : List ℕ) → StandsAfter self.entry text
             → finished.verdict ≡ verdict_of (fault_of (base_of_decoder self.entry) text)) }
-        ensures appends { OnOk result ((text : List ℕ) → StandsAfter self.entry text
-            → AppendsDecoded (whole_bytes (base_of_decoder self.entry) text)
-            (sound_bytes (base_of_decoder self.entry) text)
-            output.old.items output.new.items) }
-        ensures decoded { OnOk result ((before text : List ℕ) → StandsAfter self.entry text
-            → HasDecoded (base_of_decoder self.entry) before text output.old.items
-            → output.new.items ≡ before ++ sound_bytes (base_of_decoder self.entry) text) }
+        ensures appends { OnOk result (AppendsFinished self.entry output.old.items
+            output.new.items) }
         ensures unchanged { IfErr result (λ decoder. (decoder ≡ self.entry)
             × (output.new.items ≡ output.old.items)) }
         ensures no_bytes { (text : List ℕ) → StandsAfter self.entry text

@@ -1,12 +1,12 @@
 //! The judgement of one group of a text that is decoded piece by piece, and the end of the text.
 
-ghost use Rattle.std.specs.Prelude.{◌≡◌, ℕ, ◌<◌, ◌≤◌, List, ◌++◌, length, slice_index, take, IfOk, IfErr};
+ghost use Rattle.std.specs.Prelude.{◌≡◌, ℕ, ◌<◌, ◌≤◌, List, length, slice_index, take, IfOk, IfErr};
 ghost use Rattle.data_encoding.specs.Base.{group_bytes, group_symbols};
-ghost use Rattle.data_encoding.specs.Fault.{fault_of, sound_bytes};
+ghost use Rattle.data_encoding.specs.Fault.{fault_of};
 ghost use Rattle.data_encoding.specs.Grammar.{is_final};
-ghost use Rattle.data_encoding.specs.Pieces.{whole_bytes};
 ghost use Rattle.encoding_stream.specs.Judged.{EndsFaulty, EndsSound, JudgesFaulty, JudgesSound};
 ghost use Rattle.encoding_stream.specs.Pieces.{at_positions, base_of_pieces, kept_by, verdict_of, Keeps};
+ghost use Rattle.encoding_stream.specs.Reading.{HasLastBytes};
 
 use crate::pieces::BufferDecoder;
 use data_encoding::laws::steps::pieces;
@@ -39,10 +39,10 @@ impl BufferDecoder<'_> {
     {
         pieces();
         if self.kept.ended {
-            return Err(DecodeError {
-                position: self.kept.positions[0],
+            return Err(self.at(DecodeError {
+                position: 0,
                 kind: DecodeKind::Padding,
-            });
+            }));
         }
         match self.encoding.decode_len(count) {
             Ok(most) => match self
@@ -76,9 +76,8 @@ impl BufferDecoder<'_> {
         requires room { 5 ≤ length output.old }
         ensures verdict { (text : List ℕ) → Keeps (base_of_pieces self.now) (kept_by self.now) text
             → result.1 ≡ verdict_of (fault_of (base_of_pieces self.now) text) }
-        ensures bytes { (text : List ℕ) → Keeps (base_of_pieces self.now) (kept_by self.now) text
-            → sound_bytes (base_of_pieces self.now) text
-            ≡ whole_bytes (base_of_pieces self.now) text ++ take result.0 output.new }
+        ensures bytes { HasLastBytes (base_of_pieces self.now) (kept_by self.now)
+            (take result.0 output.new) }
         ensures few { result.0 ≤ 5 }
         ensures len { length output.new ≡ length output.old }
     {

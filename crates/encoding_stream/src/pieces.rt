@@ -1,6 +1,6 @@
 //! A text that is decoded piece by piece, into buffers: what is kept of it, and how it is read on.
 
-ghost use Rattle.std.specs.Prelude.{◌≡◌, ℕ, ◌+◌, ◌<◌, ◌≤◌, List, [], ◌∷◌, length, take, IfSome, IsSome};
+ghost use Rattle.std.specs.Prelude.{◌≡◌, ℕ, ◌+◌, ◌<◌, ◌≤◌, ◌⊎◌, List, [], ◌∷◌, length, take, IfSome, IsSome};
 ghost use Rattle.data_encoding.specs.declared.decode.TheConstants.{DECODE_LIMIT};
 ghost use Rattle.data_encoding.specs.Base.{IsWidth, group_symbols, ignores_some};
 
@@ -149,36 +149,37 @@ impl<'a> BufferDecoder<'a> {
         ensures within { result ≤ length output.new }
         ensures len { length output.new ≡ length output.old }
     {
-        let (first_read, first) = self.read_group(piece, output);
+        let (first_read, first) = self.read_bytes(1, piece, output);
         let (run_read, run) = self.read_run(&piece[first_read..], &mut output[first..]);
         let read = first_read + run_read;
         let written = first + run;
         written + self.read_each(&piece[read..], &mut output[written..])
     }
 
-    // Reads until no byte is held.
-    fn read_group(&mut self, piece: &[u8], output: &mut [u8]) -> (usize, usize)
+    // Reads byte by byte, up to a fault, while no fewer bytes than `least` are held.
+    fn read_bytes(&mut self, least: usize, piece: &[u8], output: &mut [u8]) -> (usize, usize)
         requires limit { self.old.kept.len + length piece.now ≤ DECODE_LIMIT }
         requires room { most_completed (base_of_pieces self.old) self.old.kept
             (length piece.now) ≤ length output.old }
         ensures base { base_of_pieces self.new ≡ base_of_pieces self.old }
         ensures reads { ReadsOn (base_of_pieces self.old) self.old.kept self.new.kept
             (take result.0 piece.now) (take result.1 output.new) }
-        ensures until { result.0 < length piece.now → self.new.kept.count ≡ 0 }
+        ensures until { result.0 < length piece.now
+            → (self.new.kept.count < least) ⊎ IsSome self.new.kept.fault }
         ensures read { result.0 ≤ length piece.now }
         ensures within { result.1 ≤ length output.new }
         ensures len { length output.new ≡ length output.old }
     {
         let mut read = 0;
         let mut written = 0;
-        while read < piece.len() && self.kept.count > 0 {
+        while read < piece.len() && self.kept.fault.is_none() && self.kept.count >= least {
             written += self.take(piece[read], &mut output[written..]);
             read += 1;
         }
         (read, written)
     }
 
-    // Reads byte by byte, up to a fault.
+    // Reads byte by byte, and counts what follows a fault.
     fn read_each(&mut self, piece: &[u8], output: &mut [u8]) -> usize
         requires limit { self.old.kept.len + length piece.now ≤ DECODE_LIMIT }
         requires room { most_completed (base_of_pieces self.old) self.old.kept
@@ -189,16 +190,10 @@ impl<'a> BufferDecoder<'a> {
         ensures within { result ≤ length output.new }
         ensures len { length output.new ≡ length output.old }
     {
-        let mut read = 0;
-        let mut written = 0;
-        while read < piece.len() && self.kept.fault.is_none() {
-            written += self.take(piece[read], &mut output[written..]);
-            read += 1;
+        let (read, written) = self.read_bytes(0, piece, output);
+        if read < piece.len() {
+            self.pass(&piece[read..]);
         }
-        if read == piece.len() {
-            return written;
-        }
-        self.pass(&piece[read..]);
         written
     }
 

@@ -10,7 +10,7 @@ returns-in-Decode-clause-done g c = rw c.in-Decode.is assumption
 pub returns-in-Decode-clause-fault : goal.returns-in-Decode-clause-fault
 returns-in-Decode-clause-fault g c =
     rw c.in-Decode.is
-    (explained _ _ _ _ _ c.decode_stream.result c.decode_stream.ensures.faulty
+    (explained _ _ _ _ _ c.decode_stream.result c.decode_stream.ensures.all.faulty
     c.decode_stream.ensures.too_long)
 
 pub returns-in-Decode-clause-read : goal.returns-in-Decode-clause-read

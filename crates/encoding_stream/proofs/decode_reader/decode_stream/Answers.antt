@@ -44,9 +44,7 @@ loop-count-preserved g c =
     record {
       base = c.read-written.ensures.base ∙ now.base;
       decoded =
-          decoded-more base c.bit_width.ensures.base c.loop-count.pieces.kept
-          c.read-written.new.self.kept _ _ _ _ _ now.decoded more
-          (take c.read-written.result c.read-written.new.output) c.in-Ok.ensures.bytes reads _
+          decoded-more base c.bit_width.ensures.base now.decoded c.in-Ok.ensures.bytes reads
           (on-works c.write_all.result c.if-is_err.ensures.value c.write_all.ensures.bytes);
       reader_works = search rules;
       writer_works = search rules;
@@ -61,13 +59,13 @@ pub returns-in-Err-clause-begun : goal.returns-in-Err-clause-begun
 returns-in-Err-clause-begun g c =
     let more = c.in-Err.ensures.begun in
     decoded-only c.args.encoding.now c.bit_width.ensures.base c.pieces.ensures.grows
-    c.pieces.ensures.bytes c.loop-count.pieces.kept _ _ _ _ _ c.loop-count.invariant.decoded
+    c.pieces.ensures.bytes c.loop-count.invariant.decoded
     more.0 more.1
 
 pub returns-then-count-left-clause-begun : goal.returns-then-count-left-clause-begun
 returns-then-count-left-clause-begun g c =
     decoded-only c.args.encoding.now c.bit_width.ensures.base c.pieces.ensures.grows
-    c.pieces.ensures.bytes c.loop-count.pieces.kept _ _ _ _ _ c.loop-count.invariant.decoded
+    c.pieces.ensures.bytes c.loop-count.invariant.decoded
     (take c.in-Ok.count c.fill.new.buffer) c.in-Ok.ensures.bytes
 
 pub returns-then-count-left-clause-too_long : goal.returns-then-count-left-clause-too_long
@@ -75,8 +73,7 @@ returns-then-count-left-clause-too_long g c =
     let more = take c.in-Ok.count c.fill.new.buffer in
     let taken : length more ≡ c.in-Ok.count =
     length-take-le c.in-Ok.count c.fill.new.buffer c.in-Ok.ensures.bound in
-    λ _. decoded-past c.args.encoding.now c.loop-count.pieces.kept _ _ _ _ _
-    c.loop-count.invariant.decoded more c.in-Ok.ensures.bytes 2305843009213693951
+    λ _. decoded-past c.loop-count.invariant.decoded more c.in-Ok.ensures.bytes 2305843009213693951
     (omega (arith, taken, c.if-count-left.true))
 
 pub returns-then-count-left-clause-judges : goal.returns-then-count-left-clause-judges
@@ -93,10 +90,8 @@ returns-then-is_err-clause-begun g c =
     reads-buffer base (base_of_pieces c.loop-count.pieces) now.base c.loop-count.pieces.kept
     c.read-written.new.self.kept c.fill.new.buffer (drop c.min-asked.result c.loop-count.buffer)
     count bytes c.in-Ok.ensures.bound c.read-written.ensures.reads in
-    decoded-front base c.bit_width.ensures.base c.loop-count.pieces.kept
-    c.read-written.new.self.kept _ _ _ _ _ now.decoded (take count c.fill.new.buffer) bytes
-    c.in-Ok.ensures.bytes reads c.pieces.ensures.grows c.pieces.ensures.bytes _
-    c.write_all.ensures.begun
+    decoded-front base c.bit_width.ensures.base now.decoded c.in-Ok.ensures.bytes reads
+    c.pieces.ensures.grows c.pieces.ensures.bytes c.write_all.ensures.begun
 
 pub returns-then-count-asked : goal.returns-then-count-asked
 returns-then-count-asked g c =
@@ -118,9 +113,7 @@ returns-then-count-asked g c =
     let at_end : IsAtEnd (g.R.Read.remaining (inner_of c.fill.new.reader)) =
     c.in-Ok.ensures.at_end (omega (arith, filled, c.if-count-asked.true)) in
     let done =
-    decoded-more base c.bit_width.ensures.base c.loop-count.pieces.kept next.kept _ _ _ _ _
-    now.decoded (take count c.fill.new.buffer)
-    (take c.read-written.result c.read-written.new.output) c.in-Ok.ensures.bytes reads _
+    decoded-more base c.bit_width.ensures.base now.decoded c.in-Ok.ensures.bytes reads
     (on-works c.write_all.result c.if-is_err.ensures.value c.write_all.ensures.bytes) in
     let is : base_of_pieces next ≡ base = c.read-written.ensures.base ∙ now.base in
     let ends =
@@ -137,26 +130,28 @@ returns-then-count-asked g c =
     let reader_works : has_failed c.fill.new.reader ≡ false = c.in-Ok.ensures.failed in
     record {
       all_read = end-ok failed result fault write judged (λ works sound. at_end);
-      whole =
-          end-ok failed result fault write judged (λ works sound. record {
-            text = done.text;
-            read = done.read;
-            at_end = at_end;
-            fault_is = sound;
-            written = ended-all base next.kept failed _ _ _ _ _ done ends works;
-          });
-      faulty = λ error told.
-          let because = end-error failed result fault write judged error told in
-          record {
-            text = done.text;
-            read = done.read;
-            at_end = at_end;
-            fault_is = because.1;
-            written = ended-all base next.kept failed _ _ _ _ _ done ends because.0;
-          };
+      all = record {
+        whole =
+            end-ok failed result fault write judged (λ works sound. record {
+              text = done.text;
+              read = done.read;
+              at_end = at_end;
+              fault_is = sound;
+              written = ended-all done ends works;
+            });
+        faulty = λ error told.
+            let because = end-error failed result fault write judged error told in
+            record {
+              text = done.text;
+              read = done.read;
+              at_end = at_end;
+              fault_is = because.1;
+              written = ended-all done ends because.0;
+            };
+      };
       begun =
           front-all base c.bit_width.ensures.base _ _ _ _ done.text done.read at_end
-          (ended-front base next.kept failed _ _ _ _ _ done ends);
+          (ended-front done ends);
       judges =
           Consumes-whole _ _ done.text
           (λ text. length text ≤ 2305843009213693951 → has_failed c.fill.new.reader ≡ false

@@ -47,7 +47,7 @@ loop-piece-preserved c =
     let piece = (get_or pieces index none).now in
     let more = joined-more bytes_of pieces index none c.loop-piece-test.true in
     let appends =
-    rw (now.base, now.drained) at (c.in_ok-push.ensures.appends text now.stands) in
+    rw (now.base, now.drained) at (c.in_ok-push.ensures.appends.bytes text now.stands) in
     record {
       base = c.push.ensures.base ∙ now.base;
       stands = rw more (c.in_ok-push.ensures.stands text now.stands);
@@ -71,7 +71,7 @@ returns-in-Ok-clause-sound c =
     take_all c.loop-piece.piece-index pieces (omega (arith, c.loop-piece-test.false)) in
     let stands = rw all at now.stands in
     let sound = rw all at now.sound in
-    let appends = rw (now.base, now.drained) at (c.in-Ok.ensures.appends text stands) in
+    let appends = rw (now.base, now.drained) at (c.in-Ok.ensures.appends.bytes text stands) in
     c.in_ok-extend_from_slice-in-Ok.ensures.items
     ∙ ap (λ l. c.loop-piece.output.items ++ l) c.deref-in-Ok.ensures.value
     ∙ handed-on c.args.output.now.items (whole_bytes base text) (sound_bytes base text)

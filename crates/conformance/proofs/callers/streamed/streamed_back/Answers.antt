@@ -49,5 +49,5 @@ returns-in_err-decode_stream-clause-no_fault c = λ error faulty.
     let nothing : (inner_of c.new-output.result).items ≡ [] = search rules in
     let read : (inner_of c.new-text_reader.result).now ≡ text = search rules in
     let all : DecodesAll base (Some error) (Some text) (Some rest) (Some []) (Some output) =
-    rw (read, nothing) at (c.decode_stream.ensures.faulty error answered) in
+    rw (read, nothing) at (c.decode_stream.ensures.all.faulty error answered) in
     none-some error (sym none ∙ (all-decoded base (Some error) text rest output all).0)

@@ -1,7 +1,5 @@
-use Rattle.std.proofs.Common.{◌≡◌, None, Some, Ok, slice_index, drop, refl, sym, ap, ◌∙◌, subst, arith, length-take-le}
+use Rattle.std.proofs.Common.{◌≡◌, None, Some, Ok, drop, sym, ap, ◌∙◌, subst, arith, length-take-le}
 use Rattle.std.proofs.lemmas.List.{take-append-le}
-use Rattle.data_encoding.specs.declared.error.DecodeError.{DecodeError}
-use Rattle.data_encoding.specs.declared.error.DecodeKind.TheVariants.{Padding}
 use Rattle.data_encoding.specs.Fault.{fault_after}
 use Rattle.data_encoding.specs.Lengths.{decoded_len}
 use Rattle.encoding_stream.specs.Pieces.{at_positions}
@@ -13,14 +11,14 @@ pub returns-then-self-clause-fault : goal.returns-then-self-clause-fault
 returns-then-self-clause-fault c = λ none.
     let s = c.args.self.now in
     let k = s.kept in
-    let error : DecodeError =
-    record { position = slice_index k.positions 0; kind = Padding } in
     let few = symbols-few s.encoding.now.width s.width in
     subst
-    (λ e. fault_after e s.encoding.now (at_positions c.args.count k.positions k.bytes) ≡ Some error)
+    (λ e. fault_after e s.encoding.now (at_positions c.args.count k.positions k.bytes)
+    ≡ Some c.at.result)
     (sym c.if-self.true)
     (judged-ended s.encoding.now c.args.count k.positions k.bytes c.requires.some
-    (omega (arith, few, c.requires.few)) (omega (arith, few, c.requires.few)) error refl refl)
+    (omega (arith, few, c.requires.few)) (omega (arith, few, c.requires.few)) c.at.result
+    c.at.ensures.position c.at.ensures.kind)
 
 pub shared_ref_as_front-decode_mut : goal.shared_ref_as_front-decode_mut
 shared_ref_as_front-decode_mut c =
@@ -109,15 +107,15 @@ returns-in-Err-decode_mut-clause-fault c = λ none.
     length-take-le c.args.count k.bytes (omega (arith, few, c.requires.few)) in
     subst
     (λ e. fault_after e s.encoding.now (at_positions c.args.count k.positions k.bytes)
-    ≡ Some c.at.result)
+    ≡ Some c.at-in-Err-decode_mut.result)
     (sym c.if-self.false)
     (judged-fault s.encoding.now c.args.count k.positions k.bytes c.requires.some
     (omega (arith, few, c.requires.few)) (omega (arith, few, c.requires.few))
     c.decode_len.ensures.base c.pieces.ensures.alone c.requires.few none
-    c.in-Err-decode_mut.partial.error c.at.result
+    c.in-Err-decode_mut.partial.error c.at-in-Err-decode_mut.result
     (fault-stopped s.encoding.now _ _ c.in-Err-decode_mut.ensures.fault)
     (omega (arith, size, c.in-Err-decode_mut.ensures.bounds.1))
-    c.at.ensures.position c.at.ensures.kind)
+    c.at-in-Err-decode_mut.ensures.position c.at-in-Err-decode_mut.ensures.kind)
 
 pub returns-in-Err-clause-fault : goal.returns-in-Err-clause-fault
 returns-in-Err-clause-fault c = λ none.

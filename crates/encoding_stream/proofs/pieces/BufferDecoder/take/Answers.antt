@@ -1,13 +1,23 @@
-use Rattle.std.proofs.Common.{◌≡◌, ℕ, ◌+◌, ◌<◌, ◌≤◌, ◌⊎◌, inl, inr, true, is_some, Some, [], ◌∷◌, length, take, sym, ap, ◌∙◌, refl, subst, arith, length-take-le}
-use Rattle.data_encoding.specs.Base.{group_symbols, is_ignored, meaning}
-use Rattle.encoding_stream.specs.declared.pieces.Kept.{Kept}
+use Rattle.std.proofs.Common.{◌≡◌, ◌+◌, ◌∙◌, arith, length, refl, ap, sym, subst, [], ◌∷◌, take, length-take-le}
+use Rattle.data_encoding.specs.Base.{is_ignored}
+use Rattle.data_encoding.specs.Fields.{IsSpecified}
 use Rattle.encoding_stream.specs.declared.pieces.BufferDecoder.{BufferDecoder}
-use Rattle.encoding_stream.specs.Pieces.{most_completed}
 use Rattle.encoding_stream.specs.Reading.{ReadsOn}
-use Rattle.encoding_stream.proofs.PieceLemmas.{take-faulty, take-held, take-same, take-sound}
-use Rattle.encoding_stream.proofs.ReadPieceLemmas.{fills-few, fills-none, most-grows, most-whole, reads-byte}
+use Rattle.encoding_stream.proofs.PieceLemmas.{take-faulty, take-held, take-ignored, take-sound, IsKept}
+use Rattle.encoding_stream.proofs.ReadPieceLemmas.{most-whole, reads-fault}
 use Rattle.encoding_stream.proofs.pieces.BufferDecoder.take.Goals.{then-is_some-via-then-is_some, then-is_some-via-else-is_some+then-is_ignored}
 use Rattle.encoding_stream.proofs.pieces.BufferDecoder.take.Goals as goal
+
+is-kept : (pieces : BufferDecoder) → IsSpecified pieces.encoding.now
+    → length pieces.kept.positions ≡ 8 → length pieces.kept.bytes ≡ 8
+    → IsKept pieces.encoding.now pieces.kept
+is-kept pieces specified positions bytes = record {
+  specified = specified;
+  width = pieces.width;
+  short = omega (arith, pieces.group, pieces.short);
+  positions = positions;
+  bytes = bytes;
+}
 
 pub returns-then-is_some-clause-reads : goal.returns-then-is_some-clause-reads
 returns-then-is_some-clause-reads c =
@@ -15,44 +25,31 @@ returns-then-is_some-clause-reads c =
     let k = s.kept in
     let base = s.encoding.now in
     let byte = c.args.byte in
-    let short : k.count < group_symbols base.width = omega (arith, s.group, s.short) in
-    let next : Kept = record k { len = k.len + 1 } in
-    let few : (more : ℕ) → 0 + most_completed base k more ≤ most_completed base k (1 + more) =
-    λ more. omega (arith, most-grows base s.width k more (1 + more) (omega arith)) in
-    let reads : (is_some k.fault ≡ true) ⊎ (is_ignored (meaning base byte) ≡ true)
-    → ReadsOn base k next (byte ∷ []) [] =
-    λ why. reads-byte base k next byte []
-    (take-same base c.bit_width.ensures.base k.len k.fault k.positions k.bytes k.count k.ended byte
-    s.width short (omega arith) (omega arith) c.pieces.ensures.faulty c.pieces.ensures.held why)
-    refl few in
+    let is = is-kept s c.bit_width.ensures.base (omega arith) (omega arith) in
     elim c.then-is_some.branch [
       | then-is_some-via-then-is_some w ↦
           subst (λ (p : BufferDecoder). ReadsOn base k p.kept (byte ∷ []) []) (sym w.self-is)
-          (reads (inl (sym c.is_some.ensures ∙ w.if-is_some.true)))
+          (reads-fault base s.width is.specified c.pieces.ensures.faulty k
+          (sym c.is_some.ensures ∙ w.if-is_some.true) (byte ∷ []))
       | then-is_some-via-else-is_some+then-is_ignored w ↦
           subst (λ (p : BufferDecoder). ReadsOn base k p.kept (byte ∷ []) []) (sym w.self-is)
-          (reads (inr (ap is_ignored (sym w.interpret_byte.ensures) ∙ sym w.is_ignored.ensures
-          ∙ w.if-is_ignored.true)))
+          (take-ignored base k is byte (sym c.is_some.ensures ∙ w.if-is_some.false)
+          c.pieces.ensures.held
+          (ap is_ignored (sym w.interpret_byte.ensures) ∙ sym w.is_ignored.ensures
+          ∙ w.if-is_ignored.true))
     ]
 
 pub returns-then-index-self-clause-reads : goal.returns-then-index-self-clause-reads
 returns-then-index-self-clause-reads c =
     let s = c.args.self.now in
     let k = s.kept in
-    let base = s.encoding.now in
-    let few : k.count + 1 < group_symbols base.width =
-    omega (arith, s.group, c.if-index-self.true) in
-    reads-byte base k _ c.args.byte []
-    (λ text keeps. take-held base c.bit_width.ensures.base k.len k.fault k.positions k.bytes
-    k.count k.ended c.args.byte s.width (omega (arith, few)) (omega arith) (omega arith)
+    let few = c.if-index-self.true in
+    take-held s.encoding.now k
+    (is-kept s c.bit_width.ensures.base (omega arith) (omega arith)) c.args.byte
     (sym c.is_some.ensures ∙ c.if-is_some.false)
     (ap is_ignored (sym c.interpret_byte.ensures) ∙ sym c.is_ignored.ensures
     ∙ c.if-is_ignored.false)
-    text keeps c.pieces.ensures.held few)
-    refl
-    (fills-few base s.width k.fault k.fault k.count 1 (k.count + 1) 0
-    (sym c.is_some.ensures ∙ c.if-is_some.false)
-    (fills-none base k.count 1 (k.count + 1) (omega arith)))
+    (k.count + 1) refl c.pieces.ensures.held (omega (arith, s.group, few))
 
 pub judge-requires-clause-room : goal.judge-requires-clause-room
 judge-requires-clause-room c =
@@ -73,40 +70,24 @@ returns-in-Ok-clause-within c =
 pub returns-in-Ok-clause-reads : goal.returns-in-Ok-clause-reads
 returns-in-Ok-clause-reads c =
     let s = c.args.self.now in
-    let k = s.kept in
-    let base = s.encoding.now in
     let bytes = take c.in-Ok.written c.judge.new.output in
     let size = length-take-le c.in-Ok.written c.judge.new.output (returns-in-Ok-clause-within c) in
-    reads-byte base k _ c.args.byte bytes
-    (λ text keeps. take-sound base c.bit_width.ensures.base k.len k.fault k.positions k.bytes
-    k.count k.ended c.args.byte s.width (omega (arith, s.group, s.short)) (omega arith)
-    (omega arith) (sym c.is_some.ensures ∙ c.if-is_some.false)
+    take-sound s.encoding.now s.kept
+    (is-kept s c.bit_width.ensures.base (omega arith) (omega arith)) c.args.byte
+    (sym c.is_some.ensures ∙ c.if-is_some.false)
     (ap is_ignored (sym c.interpret_byte.ensures) ∙ sym c.is_ignored.ensures
     ∙ c.if-is_ignored.false)
-    text keeps c.pieces.ensures.group s.size (omega (arith, s.short, c.if-index-self.false))
-    s.group c.is_final-self.result bytes c.is_final-self.ensures c.in-Ok.ensures.sound)
-    refl
-    (fills-few base s.width k.fault k.fault k.count 1 0 (length bytes)
-    (sym c.is_some.ensures ∙ c.if-is_some.false)
-    (record {
-      groups = 1;
-      symbols = omega (arith, s.group, s.short, c.if-index-self.false);
-      bytes = omega (arith, size, c.in-Ok.ensures.few);
-    }))
+    s.size (omega (arith, s.short, c.if-index-self.false)) c.pieces.ensures.group s.group bytes
+    c.in-Ok.ensures.sound (omega (arith, size, c.in-Ok.ensures.few)) c.is_final-self.result
+    c.is_final-self.ensures
 
 pub returns-in-Err-clause-reads : goal.returns-in-Err-clause-reads
 returns-in-Err-clause-reads c =
     let s = c.args.self.now in
-    let k = s.kept in
-    let base = s.encoding.now in
-    reads-byte base k _ c.args.byte []
-    (λ text keeps. take-faulty base c.bit_width.ensures.base k.len k.fault k.positions k.bytes
-    k.count k.ended c.args.byte s.width (omega (arith, s.group, s.short)) (omega arith)
-    (omega arith) (sym c.is_some.ensures ∙ c.if-is_some.false)
+    take-faulty s.encoding.now s.kept
+    (is-kept s c.bit_width.ensures.base (omega arith) (omega arith)) c.args.byte
+    (sym c.is_some.ensures ∙ c.if-is_some.false)
     (ap is_ignored (sym c.interpret_byte.ensures) ∙ sym c.is_ignored.ensures
     ∙ c.if-is_ignored.false)
-    text keeps c.pieces.ensures.group s.size (omega (arith, s.short, c.if-index-self.false))
-    s.group c.in-Err.error c.in-Err.ensures.fault)
-    refl
-    (fills-few base s.width k.fault (Some c.in-Err.error) k.count 1 0 0
-    (sym c.is_some.ensures ∙ c.if-is_some.false) (fills-none base k.count 1 0 (omega arith)))
+    s.size (omega (arith, s.short, c.if-index-self.false)) c.pieces.ensures.group s.group
+    c.in-Err.error c.in-Err.ensures.fault

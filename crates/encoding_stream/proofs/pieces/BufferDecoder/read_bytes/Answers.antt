@@ -1,0 +1,34 @@
+use Rattle.std.proofs.Common.{◌∙◌, arith, refl}
+use Rattle.encoding_stream.specs.Pieces.{base_of_pieces}
+use Rattle.encoding_stream.proofs.ReadPieceLemmas.{length-both, next-room, reads-next, reads-nothing}
+use Rattle.encoding_stream.proofs.pieces.BufferDecoder.read_bytes.Goals as goal
+
+pub loop-read-init : goal.loop-read-init
+loop-read-init c = record {
+  base = refl;
+  front = record {
+    reads = reads-nothing (base_of_pieces c.args.self.now) c.args.self.now.kept;
+    begins = omega arith;
+    fits = omega arith;
+  };
+  len = refl;
+}
+
+pub take-written-requires-clause-room : goal.take-written-requires-clause-room
+take-written-requires-clause-room c =
+    let now = c.loop-read.invariant in
+    rw now.base
+    (next-room now.front c.args.self.now.width c.loop-read-test.true
+    (rw now.len c.requires.room))
+
+pub loop-read-preserved : goal.loop-read-preserved
+loop-read-preserved c =
+    let now = c.loop-read.invariant in
+    let taken = c.take-written in
+    record {
+      base = taken.ensures.base ∙ now.base;
+      front =
+          reads-next now.front taken.new.output taken.ensures.len taken.ensures.within
+          (rw now.base at taken.ensures.reads) c.loop-read-test.true;
+      len = length-both now.front taken.new.output taken.ensures.len taken.ensures.within ∙ now.len;
+    }
