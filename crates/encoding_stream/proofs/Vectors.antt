@@ -10,7 +10,7 @@ use Rattle.data_encoding.specs.Grammar.{positioned_from}
 use Rattle.data_encoding.specs.Predefined.{base64_fields, base64_mime_fields, base64_nopad_fields}
 use Rattle.data_encoding.specs.Pieces.{whole_bytes}
 use Rattle.std.proofs.lemmas.List.{append-nil}
-use Rattle.encoding_stream.specs.Decoded.{AnswersText, DecodesAll, DecodesFront, DecodesJudged, answer_of}
+use Rattle.encoding_stream.specs.Decoded.{JudgesText, DecodesAll, DecodesFront, DecodesJudged, answer_of}
 use Rattle.encoding_stream.specs.Judged.{fault_with_held, next_group, EndsFaulty, EndsSound, JudgesFaulty, JudgesSound}
 use Rattle.encoding_stream.specs.Reading.{whole_len, AppendsPiece, AreWholeGroups, CompletesNothing, HasNoLastBytes, ReadsAllGroups, ReadsOn}
 use Rattle.encoding_stream.specs.Pieces.{base_of_pieces, paired, at_positions, held, NoneIgnored, Keeps, FillsGroups, GoesOn, bytes_due, kept_by, most_completed, verdict_of}
@@ -70,7 +70,7 @@ decoded_judged :
     Has base64_fields (λ base.
     DecodesJudged base (Ok tt) (Some (codes "SGVsbG8=")) (Some []) (Some [])
     (Some (codes "Hello"))
-    × AnswersText base (Ok tt) (Some (codes "SGVsbG8=")) false false)
+    × JudgesText base (Ok tt) (Some (codes "SGVsbG8=")) false false)
 decoded_judged = (
   record {
     whole = record {

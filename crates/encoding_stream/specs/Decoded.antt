@@ -45,9 +45,9 @@ pub record DecodesJudged (base : Base) (result : Result (Unit {0}) StreamFault)
 
 -- This is returned of what a reader had, if that is known and no longer than texts may be, where
 -- neither the reader nor the writer has failed.
-abbrev pub AnswersText :
+abbrev pub JudgesText :
     Base → Result (Unit {0}) StreamFault → Option (List ℕ) → Bool → Bool → Type 0
-AnswersText base result remaining read_failed write_failed =
+JudgesText base result remaining read_failed write_failed =
     IfSome remaining (λ text. length text ≤ DECODE_LIMIT → read_failed ≡ false
     → write_failed ≡ false → result ≡ answer_of (fault_of base text))
 

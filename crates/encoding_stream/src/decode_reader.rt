@@ -3,7 +3,7 @@
 ghost use Rattle.std.specs.Prelude.{◌≡◌, ℕ, ◌≤◌, ◌↔◌, List, length, false, Err, IfSome, IsTrue, None, OnOk, Some};
 ghost use Rattle.std.specs.Io.KnownBytes.{IsAtEnd};
 ghost use Rattle.data_encoding.specs.Fault.{fault_of};
-ghost use Rattle.encoding_stream.specs.Decoded.{answer_of, AnswersText, DecodesFront, DecodesJudged, EndsText};
+ghost use Rattle.encoding_stream.specs.Decoded.{answer_of, JudgesText, DecodesFront, DecodesJudged, EndsText};
 ghost use Rattle.encoding_stream.specs.Encoded.{ReadsMore};
 ghost use Rattle.encoding_stream.specs.Pieces.{base_of_pieces, Keeps};
 ghost use Rattle.encoding_stream.specs.Watch.{has_failed, inner_of};
@@ -50,7 +50,7 @@ pub fn decode_stream<R: Read, W: Write>(
         (W.contents (inner_of writer.old)) (W.contents (inner_of writer.new)) }
 
     // Each result is returned exactly for its cause.
-    ensures judges { AnswersText encoding.now result (R.remaining (inner_of reader.old))
+    ensures judges { JudgesText encoding.now result (R.remaining (inner_of reader.old))
         (has_failed reader.new) (has_failed writer.new) }
     ensures read { (result ≡ Err StreamFault.Read) ↔ IsTrue (has_failed reader.new) }
     ensures write { (result ≡ Err StreamFault.Write) ↔ IsTrue (has_failed writer.new) }
