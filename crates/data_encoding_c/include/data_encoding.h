@@ -183,10 +183,10 @@ de_status de_decoder_read(de_number number, de_decoder *decoder, const char *inp
                           size_t input_len, void *output, size_t output_len, size_t *written);
 
 /* Ends the text: writes the data of a last group, at most 5 bytes, to the front of output, and to
- * *decoded the length of the text, how many bytes were written, and the position of the fault, which
- * is that length where there is none. What the output has behind these bytes stays. The status is
- * the verdict that de_decode has on the whole text. The decoder stays as it was. DE_NO_DECODER,
- * DE_SHORT_BUFFER. */
+ * *decoded the length of the text, how many bytes were written, and the position of the fault,
+ * which is that length where there is none. What the output has behind these bytes stays. The
+ * status is the verdict that de_decode has on the whole text. The decoder stays as it was.
+ * DE_NO_DECODER, DE_SHORT_BUFFER. */
 de_status de_decoder_finish(de_number number, const de_decoder *decoder, void *output,
                             size_t output_len, de_decoded *decoded);
 

@@ -71,7 +71,7 @@ impl EncodingRef<'_> {
         left < width
     }
 
-    // The greatest length of such a text that is not longer. Not inlined, since only a fault has it.
+    // The greatest length of such a text that is not longer. Not inlined: only a fault has it.
     #[inline(never)]
     pub(crate) fn greatest_valid_length(&self, len: usize) -> usize
         requires limit { len ≤ DECODE_LIMIT }
