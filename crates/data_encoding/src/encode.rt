@@ -108,6 +108,7 @@ impl EncodingRef<'_> {
     }
 
     // The same without separators.
+    #[inline(always)]
     fn padded_len(&self, len: usize) -> usize
         requires limit { len ≤ ENCODE_LIMIT }
         ensures length { (bytes : List ℕ) → length bytes ≡ len
@@ -218,10 +219,10 @@ fn symbol_count(width: u8, len: usize) -> usize
     match width {
         1 => 8 * len,
         2 => 4 * len,
-        3 => (8 * len).div_ceil(3),
+        3 => (8 * len + 2) / 3,
         4 => 2 * len,
-        5 => (8 * len).div_ceil(5),
-        _ => (8 * len).div_ceil(6),
+        5 => (8 * len + 4) / 5,
+        _ => (8 * len + 5) / 6,
     }
 }
 
@@ -234,9 +235,9 @@ fn filled_count(width: u8, len: usize) -> usize
     ensures empty { len ≡ 0 → result ≡ 0 }
 {
     match width {
-        3 => len.div_ceil(3) * 8,
-        5 => len.div_ceil(5) * 8,
-        6 => len.div_ceil(3) * 4,
+        3 => (len + 2) / 3 * 8,
+        5 => (len + 4) / 5 * 8,
+        6 => (len + 2) / 3 * 4,
         _ => symbol_count(width, len),
     }
 }

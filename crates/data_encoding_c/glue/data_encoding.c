@@ -65,16 +65,20 @@ unsigned de_held_decoder_finish(const byte *held, const de_decoder *decoder, byt
 static const byte no_bytes[1];
 static byte no_room[1];
 
-static bool is_missing(const void *bytes, size_t len) {
-    return bytes == NULL && len != 0;
+/* What is read of these bytes, no bytes for a null pointer, or NULL where they are missing. */
+static const byte *in(const void *bytes, size_t len) {
+    if (bytes != NULL) {
+        return (const byte *)bytes;
+    }
+    return len == 0 ? no_bytes : NULL;
 }
 
-static const byte *in(const void *bytes) {
-    return bytes != NULL ? (const byte *)bytes : no_bytes;
-}
-
-static byte *out(void *bytes) {
-    return bytes != NULL ? (byte *)bytes : no_room;
+/* The same of what is written to. */
+static byte *out(void *bytes, size_t len) {
+    if (bytes != NULL) {
+        return (byte *)bytes;
+    }
+    return len == 0 ? no_room : NULL;
 }
 
 static bool is_held(const de_encoding *encoding) {
@@ -126,11 +130,13 @@ de_status de_encode_len(de_number number, size_t len, size_t *text_len) {
 
 de_status de_encode(de_number number, const void *input, size_t input_len, char *output,
                     size_t output_len, size_t *written) {
-    if (is_missing(input, input_len) || is_missing(output, output_len) || written == NULL) {
+    const byte *from = in(input, input_len);
+    byte *to = out(output, output_len);
+    if (from == NULL || to == NULL || written == NULL) {
         return DE_NULL_POINTER;
     }
-    return (de_status)de_numbered_encode((unsigned)number, in(input), input_len, out(output),
-                                         output_len, written);
+    return (de_status)de_numbered_encode((unsigned)number, from, input_len, to, output_len,
+                                         written);
 }
 
 de_status de_decode_len(de_number number, size_t len, size_t *most) {
@@ -142,11 +148,13 @@ de_status de_decode_len(de_number number, size_t len, size_t *most) {
 
 de_status de_decode(de_number number, const char *input, size_t input_len, void *output,
                     size_t output_len, de_decoded *decoded) {
-    if (is_missing(input, input_len) || is_missing(output, output_len) || decoded == NULL) {
+    const byte *from = in(input, input_len);
+    byte *to = out(output, output_len);
+    if (from == NULL || to == NULL || decoded == NULL) {
         return DE_NULL_POINTER;
     }
-    return (de_status)de_numbered_decode((unsigned)number, in(input), input_len, out(output),
-                                         output_len, decoded);
+    return (de_status)de_numbered_decode((unsigned)number, from, input_len, to, output_len,
+                                         decoded);
 }
 
 de_status de_is_canonical(de_number number, bool *canonical) {
@@ -157,19 +165,21 @@ de_status de_is_canonical(de_number number, bool *canonical) {
 }
 
 de_status de_name(de_number number, char *output, size_t output_len, size_t *written) {
-    if (is_missing(output, output_len) || written == NULL) {
+    byte *to = out(output, output_len);
+    if (to == NULL || written == NULL) {
         return DE_NULL_POINTER;
     }
-    return (de_status)de_numbered_name((unsigned)number, out(output), output_len, written);
+    return (de_status)de_numbered_name((unsigned)number, to, output_len, written);
 }
 
 de_status de_number_named(const char *name, size_t name_len, de_number *number) {
+    const byte *from = in(name, name_len);
     unsigned found = 0;
     de_status status;
-    if (is_missing(name, name_len) || number == NULL) {
+    if (from == NULL || number == NULL) {
         return DE_NULL_POINTER;
     }
-    status = (de_status)de_named_number(in(name), name_len, &found);
+    status = (de_status)de_named_number(from, name_len, &found);
     if (status == DE_OK) {
         *number = (de_number)found;
     }
@@ -177,13 +187,22 @@ de_status de_number_named(const char *name, size_t name_len, de_number *number) 
 }
 
 de_status de_encoding_new(de_encoding *encoding, const de_specification *asked, size_t *detail) {
+    const byte *symbols;
+    const byte *ignore;
+    const byte *separator;
+    const byte *from;
+    const byte *to;
     struct form form;
     struct made made;
-    if (encoding == NULL || asked == NULL || is_missing(asked->symbols, asked->symbols_len) ||
-        is_missing(asked->ignore, asked->ignore_len) ||
-        is_missing(asked->wrap_separator, asked->wrap_separator_len) ||
-        is_missing(asked->translate_from, asked->translate_from_len) ||
-        is_missing(asked->translate_to, asked->translate_to_len)) {
+    if (encoding == NULL || asked == NULL) {
+        return DE_NULL_POINTER;
+    }
+    symbols = in(asked->symbols, asked->symbols_len);
+    ignore = in(asked->ignore, asked->ignore_len);
+    separator = in(asked->wrap_separator, asked->wrap_separator_len);
+    from = in(asked->translate_from, asked->translate_from_len);
+    to = in(asked->translate_to, asked->translate_to_len);
+    if (symbols == NULL || ignore == NULL || separator == NULL || from == NULL || to == NULL) {
         return DE_NULL_POINTER;
     }
     form.wrap_width = asked->wrap_width;
@@ -193,10 +212,9 @@ de_status de_encoding_new(de_encoding *encoding, const de_specification *asked, 
     form.least_significant_first = asked->least_significant_first;
     form.check_trailing_bits = asked->check_trailing_bits;
     form.concatenate = asked->concatenate;
-    made = de_held_new(&form, in(asked->symbols), asked->symbols_len, in(asked->ignore),
-                       asked->ignore_len, in(asked->wrap_separator), asked->wrap_separator_len,
-                       in(asked->translate_from), asked->translate_from_len,
-                       in(asked->translate_to), asked->translate_to_len);
+    made = de_held_new(&form, symbols, asked->symbols_len, ignore, asked->ignore_len, separator,
+                       asked->wrap_separator_len, from, asked->translate_from_len, to,
+                       asked->translate_to_len);
     if (detail != NULL && (made.status == DE_DUPLICATE || made.status == DE_WRAP_WIDTH ||
                            made.status == DE_UNDEFINED)) {
         *detail = made.detail;
@@ -206,21 +224,23 @@ de_status de_encoding_new(de_encoding *encoding, const de_specification *asked, 
 
 de_status de_encoding_layout(const de_encoding *encoding, void *output, size_t output_len,
                              size_t *written) {
-    if (encoding == NULL || is_missing(output, output_len) || written == NULL) {
+    byte *to = out(output, output_len);
+    if (encoding == NULL || to == NULL || written == NULL) {
         return DE_NULL_POINTER;
     }
     if (!is_held(encoding)) {
         return DE_NO_ENCODING;
     }
-    return (de_status)de_held_layout(encoding->tables, out(output), output_len, written);
+    return (de_status)de_held_layout(encoding->tables, to, output_len, written);
 }
 
 de_status de_encoding_read(de_encoding *encoding, const void *layout, size_t len) {
+    const byte *from = in(layout, len);
     struct made made;
-    if (encoding == NULL || is_missing(layout, len)) {
+    if (encoding == NULL || from == NULL) {
         return DE_NULL_POINTER;
     }
-    made = de_held_read(in(layout), len);
+    made = de_held_read(from, len);
     return stored(encoding, &made);
 }
 
@@ -236,15 +256,15 @@ de_status de_encoding_encode_len(const de_encoding *encoding, size_t len, size_t
 
 de_status de_encoding_encode(const de_encoding *encoding, const void *input, size_t input_len,
                              char *output, size_t output_len, size_t *written) {
-    if (encoding == NULL || is_missing(input, input_len) || is_missing(output, output_len) ||
-        written == NULL) {
+    const byte *from = in(input, input_len);
+    byte *to = out(output, output_len);
+    if (encoding == NULL || from == NULL || to == NULL || written == NULL) {
         return DE_NULL_POINTER;
     }
     if (!is_held(encoding)) {
         return DE_NO_ENCODING;
     }
-    return (de_status)de_held_encode(encoding->tables, in(input), input_len,
-                                     out(output), output_len, written);
+    return (de_status)de_held_encode(encoding->tables, from, input_len, to, output_len, written);
 }
 
 de_status de_encoding_decode_len(const de_encoding *encoding, size_t len, size_t *most) {
@@ -259,15 +279,15 @@ de_status de_encoding_decode_len(const de_encoding *encoding, size_t len, size_t
 
 de_status de_encoding_decode(const de_encoding *encoding, const char *input, size_t input_len,
                              void *output, size_t output_len, de_decoded *decoded) {
-    if (encoding == NULL || is_missing(input, input_len) || is_missing(output, output_len) ||
-        decoded == NULL) {
+    const byte *from = in(input, input_len);
+    byte *to = out(output, output_len);
+    if (encoding == NULL || from == NULL || to == NULL || decoded == NULL) {
         return DE_NULL_POINTER;
     }
     if (!is_held(encoding)) {
         return DE_NO_ENCODING;
     }
-    return (de_status)de_held_decode(encoding->tables, in(input), input_len,
-                                     out(output), output_len, decoded);
+    return (de_status)de_held_decode(encoding->tables, from, input_len, to, output_len, decoded);
 }
 
 de_status de_encoding_is_canonical(const de_encoding *encoding, bool *canonical) {
@@ -297,21 +317,23 @@ de_status de_decoder_most(de_number number, const de_decoder *decoder, size_t le
 
 de_status de_decoder_read(de_number number, de_decoder *decoder, const char *input,
                           size_t input_len, void *output, size_t output_len, size_t *written) {
-    if (decoder == NULL || is_missing(input, input_len) || is_missing(output, output_len) ||
-        written == NULL) {
+    const byte *from = in(input, input_len);
+    byte *to = out(output, output_len);
+    if (decoder == NULL || from == NULL || to == NULL || written == NULL) {
         return DE_NULL_POINTER;
     }
-    return (de_status)de_numbered_decoder_read((unsigned)number, decoder, in(input), input_len,
-                                               out(output), output_len, written);
+    return (de_status)de_numbered_decoder_read((unsigned)number, decoder, from, input_len, to,
+                                               output_len, written);
 }
 
 de_status de_decoder_finish(de_number number, const de_decoder *decoder, void *output,
                             size_t output_len, de_decoded *decoded) {
-    if (decoder == NULL || is_missing(output, output_len) || decoded == NULL) {
+    byte *to = out(output, output_len);
+    if (decoder == NULL || to == NULL || decoded == NULL) {
         return DE_NULL_POINTER;
     }
-    return (de_status)de_numbered_decoder_finish((unsigned)number, decoder, out(output),
-                                                 output_len, decoded);
+    return (de_status)de_numbered_decoder_finish((unsigned)number, decoder, to, output_len,
+                                                 decoded);
 }
 
 de_status de_encoding_decoder_most(const de_encoding *encoding, const de_decoder *decoder,
@@ -328,26 +350,26 @@ de_status de_encoding_decoder_most(const de_encoding *encoding, const de_decoder
 de_status de_encoding_decoder_read(const de_encoding *encoding, de_decoder *decoder,
                                    const char *input, size_t input_len, void *output,
                                    size_t output_len, size_t *written) {
-    if (encoding == NULL || decoder == NULL || is_missing(input, input_len) ||
-        is_missing(output, output_len) || written == NULL) {
+    const byte *from = in(input, input_len);
+    byte *to = out(output, output_len);
+    if (encoding == NULL || decoder == NULL || from == NULL || to == NULL || written == NULL) {
         return DE_NULL_POINTER;
     }
     if (!is_held(encoding)) {
         return DE_NO_ENCODING;
     }
-    return (de_status)de_held_decoder_read(encoding->tables, decoder, in(input), input_len,
-                                           out(output), output_len, written);
+    return (de_status)de_held_decoder_read(encoding->tables, decoder, from, input_len, to,
+                                           output_len, written);
 }
 
 de_status de_encoding_decoder_finish(const de_encoding *encoding, const de_decoder *decoder,
                                      void *output, size_t output_len, de_decoded *decoded) {
-    if (encoding == NULL || decoder == NULL || is_missing(output, output_len) ||
-        decoded == NULL) {
+    byte *to = out(output, output_len);
+    if (encoding == NULL || decoder == NULL || to == NULL || decoded == NULL) {
         return DE_NULL_POINTER;
     }
     if (!is_held(encoding)) {
         return DE_NO_ENCODING;
     }
-    return (de_status)de_held_decoder_finish(encoding->tables, decoder, out(output), output_len,
-                                             decoded);
+    return (de_status)de_held_decoder_finish(encoding->tables, decoder, to, output_len, decoded);
 }

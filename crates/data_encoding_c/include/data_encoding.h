@@ -177,13 +177,14 @@ de_status de_decoder_most(de_number number, const de_decoder *decoder, size_t le
 /* Reads a piece of the text, which may be cut anywhere. Writes the data of the groups that are then
  * whole, up to the first faulty one, to the front of output, which has room for as many bytes as
  * de_decoder_most says, and their number to *written. A fault is told at the end. What the output
- * has behind the data, within that room, is not said. DE_NO_DECODER, DE_TOO_LONG,
- * DE_SHORT_BUFFER. */
+ * has behind the data, within that room, is not said; what it has behind that room stays.
+ * DE_NO_DECODER, DE_TOO_LONG, DE_SHORT_BUFFER. */
 de_status de_decoder_read(de_number number, de_decoder *decoder, const char *input,
                           size_t input_len, void *output, size_t output_len, size_t *written);
 
 /* Ends the text: writes the data of a last group, at most 5 bytes, to the front of output, and to
- * *decoded the length of the text, how many bytes were written, and the position of the fault. The
+ * *decoded the length of the text, how many bytes were written, and the position of the fault,
+ * which is that length where there is none. What the output has behind these bytes stays. The
  * status is the verdict that de_decode has on the whole text. The decoder stays as it was.
  * DE_NO_DECODER, DE_SHORT_BUFFER. */
 de_status de_decoder_finish(de_number number, const de_decoder *decoder, void *output,

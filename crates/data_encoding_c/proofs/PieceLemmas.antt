@@ -1,6 +1,8 @@
 -- Texts in pieces, of which a caller keeps plain numbers.
-use Rattle.std.proofs.Common.{◌≡◌, nat_lt, inl, inr, ◌⊎◌, ℕ, ◌+◌, ◌≤◌, Bool, if◌then◌else◌, List, Option, None, Some, IsSome, Result, Ok, Err, refl, sym, ap, ◌∙◌, subst, arith}
+use Rattle.std.proofs.Common.{◌≡◌, nat_lt, inl, inr, ◌⊎◌, ℕ, ◌+◌, ◌≤◌, Bool, if◌then◌else◌, List, ◌++◌, length, take, drop, length-take-le, Option, None, Some, IsSome, Result, Ok, Err, refl, sym, ap, ◌∙◌, subst, arith}
 use Rattle.std.proofs.lemmas.Bool.{le-ltb}
+use Rattle.std.proofs.lemmas.List.{length-append, length-drop, take-append-le, take_all}
+use Rattle.std.proofs.lemmas.Slice.{drop-append-drop}
 use Rattle.data_encoding.specs.declared.error.DecodeError.{DecodeError}
 use Rattle.data_encoding.specs.declared.error.DecodeKind.{DecodeKind}
 use Rattle.data_encoding.specs.declared.error.DecodeKind.TheVariants.{Length, Symbol, Trailing, Padding}
@@ -70,3 +72,40 @@ kind-own Trailing n (inl is) told = absurd (omega (arith, is, told))
 kind-own Trailing n (inr is) told = absurd (omega (arith, is, told))
 kind-own Padding n (inl is) told = absurd (omega (arith, is, told))
 kind-own Padding n (inr is) told = absurd (omega (arith, is, told))
+
+-- no fault has the status of none
+pub kind-faulty : (kind : DecodeKind) → status_of_kind kind ≡ ok → ⊥
+kind-faulty Length is = omega (arith, is)
+kind-faulty Symbol is = omega (arith, is)
+kind-faulty Trailing is = omega (arith, is)
+kind-faulty Padding is = omega (arith, is)
+
+-- What a copy to the front of an output leaves there.
+pub record IsFront (written : ℕ) (last old new : List ℕ) : Type 0 where
+  pub front : take written new ≡ take written last
+  pub within : written ≤ length new
+  pub behind : drop written new ≡ drop written old
+  pub len : length new ≡ length old
+
+pub copied-front : (written : ℕ) (last copied output : List ℕ) → written ≤ length last
+    → written ≤ length output → copied ≡ take written last
+    → IsFront written last output (copied ++ drop written output)
+copied-front written last copied output few inside is =
+    let size : length copied ≡ written = ap length is ∙ length-take-le written last few in
+    let all : length (copied ++ drop written output) ≡ length output =
+    omega (
+      arith,
+      length-append copied (drop written output),
+      length-drop written output,
+      size,
+      inside,
+    ) in
+    record {
+      front =
+          take-append-le written copied (drop written output) (omega (arith, size))
+          ∙ take_all written copied (omega (arith, size))
+          ∙ is;
+      within = omega (arith, all, inside);
+      behind = drop-append-drop written output copied written (omega arith) size;
+      len = all;
+    }

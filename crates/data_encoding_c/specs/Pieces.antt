@@ -1,5 +1,5 @@
 -- Texts in pieces: what a caller keeps of one, and what calls make of it.
-use Rattle.std.specs.Prelude.{◌≡◌, ◌⊎◌, ℕ, ◌+◌, ◌<◌, ◌==◌, ◌≤◌, nat_lt, List, ◌++◌, length, take, if◌then◌else◌, Option, Some, None, IsSome}
+use Rattle.std.specs.Prelude.{◌≡◌, ◌⊎◌, ℕ, ◌+◌, ◌<◌, ◌==◌, ◌≤◌, nat_lt, List, ◌++◌, length, take, drop, if◌then◌else◌, Option, Some, None, IsSome}
 use Rattle.data_encoding.specs.declared.error.DecodeError.{DecodeError}
 use Rattle.data_encoding.specs.declared.error.DecodeKind.{DecodeKind}
 use Rattle.data_encoding.specs.declared.error.DecodeKind.TheVariants.{Length, Symbol, Trailing, Padding}
@@ -83,6 +83,10 @@ pub record ReadsPiece (base : Base) (old new : PlainKept) (piece output_old outp
   pub decodes : answer ≡ ok → (text : List ℕ) → StandsAfter base old text
       → whole_bytes base (text ++ piece) ≡ whole_bytes base text ++ take written_new output_new
   pub within : answer ≡ ok → written_new ≤ length output_new
+  pub behind : answer ≡ ok → (text : List ℕ) (stands : StandsAfter base old text)
+      → drop (most_completed base stands.kept (length piece)) output_new
+      ≡ drop (most_completed base stands.kept (length piece)) output_old
+  pub len : length output_new ≡ length output_old
   pub refused : (answer ≡ ok → ⊥)
       → (new ≡ old) × (output_new ≡ output_old) × (written_new ≡ written_old)
 
@@ -98,6 +102,13 @@ pub record EndsText (base : Base) (plain : PlainKept) (output_old output_new : L
   pub position : (answer ≡ short_buffer → ⊥) → (text : List ℕ) (error : DecodeError)
       → StandsAfter base plain text → fault_of base text ≡ Some error
       → decoded_new.position ≡ error.position
+  pub read : (answer ≡ short_buffer → ⊥) → (text : List ℕ) → StandsAfter base plain text
+      → decoded_new.read ≡ length text
+  pub end : answer ≡ ok → decoded_new.position ≡ decoded_new.read
+  pub within : (answer ≡ short_buffer → ⊥) → (text : List ℕ) → StandsAfter base plain text
+      → decoded_new.written ≤ length output_new
+  pub behind : drop decoded_new.written output_new ≡ drop decoded_new.written output_old
+  pub len : length output_new ≡ length output_old
   pub short : answer ≡ short_buffer → length output_old < 5
   pub refused : (answer ≡ no_decoder) ⊎ (answer ≡ short_buffer)
       → (output_new ≡ output_old) × (decoded_new ≡ decoded_old)

@@ -46,8 +46,9 @@ pub(crate) fn encode_by(
     if output.len() < len {
         return SHORT_BUFFER;
     }
-    encoding.encode_mut(input, &mut output[..len]);
+    // Nothing is left to do behind the call, so that little is kept over it.
     *written = len;
+    encoding.encode_mut(input, &mut output[..len]);
     OK
 }
 

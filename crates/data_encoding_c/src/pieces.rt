@@ -136,10 +136,11 @@ pub(crate) fn read_by(
     if piece.len() > DECODE_LIMIT - decoder.len() {
         return TOO_LONG;
     }
-    if output.len() < decoder.most(piece.len()) {
+    let most = decoder.most(piece.len());
+    if output.len() < most {
         return SHORT_BUFFER;
     }
-    *written = decoder.read(piece, output);
+    *written = decoder.read(piece, &mut output[..most]);
     *plain = plain_of(&decoder.kept());
     OK
 }

@@ -113,3 +113,34 @@ valid-whole base len some valid = by (is_padded base) refl where
       let never : len < size → ⊥ = λ less. omega (arith, mod-eq_of_lt less, exact, some) in
       grind (arith, nat_tests, never)
   by false is = sym (is_valid_length-by base len false is) ∙ valid
+
+-- The bits of symbols are whole bytes exactly where their groups are whole.
+pub whole_bits : (width : ℕ) → IsWidth width → (len : ℕ)
+    → (width * len % 8 == 0) ≡ (len % group_symbols width == 0)
+whole_bits =
+    by_width (λ w. (len : ℕ) → (w * len % 8 == 0) ≡ (len % group_symbols w == 0))
+    (λ len. grind (arith, nat_tests)) (λ len. grind (arith, nat_tests))
+    (λ len. grind (arith, nat_tests)) (λ len. grind (arith, nat_tests))
+    (λ len. grind (arith, nat_tests)) (λ len. grind (arith, nat_tests))
+
+-- Their bytes are as many as whole groups of them have.
+whole_count_bytes : (width : ℕ) → IsWidth width → (len : ℕ) → len % group_symbols width ≡ 0
+    → len / group_symbols width * group_bytes width ≡ width * len / 8
+whole_count_bytes =
+    by_width
+    (λ w. (len : ℕ) → len % group_symbols w ≡ 0
+    → len / group_symbols w * group_bytes w ≡ w * len / 8)
+    (λ len h. omega arith) (λ len h. omega arith) (λ len h. omega arith) (λ len h. omega arith)
+    (λ len h. omega arith) (λ len h. omega arith)
+
+pub most_bytes-valid : (base : Base) → IsWidth base.width → (width len : ℕ) → width ≡ base.width
+    → is_valid_length base len ≡ true → width * len / 8 ≡ most_bytes base len
+most_bytes-valid base is_width width len same valid =
+    ap (λ w. w * len / 8) same ∙ sym (by (is_padded base) refl) where
+      by : (b : Bool) → is_padded base ≡ b → most_bytes base len ≡ base.width * len / 8
+      by true is =
+          let exact : len % group_symbols base.width ≡ 0 =
+          eqb-true (len % group_symbols base.width) 0
+          (sym (is_valid_length-by base len true is) ∙ valid) in
+          most_bytes-by base len true is ∙ whole_count_bytes base.width is_width len exact
+      by false is = most_bytes-by base len false is

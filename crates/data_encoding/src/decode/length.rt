@@ -1,6 +1,6 @@
 //! The lengths of texts, and how many bytes they may mean.
 
-ghost use Rattle.std.specs.Prelude.{◌≡◌, ℕ, ◌/◌, ◌%◌, List, false, ◌<◌, ◌≤◌, length, IfErr, IsOkAnd};
+ghost use Rattle.std.specs.Prelude.{◌≡◌, ℕ, ◌/◌, List, false, ◌<◌, ◌≤◌, length, IfErr, IsOkAnd};
 ghost use Rattle.data_encoding.specs.Base.{IsWidth, group_symbols};
 ghost use Rattle.data_encoding.specs.Fields.{IsSpecified};
 ghost use Rattle.data_encoding.specs.Grammar.{Means};
@@ -43,28 +43,36 @@ impl EncodingRef<'_> {
             → IsOkAnd result (λ most. length bytes ≤ most) }
         ensures base { IsSpecified self.now }
     {
-        if !self.fields.ignores && !self.is_valid_length(len) {
+        if self.fields.ignores {
+            return Ok(self.most_bytes(len));
+        }
+        if !self.is_valid_length(len) {
             return Err(DecodeError {
                 position: self.greatest_valid_length(len),
                 kind: DecodeKind::Length,
             });
         }
-        Ok(self.most_bytes(len))
+        // No symbol is left behind whole groups, where the texts are padded.
+        Ok(self.bit_width() * len / 8)
     }
 
     // Whether a text of this length, of which no byte is ignored, may mean something.
+    #[inline(always)]
     fn is_valid_length(&self, len: usize) -> bool
         requires limit { len ≤ DECODE_LIMIT }
         ensures { result ≡ is_valid_length self.now len }
     {
+        let width = self.bit_width();
+        let left = width * len % 8;
         if self.fields.is_padded() {
-            return symbols_left(self.fields.width, len) == 0;
+            // The bits of symbols are whole bytes exactly where their groups are whole.
+            return left == 0;
         }
-        let width = self.fields.width as usize;
-        width * len % 8 < width
+        left < width
     }
 
-    // The greatest length of such a text that is not longer.
+    // The greatest length of such a text that is not longer. Not inlined: only a fault has it.
+    #[inline(never)]
     pub(crate) fn greatest_valid_length(&self, len: usize) -> usize
         requires limit { len ≤ DECODE_LIMIT }
         ensures value { result ≡ greatest_valid_length self.now len }
@@ -101,17 +109,5 @@ fn whole_groups(width: u8, len: usize) -> usize
         4 => len / 2,
         2 | 6 => len / 4,
         _ => len / 8,
-    }
-}
-
-// How many symbols are left behind them.
-fn symbols_left(width: u8, len: usize) -> usize
-    requires { IsWidth width }
-    ensures { result ≡ len % group_symbols width }
-{
-    match width {
-        4 => len % 2,
-        2 | 6 => len % 4,
-        _ => len % 8,
     }
 }

@@ -1,11 +1,10 @@
-use Rattle.std.proofs.Common.{◌≡◌, ◌⊎◌, ◌++◌, List, ℕ, None, Some, drop, length, take, refl, sym, ap, ◌∙◌, arith, inl, inr, length-take-le}
-use Rattle.std.proofs.lemmas.List.{take-append-le, take_all}
+use Rattle.std.proofs.Common.{◌≡◌, ◌⊎◌, ◌++◌, List, ℕ, None, Some, drop, take, refl, sym, ap, ◌∙◌, arith, inl, inr}
 use Rattle.data_encoding.specs.Fault.{fault_of, sound_bytes}
 use Rattle.data_encoding.specs.Pieces.{whole_bytes}
 use Rattle.encoding_stream.specs.Pieces.{kept_by, verdict_of}
 use Rattle.data_encoding_c.specs.Pieces.{StandsAfter}
 use Rattle.data_encoding_c.specs.Status.{status_of_fault}
-use Rattle.data_encoding_c.proofs.PieceLemmas.{fault-none, fault-some, kind-own, no-error, none-stands, one-error, stands-kept}
+use Rattle.data_encoding_c.proofs.PieceLemmas.{copied-front, fault-none, fault-some, kind-faulty, kind-own, no-error, none-stands, one-error, stands-kept}
 use Rattle.data_encoding_c.proofs.pieces.finish_by.Goals as goal
 
 pub returns-in_default : goal.returns-in_default
@@ -17,6 +16,11 @@ returns-in_default c =
       verdict = λ _ text stands. absurd (none text stands);
       bytes = λ _ text stands. absurd (none text stands);
       position = λ _ text error stands. absurd (none text stands);
+      read = λ _ text stands. absurd (none text stands);
+      end = λ is. absurd (cc is);
+      within = λ _ text stands. absurd (none text stands);
+      behind = refl;
+      len = refl;
       short = λ is. absurd (cc is);
       refused = λ _. (refl, refl);
     }
@@ -32,19 +36,16 @@ returns-in-Ok c =
     let written : ℕ = end.result.0 in
     let last = end.new.output in
     let copied = c.copy_from_slice.new.self in
-    let size : length (take written last) ≡ written =
-    length-take-le written last (omega (arith, end.ensures.few, end.ensures.len)) in
-    let len : length copied ≡ written = ap length c.copy_from_slice.ensures.after ∙ size in
-    let front : take written (copied ++ drop written c.args.output.now) ≡ take written last =
-    take-append-le written copied (drop written c.args.output.now) (omega (arith, len))
-    ∙ take_all written copied (omega (arith, len))
-    ∙ c.copy_from_slice.ensures.after in
+    let front =
+    copied-front written last copied c.args.output.now
+    (omega (arith, end.ensures.few, end.ensures.len)) (omega (arith, c.if-output-written.false))
+    c.copy_from_slice.ensures.after in
     let bytes : (text : List ℕ) → StandsAfter base plain text
     → sound_bytes base text
     ≡ whole_bytes base text ++ take written (copied ++ drop written c.args.output.now) =
     λ text stands.
     rw is at (end.ensures.bytes text (rw is (stands-kept base plain kept text told stands).1))
-    ∙ ap (λ more. whole_bytes base text ++ more) (sym front) in
+    ∙ ap (λ more. whole_bytes base text ++ more) (sym front.front) in
     let verdict : (text : List ℕ) → StandsAfter base plain text
     → end.result.1 ≡ verdict_of (fault_of base text) =
     λ text stands. rw is at (end.ensures.verdict text
@@ -57,6 +58,12 @@ returns-in-Ok c =
       bytes = λ _ text stands. bytes text stands;
       position = λ _ text error stands found.
           absurd (no-error (sym (none text stands) ∙ found));
+      read = λ _ text stands.
+          c.len-read.ensures.value ∙ (stands-kept base plain kept text told stands).1.counted;
+      end = λ _. refl;
+      within = λ _ text stands. front.within;
+      behind = front.behind;
+      len = front.len;
       short = λ short. absurd (omega (arith, short));
       refused = λ refused. absurd (elim refused [
         | inl is_none ↦ omega (arith, is_none)
@@ -75,19 +82,16 @@ returns-in-Err c =
     let written : ℕ = end.result.0 in
     let last = end.new.output in
     let copied = c.copy_from_slice.new.self in
-    let size : length (take written last) ≡ written =
-    length-take-le written last (omega (arith, end.ensures.few, end.ensures.len)) in
-    let len : length copied ≡ written = ap length c.copy_from_slice.ensures.after ∙ size in
-    let front : take written (copied ++ drop written c.args.output.now) ≡ take written last =
-    take-append-le written copied (drop written c.args.output.now) (omega (arith, len))
-    ∙ take_all written copied (omega (arith, len))
-    ∙ c.copy_from_slice.ensures.after in
+    let front =
+    copied-front written last copied c.args.output.now
+    (omega (arith, end.ensures.few, end.ensures.len)) (omega (arith, c.if-output-written.false))
+    c.copy_from_slice.ensures.after in
     let bytes : (text : List ℕ) → StandsAfter base plain text
     → sound_bytes base text
     ≡ whole_bytes base text ++ take written (copied ++ drop written c.args.output.now) =
     λ text stands.
     rw is at (end.ensures.bytes text (rw is (stands-kept base plain kept text told stands).1))
-    ∙ ap (λ more. whole_bytes base text ++ more) (sym front) in
+    ∙ ap (λ more. whole_bytes base text ++ more) (sym front.front) in
     let verdict : (text : List ℕ) → StandsAfter base plain text
     → end.result.1 ≡ verdict_of (fault_of base text) =
     λ text stands. rw is at (end.ensures.verdict text
@@ -104,6 +108,12 @@ returns-in-Err c =
       bytes = λ _ text stands. bytes text stands;
       position = λ _ text error stands found.
           ap (λ e. e.position) (one-error (sym (some text stands) ∙ found));
+      read = λ _ text stands.
+          c.len-read.ensures.value ∙ (stands-kept base plain kept text told stands).1.counted;
+      end = λ is. absurd (kind-faulty c.in-Err.error.kind (sym c.status_of_kind.ensures ∙ is));
+      within = λ _ text stands. front.within;
+      behind = front.behind;
+      len = front.len;
       short = λ short. absurd (own 4 (inr refl) short);
       refused = λ refused. absurd (elim refused [
         | inl is_none ↦ own 19 (inl refl) is_none

@@ -1,4 +1,7 @@
-use Rattle.std.proofs.Common.{◌≡◌, List, ◌++◌, ℕ, length, take, refl, sym, ap, ◌∙◌, subst, arith}
+use Rattle.std.proofs.Common.{◌≡◌, List, ◌++◌, ℕ, ◌≤◌, length, take, drop, refl, sym, ap, ◌∙◌, subst, arith, length-take-le}
+use Rattle.std.proofs.lemmas.List.{length-append, length-drop, take-append-le}
+use Rattle.std.proofs.lemmas.Slice.{drop-append-drop}
+use Rattle.data_encoding.specs.Pieces.{whole_bytes}
 use Rattle.encoding_stream.specs.Pieces.{kept_by, most_completed, Keeps}
 use Rattle.encoding_stream.specs.Reading.{ReadsOn}
 use Rattle.data_encoding_c.specs.Pieces.{piece_status, StandsAfter}
@@ -16,6 +19,8 @@ returns-in_default c =
       stands = λ is text stands. absurd (none text stands);
       decodes = λ is text stands. absurd (none text stands);
       within = λ is. absurd (cc is);
+      behind = λ is text stands. absurd (none text stands);
+      len = refl;
       refused = λ _. (refl, refl, refl);
     }
 
@@ -29,14 +34,20 @@ returns c =
     let kept = kept_by decoder in
     let is = c.in-Some.ensures.base in
     let told = c.in-Some.ensures.kept in
+    let most : ℕ = c.most-most.result in
+    let most_is : most ≡ most_completed base kept (length piece) =
+    rw is at c.most-most.ensures.value in
+    let inside : most ≤ room = omega (arith, c.if-output-most.false) in
+    let front = c.read.new.output in
+    let behind = drop most c.args.output.now in
+    let size : length front ≡ most =
+    c.read.ensures.len ∙ length-take-le most c.args.output.now inside in
     let reads : ReadsOn base kept (kept_by c.read.new.self) piece
-    (take c.read.result c.read.new.output) = rw is at c.read.ensures.reads in
-    let most : c.most.result ≡ most_completed base kept (length piece) =
-    rw is at c.most.ensures.value in
+    (take c.read.result front) = rw is at c.read.ensures.reads in
     let fits : ok ≡ piece_status base kept (length piece) room =
     piece-fits base kept (length piece) room
     (omega (arith, c.if-piece-len.false, c.len.ensures.value, c.len.ensures.limit))
-    (omega (arith, c.if-output-most.false, most)) in
+    (omega (arith, inside, most_is)) in
     let now : (text : List ℕ) → StandsAfter base plain text
     → Keeps base c.kept.result (text ++ piece) =
     λ text stands. subst (λ k. Keeps base k (text ++ piece)) (sym c.kept.ensures.value)
@@ -53,7 +64,24 @@ returns c =
         clear = c.kept.ensures.clear;
       };
       decodes = λ _ text stands.
-          reads.decodes text (stands-kept base plain kept text told stands).1;
-      within = λ _. c.read.ensures.within;
+          reads.decodes text (stands-kept base plain kept text told stands).1
+          ∙ ap (λ more. whole_bytes base text ++ more)
+          (sym (take-append-le c.read.result front behind c.read.ensures.within));
+      within = λ _. omega (arith, c.read.ensures.within, length-append front behind);
+      behind = λ _ text stands.
+          let due : most_completed base stands.kept (length piece) ≡ most =
+          ap (λ k. most_completed base k (length piece))
+          (stands-kept base plain kept text told stands).0
+          ∙ sym most_is in
+          ap (λ n. drop n (front ++ behind)) due
+          ∙ drop-append-drop most c.args.output.now front most (omega arith) size
+          ∙ ap (λ n. drop n c.args.output.now) (sym due);
+      len = omega (
+        arith,
+        length-append front behind,
+        length-drop most c.args.output.now,
+        size,
+        inside,
+      );
       refused = λ not_ok. absurd (not_ok refl);
     }

@@ -1,7 +1,7 @@
-use Rattle.std.proofs.Common.{◌≡◌, ◌≤◌, false, length, IsOkAnd, sym, ap, ◌∙◌, subst}
+use Rattle.std.proofs.Common.{◌≡◌, ◌*◌, ◌/◌, ◌≤◌, true, false, length, Ok, IsOkAnd, sym, ap, ◌∙◌, subst}
 use Rattle.data_encoding.specs.Base.{ignores_some}
-use Rattle.data_encoding.specs.Lengths.{decoded_len, is_valid_length}
-use Rattle.data_encoding.proofs.grammar.LengthLemmas.{decoded_len-invalid}
+use Rattle.data_encoding.specs.Lengths.{decoded_len, is_valid_length, most_bytes}
+use Rattle.data_encoding.proofs.grammar.LengthLemmas.{decoded_len-invalid, decoded_len-valid, most_bytes-valid}
 use Rattle.data_encoding.proofs.grammar.MeaningLemmas.{decoded_len-Means, length-Means}
 use Rattle.data_encoding.proofs.tables.TableLemmas.{IsWidth-seen}
 use Rattle.data_encoding.proofs.tables.TableRuleLemmas.{is_base_of}
@@ -12,7 +12,7 @@ returns-then-not-is_valid_length-clause-most c text bytes h means =
     let seen = c.args.self.now in
     let width = IsWidth-seen _ c.self.invariant seen c.self.view_is in
     let none : ignores_some seen ≡ false =
-    rw (← c.self.view_is) (sym c.self.invariant.ignores ∙ c.if-not-self.true) in
+    rw (← c.self.view_is) (sym c.self.invariant.ignores ∙ c.if-self.false) in
     let invalid : is_valid_length seen c.args.len ≡ false =
     sym c.is_valid_length.ensures ∙ c.if-not-is_valid_length.true in
     subst (λ r. IsOkAnd r (λ most. length bytes ≤ most))
@@ -23,10 +23,34 @@ pub returns-then-not-is_valid_length-clause-base : goal.returns-then-not-is_vali
 returns-then-not-is_valid_length-clause-base c =
     rw (← c.self.view_is) (is_base_of _ c.self.invariant)
 
-pub returns-clause-most : goal.returns-clause-most
-returns-clause-most c text bytes h means =
+pub returns-then-self-clause-most : goal.returns-then-self-clause-most
+returns-then-self-clause-most c text bytes h means =
     let width = IsWidth-seen _ c.self.invariant c.args.self.now c.self.view_is in
     rw (h, ← c.most_bytes.ensures) at (length-Means c.args.self.now width text bytes means)
+
+pub returns-then-self-clause-base : goal.returns-then-self-clause-base
+returns-then-self-clause-base c =
+    rw (← c.self.view_is) (is_base_of _ c.self.invariant)
+
+pub returns-clause-value : goal.returns-clause-value
+returns-clause-value c =
+    let seen = c.args.self.now in
+    let width = IsWidth-seen _ c.self.invariant seen c.self.view_is in
+    let valid : is_valid_length seen c.args.len ≡ true =
+    sym c.is_valid_length.ensures ∙ c.if-not-is_valid_length.false in
+    let most : c.bit_width.result * c.args.len / 8 ≡ most_bytes seen c.args.len =
+    most_bytes-valid seen width c.bit_width.result c.args.len c.bit_width.ensures.value valid in
+    (λ i. Ok (most i)) ∙ sym (decoded_len-valid seen c.args.len valid)
+
+pub returns-clause-most : goal.returns-clause-most
+returns-clause-most c text bytes h means =
+    let seen = c.args.self.now in
+    let width = IsWidth-seen _ c.self.invariant seen c.self.view_is in
+    let valid : is_valid_length seen c.args.len ≡ true =
+    sym c.is_valid_length.ensures ∙ c.if-not-is_valid_length.false in
+    let most : c.bit_width.result * c.args.len / 8 ≡ most_bytes seen c.args.len =
+    most_bytes-valid seen width c.bit_width.result c.args.len c.bit_width.ensures.value valid in
+    rw (h, ← most) at (length-Means seen width text bytes means)
 
 pub returns-clause-base : goal.returns-clause-base
 returns-clause-base c = rw (← c.self.view_is) (is_base_of _ c.self.invariant)
