@@ -240,9 +240,9 @@ module _ (base : Base) (width : IsWidth base.width) (text : List ℕ) where
             ⊎ ((kept_from base stop text ≡ []) × (is_padded base ≡ false))
         by true is h =
             let len = length-meanings base group in
-            let means = GroupMeans-sound base width is (meanings_in base group)
-            (omega (arith, len, next.few)) h in
-            inl (ap (λ n. n % dec) (sym len ∙ means.is_whole) ∙ mod_self dec)
+            let means = GroupMeans-sound base width (meanings_in base group)
+            (omega (arith, len, next.is_part.some)) (omega (arith, len, next.few)) h in
+            inl (ap (λ n. n % dec) (sym len ∙ means.is_whole is) ∙ mod_self dec)
         by false is h =
             ⊎_elim {C = (length group % dec ≡ 0)
             ⊎ ((kept_from base stop text ≡ []) × (is_padded base ≡ false))}

@@ -464,8 +464,9 @@ module _ {base : Base} {text : List ℕ} {w bytes symbols read written : ℕ} {o
           whole padded =
               let len = length-map group (meaning base) in
               sym len
-              ∙ (GroupMeans-sound base s.width padded (map (meaning base) group)
-              (omega (arith, len, found_here.few)) has.sound).is_whole
+              ∙ (GroupMeans-sound base s.width (map (meaning base) group)
+              (omega (arith, len, some)) (omega (arith, len, found_here.few)) has.sound).is_whole
+              padded
               ∙ sym s.symbols_is
 
           few : w * count / 8 ≤ length rest

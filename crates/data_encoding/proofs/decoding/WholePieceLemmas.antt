@@ -10,7 +10,7 @@ use Rattle.data_encoding.specs.declared.error.DecodeError.{DecodeError}
 use Rattle.data_encoding.specs.declared.error.DecodePartial.{DecodePartial}
 use Rattle.data_encoding.specs.Base.{Base, IsWidth, group_symbols, ignores_some, is_padded}
 use Rattle.data_encoding.specs.Fault.{bytes_of_group, first_fault, sound_after}
-use Rattle.data_encoding.specs.Grammar.{Means, MeansBy, Positioned, groups, is_final, kept, kept_in}
+use Rattle.data_encoding.specs.Grammar.{Means, Positioned, groups, is_final, kept, kept_in}
 use Rattle.data_encoding.specs.Laws.{further}
 use Rattle.data_encoding.specs.Lengths.{length_fault}
 use Rattle.data_encoding.specs.Partial.{partial_of}
@@ -175,15 +175,15 @@ module _ (base : Base) (ruled : IsRuled base) (piece bytes : List ℕ) where
 
   pub kept-whole : Means base piece bytes → IsWholeBy
       → length (kept base piece) % group_symbols base.width ≡ 0
-  kept-whole = by base.padding refl ruled.padding where
-    by : (o : Option ℕ) → base.padding ≡ o → IsRuledPadding base o → MeansBy o base piece bytes
-        → IsWholeBy → length (kept base piece) % group_symbols base.width ≡ 0
-    by o is h means (inr (inr plain)) =
+  kept-whole means = by base.padding refl ruled.padding where
+    by : (o : Option ℕ) → base.padding ≡ o → IsRuledPadding base o → IsWholeBy
+        → length (kept base piece) % group_symbols base.width ≡ 0
+    by o is h (inr (inr plain)) =
         ap (λ n. n % group_symbols base.width) (length-kept_plain base piece plain.0) ∙ plain.1
-    by None is h means (inl padded) = absurd (false≢true (sym (ap is_some is) ∙ padded))
-    by None is h means (inr (inl divides)) =
-        whole-plain base ruled piece [] bytes [] divides means
-    by (Some character) is h means (inl padded) =
+    by None is h (inl padded) = absurd (false≢true (sym (ap is_some is) ∙ padded))
+    by None is h (inr (inl divides)) =
+        whole-plain base ruled piece [] bytes [] (ap is_some is) divides means
+    by (Some character) is h (inl padded) =
         whole-padded base ruled piece [] bytes [] padded means
-    by (Some character) is h means (inr (inl divides)) =
+    by (Some character) is h (inr (inl divides)) =
         absurd (false≢true (sym (ap (λ n. not (n == 0)) divides) ∙ h.2))
