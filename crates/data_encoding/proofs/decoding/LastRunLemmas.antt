@@ -22,9 +22,8 @@ use Rattle.data_encoding.proofs.grammar.PositionLemmas.{bytes-positioned_from, l
 use Rattle.data_encoding.proofs.grammar.KeptLemmas.{kept_from-more}
 use Rattle.data_encoding.proofs.grammar.LengthLemmas.{length_fault-none, valid-whole, whole-less}
 use Rattle.data_encoding.proofs.grammar.SoundLemmas.{AreSound-append, first-none, sound-all}
-use Rattle.data_encoding.proofs.grammar.MeaningLemmas.{Means-no_fault}
 use Rattle.data_encoding.proofs.decoding.ProgressLemmas.{sound_bytes-front}
-use Rattle.data_encoding.proofs.decoding.StopLemmas.{IsAtFault, bounds, fault_is, kind-located, kind-next, kind_of, other-group, pos, rest_is, sound_len_is, whole}
+use Rattle.data_encoding.proofs.decoding.StopLemmas.{IsAtFault, bounds, fault_is, kind-located, kind-next, kind_of, other-group, pos, rest_is, sound_len_is, stops, whole}
 use Rattle.data_encoding.proofs.decoding.GreatestLengthLemmas.{greatest-least, greatest-less, greatest-more, greatest-same, greatest-valid}
 use Rattle.data_encoding.proofs.decoding.IgnoringLemmas.{group-kept}
 use Rattle.data_encoding.proofs.decoding.CutLemmas.{kept-cut}
@@ -83,7 +82,7 @@ module _ (base : Base) (width : IsWidth base.width) (group : List Positioned)
         position_is = position-fault LengthFault group index error here;
       }
 
-module _ (base : Base) (text : List ℕ) (read written : ℕ) (output : List ℕ) (error : DecodeError)
+module _ {base : Base} {text : List ℕ} {read written : ℕ} {output : List ℕ} {error : DecodeError}
     (at : IsAtFault base text read written output error)
     (kind : is_length_fault error.kind ≡ true) where
   abbrev size : ℕ
@@ -118,12 +117,11 @@ module _ (base : Base) (text : List ℕ) (read written : ℕ) (output : List ℕ
       let last : kept_from base at.stop text ≡ [] =
       ⊎_elim {C = kept_from base at.stop text ≡ []}
       (λ full. absurd (omega (arith, full, short.few))) (λ none. none) at.next.last in
-      rest_is base text read written output error at
+      rest_is at
       ∙ ap (λ l. at.group ++ l) last ∙ append-nil at.group
 
   inside : (read ≤ error.position) × (error.position < at.stop)
-  inside =
-      bounds base text read written output error at
+  inside = bounds at
 
   -- before its fault stand that many of its bytes
   kept_before : kept base (take error.position text)
@@ -154,7 +152,7 @@ module _ (base : Base) (text : List ℕ) (read written : ℕ) (output : List ℕ
   no_length part =
       length_fault-none base (length part)
       (λ none.
-      absurd (false≢true (sym (kind-next base text read written output error at none) ∙ kind)))
+      absurd (false≢true (sym (kind-next at none) ∙ kind)))
 
   -- bytes without a fault at the front of what is left are bytes of the group
   run_kept : (count : ℕ) → count ≤ length (drop read text) → count ≤ size
@@ -196,33 +194,9 @@ module _ (base : Base) (text : List ℕ) (read written : ℕ) (output : List ℕ
   read_by : (sound : Bool) → is_sound_run base (drop read text) ≡ sound
       → read_len base text error ≡ cond sound error.position read
   read_by sound is =
-      let read_is : sound_len base text ≡ read =
-      sound_len_is base text read written output error at in
+      let read_is = sound_len_is at in
       (λ i. cond (kind i && is_sound_run base (drop (read_is i) text)) error.position (read_is i))
       ∙ ap (λ b. cond b error.position read) is
-
-  stops : (new : List ℕ) (end count : ℕ) → read_len base text error ≡ end
-      → end ≤ error.position → fault_of base (take end text) ≡ None → count ≤ length new
-      → sound_bytes base (take end text) ≡ take count new
-      → StopsAt base text new (record { read = end; written = count; error = error })
-  stops new end count read_is before sound fits bytes =
-      let written_is : length (sound_bytes base (take end text)) ≡ count =
-      ap length bytes ∙ length-take-le count new fits in
-      record {
-        is_partial =
-            ap (partial_by base text)
-            (fault_is base text read written output error at)
-            ∙ ap (λ k. Some (record {
-              read = k;
-              written = length (sound_bytes base (take k text));
-              error = error;
-            })) read_is
-            ∙ ap (λ k. Some (record { read = end; written = k; error = error })) written_is;
-        means = subst (Means base (take end text)) bytes
-            (Means-no_fault base at.width (take end text) sound);
-        read_before = before;
-        within = omega (arith, inside.1, at.next.is_part.within);
-      }
 
   -- no group but those that were read before
   front_sound : (end : ℕ) → groups base (take end text) ≡ groups base (take read text)
@@ -235,7 +209,7 @@ module _ (base : Base) (text : List ℕ) (read written : ℕ) (output : List ℕ
       → sound_bytes base (take end text) ≡ take written output
   front_bytes end same =
       ap (λ gs. flat_map (bytes_of_group base) (sound_after false base gs)) same
-      ∙ sound_bytes-front base at.width text read written at.ended output at.so_far
+      ∙ sound_bytes-front base at.width text at.so_far
 
   -- where no run is left before the fault, all up to it is read
   pub last-none : len ≡ 0 → (new : List ℕ) → written ≤ length new
@@ -248,7 +222,7 @@ module _ (base : Base) (text : List ℕ) (read written : ℕ) (output : List ℕ
       ap (runs size) (kept_before
       ∙ ap (λ n. kept base (take read text) ++ take n at.group) first
       ∙ append-nil (kept base (take read text))) in
-      stops new error.position written
+      stops at new error.position written
       (read_by true (sound_run-none base at.width (drop read text) none)) (omega arith)
       (front_sound error.position front_same) fits
       (front_bytes error.position front_same ∙ sym same)
@@ -289,8 +263,7 @@ module _ (base : Base) (text : List ℕ) (read written : ℕ) (output : List ℕ
     groups_more =
         ap (runs size) (kept_before ∙ ap (λ l. kept base (take read text) ++ l) run_is)
         ∙ runs-join size (kept base (take read text)) run
-        (pos base text read written output error at)
-        (whole base text read written output error at)
+        (pos at) (whole at)
         ∙ ap (λ l. groups base (take read text) ++ l)
         (runs-short size run (omega (arith, run_len, some)) (omega (arith, run_len, few)))
 
@@ -310,7 +283,7 @@ module _ (base : Base) (text : List ℕ) (read written : ℕ) (output : List ℕ
         → StopsAt base text new
         (record { read = error.position; written = written + count; error = error })
     last-sound count new fits writes =
-        stops new error.position (written + count)
+        stops at new error.position (written + count)
         (read_by true (sound_run-group base at.width (drop read text) some few sound)) (omega arith)
         ((λ i. or_else (no_length (take error.position text) i)
         (first_after false base (groups_more i)))
@@ -333,7 +306,7 @@ module _ (base : Base) (text : List ℕ) (read written : ℕ) (output : List ℕ
       → (new : List ℕ) → written ≤ length new → take written new ≡ take written output
       → StopsAt base text new (record { read = read; written = written; error = error })
   last-unsound some bad new fits same =
-      stops new read written (read_by false unsound) inside.0 (front_sound read refl) fits
+      stops at new read written (read_by false unsound) inside.0 (front_sound read refl) fits
       (front_bytes read refl ∙ sym same) where
         none_none : (o : Option GroupFault) → o ≡ None → is_some o ≡ true → ⊥
         none_none o h k = false≢true (sym (ap is_some h) ∙ k)

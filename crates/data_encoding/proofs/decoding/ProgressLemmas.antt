@@ -86,11 +86,11 @@ module _ (base : Base) (width : IsWidth base.width) (text : List ℕ) where
   }
 
   -- another output with the same bytes at its front
-  pub same-output : (read written : ℕ) (ended : Bool) (old new : List ℕ)
+  pub same-output : {read written : ℕ} {ended : Bool} {old : List ℕ} (new : List ℕ)
       → HasDecodedTo base text read written ended old
       → written ≤ length new → take written new ≡ take written old
       → HasDecodedTo base text read written ended new
-  same-output read written ended old new so_far fits same = record {
+  same-output new so_far fits same = record {
     within = so_far.within;
     sound = so_far.sound;
     whole = so_far.whole;
@@ -100,11 +100,11 @@ module _ (base : Base) (width : IsWidth base.width) (text : List ℕ) where
   }
 
   -- while something is left, whole groups were read
-  pub whole-before : (read written : ℕ) (begun : Bool) (old : List ℕ) (stop : ℕ)
-      (part : List Positioned)
+  pub whole-before : {read written : ℕ} {begun : Bool} {old : List ℕ} {stop : ℕ}
+      {part : List Positioned}
       → HasDecodedTo base text read written begun old → IsPart base text read stop part
       → length (kept base (take read text)) % dec ≡ 0
-  whole-before read written begun old stop part so_far next =
+  whole-before {read} {stop} so_far next =
       ⊎_elim {C = length (kept base (take read text)) % dec ≡ 0} (λ whole. whole)
       (λ all.
       let left = kept_from-more base read text so_far.within stop next.after next.within in
@@ -117,17 +117,18 @@ module _ (base : Base) (width : IsWidth base.width) (text : List ℕ) where
       )))
       so_far.whole
 
-  groups-more : (read written : ℕ) (begun : Bool) (old : List ℕ) (stop : ℕ) (part : List Positioned)
+  groups-more : {read written : ℕ} {begun : Bool} {old : List ℕ} {stop : ℕ} {part : List Positioned}
       → HasDecodedTo base text read written begun old → IsPart base text read stop part
       → groups base (take stop text) ≡ groups base (take read text) ++ runs dec part
-  groups-more read written begun old stop part so_far next =
+  groups-more {read} {stop} {part} so_far next =
       ap (runs dec) (kept-more base read text so_far.within stop next.after next.within
       ∙ ap (λ l. kept base (take read text) ++ l) (sym next.is_kept))
       ∙ runs-join dec (kept base (take read text)) part pos
-      (whole-before read written begun old stop part so_far next)
+      (whole-before so_far next)
 
-  advance : (read written stop count : ℕ) (begun ended : Bool) (part : List Positioned)
-      (old new : List ℕ) → HasDecodedTo base text read written begun old
+  advance : {read written stop : ℕ} (count : ℕ) {begun : Bool} (ended : Bool)
+      {part : List Positioned} {old : List ℕ} (new : List ℕ)
+      → HasDecodedTo base text read written begun old
       → IsPart base text read stop part
       → AreSound base begun (runs dec part) ended
       → (length part % dec ≡ 0) ⊎ ((kept_from base stop text ≡ []) × (is_padded base ≡ false))
@@ -135,8 +136,8 @@ module _ (base : Base) (width : IsWidth base.width) (text : List ℕ) where
       → take (written + count) new
       ≡ take written old ++ flat_map (bytes_of_group base) (runs dec part)
       → HasDecodedTo base text stop (written + count) ended new
-  advance read written stop count begun ended part old new so_far next sound last fits writes =
-      let more = groups-more read written begun old stop part so_far next in
+  advance {read} {stop} count {begun} ended {part} new so_far next sound last fits writes =
+      let more = groups-more so_far next in
       let parts = kept-more base read text so_far.within stop next.after next.within
       ∙ ap (λ l. kept base (take read text) ++ l) (sym next.is_kept) in
       record {
@@ -149,7 +150,7 @@ module _ (base : Base) (width : IsWidth base.width) (text : List ℕ) where
             (λ whole. inl (ap (λ n. n % dec)
             (ap length parts ∙ length-append (kept base (take read text)) part)
             ∙ both_whole dec (length (kept base (take read text))) (length part)
-            (whole-before read written begun old stop part so_far next) whole))
+            (whole-before so_far next) whole))
             (λ all. inr all) last;
         ends = ap position_after parts
             ∙ position_after-append (kept base (take read text)) part next.some ∙ next.ends;
@@ -162,7 +163,7 @@ module _ (base : Base) (width : IsWidth base.width) (text : List ℕ) where
       }
 
   -- so many whole groups, of symbols alone, behind ignored bytes
-  pub after-run : (read written skip count : ℕ) (old new : List ℕ)
+  pub after-run : {read written skip : ℕ} (count : ℕ) {old : List ℕ} (new : List ℕ)
       → HasDecodedTo base text read written false old
       → IsIgnoredFront base (drop read text) skip
       → 0 < count
@@ -173,7 +174,7 @@ module _ (base : Base) (width : IsWidth base.width) (text : List ℕ) where
       → take (written + count * enc) new
       ≡ take written old ++ run_bytes base (take (count * dec) (drop (read + skip) text))
       → HasDecodedTo base text (read + skip + count * dec) (written + count * enc) false new
-  after-run read written skip count old new so_far front many room symbols fits writes =
+  after-run {read} {written} {skip} count {old} new so_far front many room symbols fits writes =
       let n = count * dec in
       let start = read + skip in
       let part = take n (drop start text) in
@@ -201,8 +202,7 @@ module _ (base : Base) (width : IsWidth base.width) (text : List ℕ) where
       ∙ kept_in-symbols base start part all in
       let len : length (positioned_from start part) ≡ n =
       length-positioned_from start part ∙ part_len in
-      advance read written (start + n) (count * enc) false false (positioned_from start part) old
-      new so_far
+      advance (count * enc) false new so_far
       (record {
         after = omega arith;
         within = omega (arith, start_in, room);
@@ -218,17 +218,16 @@ module _ (base : Base) (width : IsWidth base.width) (text : List ℕ) where
       (writes ∙ ap (λ l. take written old ++ l) (run_bytes-positioned base width start part))
 
   -- a group more
-  pub after-group : (read written stop count : ℕ) (begun : Bool) (group : List Positioned)
-      (old new : List ℕ) → HasDecodedTo base text read written begun old
+  pub after-group : {read written stop : ℕ} (count : ℕ) {begun : Bool} {group : List Positioned}
+      {old : List ℕ} (new : List ℕ) → HasDecodedTo base text read written begun old
       → IsNext base text read stop group → fault_after begun base group ≡ None
       → written + count ≤ length new
       → take (written + count) new ≡ take written old ++ bytes_of_group base group
       → HasDecodedTo base text stop (written + count) (is_final base group) new
-  after-group read written stop count begun group old new so_far next sound fits writes =
+  after-group {written} {stop} count {begun} {group} {old} new so_far next sound fits writes =
       let one : runs dec group ≡ group ∷ [] = runs-short dec group next.is_part.some next.few in
       let no_fault = (fault_after-none base begun group sound).1 in
-      advance read written stop count begun (is_final base group) group old new so_far
-      next.is_part
+      advance count (is_final base group) new so_far next.is_part
       (subst (λ gs. AreSound base begun gs (is_final base group)) (sym one) (sound, refl))
       (by (is_padded base) refl no_fault)
       fits
@@ -249,7 +248,7 @@ module _ (base : Base) (width : IsWidth base.width) (text : List ℕ) where
             (λ whole. inl (ap (λ n. n % dec) whole ∙ mod_self dec)) (λ none. inr (none, is))
             next.last
 
-  module _ (read written : ℕ) (ended : Bool) (output : List ℕ)
+  module _ {read written : ℕ} {ended : Bool} {output : List ℕ}
       (so_far : HasDecodedTo base text read written ended output) where
     pub written_len : length (take written output) ≡ written
     written_len = length-take-le written output so_far.fits

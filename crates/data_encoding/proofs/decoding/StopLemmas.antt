@@ -26,7 +26,7 @@ use Rattle.data_encoding.proofs.grammar.GroupLemmas.{group_fault-inside, located
 use Rattle.data_encoding.proofs.grammar.UnpaddedGroupLemmas.{plain_fault-valid}
 use Rattle.data_encoding.proofs.grammar.SoundLemmas.{first-AreSound, sound-AreSound, sound-all, first-none}
 use Rattle.data_encoding.proofs.grammar.MeaningLemmas.{Means-no_fault, sound_bytes-Means, decoded_len-Means}
-use Rattle.data_encoding.proofs.decoding.ProgressLemmas.{IsNext, whole-before, written_len, sound_bytes-front}
+use Rattle.data_encoding.proofs.decoding.ProgressLemmas.{IsNext, whole-before, sound_bytes-front}
 
 -- the kind of a fault of symbols, or of padding
 pub kind_of : (fault error : DecodeError) → Some fault ≡ Some error
@@ -92,7 +92,7 @@ pub record IsAtFault (base : Base) (text : List ℕ) (read written : ℕ) (outpu
   pub next : IsNext base text read stop group
   pub faulty : fault_after ended base group ≡ Some error
 
-module _ (base : Base) (text : List ℕ) (read written : ℕ) (output : List ℕ) (error : DecodeError)
+module _ {base : Base} {text : List ℕ} {read written : ℕ} {output : List ℕ} {error : DecodeError}
     (at : IsAtFault base text read written output error) where
   abbrev size : ℕ
   size = group_symbols base.width
@@ -102,8 +102,7 @@ module _ (base : Base) (text : List ℕ) (read written : ℕ) (output : List ℕ
 
   pub whole : length (kept base (take read text)) % size ≡ 0
   whole =
-      whole-before base at.width text read written at.ended output at.stop at.group at.so_far
-      at.next.is_part
+      whole-before base at.width text at.so_far at.next.is_part
 
   pub rest_is : kept_from base read text ≡ at.group ++ kept_from base at.stop text
   rest_is =
@@ -197,32 +196,38 @@ module _ (base : Base) (text : List ℕ) (read written : ℕ) (output : List ℕ
       (omega (arith, part_len, at.next.is_part.after))) fault_inside.1 in
       subst (λ n. (read ≤ n) × (n < at.stop)) (sym fault_inside.2) stands
 
+  -- a decoding stops there, having read so far and written the bytes of that
+  pub stops : (new : List ℕ) (end count : ℕ) → read_len base text error ≡ end
+      → end ≤ error.position → fault_of base (take end text) ≡ None → count ≤ length new
+      → sound_bytes base (take end text) ≡ take count new
+      → StopsAt base text new (record { read = end; written = count; error = error })
+  stops new end count read_is before sound fits bytes =
+      let written_is : length (sound_bytes base (take end text)) ≡ count =
+      ap length bytes ∙ length-take-le count new fits in
+      record {
+        is_partial =
+            ap (partial_by base text) fault_is
+            ∙ (λ i. Some (record {
+              read = read_is i;
+              written = length (sound_bytes base (take (read_is i) text));
+              error = error;
+            }))
+            ∙ ap (λ k. Some (record { read = end; written = k; error = error })) written_is;
+        means = subst (Means base (take end text)) bytes
+            (Means-no_fault base at.width (take end text) sound);
+        read_before = before;
+        within = omega (arith, bounds.1, at.next.is_part.within);
+      }
+
   -- at a faulty group, the text has its fault
   pub at-fault : is_length_fault error.kind ≡ false
       → StopsAt base text output (record { read = read; written = written; error = error })
   at-fault kind =
-      let read_is : read_len base text error ≡ read =
-      ap (λ b. cond (b && is_sound_run base (drop (sound_len base text) text)) error.position
+      stops output read written
+      (ap (λ b. cond (b && is_sound_run base (drop (sound_len base text) text)) error.position
       (sound_len base text)) kind
-      ∙ sound_len_is in
-      let bytes : sound_bytes base (take read text) ≡ take written output =
-      sound_bytes-front base at.width text read written at.ended output at.so_far in
-      let written_is : length (sound_bytes base (take read text)) ≡ written =
-      ap length bytes ∙ written_len base at.width text read written at.ended output at.so_far in
-      record {
-        is_partial =
-            ap (partial_by base text) fault_is
-            ∙ ap (λ k. Some (record {
-              read = k;
-              written = length (sound_bytes base (take k text));
-              error = error;
-            })) read_is
-            ∙ ap (λ k. Some (record { read = read; written = k; error = error })) written_is;
-        means = subst (Means base (take read text)) bytes
-            (Means-no_fault base at.width (take read text) front_sound);
-        read_before = bounds.0;
-        within = omega (arith, bounds.1, at.next.is_part.within);
-      }
+      ∙ sound_len_is)
+      bounds.0 front_sound at.so_far.fits (sound_bytes-front base at.width text at.so_far)
 
   module _ (none : ignores_some base ≡ false) where
     read_whole : read % size ≡ 0

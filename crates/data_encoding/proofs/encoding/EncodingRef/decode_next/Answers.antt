@@ -99,7 +99,7 @@ returns-clause-more g c =
 pub returns-clause-further : goal.returns-clause-further
 returns-clause-further g c =
     let some = some-group c.next_group-group.ensures c.is_empty.ensures c.if-is_empty.false in
-    let few = gathered-few c.args.self.now g.G.GroupSize.SYMBOLS _ _ _ c.next_group-group.ensures in
+    let few = gathered-few c.next_group-group.ensures in
     λ _. rw c.new-2.ensures (omega (arith, some, few))
 
 pub returns-in-Err-clause-faulty : goal.returns-in-Err-clause-faulty
