@@ -11,10 +11,10 @@ use Rattle.data_encoding.specs.declared.error.DecodeKind.{DecodeKind}
 use Rattle.data_encoding.specs.declared.error.DecodeKind.TheVariants.{Length as LengthFault, Padding as PaddingFault}
 use Rattle.data_encoding.specs.Base.{Base, meaning, is_ignored, is_padded, group_symbols, IsWidth}
 use Rattle.data_encoding.specs.Bits.{runs}
-use Rattle.data_encoding.specs.Grammar.{Positioned, positioned_from, kept, groups, is_final, Means, kept_in, kept_from, bytes_in, meanings_in}
+use Rattle.data_encoding.specs.Grammar.{Positioned, positioned_from, kept, groups, is_final, kept_in, kept_from, bytes_in, meanings_in}
 use Rattle.data_encoding.specs.Lengths.{is_valid_count, greatest_valid_length, length_fault, is_valid_length}
 use Rattle.data_encoding.specs.Fault.{bytes_of_group, fault_after, fault_at, fault_of, first_after, group_fault, located, or_else, position_of, sound_after, sound_bytes, symbol_bytes}
-use Rattle.data_encoding.specs.Partial.{StopsAt, sound_len, read_len, is_length_fault, is_sound_run, partial_by}
+use Rattle.data_encoding.specs.Partial.{StopsAt, read_len, is_length_fault, is_sound_run}
 use Rattle.data_encoding.specs.Decoding.{AreSound}
 use Rattle.data_encoding.proofs.lists.ListLemmas.{filter-all, length-filter}
 use Rattle.data_encoding.proofs.lists.RunLemmas.{runs-join, runs-short}
@@ -23,7 +23,7 @@ use Rattle.data_encoding.proofs.grammar.KeptLemmas.{kept_from-more}
 use Rattle.data_encoding.proofs.grammar.LengthLemmas.{length_fault-none, valid-whole, whole-less}
 use Rattle.data_encoding.proofs.grammar.SoundLemmas.{AreSound-append, first-none, sound-all}
 use Rattle.data_encoding.proofs.decoding.ProgressLemmas.{sound_bytes-front}
-use Rattle.data_encoding.proofs.decoding.StopLemmas.{IsAtFault, bounds, fault_is, kind-located, kind-next, kind_of, other-group, pos, rest_is, sound_len_is, stops, whole}
+use Rattle.data_encoding.proofs.decoding.StopLemmas.{IsAtFault, bounds, kind-located, kind-next, kind_of, other-group, pos, rest_is, sound_len_is, stops, whole}
 use Rattle.data_encoding.proofs.decoding.GreatestLengthLemmas.{greatest-least, greatest-less, greatest-more, greatest-same, greatest-valid}
 use Rattle.data_encoding.proofs.decoding.IgnoringLemmas.{group-kept}
 use Rattle.data_encoding.proofs.decoding.CutLemmas.{kept-cut}
