@@ -343,7 +343,8 @@ module _ {base : Base} {text : List ℕ} {w bytes symbols read written : ℕ} {o
               by true is =
                   let len = length-front base s.width (drop read text) in
                   let no_run = none (ap is_length_fault kind ∙ is) in
-                  last-unsound (stands output s.so_far error faulty) is (omega (arith, len, no_run.0))
+                  last-unsound (stands output s.so_far error faulty) is
+                  (omega (arith, len, no_run.0))
                   (λ few. no_run.1 (omega (arith, len, few))) new fits same
 
         -- and where one is

@@ -8,14 +8,14 @@ use Rattle.data_encoding.proofs.grammar.JoinFaultLemmas.{valid_behind}
 use Rattle.data_encoding.specs.declared.encoding.Character.{Character}
 use Rattle.data_encoding.specs.declared.decode.group.GroupFault.{GroupFault}
 use Rattle.data_encoding.specs.declared.error.DecodeError.{DecodeError}
-use Rattle.data_encoding.specs.declared.error.DecodeKind.TheVariants.{Length as LengthFault, Trailing as TrailingFault, Padding as PaddingFault}
+use Rattle.data_encoding.specs.declared.error.DecodeKind.TheVariants.{Trailing as TrailingFault, Padding as PaddingFault}
 use Rattle.data_encoding.specs.declared.error.DecodePartial.{DecodePartial}
 use Rattle.data_encoding.specs.Base.{Base, is_symbol, is_padded, ignores_some, group_symbols, IsWidth}
 use Rattle.data_encoding.specs.Bits.{runs}
 use Rattle.data_encoding.specs.Grammar.{Positioned, positioned_from, kept, groups, is_final, Means, kept_from, bytes_in, meanings_in}
 use Rattle.data_encoding.specs.Lengths.{is_valid_count, is_valid_length, length_fault, decoded_len}
-use Rattle.data_encoding.specs.Fault.{bytes_of_group, character_fault, count_before_padding, fault_after, fault_at_first, fault_of, faulty_at, first_after, group_fault, located, or_else, padded_fault_at, plain_fault, position_of, sound_after, sound_bytes, sound_groups, symbols_fault, trailing_bits}
-use Rattle.data_encoding.specs.Partial.{StopsAt, position_after, sound_len, read_len, is_length_fault, is_sound_run, partial_at, partial_by, partial_of}
+use Rattle.data_encoding.specs.Fault.{bytes_of_group, character_fault, count_before_padding, fault_after, fault_at_first, fault_of, faulty_at, first_after, group_fault, located, or_else, position_of, sound_after, sound_bytes, sound_groups, symbols_fault, trailing_bits}
+use Rattle.data_encoding.specs.Partial.{StopsAt, position_after, sound_len, read_len, is_length_fault, partial_at, partial_by, partial_of}
 use Rattle.data_encoding.specs.Decoding.{HasDecodedTo}
 use Rattle.data_encoding.proofs.digits.WidthLemmas.{group_symbols-pos}
 use Rattle.data_encoding.proofs.lists.RunLemmas.{runs-nil, runs-append, runs-join, runs-short, flat_map-runs}
@@ -23,7 +23,6 @@ use Rattle.data_encoding.proofs.grammar.PositionLemmas.{length-kept_plain, lengt
 use Rattle.data_encoding.proofs.grammar.KeptLemmas.{between, kept-split, kept_from-more, kept_in-stands, length-between}
 use Rattle.data_encoding.proofs.grammar.LengthLemmas.{length_fault-none, length_fault-valid, valid-whole, whole-length}
 use Rattle.data_encoding.proofs.grammar.GroupLemmas.{group_fault-inside, located-inside}
-use Rattle.data_encoding.proofs.grammar.UnpaddedGroupLemmas.{plain_fault-valid}
 use Rattle.data_encoding.proofs.grammar.SoundLemmas.{first-AreSound, sound-AreSound, sound-all, first-none}
 use Rattle.data_encoding.proofs.grammar.MeaningLemmas.{Means-no_fault, sound_bytes-Means, decoded_len-Means}
 use Rattle.data_encoding.proofs.decoding.ProgressLemmas.{IsNext, whole-before, sound_bytes-front}
@@ -62,17 +61,9 @@ pub other-group : (base : Base) (group : List Character) (b : Bool) → is_padde
 other-group base group true is whole =
     let count = count_before_padding group in
     let bad = count == 0 || not (is_valid_count base.width count) in
-    subst IsOther
-    (sym (ap (λ b. cond b (padded_fault_at base group count) (plain_fault base group)) is
-    ∙ ap (λ b. cond b (faulty_at LengthFault 0)
-    (cond bad (faulty_at PaddingFault count) (symbols_fault base (take count group)))) whole))
-    (other-padding base group bad count)
+    rw (is, whole) (other-padding base group bad count)
 other-group base group false is valid =
-    subst IsOther
-    (sym (ap (λ b. cond b (padded_fault_at base group (count_before_padding group))
-    (plain_fault base group)) is
-    ∙ plain_fault-valid base group valid))
-    (other-symbols base group)
+    rw (is, valid) (other-symbols base group)
 
 pub kind-located : (group : List Positioned) (o : Option GroupFault) (error : DecodeError)
     → IsOther o → located group o ≡ Some error → is_length_fault error.kind ≡ false
@@ -224,10 +215,8 @@ module _ {base : Base} {text : List ℕ} {read written : ℕ} {output : List ℕ
       → StopsAt base text output (record { read = read; written = written; error = error })
   at-fault kind =
       stops output read written
-      (ap (λ b. cond (b && is_sound_run base (drop (sound_len base text) text)) error.position
-      (sound_len base text)) kind
-      ∙ sound_len_is)
-      bounds.0 front_sound at.so_far.fits (sound_bytes-front base at.width text at.so_far)
+      (rw kind sound_len_is) bounds.0 front_sound at.so_far.fits
+      (sound_bytes-front base at.width text at.so_far)
 
   module _ (none : ignores_some base ≡ false) where
     read_whole : read % size ≡ 0

@@ -16,7 +16,7 @@ use Rattle.data_encoding.proofs.grammar.UnpaddedGroupLemmas.{PlainMeans-count, P
 use Rattle.data_encoding.proofs.grammar.UnpaddedGrammarLemmas.{unpadded-Means}
 use Rattle.data_encoding.proofs.grammar.GroupLemmas.{GroupMeans-length, GroupMeans-sound, GroupMeans-no_fault, GroupMeans-bytes}
 use Rattle.data_encoding.proofs.grammar.PositionLemmas.{length-kept, length-kept_plain, length-meanings}
-use Rattle.data_encoding.proofs.grammar.LengthLemmas.{is_valid_length-by, length_fault-none, most_bytes-by, whole-length}
+use Rattle.data_encoding.proofs.grammar.LengthLemmas.{is_valid_length-by, length_fault-none, whole-length}
 use Rattle.data_encoding.proofs.grammar.SoundLemmas.{AreSound-none, ends_after, fault_after-none, neither_fault, first-none, sound-all}
 
 -- none follows one that ended
@@ -184,15 +184,13 @@ module _ (base : Base) (width : IsWidth base.width) where
             (le-div_iff_mul-le {k = group_symbols base.width} {x = count} {y = length text}
             (group_symbols-pos base.width width)).1 fits in
             let most = mul-le-mul_right (group_bytes base.width) few in
-            subst (λ n. length bytes ≤ n) (sym (most_bytes-by base (length text) true is))
-            (omega (arith, most-GroupsMean is (groups base text) bytes means, most))
+            rw is (omega (arith, most-GroupsMean is (groups base text) bytes means, most))
         by false is =
             let count = PlainMeans-count base width meant bytes (plain is) in
             let bits : base.width * length meant ≤ base.width * length text =
             mul-le-mul_left base.width
             (omega (arith, length-kept base text, length-meanings base (kept base text))) in
-            subst (λ n. length bytes ≤ n) (sym (most_bytes-by base (length text) false is))
-            (omega (arith, count, bits))
+            rw is (omega (arith, count, bits))
 
       -- the length of a text that means something has no fault, and allows as many bytes
       pub decoded_len-Means : IsOkAnd (decoded_len base (length text)) (λ most. length bytes ≤ most)
