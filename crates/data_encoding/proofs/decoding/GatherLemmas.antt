@@ -61,16 +61,12 @@ module _ (base : Base) (part : List ℕ) (index : ℕ) (inside : index < length 
 
   next-kept : is_ignored (meaning base here) ≡ false
       → kept base (take (index + 1) part) ≡ kept base (take index part) ++ found ∷ []
-  next-kept h =
-      next-is
-      ∙ ap (λ b. kept base (take index part) ++ cond (not b) (found ∷ []) []) h
+  next-kept h = next-is ∙ rw h
 
   pub next-ignored : is_ignored (meaning base here) ≡ true
       → kept base (take (index + 1) part) ≡ kept base (take index part)
   next-ignored h =
-      next-is
-      ∙ ap (λ b. kept base (take index part) ++ cond (not b) (found ∷ []) []) h
-      ∙ append-nil (kept base (take index part))
+      next-is ∙ rw h (append-nil (kept base (take index part)))
 
   module _ (count span : ℕ) (room : List ℕ)
       (so_far : HasGathered base part index count span room) where

@@ -1,5 +1,5 @@
 -- What a judgement of a group finds: its symbols, or its fault, or its bytes.
-use Rattle.std.proofs.Common.{◌≡◌, ℕ, zero, suc, ◌-◌, ◌*◌, ◌/◌, ◌%◌, ◌<◌, ◌≤◌, ◌==◌, ◌≢◌, nat_lt, Bool, true, false, not, cond, ◌&&◌, ◌||◌, List, [], ◌∷◌, ◌++◌, length, map, take, drop, replicate, slice_index, None, refl, sym, ap, ◌∙◌, subst, arith, length-take-le, take-append-drop}
+use Rattle.std.proofs.Common.{◌≡◌, ℕ, zero, suc, ◌-◌, ◌*◌, ◌/◌, ◌%◌, ◌<◌, ◌≤◌, ◌==◌, ◌≢◌, nat_lt, Bool, true, false, not, cond, ◌&&◌, ◌||◌, List, [], ◌∷◌, ◌++◌, length, map, take, drop, replicate, slice_index, None, refl, sym, ap, ◌∙◌, arith, length-take-le, take-append-drop}
 use Rattle.std.proofs.lemmas.Bool.Decides.{nat_tests}
 use Rattle.std.proofs.Math.Nat.{le-div_iff_mul-le, div-eq_of_lt, zero-mul}
 use Rattle.std.proofs.lemmas.List.{take_all, drop_all, length-drop, length-map, take-map, take_at}
@@ -231,15 +231,10 @@ module _ (base : Base) (values : List ℕ) (holds : HoldsValues base values) (gr
     rest_pads = by (is_padded base) refl where
       by : (b : Bool) → is_padded base ≡ b → AllSo is_padding (drop count all)
       by true is =
-          subst (λ n. AllSo is_padding (drop n all))
-          (sym (has.count_is
-          ∙ ap (λ b. cond b (count_before_padding all) (length group)) is))
-          (end-passes is_padding all)
+          rw (has.count_is, is) (end-passes is_padding all)
       by false is =
-          let whole : count ≡ length group =
-          has.count_is ∙ ap (λ b. cond b (count_before_padding all) (length group)) is in
-          subst (AllSo is_padding)
-          (sym (drop_all count all (omega (arith, whole, length-map group (meaning base))))) tt
+          let whole : count ≡ length group = has.count_is ∙ rw is in
+          rw (drop_all count all (omega (arith, whole, length-map group (meaning base)))) tt
 
     behind : all ≡ judged ++ replicate (length (drop count all)) PaddingCharacter
     behind =
@@ -268,8 +263,7 @@ module _ (base : Base) (values : List ℕ) (holds : HoldsValues base values) (gr
         → IsDecodedGroup base group count (new ++ rest)
     group-sound quiet new rest len bytes = record {
       within = has.within;
-      sound = fault-symbols
-          ∙ ap (λ b. cond b (faulty_at TrailingFault (length judged - 1)) None) quiet;
+      sound = fault-symbols ∙ rw quiet;
       final = has_padding;
       bytes = take_at new rest (base.width * count / 8) len ∙ bytes
           ∙ sym (ap (symbol_bytes base) behind

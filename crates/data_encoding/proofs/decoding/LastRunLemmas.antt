@@ -1,5 +1,5 @@
 -- Where a decoding stops at a last group that is too short.
-use Rattle.std.proofs.Common.{◌≡◌, ℕ, ◌+◌, ◌-◌, ◌<◌, ◌≤◌, Bool, true, false, not, cond, ◌&&◌, nat_lt, List, [], ◌∷◌, ◌++◌, length, take, drop, Option, Some, None, is_some, refl, sym, ap, ◌∙◌, subst, arith, length-append, length-take-le, ⊎_elim, map}
+use Rattle.std.proofs.Common.{◌≡◌, ℕ, ◌+◌, ◌-◌, ◌<◌, ◌≤◌, Bool, true, false, not, cond, nat_lt, List, [], ◌∷◌, ◌++◌, length, take, drop, Option, Some, None, is_some, refl, sym, ap, ◌∙◌, subst, arith, length-append, length-take-le, ⊎_elim, map}
 use Rattle.std.proofs.lemmas.Bool.{cases_lt, false≢true}
 use Rattle.std.proofs.lemmas.List.{append-nil, length-drop, take-take, take_all, take_at, length-map}
 use Rattle.std.proofs.lemmas.List.Concat.{flat_map-append}
@@ -194,9 +194,7 @@ module _ {base : Base} {text : List ℕ} {read written : ℕ} {output : List ℕ
   read_by : (sound : Bool) → is_sound_run base (drop read text) ≡ sound
       → read_len base text error ≡ cond sound error.position read
   read_by sound is =
-      let read_is = sound_len_is at in
-      (λ i. cond (kind i && is_sound_run base (drop (read_is i) text)) error.position (read_is i))
-      ∙ ap (λ b. cond b error.position read) is
+      rw (kind, sound_len_is at, is)
 
   -- no group but those that were read before
   front_sound : (end : ℕ) → groups base (take end text) ≡ groups base (take read text)

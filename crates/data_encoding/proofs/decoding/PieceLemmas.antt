@@ -42,6 +42,13 @@ module _ (base : Base) where
         by None others h = let rest = others h in (rest.0, ap (λ l. g ∷ l) rest.1)
         by (Some fault) others h = (h, refl)
 
+  -- the bytes of a group alone, unless it has a fault
+  bytes_unless : (b : Bool) (group : List Positioned)
+      → flat_map (bytes_of_group base) (cond b [] (group ∷ []))
+      ≡ cond b [] (bytes_of_group base group)
+  bytes_unless true group = refl
+  bytes_unless false group = append-nil (bytes_of_group base group)
+
   -- where none has a fault, none but the last can be final
   pub any_final : (begun ended : Bool) (gs : List (List Positioned)) → AreSound base begun gs ended
       → (begun || list_any (is_final base) gs) ≡ ended
@@ -223,12 +230,7 @@ module _ (base : Base) (width : IsWidth base.width) where
               ap (λ l. flat_map (bytes_of_group base) (sound_after false base l)) groups_are
               ∙ bytes-AreSound base false ended gs (group ∷ []) sound
               ∙ (λ i. flat_map (bytes_of_group base) (sym before i)
-              ++ last (is_some (fault_after ended base group)) i) where
-                last : (b : Bool)
-                    → flat_map (bytes_of_group base) (cond b [] (group ∷ []))
-                    ≡ cond b [] (bytes_of_group base group)
-                last true = refl
-                last false = append-nil (bytes_of_group base group)
+              ++ bytes_unless base (is_some (fault_after ended base group)) group i)
 
   -- At the end, what is held is a last group.
 
@@ -248,12 +250,7 @@ module _ (base : Base) (width : IsWidth base.width) where
   bytes_at_end ended (k ∷ ks) short =
       ap (λ gs. flat_map (bytes_of_group base) (sound_after ended base gs))
       (runs-short size (k ∷ ks) (omega arith) (omega (arith, short)))
-      ∙ last (is_some (fault_after ended base (k ∷ ks))) where
-        last : (b : Bool)
-            → flat_map (bytes_of_group base) (cond b [] ((k ∷ ks) ∷ []))
-            ≡ cond b [] (bytes_of_group base (k ∷ ks))
-        last true = refl
-        last false = append-nil (bytes_of_group base (k ∷ ks))
+      ∙ bytes_unless base (is_some (fault_after ended base (k ∷ ks))) (k ∷ ks)
 
   module _ (text : List ℕ) (len : ℕ) (held : List Positioned) (ended : Bool) where
     abbrev wholes : List (List Positioned)

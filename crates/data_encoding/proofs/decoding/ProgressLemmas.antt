@@ -19,7 +19,6 @@ use Rattle.data_encoding.proofs.lists.RunLemmas.{runs-nil, runs-join, runs-short
 use Rattle.data_encoding.proofs.lists.EndLemmas.{AllSo}
 use Rattle.data_encoding.proofs.grammar.PositionLemmas.{length-kept, length-positioned_from, length-meanings}
 use Rattle.data_encoding.proofs.grammar.KeptLemmas.{between, kept_in-append, kept-split, kept-more, kept_from-more, position_after-append, position_after-positioned}
-use Rattle.data_encoding.proofs.grammar.LengthLemmas.{most_bytes-by}
 use Rattle.data_encoding.proofs.grammar.GroupLemmas.{GroupMeans-sound}
 use Rattle.data_encoding.proofs.grammar.MeaningLemmas.{Means-no_fault}
 use Rattle.data_encoding.proofs.grammar.SoundLemmas.{AreSound-append, fault_after-none, first-none, sound-all}
@@ -279,20 +278,16 @@ module _ (base : Base) (width : IsWidth base.width) (text : List ℕ) where
     room-run count h = by (is_padded base) refl where
       by : (b : Bool) → is_padded base ≡ b → written + count * enc ≤ most_bytes base (length text)
       by false is =
-          subst (λ most. written + count * enc ≤ most)
-          (sym (most_bytes-by base (length text) false is))
-          (room-plain base.width enc dec (length text) read written (group_bits base.width width)
-          so_far.within few_bits count h)
+          rw is (room-plain base.width enc dec (length text) read written
+          (group_bits base.width width) so_far.within few_bits count h)
       by true is =
           let many = length (kept base (take read text)) in
           let whole : many % dec ≡ 0 =
           ⊎_elim {C = many % dec ≡ 0} (λ exact. exact)
           (λ all. absurd (false≢true (sym all.1 ∙ is))) so_far.whole in
           let exact : many / dec * dec ≡ many = omega (arith, div-add-mod' many dec, whole) in
-          subst (λ most. written + count * enc ≤ most)
-          (sym (most_bytes-by base (length text) true is))
-          (room-whole base.width enc dec (length text) read written (group_bits base.width width)
-          so_far.within pos (many / dec) count
+          rw is (room-whole base.width enc dec (length text) read written
+          (group_bits base.width width) so_far.within pos (many / dec) count
           (subst (λ n. 8 * written ≤ base.width * n) (sym exact) few_written)
           (omega (arith, exact, few_kept)) h)
 
@@ -302,8 +297,7 @@ module _ (base : Base) (width : IsWidth base.width) (text : List ℕ) where
     room-group count is h =
         let bits = room-bits base.width enc dec (length text) read written
         (group_bits base.width width) so_far.within few_bits count h in
-        subst (λ most. written + base.width * count / 8 ≤ most)
-        (sym (most_bytes-by base (length text) false is)) (omega (arith, bits))
+        rw is (omega (arith, bits))
 
     -- the bytes of what was read
     pub sound_bytes-front : sound_bytes base (take read text) ≡ take written output

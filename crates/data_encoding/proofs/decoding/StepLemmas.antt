@@ -123,11 +123,7 @@ module _ {base : Base} {text : List ℕ} {w bytes symbols read written : ℕ} {o
           room-run base s.width text s.so_far count whole,
           length-drop written output,
         ) in
-        let same : length (take (length text - start) (drop start text)) / symbols * bytes
-        ≡ count * enc =
-        λ i. length (take_rest text start i) / s.symbols_is i * s.bytes_is i in
-        subst (λ n. n ≤ length (take (length output - written) (drop written output))) (sym same)
-        (subst (λ l. count * enc ≤ length l) (sym (take_rest output written)) fits)
+        rw (take_rest text start, take_rest output written, s.symbols_is, s.bytes_is) fits
 
     -- what a run does
     module _ {count : ℕ} {rest old : List ℕ}
@@ -155,18 +151,14 @@ module _ {base : Base} {text : List ℕ} {w bytes symbols read written : ℕ} {o
           → HasDecodedTo base text (read + skip + count * symbols) (written + count * bytes) false
           (rewritten written output rest)
       run_done some =
-          let dec = group_symbols base.width in
           let enc = group_bytes base.width in
           let new = rewritten written output rest in
           let fits = length-rewritten written output rest s.so_far.fits in
-          subst (λ n. HasDecodedTo base text n (written + count * bytes) false new)
-          (ap (λ d. read + skip + count * d) (sym s.symbols_is))
-          (subst (λ n. HasDecodedTo base text (read + skip + count * dec) n false new)
-          (ap (λ e. written + count * e) (sym s.bytes_is))
+          rw (s.symbols_is, s.bytes_is)
           (after-run base s.width text count new s.so_far front some inside here.are_symbols
           (omega (arith, room, fits))
           (take-rewritten written output rest s.so_far.fits (count * enc)
-          ∙ ap (λ l. take written output ++ l) here.bytes)))
+          ∙ ap (λ l. take written output ++ l) here.bytes))
 
       pub after_run : 0 < count
           → IsUnderWay base text w bytes symbols (read + skip + count * symbols)
@@ -360,10 +352,8 @@ module _ {base : Base} {text : List ℕ} {w bytes symbols read written : ℕ} {o
             ⊎_elim {C = StopsAt base text new
             (record { read = error.position; written = written + more; error = error })}
             (λ empty.
-            let none : written ≡ written + more = omega (arith, empty.1) in
-            subst (λ n. StopsAt base text new
-            (record { read = error.position; written = n; error = error })) none
-            (last-none (stands output s.so_far error faulty) kind (sym len ∙ empty.0) new
+            let none : written + more ≡ written = omega (arith, empty.1) in
+            rw none (last-none (stands output s.so_far error faulty) kind (sym len ∙ empty.0) new
             (omega (arith, fits)) same))
             (λ run.
             let count = base.width * run.2 / 8 in
@@ -397,19 +387,14 @@ module _ {base : Base} {text : List ℕ} {w bytes symbols read written : ℕ} {o
             let faulty = fault_here fault has in
             ⊎_elim {C = StopsAt base text new partial}
             (λ how.
-            let stops : StopsAt base text new
-            (record { read = read; written = written; error = error }) =
-            stops-here fault new fits front_same error faulty refl how.2 in
             subst (StopsAt base text new)
-            (same-partial partial read written error how.0 how.1 stop.error_is) stops)
+            (same-partial partial read written error how.0 how.1 stop.error_is)
+            (stops-here fault new fits front_same error faulty refl how.2))
             (λ how.
-            let stops : StopsAt base text new
-            (record { read = error.position; written = written + how.2; error = error }) =
-            stops-after new front_same error faulty how.0 how.2 how.4 how.5 in
             subst (StopsAt base text new)
             (same-partial partial error.position (written + how.2) error
-            (how.1 ∙ ap (λ (e : DecodeError). e.position) stop.error_is) how.3
-            stop.error_is) stops)
+            (how.1 ∙ ap (λ (e : DecodeError). e.position) stop.error_is) how.3 stop.error_is)
+            (stops-after new front_same error faulty how.0 how.2 how.4 how.5))
             stop.how
 
         pub group-stopped : {fault : GroupFault} → HasFault base group fault → (rest : List ℕ)
@@ -458,10 +443,7 @@ module _ {base : Base} {text : List ℕ} {w bytes symbols read written : ℕ} {o
               let same = bytes-next base s.width text read s.so_far.within found_here in
               let final = ap (λ b. not base.concatenates && b)
               (ap (λ l. list_any is_padding (map (meaning base) l)) same ∙ has.final) in
-              subst
-              (λ b. HasDecodedTo base text (read + span) (written + w * count / 8) b new)
-              final
-              (after-group base s.width text (w * count / 8) new s.so_far next
+              rw (← final) (after-group base s.width text (w * count / 8) new s.so_far next
               (ap (λ l. located placed (group_fault base l)) same ∙ ap (located placed) has.sound)
               (omega (arith, few, fits))
               (take-rewritten written output rest s.so_far.fits (w * count / 8)
@@ -475,10 +457,7 @@ module _ {base : Base} {text : List ℕ} {w bytes symbols read written : ℕ} {o
               (rewritten written output rest)
           after_group stop {final} place same =
               further s (length-rewritten_same written output rest s.so_far.fits rest_len)
-              (subst (λ n. HasDecodedTo base text n (written + w * count / 8) final
-              (rewritten written output rest)) place
-              (subst (λ b. HasDecodedTo base text (read + span) (written + w * count / 8) b
-              (rewritten written output rest)) same group_done))
+              (rw (← place, ← same) group_done)
 
           -- it goes on where texts may follow, or where the group has no padding
           pub group-more : (stop : ℕ) {own : Base} → read + span ≡ stop → own ≡ base

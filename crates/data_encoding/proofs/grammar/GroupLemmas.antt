@@ -13,7 +13,7 @@ use Rattle.data_encoding.specs.declared.decode.group.GroupFault.{GroupFault}
 use Rattle.data_encoding.specs.declared.encoding.Character.{Character}
 use Rattle.data_encoding.specs.declared.encoding.Character.TheVariants.{Symbol, Padding, Ignored, Invalid}
 use Rattle.data_encoding.specs.declared.error.DecodeError.{DecodeError}
-use Rattle.data_encoding.specs.declared.error.DecodeKind.TheVariants.{Length as LengthFault, Trailing as TrailingFault, Padding as PaddingFault}
+use Rattle.data_encoding.specs.declared.error.DecodeKind.TheVariants.{Trailing as TrailingFault}
 use Rattle.data_encoding.specs.Base.{Base, is_symbol, is_padding, is_padded, value_of, group_symbols, IsWidth}
 use Rattle.data_encoding.specs.Bits.{bits_of, number_of, runs}
 use Rattle.data_encoding.specs.Grammar.{Positioned, PlainMeans, GroupMeans, bytes_in, meanings_in}
@@ -309,8 +309,5 @@ module _ (base : Base) (width : IsWidth base.width) (group : List Character) whe
           ap (take count) means.is_group
           ∙ take_at means.symbols (replicate means.padding Padding) count refl in
           ap (padded_fault_at base group) count_is
-          ∙ (λ i. cond (whole i) (faulty_at LengthFault 0)
-          (cond (begun i || not (valid i)) (faulty_at PaddingFault count)
-          (symbols_fault base (front i))))
-          ∙ sym (plain_fault-valid base means.symbols valid)
-          ∙ PlainMeans-no_fault base width means.symbols bytes means.means
+          ∙ rw (whole, begun, valid, front) (sym (plain_fault-valid base means.symbols valid)
+          ∙ PlainMeans-no_fault base width means.symbols bytes means.means)

@@ -1,19 +1,18 @@
 -- Whole groups of symbols alone.
-use Rattle.std.proofs.Common.{◌≡◌, ℕ, zero, suc, ◌+◌, ◌-◌, ◌*◌, ◌/◌, ◌==◌, true, false, not, cond, ◌&&◌, List, [], ◌∷◌, length, map, take, drop, None, refl, sym, ap, ◌∙◌, subst, arith, take-append-drop, length-take-le}
+use Rattle.std.proofs.Common.{◌≡◌, ℕ, zero, suc, ◌+◌, ◌*◌, ◌/◌, true, false, not, List, [], ◌∷◌, length, map, take, drop, None, refl, sym, ap, ◌∙◌, subst, arith, take-append-drop, length-take-le}
 use Rattle.std.proofs.Math.Nat.{zero-mul, suc-mul}
 use Rattle.std.proofs.lemmas.List.{length-map, length-drop, drop_all, nil_from_length}
 use Rattle.std.proofs.lemmas.List.Folds.{flat_map-map}
 use Rattle.std.specs.Prelude.{flat_map}
-use Rattle.std.specs.List.{filter_map, list_any, position}
+use Rattle.std.specs.List.{filter_map, position}
 use Rattle.std.proofs.Math.Bool.{and-false}
 use Rattle.data_encoding.specs.declared.encoding.Character.{Character}
 use Rattle.data_encoding.specs.declared.encoding.Character.TheVariants.{Symbol, Padding, Ignored, Invalid}
-use Rattle.data_encoding.specs.declared.error.DecodeKind.TheVariants.{Trailing as TrailingFault}
 use Rattle.data_encoding.specs.Base.{Base, meaning, is_symbol, is_ignored, group_symbols, group_bytes, value_of, IsWidth}
 use Rattle.data_encoding.specs.Bits.{runs}
 use Rattle.data_encoding.specs.Grammar.{Positioned, bytes_in, is_final, kept_in, meanings_in, positioned_from}
 use Rattle.data_encoding.specs.Lengths.{is_valid_count}
-use Rattle.data_encoding.specs.Fault.{bytes_of_group, fault_at_first, faulty_at, group_fault, located, plain_fault, symbol_bits, symbol_bytes, trailing_bits, trailing_fault}
+use Rattle.data_encoding.specs.Fault.{bytes_of_group, fault_at_first, group_fault, located, plain_fault, symbol_bits, symbol_bytes, trailing_bits, trailing_fault}
 use Rattle.data_encoding.specs.Decoding.{AreSound, run_bytes}
 use Rattle.data_encoding.proofs.digits.WidthLemmas.{group_bits, group_symbols-pos}
 use Rattle.data_encoding.proofs.lists.EachLemmas.{all_parts, all_weaker}
@@ -58,10 +57,7 @@ module _ (base : Base) (width : IsWidth base.width) (group : List Positioned)
       let rest : trailing_bits base meant ≡ [] =
       drop_all (length (symbol_bits base meant) / 8 * 8) (symbol_bits base meant)
       (omega (arith, bits)) in
-      ap (λ l. cond (base.checks_trailing_bits && list_any (λ bit. not (bit == 0)) l)
-      (faulty_at TrailingFault (length meant - 1)) None) rest
-      ∙ ap (λ b. cond b (faulty_at TrailingFault (length meant - 1)) None)
-      (and-false base.checks_trailing_bits)
+      rw (rest, and-false base.checks_trailing_bits)
 
   plain : plain_fault base meant ≡ None
   plain =
