@@ -112,8 +112,7 @@ module _ (base : Base) where
                 let last = h.4 (final_is g ∙ some) in
                 let nothing = subst (λ l. GroupsMean base l h.1) last h.5 in
                 let all : length bytes ≡ length h.0 = omega (arith, len, ap length nothing) in
-                let part = subst (λ n. 0 < n % size) (sym all)
-                (group_part (meanings_in base g) h.0 h.3 some) in
+                let part = rw (← all) at (group_part (meanings_in base g) h.0 h.3 some) in
                 ap (λ b. b || list_any (is_final base) gs) (final_is g ∙ some)
                 ∙ sym (some_is (length bytes % size) part)
 

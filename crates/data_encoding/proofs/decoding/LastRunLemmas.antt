@@ -1,5 +1,5 @@
 -- Where a decoding stops at a last group that is too short.
-use Rattle.std.proofs.Common.{◌≡◌, ℕ, ◌+◌, ◌-◌, ◌<◌, ◌≤◌, Bool, true, false, not, cond, nat_lt, List, [], ◌∷◌, ◌++◌, length, take, drop, Option, Some, None, is_some, refl, sym, ap, ◌∙◌, subst, arith, length-append, length-take-le, ⊎_elim, map}
+use Rattle.std.proofs.Common.{◌≡◌, ℕ, ◌+◌, ◌-◌, ◌<◌, ◌≤◌, Bool, true, false, not, cond, List, [], ◌∷◌, ◌++◌, length, take, drop, Option, Some, None, is_some, refl, sym, ap, ◌∙◌, subst, arith, length-append, length-take-le, ⊎_elim, map}
 use Rattle.std.proofs.lemmas.Bool.{cases_lt, false≢true}
 use Rattle.std.proofs.lemmas.List.{append-nil, length-drop, take-take, take_all, take_at, length-map}
 use Rattle.std.proofs.lemmas.List.Concat.{flat_map-append}
@@ -12,7 +12,7 @@ use Rattle.data_encoding.specs.declared.error.DecodeKind.TheVariants.{Length as 
 use Rattle.data_encoding.specs.Base.{Base, meaning, is_ignored, is_padded, group_symbols, IsWidth}
 use Rattle.data_encoding.specs.Bits.{runs}
 use Rattle.data_encoding.specs.Grammar.{Positioned, positioned_from, kept, groups, is_final, kept_in, kept_from, bytes_in, meanings_in}
-use Rattle.data_encoding.specs.Lengths.{is_valid_count, greatest_valid_length, length_fault, is_valid_length}
+use Rattle.data_encoding.specs.Lengths.{greatest_valid_length, length_fault, is_valid_length}
 use Rattle.data_encoding.specs.Fault.{bytes_of_group, fault_after, fault_at, fault_of, first_after, group_fault, located, or_else, position_of, sound_after, sound_bytes, symbol_bytes}
 use Rattle.data_encoding.specs.Partial.{StopsAt, read_len, is_length_fault, is_sound_run}
 use Rattle.data_encoding.specs.Decoding.{AreSound}
@@ -62,8 +62,7 @@ module _ (base : Base) (width : IsWidth base.width) (group : List Positioned)
         → is_valid_length base (length group) ≡ false
     by false is = is
     by true is =
-        let whole = subst (λ n. cond (is_padded base) (nat_lt n (group_symbols base.width) ≡ false)
-        (is_valid_count base.width n ≡ true)) (sym (length-meanings base group))
+        let whole = rw (← length-meanings base group) at
         (valid-whole base (length group) some is) in
         absurd (false≢true (sym (kind-located group (group_fault base (bytes_in group)) error
         (other-group base (meanings_in base group) (is_padded base) refl whole) fault) ∙ kind))

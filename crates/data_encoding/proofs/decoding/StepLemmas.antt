@@ -96,8 +96,7 @@ module _ {base : Base} {text : List ℕ} {w bytes symbols read written : ℕ} {e
       → IsGathered base symbols (take (length text - read) (drop read text)) group span
       → IsGathered base (group_symbols base.width) (drop read text) group span
   gathered_here {group} {span} is =
-      subst (λ n. IsGathered base n (drop read text) group span) s.symbols_is
-      (subst (λ l. IsGathered base symbols l group span) (take_rest text read) is)
+      rw (s.symbols_is, take_rest text read) at is
 
 module _ {base : Base} {text : List ℕ} {w bytes symbols read written : ℕ} {output : List ℕ}
     (s : IsUnderWay base text w bytes symbols read written false output) where
@@ -180,8 +179,7 @@ module _ {base : Base} {text : List ℕ} {w bytes symbols read written : ℕ} {o
         (take (length text - (read + skip)) (drop (read + skip) text)) group span) where
       found_behind : IsGathered base symbols (drop skip (drop read text)) group span
       found_behind =
-          subst (λ l. IsGathered base symbols l group span)
-          (take_rest text start ∙ sym (drop-drop skip read text)) is
+          rw (take_rest text start, ← drop-drop skip read text) at is
 
       pub gathered-next : 0 < length group
           → IsGathered base symbols (take (length text - read) (drop read text)) group (skip + span)
@@ -194,8 +192,7 @@ module _ {base : Base} {text : List ℕ} {w bytes symbols read written : ℕ} {o
           → IsDecoded base text written output
       decoded-none empty_is empty =
           let found : IsGathered base (group_symbols base.width) (drop start text) group span =
-          subst (λ n. IsGathered base n (drop start text) group span) s.symbols_is
-          (subst (λ l. IsGathered base symbols l group span) (take_rest text start) is) in
+          rw (s.symbols_is, take_rest text start) at is in
           decoded s (nothing-behind base text read skip s.so_far.within front
           (none-next base s.width text start start-within found
           (eqb-true (length group) 0 (sym empty_is ∙ empty))))

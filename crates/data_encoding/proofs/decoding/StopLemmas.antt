@@ -270,9 +270,7 @@ module _ {base : Base} {text : List ℕ} {read written : ℕ} {output : List ℕ
       by false h =
           kind-located at.group (group_fault base (bytes_in at.group)) error
           (other-group base (meanings_in base at.group) (is_padded base) refl
-          (subst (λ n. cond (is_padded base) (nat_lt n size ≡ false)
-          (is_valid_count base.width n ≡ true))
-          (sym (length-meanings base at.group))
+          (rw (← length-meanings base at.group) at
           (valid-whole base (length at.group) at.next.is_part.some valid))) h
 
 -- what has a fault means nothing

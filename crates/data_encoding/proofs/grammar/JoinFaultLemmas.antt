@@ -45,7 +45,7 @@ position_of-moved count (k ∷ ks) zero h = refl
 position_of-moved count (k ∷ ks) (suc index) h =
     position_of-moved count ks index (omega (arith, h))
 
-pub further-or_else : (count : ℕ) (o p : Option DecodeError)
+further-or_else : (count : ℕ) (o p : Option DecodeError)
     → or_else (further count o) (further count p) ≡ further count (or_else o p)
 further-or_else count None p = refl
 further-or_else count (Some error) p = refl

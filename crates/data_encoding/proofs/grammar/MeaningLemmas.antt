@@ -7,7 +7,7 @@ use Rattle.data_encoding.specs.declared.encoding.Character.{Character}
 use Rattle.data_encoding.specs.declared.error.DecodeError.{DecodeError}
 use Rattle.data_encoding.specs.Base.{Base, is_padded, group_symbols, group_bytes, IsWidth}
 use Rattle.data_encoding.specs.Grammar.{Positioned, kept, groups, GroupMeans, GroupsMean, Means, PlainMeans, is_final, meanings_in}
-use Rattle.data_encoding.specs.Lengths.{decoded_len, is_valid_count, is_valid_length, length_fault, most_bytes, unless_fault}
+use Rattle.data_encoding.specs.Lengths.{decoded_len, is_valid_count, is_valid_length, length_fault, most_bytes}
 use Rattle.data_encoding.specs.Fault.{bytes_of_group, fault_after, fault_of, first_fault, or_else, sound_bytes, located}
 use Rattle.data_encoding.specs.Decoding.{AreSound}
 use Rattle.data_encoding.proofs.digits.WidthLemmas.{group_bits, group_symbols-pos}
@@ -114,8 +114,7 @@ module _ (base : Base) (width : IsWidth base.width) where
         let gs = groups base text in
         let none = neither_fault (length_fault base (length text)) (first_fault base gs) h in
         let sound = AreSound-none base false gs none.1 in
-        subst (λ l. GroupsMean base (map (meanings_in base) gs) (flat_map (bytes_of_group base) l))
-        (sym (sound-all base false (ends_after base false gs) gs sound))
+        rw (sound-all base false (ends_after base false gs) gs sound)
         (GroupsMean-sound false (ends_after base false gs) gs
         (few_runs (group_symbols base.width) (kept base text)
         (group_symbols-pos base.width width)) sound)
@@ -195,5 +194,4 @@ module _ (base : Base) (width : IsWidth base.width) where
       -- the length of a text that means something has no fault, and allows as many bytes
       pub decoded_len-Means : IsOkAnd (decoded_len base (length text)) (λ most. length bytes ≤ most)
       decoded_len-Means =
-          subst (λ o. IsOkAnd (unless_fault o (most_bytes base (length text)))
-          (λ most. length bytes ≤ most)) (sym no_length_fault-Means) length-Means
+          rw no_length_fault-Means length-Means
