@@ -11,7 +11,8 @@ use Rattle.data_encoding.specs.declared.encoding.Character.TheVariants.{Invalid}
 use Rattle.data_encoding.specs.Base.{Base}
 use Rattle.data_encoding.specs.Compared.{OrderOfData}
 use Rattle.data_encoding.specs.Fields.{base_of}
-use Rattle.data_encoding.specs.Grammar.{Means, MeansBy}
+use Rattle.data_encoding.specs.Grammar.{Means}
+use Rattle.data_encoding.specs.Laws.{Unpadded}
 use Rattle.data_encoding.specs.Layout.{own_character}
 use Rattle.data_encoding.specs.Order.{IsBefore, IsOrdered}
 use Rattle.data_encoding.specs.Predefined.{base32_dnssec_fields}
@@ -60,13 +61,14 @@ module _ (base : Base) (is : base_of base32_dnssec_fields ≡ Ok base) where
       (cases_lt byte 128)
 
   -- their texts are sorted as the data
-  pub sorts_alike : (own : OwnText) (order : OrderOfData) → IsOrdered base → (result : Bool)
+  pub sorts_alike : (own : OwnText) (order : OrderOfData) (unpadded : Unpadded) → IsOrdered base
+      → (result : Bool)
       (one other first second bytes others : List ℕ)
       → first ≡ own_form base one → second ≡ own_form base other
       → IsTrue result ↔ IsBefore first second → Means base one bytes → Means base other others
       → IsTrue result ↔ IsBefore bytes others
-  sorts_alike own order ordered result one other first second bytes others form also less means
-      more =
+  sorts_alike own order unpadded ordered result one other first second bytes others form also less
+      means more =
       let specified = specified_by base32_dnssec_fields base is in
       let one_form = known has_one_own_form false base32_dnssec_fields base is in
       let none = known (λ b. b.padding) None base32_dnssec_fields base is in
@@ -74,8 +76,8 @@ module _ (base : Base) (is : base_of base32_dnssec_fields ≡ Ok base) where
       let text = form ∙ own base specified one_form one bytes means in
       let text_also = also ∙ own base specified one_form other others more in
       let alike = order base specified plain ordered bytes others
-      (subst (λ o. MeansBy o base one bytes) none means).are_bytes
-      (subst (λ o. MeansBy o base other others) none more).are_bytes in (
+      ((unpadded base specified none one bytes).0 means).are_bytes
+      ((unpadded base specified none other others).0 more).are_bytes in (
         (λ h.
             alike.order.1 (subst (λ l. IsBefore l (text_of base others)) text
             (subst (λ l. IsBefore first l) text_also (less.0 h)))),

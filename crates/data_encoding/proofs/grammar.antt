@@ -8,8 +8,6 @@ pub mod GroupLemmas
 pub mod SoundLemmas
 pub mod WholeGroupLemmas
 pub mod UnpaddedGrammarLemmas
-pub mod UnpaddedMeaningLemmas
-pub mod PaddedMeaningLemmas
 pub mod MeaningLemmas
 pub mod JoinLemmas
 pub mod JoinFaultLemmas

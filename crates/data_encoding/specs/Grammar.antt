@@ -1,9 +1,9 @@
 -- Which texts mean which data (RFC 4648, sections 3.2 to 3.5).
-use Rattle.std.specs.Prelude.{◌≡◌, ℕ, ◌<◌, Bool, true, ◌&&◌, List, [], ◌∷◌, ◌++◌, map, length, drop, flat_map, filter, replicate, All, Option, Some, None, not}
+use Rattle.std.specs.Prelude.{◌≡◌, ℕ, ◌<◌, Bool, true, false, ◌&&◌, List, [], ◌∷◌, ◌++◌, map, length, drop, flat_map, filter, replicate, All, not}
 use Rattle.std.specs.List.{enumerate_from, list_any}
 use Rattle.data_encoding.specs.declared.encoding.Character.{Character}
 use Rattle.data_encoding.specs.declared.encoding.Character.TheVariants.{Symbol, Padding}
-use Rattle.data_encoding.specs.Base.{Base, meaning, is_padding, is_ignored, group_symbols}
+use Rattle.data_encoding.specs.Base.{Base, meaning, is_padded, is_padding, is_ignored, group_symbols}
 use Rattle.data_encoding.specs.Bits.{bits_of_bytes, bits_of, runs}
 
 -- a byte of a text, with its position there
@@ -55,12 +55,14 @@ pub record PlainMeans (base : Base) (characters : List Character) (bytes : List 
   pub rest_is_zero : base.checks_trailing_bits ≡ true → rest ≡ replicate (length rest) 0
   pub are_bytes : All (λ byte. byte < 256) bytes
 
--- A whole group of one or more symbols, and then padding alone, means what its symbols mean.
+-- A group of one or more symbols, and then padding alone, means what its symbols mean. It is whole;
+-- where there is no padding it may be shorter, and holds symbols alone.
 pub record GroupMeans (base : Base) (group : List Character) (bytes : List ℕ) : Type 0 where
   pub symbols : List Character
   pub padding : ℕ
   pub is_group : group ≡ symbols ++ replicate padding Padding
-  pub is_whole : length group ≡ group_symbols base.width
+  pub is_whole : is_padded base ≡ true → length group ≡ group_symbols base.width
+  pub is_plain : is_padded base ≡ false → padding ≡ 0
   pub is_begun : 0 < length symbols
   pub means : PlainMeans base symbols bytes
 
@@ -79,11 +81,6 @@ GroupsMean base (group ∷ others) bytes =
     × GroupMeans base group piece × (ends_text base group ≡ true → others ≡ [])
     × GroupsMean base others more
 
-abbrev pub MeansBy : Option ℕ → Base → List ℕ → List ℕ → Type 0
-MeansBy None base text bytes = PlainMeans base (meanings_in base (kept base text)) bytes
-MeansBy (Some character) base text bytes =
-    GroupsMean base (map (meanings_in base) (groups base text)) bytes
-
--- The text means the data.
+-- The text means the data: its groups do, of which the last alone may be short.
 abbrev pub Means : Base → List ℕ → List ℕ → Type 0
-Means base text bytes = MeansBy base.padding base text bytes
+Means base text bytes = GroupsMean base (map (meanings_in base) (groups base text)) bytes

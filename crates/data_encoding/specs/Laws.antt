@@ -1,11 +1,11 @@
 -- The laws of the definitions.
-use Rattle.std.specs.Prelude.{◌≡◌, ℕ, ◌+◌, ◌<◌, ◌%◌, ◌⊎◌, true, false, List, ◌++◌, length, take, drop, All, Option, Some, None, Ok}
+use Rattle.std.specs.Prelude.{◌≡◌, ◌↔◌, ℕ, ◌+◌, ◌<◌, ◌%◌, ◌⊎◌, true, false, List, ◌++◌, length, take, drop, All, Option, Some, None, Ok}
 use Rattle.data_encoding.specs.declared.error.DecodeError.{DecodeError}
 use Rattle.data_encoding.specs.declared.error.DecodePartial.{DecodePartial}
 use Rattle.data_encoding.specs.Base.{Base, meaning, is_padded, is_padding}
 use Rattle.data_encoding.specs.Fault.{fault_of, sound_bytes}
 use Rattle.data_encoding.specs.Fields.{base_of, IsSpecified}
-use Rattle.data_encoding.specs.Grammar.{Means}
+use Rattle.data_encoding.specs.Grammar.{Means, PlainMeans, kept, meanings_in}
 use Rattle.data_encoding.specs.Layout.{fields_of}
 use Rattle.data_encoding.specs.Lengths.{alignment, length_fault}
 use Rattle.data_encoding.specs.Order.{KeepsOrder, IsOrdered, IsBroken}
@@ -33,6 +33,13 @@ abbrev pub SoundMeans : Type 0
 SoundMeans =
     (base : Base) → IsSpecified base → (text : List ℕ) → fault_of base text ≡ None
     → Means base text (sound_bytes base text)
+
+-- Without padding, a text means bytes exactly where its symbols, one after the other, mean them:
+-- the bits of the symbols are those of the bytes, and then fewer than a symbol's.
+abbrev pub Unpadded : Type 0
+Unpadded =
+    (base : Base) → IsSpecified base → base.padding ≡ None → (text bytes : List ℕ)
+    → Means base text bytes ↔ PlainMeans base (meanings_in base (kept base text)) bytes
 
 -- The text of data in parts, all but the last of whole lines or of whole groups, is that of the
 -- parts.

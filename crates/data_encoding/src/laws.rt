@@ -5,7 +5,7 @@
 
 ghost use Rattle.data_encoding.specs.Canonical.{Canonical, NotCanonical};
 ghost use Rattle.data_encoding.specs.OneLayout.{Layouts, OneLayout};
-ghost use Rattle.data_encoding.specs.Laws.{JoinDecode, JoinEncode, JoinFault, NoOrder, OneMeaning, Order, Resume, RoundTrip, SoundMeans, SpecificationAgain};
+ghost use Rattle.data_encoding.specs.Laws.{JoinDecode, JoinEncode, JoinFault, NoOrder, OneMeaning, Order, Resume, RoundTrip, SoundMeans, SpecificationAgain, Unpadded};
 ghost use Rattle.data_encoding.specs.Compared.{OrderOfData, OrderOfTexts};
 ghost use Rattle.data_encoding.specs.Eighteen.{CanonicalByCauses, SixAreCanonical, SixAreOrdered};
 ghost use Rattle.data_encoding.specs.FaultStays.{FaultStays, GroupFaultStays, NoFaultBefore};
@@ -41,6 +41,12 @@ pub fn one_meaning()
 pub fn sound_text()
     ensures sound { SoundMeans }
     ensures meant { MeansSound }
+{}
+
+/// Without padding, the bits of the symbols of a text are the bits of the data that it means, and
+/// then fewer bits than a symbol has, for each encoding that a specification yields.
+pub fn unpadded()
+    ensures { Unpadded }
 {}
 
 /// Different data have different texts, for each encoding that a specification yields; and where it

@@ -10,7 +10,7 @@ ghost use Rattle.data_encoding.specs.Predefined.{base32_dnssec_fields, base64_fi
 ghost use Rattle.data_encoding.specs.SameMeaning.{exchanged, kept_bytes, own_form};
 ghost use Rattle.data_encoding.specs.Text.{text_of};
 
-use data_encoding::laws::{one_meaning, order, same_but_symbols, same_kept_bytes, translated};
+use data_encoding::laws::{one_meaning, order, same_but_symbols, same_kept_bytes, translated, unpadded};
 use data_encoding::{Encoding, base32_dnssec};
 use std::alloc::{AllocError, Global};
 
@@ -154,6 +154,7 @@ pub fn sorts_before(one: &mut [u8], other: &mut [u8]) -> bool
 {
     translated();
     order();
+    unpadded();
     to_lower_case(one);
     to_lower_case(other);
     is_before(one, other)

@@ -1,9 +1,8 @@
 -- An ignored byte gives a second text.
-use Rattle.std.proofs.Common.{ℕ, ◌<◌, not, cond, [], ◌∷◌, Option, Some, None, refl, sym, ap, ◌∙◌, subst, arith, map}
-use Rattle.std.proofs.lemmas.List.Elements.{All-from_recursion}
+use Rattle.std.proofs.Common.{not, cond, [], ◌∷◌, refl, sym, ap, ◌∙◌, subst, arith, map}
 use Rattle.data_encoding.specs.Base.{Base, group_symbols}
 use Rattle.data_encoding.specs.Canonical.{IgnoredIsSecond}
-use Rattle.data_encoding.specs.Grammar.{GroupsMean, Means, MeansBy, Positioned, meanings_in}
+use Rattle.data_encoding.specs.Grammar.{GroupsMean, Means, Positioned, meanings_in}
 use Rattle.data_encoding.proofs.digits.WidthLemmas.{group_symbols-pos}
 use Rattle.data_encoding.proofs.grammar.SameBytesLemmas.{bytes-kept_in, Means-same}
 use Rattle.data_encoding.proofs.lists.RunLemmas.{runs-nil}
@@ -12,21 +11,10 @@ use Rattle.data_encoding.proofs.judgement.RuleLemmas.{IsRuled}
 module _ (base : Base) (ruled : IsRuled base) where
   -- nothing means nothing
   Means-nil : Means base [] []
-  Means-nil = by base.padding where
-    by : (o : Option ℕ) → MeansBy o base [] []
-    by None = record {
-      values = [];
-      rest = [];
-      are_symbols = refl;
-      same_bits = refl;
-      rest_is_short = ruled.is_width.some;
-      rest_is_zero = λ e. refl;
-      are_bytes = All-from_recursion (λ byte. byte < 256) [] tt;
-    }
-    by (Some character) =
-        subst (λ gs. GroupsMean base (map (meanings_in base) gs) [])
-        (sym (runs-nil {X = Positioned} (group_symbols base.width)
-        (group_symbols-pos base.width ruled.is_width))) refl
+  Means-nil =
+      subst (λ gs. GroupsMean base (map (meanings_in base) gs) [])
+      (sym (runs-nil {X = Positioned} (group_symbols base.width)
+      (group_symbols-pos base.width ruled.is_width))) refl
 
   pub ignored-second : IgnoredIsSecond base
   ignored-second byte is = record {

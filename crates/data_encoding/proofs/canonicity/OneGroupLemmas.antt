@@ -1,15 +1,15 @@
 -- Texts of one group, and what they mean.
 use Rattle.std.proofs.Common.{◌≡◌, ℕ, ◌<◌, ◌≤◌, List, [], ◌∷◌, ◌++◌, length, map, replicate, false, true, Option, Some, None, is_some, refl, sym, ap, ◌∙◌, subst, arith, append-nil}
-use Rattle.std.proofs.lemmas.Bool.{false≢true}
 use Rattle.std.specs.Prelude.{All}
 use Rattle.data_encoding.specs.declared.encoding.Character.TheVariants.{Symbol}
 use Rattle.data_encoding.specs.Base.{Base, IsWidth, meaning, is_ignored, is_padded, group_symbols}
 use Rattle.data_encoding.specs.Bits.{missing, runs}
-use Rattle.data_encoding.specs.Grammar.{GroupMeans, GroupsMean, Means, MeansBy, PlainMeans, bytes_in, kept}
+use Rattle.data_encoding.specs.Grammar.{GroupMeans, GroupsMean, Means, PlainMeans, bytes_in, kept}
 use Rattle.data_encoding.specs.Text.{padded_text, plain_text, text_of, with_padding}
 use Rattle.data_encoding.proofs.digits.WidthLemmas.{group_bytes-pos, group_symbols-few, group_symbols-pos}
 use Rattle.data_encoding.proofs.grammar.PositionLemmas.{runs-meanings}
 use Rattle.data_encoding.proofs.grammar.SameBytesLemmas.{Means-same, bytes-kept_in}
+use Rattle.data_encoding.proofs.grammar.UnpaddedGrammarLemmas.{unpadded-Means}
 use Rattle.data_encoding.proofs.lists.EachLemmas.{all_joined}
 use Rattle.data_encoding.proofs.lists.ListLemmas.{AllFail}
 use Rattle.data_encoding.proofs.lists.RunLemmas.{run_count-some, runs-short}
@@ -70,32 +70,19 @@ module _ (base : Base) (ruled : IsRuled base) where
     pub Means-fillers : is_padded base ≡ true → (fillers : List ℕ) → AreFillers base fillers
         → length (text ++ fillers) ≡ group_symbols base.width → Means base (text ++ fillers) bytes
     Means-fillers padded fillers all whole =
-        by base.padding (λ none. false≢true (sym (ap is_some none) ∙ padded)) where
-          filled : List ℕ
-          filled = text ++ fillers
-
-          keeps : keeps_all filled
-          keeps =
-              all_joined (λ byte. is_ignored (meaning base byte) ≡ false) text fillers symbols
-              (fillers_kept base fillers all)
-
-          means_all : GroupMeans base (map (meaning base) filled) bytes
-          means_all = GroupMeans-fillers base text fillers bytes means some whole all
-
-          one : GroupsMean base (runs size (map (meaning base) filled)) bytes
-          one =
-              subst (λ gs. GroupsMean base gs bytes)
-              (sym (runs-short size (map (meaning base) filled)
-              (omega (arith, means_all.is_whole, some, few)) (omega (arith, means_all.is_whole))))
-              (bytes, [], sym (append-nil bytes), means_all, (λ final. refl), refl)
-
-          by : (o : Option ℕ) → (o ≡ None → ⊥) → MeansBy o base filled bytes
-          by None h = absurd (h refl)
-          by (Some own) h =
-              subst (λ gs. GroupsMean base gs bytes)
-              (ap (λ l. runs size (map (meaning base) l)) (sym (all_kept filled keeps))
-              ∙ runs-meanings base size (kept base filled) (group_symbols-pos base.width width))
-              one
+        let filled = text ++ fillers in
+        let keeps : keeps_all filled =
+        all_joined (λ byte. is_ignored (meaning base byte) ≡ false) text fillers symbols
+        (fillers_kept base fillers all) in
+        let group : GroupMeans base (map (meaning base) filled) bytes =
+        GroupMeans-fillers base text fillers bytes padded means some whole all in
+        let many = group.is_whole padded in
+        subst (λ gs. GroupsMean base gs bytes)
+        (sym (runs-short size (map (meaning base) filled) (omega (arith, many, some, few))
+        (omega (arith, many)))
+        ∙ ap (λ l. runs size (map (meaning base) l)) (sym (all_kept filled keeps))
+        ∙ runs-meanings base size (kept base filled) (group_symbols-pos base.width width))
+        (bytes, [], sym (append-nil bytes), group, (λ final. refl), refl)
 
     -- with the padding character
     pub Means-group : Means base (with_padding base.padding (group_symbols base.width) text) bytes
@@ -103,7 +90,7 @@ module _ (base : Base) (ruled : IsRuled base) where
       by : (o : Option ℕ) → base.padding ≡ o → IsRuledPadding base o
           → Means base (with_padding o size text) bytes
       by None is h =
-          subst (λ o. MeansBy o base text bytes) (sym is)
+          (unpadded-Means base width (ap is_some is) text bytes).1
           (subst (λ l. PlainMeans base (map (meaning base) l) bytes) (sym (all_kept text symbols))
           means)
       by (Some character) is h =

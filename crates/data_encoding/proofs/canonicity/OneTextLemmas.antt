@@ -11,7 +11,7 @@ use Rattle.data_encoding.specs.declared.encoding.Character.TheVariants.{Padding}
 use Rattle.data_encoding.specs.Base.{Base, IsWidth, meaning, is_padded, is_padding, ignores_some, group_symbols}
 use Rattle.data_encoding.specs.Bits.{runs}
 use Rattle.data_encoding.specs.Canonical.{has_one_text}
-use Rattle.data_encoding.specs.Grammar.{Positioned, GroupMeans, GroupsMean, Means, MeansBy, kept, positioned, is_final, PlainMeans, bytes_in, meanings_in}
+use Rattle.data_encoding.specs.Grammar.{Positioned, GroupMeans, GroupsMean, Means, kept, positioned, is_final, PlainMeans, bytes_in, meanings_in}
 use Rattle.data_encoding.specs.Layout.{own_character, translated_bytes}
 use Rattle.data_encoding.specs.SameMeaning.{has_one_own_form, own_form}
 use Rattle.data_encoding.specs.Text.{filled_with, plain_text, text_of, with_padding}
@@ -22,6 +22,7 @@ use Rattle.data_encoding.proofs.grammar.MeaningLemmas.{sound_bytes-Means}
 use Rattle.data_encoding.proofs.grammar.PositionLemmas.{bytes-positioned_from, filter-plain}
 use Rattle.data_encoding.proofs.grammar.SameMeaningLemmas.{Means-translated}
 use Rattle.data_encoding.proofs.grammar.TightLemmas.{no_lines-plain}
+use Rattle.data_encoding.proofs.grammar.UnpaddedGrammarLemmas.{unpadded-Means}
 use Rattle.data_encoding.proofs.grammar.UnpaddedGroupLemmas.{PlainMeans-count}
 use Rattle.data_encoding.proofs.lists.ListLemmas.{parts_same}
 use Rattle.data_encoding.proofs.lists.RunLemmas.{flat_map-runs}
@@ -99,12 +100,12 @@ module _ (base : Base) (ruled : IsRuled base) (one : HasOneForm base) where
       stands_for byte = unwrap_or (own_character base (meaning base byte)) byte
 
       whole : length means.symbols + means.padding ≡ size
-      whole = GroupMeans-length base (meanings_in base group) piece means
+      whole = GroupMeans-length base (meanings_in base group) piece means (ap is_some some)
 
       front_len : length front ≡ length means.symbols
       front_len =
           length-take-le (length means.symbols) text
-          (omega (arith, whole, means.is_whole, length-map text (meaning base)))
+          (omega (arith, whole, means.is_whole (ap is_some some), length-map text (meaning base)))
 
       parts : (map (meaning base) front ≡ means.symbols)
           × (map (meaning base) back ≡ replicate means.padding Padding)
@@ -194,19 +195,22 @@ module _ (base : Base) (ruled : IsRuled base) (one : HasOneForm base) where
       → own_form base text ≡ text_of base bytes
   own_text text bytes means =
       ap (own_form base) (sym (bytes-positioned_from 0 text)) ∙ ap own_in (sym all_kept)
-      ∙ by base.padding refl means
+      ∙ by base.padding refl
       ∙ sym (text_of-unwrapped base bytes (no_lines-plain base ruled one.keeps)) where
         all_kept : kept base text ≡ positioned text
         all_kept = filter-plain base one.keeps (positioned text)
 
-        by : (o : Option ℕ) → base.padding ≡ o → MeansBy o base text bytes
+        by : (o : Option ℕ) → base.padding ≡ o
             → own_in (kept base text)
             ≡ with_padding o (group_symbols base.width) (plain_text base bytes)
-        by None is h = plain_is base ruled one.checks (bytes_in (kept base text)) bytes h
-        by (Some character) is h =
+        by None is =
+            plain_is base ruled one.checks (bytes_in (kept base text)) bytes
+            ((unpadded-Means base width (ap is_some is) text bytes).0 means)
+        by (Some character) is =
             ap own_in (sym (flat_map-runs (group_symbols base.width) (kept base text)
             (group_symbols-pos base.width width)))
-            ∙ groups_are character is (runs (group_symbols base.width) (kept base text)) bytes h
+            ∙ groups_are character is (runs (group_symbols base.width) (kept base text)) bytes
+            means
 
 module _ (base : Base) (ruled : IsRuled base) where
   -- the law of canonical bases

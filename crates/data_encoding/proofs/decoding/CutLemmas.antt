@@ -35,17 +35,14 @@ module _ (base : Base) (start byte : ℕ) (part : List ℕ)
   cut_by false keeps index zero inside is =
       absurd (omega (arith, past index zero inside is))
   cut_by false keeps index (suc count) inside is =
-      ap (λ b. cond b (here ∷ kept_in base (start + 1) (take count part))
-      (kept_in base (start + 1) (take count part))) keeps
-      ∙ others index count inside (omega (arith, is))
+      rw keeps (others index count inside (omega (arith, is)))
   cut_by true keeps zero zero inside is = refl
   cut_by true keeps zero (suc count) inside is = absurd (omega (arith, is))
   cut_by true keeps (suc index) zero inside is =
       let some = past index zero (omega (arith, inside)) is in absurd (omega (arith, some))
   cut_by true keeps (suc index) (suc count) inside is =
-      ap (λ b. cond b (here ∷ kept_in base (start + 1) (take count part))
-      (kept_in base (start + 1) (take count part))) keeps
-      ∙ ap (λ l. here ∷ l) (others index count (omega (arith, inside)) (omega (arith, is)))
+      rw keeps
+      (ap (λ l. here ∷ l) (others index count (omega (arith, inside)) (omega (arith, is))))
 
 kept_in-cut : (base : Base) (start : ℕ) (part : List ℕ) (index count : ℕ)
     → IsCut base start part index count

@@ -1,25 +1,20 @@
 -- Faults of whole groups, whatever follows.
-use Rattle.std.proofs.Common.{◌≡◌, ℕ, ◌+◌, ◌*◌, ◌/◌, ◌%◌, ◌≤◌, Bool, true, false, List, [], ◌++◌, length, map, Option, Some, None, refl, sym, ap, ◌∙◌, subst, arith, length-append}
+use Rattle.std.proofs.Common.{◌≡◌, ℕ, ◌+◌, ◌*◌, ◌/◌, ◌%◌, ◌≤◌, Bool, true, false, List, [], ◌++◌, length, Option, Some, None, refl, sym, ap, ◌∙◌, subst, arith, length-append}
 use Rattle.std.proofs.lemmas.List.{drop_all}
 use Rattle.std.specs.List.{list_any}
 use Rattle.data_encoding.specs.declared.error.DecodeError.{DecodeError}
 use Rattle.data_encoding.specs.Base.{Base, IsWidth, group_bytes, group_symbols, ignores_some}
-use Rattle.data_encoding.specs.Bits.{runs}
-use Rattle.data_encoding.specs.Decoding.{AreSound}
 use Rattle.data_encoding.specs.Fault.{fault_of, first_after, first_fault, or_else}
-use Rattle.data_encoding.specs.Grammar.{Positioned, groups, is_final, kept, kept_in}
+use Rattle.data_encoding.specs.Grammar.{Positioned, groups, is_final, kept}
 use Rattle.data_encoding.specs.Laws.{further}
 use Rattle.data_encoding.specs.Lengths.{length_fault}
 use Rattle.data_encoding.specs.Pieces.{HasRead, held_fault, unfinished, whole_groups}
 use Rattle.data_encoding.proofs.decoding.PieceLemmas.{HasRead-faulty, fault_of-read, or_none}
 use Rattle.data_encoding.proofs.decoding.WholeLengthLemmas.{decoded_len-whole}
-use Rattle.data_encoding.proofs.digits.WidthLemmas.{group_symbols-pos}
-use Rattle.data_encoding.proofs.grammar.JoinFaultLemmas.{first-moved, further-or_else, kept_in-moved, length_fault-behind, moved}
-use Rattle.data_encoding.proofs.grammar.KeptLemmas.{kept_in-append}
+use Rattle.data_encoding.proofs.grammar.JoinFaultLemmas.{fault-after_whole}
 use Rattle.data_encoding.proofs.grammar.LengthLemmas.{decoded_len-counted, length_fault-none}
 use Rattle.data_encoding.proofs.grammar.PositionLemmas.{length-kept_plain}
-use Rattle.data_encoding.proofs.grammar.SoundLemmas.{AreSound-none, ends_after, first-AreSound, neither_fault}
-use Rattle.data_encoding.proofs.lists.RunLemmas.{few_runs, runs-join, runs-map}
+use Rattle.data_encoding.proofs.grammar.SoundLemmas.{AreSound-none, ends_after, neither_fault}
 use Rattle.data_encoding.proofs.text.TextJoinLemmas.{whole-parts}
 
 module _ (base : Base) (width : IsWidth base.width) (text : List ℕ) where
@@ -88,65 +83,21 @@ pub fault-behind : (base : Base) → IsWidth base.width → (text after : List �
     → fault_of base text ≡ None → fault_of base (text ++ after) ≡ Some error
     → length text ≤ error.position
 fault-behind base width text after error whole none h =
-    later (or_else (length_fault base (length after)) (first_after ended base (groups base after)))
-    (sym all ∙ h) where
-      count : ℕ
-      count = length text
+    later (or_else (length_fault base (length after))
+    (first_after (ends_after base false gs) base (groups base after)))
+    (sym (fault-after_whole base width text after whole (ends_after base false gs)
+    (AreSound-none base false gs
+    (neither_fault (length_fault base (length text)) (first_fault base gs) none).1)) ∙ h) where
+      gs : List (List Positioned)
+      gs = groups base text
 
-      ended : Bool
-      ended = ends_after base false (groups base text)
-
-      sound : AreSound base false (groups base text) ended
-      sound =
-          AreSound-none base false (groups base text)
-          (neither_fault (length_fault base count) (first_fault base (groups base text)) none).1
-
-      joined : groups base (text ++ after)
-          ≡ groups base text ++ map (moved count) (groups base after)
-      joined =
-          let pos = group_symbols-pos base.width width in
-          let part : kept_in base (0 + count) after ≡ moved count (kept base after) =
-          ap (λ n. kept_in base n after) (omega arith) ∙ kept_in-moved base width count 0 after in
-          ap (runs (group_symbols base.width)) (kept_in-append base 0 text after)
-          ∙ runs-join (group_symbols base.width) (kept base text) _ pos whole
-          ∙ ap (λ ks. groups base text ++ runs (group_symbols base.width) ks) part
-          ∙ ap (λ gs. groups base text ++ gs)
-          (runs-map (group_symbols base.width)
-          (λ (k : Positioned). record { position = count + k.position; byte = k.byte })
-          (kept base after) pos)
-
-      lengths : length_fault base (length (text ++ after))
-          ≡ further count (length_fault base (length after))
-      lengths =
-          ap (length_fault base) (length-append text after)
-          ∙ length_fault-behind base width count (length after)
-          (λ plain. ap (λ n. n % group_symbols base.width)
-          (sym (length-kept_plain base text plain)) ∙ whole)
-
-      firsts : first_fault base (groups base (text ++ after))
-          ≡ further count (first_after ended base (groups base after))
-      firsts =
-          ap (first_fault base) joined
-          ∙ first-AreSound base false ended (groups base text)
-          (map (moved count) (groups base after)) sound
-          ∙ first-moved base width count ended (groups base after)
-          (few_runs (group_symbols base.width) (kept base after)
-          (group_symbols-pos base.width width))
-
-      all : fault_of base (text ++ after)
-          ≡ further count (or_else (length_fault base (length after))
-          (first_after ended base (groups base after)))
-      all =
-          (λ i. or_else (lengths i) (firsts i))
-          ∙ further-or_else count (length_fault base (length after))
-          (first_after ended base (groups base after))
-
-      later : (o : Option DecodeError) → further count o ≡ Some error → count ≤ error.position
+      later : (o : Option DecodeError) → further (length text) o ≡ Some error
+          → length text ≤ error.position
       later None e = cc
       later (Some fault) e =
           let there : DecodeError =
-          record { position = count + fault.position; kind = fault.kind } in
+          record { position = length text + fault.position; kind = fault.kind } in
           let same : there ≡ error = cc in
-          let at : count + fault.position ≡ error.position =
+          let at : length text + fault.position ≡ error.position =
           ap (λ (x : DecodeError). x.position) same in
           omega (arith, at)

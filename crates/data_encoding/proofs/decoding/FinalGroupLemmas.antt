@@ -6,12 +6,13 @@ use Rattle.std.proofs.lemmas.Bool.Decides.{nat_tests}
 use Rattle.std.specs.List.{list_any}
 use Rattle.data_encoding.proofs.grammar.PositionLemmas.{length-meanings}
 use Rattle.data_encoding.specs.declared.encoding.Character.{Character}
-use Rattle.data_encoding.specs.Base.{Base, IsWidth, group_bytes, group_symbols, is_padding}
-use Rattle.data_encoding.specs.Grammar.{GroupMeans, GroupsMean, Means, MeansBy, Positioned, groups, is_final, kept, meanings_in}
+use Rattle.data_encoding.specs.Base.{Base, IsWidth, group_bytes, group_symbols, is_padded, is_padding}
+use Rattle.data_encoding.specs.Grammar.{GroupMeans, GroupsMean, Means, Positioned, groups, is_final, kept, meanings_in}
 use Rattle.data_encoding.proofs.decoding.WholeLengthLemmas.{joins-unpadded, none_final-joined}
 use Rattle.data_encoding.proofs.digits.WidthLemmas.{by_width}
 use Rattle.data_encoding.proofs.grammar.GroupLemmas.{GroupMeans-length, GroupMeans-padding}
 use Rattle.data_encoding.proofs.grammar.JoinLemmas.{whole-padded}
+use Rattle.data_encoding.proofs.grammar.UnpaddedGrammarLemmas.{unpadded-Means}
 use Rattle.data_encoding.proofs.grammar.UnpaddedGroupLemmas.{PlainMeans-count}
 use Rattle.data_encoding.proofs.judgement.RuleLemmas.{IsRuled}
 
@@ -54,7 +55,7 @@ some_is : (n : ℕ) → 0 < n → not (n == 0) ≡ true
 some_is n h = grind (arith, nat_tests)
 
 module _ (base : Base) where
-  module _ (width : IsWidth base.width) where
+  module _ (width : IsWidth base.width) (padded : is_padded base ≡ true) where
     abbrev size : ℕ
     size = group_bytes base.width
 
@@ -65,7 +66,7 @@ module _ (base : Base) where
         sym (GroupMeans-padding base group bytes means) ∙ none in
         let no_padding : means.padding ≡ 0 = grind (arith, nat_tests) in
         let all : length means.symbols ≡ group_symbols base.width =
-        omega (arith, GroupMeans-length base group bytes means, no_padding) in
+        omega (arith, GroupMeans-length base group bytes means padded, no_padding) in
         bytes_full base.width width (length bytes) (length means.means.rest)
         (ap (λ n. base.width * n) (sym all)
         ∙ PlainMeans-count base width means.symbols bytes means.means)
@@ -76,9 +77,9 @@ module _ (base : Base) where
     group_part group bytes means some =
         let test : nat_lt 0 means.padding ≡ true =
         sym (GroupMeans-padding base group bytes means) ∙ some in
-        let padded : 0 < means.padding = grind (arith, nat_tests) in
+        let behind : 0 < means.padding = grind (arith, nat_tests) in
         let few : length means.symbols < group_symbols base.width =
-        omega (arith, GroupMeans-length base group bytes means, padded) in
+        omega (arith, GroupMeans-length base group bytes means padded, behind) in
         bytes_part base.width width (length means.symbols) (length bytes)
         (length means.means.rest) means.is_begun few
         (PlainMeans-count base width means.symbols bytes means.means) means.means.rest_is_short
@@ -111,8 +112,7 @@ module _ (base : Base) where
                 let last = h.4 (final_is g ∙ some) in
                 let nothing = subst (λ l. GroupsMean base l h.1) last h.5 in
                 let all : length bytes ≡ length h.0 = omega (arith, len, ap length nothing) in
-                let part = subst (λ n. 0 < n % size) (sym all)
-                (group_part (meanings_in base g) h.0 h.3 some) in
+                let part = rw (← all) at (group_part (meanings_in base g) h.0 h.3 some) in
                 ap (λ b. b || list_any (is_final base) gs) (final_is g ∙ some)
                 ∙ sym (some_is (length bytes % size) part)
 
@@ -121,27 +121,28 @@ module _ (base : Base) (ruled : IsRuled base) (text bytes : List ℕ) where
   pub ends-Means : Means base text bytes
       → list_any (is_final base) (groups base text)
       ≡ (not base.concatenates && not (length bytes % group_bytes base.width == 0))
-  ends-Means means = by base.concatenates base.padding refl refl means where
+  ends-Means means = by base.concatenates base.padding refl refl where
     by : (b : Bool) (o : Option ℕ) → base.concatenates ≡ b → base.padding ≡ o
-        → MeansBy o base text bytes → list_any (is_final base) (groups base text)
+        → list_any (is_final base) (groups base text)
         ≡ (not b && not (length bytes % group_bytes base.width == 0))
-    by true o joins is h = none_final-joined base joins (groups base text)
-    by false None apart is h =
+    by true o joins is = none_final-joined base joins (groups base text)
+    by false None apart is =
         absurd (false≢true (sym apart ∙ joins-unpadded base ruled is))
-    by false (Some character) apart is h =
-        groups_end base ruled.is_width apart (groups base text) bytes h
+    by false (Some character) apart is =
+        groups_end base ruled.is_width (ap is_some is) apart (groups base text) bytes means
 
   -- and whether the groups are whole
   pub whole-Means : Means base text bytes → length bytes % group_bytes base.width ≡ 0
       → length (kept base text) % group_symbols base.width ≡ 0
-  whole-Means = by base.padding refl where
-    by : (o : Option ℕ) → base.padding ≡ o → MeansBy o base text bytes
-        → length bytes % group_bytes base.width ≡ 0
+  whole-Means means exact = by base.padding refl where
+    by : (o : Option ℕ) → base.padding ≡ o
         → length (kept base text) % group_symbols base.width ≡ 0
-    by None is means exact =
+    by None is =
         let meant = meanings_in base (kept base text) in
+        let plain =
+        (unpadded-Means base ruled.is_width (ap is_some is) text bytes).0 means in
         ap (λ n. n % group_symbols base.width) (sym (length-meanings base (kept base text)))
-        ∙ symbols_whole base.width ruled.is_width (length meant) (length bytes) (length means.rest)
-        (PlainMeans-count base ruled.is_width meant bytes means) means.rest_is_short exact
-    by (Some character) is means exact =
+        ∙ symbols_whole base.width ruled.is_width (length meant) (length bytes) (length plain.rest)
+        (PlainMeans-count base ruled.is_width meant bytes plain) plain.rest_is_short exact
+    by (Some character) is =
         whole-padded base ruled text [] bytes [] (ap is_some is) means

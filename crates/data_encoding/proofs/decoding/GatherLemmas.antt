@@ -61,16 +61,12 @@ module _ (base : Base) (part : List ℕ) (index : ℕ) (inside : index < length 
 
   next-kept : is_ignored (meaning base here) ≡ false
       → kept base (take (index + 1) part) ≡ kept base (take index part) ++ found ∷ []
-  next-kept h =
-      next-is
-      ∙ ap (λ b. kept base (take index part) ++ cond (not b) (found ∷ []) []) h
+  next-kept h = next-is ∙ rw h
 
   pub next-ignored : is_ignored (meaning base here) ≡ true
       → kept base (take (index + 1) part) ≡ kept base (take index part)
   next-ignored h =
-      next-is
-      ∙ ap (λ b. kept base (take index part) ++ cond (not b) (found ∷ []) []) h
-      ∙ append-nil (kept base (take index part))
+      next-is ∙ rw h (append-nil (kept base (take index part)))
 
   module _ (count span : ℕ) (room : List ℕ)
       (so_far : HasGathered base part index count span room) where
@@ -133,10 +129,10 @@ module _ (base : Base) (part : List ℕ) (index : ℕ) (inside : index < length 
   none-here h = ap length (next-ignored h)
 
 -- a group was gathered where it is whole, or nothing is left
-pub gathered : (base : Base) (size : ℕ) (part : List ℕ) (index count span : ℕ) (room : List ℕ)
+pub gathered : {base : Base} {size : ℕ} {part : List ℕ} {index count span : ℕ} {room : List ℕ}
     → HasGathered base part index count span room → index ≤ length part → count ≤ size
     → (count ≡ size) ⊎ (index ≡ length part) → IsGathered base size part (take count room) span
-gathered base size part index count span room so_far within few last =
+gathered {base} {size} {part} {index} {count} {room} so_far within few last =
     let len : length (take count room) ≡ count =
     sym (ap length so_far.bytes_are)
     ∙ length-map (kept base (take index part)) (λ (k : Positioned). k.byte) ∙ so_far.count_is in
@@ -224,7 +220,7 @@ nothing-kept base text read h =
     nil_from_length (kept_from base read text) (length-left base text read ∙ h)
 
 -- What was gathered of a part is in it.
-module _ (base : Base) (size : ℕ) (part group : List ℕ) (span : ℕ)
+module _ {base : Base} {size : ℕ} {part group : List ℕ} {span : ℕ}
     (is : IsGathered base size part group span) where
   length-gathered : length (kept base (take span part)) ≡ length group
   length-gathered =
@@ -264,7 +260,7 @@ next_bytes base text read span = kept_in base read (take span (drop read text))
 
 -- The next bytes of a text as they were gathered.
 module _ (base : Base) (width : IsWidth base.width) (text : List ℕ) (read : ℕ)
-    (within : read ≤ length text) (group : List ℕ) (span : ℕ)
+    (within : read ≤ length text) {group : List ℕ} {span : ℕ}
     (is : IsGathered base (group_symbols base.width) (drop read text) group span) where
   abbrev part : List ℕ
   part = take span (drop read text)
@@ -296,15 +292,13 @@ module _ (base : Base) (width : IsWidth base.width) (text : List ℕ) (read : �
       (record { position = 0; byte = 0 }) index (omega (arith, length-next, inside))))
       ∙ ap (λ ks. position_of ks index) (sym all)
       ∙ ap (λ n. position_of (kept_in base n (drop read text)) index) (sym start)
-      ∙ position-shifted base read 0 (drop read text) index (gathered-some base (group_symbols
-      base.width) (drop read text) group span is index inside)
+      ∙ position-shifted base read 0 (drop read text) index (gathered-some is index inside)
 
   -- nothing is left where none was found
   pub none-next : length group ≡ 0 → kept_from base read text ≡ []
   none-next empty =
       nothing-kept base text read
-      (gathered-none base (group_symbols base.width) (drop read text) group span is
-      (group_symbols-pos base.width width) empty)
+      (gathered-none is (group_symbols-pos base.width width) empty)
 
   -- they are the next group
   pub is-next : 0 < length group → IsNext base text read (read + span) nexts

@@ -1,11 +1,10 @@
 -- The greatest valid length.
-use Rattle.std.proofs.Common.{◌≡◌, ℕ, ◌*◌, ◌/◌, ◌%◌, ◌<◌, ◌≤◌, ◌==◌, Bool, true, false, refl, sym, ap, ◌∙◌, subst, arith, ⊎_elim}
+use Rattle.std.proofs.Common.{◌≡◌, ℕ, ◌*◌, ◌/◌, ◌%◌, ◌<◌, ◌≤◌, ◌==◌, Bool, true, false, cond, sym, ap, ◌∙◌, arith, ⊎_elim}
 use Rattle.std.proofs.lemmas.Bool.{cases_lt, false≢true}
 use Rattle.std.proofs.lemmas.Bool.Decides.{nat_tests}
 use Rattle.data_encoding.specs.Base.{Base, is_padded, group_symbols, IsWidth}
 use Rattle.data_encoding.specs.Lengths.{is_valid_count, greatest_valid_count, is_valid_length, greatest_valid_length}
 use Rattle.data_encoding.proofs.digits.WidthLemmas.{by_width}
-use Rattle.data_encoding.proofs.grammar.LengthLemmas.{greatest_valid_length-by, is_valid_length-by}
 
 -- the greatest number of symbols that are whole groups
 abbrev whole_count : ℕ → ℕ → ℕ
@@ -63,58 +62,37 @@ whole_same =
 
 module _ (base : Base) (width : IsWidth base.width) where
   pub greatest-least : (n : ℕ) → greatest_valid_length base n ≤ n
-  greatest-least n = by (is_padded base) refl where
-    by : (b : Bool) → is_padded base ≡ b → greatest_valid_length base n ≤ n
-    by true is =
-        subst (λ m. m ≤ n) (sym (greatest_valid_length-by base n true is))
-        (whole_least base.width width n)
-    by false is = subst (λ m. m ≤ n) (sym (greatest_valid_length-by base n false is)) (omega arith)
+  greatest-least n = by (is_padded base) where
+    by : (b : Bool) → cond b (whole_count base.width n) (greatest_valid_count base.width n) ≤ n
+    by true = whole_least base.width width n
+    by false = omega arith
 
   -- of a greater length it is no less
   pub greatest-more : (m n : ℕ) → m ≤ n
       → greatest_valid_length base m ≤ greatest_valid_length base n
-  greatest-more m n h = by (is_padded base) refl where
-    by : (b : Bool) → is_padded base ≡ b
-        → greatest_valid_length base m ≤ greatest_valid_length base n
-    by true is =
-        let first = greatest_valid_length-by base m true is in
-        let second = greatest_valid_length-by base n true is in
-        omega (arith, first, second, whole_more base.width width m n h)
-    by false is =
-        let first = greatest_valid_length-by base m false is in
-        let second = greatest_valid_length-by base n false is in
-        omega (arith, first, second, count_more base.width width m n h)
+  greatest-more m n h = by (is_padded base) where
+    by : (b : Bool) → cond b (whole_count base.width m) (greatest_valid_count base.width m)
+        ≤ cond b (whole_count base.width n) (greatest_valid_count base.width n)
+    by true = whole_more base.width width m n h
+    by false = count_more base.width width m n h
 
   -- it is valid
   pub greatest-valid : (n : ℕ) → is_valid_length base (greatest_valid_length base n) ≡ true
-  greatest-valid n = by (is_padded base) refl where
-    by : (b : Bool) → is_padded base ≡ b
-        → is_valid_length base (greatest_valid_length base n) ≡ true
-    by true is =
-        let again = whole_again base.width width n in
-        is_valid_length-by base (greatest_valid_length base n) true is
-        ∙ ap (λ m. m % group_symbols base.width == 0) (greatest_valid_length-by base n true is)
-        ∙ grind (arith, nat_tests)
-    by false is =
-        let again = count_again base.width width n in
-        is_valid_length-by base (greatest_valid_length base n) false is
-        ∙ ap (is_valid_count base.width) (greatest_valid_length-by base n false is)
-        ∙ grind (arith, nat_tests)
+  greatest-valid n = by (is_padded base) where
+    by : (b : Bool)
+        → let len = cond b (whole_count base.width n) (greatest_valid_count base.width n) in
+        cond b (len % group_symbols base.width == 0) (is_valid_count base.width len) ≡ true
+    by true = let again = whole_again base.width width n in grind (arith, nat_tests)
+    by false = let again = count_again base.width width n in grind (arith, nat_tests)
 
   -- that of a valid length is the length
   pub greatest-same : (n : ℕ) → is_valid_length base n ≡ true → greatest_valid_length base n ≡ n
-  greatest-same n valid = by (is_padded base) refl where
-    by : (b : Bool) → is_padded base ≡ b → greatest_valid_length base n ≡ n
-    by true is =
-        let exact : (n % group_symbols base.width == 0) ≡ true =
-        sym (is_valid_length-by base n true is) ∙ valid in
-        greatest_valid_length-by base n true is
-        ∙ whole_same base.width width n (grind (arith, nat_tests))
-    by false is =
-        let exact : is_valid_count base.width n ≡ true =
-        sym (is_valid_length-by base n false is) ∙ valid in
-        greatest_valid_length-by base n false is
-        ∙ count_same base.width width n (grind (arith, nat_tests))
+  greatest-same n = by (is_padded base) where
+    by : (b : Bool)
+        → cond b (n % group_symbols base.width == 0) (is_valid_count base.width n) ≡ true
+        → cond b (whole_count base.width n) (greatest_valid_count base.width n) ≡ n
+    by true valid = whole_same base.width width n (grind (arith, nat_tests))
+    by false valid = count_same base.width width n (grind (arith, nat_tests))
 
   -- that of another is less
   pub greatest-less : (n : ℕ) → is_valid_length base n ≡ false → greatest_valid_length base n < n

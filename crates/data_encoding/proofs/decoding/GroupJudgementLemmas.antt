@@ -1,5 +1,5 @@
 -- What a judgement of a group finds: its symbols, or its fault, or its bytes.
-use Rattle.std.proofs.Common.{◌≡◌, ℕ, zero, suc, ◌-◌, ◌*◌, ◌/◌, ◌%◌, ◌<◌, ◌≤◌, ◌==◌, ◌≢◌, nat_lt, Bool, true, false, not, cond, ◌&&◌, ◌||◌, List, [], ◌∷◌, ◌++◌, length, map, take, drop, replicate, slice_index, None, refl, sym, ap, ◌∙◌, subst, arith, length-take-le, take-append-drop}
+use Rattle.std.proofs.Common.{◌≡◌, ℕ, zero, suc, ◌-◌, ◌*◌, ◌/◌, ◌%◌, ◌<◌, ◌≤◌, ◌==◌, ◌≢◌, nat_lt, Bool, true, false, not, cond, ◌&&◌, ◌||◌, List, [], ◌∷◌, ◌++◌, length, map, take, drop, replicate, slice_index, None, refl, sym, ap, ◌∙◌, arith, length-take-le, take-append-drop}
 use Rattle.std.proofs.lemmas.Bool.Decides.{nat_tests}
 use Rattle.std.proofs.Math.Nat.{le-div_iff_mul-le, div-eq_of_lt, zero-mul}
 use Rattle.std.proofs.lemmas.List.{take_all, drop_all, length-drop, length-map, take-map, take_at}
@@ -52,9 +52,7 @@ module _ (base : Base) (group : List ℕ) where
 
   module _ (unpadded : is_padded base ≡ false) where
     plain-group : group_fault base group ≡ plain_fault base meant
-    plain-group =
-        ap (λ b. cond b (padded_fault_at base meant (count_before_padding meant))
-        (plain_fault base meant)) unpadded
+    plain-group = rw unpadded
 
     -- without padding a number of symbols may be invalid
     pub length-invalid : 0 < length group → (width : ℕ) → base.width ≡ width → 0 < width
@@ -72,9 +70,9 @@ module _ (base : Base) (group : List ℕ) where
         (omega (arith, large)) in
         record {
           inside = omega (arith, least, some);
-          is_fault = plain-group ∙ ap (λ b. cond b (symbols_fault base meant)
-              (faulty_at LengthFault (greatest_valid_count base.width (length meant)))) invalid
-              ∙ (λ i. faulty_at LengthFault (greatest_valid_count (width_is i) (length_is i)));
+          is_fault = plain-group
+              ∙ rw invalid
+              (λ i. faulty_at LengthFault (greatest_valid_count (width_is i) (length_is i)));
         }
 
     -- or else each byte may be a symbol
@@ -92,22 +90,17 @@ module _ (base : Base) (group : List ℕ) where
 
   module _ (padded : is_padded base ≡ true) where
     padded-group : group_fault base group ≡ padded_fault_at base meant (count_before_padding meant)
-    padded-group =
-        ap (λ b. cond b (padded_fault_at base meant (count_before_padding meant))
-        (plain_fault base meant)) padded
+    padded-group = rw padded
 
     -- a padded group is whole
     pub group-short : 0 < length group → length group < group_symbols base.width
         → HasFault base group (record { index = 0; kind = LengthFault })
     group-short some short =
-        let count = count_before_padding meant in
         let less : nat_lt (length meant) (group_symbols base.width) ≡ true =
         grind (arith, nat_tests, short, length_is) in
         record {
           inside = some;
-          is_fault = padded-group ∙ ap (λ b. cond b (faulty_at LengthFault 0)
-              (cond (count == 0 || not (is_valid_count base.width count))
-              (faulty_at PaddingFault count) (symbols_fault base (take count meant)))) less;
+          is_fault = padded-group ∙ rw less;
         }
 
     module _ (whole : length group ≡ group_symbols base.width) (count : ℕ)
@@ -119,10 +112,7 @@ module _ (base : Base) (group : List ℕ) where
           ≡ cond (count == 0 || not (is_valid_count base.width count))
           (faulty_at PaddingFault count) (symbols_fault base (take count meant))
       whole-group =
-          padded-group ∙ ap (padded_fault_at base meant) (sym count_is)
-          ∙ ap (λ b. cond b (faulty_at LengthFault 0)
-          (cond (count == 0 || not (is_valid_count base.width count))
-          (faulty_at PaddingFault count) (symbols_fault base (take count meant)))) full
+          padded-group ∙ ap (padded_fault_at base meant) (sym count_is) ∙ rw full
 
       pub padding-invalid : IsWidth base.width → 0 < length group → count ≤ length group
           → (count == 0 || not (is_valid_count base.width count)) ≡ true
@@ -132,8 +122,7 @@ module _ (base : Base) (group : List ℕ) where
           (omega (arith, whole, length_is)) full count (omega (arith, within, length_is)) bad in
           record {
             inside = omega (arith, inside, length_is);
-            is_fault = whole-group ∙ ap (λ b. cond b (faulty_at PaddingFault count)
-                (symbols_fault base (take count meant))) bad;
+            is_fault = whole-group ∙ rw bad;
           }
 
       pub symbols-before : count ≤ length group → (count == 0) ≡ false
@@ -146,9 +135,8 @@ module _ (base : Base) (group : List ℕ) where
                 ∙ sym (ap (λ b. cond b (count_before_padding meant) (length group)) padded);
             within = within;
             valid = valid;
-            fault_is = whole-group ∙ ap (λ b. cond b (faulty_at PaddingFault count)
-                (symbols_fault base (take count meant))) good
-                ∙ ap (symbols_fault base) (take-map (meaning base) count group);
+            fault_is = whole-group ∙ rw good
+                (ap (symbols_fault base) (take-map (meaning base) count group));
           }
 
 -- a group of no valid length has the fault of its length
@@ -243,15 +231,10 @@ module _ (base : Base) (values : List ℕ) (holds : HoldsValues base values) (gr
     rest_pads = by (is_padded base) refl where
       by : (b : Bool) → is_padded base ≡ b → AllSo is_padding (drop count all)
       by true is =
-          subst (λ n. AllSo is_padding (drop n all))
-          (sym (has.count_is
-          ∙ ap (λ b. cond b (count_before_padding all) (length group)) is))
-          (end-passes is_padding all)
+          rw (has.count_is, is) (end-passes is_padding all)
       by false is =
-          let whole : count ≡ length group =
-          has.count_is ∙ ap (λ b. cond b (count_before_padding all) (length group)) is in
-          subst (AllSo is_padding)
-          (sym (drop_all count all (omega (arith, whole, length-map group (meaning base))))) tt
+          let whole : count ≡ length group = has.count_is ∙ rw is in
+          rw (drop_all count all (omega (arith, whole, length-map group (meaning base)))) tt
 
     behind : all ≡ judged ++ replicate (length (drop count all)) PaddingCharacter
     behind =
@@ -280,8 +263,7 @@ module _ (base : Base) (values : List ℕ) (holds : HoldsValues base values) (gr
         → IsDecodedGroup base group count (new ++ rest)
     group-sound quiet new rest len bytes = record {
       within = has.within;
-      sound = fault-symbols
-          ∙ ap (λ b. cond b (faulty_at TrailingFault (length judged - 1)) None) quiet;
+      sound = fault-symbols ∙ rw quiet;
       final = has_padding;
       bytes = take_at new rest (base.width * count / 8) len ∙ bytes
           ∙ sym (ap (symbol_bytes base) behind

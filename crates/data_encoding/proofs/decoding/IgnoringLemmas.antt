@@ -1,5 +1,5 @@
 -- The base with each ignored byte invalid judges groups as the base does.
-use Rattle.std.proofs.Common.{◌≡◌, ℕ, zero, suc, ◌+◌, ◌-◌, ◌*◌, ◌/◌, ◌≤◌, ◌==◌, Bool, true, false, not, cond, ◌&&◌, ◌||◌, nat_lt, List, [], ◌∷◌, length, map, take, drop, replicate, get_or, None, Some, refl, sym, ap, ◌∙◌, subst, arith}
+use Rattle.std.proofs.Common.{◌≡◌, ℕ, zero, suc, ◌+◌, ◌-◌, ◌*◌, ◌/◌, ◌≤◌, ◌==◌, true, false, not, cond, ◌&&◌, ◌||◌, nat_lt, List, [], ◌∷◌, length, map, take, drop, replicate, get_or, None, Some, refl, sym, ap, ◌∙◌, subst, arith}
 use Rattle.std.proofs.lemmas.List.{length-map, take-map}
 use Rattle.std.specs.Prelude.{flat_map}
 use Rattle.std.specs.List.{cons_option, filter_map, list_any, prefix_len}
@@ -10,14 +10,13 @@ use Rattle.data_encoding.specs.Base.{Base, meaning, is_symbol, value_of, is_padd
 use Rattle.data_encoding.specs.Bits.{bits_of}
 use Rattle.data_encoding.specs.Grammar.{Positioned, bytes_in, meanings_in}
 use Rattle.data_encoding.specs.Lengths.{is_valid_count, greatest_valid_count}
-use Rattle.data_encoding.specs.Fault.{character_fault, count_before_padding, fault_at_first, faulty_at, group_fault, padded_fault_at, plain_fault, symbols_fault}
+use Rattle.data_encoding.specs.Fault.{character_fault, count_before_padding, fault_at_first, faulty_at, group_fault, padded_fault_at, symbols_fault}
 use Rattle.data_encoding.specs.Partial.{ignoring_nothing}
 use Rattle.data_encoding.proofs.digits.WordLemmas.{map-twice}
 use Rattle.data_encoding.proofs.lists.EachLemmas.{all_joined}
 use Rattle.data_encoding.proofs.lists.EndLemmas.{AllSo, count_before_end, count_before_end-map}
 use Rattle.data_encoding.proofs.lists.ListLemmas.{AllFail, list_any-none}
 use Rattle.data_encoding.proofs.grammar.PositionLemmas.{length-meanings}
-use Rattle.data_encoding.proofs.grammar.UnpaddedGroupLemmas.{PlainMeans-sound}
 use Rattle.data_encoding.proofs.grammar.GroupLemmas.{GroupMeans-sound}
 
 -- a meaning with ignored ones invalid
@@ -143,20 +142,13 @@ bytes_kept base (k ∷ ks) h = (h.0, bytes_kept base ks h.1)
 pub group-kept : (base : Base) → IsWidth base.width → (group : List Positioned)
     → length group ≤ group_symbols base.width → group_fault base (bytes_in group) ≡ None
     → AllSo (λ k. not (is_ignored (meaning base k.byte))) group
-group-kept base width group few h = bytes_kept base group (by (is_padded base) refl) where
-  by : (b : Bool) → is_padded base ≡ b → AreKept (meanings_in base group)
-  by true is =
-      let meant = meanings_in base group in
-      let means = GroupMeans-sound base width is meant
-      (omega (arith, few, length-meanings base group)) h in
-      subst AreKept (sym means.is_group)
-      (all_joined (λ m. not (is_ignored m) ≡ true) means.symbols (replicate means.padding Padding)
-      (subst AreKept (sym means.means.are_symbols) (symbols_kept means.means.values))
-      (padding_kept means.padding))
-  by false is =
-      let meant = meanings_in base group in
-      let plain : plain_fault base meant ≡ None =
-      sym (ap (λ b. cond b (padded_fault_at base meant (count_before_padding meant))
-      (plain_fault base meant)) is) ∙ h in
-      let means = PlainMeans-sound base width meant plain in
-      subst AreKept (sym means.are_symbols) (symbols_kept means.values)
+group-kept base width [] few h = tt
+group-kept base width (k ∷ ks) few h =
+    let meant = meanings_in base (k ∷ ks) in
+    let len = length-meanings base (k ∷ ks) in
+    let means = GroupMeans-sound base width meant (omega arith) (omega (arith, few, len)) h in
+    bytes_kept base (k ∷ ks)
+    (subst AreKept (sym means.is_group)
+    (all_joined (λ m. not (is_ignored m) ≡ true) means.symbols (replicate means.padding Padding)
+    (subst AreKept (sym means.means.are_symbols) (symbols_kept means.means.values))
+    (padding_kept means.padding)))

@@ -1,5 +1,5 @@
 -- Where a decoding stops at a last group that is too short.
-use Rattle.std.proofs.Common.{◌≡◌, ℕ, ◌+◌, ◌-◌, ◌<◌, ◌≤◌, Bool, true, false, not, cond, ◌&&◌, nat_lt, List, [], ◌∷◌, ◌++◌, length, take, drop, Option, Some, None, is_some, refl, sym, ap, ◌∙◌, subst, arith, length-append, length-take-le, ⊎_elim, map}
+use Rattle.std.proofs.Common.{◌≡◌, ℕ, ◌+◌, ◌-◌, ◌<◌, ◌≤◌, Bool, true, false, not, cond, List, [], ◌∷◌, ◌++◌, length, take, drop, Option, Some, None, is_some, refl, sym, ap, ◌∙◌, subst, arith, length-append, length-take-le, ⊎_elim, map}
 use Rattle.std.proofs.lemmas.Bool.{cases_lt, false≢true}
 use Rattle.std.proofs.lemmas.List.{append-nil, length-drop, take-take, take_all, take_at, length-map}
 use Rattle.std.proofs.lemmas.List.Concat.{flat_map-append}
@@ -11,10 +11,10 @@ use Rattle.data_encoding.specs.declared.error.DecodeKind.{DecodeKind}
 use Rattle.data_encoding.specs.declared.error.DecodeKind.TheVariants.{Length as LengthFault, Padding as PaddingFault}
 use Rattle.data_encoding.specs.Base.{Base, meaning, is_ignored, is_padded, group_symbols, IsWidth}
 use Rattle.data_encoding.specs.Bits.{runs}
-use Rattle.data_encoding.specs.Grammar.{Positioned, positioned_from, kept, groups, is_final, Means, kept_in, kept_from, bytes_in, meanings_in}
-use Rattle.data_encoding.specs.Lengths.{is_valid_count, greatest_valid_length, length_fault, is_valid_length}
+use Rattle.data_encoding.specs.Grammar.{Positioned, positioned_from, kept, groups, is_final, kept_in, kept_from, bytes_in, meanings_in}
+use Rattle.data_encoding.specs.Lengths.{greatest_valid_length, length_fault, is_valid_length}
 use Rattle.data_encoding.specs.Fault.{bytes_of_group, fault_after, fault_at, fault_of, first_after, group_fault, located, or_else, position_of, sound_after, sound_bytes, symbol_bytes}
-use Rattle.data_encoding.specs.Partial.{StopsAt, sound_len, read_len, is_length_fault, is_sound_run, partial_by}
+use Rattle.data_encoding.specs.Partial.{StopsAt, read_len, is_length_fault, is_sound_run}
 use Rattle.data_encoding.specs.Decoding.{AreSound}
 use Rattle.data_encoding.proofs.lists.ListLemmas.{filter-all, length-filter}
 use Rattle.data_encoding.proofs.lists.RunLemmas.{runs-join, runs-short}
@@ -22,9 +22,8 @@ use Rattle.data_encoding.proofs.grammar.PositionLemmas.{bytes-positioned_from, l
 use Rattle.data_encoding.proofs.grammar.KeptLemmas.{kept_from-more}
 use Rattle.data_encoding.proofs.grammar.LengthLemmas.{length_fault-none, valid-whole, whole-less}
 use Rattle.data_encoding.proofs.grammar.SoundLemmas.{AreSound-append, first-none, sound-all}
-use Rattle.data_encoding.proofs.grammar.MeaningLemmas.{Means-no_fault}
 use Rattle.data_encoding.proofs.decoding.ProgressLemmas.{sound_bytes-front}
-use Rattle.data_encoding.proofs.decoding.StopLemmas.{IsAtFault, bounds, fault_is, kind-located, kind-next, kind_of, other-group, pos, rest_is, sound_len_is, whole}
+use Rattle.data_encoding.proofs.decoding.StopLemmas.{IsAtFault, bounds, kind-located, kind-next, kind_of, other-group, pos, rest_is, sound_len_is, stops, whole}
 use Rattle.data_encoding.proofs.decoding.GreatestLengthLemmas.{greatest-least, greatest-less, greatest-more, greatest-same, greatest-valid}
 use Rattle.data_encoding.proofs.decoding.IgnoringLemmas.{group-kept}
 use Rattle.data_encoding.proofs.decoding.CutLemmas.{kept-cut}
@@ -63,8 +62,7 @@ module _ (base : Base) (width : IsWidth base.width) (group : List Positioned)
         → is_valid_length base (length group) ≡ false
     by false is = is
     by true is =
-        let whole = subst (λ n. cond (is_padded base) (nat_lt n (group_symbols base.width) ≡ false)
-        (is_valid_count base.width n ≡ true)) (sym (length-meanings base group))
+        let whole = rw (← length-meanings base group) at
         (valid-whole base (length group) some is) in
         absurd (false≢true (sym (kind-located group (group_fault base (bytes_in group)) error
         (other-group base (meanings_in base group) (is_padded base) refl whole) fault) ∙ kind))
@@ -83,7 +81,7 @@ module _ (base : Base) (width : IsWidth base.width) (group : List Positioned)
         position_is = position-fault LengthFault group index error here;
       }
 
-module _ (base : Base) (text : List ℕ) (read written : ℕ) (output : List ℕ) (error : DecodeError)
+module _ {base : Base} {text : List ℕ} {read written : ℕ} {output : List ℕ} {error : DecodeError}
     (at : IsAtFault base text read written output error)
     (kind : is_length_fault error.kind ≡ true) where
   abbrev size : ℕ
@@ -118,12 +116,11 @@ module _ (base : Base) (text : List ℕ) (read written : ℕ) (output : List ℕ
       let last : kept_from base at.stop text ≡ [] =
       ⊎_elim {C = kept_from base at.stop text ≡ []}
       (λ full. absurd (omega (arith, full, short.few))) (λ none. none) at.next.last in
-      rest_is base text read written output error at
+      rest_is at
       ∙ ap (λ l. at.group ++ l) last ∙ append-nil at.group
 
   inside : (read ≤ error.position) × (error.position < at.stop)
-  inside =
-      bounds base text read written output error at
+  inside = bounds at
 
   -- before its fault stand that many of its bytes
   kept_before : kept base (take error.position text)
@@ -154,7 +151,7 @@ module _ (base : Base) (text : List ℕ) (read written : ℕ) (output : List ℕ
   no_length part =
       length_fault-none base (length part)
       (λ none.
-      absurd (false≢true (sym (kind-next base text read written output error at none) ∙ kind)))
+      absurd (false≢true (sym (kind-next at none) ∙ kind)))
 
   -- bytes without a fault at the front of what is left are bytes of the group
   run_kept : (count : ℕ) → count ≤ length (drop read text) → count ≤ size
@@ -196,33 +193,7 @@ module _ (base : Base) (text : List ℕ) (read written : ℕ) (output : List ℕ
   read_by : (sound : Bool) → is_sound_run base (drop read text) ≡ sound
       → read_len base text error ≡ cond sound error.position read
   read_by sound is =
-      let read_is : sound_len base text ≡ read =
-      sound_len_is base text read written output error at in
-      (λ i. cond (kind i && is_sound_run base (drop (read_is i) text)) error.position (read_is i))
-      ∙ ap (λ b. cond b error.position read) is
-
-  stops : (new : List ℕ) (end count : ℕ) → read_len base text error ≡ end
-      → end ≤ error.position → fault_of base (take end text) ≡ None → count ≤ length new
-      → sound_bytes base (take end text) ≡ take count new
-      → StopsAt base text new (record { read = end; written = count; error = error })
-  stops new end count read_is before sound fits bytes =
-      let written_is : length (sound_bytes base (take end text)) ≡ count =
-      ap length bytes ∙ length-take-le count new fits in
-      record {
-        is_partial =
-            ap (partial_by base text)
-            (fault_is base text read written output error at)
-            ∙ ap (λ k. Some (record {
-              read = k;
-              written = length (sound_bytes base (take k text));
-              error = error;
-            })) read_is
-            ∙ ap (λ k. Some (record { read = end; written = k; error = error })) written_is;
-        means = subst (Means base (take end text)) bytes
-            (Means-no_fault base at.width (take end text) sound);
-        read_before = before;
-        within = omega (arith, inside.1, at.next.is_part.within);
-      }
+      rw (kind, sound_len_is at, is)
 
   -- no group but those that were read before
   front_sound : (end : ℕ) → groups base (take end text) ≡ groups base (take read text)
@@ -235,7 +206,7 @@ module _ (base : Base) (text : List ℕ) (read written : ℕ) (output : List ℕ
       → sound_bytes base (take end text) ≡ take written output
   front_bytes end same =
       ap (λ gs. flat_map (bytes_of_group base) (sound_after false base gs)) same
-      ∙ sound_bytes-front base at.width text read written at.ended output at.so_far
+      ∙ sound_bytes-front base at.width text at.so_far
 
   -- where no run is left before the fault, all up to it is read
   pub last-none : len ≡ 0 → (new : List ℕ) → written ≤ length new
@@ -248,7 +219,7 @@ module _ (base : Base) (text : List ℕ) (read written : ℕ) (output : List ℕ
       ap (runs size) (kept_before
       ∙ ap (λ n. kept base (take read text) ++ take n at.group) first
       ∙ append-nil (kept base (take read text))) in
-      stops new error.position written
+      stops at new error.position written
       (read_by true (sound_run-none base at.width (drop read text) none)) (omega arith)
       (front_sound error.position front_same) fits
       (front_bytes error.position front_same ∙ sym same)
@@ -289,8 +260,7 @@ module _ (base : Base) (text : List ℕ) (read written : ℕ) (output : List ℕ
     groups_more =
         ap (runs size) (kept_before ∙ ap (λ l. kept base (take read text) ++ l) run_is)
         ∙ runs-join size (kept base (take read text)) run
-        (pos base text read written output error at)
-        (whole base text read written output error at)
+        (pos at) (whole at)
         ∙ ap (λ l. groups base (take read text) ++ l)
         (runs-short size run (omega (arith, run_len, some)) (omega (arith, run_len, few)))
 
@@ -310,7 +280,7 @@ module _ (base : Base) (text : List ℕ) (read written : ℕ) (output : List ℕ
         → StopsAt base text new
         (record { read = error.position; written = written + count; error = error })
     last-sound count new fits writes =
-        stops new error.position (written + count)
+        stops at new error.position (written + count)
         (read_by true (sound_run-group base at.width (drop read text) some few sound)) (omega arith)
         ((λ i. or_else (no_length (take error.position text) i)
         (first_after false base (groups_more i)))
@@ -333,7 +303,7 @@ module _ (base : Base) (text : List ℕ) (read written : ℕ) (output : List ℕ
       → (new : List ℕ) → written ≤ length new → take written new ≡ take written output
       → StopsAt base text new (record { read = read; written = written; error = error })
   last-unsound some bad new fits same =
-      stops new read written (read_by false unsound) inside.0 (front_sound read refl) fits
+      stops at new read written (read_by false unsound) inside.0 (front_sound read refl) fits
       (front_bytes read refl ∙ sym same) where
         none_none : (o : Option GroupFault) → o ≡ None → is_some o ≡ true → ⊥
         none_none o h k = false≢true (sym (ap is_some h) ∙ k)

@@ -48,7 +48,7 @@ module _ {base : Base} {text : List ℕ} {w bytes symbols read written : ℕ} {e
   -- where nothing is left, the text means what was written
   pub decoded : kept_from base read text ≡ [] → IsDecoded base text written output
   decoded none =
-      let found = at-end base s.width text read written ended output s.so_far s.no_fault none in
+      let found = at-end base s.width text s.so_far s.no_fault none in
       record {
         fits = s.so_far.fits;
         no_fault = found.0;

@@ -1,7 +1,6 @@
 -- A text that is decoded piece by piece: what is kept of it, after each piece and at the end.
 use Rattle.std.proofs.Common.{◌≡◌, ℕ, ◌+◌, ◌<◌, Bool, true, false, cond, ◌||◌, List, [], ◌∷◌, ◌++◌, length, Option, Some, None, is_some, refl, sym, ap, ◌∙◌, subst, arith, length-append}
 use Rattle.std.proofs.lemmas.List.{append-nil}
-use Rattle.std.proofs.lemmas.List.Concat.{flat_map-append}
 use Rattle.std.specs.Prelude.{flat_map}
 use Rattle.std.specs.List.{list_any}
 use Rattle.data_encoding.specs.declared.error.DecodeError.{DecodeError}
@@ -14,7 +13,7 @@ use Rattle.data_encoding.specs.Pieces.{HasRead, held_fault, unfinished, whole_by
 use Rattle.data_encoding.specs.Decoding.{AreSound}
 use Rattle.data_encoding.proofs.digits.WidthLemmas.{group_symbols-pos}
 use Rattle.data_encoding.proofs.grammar.KeptLemmas.{kept_in-append}
-use Rattle.data_encoding.proofs.grammar.SoundLemmas.{AreSound-append, AreSound-none, ends_after, fault_after-none, first-AreSound, sound-AreSound, sound-all}
+use Rattle.data_encoding.proofs.grammar.SoundLemmas.{AreSound-append, AreSound-none, bytes-AreSound, ends_after, fault_after-none, first-AreSound, sound-all}
 use Rattle.data_encoding.proofs.lists.RunLemmas.{runs-nil, runs-short}
 use Rattle.data_encoding.proofs.lists.WholeRunLemmas.{left, left_len, runs-left, whole_runs, whole_runs-join, whole_runs-one, whole_runs-short}
 
@@ -24,34 +23,31 @@ or_none (Some error) = refl
 
 module _ (base : Base) where
   -- a faulty group decides, whatever follows
-  first-stays : (begun : Bool) (error : DecodeError) (gs hs : List (List Positioned))
-      → first_after begun base gs ≡ Some error → first_after begun base (gs ++ hs) ≡ Some error
-  first-stays begun error [] hs h = cc
-  first-stays begun error (g ∷ gs) hs h =
-      by (fault_after begun base g) (first-stays (is_final base g) error gs hs) h where
-        by : (o : Option DecodeError)
-            → (first_after (is_final base g) base gs ≡ Some error
-            → first_after (is_final base g) base (gs ++ hs) ≡ Some error)
-            → or_else o (first_after (is_final base g) base gs) ≡ Some error
-            → or_else o (first_after (is_final base g) base (gs ++ hs)) ≡ Some error
-        by None others h = others h
-        by (Some fault) others h = h
-
-  sound-stays : (begun : Bool) (error : DecodeError) (gs hs : List (List Positioned))
+  stays : (begun : Bool) (error : DecodeError) (gs hs : List (List Positioned))
       → first_after begun base gs ≡ Some error
-      → sound_after begun base (gs ++ hs) ≡ sound_after begun base gs
-  sound-stays begun error [] hs h = cc
-  sound-stays begun error (g ∷ gs) hs h =
-      by (fault_after begun base g) (sound-stays (is_final base g) error gs hs) h where
+      → (first_after begun base (gs ++ hs) ≡ Some error)
+      × (sound_after begun base (gs ++ hs) ≡ sound_after begun base gs)
+  stays begun error [] hs h = cc
+  stays begun error (g ∷ gs) hs h =
+      by (fault_after begun base g) (stays (is_final base g) error gs hs) h where
         by : (o : Option DecodeError)
             → (first_after (is_final base g) base gs ≡ Some error
-            → sound_after (is_final base g) base (gs ++ hs)
-            ≡ sound_after (is_final base g) base gs)
+            → (first_after (is_final base g) base (gs ++ hs) ≡ Some error)
+            × (sound_after (is_final base g) base (gs ++ hs)
+            ≡ sound_after (is_final base g) base gs))
             → or_else o (first_after (is_final base g) base gs) ≡ Some error
-            → cond (is_some o) [] (g ∷ sound_after (is_final base g) base (gs ++ hs))
-            ≡ cond (is_some o) [] (g ∷ sound_after (is_final base g) base gs)
-        by None others h = ap (λ l. g ∷ l) (others h)
-        by (Some fault) others h = refl
+            → (or_else o (first_after (is_final base g) base (gs ++ hs)) ≡ Some error)
+            × (cond (is_some o) [] (g ∷ sound_after (is_final base g) base (gs ++ hs))
+            ≡ cond (is_some o) [] (g ∷ sound_after (is_final base g) base gs))
+        by None others h = let rest = others h in (rest.0, ap (λ l. g ∷ l) rest.1)
+        by (Some fault) others h = (h, refl)
+
+  -- the bytes of a group alone, unless it has a fault
+  bytes_unless : (b : Bool) (group : List Positioned)
+      → flat_map (bytes_of_group base) (cond b [] (group ∷ []))
+      ≡ cond b [] (bytes_of_group base group)
+  bytes_unless true group = refl
+  bytes_unless false group = append-nil (bytes_of_group base group)
 
   -- where none has a fault, none but the last can be final
   pub any_final : (begun ended : Bool) (gs : List (List Positioned)) → AreSound base begun gs ended
@@ -120,7 +116,7 @@ module _ (base : Base) (width : IsWidth base.width) where
       by (Some error) h = (
         [],
         ap (λ l. flat_map (bytes_of_group base) (sound_after false base l)) whole_groups-more
-            ∙ ap (flat_map (bytes_of_group base)) (sound-stays base false error gs hs h)
+            ∙ ap (flat_map (bytes_of_group base)) (stays base false error gs hs h).1
             ∙ sym (append-nil (whole_bytes base text)),
       )
       by None h =
@@ -129,9 +125,7 @@ module _ (base : Base) (width : IsWidth base.width) where
           let before = sound-all base false ended gs fine in (
             flat_map (bytes_of_group base) (sound_after ended base hs),
             ap (λ l. flat_map (bytes_of_group base) (sound_after false base l)) whole_groups-more
-                ∙ ap (flat_map (bytes_of_group base))
-                (sound-AreSound base false ended gs hs fine)
-                ∙ flat_map-append (bytes_of_group base) gs (sound_after ended base hs)
+                ∙ bytes-AreSound base false ended gs hs fine
                 ∙ ap (λ l. flat_map (bytes_of_group base) l
                 ++ flat_map (bytes_of_group base) (sound_after ended base hs)) (sym before),
           )
@@ -143,17 +137,16 @@ module _ (base : Base) (width : IsWidth base.width) where
           → HasRead base (text ++ piece) (len + length piece) (Some error) other end
           × (whole_bytes base (text ++ piece) ≡ whole_bytes base text)
       HasRead-faulty error other end read =
-          let hs = whole_runs size (unfinished base text ++ more) in (
+          let hs = whole_runs size (unfinished base text ++ more) in
+          let same = stays base false error (whole_groups base text) hs (sym read.first) in (
             record {
               counted = omega (arith, read.counted, length-append text piece);
-              first = sym (ap (first_fault base) whole_groups-more
-                  ∙ first-stays base false error (whole_groups base text) hs (sym read.first));
+              first = sym (ap (first_fault base) whole_groups-more ∙ same.0);
               holds = λ h. absurd (some_none h);
               ends = λ h. absurd (some_none h);
             },
             ap (λ gs. flat_map (bytes_of_group base) (sound_after false base gs)) whole_groups-more
-                ∙ ap (flat_map (bytes_of_group base))
-                (sound-stays base false error (whole_groups base text) hs (sym read.first)),
+                ∙ ap (flat_map (bytes_of_group base)) same.1,
           ) where
             some_none : Some error ≡ None → ⊥
             some_none h = cc
@@ -235,17 +228,9 @@ module _ (base : Base) (width : IsWidth base.width) where
               let gs = whole_groups base text in
               let before = sound-all base false ended gs sound in
               ap (λ l. flat_map (bytes_of_group base) (sound_after false base l)) groups_are
-              ∙ ap (flat_map (bytes_of_group base))
-              (sound-AreSound base false ended gs (group ∷ []) sound)
-              ∙ flat_map-append (bytes_of_group base) gs
-              (sound_after ended base (group ∷ []))
+              ∙ bytes-AreSound base false ended gs (group ∷ []) sound
               ∙ (λ i. flat_map (bytes_of_group base) (sym before i)
-              ++ last (is_some (fault_after ended base group)) i) where
-                last : (b : Bool)
-                    → flat_map (bytes_of_group base) (cond b [] (group ∷ []))
-                    ≡ cond b [] (bytes_of_group base group)
-                last true = refl
-                last false = append-nil (bytes_of_group base group)
+              ++ bytes_unless base (is_some (fault_after ended base group)) group i)
 
   -- At the end, what is held is a last group.
 
@@ -265,12 +250,7 @@ module _ (base : Base) (width : IsWidth base.width) where
   bytes_at_end ended (k ∷ ks) short =
       ap (λ gs. flat_map (bytes_of_group base) (sound_after ended base gs))
       (runs-short size (k ∷ ks) (omega arith) (omega (arith, short)))
-      ∙ last (is_some (fault_after ended base (k ∷ ks))) where
-        last : (b : Bool)
-            → flat_map (bytes_of_group base) (cond b [] ((k ∷ ks) ∷ []))
-            ≡ cond b [] (bytes_of_group base (k ∷ ks))
-        last true = refl
-        last false = append-nil (bytes_of_group base (k ∷ ks))
+      ∙ bytes_unless base (is_some (fault_after ended base (k ∷ ks))) (k ∷ ks)
 
   module _ (text : List ℕ) (len : ℕ) (held : List Positioned) (ended : Bool) where
     abbrev wholes : List (List Positioned)
@@ -286,7 +266,7 @@ module _ (base : Base) (width : IsWidth base.width) where
         → first_fault base (groups base text) ≡ or_else fault (held_fault ended base held)
     first_read (Some error) read =
         ap (first_fault base) groups_are_all
-        ∙ first-stays base false error wholes (runs size (unfinished base text)) (sym read.first)
+        ∙ (stays base false error wholes (runs size (unfinished base text)) (sym read.first)).0
     first_read None read =
         let is : unfinished base text ≡ held = sym (read.holds refl) in
         ap (first_fault base) groups_are_all
@@ -310,7 +290,7 @@ module _ (base : Base) (width : IsWidth base.width) where
     sound_bytes-read (Some error) read =
         ap (λ gs. flat_map (bytes_of_group base) (sound_after false base gs)) groups_are_all
         ∙ ap (flat_map (bytes_of_group base))
-        (sound-stays base false error wholes (runs size (unfinished base text)) (sym read.first))
+        (stays base false error wholes (runs size (unfinished base text)) (sym read.first)).1
         ∙ sym (append-nil (whole_bytes base text))
     sound_bytes-read None read =
         let is : unfinished base text ≡ held = sym (read.holds refl) in
@@ -318,8 +298,6 @@ module _ (base : Base) (width : IsWidth base.width) where
         let before = sound-all base false ended wholes fine in
         ap (λ gs. flat_map (bytes_of_group base) (sound_after false base gs))
         (groups_are_all ∙ ap (λ l. wholes ++ runs size l) is)
-        ∙ ap (flat_map (bytes_of_group base))
-        (sound-AreSound base false ended wholes (runs size held) fine)
-        ∙ flat_map-append (bytes_of_group base) wholes (sound_after ended base (runs size held))
+        ∙ bytes-AreSound base false ended wholes (runs size held) fine
         ∙ (λ i. flat_map (bytes_of_group base) (sym before i)
         ++ bytes_at_end ended held (held_short is) i)

@@ -19,7 +19,6 @@ use Rattle.data_encoding.proofs.lists.RunLemmas.{runs-nil, runs-join, runs-short
 use Rattle.data_encoding.proofs.lists.EndLemmas.{AllSo}
 use Rattle.data_encoding.proofs.grammar.PositionLemmas.{length-kept, length-positioned_from, length-meanings}
 use Rattle.data_encoding.proofs.grammar.KeptLemmas.{between, kept_in-append, kept-split, kept-more, kept_from-more, position_after-append, position_after-positioned}
-use Rattle.data_encoding.proofs.grammar.LengthLemmas.{most_bytes-by}
 use Rattle.data_encoding.proofs.grammar.GroupLemmas.{GroupMeans-sound}
 use Rattle.data_encoding.proofs.grammar.MeaningLemmas.{Means-no_fault}
 use Rattle.data_encoding.proofs.grammar.SoundLemmas.{AreSound-append, fault_after-none, first-none, sound-all}
@@ -86,11 +85,11 @@ module _ (base : Base) (width : IsWidth base.width) (text : List ℕ) where
   }
 
   -- another output with the same bytes at its front
-  pub same-output : (read written : ℕ) (ended : Bool) (old new : List ℕ)
+  pub same-output : {read written : ℕ} {ended : Bool} {old : List ℕ} (new : List ℕ)
       → HasDecodedTo base text read written ended old
       → written ≤ length new → take written new ≡ take written old
       → HasDecodedTo base text read written ended new
-  same-output read written ended old new so_far fits same = record {
+  same-output new so_far fits same = record {
     within = so_far.within;
     sound = so_far.sound;
     whole = so_far.whole;
@@ -100,11 +99,11 @@ module _ (base : Base) (width : IsWidth base.width) (text : List ℕ) where
   }
 
   -- while something is left, whole groups were read
-  pub whole-before : (read written : ℕ) (begun : Bool) (old : List ℕ) (stop : ℕ)
-      (part : List Positioned)
+  pub whole-before : {read written : ℕ} {begun : Bool} {old : List ℕ} {stop : ℕ}
+      {part : List Positioned}
       → HasDecodedTo base text read written begun old → IsPart base text read stop part
       → length (kept base (take read text)) % dec ≡ 0
-  whole-before read written begun old stop part so_far next =
+  whole-before {read} {stop} so_far next =
       ⊎_elim {C = length (kept base (take read text)) % dec ≡ 0} (λ whole. whole)
       (λ all.
       let left = kept_from-more base read text so_far.within stop next.after next.within in
@@ -117,17 +116,18 @@ module _ (base : Base) (width : IsWidth base.width) (text : List ℕ) where
       )))
       so_far.whole
 
-  groups-more : (read written : ℕ) (begun : Bool) (old : List ℕ) (stop : ℕ) (part : List Positioned)
+  groups-more : {read written : ℕ} {begun : Bool} {old : List ℕ} {stop : ℕ} {part : List Positioned}
       → HasDecodedTo base text read written begun old → IsPart base text read stop part
       → groups base (take stop text) ≡ groups base (take read text) ++ runs dec part
-  groups-more read written begun old stop part so_far next =
+  groups-more {read} {stop} {part} so_far next =
       ap (runs dec) (kept-more base read text so_far.within stop next.after next.within
       ∙ ap (λ l. kept base (take read text) ++ l) (sym next.is_kept))
       ∙ runs-join dec (kept base (take read text)) part pos
-      (whole-before read written begun old stop part so_far next)
+      (whole-before so_far next)
 
-  advance : (read written stop count : ℕ) (begun ended : Bool) (part : List Positioned)
-      (old new : List ℕ) → HasDecodedTo base text read written begun old
+  advance : {read written stop : ℕ} (count : ℕ) {begun : Bool} (ended : Bool)
+      {part : List Positioned} {old : List ℕ} (new : List ℕ)
+      → HasDecodedTo base text read written begun old
       → IsPart base text read stop part
       → AreSound base begun (runs dec part) ended
       → (length part % dec ≡ 0) ⊎ ((kept_from base stop text ≡ []) × (is_padded base ≡ false))
@@ -135,8 +135,8 @@ module _ (base : Base) (width : IsWidth base.width) (text : List ℕ) where
       → take (written + count) new
       ≡ take written old ++ flat_map (bytes_of_group base) (runs dec part)
       → HasDecodedTo base text stop (written + count) ended new
-  advance read written stop count begun ended part old new so_far next sound last fits writes =
-      let more = groups-more read written begun old stop part so_far next in
+  advance {read} {stop} count {begun} ended {part} new so_far next sound last fits writes =
+      let more = groups-more so_far next in
       let parts = kept-more base read text so_far.within stop next.after next.within
       ∙ ap (λ l. kept base (take read text) ++ l) (sym next.is_kept) in
       record {
@@ -149,7 +149,7 @@ module _ (base : Base) (width : IsWidth base.width) (text : List ℕ) where
             (λ whole. inl (ap (λ n. n % dec)
             (ap length parts ∙ length-append (kept base (take read text)) part)
             ∙ both_whole dec (length (kept base (take read text))) (length part)
-            (whole-before read written begun old stop part so_far next) whole))
+            (whole-before so_far next) whole))
             (λ all. inr all) last;
         ends = ap position_after parts
             ∙ position_after-append (kept base (take read text)) part next.some ∙ next.ends;
@@ -162,7 +162,7 @@ module _ (base : Base) (width : IsWidth base.width) (text : List ℕ) where
       }
 
   -- so many whole groups, of symbols alone, behind ignored bytes
-  pub after-run : (read written skip count : ℕ) (old new : List ℕ)
+  pub after-run : {read written skip : ℕ} (count : ℕ) {old : List ℕ} (new : List ℕ)
       → HasDecodedTo base text read written false old
       → IsIgnoredFront base (drop read text) skip
       → 0 < count
@@ -173,7 +173,7 @@ module _ (base : Base) (width : IsWidth base.width) (text : List ℕ) where
       → take (written + count * enc) new
       ≡ take written old ++ run_bytes base (take (count * dec) (drop (read + skip) text))
       → HasDecodedTo base text (read + skip + count * dec) (written + count * enc) false new
-  after-run read written skip count old new so_far front many room symbols fits writes =
+  after-run {read} {written} {skip} count {old} new so_far front many room symbols fits writes =
       let n = count * dec in
       let start = read + skip in
       let part = take n (drop start text) in
@@ -201,8 +201,7 @@ module _ (base : Base) (width : IsWidth base.width) (text : List ℕ) where
       ∙ kept_in-symbols base start part all in
       let len : length (positioned_from start part) ≡ n =
       length-positioned_from start part ∙ part_len in
-      advance read written (start + n) (count * enc) false false (positioned_from start part) old
-      new so_far
+      advance (count * enc) false new so_far
       (record {
         after = omega arith;
         within = omega (arith, start_in, room);
@@ -218,17 +217,16 @@ module _ (base : Base) (width : IsWidth base.width) (text : List ℕ) where
       (writes ∙ ap (λ l. take written old ++ l) (run_bytes-positioned base width start part))
 
   -- a group more
-  pub after-group : (read written stop count : ℕ) (begun : Bool) (group : List Positioned)
-      (old new : List ℕ) → HasDecodedTo base text read written begun old
+  pub after-group : {read written stop : ℕ} (count : ℕ) {begun : Bool} {group : List Positioned}
+      {old : List ℕ} (new : List ℕ) → HasDecodedTo base text read written begun old
       → IsNext base text read stop group → fault_after begun base group ≡ None
       → written + count ≤ length new
       → take (written + count) new ≡ take written old ++ bytes_of_group base group
       → HasDecodedTo base text stop (written + count) (is_final base group) new
-  after-group read written stop count begun group old new so_far next sound fits writes =
+  after-group {written} {stop} count {begun} {group} {old} new so_far next sound fits writes =
       let one : runs dec group ≡ group ∷ [] = runs-short dec group next.is_part.some next.few in
       let no_fault = (fault_after-none base begun group sound).1 in
-      advance read written stop count begun (is_final base group) group old new so_far
-      next.is_part
+      advance count (is_final base group) new so_far next.is_part
       (subst (λ gs. AreSound base begun gs (is_final base group)) (sym one) (sound, refl))
       (by (is_padded base) refl no_fault)
       fits
@@ -240,16 +238,16 @@ module _ (base : Base) (width : IsWidth base.width) (text : List ℕ) where
             ⊎ ((kept_from base stop text ≡ []) × (is_padded base ≡ false))
         by true is h =
             let len = length-meanings base group in
-            let means = GroupMeans-sound base width is (meanings_in base group)
-            (omega (arith, len, next.few)) h in
-            inl (ap (λ n. n % dec) (sym len ∙ means.is_whole) ∙ mod_self dec)
+            let means = GroupMeans-sound base width (meanings_in base group)
+            (omega (arith, len, next.is_part.some)) (omega (arith, len, next.few)) h in
+            inl (ap (λ n. n % dec) (sym len ∙ means.is_whole is) ∙ mod_self dec)
         by false is h =
             ⊎_elim {C = (length group % dec ≡ 0)
             ⊎ ((kept_from base stop text ≡ []) × (is_padded base ≡ false))}
             (λ whole. inl (ap (λ n. n % dec) whole ∙ mod_self dec)) (λ none. inr (none, is))
             next.last
 
-  module _ (read written : ℕ) (ended : Bool) (output : List ℕ)
+  module _ {read written : ℕ} {ended : Bool} {output : List ℕ}
       (so_far : HasDecodedTo base text read written ended output) where
     pub written_len : length (take written output) ≡ written
     written_len = length-take-le written output so_far.fits
@@ -280,20 +278,16 @@ module _ (base : Base) (width : IsWidth base.width) (text : List ℕ) where
     room-run count h = by (is_padded base) refl where
       by : (b : Bool) → is_padded base ≡ b → written + count * enc ≤ most_bytes base (length text)
       by false is =
-          subst (λ most. written + count * enc ≤ most)
-          (sym (most_bytes-by base (length text) false is))
-          (room-plain base.width enc dec (length text) read written (group_bits base.width width)
-          so_far.within few_bits count h)
+          rw is (room-plain base.width enc dec (length text) read written
+          (group_bits base.width width) so_far.within few_bits count h)
       by true is =
           let many = length (kept base (take read text)) in
           let whole : many % dec ≡ 0 =
           ⊎_elim {C = many % dec ≡ 0} (λ exact. exact)
           (λ all. absurd (false≢true (sym all.1 ∙ is))) so_far.whole in
           let exact : many / dec * dec ≡ many = omega (arith, div-add-mod' many dec, whole) in
-          subst (λ most. written + count * enc ≤ most)
-          (sym (most_bytes-by base (length text) true is))
-          (room-whole base.width enc dec (length text) read written (group_bits base.width width)
-          so_far.within pos (many / dec) count
+          rw is (room-whole base.width enc dec (length text) read written
+          (group_bits base.width width) so_far.within pos (many / dec) count
           (subst (λ n. 8 * written ≤ base.width * n) (sym exact) few_written)
           (omega (arith, exact, few_kept)) h)
 
@@ -303,8 +297,7 @@ module _ (base : Base) (width : IsWidth base.width) (text : List ℕ) where
     room-group count is h =
         let bits = room-bits base.width enc dec (length text) read written
         (group_bits base.width width) so_far.within few_bits count h in
-        subst (λ most. written + base.width * count / 8 ≤ most)
-        (sym (most_bytes-by base (length text) false is)) (omega (arith, bits))
+        rw is (omega (arith, bits))
 
     -- the bytes of what was read
     pub sound_bytes-front : sound_bytes base (take read text) ≡ take written output

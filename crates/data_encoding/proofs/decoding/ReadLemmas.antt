@@ -24,15 +24,21 @@ record Gathers (base : Base) (size : ℕ) (part : List ℕ) : Type 0 where
   is : IsGathered base size part group span
 
 module _ (base : Base) (size : ℕ) (part : List ℕ) where
+  -- what was gathered is a group where that is whole, or nothing is left
+  ends : {index count span : ℕ} {room : List ℕ} → HasGathered base part index count span room
+      → index ≤ length part → count ≤ size → (count ≡ size) ⊎ (index ≡ length part)
+      → Gathers base size part
+  ends {count} {span} {room} so_far within few last = record {
+    group = take count room;
+    span = span;
+    is = gathered so_far within few last;
+  }
+
   gather_from : (fuel index count span : ℕ) (room : List ℕ)
       → HasGathered base part index count span room → index ≤ length part
       → length part ≤ index + fuel → count ≤ size → length room ≡ size → Gathers base size part
-  gather_from zero index count span room so_far within left few len = record {
-    group = take count room;
-    span = span;
-    is = gathered base size part index count span room so_far within few
-        (inr (omega (arith, within, left)));
-  }
+  gather_from zero index count span room so_far within left few len =
+      ends so_far within few (inr (omega (arith, within, left)))
   gather_from (suc fuel) index count span room so_far within left few len =
       ⊎_elim {C = Gathers base size part}
       (λ (more : count < size).
@@ -42,19 +48,10 @@ module _ (base : Base) (size : ℕ) (part : List ℕ) where
       (λ n reach bytes found fits same. gather_from fuel (index + 1) n reach bytes found
       (omega (arith, inside)) (omega (arith, left)) fits same)
       (is_ignored (meaning base (get_or part index 0))) refl)
-      (λ (end : length part ≤ index). record {
-        group = take count room;
-        span = span;
-        is = gathered base size part index count span room so_far within few
-            (inr (omega (arith, within, end)));
-      })
+      (λ (end : length part ≤ index).
+      ends so_far within few (inr (omega (arith, within, end))))
       (cases_lt index (length part)))
-      (λ (full : size ≤ count). record {
-        group = take count room;
-        span = span;
-        is = gathered base size part index count span room so_far within few
-            (inl (omega (arith, few, full)));
-      })
+      (λ (full : size ≤ count). ends so_far within few (inl (omega (arith, few, full))))
       (cases_lt count size) where
         here : index < length part → count < size
             → ((n reach : ℕ) (bytes : List ℕ)
@@ -106,18 +103,14 @@ module _ (base : Base) (width : IsWidth base.width) (text : List ℕ)
   size = group_symbols base.width
 
   -- what was written, and bytes behind it
-  module _ (read written : ℕ) (ended : Bool) (output : List ℕ)
+  module _ {read written : ℕ} {ended : Bool} {output : List ℕ}
       (so_far : HasDecodedTo base text read written ended output) (bytes : List ℕ) where
     abbrev behind : List ℕ
     behind = take written output ++ bytes
 
     behind_len : written + length bytes ≡ length behind
     behind_len =
-        omega (
-          arith,
-          written_len base width text read written ended output so_far,
-          length-append (take written output) bytes,
-        )
+        omega (arith, written_len base width text so_far, length-append (take written output) bytes)
 
     behind_fits : written + length bytes ≤ length behind
     behind_fits = omega (arith, behind_len)
@@ -155,8 +148,7 @@ module _ (base : Base) (width : IsWidth base.width) (text : List ℕ)
       unsound kind some bad = record {
         output = output;
         partial = record { read = read; written = written; error = error };
-        is = last-unsound base text read written output error here kind some bad output
-            so_far.fits refl;
+        is = last-unsound here kind some bad output so_far.fits refl;
         front = λ other. absurd (false≢true (sym other ∙ kind));
       }
 
@@ -172,10 +164,8 @@ module _ (base : Base) (width : IsWidth base.width) (text : List ℕ)
               written = written + length bytes;
               error = error;
             };
-            is = last-sound base text read written output error here kind some few is (length bytes)
-                (take written output ++ bytes)
-                (behind_fits read written ended output so_far bytes)
-                (behind_all read written ended output so_far bytes);
+            is = last-sound here kind some few is (length bytes) (take written output ++ bytes)
+                (behind_fits so_far bytes) (behind_all so_far bytes);
             front = λ other. absurd (false≢true (sym other ∙ kind));
           }
 
@@ -183,8 +173,8 @@ module _ (base : Base) (width : IsWidth base.width) (text : List ℕ)
       by false kind = record {
         output = output;
         partial = record { read = read; written = written; error = error };
-        is = at-fault base text read written output error here kind;
-        front = λ _. sound-front base text read written output error here;
+        is = at-fault here kind;
+        front = λ _. sound-front here;
       }
       by true kind =
           ⊎_elim {C = Stops base text}
@@ -196,8 +186,7 @@ module _ (base : Base) (width : IsWidth base.width) (text : List ℕ)
           (λ (none : len ≤ 0). record {
             output = output;
             partial = record { read = error.position; written = written; error = error };
-            is = last-none base text read written output error here kind (omega (arith, none))
-                output so_far.fits refl;
+            is = last-none here kind (omega (arith, none)) output so_far.fits refl;
             front = λ other. absurd (false≢true (sym other ∙ kind));
           })
           (cases_lt 0 len)
@@ -209,12 +198,11 @@ module _ (base : Base) (width : IsWidth base.width) (text : List ℕ)
         let nexts = next_bytes base text read next.span in
         ⊎_elim {C = Stops base text ⊎ HasReadPast base text read}
         (λ (some : 0 < length next.group).
-        by next some (is-next base width text read so_far.within next.group next.span next.is some)
+        by next some (is-next base width text read so_far.within next.is some)
         (fault_after ended base nexts) refl)
         (λ (none : length next.group ≤ 0).
-        let end = at-end base width text read written ended output so_far no_length_fault
-        (none-next base width text read so_far.within next.group next.span next.is
-        (omega (arith, none))) in
+        let end = at-end base width text so_far no_length_fault
+        (none-next base width text read so_far.within next.is (omega (arith, none))) in
         absurd (some_none (sym fault ∙ end.0)))
         (cases_lt 0 (length next.group)) where
           some_none : Some first ≡ None → ⊥
@@ -236,15 +224,10 @@ module _ (base : Base) (width : IsWidth base.width) (text : List ℕ)
                 written = written + length bytes;
                 ended = is_final base group;
                 output = take written output ++ bytes;
-                so_far = after-group base width text read written (read + next.span)
-                    (length bytes) ended group output (take written output ++ bytes) so_far is_next
-                    sound (behind_fits read written ended output so_far bytes)
-                    (behind_all read written ended output so_far bytes);
-                more = omega (
-                  arith,
-                  some,
-                  gathered-few base size (drop read text) next.group next.span next.is,
-                );
+                so_far = after-group base width text (length bytes)
+                    (take written output ++ bytes) so_far is_next sound (behind_fits so_far bytes)
+                    (behind_all so_far bytes);
+                more = omega (arith, some, gathered-few next.is);
               })
 
   -- an induction on a bound of the bytes that are left

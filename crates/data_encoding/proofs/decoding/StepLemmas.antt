@@ -96,8 +96,7 @@ module _ {base : Base} {text : List ℕ} {w bytes symbols read written : ℕ} {e
       → IsGathered base symbols (take (length text - read) (drop read text)) group span
       → IsGathered base (group_symbols base.width) (drop read text) group span
   gathered_here {group} {span} is =
-      subst (λ n. IsGathered base n (drop read text) group span) s.symbols_is
-      (subst (λ l. IsGathered base symbols l group span) (take_rest text read) is)
+      rw (s.symbols_is, take_rest text read) at is
 
 module _ {base : Base} {text : List ℕ} {w bytes symbols read written : ℕ} {output : List ℕ}
     (s : IsUnderWay base text w bytes symbols read written false output) where
@@ -120,14 +119,10 @@ module _ {base : Base} {text : List ℕ} {w bytes symbols read written : ℕ} {o
         let fits : count * enc ≤ length (drop written output) =
         omega (
           arith,
-          room-run base s.width text read written false output s.so_far count whole,
+          room-run base s.width text s.so_far count whole,
           length-drop written output,
         ) in
-        let same : length (take (length text - start) (drop start text)) / symbols * bytes
-        ≡ count * enc =
-        λ i. length (take_rest text start i) / s.symbols_is i * s.bytes_is i in
-        subst (λ n. n ≤ length (take (length output - written) (drop written output))) (sym same)
-        (subst (λ l. count * enc ≤ length l) (sym (take_rest output written)) fits)
+        rw (take_rest text start, take_rest output written, s.symbols_is, s.bytes_is) fits
 
     -- what a run does
     module _ {count : ℕ} {rest old : List ℕ}
@@ -145,8 +140,7 @@ module _ {base : Base} {text : List ℕ} {w bytes symbols read written : ℕ} {o
       room =
           omega (
             arith,
-            room-run base s.width text read written false output s.so_far count
-                (omega (arith, inside)),
+            room-run base s.width text s.so_far count (omega (arith, inside)),
             rest_len,
             ap length (take_rest output written),
             length-drop written output,
@@ -156,18 +150,14 @@ module _ {base : Base} {text : List ℕ} {w bytes symbols read written : ℕ} {o
           → HasDecodedTo base text (read + skip + count * symbols) (written + count * bytes) false
           (rewritten written output rest)
       run_done some =
-          let dec = group_symbols base.width in
           let enc = group_bytes base.width in
           let new = rewritten written output rest in
           let fits = length-rewritten written output rest s.so_far.fits in
-          subst (λ n. HasDecodedTo base text n (written + count * bytes) false new)
-          (ap (λ d. read + skip + count * d) (sym s.symbols_is))
-          (subst (λ n. HasDecodedTo base text (read + skip + count * dec) n false new)
-          (ap (λ e. written + count * e) (sym s.bytes_is))
-          (after-run base s.width text read written skip count output new s.so_far front some
-          inside here.are_symbols (omega (arith, room, fits))
+          rw (s.symbols_is, s.bytes_is)
+          (after-run base s.width text count new s.so_far front some inside here.are_symbols
+          (omega (arith, room, fits))
           (take-rewritten written output rest s.so_far.fits (count * enc)
-          ∙ ap (λ l. take written output ++ l) here.bytes)))
+          ∙ ap (λ l. take written output ++ l) here.bytes))
 
       pub after_run : 0 < count
           → IsUnderWay base text w bytes symbols (read + skip + count * symbols)
@@ -189,28 +179,22 @@ module _ {base : Base} {text : List ℕ} {w bytes symbols read written : ℕ} {o
         (take (length text - (read + skip)) (drop (read + skip) text)) group span) where
       found_behind : IsGathered base symbols (drop skip (drop read text)) group span
       found_behind =
-          subst (λ l. IsGathered base symbols l group span)
-          (take_rest text start ∙ sym (drop-drop skip read text)) is
+          rw (take_rest text start, ← drop-drop skip read text) at is
 
       pub gathered-next : 0 < length group
           → IsGathered base symbols (take (length text - read) (drop read text)) group (skip + span)
       gathered-next some =
           subst (λ l. IsGathered base symbols l group (skip + span)) (sym (take_rest text read))
           (gathered-behind base symbols (drop read text) group skip span front found_behind
-          (omega (
-            arith,
-            some,
-            gathered-few base symbols (drop skip (drop read text)) group span found_behind,
-          )))
+          (omega (arith, some, gathered-few found_behind)))
 
       pub decoded-none : {empty : Bool} → empty ≡ (length group == 0) → empty ≡ true
           → IsDecoded base text written output
       decoded-none empty_is empty =
           let found : IsGathered base (group_symbols base.width) (drop start text) group span =
-          subst (λ n. IsGathered base n (drop start text) group span) s.symbols_is
-          (subst (λ l. IsGathered base symbols l group span) (take_rest text start) is) in
+          rw (s.symbols_is, take_rest text start) at is in
           decoded s (nothing-behind base text read skip s.so_far.within front
-          (none-next base s.width text start start-within group span found
+          (none-next base s.width text start start-within found
           (eqb-true (length group) 0 (sym empty_is ∙ empty))))
 
   -- the same with other bytes behind what was written
@@ -220,8 +204,8 @@ module _ {base : Base} {text : List ℕ} {w bytes symbols read written : ℕ} {o
   after_none rest rest_len =
       let len = length-rewritten_same written output rest s.so_far.fits rest_len in
       further s len
-      (same-output base s.width text read written false output (rewritten written output rest)
-      s.so_far (omega (arith, len, s.so_far.fits))
+      (same-output base s.width text (rewritten written output rest) s.so_far
+      (omega (arith, len, s.so_far.fits))
       (take-put_mid_below written (length output - written) output rest written (omega arith)
       s.so_far.fits))
 
@@ -236,16 +220,9 @@ module _ {base : Base} {text : List ℕ} {w bytes symbols read written : ℕ} {o
         let bits : base.width * count ≡ 8 * group_bytes base.width =
         ap (λ n. base.width * n) all ∙ group_bits base.width s.width in
         let one : 1 * group_symbols base.width ≤ length text - read = omega (arith, all, few) in
-        omega (
-          arith,
-          bits,
-          room-run base s.width text read written false output s.so_far 1 one,
-        )
+        omega (arith, bits, room-run base s.width text s.so_far 1 one)
     by false unpadded =
-        omega (
-          arith,
-          room-group base s.width text read written false output s.so_far count unpadded few,
-        )
+        omega (arith, room-group base s.width text s.so_far count unpadded few)
 
   -- so has the greatest front of valid length, where it is one group
   room-last : length (valid_front base (drop read text)) ≤ symbols
@@ -287,12 +264,7 @@ module _ {base : Base} {text : List ℕ} {w bytes symbols read written : ℕ} {o
 
       few_left : length group ≤ length text - read
       few_left =
-          omega (
-            arith,
-            gathered-few base (group_symbols base.width) (drop read text) group span found_here,
-            found_here.within,
-            length-drop read text,
-          )
+          omega (arith, gathered-few found_here, found_here.within, length-drop read text)
 
       -- a group has room
       pub room-next_group : (is_padded base ≡ true → length group ≡ symbols)
@@ -312,7 +284,7 @@ module _ {base : Base} {text : List ℕ} {w bytes symbols read written : ℕ} {o
 
       module _ (some : 0 < length group) where
         next : IsNext base text read (read + span) placed
-        next = is-next base s.width text read s.so_far.within group span found_here some
+        next = is-next base s.width text read s.so_far.within found_here some
 
         fault_here : (fault : GroupFault) → HasFault base group fault
             → fault_after false base placed
@@ -322,11 +294,10 @@ module _ {base : Base} {text : List ℕ} {w bytes symbols read written : ℕ} {o
             })
         fault_here fault has =
             ap (λ l. located placed (group_fault base l))
-            (bytes-next base s.width text read s.so_far.within group span found_here)
+            (bytes-next base s.width text read s.so_far.within found_here)
             ∙ ap (located placed) has.is_fault
             ∙ ap (λ n. Some (record { position = n; kind = fault.kind }))
-            (position-next base s.width text read s.so_far.within group span found_here fault.index
-            has.inside)
+            (position-next base s.width text read s.so_far.within found_here fault.index has.inside)
 
         -- before the group, where that is faulty
         stands : (new : List ℕ) → HasDecodedTo base text read written false new
@@ -355,15 +326,14 @@ module _ {base : Base} {text : List ℕ} {w bytes symbols read written : ℕ} {o
                   → StopsAt base text new
                   (record { read = read; written = written; error = error })
               by false is =
-                  at-fault base text read written new error
-                  (stands new
-                  (same-output base s.width text read written false output new s.so_far fits same)
-                  error faulty) is
+                  at-fault
+                  (stands new (same-output base s.width text new s.so_far fits same) error faulty)
+                  is
               by true is =
                   let len = length-front base s.width (drop read text) in
                   let no_run = none (ap is_length_fault kind ∙ is) in
-                  last-unsound base text read written output error
-                  (stands output s.so_far error faulty) is (omega (arith, len, no_run.0))
+                  last-unsound (stands output s.so_far error faulty) is
+                  (omega (arith, len, no_run.0))
                   (λ few. no_run.1 (omega (arith, len, few))) new fits same
 
         -- and where one is
@@ -379,19 +349,15 @@ module _ {base : Base} {text : List ℕ} {w bytes symbols read written : ℕ} {o
             ⊎_elim {C = StopsAt base text new
             (record { read = error.position; written = written + more; error = error })}
             (λ empty.
-            let none : written ≡ written + more = omega (arith, empty.1) in
-            subst (λ n. StopsAt base text new
-            (record { read = error.position; written = n; error = error })) none
-            (last-none base text read written output error
-            (stands output s.so_far error faulty) kind (sym len ∙ empty.0) new
+            let none : written + more ≡ written = omega (arith, empty.1) in
+            rw none (last-none (stands output s.so_far error faulty) kind (sym len ∙ empty.0) new
             (omega (arith, fits)) same))
             (λ run.
             let count = base.width * run.2 / 8 in
             let bytes : written + more ≡ written + count = ap (λ n. written + n) run.4 in
             subst (λ n. StopsAt base text new
             (record { read = error.position; written = n; error = error })) (sym bytes)
-            (last-sound base text read written output error
-            (stands output s.so_far error faulty) kind
+            (last-sound (stands output s.so_far error faulty) kind
             (omega (arith, len, run.0)) (omega (arith, len, run.1))
             run.3.sound count new (omega (arith, fits, bytes))
             (take-add written count new ∙ (λ i. same i ++ run.3.bytes i))))
@@ -418,19 +384,14 @@ module _ {base : Base} {text : List ℕ} {w bytes symbols read written : ℕ} {o
             let faulty = fault_here fault has in
             ⊎_elim {C = StopsAt base text new partial}
             (λ how.
-            let stops : StopsAt base text new
-            (record { read = read; written = written; error = error }) =
-            stops-here fault new fits front_same error faulty refl how.2 in
             subst (StopsAt base text new)
-            (same-partial partial read written error how.0 how.1 stop.error_is) stops)
+            (same-partial partial read written error how.0 how.1 stop.error_is)
+            (stops-here fault new fits front_same error faulty refl how.2))
             (λ how.
-            let stops : StopsAt base text new
-            (record { read = error.position; written = written + how.2; error = error }) =
-            stops-after new front_same error faulty how.0 how.2 how.4 how.5 in
             subst (StopsAt base text new)
             (same-partial partial error.position (written + how.2) error
-            (how.1 ∙ ap (λ (e : DecodeError). e.position) stop.error_is) how.3
-            stop.error_is) stops)
+            (how.1 ∙ ap (λ (e : DecodeError). e.position) stop.error_is) how.3 stop.error_is)
+            (stops-after new front_same error faulty how.0 how.2 how.4 how.5))
             stop.how
 
         pub group-stopped : {fault : GroupFault} → HasFault base group fault → (rest : List ℕ)
@@ -442,9 +403,7 @@ module _ {base : Base} {text : List ℕ} {w bytes symbols read written : ℕ} {o
             record {
               within = s.so_far.within;
               fits = omega (arith, same, s.so_far.fits);
-              inside =
-                  gathered-some base (group_symbols base.width) (drop read text) group span
-                  found_here fault.index has.inside;
+              inside = gathered-some found_here fault.index has.inside;
               room = λ _ few. subst (λ n. base.width * length (valid_front base (drop read text))
                   / 8 ≤ n - written) (sym same)
                   (subst (λ n. n * length (valid_front base (drop read text)) / 8
@@ -464,8 +423,9 @@ module _ {base : Base} {text : List ℕ} {w bytes symbols read written : ℕ} {o
           whole padded =
               let len = length-map group (meaning base) in
               sym len
-              ∙ (GroupMeans-sound base s.width padded (map (meaning base) group)
-              (omega (arith, len, found_here.few)) has.sound).is_whole
+              ∙ (GroupMeans-sound base s.width (map (meaning base) group)
+              (omega (arith, len, some)) (omega (arith, len, found_here.few)) has.sound).is_whole
+              padded
               ∙ sym s.symbols_is
 
           few : w * count / 8 ≤ length rest
@@ -477,14 +437,10 @@ module _ {base : Base} {text : List ℕ} {w bytes symbols read written : ℕ} {o
           group_done =
               let new = rewritten written output rest in
               let fits = length-rewritten written output rest s.so_far.fits in
-              let same = bytes-next base s.width text read s.so_far.within group span found_here in
+              let same = bytes-next base s.width text read s.so_far.within found_here in
               let final = ap (λ b. not base.concatenates && b)
               (ap (λ l. list_any is_padding (map (meaning base) l)) same ∙ has.final) in
-              subst
-              (λ b. HasDecodedTo base text (read + span) (written + w * count / 8) b new)
-              final
-              (after-group base s.width text read written (read + span) (w * count / 8) false
-              placed output new s.so_far next
+              rw (← final) (after-group base s.width text (w * count / 8) new s.so_far next
               (ap (λ l. located placed (group_fault base l)) same ∙ ap (located placed) has.sound)
               (omega (arith, few, fits))
               (take-rewritten written output rest s.so_far.fits (w * count / 8)
@@ -498,10 +454,7 @@ module _ {base : Base} {text : List ℕ} {w bytes symbols read written : ℕ} {o
               (rewritten written output rest)
           after_group stop {final} place same =
               further s (length-rewritten_same written output rest s.so_far.fits rest_len)
-              (subst (λ n. HasDecodedTo base text n (written + w * count / 8) final
-              (rewritten written output rest)) place
-              (subst (λ b. HasDecodedTo base text (read + span) (written + w * count / 8) b
-              (rewritten written output rest)) same group_done))
+              (rw (← place, ← same) group_done)
 
           -- it goes on where texts may follow, or where the group has no padding
           pub group-more : (stop : ℕ) {own : Base} → read + span ≡ stop → own ≡ base
@@ -539,36 +492,33 @@ module _ {base : Base} {text : List ℕ} {w bytes symbols read written : ℕ} {o
     kind = PaddingFault;
   }
 
-  final-stops : StopsAt base text output
-      (record { read = read; written = written; error = fault_there })
-  final-stops =
-      at-fault base text read written output fault_there (record {
-        width = s.width;
-        ended = true;
-        so_far = s.so_far;
-        no_length_fault = s.no_fault;
-        stop = read + left.1;
-        group = next_bytes base text read left.1;
-        next = is-next base s.width text read s.so_far.within left.0 left.1 other left.2;
-        faulty = ap (λ n. Some (record { position = n; kind = PaddingFault }))
-            (position-next base s.width text read s.so_far.within left.0 left.1 other 0 left.2);
-      }) refl
+  final : IsAtFault base text read written output fault_there
+  final = record {
+    width = s.width;
+    ended = true;
+    so_far = s.so_far;
+    no_length_fault = s.no_fault;
+    stop = read + left.1;
+    group = next_bytes base text read left.1;
+    next = is-next base s.width text read s.so_far.within other left.2;
+    faulty = ap (λ n. Some (record { position = n; kind = PaddingFault }))
+        (position-next base s.width text read s.so_far.within other 0 left.2);
+  }
 
   pub final-stopped : HasStopped base text output
       (record { read = read; written = written; index = 0; kind = PaddingFault })
   final-stopped = record {
     within = s.so_far.within;
     fits = s.so_far.fits;
-    inside =
-        gathered-some base (group_symbols base.width) (drop read text) left.0 left.1 other 0
-        left.2;
+    inside = gathered-some other 0 left.2;
     room = λ is. absurd (false≢true is);
     stops = λ new partial fits front stop.
         ⊎_elim {C = StopsAt base text new partial}
         (λ how. subst (StopsAt base text new)
         (same-partial partial read written fault_there how.0 how.1 stop.error_is)
         (stops-same base text output new
-        (record { read = read; written = written; error = fault_there }) final-stops front))
+        (record { read = read; written = written; error = fault_there }) (at-fault final refl)
+        front))
         (λ how. absurd (false≢true how.0))
         stop.how;
   }

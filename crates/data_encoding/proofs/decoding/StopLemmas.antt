@@ -8,14 +8,14 @@ use Rattle.data_encoding.proofs.grammar.JoinFaultLemmas.{valid_behind}
 use Rattle.data_encoding.specs.declared.encoding.Character.{Character}
 use Rattle.data_encoding.specs.declared.decode.group.GroupFault.{GroupFault}
 use Rattle.data_encoding.specs.declared.error.DecodeError.{DecodeError}
-use Rattle.data_encoding.specs.declared.error.DecodeKind.TheVariants.{Length as LengthFault, Trailing as TrailingFault, Padding as PaddingFault}
+use Rattle.data_encoding.specs.declared.error.DecodeKind.TheVariants.{Trailing as TrailingFault, Padding as PaddingFault}
 use Rattle.data_encoding.specs.declared.error.DecodePartial.{DecodePartial}
 use Rattle.data_encoding.specs.Base.{Base, is_symbol, is_padded, ignores_some, group_symbols, IsWidth}
 use Rattle.data_encoding.specs.Bits.{runs}
 use Rattle.data_encoding.specs.Grammar.{Positioned, positioned_from, kept, groups, is_final, Means, kept_from, bytes_in, meanings_in}
 use Rattle.data_encoding.specs.Lengths.{is_valid_count, is_valid_length, length_fault, decoded_len}
-use Rattle.data_encoding.specs.Fault.{bytes_of_group, character_fault, count_before_padding, fault_after, fault_at_first, fault_of, faulty_at, first_after, group_fault, located, or_else, padded_fault_at, plain_fault, position_of, sound_after, sound_bytes, sound_groups, symbols_fault, trailing_bits}
-use Rattle.data_encoding.specs.Partial.{StopsAt, position_after, sound_len, read_len, is_length_fault, is_sound_run, partial_at, partial_by, partial_of}
+use Rattle.data_encoding.specs.Fault.{bytes_of_group, character_fault, count_before_padding, fault_after, fault_at_first, fault_of, faulty_at, first_after, group_fault, located, or_else, position_of, sound_after, sound_bytes, sound_groups, symbols_fault, trailing_bits}
+use Rattle.data_encoding.specs.Partial.{StopsAt, position_after, sound_len, read_len, is_length_fault, partial_at, partial_by, partial_of}
 use Rattle.data_encoding.specs.Decoding.{HasDecodedTo}
 use Rattle.data_encoding.proofs.digits.WidthLemmas.{group_symbols-pos}
 use Rattle.data_encoding.proofs.lists.RunLemmas.{runs-nil, runs-append, runs-join, runs-short, flat_map-runs}
@@ -23,10 +23,9 @@ use Rattle.data_encoding.proofs.grammar.PositionLemmas.{length-kept_plain, lengt
 use Rattle.data_encoding.proofs.grammar.KeptLemmas.{between, kept-split, kept_from-more, kept_in-stands, length-between}
 use Rattle.data_encoding.proofs.grammar.LengthLemmas.{length_fault-none, length_fault-valid, valid-whole, whole-length}
 use Rattle.data_encoding.proofs.grammar.GroupLemmas.{group_fault-inside, located-inside}
-use Rattle.data_encoding.proofs.grammar.UnpaddedGroupLemmas.{plain_fault-valid}
 use Rattle.data_encoding.proofs.grammar.SoundLemmas.{first-AreSound, sound-AreSound, sound-all, first-none}
 use Rattle.data_encoding.proofs.grammar.MeaningLemmas.{Means-no_fault, sound_bytes-Means, decoded_len-Means}
-use Rattle.data_encoding.proofs.decoding.ProgressLemmas.{IsNext, whole-before, written_len, sound_bytes-front}
+use Rattle.data_encoding.proofs.decoding.ProgressLemmas.{IsNext, whole-before, sound_bytes-front}
 
 -- the kind of a fault of symbols, or of padding
 pub kind_of : (fault error : DecodeError) → Some fault ≡ Some error
@@ -62,17 +61,9 @@ pub other-group : (base : Base) (group : List Character) (b : Bool) → is_padde
 other-group base group true is whole =
     let count = count_before_padding group in
     let bad = count == 0 || not (is_valid_count base.width count) in
-    subst IsOther
-    (sym (ap (λ b. cond b (padded_fault_at base group count) (plain_fault base group)) is
-    ∙ ap (λ b. cond b (faulty_at LengthFault 0)
-    (cond bad (faulty_at PaddingFault count) (symbols_fault base (take count group)))) whole))
-    (other-padding base group bad count)
+    rw (is, whole) (other-padding base group bad count)
 other-group base group false is valid =
-    subst IsOther
-    (sym (ap (λ b. cond b (padded_fault_at base group (count_before_padding group))
-    (plain_fault base group)) is
-    ∙ plain_fault-valid base group valid))
-    (other-symbols base group)
+    rw (is, valid) (other-symbols base group)
 
 pub kind-located : (group : List Positioned) (o : Option GroupFault) (error : DecodeError)
     → IsOther o → located group o ≡ Some error → is_length_fault error.kind ≡ false
@@ -92,7 +83,7 @@ pub record IsAtFault (base : Base) (text : List ℕ) (read written : ℕ) (outpu
   pub next : IsNext base text read stop group
   pub faulty : fault_after ended base group ≡ Some error
 
-module _ (base : Base) (text : List ℕ) (read written : ℕ) (output : List ℕ) (error : DecodeError)
+module _ {base : Base} {text : List ℕ} {read written : ℕ} {output : List ℕ} {error : DecodeError}
     (at : IsAtFault base text read written output error) where
   abbrev size : ℕ
   size = group_symbols base.width
@@ -102,8 +93,7 @@ module _ (base : Base) (text : List ℕ) (read written : ℕ) (output : List ℕ
 
   pub whole : length (kept base (take read text)) % size ≡ 0
   whole =
-      whole-before base at.width text read written at.ended output at.stop at.group at.so_far
-      at.next.is_part
+      whole-before base at.width text at.so_far at.next.is_part
 
   pub rest_is : kept_from base read text ≡ at.group ++ kept_from base at.stop text
   rest_is =
@@ -197,32 +187,36 @@ module _ (base : Base) (text : List ℕ) (read written : ℕ) (output : List ℕ
       (omega (arith, part_len, at.next.is_part.after))) fault_inside.1 in
       subst (λ n. (read ≤ n) × (n < at.stop)) (sym fault_inside.2) stands
 
+  -- a decoding stops there, having read so far and written the bytes of that
+  pub stops : (new : List ℕ) (end count : ℕ) → read_len base text error ≡ end
+      → end ≤ error.position → fault_of base (take end text) ≡ None → count ≤ length new
+      → sound_bytes base (take end text) ≡ take count new
+      → StopsAt base text new (record { read = end; written = count; error = error })
+  stops new end count read_is before sound fits bytes =
+      let written_is : length (sound_bytes base (take end text)) ≡ count =
+      ap length bytes ∙ length-take-le count new fits in
+      record {
+        is_partial =
+            ap (partial_by base text) fault_is
+            ∙ (λ i. Some (record {
+              read = read_is i;
+              written = length (sound_bytes base (take (read_is i) text));
+              error = error;
+            }))
+            ∙ ap (λ k. Some (record { read = end; written = k; error = error })) written_is;
+        means = subst (Means base (take end text)) bytes
+            (Means-no_fault base at.width (take end text) sound);
+        read_before = before;
+        within = omega (arith, bounds.1, at.next.is_part.within);
+      }
+
   -- at a faulty group, the text has its fault
   pub at-fault : is_length_fault error.kind ≡ false
       → StopsAt base text output (record { read = read; written = written; error = error })
   at-fault kind =
-      let read_is : read_len base text error ≡ read =
-      ap (λ b. cond (b && is_sound_run base (drop (sound_len base text) text)) error.position
-      (sound_len base text)) kind
-      ∙ sound_len_is in
-      let bytes : sound_bytes base (take read text) ≡ take written output =
-      sound_bytes-front base at.width text read written at.ended output at.so_far in
-      let written_is : length (sound_bytes base (take read text)) ≡ written =
-      ap length bytes ∙ written_len base at.width text read written at.ended output at.so_far in
-      record {
-        is_partial =
-            ap (partial_by base text) fault_is
-            ∙ ap (λ k. Some (record {
-              read = k;
-              written = length (sound_bytes base (take k text));
-              error = error;
-            })) read_is
-            ∙ ap (λ k. Some (record { read = read; written = k; error = error })) written_is;
-        means = subst (Means base (take read text)) bytes
-            (Means-no_fault base at.width (take read text) front_sound);
-        read_before = bounds.0;
-        within = omega (arith, bounds.1, at.next.is_part.within);
-      }
+      stops output read written
+      (rw kind sound_len_is) bounds.0 front_sound at.so_far.fits
+      (sound_bytes-front base at.width text at.so_far)
 
   module _ (none : ignores_some base ≡ false) where
     read_whole : read % size ≡ 0
@@ -276,9 +270,7 @@ module _ (base : Base) (text : List ℕ) (read written : ℕ) (output : List ℕ
       by false h =
           kind-located at.group (group_fault base (bytes_in at.group)) error
           (other-group base (meanings_in base at.group) (is_padded base) refl
-          (subst (λ n. cond (is_padded base) (nat_lt n size ≡ false)
-          (is_valid_count base.width n ≡ true))
-          (sym (length-meanings base at.group))
+          (rw (← length-meanings base at.group) at
           (valid-whole base (length at.group) at.next.is_part.some valid))) h
 
 -- what has a fault means nothing

@@ -1,13 +1,13 @@
 -- A fault of a text that no unfinished group has: it is that of the whole groups.
-use Rattle.std.proofs.Common.{◌≡◌, ℕ, ◌-◌, ◌*◌, ◌/◌, ◌%◌, ◌<◌, ◌==◌, ◌&&◌, ◌||◌, Bool, true, false, not, cond, nat_lt, List, [], ◌∷◌, length, take, Option, Some, None, refl, sym, ap, ◌∙◌, arith, ⊎_elim}
+use Rattle.std.proofs.Common.{◌≡◌, ℕ, ◌-◌, ◌*◌, ◌/◌, ◌%◌, ◌<◌, ◌&&◌, Bool, true, false, not, cond, nat_lt, List, [], ◌∷◌, length, Option, Some, None, refl, sym, ap, ◌∙◌, arith, ⊎_elim}
 use Rattle.std.proofs.lemmas.Bool.{false≢true}
 use Rattle.std.proofs.lemmas.Bool.Decides.{nat_tests}
 use Rattle.std.specs.List.{list_any}
 use Rattle.data_encoding.specs.declared.encoding.Character.{Character}
 use Rattle.data_encoding.specs.declared.error.DecodeError.{DecodeError}
-use Rattle.data_encoding.specs.declared.error.DecodeKind.TheVariants.{Length as LengthFault, Padding as PaddingFault}
+use Rattle.data_encoding.specs.declared.error.DecodeKind.TheVariants.{Length as LengthFault}
 use Rattle.data_encoding.specs.Base.{Base, IsWidth, group_symbols, ignores_some, is_padded}
-use Rattle.data_encoding.specs.Fault.{character_fault, count_before_padding, fault_of, faulty_at, first_fault, located, or_else, padded_fault_at, plain_fault, symbols_fault}
+use Rattle.data_encoding.specs.Fault.{character_fault, fault_of, faulty_at, first_fault, located, or_else}
 use Rattle.data_encoding.specs.Grammar.{Positioned, groups, is_final, kept, meanings_in}
 use Rattle.data_encoding.specs.Lengths.{greatest_valid_count, greatest_valid_length, is_valid_count, is_valid_length, length_fault, most_bytes}
 use Rattle.data_encoding.specs.Partial.{is_length_fault}
@@ -48,22 +48,15 @@ module _ (base : Base) (width : IsWidth base.width) where
     by true is =
         let short : nat_lt count size ≡ true = grind (arith, nat_tests) in (
           0,
-          ap (λ b. cond b (padded_fault_at base group (count_before_padding group))
-              (plain_fault base group)) is
-              ∙ ap (λ b. cond b (faulty_at LengthFault 0)
-              (cond (count_before_padding group == 0
-              || not (is_valid_count base.width (count_before_padding group)))
-              (faulty_at PaddingFault (count_before_padding group))
-              (symbols_fault base (take (count_before_padding group) group)))) short,
+          rw (is, short),
         )
     by false is = (
       greatest_valid_count base.width count,
-      ap (λ b. cond b (padded_fault_at base group (count_before_padding group))
-          (plain_fault base group)) is
-          ∙ ap (λ b. cond b (symbols_fault base group)
-          (faulty_at LengthFault (greatest_valid_count base.width count)))
-          (few-invalid base.width width (sym (most_bytes-by base (size - 1) false is) ∙ none) count
-          some few),
+      rw (
+        is,
+        few-invalid base.width width (sym (most_bytes-by base (size - 1) false is) ∙ none)
+            count some few,
+      ),
     )
 
   short-other : most_bytes base (size - 1) ≡ 0 → (held : List Positioned) → length held < size

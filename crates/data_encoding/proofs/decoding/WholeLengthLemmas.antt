@@ -1,5 +1,5 @@
 -- The lengths of whole groups.
-use Rattle.std.proofs.Common.{◌≡◌, ℕ, ◌*◌, ◌/◌, ◌≤◌, Bool, true, false, not, ◌&&◌, ◌||◌, List, [], ◌∷◌, None, is_none, Ok, refl, sym, ap, ◌∙◌, subst, arith}
+use Rattle.std.proofs.Common.{◌≡◌, ℕ, ◌*◌, ◌/◌, ◌≤◌, Bool, true, false, cond, not, ◌&&◌, ◌||◌, List, [], ◌∷◌, None, is_none, Ok, refl, sym, ap, ◌∙◌, arith}
 use Rattle.std.proofs.Math.Nat.{mul-mod_left}
 use Rattle.std.specs.List.{list_any}
 use Rattle.std.proofs.Math.Bool.{or-true}
@@ -7,7 +7,7 @@ use Rattle.data_encoding.specs.Base.{Base, IsWidth, group_bytes, group_symbols, 
 use Rattle.data_encoding.specs.Grammar.{Positioned, is_final, meanings_in}
 use Rattle.data_encoding.specs.Lengths.{decoded_len, most_bytes}
 use Rattle.data_encoding.proofs.digits.WidthLemmas.{by_width}
-use Rattle.data_encoding.proofs.grammar.LengthLemmas.{decoded_len-valid, most_bytes-by, whole-length}
+use Rattle.data_encoding.proofs.grammar.LengthLemmas.{decoded_len-valid, whole-length}
 use Rattle.data_encoding.proofs.judgement.RuleLemmas.{IsRuled}
 
 -- A number of whole groups.
@@ -51,23 +51,18 @@ module _ (base : Base) (width : IsWidth base.width) where
   decoded_len-whole count =
       decoded_len-valid base (count * size)
       (whole-length base width (count * size) (mul-mod_left count size))
-      ∙ ap (λ n. Ok n) (by (is_padded base) refl) where
-        by : (b : Bool) → is_padded base ≡ b
-            → most_bytes base (count * size) ≡ count * group_bytes base.width
-        by true is =
-            most_bytes-by base (count * size) true is ∙ padded_bytes base.width width count
-        by false is =
-            most_bytes-by base (count * size) false is ∙ plain_bytes base.width width count
+      ∙ ap (λ n. Ok n) (by (is_padded base)) where
+        by : (b : Bool) → cond b (count * size / size * group_bytes base.width)
+            (base.width * (count * size) / 8) ≡ count * group_bytes base.width
+        by true = padded_bytes base.width width count
+        by false = plain_bytes base.width width count
 
   pub most_bytes-few : (len : ℕ) → most_bytes base len ≤ len
-  most_bytes-few len = by (is_padded base) refl where
-    by : (b : Bool) → is_padded base ≡ b → most_bytes base len ≤ len
-    by true is =
-        subst (λ n. n ≤ len) (sym (most_bytes-by base len true is))
-        (padded_most base.width width len)
-    by false is =
-        subst (λ n. n ≤ len) (sym (most_bytes-by base len false is))
-        (plain_most base.width width len)
+  most_bytes-few len = by (is_padded base) where
+    by : (b : Bool)
+        → cond b (len / size * group_bytes base.width) (base.width * len / 8) ≤ len
+    by true = padded_most base.width width len
+    by false = plain_most base.width width len
 
 -- where texts may be concatenated, no group is final
 pub none_final-joined : (base : Base) → base.concatenates ≡ true → (gs : List (List Positioned))

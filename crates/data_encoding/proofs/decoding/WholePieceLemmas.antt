@@ -2,7 +2,6 @@
 use Rattle.std.proofs.Common.{◌≡◌, ℕ, ◌⊎◌, ◌+◌, ◌%◌, ◌<◌, ◌==◌, Bool, true, false, not, ◌||◌, List, [], ◌∷◌, ◌++◌, length, map, take, Option, Some, None, is_some, inl, inr, refl, sym, ap, ◌∙◌, subst, arith, length-append}
 use Rattle.std.proofs.lemmas.Bool.{false≢true}
 use Rattle.std.proofs.lemmas.List.{append-nil}
-use Rattle.std.proofs.lemmas.List.Concat.{flat_map-append}
 use Rattle.std.proofs.lemmas.List.Folds.{list_any-append}
 use Rattle.std.specs.Prelude.{flat_map}
 use Rattle.std.specs.List.{list_any}
@@ -10,7 +9,7 @@ use Rattle.data_encoding.specs.declared.error.DecodeError.{DecodeError}
 use Rattle.data_encoding.specs.declared.error.DecodePartial.{DecodePartial}
 use Rattle.data_encoding.specs.Base.{Base, IsWidth, group_symbols, ignores_some, is_padded}
 use Rattle.data_encoding.specs.Fault.{bytes_of_group, first_fault, sound_after}
-use Rattle.data_encoding.specs.Grammar.{Means, MeansBy, Positioned, groups, is_final, kept, kept_in}
+use Rattle.data_encoding.specs.Grammar.{Means, Positioned, groups, is_final, kept, kept_in}
 use Rattle.data_encoding.specs.Laws.{further}
 use Rattle.data_encoding.specs.Lengths.{length_fault}
 use Rattle.data_encoding.specs.Partial.{partial_of}
@@ -25,7 +24,7 @@ use Rattle.data_encoding.proofs.grammar.JoinFaultLemmas.{AreFew, final-moved, fi
 use Rattle.data_encoding.proofs.grammar.JoinLemmas.{whole-padded, whole-plain}
 use Rattle.data_encoding.proofs.grammar.MeaningLemmas.{no_fault-Means, sound_bytes-Means}
 use Rattle.data_encoding.proofs.grammar.PositionLemmas.{length-kept_plain}
-use Rattle.data_encoding.proofs.grammar.SoundLemmas.{first-AreSound, neither_fault, sound-AreSound, sound-all}
+use Rattle.data_encoding.proofs.grammar.SoundLemmas.{bytes-AreSound, first-AreSound, neither_fault, sound-all}
 use Rattle.data_encoding.proofs.lists.RunLemmas.{few_runs}
 use Rattle.data_encoding.proofs.lists.WholeRunLemmas.{front_of, left, left-map, whole_runs, whole_runs-all, whole_runs-front, whole_runs-map}
 use Rattle.data_encoding.proofs.judgement.RuleLemmas.{IsRuled, IsRuledPadding}
@@ -108,9 +107,7 @@ module _ (base : Base) (width : IsWidth base.width) where
     whole_bytes-behind =
         let same = sym (sound-all base false false before before_sound) in
         ap (λ gs. flat_map (bytes_of_group base) (sound_after false base gs)) groups_are
-        ∙ ap (flat_map (bytes_of_group base))
-        (sound-AreSound base false false before others before_sound)
-        ∙ flat_map-append (bytes_of_group base) before (sound_after false base others)
+        ∙ bytes-AreSound base false false before others before_sound
         ∙ (λ i. flat_map (bytes_of_group base) (same i)
         ++ sound-moved base width len false (whole_groups base piece) few i)
 
@@ -175,15 +172,15 @@ module _ (base : Base) (ruled : IsRuled base) (piece bytes : List ℕ) where
 
   pub kept-whole : Means base piece bytes → IsWholeBy
       → length (kept base piece) % group_symbols base.width ≡ 0
-  kept-whole = by base.padding refl ruled.padding where
-    by : (o : Option ℕ) → base.padding ≡ o → IsRuledPadding base o → MeansBy o base piece bytes
-        → IsWholeBy → length (kept base piece) % group_symbols base.width ≡ 0
-    by o is h means (inr (inr plain)) =
+  kept-whole means = by base.padding refl ruled.padding where
+    by : (o : Option ℕ) → base.padding ≡ o → IsRuledPadding base o → IsWholeBy
+        → length (kept base piece) % group_symbols base.width ≡ 0
+    by o is h (inr (inr plain)) =
         ap (λ n. n % group_symbols base.width) (length-kept_plain base piece plain.0) ∙ plain.1
-    by None is h means (inl padded) = absurd (false≢true (sym (ap is_some is) ∙ padded))
-    by None is h means (inr (inl divides)) =
-        whole-plain base ruled piece [] bytes [] divides means
-    by (Some character) is h means (inl padded) =
+    by None is h (inl padded) = absurd (false≢true (sym (ap is_some is) ∙ padded))
+    by None is h (inr (inl divides)) =
+        whole-plain base ruled piece [] bytes [] (ap is_some is) divides means
+    by (Some character) is h (inl padded) =
         whole-padded base ruled piece [] bytes [] padded means
-    by (Some character) is h means (inr (inl divides)) =
+    by (Some character) is h (inr (inl divides)) =
         absurd (false≢true (sym (ap (λ n. not (n == 0)) divides) ∙ h.2))

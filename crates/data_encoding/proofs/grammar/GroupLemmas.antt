@@ -13,14 +13,14 @@ use Rattle.data_encoding.specs.declared.decode.group.GroupFault.{GroupFault}
 use Rattle.data_encoding.specs.declared.encoding.Character.{Character}
 use Rattle.data_encoding.specs.declared.encoding.Character.TheVariants.{Symbol, Padding, Ignored, Invalid}
 use Rattle.data_encoding.specs.declared.error.DecodeError.{DecodeError}
-use Rattle.data_encoding.specs.declared.error.DecodeKind.TheVariants.{Length as LengthFault, Trailing as TrailingFault, Padding as PaddingFault}
+use Rattle.data_encoding.specs.declared.error.DecodeKind.TheVariants.{Trailing as TrailingFault}
 use Rattle.data_encoding.specs.Base.{Base, is_symbol, is_padding, is_padded, value_of, group_symbols, IsWidth}
 use Rattle.data_encoding.specs.Bits.{bits_of, number_of, runs}
 use Rattle.data_encoding.specs.Grammar.{Positioned, PlainMeans, GroupMeans, bytes_in, meanings_in}
 use Rattle.data_encoding.specs.Laws.{further}
 use Rattle.data_encoding.specs.Lengths.{is_valid_count}
 use Rattle.data_encoding.specs.Fault.{character_fault, count_before_padding, fault_at_first, faulty_at, group_fault, located, padded_fault_at, plain_fault, position_of, symbol_bytes, symbols_fault, trailing_bits, trailing_fault}
-use Rattle.data_encoding.proofs.digits.WidthLemmas.{by_width, group_symbols-pos}
+use Rattle.data_encoding.proofs.digits.WidthLemmas.{by_width}
 use Rattle.data_encoding.proofs.grammar.PositionLemmas.{length-meanings}
 use Rattle.data_encoding.proofs.grammar.UnpaddedGroupLemmas.{plain_fault-valid, PlainMeans-sound, PlainMeans-valid, PlainMeans-bytes, PlainMeans-no_fault}
 use Rattle.data_encoding.proofs.lists.EachLemmas.{all_replicate}
@@ -144,20 +144,30 @@ located-further ks js count None inside behind = refl
 located-further ks js count (Some fault) inside behind =
     ap (λ n. Some (record { position = n; kind = fault.kind })) (behind fault.index inside)
 
--- a whole group of symbols means what they mean
-pub GroupMeans-whole : (base : Base) → IsWidth base.width → (group : List Character)
-    → (bytes : List ℕ) → length group ≡ group_symbols base.width → PlainMeans base group bytes
-    → GroupMeans base group bytes
-GroupMeans-whole base width group bytes whole means = record {
+-- symbols alone are a group: a whole one, or any where there is no padding
+pub GroupMeans-symbols : (base : Base) (group : List Character) (bytes : List ℕ)
+    → 0 < length group → (is_padded base ≡ true → length group ≡ group_symbols base.width)
+    → PlainMeans base group bytes → GroupMeans base group bytes
+GroupMeans-symbols base group bytes some whole means = record {
   symbols = group;
   padding = 0;
   is_group = sym (append-nil group);
   is_whole = whole;
-  is_begun = omega (arith, whole, group_symbols-pos base.width width);
+  is_plain = λ e. refl;
+  is_begun = some;
   means = means;
 }
 
--- A group of a padded base.
+-- and where there is no padding, a group is symbols alone
+pub GroupMeans-plain : (base : Base) (group : List Character) (bytes : List ℕ)
+    → is_padded base ≡ false → GroupMeans base group bytes → PlainMeans base group bytes
+GroupMeans-plain base group bytes unpadded means =
+    subst (λ l. PlainMeans base l bytes)
+    (sym (means.is_group
+    ∙ ap (λ n. means.symbols ++ replicate n Padding) (means.is_plain unpadded)
+    ∙ append-nil means.symbols)) means.means
+
+-- Groups with padding.
 
 padding_only : (m : Character) → is_padding m ≡ true → m ≡ Padding
 padding_only (Symbol value) h = cc
@@ -209,11 +219,12 @@ module _ (base : Base) (group : List Character) (bytes : List ℕ)
     (means : GroupMeans base group bytes)
   where
     -- how many members it has, and whether one is padding
-    pub GroupMeans-length : length means.symbols + means.padding ≡ group_symbols base.width
-    GroupMeans-length =
+    pub GroupMeans-length : is_padded base ≡ true
+        → length means.symbols + means.padding ≡ group_symbols base.width
+    GroupMeans-length padded =
         ap (λ n. length means.symbols + n) (sym (length-replicate means.padding Padding))
         ∙ sym (length-append means.symbols (replicate means.padding Padding))
-        ∙ ap length (sym means.is_group) ∙ means.is_whole
+        ∙ ap length (sym means.is_group) ∙ means.is_whole padded
 
     symbols_fail : AllFail is_padding means.symbols
     symbols_fail =
@@ -226,43 +237,44 @@ module _ (base : Base) (group : List Character) (bytes : List ℕ)
         ∙ (λ i.
         list_any-none is_padding means.symbols symbols_fail i || any_padding means.padding i)
 
-module _ (base : Base) (width : IsWidth base.width) (padded : is_padded base ≡ true)
-    (group : List Character) where
-  character_fault-padded : character_fault base group
-      ≡ padded_fault_at base group (count_before_padding group)
-  character_fault-padded =
-      ap (λ b. cond b (padded_fault_at base group (count_before_padding group))
-      (plain_fault base group)) padded
-
+module _ (base : Base) (width : IsWidth base.width) (group : List Character) where
   -- one with no fault means its bytes
-  pub GroupMeans-sound : length group ≤ group_symbols base.width → character_fault base group ≡ None
-      → GroupMeans base group (symbol_bytes base group)
-  GroupMeans-sound few h =
-      let count = count_before_padding group in
-      let symbols = take count group in
-      let whole = cond-none (nat_lt (length group) (group_symbols base.width)) _ _
-      (sym character_fault-padded ∙ h) in
-      let begun = cond-none (count == 0 || not (is_valid_count base.width count)) _ _
-      whole.1 in
-      let good = both_false (count == 0) (is_valid_count base.width count) begun.0 in
-      let len : length symbols ≡ count = length-take-le count group (omega arith) in
-      let sound : plain_fault base symbols ≡ None =
-      plain_fault-valid base symbols (ap (is_valid_count base.width) len ∙ good.1) ∙ begun.1 in
-      record {
-        symbols = symbols;
-        padding = length (drop count group);
-        is_group = padding-behind group;
-        is_whole = grind (arith, nat_tests, few, whole.0);
-        is_begun = grind (arith, nat_tests, len, good.0);
-        means = subst (PlainMeans base symbols)
-            (sym (ap (symbol_bytes base) (padding-behind group)
-            ∙ bytes_before_padding base symbols (length (drop count group))))
-            (PlainMeans-sound base width symbols sound);
-      } where
-        both_false : (a b : Bool) → (a || not b) ≡ false → (a ≡ false) × (b ≡ true)
-        both_false true b h = cc
-        both_false false true h = (refl, refl)
-        both_false false false h = cc
+  pub GroupMeans-sound : 0 < length group → length group ≤ group_symbols base.width
+      → character_fault base group ≡ None → GroupMeans base group (symbol_bytes base group)
+  GroupMeans-sound some few = by (is_padded base) refl where
+    by : (b : Bool) → is_padded base ≡ b
+        → cond b (padded_fault_at base group (count_before_padding group)) (plain_fault base group)
+        ≡ None
+        → GroupMeans base group (symbol_bytes base group)
+    by false is h =
+        GroupMeans-symbols base group (symbol_bytes base group) some
+        (λ padded. absurd (false≢true (sym is ∙ padded))) (PlainMeans-sound base width group h)
+    by true is h =
+        let count = count_before_padding group in
+        let symbols = take count group in
+        let whole = cond-none (nat_lt (length group) (group_symbols base.width)) _ _ h in
+        let begun = cond-none (count == 0 || not (is_valid_count base.width count)) _ _
+        whole.1 in
+        let good = both_false (count == 0) (is_valid_count base.width count) begun.0 in
+        let len : length symbols ≡ count = length-take-le count group (omega arith) in
+        let sound : plain_fault base symbols ≡ None =
+        plain_fault-valid base symbols (ap (is_valid_count base.width) len ∙ good.1) ∙ begun.1 in
+        record {
+          symbols = symbols;
+          padding = length (drop count group);
+          is_group = padding-behind group;
+          is_whole = λ padded. grind (arith, nat_tests, few, whole.0);
+          is_plain = λ unpadded. absurd (false≢true (sym unpadded ∙ is));
+          is_begun = grind (arith, nat_tests, len, good.0);
+          means = subst (PlainMeans base symbols)
+              (sym (ap (symbol_bytes base) (padding-behind group)
+              ∙ bytes_before_padding base symbols (length (drop count group))))
+              (PlainMeans-sound base width symbols sound);
+        } where
+          both_false : (a b : Bool) → (a || not b) ≡ false → (a ≡ false) × (b ≡ true)
+          both_false true b h = cc
+          both_false false true h = (refl, refl)
+          both_false false false h = cc
 
   module _ (bytes : List ℕ) (means : GroupMeans base group bytes) where
     pub GroupMeans-bytes : symbol_bytes base group ≡ bytes
@@ -280,18 +292,22 @@ module _ (base : Base) (width : IsWidth base.width) (padded : is_padded base ≡
 
     -- and one that means something has no fault
     pub GroupMeans-no_fault : character_fault base group ≡ None
-    GroupMeans-no_fault =
-        let count = length means.symbols in
-        let valid = PlainMeans-valid base width means.symbols bytes means.means in
-        let whole : nat_lt (length group) (group_symbols base.width) ≡ false =
-        grind (arith, nat_tests, means.is_whole) in
-        let begun : (count == 0) ≡ false = grind (arith, nat_tests, means.is_begun) in
-        let front : take count group ≡ means.symbols =
-        ap (take count) means.is_group
-        ∙ take_at means.symbols (replicate means.padding Padding) count refl in
-        character_fault-padded ∙ ap (padded_fault_at base group) count_is
-        ∙ (λ i. cond (whole i) (faulty_at LengthFault 0)
-        (cond (begun i || not (valid i)) (faulty_at PaddingFault count)
-        (symbols_fault base (front i))))
-        ∙ sym (plain_fault-valid base means.symbols valid)
-        ∙ PlainMeans-no_fault base width means.symbols bytes means.means
+    GroupMeans-no_fault = by (is_padded base) refl where
+      by : (b : Bool) → is_padded base ≡ b
+          → cond b (padded_fault_at base group (count_before_padding group))
+          (plain_fault base group) ≡ None
+      by false is =
+          PlainMeans-no_fault base width group bytes (GroupMeans-plain base group bytes is means)
+      by true is =
+          let count = length means.symbols in
+          let valid = PlainMeans-valid base width means.symbols bytes means.means in
+          let all = means.is_whole is in
+          let whole : nat_lt (length group) (group_symbols base.width) ≡ false =
+          grind (arith, nat_tests, all) in
+          let begun : (count == 0) ≡ false = grind (arith, nat_tests, means.is_begun) in
+          let front : take count group ≡ means.symbols =
+          ap (take count) means.is_group
+          ∙ take_at means.symbols (replicate means.padding Padding) count refl in
+          ap (padded_fault_at base group) count_is
+          ∙ rw (whole, begun, valid, front) (sym (plain_fault-valid base means.symbols valid)
+          ∙ PlainMeans-no_fault base width means.symbols bytes means.means)

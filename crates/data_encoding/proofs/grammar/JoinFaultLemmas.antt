@@ -1,6 +1,5 @@
 -- The fault of a text behind one that means bytes.
 use Rattle.std.proofs.Common.{◌≡◌, ℕ, zero, suc, ◌+◌, ◌*◌, ◌/◌, ◌%◌, ◌<◌, ◌≤◌, ◌==◌, nat_lt, Bool, true, false, not, cond, ◌&&◌, List, [], ◌∷◌, ◌++◌, map, length, Option, Some, None, is_some, refl, sym, ap, ◌∙◌, subst, arith, length-append}
-use Rattle.std.proofs.lemmas.List.Concat.{flat_map-append}
 use Rattle.std.specs.Prelude.{flat_map}
 use Rattle.std.specs.List.{AllByRecursion, filter, list_any}
 use Rattle.data_encoding.specs.declared.error.DecodeError.{DecodeError}
@@ -14,10 +13,11 @@ use Rattle.data_encoding.specs.Laws.{MayBeFollowed, further}
 use Rattle.data_encoding.specs.Decoding.{AreSound}
 use Rattle.data_encoding.proofs.digits.WidthLemmas.{by_width, group_symbols-pos}
 use Rattle.data_encoding.proofs.grammar.GroupLemmas.{group_fault-inside, located-further}
-use Rattle.data_encoding.proofs.grammar.JoinLemmas.{followed, joined}
+use Rattle.data_encoding.proofs.grammar.JoinLemmas.{followed}
+use Rattle.data_encoding.proofs.grammar.KeptLemmas.{kept_in-append}
 use Rattle.data_encoding.proofs.grammar.MeaningLemmas.{no_fault-Means, sound_bytes-Means}
 use Rattle.data_encoding.proofs.grammar.PositionLemmas.{length-kept_plain}
-use Rattle.data_encoding.proofs.grammar.SoundLemmas.{AreSound-none, ends_after, first-AreSound, neither_fault, sound-AreSound, sound-all}
+use Rattle.data_encoding.proofs.grammar.SoundLemmas.{AreSound-none, bytes-AreSound, ends_after, first-AreSound, neither_fault, sound-all}
 use Rattle.data_encoding.proofs.lists.ListLemmas.{AllFail, map-filter}
 use Rattle.data_encoding.proofs.lists.RunLemmas.{few_runs, runs-join, runs-map}
 use Rattle.data_encoding.proofs.judgement.RuleLemmas.{IsRuled}
@@ -45,7 +45,7 @@ position_of-moved count (k ∷ ks) zero h = refl
 position_of-moved count (k ∷ ks) (suc index) h =
     position_of-moved count ks index (omega (arith, h))
 
-pub further-or_else : (count : ℕ) (o p : Option DecodeError)
+further-or_else : (count : ℕ) (o p : Option DecodeError)
     → or_else (further count o) (further count p) ≡ further count (or_else o p)
 further-or_else count None p = refl
 further-or_else count (Some error) p = refl
@@ -190,38 +190,71 @@ module _ (base : Base) (width : IsWidth base.width) where
   not_ended begun [] h none = h
   not_ended begun (g ∷ gs) h none = not_ended (is_final base g) gs none.0 none.1
 
-module _ (base : Base) (ruled : IsRuled base) (text after bytes : List ℕ)
-    (follows : MayBeFollowed base text) (means : Means base text bytes) where
-  is_width : IsWidth base.width
-  is_width = ruled.is_width
-
+-- a text that follows whole groups
+module _ (base : Base) (width : IsWidth base.width) (text after : List ℕ)
+    (whole : length (kept base text) % group_symbols base.width ≡ 0) where
   abbrev count : ℕ
   count = length text
 
-  abbrev others : List (List Positioned)
+  abbrev pub others : List (List Positioned)
   others = map (moved count) (groups base after)
 
-  whole : (length (kept base text) % group_symbols base.width ≡ 0)
-      × AllFail (is_final base) (groups base text)
-  whole = followed base ruled text after bytes bytes follows means
-
-  few : AreFew base is_width (groups base after)
+  few : AreFew base width (groups base after)
   few =
-      few_runs (group_symbols base.width) (kept base after)
-      (group_symbols-pos base.width is_width)
+      few_runs (group_symbols base.width) (kept base after) (group_symbols-pos base.width width)
 
   groups_joined : groups base (text ++ after) ≡ groups base text ++ others
   groups_joined =
-      let pos = group_symbols-pos base.width is_width in
-      let part : kept_in base (0 + length text) after ≡ moved count (kept base after) =
-      ap (λ n. kept_in base n after) (omega arith) ∙ kept_in-moved base is_width count 0 after in
-      ap (runs (group_symbols base.width)) (joined base ruled text after bytes bytes)
-      ∙ runs-join (group_symbols base.width) (kept base text) _ pos whole.0
+      let pos = group_symbols-pos base.width width in
+      let part : kept_in base (0 + count) after ≡ moved count (kept base after) =
+      ap (λ n. kept_in base n after) (omega arith) ∙ kept_in-moved base width count 0 after in
+      ap (runs (group_symbols base.width)) (kept_in-append base 0 text after)
+      ∙ runs-join (group_symbols base.width) (kept base text) _ pos whole
       ∙ ap (λ ks. groups base text ++ runs (group_symbols base.width) ks) part
       ∙ ap (λ gs. groups base text ++ gs)
       (runs-map (group_symbols base.width)
       (λ (k : Positioned). record { position = count + k.position; byte = k.byte })
       (kept base after) pos)
+
+  module _ (ended : Bool) (sound : AreSound base false (groups base text) ended) where
+    -- its fault, as far on as the first text is long
+    pub fault-after_whole : fault_of base (text ++ after)
+        ≡ further count (or_else (length_fault base (length after))
+        (first_after ended base (groups base after)))
+    fault-after_whole =
+        let lengths : length_fault base (length (text ++ after))
+        ≡ further count (length_fault base (length after)) =
+        ap (length_fault base) (length-append text after)
+        ∙ length_fault-behind base width count (length after)
+        (λ none. ap (λ n. n % group_symbols base.width) (sym (length-kept_plain base text none))
+        ∙ whole) in
+        let firsts : first_fault base (groups base (text ++ after))
+        ≡ further count (first_after ended base (groups base after)) =
+        ap (first_fault base) groups_joined
+        ∙ first-AreSound base false ended (groups base text) others sound
+        ∙ first-moved base width count ended (groups base after) few in
+        (λ i. or_else (lengths i) (firsts i))
+        ∙ further-or_else count (length_fault base (length after))
+        (first_after ended base (groups base after))
+
+    -- and its bytes
+    pub bytes-after_whole : sound_bytes base (text ++ after)
+        ≡ flat_map (bytes_of_group base) (groups base text)
+        ++ bytes_before base width ended (groups base after)
+    bytes-after_whole =
+        ap (λ gs. flat_map (bytes_of_group base) (sound_after false base gs)) groups_joined
+        ∙ bytes-AreSound base false ended (groups base text) others sound
+        ∙ ap (λ l. flat_map (bytes_of_group base) (groups base text) ++ l)
+        (sound-moved base width count ended (groups base after) few)
+
+module _ (base : Base) (ruled : IsRuled base) (text after bytes : List ℕ)
+    (follows : MayBeFollowed base text) (means : Means base text bytes) where
+  is_width : IsWidth base.width
+  is_width = ruled.is_width
+
+  whole : (length (kept base text) % group_symbols base.width ≡ 0)
+      × AllFail (is_final base) (groups base text)
+  whole = followed base ruled text after bytes bytes follows means
 
   sound : AreSound base false (groups base text) false
   sound =
@@ -231,33 +264,13 @@ module _ (base : Base) (ruled : IsRuled base) (text after bytes : List ℕ)
       (not_ended base is_width false (groups base text) refl whole.1)
       (AreSound-none base false (groups base text) none.1)
 
-  -- the fault of what stands behind, as far on as the first text is long
-  pub fault-join : fault_of base (text ++ after) ≡ further count (fault_of base after)
-  fault-join =
-      let lengths : length_fault base (length (text ++ after))
-      ≡ further count (length_fault base (length after)) =
-      ap (length_fault base) (length-append text after)
-      ∙ length_fault-behind base is_width count (length after)
-      (λ none. ap (λ n. n % group_symbols base.width) (sym (length-kept_plain base text none))
-      ∙ whole.0) in
-      let firsts : first_fault base (groups base (text ++ after))
-      ≡ further count (first_fault base (groups base after)) =
-      ap (first_fault base) groups_joined
-      ∙ first-AreSound base false false (groups base text) others sound
-      ∙ first-moved base is_width count false (groups base after) few in
-      (λ i. or_else (lengths i) (firsts i))
-      ∙ further-or_else count (length_fault base (length after))
-      (first_fault base (groups base after))
+  pub fault-join : fault_of base (text ++ after) ≡ further (length text) (fault_of base after)
+  fault-join = fault-after_whole base is_width text after whole.0 false sound
 
-  -- and its bytes behind those of the first
   pub sound_bytes-join : sound_bytes base (text ++ after) ≡ bytes ++ sound_bytes base after
   sound_bytes-join =
-      let here : flat_map (bytes_of_group base) (groups base text) ≡ bytes =
-      ap (flat_map (bytes_of_group base))
+      bytes-after_whole base is_width text after whole.0 false sound
+      ∙ ap (λ l. l ++ sound_bytes base after)
+      (ap (flat_map (bytes_of_group base))
       (sym (sound-all base false false (groups base text) sound))
-      ∙ sound_bytes-Means base is_width text bytes means in
-      ap (λ gs. flat_map (bytes_of_group base) (sound_after false base gs)) groups_joined
-      ∙ ap (flat_map (bytes_of_group base))
-      (sound-AreSound base false false (groups base text) others sound)
-      ∙ flat_map-append (bytes_of_group base) (groups base text) (sound_after false base others)
-      ∙ (λ i. here i ++ sound-moved base is_width count false (groups base after) few i)
+      ∙ sound_bytes-Means base is_width text bytes means)

@@ -10,14 +10,14 @@ use Rattle.data_encoding.proofs.grammar.PositionLemmas.{length-meanings, meaning
 use Rattle.data_encoding.specs.declared.encoding.Character.{Character}
 use Rattle.data_encoding.specs.Base.{Base, IsWidth, meaning, is_ignored, is_padded, is_padding, group_symbols}
 use Rattle.data_encoding.specs.Bits.{runs}
-use Rattle.data_encoding.specs.Grammar.{Positioned, kept, groups, PlainMeans, GroupsMean, Means, MeansBy, is_final, kept_in, bytes_in, meanings_in}
+use Rattle.data_encoding.specs.Grammar.{Positioned, kept, groups, PlainMeans, GroupsMean, Means, is_final, kept_in, bytes_in, meanings_in}
 use Rattle.data_encoding.specs.Laws.{MayBeFollowed}
 use Rattle.data_encoding.proofs.digits.WidthLemmas.{by_width, group_symbols-pos}
 use Rattle.data_encoding.proofs.grammar.GroupLemmas.{symbols_alone}
 use Rattle.data_encoding.proofs.grammar.KeptLemmas.{kept_in-append}
-use Rattle.data_encoding.proofs.grammar.PaddedMeaningLemmas.{length-groups}
+use Rattle.data_encoding.proofs.grammar.MeaningLemmas.{length-groups}
 use Rattle.data_encoding.proofs.grammar.SameBytesLemmas.{bytes-kept_in, runs-alike}
-use Rattle.data_encoding.proofs.grammar.UnpaddedGrammarLemmas.{PlainMeans-append}
+use Rattle.data_encoding.proofs.grammar.UnpaddedGrammarLemmas.{unpadded-Means}
 use Rattle.data_encoding.proofs.grammar.UnpaddedGroupLemmas.{PlainMeans-count}
 use Rattle.data_encoding.proofs.lists.EachLemmas.{all_parts}
 use Rattle.data_encoding.proofs.lists.ListLemmas.{AllFail, list_any-none}
@@ -122,78 +122,52 @@ module _ (base : Base) (ruled : IsRuled base) where
     abbrev meant : List Character
     meant = meanings_in base (kept base text)
 
-    plain_join : 8 % base.width ≡ 0 → PlainMeans base (meanings_in base (kept base text)) bytes
-        → PlainMeans base (meanings_in base (kept base after)) more
-        → PlainMeans base (meanings_in base (kept base (text ++ after))) (bytes ++ more)
-    plain_join divides first second =
-        let count = PlainMeans-count base width meant bytes first in
-        let none = none_left base.width width (length meant) (length bytes) (length first.rest)
-        divides count first.rest_is_short in
-        subst (λ ms. PlainMeans base ms (bytes ++ more))
-        (sym (ap (meanings_in base) joined ∙ meanings-append base (kept base text) rest))
-        (PlainMeans-append base width meant (meanings_in base rest) bytes more (length bytes)
-        (omega (arith, count, none)) first
-        (subst (λ l. PlainMeans base (map (meaning base) l) more) same second))
-
-    pub whole-padded : is_padded base ≡ true
-        → GroupsMean base (map (meanings_in base) (groups base text)) bytes
+    pub whole-padded : is_padded base ≡ true → Means base text bytes
         → length (kept base text) % size ≡ 0
     whole-padded padded means =
-        ap (λ n. n % size) (length-groups base width padded text bytes means)
+        ap (λ n. n % size) (length-groups base width text bytes means padded)
         ∙ mul-mod_left (length (groups base text)) size
 
-    pub whole-plain : 8 % base.width ≡ 0 → PlainMeans base (meanings_in base (kept base text)) bytes
+    plain : is_padded base ≡ false → Means base text bytes → PlainMeans base meant bytes
+    plain unpadded = (unpadded-Means base width unpadded text bytes).0
+
+    pub whole-plain : is_padded base ≡ false → 8 % base.width ≡ 0 → Means base text bytes
         → length (kept base text) % size ≡ 0
-    whole-plain divides means =
-        let count = PlainMeans-count base width meant bytes means in
-        let none = none_left base.width width (length meant) (length bytes) (length means.rest)
-        divides count means.rest_is_short in
+    whole-plain unpadded divides means =
+        let symbols = plain unpadded means in
+        let count = PlainMeans-count base width meant bytes symbols in
+        let none = none_left base.width width (length meant) (length bytes) (length symbols.rest)
+        divides count symbols.rest_is_short in
         ap (λ n. n % size) (sym (length-meanings base (kept base text)))
         ∙ whole_symbols base.width width (length meant) (length bytes) (omega (arith, count, none))
 
     -- where another text may follow, the groups are whole and none is final
     pub followed : MayBeFollowed base text → Means base text bytes
         → (length (kept base text) % size ≡ 0) × AllFail (is_final base) (groups base text)
-    followed = by base.padding refl ruled.padding where
+    followed h means = by base.padding refl ruled.padding h where
       by : (o : Option ℕ) → base.padding ≡ o → IsRuledPadding base o → MayBeFollowed base text
-          → MeansBy o base text bytes
           → (length (kept base text) % size ≡ 0) × AllFail (is_final base) (groups base text)
-      by None is h (inl follows) means =
+      by None is h (inl follows) =
           absurd (false≢true (sym (ap is_some is) ∙ follows.0))
-      by None is h (inr divides) means = (
-        whole-plain divides means,
-        none_final-kept
-            (subst (AllFail is_padding) (sym means.are_symbols) (symbols_alone means.values)),
-      )
-      by (Some character) is h (inl follows) means =
+      by None is h (inr divides) =
+          let symbols = plain (ap is_some is) means in (
+            whole-plain (ap is_some is) divides means,
+            none_final-kept
+                (subst (AllFail is_padding) (sym symbols.are_symbols)
+                (symbols_alone symbols.values)),
+          )
+      by (Some character) is h (inl follows) =
           (whole-padded (ap is_some is) means, none_final follows.1)
-      by (Some character) is h (inr divides) means =
+      by (Some character) is h (inr divides) =
           absurd (false≢true (sym (ap (λ n. not (n == 0)) divides) ∙ h.2))
-
-    padded_join : is_padded base ≡ true
-        → (base.concatenates ≡ true) ⊎ All (λ byte. pads byte ≡ false) text
-        → GroupsMean base (map (meanings_in base) (groups base text)) bytes
-        → GroupsMean base (map (meanings_in base) (groups base after)) more
-        → GroupsMean base (map (meanings_in base) (groups base (text ++ after))) (bytes ++ more)
-    padded_join padded follows first second =
-        let exact = whole-padded padded first in
-        subst (λ gs. GroupsMean base (map (meanings_in base) gs) (bytes ++ more))
-        (sym (ap (runs size) joined
-        ∙ runs-join size (kept base text) rest (group_symbols-pos base.width width) exact))
-        (GroupsMean-append (groups base text) (runs size rest) bytes more (none_final follows) first
-        (subst (λ gs. GroupsMean base gs more)
-        (runs-alike base width (kept base after) rest (ap (map (meaning base)) same)) second))
 
     pub Means-join : MayBeFollowed base text → Means base text bytes → Means base after more
         → Means base (text ++ after) (bytes ++ more)
-    Means-join = by base.padding refl ruled.padding where
-      by : (o : Option ℕ) → base.padding ≡ o → IsRuledPadding base o → MayBeFollowed base text
-          → MeansBy o base text bytes → MeansBy o base after more
-          → MeansBy o base (text ++ after) (bytes ++ more)
-      by None is h (inl follows) first second =
-          absurd (false≢true (sym (ap is_some is) ∙ follows.0))
-      by None is h (inr divides) first second = plain_join divides first second
-      by (Some character) is h (inl follows) first second =
-          padded_join (ap is_some is) follows.1 first second
-      by (Some character) is h (inr divides) first second =
-          absurd (false≢true (sym (ap (λ n. not (n == 0)) divides) ∙ h.2))
+    Means-join follows first second =
+        let whole = followed follows first in
+        subst (λ gs. GroupsMean base (map (meanings_in base) gs) (bytes ++ more))
+        (sym (ap (runs size) joined
+        ∙ runs-join size (kept base text) rest (group_symbols-pos base.width width) whole.0))
+        (GroupsMean-append (groups base text) (runs size rest) bytes more whole.1 first
+        (subst (λ gs. GroupsMean base gs more)
+        (runs-alike base width (kept base after) rest (ap (map (meaning base)) same)) second))

@@ -33,21 +33,18 @@ module _ (base : Base) (len : ℕ) where
     pub is_valid_length-by : is_valid_length base len
         ≡ cond b (len % group_symbols base.width == 0) (is_valid_count base.width len)
     is_valid_length-by =
-        ap (λ p. cond p (len % group_symbols base.width == 0) (is_valid_count base.width len))
-        padded
+        rw padded
 
     pub most_bytes-by : most_bytes base len
         ≡ cond b (len / group_symbols base.width * group_bytes base.width) (base.width * len / 8)
     most_bytes-by =
-        ap (λ p. cond p (len / group_symbols base.width * group_bytes base.width)
-        (base.width * len / 8)) padded
+        rw padded
 
     pub greatest_valid_length-by : greatest_valid_length base len
         ≡ cond b (len / group_symbols base.width * group_symbols base.width)
         (greatest_valid_count base.width len)
     greatest_valid_length-by =
-        ap (λ p. cond p (len / group_symbols base.width * group_symbols base.width)
-        (greatest_valid_count base.width len)) padded
+        rw padded
 
   -- how many bytes are due
   pub decoded_len-valid : is_valid_length base len ≡ true
@@ -83,10 +80,11 @@ whole_count =
 -- the length of whole groups is valid
 pub whole-length : (base : Base) → IsWidth base.width → (len : ℕ)
     → len % group_symbols base.width ≡ 0 → is_valid_length base len ≡ true
-whole-length base width len exact = by (is_padded base) refl where
-  by : (b : Bool) → is_padded base ≡ b → is_valid_length base len ≡ true
-  by true is = is_valid_length-by base len true is ∙ ap (λ n. n == 0) exact
-  by false is = is_valid_length-by base len false is ∙ whole_count base.width width len exact
+whole-length base width len exact = by (is_padded base) where
+  by : (b : Bool)
+      → cond b (len % group_symbols base.width == 0) (is_valid_count base.width len) ≡ true
+  by true = ap (λ n. n == 0) exact
+  by false = whole_count base.width width len exact
 
 -- so a group of no valid length is not whole
 pub whole-less : (base : Base) → IsWidth base.width → (len : ℕ) → len ≤ group_symbols base.width
@@ -103,16 +101,17 @@ whole-less base width len few invalid =
 pub valid-whole : (base : Base) (len : ℕ) → 0 < len → is_valid_length base len ≡ true
     → cond (is_padded base) (nat_lt len (group_symbols base.width) ≡ false)
     (is_valid_count base.width len ≡ true)
-valid-whole base len some valid = by (is_padded base) refl where
-  by : (b : Bool) → is_padded base ≡ b → cond b (nat_lt len (group_symbols base.width) ≡ false)
+valid-whole base len some = by (is_padded base) where
+  by : (b : Bool)
+      → cond b (len % group_symbols base.width == 0) (is_valid_count base.width len) ≡ true
+      → cond b (nat_lt len (group_symbols base.width) ≡ false)
       (is_valid_count base.width len ≡ true)
-  by true is =
+  by true valid =
       let size = group_symbols base.width in
-      let exact : len % size ≡ 0 =
-      eqb-true (len % size) 0 (sym (is_valid_length-by base len true is) ∙ valid) in
+      let exact : len % size ≡ 0 = eqb-true (len % size) 0 valid in
       let never : len < size → ⊥ = λ less. omega (arith, mod-eq_of_lt less, exact, some) in
       grind (arith, nat_tests, never)
-  by false is = sym (is_valid_length-by base len false is) ∙ valid
+  by false valid = valid
 
 -- The bits of symbols are whole bytes exactly where their groups are whole.
 pub whole_bits : (width : ℕ) → IsWidth width → (len : ℕ)
@@ -136,11 +135,12 @@ whole_count_bytes =
 pub most_bytes-valid : (base : Base) → IsWidth base.width → (width len : ℕ) → width ≡ base.width
     → is_valid_length base len ≡ true → width * len / 8 ≡ most_bytes base len
 most_bytes-valid base is_width width len same valid =
-    ap (λ w. w * len / 8) same ∙ sym (by (is_padded base) refl) where
-      by : (b : Bool) → is_padded base ≡ b → most_bytes base len ≡ base.width * len / 8
-      by true is =
-          let exact : len % group_symbols base.width ≡ 0 =
-          eqb-true (len % group_symbols base.width) 0
-          (sym (is_valid_length-by base len true is) ∙ valid) in
-          most_bytes-by base len true is ∙ whole_count_bytes base.width is_width len exact
-      by false is = most_bytes-by base len false is
+    ap (λ w. w * len / 8) same ∙ sym (by (is_padded base) valid) where
+      by : (b : Bool)
+          → cond b (len % group_symbols base.width == 0) (is_valid_count base.width len) ≡ true
+          → cond b (len / group_symbols base.width * group_bytes base.width)
+          (base.width * len / 8) ≡ base.width * len / 8
+      by true valid =
+          whole_count_bytes base.width is_width len
+          (eqb-true (len % group_symbols base.width) 0 valid)
+      by false valid = refl

@@ -1,9 +1,9 @@
 -- What a text means is decided by what its bytes that are not ignored mean, wherever they stand.
-use Rattle.std.proofs.Common.{◌≡◌, ℕ, Bool, not, List, map, Option, Some, None, sym, ap, ◌∙◌, subst}
+use Rattle.std.proofs.Common.{◌≡◌, ℕ, Bool, not, List, map, sym, ap, ◌∙◌, subst}
 use Rattle.std.specs.List.{filter}
 use Rattle.data_encoding.specs.Base.{Base, IsWidth, meaning, is_ignored, group_symbols}
 use Rattle.data_encoding.specs.Bits.{runs}
-use Rattle.data_encoding.specs.Grammar.{GroupsMean, Means, MeansBy, PlainMeans, Positioned, bytes_in, kept, kept_in, meanings_in, positioned_from}
+use Rattle.data_encoding.specs.Grammar.{GroupsMean, Means, Positioned, bytes_in, kept, kept_in, meanings_in, positioned_from}
 use Rattle.data_encoding.proofs.digits.WidthLemmas.{group_symbols-pos}
 use Rattle.data_encoding.proofs.grammar.PositionLemmas.{bytes-positioned_from, runs-meanings}
 use Rattle.data_encoding.proofs.lists.ListLemmas.{map-filter}
@@ -33,13 +33,9 @@ module _ (base : Base) where
     pub Means-alike : (text other bytes : List ℕ)
         → meanings_in base (kept base text) ≡ meanings_in base (kept base other)
         → Means base text bytes → Means base other bytes
-    Means-alike text other bytes alike = by base.padding where
-      by : (o : Option ℕ) → MeansBy o base text bytes → MeansBy o base other bytes
-      by None means = subst (λ ms. PlainMeans base ms bytes) alike means
-      by (Some character) means =
-          subst (λ gs. GroupsMean base gs bytes)
-          (runs-alike (kept base text) (kept base other) alike)
-          means
+    Means-alike text other bytes alike =
+        subst (λ gs. GroupsMean base gs bytes)
+        (runs-alike (kept base text) (kept base other) alike)
 
     -- and so do texts of the same kept bytes
     pub Means-same : (text other bytes : List ℕ)

@@ -1,6 +1,8 @@
 -- Groups without a fault, one after the other.
 use Rattle.std.proofs.Common.{◌≡◌, ℕ, Bool, true, false, not, cond, ◌&&◌, List, [], ◌∷◌, ◌++◌, map, Option, Some, None, is_some, refl, sym, ap, ◌∙◌, subst}
 use Rattle.std.proofs.lemmas.List.{append-nil}
+use Rattle.std.proofs.lemmas.List.Concat.{flat_map-append}
+use Rattle.std.specs.Prelude.{flat_map}
 use Rattle.std.specs.List.{list_any}
 use Rattle.std.proofs.Math.Bool.{and-false}
 use Rattle.data_encoding.specs.declared.error.DecodeError.{DecodeError}
@@ -9,7 +11,7 @@ use Rattle.data_encoding.specs.declared.encoding.Character.{Character}
 use Rattle.data_encoding.specs.declared.encoding.Character.TheVariants.{Symbol}
 use Rattle.data_encoding.specs.Base.{Base, is_padding}
 use Rattle.data_encoding.specs.Grammar.{Positioned, bytes_in, is_final}
-use Rattle.data_encoding.specs.Fault.{fault_after, first_after, group_fault, located, or_else, sound_after}
+use Rattle.data_encoding.specs.Fault.{bytes_of_group, fault_after, first_after, group_fault, located, or_else, sound_after}
 use Rattle.data_encoding.specs.Decoding.{AreSound}
 use Rattle.data_encoding.proofs.lists.ListLemmas.{AllFail, list_any-none}
 use Rattle.data_encoding.proofs.grammar.GroupLemmas.{symbols_alone}
@@ -68,6 +70,16 @@ module _ (base : Base) where
       ap (λ o. cond (is_some o) []
       (group ∷ sound_after (is_final base group) base (groups ++ others))) h.0
       ∙ ap (λ l. group ∷ l) (sound-AreSound (is_final base group) ended groups others h.1)
+
+  -- and their bytes follow
+  pub bytes-AreSound : (begun ended : Bool) (groups others : List (List Positioned))
+      → AreSound base begun groups ended
+      → flat_map (bytes_of_group base) (sound_after begun base (groups ++ others))
+      ≡ flat_map (bytes_of_group base) groups
+      ++ flat_map (bytes_of_group base) (sound_after ended base others)
+  bytes-AreSound begun ended groups others h =
+      ap (flat_map (bytes_of_group base)) (sound-AreSound begun ended groups others h)
+      ∙ flat_map-append (bytes_of_group base) groups (sound_after ended base others)
 
   pub first-none : (begun ended : Bool) (groups : List (List Positioned))
       → AreSound base begun groups ended → first_after begun base groups ≡ None

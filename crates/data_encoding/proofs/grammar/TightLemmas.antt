@@ -6,12 +6,13 @@ use Rattle.std.specs.List.{AllByRecursion}
 use Rattle.data_encoding.specs.declared.encoding.Character.{Character}
 use Rattle.data_encoding.specs.declared.encoding.Character.TheVariants.{Ignored}
 use Rattle.data_encoding.specs.Base.{Base, IsWidth, Wrapping, ignores_some, is_ignored, meaning}
-use Rattle.data_encoding.specs.Grammar.{GroupsMean, Means, MeansBy, PlainMeans, groups, kept, meanings_in}
+use Rattle.data_encoding.specs.Grammar.{GroupsMean, Means, groups, kept, meanings_in}
 use Rattle.data_encoding.specs.Lengths.{most_bytes}
 use Rattle.data_encoding.specs.Text.{text_of}
 use Rattle.data_encoding.proofs.digits.WidthLemmas.{by_width}
 use Rattle.data_encoding.proofs.grammar.LengthLemmas.{most_bytes-by}
 use Rattle.data_encoding.proofs.grammar.PositionLemmas.{length-kept_plain, never_ignored, length-meanings}
+use Rattle.data_encoding.proofs.grammar.UnpaddedGrammarLemmas.{unpadded-Means}
 use Rattle.data_encoding.proofs.grammar.UnpaddedGroupLemmas.{PlainMeans-count}
 use Rattle.data_encoding.proofs.lists.RunLemmas.{run_count}
 use Rattle.data_encoding.proofs.judgement.RuleLemmas.{IsRuled, IsRuledWrapping}
@@ -48,8 +49,7 @@ pub length-plain_text_of : (base : Base) → IsRuled base → base.padding ≡ N
     → length others ≡ length bytes → length text ≡ length (text_of base others)
 length-plain_text_of base ruled unpadded none text bytes others means same =
     let meant = meanings_in base (kept base text) in
-    let plain : PlainMeans base meant bytes =
-    subst (λ o. MeansBy o base text bytes) unpadded means in
+    let plain = (unpadded-Means base ruled.is_width (ap is_some unpadded) text bytes).0 means in
     let count = symbols_of base.width ruled.is_width (length meant) (length bytes)
     (length plain.rest) (PlainMeans-count base ruled.is_width meant bytes plain)
     plain.rest_is_short in
@@ -63,8 +63,7 @@ pub most-Means : (base : Base) → IsWidth base.width → base.padding ≡ None
     → length bytes ≡ most_bytes base (length text)
 most-Means base width unpadded none text bytes means =
     let meant = meanings_in base (kept base text) in
-    let plain : PlainMeans base meant bytes =
-    subst (λ o. MeansBy o base text bytes) unpadded means in
+    let plain = (unpadded-Means base width (ap is_some unpadded) text bytes).0 means in
     let count = PlainMeans-count base width meant bytes plain in
     let all : base.width * length meant ≡ base.width * length text =
     ap (λ n. base.width * n)
@@ -84,8 +83,4 @@ each-bytes base (group ∷ gs) bytes means =
 
 pub are_bytes-Means : (base : Base) (text bytes : List ℕ) → Means base text bytes
     → All (λ byte. byte < 256) bytes
-are_bytes-Means base text bytes = by base.padding where
-  by : (o : Option ℕ) → MeansBy o base text bytes → All (λ byte. byte < 256) bytes
-  by None plain = plain.are_bytes
-  by (Some character) means =
-      each-bytes base (map (meanings_in base) (groups base text)) bytes means
+are_bytes-Means base text = each-bytes base (map (meanings_in base) (groups base text))

@@ -1,18 +1,19 @@
--- Symbols alone, group by group.
-use Rattle.std.proofs.Common.{◌≡◌, ℕ, ◌+◌, ◌*◌, ◌<◌, ◌≤◌, List, [], ◌++◌, length, map, take, drop, None, refl, sym, ap, ◌∙◌, subst, arith, ⊎_elim, length-append, append_assoc, take-append-drop, length-take-le}
-use Rattle.std.proofs.lemmas.Bool.{cases_lt}
+-- The groups of an unpadded text mean what its symbols mean.
+use Rattle.std.proofs.Common.{◌≡◌, ◌↔◌, ℕ, ◌+◌, ◌*◌, ◌<◌, ◌≤◌, false, List, [], ◌∷◌, ◌++◌, length, map, take, drop, refl, sym, ap, ◌∙◌, subst, arith, ⊎_elim, length-append, append_assoc, take-append-drop, length-take-le}
+use Rattle.std.proofs.lemmas.Bool.{cases_lt, false≢true}
 use Rattle.std.proofs.lemmas.List.{length-map, map-append, append-nil, nil_from_length}
 use Rattle.std.proofs.lemmas.List.Concat.{flat_map-append}
 use Rattle.std.proofs.lemmas.List.Elements.{All-append, All-take, All-drop, All-from_recursion}
 use Rattle.std.specs.Prelude.{flat_map}
-use Rattle.std.specs.List.{AllByRecursion}
 use Rattle.data_encoding.specs.declared.encoding.Character.{Character}
 use Rattle.data_encoding.specs.declared.encoding.Character.TheVariants.{Symbol}
-use Rattle.data_encoding.specs.Base.{Base, group_bytes, group_symbols, IsWidth}
+use Rattle.data_encoding.specs.Base.{Base, is_padded, group_bytes, group_symbols, IsWidth}
 use Rattle.data_encoding.specs.Bits.{bits_of, bits_of_bytes, runs}
-use Rattle.data_encoding.specs.Grammar.{PlainMeans}
-use Rattle.data_encoding.specs.Fault.{plain_fault, symbol_bytes}
-use Rattle.data_encoding.proofs.grammar.UnpaddedGroupLemmas.{PlainMeans-count, PlainMeans-sound, PlainMeans-no_fault, length-bits_of_bytes, length-bits_of_values}
+use Rattle.data_encoding.specs.Grammar.{GroupsMean, Means, PlainMeans, kept, meanings_in}
+use Rattle.data_encoding.proofs.grammar.GroupLemmas.{GroupMeans-plain, GroupMeans-symbols}
+use Rattle.data_encoding.proofs.grammar.PositionLemmas.{runs-meanings}
+use Rattle.data_encoding.proofs.grammar.SoundLemmas.{symbols-not_final}
+use Rattle.data_encoding.proofs.grammar.UnpaddedGroupLemmas.{PlainMeans-count, length-bits_of_bytes, length-bits_of_values}
 use Rattle.data_encoding.proofs.lists.ListLemmas.{parts_same}
 use Rattle.data_encoding.proofs.lists.RunLemmas.{by_runs, runs-first, runs-nil, runs-short}
 use Rattle.data_encoding.proofs.digits.WidthLemmas.{group_bits, group_symbols-pos}
@@ -129,57 +130,89 @@ module _ (base : Base) (width : IsWidth base.width) where
         };
       }
 
-  abbrev pub ArePlain : List (List Character) → Type 0
-  ArePlain groups = AllByRecursion (λ group. plain_fault base group ≡ None) groups
+  module _ (unpadded : is_padded base ≡ false) where
+    -- no symbols end the text
+    first-PlainMeans : (group : List Character) (others : List (List Character))
+        (bytes more : List ℕ) → 0 < length group → PlainMeans base group bytes
+        → GroupsMean base others more → GroupsMean base (group ∷ others) (bytes ++ more)
+    first-PlainMeans group others bytes more some means behind = (
+      bytes,
+      more,
+      refl,
+      GroupMeans-symbols base group bytes some
+          (λ padded. absurd (false≢true (sym unpadded ∙ padded))) means,
+      (λ final. absurd (false≢true (sym (symbols-not_final base group means.values
+          means.are_symbols) ∙ final))),
+      behind,
+    )
 
-  abbrev groups_of : List Character → List (List Character)
-  groups_of ks = runs size ks
+    -- the groups of symbols mean what the symbols mean
+    PlainMeans-groups : (ks : List Character) (bytes : List ℕ)
+        → GroupsMean base (runs size ks) bytes → PlainMeans base ks bytes
+    PlainMeans-groups =
+        by_runs size size-pos
+        (λ ks. (bytes : List ℕ) → GroupsMean base (runs size ks) bytes → PlainMeans base ks bytes)
+        (λ bytes none. subst (PlainMeans base [])
+        (sym (subst (λ gs. GroupsMean base gs bytes) (runs-nil {X = Character} size size-pos)
+        none)) PlainMeans-nil)
+        (λ ks some others bytes means.
+        ⊎_elim
+        (λ (short : length ks < size).
+        let one = subst (λ gs. GroupsMean base gs bytes)
+        (runs-short size ks some (omega arith)) means in
+        subst (PlainMeans base ks)
+        (sym (one.2 ∙ ap (λ l. one.0 ++ l) one.5 ∙ append-nil one.0))
+        (GroupMeans-plain base ks one.0 unpadded one.3))
+        (λ (long : size ≤ length ks).
+        let first = subst (λ gs. GroupsMean base gs bytes)
+        (runs-first size ks size-pos some) means in
+        subst (PlainMeans base ks) (sym first.2)
+        (subst (λ l. PlainMeans base l (first.0 ++ first.1)) (take-append-drop size ks)
+        (PlainMeans-append (take size ks) (drop size ks) first.0 first.1
+        (group_bytes base.width)
+        (ap (λ n. base.width * n) (length-take-le size ks long) ∙ group_bits base.width width)
+        (GroupMeans-plain base (take size ks) first.0 unpadded first.3)
+        (others first.1 first.5))))
+        (cases_lt (length ks) size))
 
-  abbrev bytes_of : List (List Character) → List ℕ
-  bytes_of groups = flat_map (symbol_bytes base) groups
+    -- and symbols that mean bytes give groups that do
+    groups-PlainMeans : (ks : List Character) (bytes : List ℕ) → PlainMeans base ks bytes
+        → GroupsMean base (runs size ks) bytes
+    groups-PlainMeans =
+        by_runs size size-pos
+        (λ ks. (bytes : List ℕ) → PlainMeans base ks bytes → GroupsMean base (runs size ks) bytes)
+        (λ bytes means. subst (λ gs. GroupsMean base gs bytes)
+        (sym (runs-nil {X = Character} size size-pos)) (nothing bytes means))
+        (λ ks some others bytes means.
+        ⊎_elim
+        (λ (short : length ks < size).
+        subst (λ gs. GroupsMean base gs bytes)
+        (sym (runs-short size ks some (omega arith)))
+        (subst (GroupsMean base (ks ∷ [])) (append-nil bytes)
+        (first-PlainMeans ks [] bytes [] some means refl)))
+        (λ (long : size ≤ length ks).
+        let len = length-take-le size ks long in
+        let parts = PlainMeans-split (take size ks) (drop size ks) bytes len
+        (subst (λ l. PlainMeans base l bytes) (sym (take-append-drop size ks)) means) in
+        subst (λ gs. GroupsMean base gs bytes) (sym (runs-first size ks size-pos some))
+        (subst (GroupsMean base (take size ks ∷ runs size (drop size ks)))
+        (take-append-drop (group_bytes base.width) bytes)
+        (first-PlainMeans (take size ks) (runs size (drop size ks)) _ _
+        (omega (arith, len, size-pos)) parts.first (others _ parts.second))))
+        (cases_lt (length ks) size)) where
+          nothing : (bytes : List ℕ) → PlainMeans base [] bytes → bytes ≡ []
+          nothing bytes means =
+              let count = PlainMeans-count base width [] bytes means in
+              nil_from_length bytes (omega (arith, count))
 
-  -- groups with no fault mean their bytes joined
-  pub PlainMeans-from_groups : (ks : List Character) → ArePlain (groups_of ks)
-      → PlainMeans base ks (bytes_of (groups_of ks))
-  PlainMeans-from_groups =
-      by_runs size size-pos
-      (λ ks. ArePlain (groups_of ks) → PlainMeans base ks (bytes_of (groups_of ks)))
-      (λ sound. subst (λ groups. PlainMeans base [] (bytes_of groups))
-      (sym (runs-nil {X = Character} size size-pos)) PlainMeans-nil)
-      (λ ks some others sound.
-      ⊎_elim
-      (λ (short : length ks < size).
-      let one = runs-short size ks some (omega arith) in
-      subst (λ groups. PlainMeans base ks (bytes_of groups)) (sym one)
-      (subst (PlainMeans base ks) (sym (append-nil (symbol_bytes base ks)))
-      (PlainMeans-sound base width ks (subst ArePlain one sound).0)))
-      (λ (long : size ≤ length ks).
-      let first = runs-first size ks size-pos some in
-      let fine = subst ArePlain first sound in
-      subst (λ groups. PlainMeans base ks (bytes_of groups)) (sym first)
-      (subst (λ l. PlainMeans base l (symbol_bytes base (take size ks)
-      ++ bytes_of (groups_of (drop size ks)))) (take-append-drop size ks)
-      (PlainMeans-append (take size ks) (drop size ks) _ _ (group_bytes base.width)
-      (ap (λ n. base.width * n) (length-take-le size ks long) ∙ group_bits base.width width)
-      (PlainMeans-sound base width (take size ks) fine.0) (others fine.1))))
-      (cases_lt (length ks) size))
-
-  -- the groups of what means something have no fault
-  pub groups-PlainMeans : (ks : List Character) (bytes : List ℕ) → PlainMeans base ks bytes
-      → ArePlain (groups_of ks)
-  groups-PlainMeans =
-      by_runs size size-pos
-      (λ ks. (bytes : List ℕ) → PlainMeans base ks bytes → ArePlain (groups_of ks))
-      (λ bytes means. subst ArePlain (sym (runs-nil {X = Character} size size-pos)) tt)
-      (λ ks some others bytes means.
-      ⊎_elim
-      (λ (short : length ks < size).
-      subst ArePlain (sym (runs-short size ks some (omega arith)))
-      (PlainMeans-no_fault base width ks bytes means, tt))
-      (λ (long : size ≤ length ks).
-      let parts = PlainMeans-split (take size ks) (drop size ks) bytes
-      (length-take-le size ks long)
-      (subst (λ l. PlainMeans base l bytes) (sym (take-append-drop size ks)) means) in
-      subst ArePlain (sym (runs-first size ks size-pos some))
-      (PlainMeans-no_fault base width (take size ks) _ parts.first, others _ parts.second))
-      (cases_lt (length ks) size))
+    -- the law of unpadded texts
+    pub unpadded-Means : (text bytes : List ℕ)
+        → Means base text bytes ↔ PlainMeans base (meanings_in base (kept base text)) bytes
+    unpadded-Means text bytes =
+        let meant = meanings_in base (kept base text) in
+        let cut = runs-meanings base size (kept base text) size-pos in (
+          (λ means. PlainMeans-groups meant bytes
+              (subst (λ gs. GroupsMean base gs bytes) (sym cut) means)),
+          (λ means. subst (λ gs. GroupsMean base gs bytes) cut
+              (groups-PlainMeans meant bytes means)),
+        )

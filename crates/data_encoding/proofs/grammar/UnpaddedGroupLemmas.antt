@@ -14,9 +14,8 @@ use Rattle.data_encoding.specs.declared.encoding.Character.TheVariants.{Symbol, 
 use Rattle.data_encoding.specs.Base.{Base, is_symbol, value_of, IsWidth}
 use Rattle.data_encoding.specs.Bits.{bits_of, number_of, bits_of_bytes, runs}
 use Rattle.data_encoding.specs.Grammar.{PlainMeans}
-use Rattle.data_encoding.specs.Lengths.{is_valid_count, greatest_valid_count}
-use Rattle.data_encoding.specs.Fault.{symbol_bits, trailing_bits, symbol_bytes, plain_fault, symbols_fault, trailing_fault, fault_at_first, faulty_at}
-use Rattle.data_encoding.specs.declared.error.DecodeKind.TheVariants.{Length as LengthFault}
+use Rattle.data_encoding.specs.Lengths.{is_valid_count}
+use Rattle.data_encoding.specs.Fault.{symbol_bits, trailing_bits, symbol_bytes, plain_fault, symbols_fault, trailing_fault, fault_at_first}
 use Rattle.data_encoding.proofs.digits.BitLemmas.{AreBits, AreBits-take, AreBits-flat_map, AreBits-bits_of, length-bits_of, length-pieces, number_of-bits_of}
 use Rattle.data_encoding.proofs.digits.ValueLemmas.{AreValuesOf-runs}
 use Rattle.data_encoding.proofs.lists.EachLemmas.{all_replicate, all_weaker}
@@ -101,9 +100,7 @@ quiet false any fault h = refl
 pub plain_fault-valid : (base : Base) (group : List Character)
     → is_valid_count base.width (length group) ≡ true
     → plain_fault base group ≡ symbols_fault base group
-plain_fault-valid base group h =
-    ap (λ b. cond b (symbols_fault base group)
-    (faulty_at LengthFault (greatest_valid_count base.width (length group)))) h
+plain_fault-valid base group h = rw h
 
 -- bits that are bytes and a short rest
 record AreSplit (bits front rest : List ℕ) : Type 0 where

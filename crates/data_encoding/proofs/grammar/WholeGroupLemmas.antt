@@ -1,19 +1,18 @@
 -- Whole groups of symbols alone.
-use Rattle.std.proofs.Common.{◌≡◌, ℕ, zero, suc, ◌+◌, ◌-◌, ◌*◌, ◌/◌, ◌==◌, Bool, true, false, not, cond, ◌&&◌, List, [], ◌∷◌, length, map, take, drop, None, refl, sym, ap, ◌∙◌, subst, arith, take-append-drop, length-take-le}
+use Rattle.std.proofs.Common.{◌≡◌, ℕ, zero, suc, ◌+◌, ◌*◌, ◌/◌, true, false, not, List, [], ◌∷◌, length, map, take, drop, None, refl, sym, ap, ◌∙◌, subst, arith, take-append-drop, length-take-le}
 use Rattle.std.proofs.Math.Nat.{zero-mul, suc-mul}
 use Rattle.std.proofs.lemmas.List.{length-map, length-drop, drop_all, nil_from_length}
 use Rattle.std.proofs.lemmas.List.Folds.{flat_map-map}
 use Rattle.std.specs.Prelude.{flat_map}
-use Rattle.std.specs.List.{filter_map, list_any, position}
+use Rattle.std.specs.List.{filter_map, position}
 use Rattle.std.proofs.Math.Bool.{and-false}
 use Rattle.data_encoding.specs.declared.encoding.Character.{Character}
 use Rattle.data_encoding.specs.declared.encoding.Character.TheVariants.{Symbol, Padding, Ignored, Invalid}
-use Rattle.data_encoding.specs.declared.error.DecodeKind.TheVariants.{Trailing as TrailingFault}
-use Rattle.data_encoding.specs.Base.{Base, meaning, is_symbol, is_ignored, is_padded, group_symbols, group_bytes, value_of, IsWidth}
+use Rattle.data_encoding.specs.Base.{Base, meaning, is_symbol, is_ignored, group_symbols, group_bytes, value_of, IsWidth}
 use Rattle.data_encoding.specs.Bits.{runs}
 use Rattle.data_encoding.specs.Grammar.{Positioned, bytes_in, is_final, kept_in, meanings_in, positioned_from}
 use Rattle.data_encoding.specs.Lengths.{is_valid_count}
-use Rattle.data_encoding.specs.Fault.{bytes_of_group, count_before_padding, fault_at_first, faulty_at, group_fault, located, padded_fault_at, plain_fault, symbol_bits, symbol_bytes, trailing_bits, trailing_fault}
+use Rattle.data_encoding.specs.Fault.{bytes_of_group, fault_at_first, group_fault, located, plain_fault, symbol_bits, symbol_bytes, trailing_bits, trailing_fault}
 use Rattle.data_encoding.specs.Decoding.{AreSound, run_bytes}
 use Rattle.data_encoding.proofs.digits.WidthLemmas.{group_bits, group_symbols-pos}
 use Rattle.data_encoding.proofs.lists.EachLemmas.{all_parts, all_weaker}
@@ -21,7 +20,7 @@ use Rattle.data_encoding.proofs.lists.EndLemmas.{AllSo}
 use Rattle.data_encoding.proofs.lists.ListLemmas.{AllFail, position-none, filter-all}
 use Rattle.data_encoding.proofs.lists.RunLemmas.{runs-nil, runs-append}
 use Rattle.data_encoding.proofs.grammar.UnpaddedGroupLemmas.{plain_fault-valid, are_symbols, length-bits_of_values, PlainMeans-sound}
-use Rattle.data_encoding.proofs.grammar.GroupLemmas.{whole-valid, GroupMeans-no_fault, GroupMeans-whole}
+use Rattle.data_encoding.proofs.grammar.GroupLemmas.{whole-valid, GroupMeans-no_fault, GroupMeans-symbols}
 use Rattle.data_encoding.proofs.grammar.PositionLemmas.{bytes-positioned_from, length-meanings, runs-meanings}
 use Rattle.data_encoding.proofs.grammar.SoundLemmas.{symbols-not_final}
 
@@ -58,10 +57,7 @@ module _ (base : Base) (width : IsWidth base.width) (group : List Positioned)
       let rest : trailing_bits base meant ≡ [] =
       drop_all (length (symbol_bits base meant) / 8 * 8) (symbol_bits base meant)
       (omega (arith, bits)) in
-      ap (λ l. cond (base.checks_trailing_bits && list_any (λ bit. not (bit == 0)) l)
-      (faulty_at TrailingFault (length meant - 1)) None) rest
-      ∙ ap (λ b. cond b (faulty_at TrailingFault (length meant - 1)) None)
-      (and-false base.checks_trailing_bits)
+      rw (rest, and-false base.checks_trailing_bits)
 
   plain : plain_fault base meant ≡ None
   plain =
@@ -71,15 +67,11 @@ module _ (base : Base) (width : IsWidth base.width) (group : List Positioned)
 
   -- a whole group of symbols has no fault, and may be followed
   pub group_fault-symbols : group_fault base (bytes_in group) ≡ None
-  group_fault-symbols = by (is_padded base) refl where
-    by : (b : Bool) → is_padded base ≡ b → group_fault base (bytes_in group) ≡ None
-    by true is =
-        GroupMeans-no_fault base width is meant (symbol_bytes base meant)
-        (GroupMeans-whole base width meant _ meant_len (PlainMeans-sound base width meant plain))
-    by false is =
-        ap (λ b. cond b (padded_fault_at base meant (count_before_padding meant))
-        (plain_fault base meant)) is
-        ∙ plain
+  group_fault-symbols =
+      GroupMeans-no_fault base width meant (symbol_bytes base meant)
+      (GroupMeans-symbols base meant (symbol_bytes base meant)
+      (omega (arith, meant_len, group_symbols-pos base.width width)) (λ padded. meant_len)
+      (PlainMeans-sound base width meant plain))
 
   pub is_final-symbols : is_final base group ≡ false
   is_final-symbols = symbols-not_final base meant values meanings

@@ -1,9 +1,10 @@
 -- A group of symbols, and of padding behind them.
-use Rattle.std.proofs.Common.{◌≡◌, ℕ, ◌*◌, ◌<◌, ◌≤◌, List, [], ◌∷◌, ◌++◌, length, map, replicate, refl, sym, ap, ◌∙◌, subst, arith}
+use Rattle.std.proofs.Common.{◌≡◌, ℕ, ◌*◌, ◌<◌, ◌≤◌, true, List, [], ◌∷◌, ◌++◌, length, map, replicate, refl, sym, ap, ◌∙◌, subst, arith}
+use Rattle.std.proofs.lemmas.Bool.{false≢true}
 use Rattle.std.proofs.lemmas.List.{length-map, map-append}
 use Rattle.std.specs.List.{AllByRecursion}
 use Rattle.data_encoding.specs.declared.encoding.Character.TheVariants.{Padding}
-use Rattle.data_encoding.specs.Base.{Base, meaning, group_symbols}
+use Rattle.data_encoding.specs.Base.{Base, is_padded, meaning, group_symbols}
 use Rattle.data_encoding.specs.Grammar.{GroupMeans, PlainMeans}
 use Rattle.data_encoding.specs.Text.{filled_with}
 use Rattle.data_encoding.proofs.text.PlainTextLemmas.{filled_count}
@@ -35,16 +36,17 @@ module _ (base : Base) where
       all_replicate (λ byte. meaning base byte ≡ Padding) count character is
 
   -- symbols that mean bytes, with padding up to a whole group, are a group that means them
-  pub GroupMeans-fillers : (text fillers bytes : List ℕ)
+  pub GroupMeans-fillers : (text fillers bytes : List ℕ) → is_padded base ≡ true
       → PlainMeans base (map (meaning base) text) bytes → 0 < length text
       → length (text ++ fillers) ≡ group_symbols base.width → AreFillers fillers
       → GroupMeans base (map (meaning base) (text ++ fillers)) bytes
-  GroupMeans-fillers text fillers bytes means some whole all = record {
+  GroupMeans-fillers text fillers bytes padded means some whole all = record {
     symbols = map (meaning base) text;
     padding = length fillers;
     is_group = map-append (meaning base) text fillers
         ∙ ap (λ l. map (meaning base) text ++ l) (padding_of fillers all);
-    is_whole = length-map (text ++ fillers) (meaning base) ∙ whole;
+    is_whole = λ _. length-map (text ++ fillers) (meaning base) ∙ whole;
+    is_plain = λ unpadded. absurd (false≢true (sym unpadded ∙ padded));
     is_begun = subst (λ n. 0 < n) (sym (length-map text (meaning base))) some;
     means = means;
   }

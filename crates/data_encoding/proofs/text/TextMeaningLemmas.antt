@@ -8,11 +8,12 @@ use Rattle.std.specs.Prelude.{All}
 use Rattle.data_encoding.specs.declared.encoding.Character.TheVariants.{Padding}
 use Rattle.data_encoding.specs.Base.{Base, IsWidth, meaning, is_padded, group_bytes, group_symbols}
 use Rattle.data_encoding.specs.Bits.{missing, runs}
-use Rattle.data_encoding.specs.Grammar.{GroupsMean, Means, MeansBy, PlainMeans, bytes_in, kept}
+use Rattle.data_encoding.specs.Grammar.{GroupsMean, Means, PlainMeans, bytes_in, kept}
 use Rattle.data_encoding.specs.Text.{filled_with, plain_text, text_of, with_padding}
 use Rattle.data_encoding.proofs.digits.WidthLemmas.{by_width, group_bytes-pos, group_symbols-pos}
-use Rattle.data_encoding.proofs.grammar.GroupLemmas.{GroupMeans-whole}
+use Rattle.data_encoding.proofs.grammar.GroupLemmas.{GroupMeans-symbols}
 use Rattle.data_encoding.proofs.grammar.PositionLemmas.{runs-meanings}
+use Rattle.data_encoding.proofs.grammar.UnpaddedGrammarLemmas.{unpadded-Means}
 use Rattle.data_encoding.proofs.grammar.SoundLemmas.{symbols-not_final}
 use Rattle.data_encoding.proofs.lists.RunLemmas.{by_runs, run_count, run_count-some, runs-append, runs-nil, runs-short}
 use Rattle.data_encoding.proofs.judgement.RuleLemmas.{IsRuled, IsRuledPadding}
@@ -70,15 +71,15 @@ module _ (base : Base) (ruled : IsRuled base) where
         let begun = run_count-some base.width (8 * length bytes) width.some (omega arith) in
         let within = few_symbols base.width width (length bytes) few in
         let count = missing size (length text) in
-        let means = GroupMeans-fillers base text (replicate count character) bytes
+        let means = GroupMeans-fillers base text (replicate count character) bytes padded
         (PlainMeans-plain_text base ruled bytes below) (omega (arith, len, begun))
         (length-filled_once character size text (omega (arith, len, begun))
         (omega (arith, len, within)))
         (AreFillers-replicate base count character means_padding) in
+        let whole = means.is_whole padded in
         subst (λ gs. GroupsMean base gs bytes)
         (sym (runs-short size (map (meaning base) (filled bytes))
-        (omega (arith, means.is_whole, group_symbols-pos base.width width))
-        (omega (arith, means.is_whole))))
+        (omega (arith, whole, group_symbols-pos base.width width)) (omega (arith, whole))))
         (bytes, [], sym (append-nil bytes), means, (λ final. refl), refl)
 
     -- a whole group, and those of the others
@@ -96,8 +97,9 @@ module _ (base : Base) (ruled : IsRuled base) where
         let text_len : length text ≡ size =
         length-plain_text base front width.some ∙ ap (λ n. run_count base.width (8 * n)) front_len
         ∙ whole_symbols base.width width in
-        let means = GroupMeans-whole base width (map (meaning base) text) front
-        (length-map text (meaning base) ∙ text_len) symbols in
+        let many = length-map text (meaning base) ∙ text_len in
+        let means = GroupMeans-symbols base (map (meaning base) text) front
+        (omega (arith, many, group_symbols-pos base.width width)) (λ padded. many) symbols in
         let joined : plain_text base bytes ≡ text ++ plain_text base rest =
         ap (plain_text base) (sym (take-append-drop count bytes))
         ∙ plain_text-join base front rest width.some
@@ -112,7 +114,7 @@ module _ (base : Base) (ruled : IsRuled base) where
         subst (λ gs. GroupsMean base gs bytes)
         (sym (ap (runs size) parts
         ∙ runs-append size (map (meaning base) text) (map (meaning base) (filled rest))
-        (group_symbols-pos base.width width) means.is_whole)) (
+        (group_symbols-pos base.width width) many)) (
           front,
           rest,
           sym (take-append-drop count bytes),
@@ -144,10 +146,11 @@ module _ (base : Base) (ruled : IsRuled base) where
         by : (o : Option ℕ) → base.padding ≡ o → IsRuledPadding base o
             → bytes_in (kept base (text_of base bytes))
             ≡ with_padding o (group_symbols base.width) (plain_text base bytes)
-            → MeansBy o base (text_of base bytes) bytes
+            → Means base (text_of base bytes) bytes
         by None is h same =
-            subst (λ l. PlainMeans base (map (meaning base) l) bytes) (sym same)
-            (PlainMeans-plain_text base ruled bytes below)
+            (unpadded-Means base width (ap is_some is) (text_of base bytes) bytes).1
+            (subst (λ l. PlainMeans base (map (meaning base) l) bytes) (sym same)
+            (PlainMeans-plain_text base ruled bytes below))
         by (Some character) is h same =
             let text = filled_with character (group_symbols base.width) (plain_text base bytes) in
             let size = group_symbols base.width in

@@ -7,7 +7,7 @@ use Rattle.data_encoding.specs.declared.encoding.BitOrder.TheVariants.{LeastSign
 use Rattle.data_encoding.specs.declared.error.DecodeKind.TheVariants.{Length as LengthFault, Symbol}
 use Rattle.data_encoding.specs.Base.{Base, is_padding, IsWidth, meaning}
 use Rattle.data_encoding.specs.Fault.{fault_of, sound_bytes}
-use Rattle.data_encoding.specs.Grammar.{Means, positioned_from, groups, PlainMeans, GroupMeans, GroupsMean, MeansBy, meanings_in}
+use Rattle.data_encoding.specs.Grammar.{Means, positioned_from, groups, PlainMeans, GroupMeans, GroupsMean, meanings_in}
 use Rattle.data_encoding.specs.Predefined.{unpadded_fields, translated_fields, hexlower_fields, hexlower_permissive_fields, base64_fields, base64_nopad_fields, base64_mime_fields, base64_mime_permissive_fields}
 use Rattle.data_encoding.specs.Partial.{StopsAt}
 use Rattle.data_encoding.specs.Lengths.{IsBlockLength}
@@ -19,6 +19,7 @@ use Rattle.data_encoding.specs.Order.{IsBefore, KeepsOrder, IsOrdered, BreaksOrd
 use Rattle.data_encoding.proofs.canonicity.OneTextLemmas.{Means-text_of_only}
 use Rattle.data_encoding.proofs.decoding.ResumeLemmas.{resumed}
 use Rattle.data_encoding.proofs.grammar.MeaningLemmas.{Means-no_fault, faulty-Means}
+use Rattle.data_encoding.proofs.grammar.UnpaddedGrammarLemmas.{unpadded-Means}
 use Rattle.data_encoding.proofs.order.OrderPairLemmas.{IsBroken-ruled}
 use Rattle.data_encoding.proofs.order.TextOrderLemmas.{KeepsOrder-ordered}
 use Rattle.data_encoding.proofs.judgement.RuleLemmas.{IsRuled-yield}
@@ -49,7 +50,8 @@ padded_group = record {
   symbols = SymbolCharacter 0 ∷ SymbolCharacter 0 ∷ [];
   padding = 2;
   is_group = refl;
-  is_whole = refl;
+  is_whole = λ h. refl;
+  is_plain = λ h. absurd (false≢true (sym h));
   is_begun = lit< tt;
   means = plain_symbols;
 }
@@ -60,7 +62,8 @@ next_group = record {
   symbols = SymbolCharacter 0 ∷ SymbolCharacter 0 ∷ SymbolCharacter 0 ∷ [];
   padding = 1;
   is_group = refl;
-  is_whole = refl;
+  is_whole = λ h. refl;
+  is_plain = λ h. absurd (false≢true (sym h));
   is_begun = lit< tt;
   means = record {
     values = 0 ∷ 0 ∷ 0 ∷ [];
@@ -89,13 +92,17 @@ groups_mean = (
 -- padded texts may be joined
 joined_means :
     Has base64_fields (λ base.
-    Means base (codes "AA==AAA=") (0 ∷ 0 ∷ 0 ∷ [])
-    × MeansBy base.padding base (codes "AA==AAA=") (0 ∷ 0 ∷ 0 ∷ []))
-joined_means = (groups_mean, groups_mean)
+    Means base (codes "AA==AAA=") (0 ∷ 0 ∷ 0 ∷ []))
+joined_means = groups_mean
 
--- hexadecimal `48656c6c6f` means `Hello`, and `4G` means nothing
-hello_means : Has hexlower_fields (λ base. Means base (codes "48656c6c6f") (codes "Hello"))
-hello_means = record {
+abbrev four_bits : IsWidth 4
+four_bits = record { some = lit< tt; few = lit≤ tt }
+
+-- the symbols of `48656c6c6f`, one after the other
+hello_symbols :
+    Has hexlower_fields
+    (λ base. PlainMeans base (map (meaning base) (codes "48656c6c6f")) (codes "Hello"))
+hello_symbols = record {
   values = 4 ∷ 8 ∷ 6 ∷ 5 ∷ 6 ∷ 12 ∷ 6 ∷ 12 ∷ 6 ∷ 15 ∷ [];
   rest = [];
   are_symbols = refl;
@@ -106,8 +113,11 @@ hello_means = record {
       (lit< tt, (lit< tt, (lit< tt, (lit< tt, (lit< tt, tt)))));
 }
 
-abbrev four_bits : IsWidth 4
-four_bits = record { some = lit< tt; few = lit≤ tt }
+-- hexadecimal `48656c6c6f` means `Hello`, and `4G` means nothing
+hello_means : Has hexlower_fields (λ base. Means base (codes "48656c6c6f") (codes "Hello"))
+hello_means =
+    (unpadded-Means (built hexlower_fields) four_bits refl (codes "48656c6c6f") (codes "Hello")).1
+    hello_symbols
 
 abbrev six_bits : IsWidth 6
 six_bits = record { some = lit< tt; few = lit≤ tt }

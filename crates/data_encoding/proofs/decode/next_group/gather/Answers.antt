@@ -62,14 +62,12 @@ loop-index-preserved g c =
 
 pub returns-after-loop-index-clause-first : goal.returns-after-loop-index-clause-first
 returns-after-loop-index-clause-first g c base holds =
-    gathered base g.G.GroupSize.SYMBOLS c.args.rest.now c.loop-index.index c.loop-index.count
-    c.loop-index.span c.loop-index.room (c.loop-index.invariant.1 base holds)
-    c.loop-index.auto.index-end c.loop-index.invariant.0
+    gathered (c.loop-index.invariant.1 base holds) c.loop-index.auto.index-end
+    c.loop-index.invariant.0
     (inr (omega (arith, c.loop-index-test.false, c.loop-index.auto.index-end)))
 
 pub returns-then-count-most-clause-first : goal.returns-then-count-most-clause-first
 returns-then-count-most-clause-first g c base holds =
-    gathered base g.G.GroupSize.SYMBOLS c.args.rest.now c.loop-index.index c.loop-index.count
-    c.loop-index.span c.loop-index.room (c.loop-index.invariant.1 base holds)
-    c.loop-index.auto.index-end c.loop-index.invariant.0
+    gathered (c.loop-index.invariant.1 base holds) c.loop-index.auto.index-end
+    c.loop-index.invariant.0
     (inl (c.if-count-most.true ∙ c.SYMBOLS-most.ensures))

@@ -94,7 +94,7 @@ returns g c =
       | else-count-group-via-then-count-group+else-not-self b ↦ inl b.if-not-self.false
       | else-count-group-via-else-count-group b ↦ inr b.if-count-group.false
     ]) in
-    let few = gathered-few c.args.self.now g.G.GroupSize.SYMBOLS _ _ _ c.next_group-group.ensures in
+    let few = gathered-few c.next_group-group.ensures in
     rw c.new-2.ensures (omega (arith, some, few), more.so_far)
 
 pub returns-in-Err : goal.returns-in-Err
