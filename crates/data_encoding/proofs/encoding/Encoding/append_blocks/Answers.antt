@@ -79,8 +79,12 @@ pub overflow_add-encode_len : goal.overflow_add-encode_len
 overflow_add-encode_len g c =
     omega (
       arith,
-      c.encode_len.ensures.most, c.encode_len-2.ensures.most, c.split_at-2.ensures.front_len,
-      c.split_at.ensures.back_len, c.requires.limit, c.requires.most,
+      c.encode_len.ensures.most,
+      c.encode_len-2.ensures.most,
+      c.split_at-2.ensures.front_len,
+      c.split_at.ensures.back_len,
+      c.requires.limit,
+      c.requires.most,
     )
 
 pub append_within-requires-clause-limit : goal.append_within-requires-clause-limit
@@ -88,14 +92,18 @@ append_within-requires-clause-limit g c =
     omega (
       arith,
       ap length c.as_slice.ensures.value,
-      c.split_at.ensures.front_len, c.len.ensures.value, c.requires.most,
+      c.split_at.ensures.front_len,
+      c.len.ensures.value,
+      c.requires.most,
     )
 
 pub append_within-requires-2-clause-limit : goal.append_within-requires-2-clause-limit
 append_within-requires-2-clause-limit g c =
     omega (
       arith,
-      c.split_at-2.ensures.front_len, c.split_at.ensures.back_len, c.requires.limit,
+      c.split_at-2.ensures.front_len,
+      c.split_at.ensures.back_len,
+      c.requires.limit,
     )
 
 pub unwrap-requires-3 : goal.unwrap-requires-3
@@ -103,7 +111,9 @@ unwrap-requires-3 g c =
     c.try_extend_from_slice-3.ensures.variant.1
     (omega (
       arith,
-      ap length c.clear.ensures, c.split_at-2.ensures.back_len, c.requires.most,
+      ap length c.clear.ensures,
+      c.split_at-2.ensures.back_len,
+      c.requires.most,
       div-add-mod' (length c.split_at.result.1.now) c.args.block_len,
       mod_below (length c.split_at.result.1.now) c.args.block_len
           (omega (arith, c.requires.short)),

@@ -163,7 +163,8 @@ slice_bounds-encode-end g c =
     omega (
       arith,
       group-before c.saturating_sub.result bytes c.loop-index.index c.loop-index-test.true,
-      whole.some_bytes, c.saturating_sub.ensures,
+      whole.some_bytes,
+      c.saturating_sub.ensures,
     )
 
 pub overflow_mul-read : goal.overflow_mul-read
@@ -191,7 +192,8 @@ encode-requires-clause-loaded g c =
     (omega (
       arith,
       group-before c.saturating_sub.result bytes c.loop-index.index c.loop-index-test.true,
-      whole.some_bytes, c.saturating_sub.ensures,
+      whole.some_bytes,
+      c.saturating_sub.ensures,
     ))
     ∙ (λ k. c.GROUPS-groups.ensures k * c.BYTES-bytes.ensures k
     + c.AHEAD.ensures k * (c.BYTES-bytes.ensures k - 1))
@@ -229,7 +231,9 @@ encode_rest-requires-clause-few g c =
     < bytes + c.AHEAD.result * (c.BYTES-bytes.result - 1) =
     omega (
       arith,
-      div-add-mod' c.saturating_sub.result bytes, whole.some_bytes, c.saturating_sub.ensures,
+      div-add-mod' c.saturating_sub.result bytes,
+      whole.some_bytes,
+      c.saturating_sub.ensures,
     ) in
     subst (λ n. length (take (length c.args.input.now - count * bytes)
     (drop (count * bytes) c.args.input.now)) < n)
@@ -242,5 +246,6 @@ encode_rest-requires-clause-limit g c =
     let bytes = c.GROUPS-groups.result * c.BYTES-bytes.result in
     omega (
       arith,
-      length-rest (c.saturating_sub.result / bytes * bytes) c.args.input.now, c.requires.limit,
+      length-rest (c.saturating_sub.result / bytes * bytes) c.args.input.now,
+      c.requires.limit,
     )
