@@ -50,10 +50,71 @@ returns-clause-fragments g c =
       div-add-mod' (length rest) c.args.block_len,
       mod_below (length rest) c.args.block_len (omega (arith, c.requires.short)),
     )) in
-    let one : half ≡ old ++ text_of seen block = search rules in
-    let other : whole ≡ half ++ text_of seen blocks = search rules in
+    let one : half ≡ old ++ text_of seen block =
+    c.append_within.ensures.text ∙ ap (λ l. l ++ text_of seen block) c.reserve.ensures.bytes in
+    let other : whole ≡ half ++ text_of seen blocks = c.append_within-2.ensures.text in
     let end : c.try_extend_from_slice-3.new.self.items ≡ left = search rules in
     λ before bytes has.
     rw end (HasEncoded-blocks seen ruled before bytes old c.args.held.now.items has
     c.args.input.now first rest block blocks left half whole cut parted filled full aligned short
     one other)
+
+pub unwrap-requires : goal.unwrap-requires
+unwrap-requires g c =
+    c.try_extend_from_slice.ensures.variant.1
+    (omega (arith, c.if-input-missing.true, c.len.ensures.value, c.requires.most))
+
+pub unwrap-requires-2 : goal.unwrap-requires-2
+unwrap-requires-2 g c =
+    c.try_extend_from_slice-2.ensures.variant.1
+    (omega (arith, c.split_at.ensures.front_len, c.len.ensures.value, c.requires.most))
+
+pub nonzero_rem-rest : goal.nonzero_rem-rest
+nonzero_rem-rest g c = omega (arith, c.requires.short)
+
+pub overflow_sub-rest : goal.overflow_sub-rest
+overflow_sub-rest g c = omega (arith, c.requires.short)
+
+pub overflow_add-encode_len : goal.overflow_add-encode_len
+overflow_add-encode_len g c =
+    omega (
+      arith,
+      c.encode_len.ensures.most,
+      c.encode_len-2.ensures.most,
+      c.split_at-2.ensures.front_len,
+      c.split_at.ensures.back_len,
+      c.requires.limit,
+      c.requires.most,
+    )
+
+pub append_within-requires-clause-limit : goal.append_within-requires-clause-limit
+append_within-requires-clause-limit g c =
+    omega (
+      arith,
+      ap length c.as_slice.ensures.value,
+      c.split_at.ensures.front_len,
+      c.len.ensures.value,
+      c.requires.most,
+    )
+
+pub append_within-requires-2-clause-limit : goal.append_within-requires-2-clause-limit
+append_within-requires-2-clause-limit g c =
+    omega (
+      arith,
+      c.split_at-2.ensures.front_len,
+      c.split_at.ensures.back_len,
+      c.requires.limit,
+    )
+
+pub unwrap-requires-3 : goal.unwrap-requires-3
+unwrap-requires-3 g c =
+    c.try_extend_from_slice-3.ensures.variant.1
+    (omega (
+      arith,
+      ap length c.clear.ensures,
+      c.split_at-2.ensures.back_len,
+      c.requires.most,
+      div-add-mod' (length c.split_at.result.1.now) c.args.block_len,
+      mod_below (length c.split_at.result.1.now) c.args.block_len
+          (omega (arith, c.requires.short)),
+    ))

@@ -1,9 +1,52 @@
-use Rattle.std.proofs.Common.{◌≡◌, ◌-◌, ◌+◌, ◌*◌, ◌/◌, ◌≤◌, drop, length, take, ap, ◌∙◌, arith, sym, subst}
+use Rattle.std.proofs.Common.{◌≡◌, ◌-◌, ◌+◌, ◌*◌, ◌/◌, ◌<◌, ◌≤◌, drop, length, take, ap, ◌∙◌, arith, sym, subst}
 use Rattle.std.proofs.lemmas.List.{take-take}
+use Rattle.std.proofs.lemmas.Nat.{div-add-mod', mul-le}
 use Rattle.data_encoding.specs.Text.{plain_text}
-use Rattle.data_encoding.proofs.lists.PartLemmas.{group-before, groups-within, length-rest, part-is}
+use Rattle.data_encoding.proofs.digits.SizeLemmas.{IsSmall-group}
+use Rattle.data_encoding.proofs.lists.PartLemmas.{IsWhole-same, group-before, groups-within, length-part, length-rest, part-is}
 use Rattle.data_encoding.proofs.text.PlainGroupLemmas.{IsWhole-turn, groups_fit, next_fits, rest_fits, written-next, written-none, written-rest}
 use Rattle.data_encoding.proofs.kernel.encode.encode_turns.Goals as goal
+
+pub overflow_mul-read_len : goal.overflow_mul-read_len
+overflow_mul-read_len g c =
+    let small = IsSmall-group g.G.GroupSize.is_group in
+    omega (
+      arith,
+      mul-le c.GROUPS-groups.result c.BYTES-bytes.result 10 5
+          (omega (arith, g.T.EncodeTurn.few_groups, c.GROUPS-groups.ensures))
+          (omega (arith, small.few_bytes, c.BYTES-bytes.ensures)),
+    )
+
+pub overflow_mul-written_len : goal.overflow_mul-written_len
+overflow_mul-written_len g c =
+    let small = IsSmall-group g.G.GroupSize.is_group in
+    omega (
+      arith,
+      mul-le c.GROUPS-groups.result c.SYMBOLS.result 10 8
+          (omega (arith, g.T.EncodeTurn.few_groups, c.GROUPS-groups.ensures))
+          (omega (arith, small.few_symbols, c.SYMBOLS.ensures)),
+    )
+
+pub overflow_sub-ahead_len : goal.overflow_sub-ahead_len
+overflow_sub-ahead_len g c =
+    let whole = IsWhole-same c.BYTES-bytes.ensures c.SYMBOLS.ensures g.G.GroupSize.is_group in
+    whole.some_bytes
+
+pub overflow_mul-ahead_len : goal.overflow_mul-ahead_len
+overflow_mul-ahead_len g c =
+    let small = IsSmall-group g.G.GroupSize.is_group in
+    omega (
+      arith,
+      mul-le c.AHEAD.result (c.BYTES-bytes.result - 1) 10 5
+          (omega (arith, g.T.EncodeTurn.few_groups, c.AHEAD.ensures))
+          (omega (arith, small.few_bytes, c.BYTES-bytes.ensures)),
+    )
+
+pub nonzero_div-count : goal.nonzero_div-count
+nonzero_div-count g c =
+    let whole = IsWhole-turn c.GROUPS-groups.ensures c.BYTES-bytes.ensures c.SYMBOLS.ensures
+    g.T.EncodeTurn.some_groups g.G.GroupSize.is_group in
+    whole.some_bytes
 
 pub loop-index-init : goal.loop-index-init
 loop-index-init g c =
@@ -111,3 +154,98 @@ returns g c base writes =
     (groups_fit whole (length input) (length output) count
     (c.loop-index.auto.output ∙ c.requires.exact) within)
     c.encode_rest.auto.output (c.encode_rest.ensures base writes)
+
+pub slice_bounds-encode-end : goal.slice_bounds-encode-end
+slice_bounds-encode-end g c =
+    let whole = IsWhole-turn c.GROUPS-groups.ensures c.BYTES-bytes.ensures c.SYMBOLS.ensures
+    g.T.EncodeTurn.some_groups g.G.GroupSize.is_group in
+    let bytes = c.GROUPS-groups.result * c.BYTES-bytes.result in
+    omega (
+      arith,
+      group-before c.saturating_sub.result bytes c.loop-index.index c.loop-index-test.true,
+      whole.some_bytes,
+      c.saturating_sub.ensures,
+    )
+
+pub overflow_mul-read : goal.overflow_mul-read
+overflow_mul-read g c = omega (arith, slice_bounds-encode-end g c, c.requires.limit)
+
+pub overflow_add-read_len : goal.overflow_add-read_len
+overflow_add-read_len g c = omega (arith, slice_bounds-encode-end g c, c.requires.limit)
+
+pub overflow_add-read : goal.overflow_add-read
+overflow_add-read g c = omega (arith, slice_bounds-encode-end g c, c.requires.limit)
+
+pub slice_bounds-encode-count : goal.slice_bounds-encode-count
+slice_bounds-encode-count g c = omega arith
+
+pub slice_bounds-encode-count-in-loop-index : goal.slice_bounds-encode-count-in-loop-index
+slice_bounds-encode-count-in-loop-index g c = omega arith
+
+pub encode-requires-clause-loaded : goal.encode-requires-clause-loaded
+encode-requires-clause-loaded g c =
+    let whole = IsWhole-turn c.GROUPS-groups.ensures c.BYTES-bytes.ensures c.SYMBOLS.ensures
+    g.T.EncodeTurn.some_groups g.G.GroupSize.is_group in
+    let bytes = c.GROUPS-groups.result * c.BYTES-bytes.result in
+    let loaded = bytes + c.AHEAD.result * (c.BYTES-bytes.result - 1) in
+    length-part (c.loop-index.index * bytes) loaded c.args.input.now
+    (omega (
+      arith,
+      group-before c.saturating_sub.result bytes c.loop-index.index c.loop-index-test.true,
+      whole.some_bytes,
+      c.saturating_sub.ensures,
+    ))
+    ∙ (λ k. c.GROUPS-groups.ensures k * c.BYTES-bytes.ensures k
+    + c.AHEAD.ensures k * (c.BYTES-bytes.ensures k - 1))
+
+pub encode-requires-clause-exact : goal.encode-requires-clause-exact
+encode-requires-clause-exact g c =
+    let whole = IsWhole-turn c.GROUPS-groups.ensures c.BYTES-bytes.ensures c.SYMBOLS.ensures
+    g.T.EncodeTurn.some_groups g.G.GroupSize.is_group in
+    let symbols = c.GROUPS-groups.result * c.SYMBOLS.result in
+    length-part (c.loop-index.index * symbols) symbols c.loop-index.output
+    (next_fits whole (length c.args.input.now) (length c.loop-index.output)
+    c.saturating_sub.result _ c.loop-index.index (c.loop-index.auto.output ∙ c.requires.exact)
+    c.saturating_sub.ensures c.loop-index-test.true)
+    ∙ (λ k. c.GROUPS-groups.ensures k * c.SYMBOLS.ensures k)
+
+pub slice_bounds-encode_rest-count : goal.slice_bounds-encode_rest-count
+slice_bounds-encode_rest-count g c =
+    omega (
+      arith,
+      groups-within c.saturating_sub.result (c.GROUPS-groups.result * c.BYTES-bytes.result),
+      c.saturating_sub.ensures,
+    )
+
+pub overflow_mul-count : goal.overflow_mul-count
+overflow_mul-count g c =
+    omega (arith, slice_bounds-encode_rest-count g c, c.requires.limit)
+
+pub encode_rest-requires-clause-few : goal.encode_rest-requires-clause-few
+encode_rest-requires-clause-few g c =
+    let whole = IsWhole-turn c.GROUPS-groups.ensures c.BYTES-bytes.ensures c.SYMBOLS.ensures
+    g.T.EncodeTurn.some_groups g.G.GroupSize.is_group in
+    let bytes = c.GROUPS-groups.result * c.BYTES-bytes.result in
+    let count = c.saturating_sub.result / bytes in
+    let rest : length c.args.input.now - count * bytes
+    < bytes + c.AHEAD.result * (c.BYTES-bytes.result - 1) =
+    omega (
+      arith,
+      div-add-mod' c.saturating_sub.result bytes,
+      whole.some_bytes,
+      c.saturating_sub.ensures,
+    ) in
+    subst (λ n. length (take (length c.args.input.now - count * bytes)
+    (drop (count * bytes) c.args.input.now)) < n)
+    (λ k. c.GROUPS-groups.ensures k * c.BYTES-bytes.ensures k
+    + c.AHEAD.ensures k * (c.BYTES-bytes.ensures k - 1))
+    (omega (arith, rest, length-rest (count * bytes) c.args.input.now))
+
+pub encode_rest-requires-clause-limit : goal.encode_rest-requires-clause-limit
+encode_rest-requires-clause-limit g c =
+    let bytes = c.GROUPS-groups.result * c.BYTES-bytes.result in
+    omega (
+      arith,
+      length-rest (c.saturating_sub.result / bytes * bytes) c.args.input.now,
+      c.requires.limit,
+    )
