@@ -117,7 +117,7 @@ ascii-padded_text base bytes symbols padding = by_padding base.padding padding w
       character h)
 
 -- what is written behind the symbols, by the tables of an encoding
-module _ (e : EncodingTables) (rules : KeepsRules e) (seen : Base) (is : base_of_tables e ≡ seen)
+module _ {e : EncodingTables} (rules : KeepsRules e) {seen : Base} (is : base_of_tables e ≡ seen)
     (input output : List ℕ) (exact : length output ≡ length (padded_text seen input))
     (count : ℕ) (counted : count ≡ run_count seen.width (8 * length input)) where
   pub count-inside : count ≤ length output

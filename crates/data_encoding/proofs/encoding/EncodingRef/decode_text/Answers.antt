@@ -1,4 +1,4 @@
-use Rattle.std.proofs.Common.{Ok, refl, sym, ap, ◌∙◌, subst, arith}
+use Rattle.std.proofs.Common.{Ok, sym, ap, ◌∙◌, subst, arith}
 use Rattle.data_encoding.specs.Base.{IsWidth}
 use Rattle.data_encoding.proofs.decoding.IgnoredFrontLemmas.{no_front}
 use Rattle.data_encoding.proofs.decoding.LoopLemmas.{decoded-all, under_way}

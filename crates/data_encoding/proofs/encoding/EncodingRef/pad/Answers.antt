@@ -33,8 +33,7 @@ returns-in_default-clause-padding g c =
 
 pub slice_bounds-fill-count : goal.slice_bounds-fill-count
 slice_bounds-fill-count g c =
-    count-inside _ c.self.invariant _ c.self.view_is c.args.input.now
-    c.args.output.now c.requires.exact _
+    count-inside c.self.invariant c.self.view_is c.args.input.now _ c.requires.exact _
     (c.symbol_count-count.ensures
     ∙ ap (λ n. run_count n (8 * length c.args.input.now))
     (c.WIDTH.ensures ∙ sym c.requires.width))
@@ -46,8 +45,7 @@ pub returns-clause-inside : goal.returns-clause-inside
 returns-clause-inside g c =
     let output = c.args.output.now in
     let count = c.symbol_count-count.result in
-    let inside = count-inside _ c.self.invariant _ c.self.view_is c.args.input.now
-    output c.requires.exact count
+    let inside = count-inside c.self.invariant c.self.view_is c.args.input.now _ c.requires.exact _
     (c.symbol_count-count.ensures
     ∙ ap (λ n. run_count n (8 * length c.args.input.now))
     (c.WIDTH.ensures ∙ sym c.requires.width)) in
@@ -57,8 +55,7 @@ returns-clause-inside g c =
 
 pub returns-clause-padding : goal.returns-clause-padding
 returns-clause-padding g c =
-    padding-written _ c.self.invariant _ c.self.view_is c.args.input.now
-    c.args.output.now c.requires.exact _
+    padding-written c.self.invariant c.self.view_is c.args.input.now _ c.requires.exact _
     (c.symbol_count-count.ensures
     ∙ ap (λ n. run_count n (8 * length c.args.input.now))
     (c.WIDTH.ensures ∙ sym c.requires.width))
