@@ -10,7 +10,9 @@ ghost use Rattle.data_encoding.specs.Predefined.{base32_dnssec_fields, base64_fi
 ghost use Rattle.data_encoding.specs.SameMeaning.{exchanged, kept_bytes, own_form};
 ghost use Rattle.data_encoding.specs.Text.{text_of};
 
-use data_encoding::laws::{one_meaning, order, same_but_symbols, same_kept_bytes, translated, unpadded};
+use data_encoding::laws::{
+    one_meaning, order, same_but_symbols, same_kept_bytes, translated, unpadded,
+};
 use data_encoding::{Encoding, base32_dnssec};
 use std::alloc::{AllocError, Global};
 
