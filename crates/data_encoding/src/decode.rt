@@ -136,7 +136,7 @@ impl EncodingRef<'_> {
         ensures len { length output.new ≡ length output.old }
     {
         let mut stop = Stop::new(0, 0, 0, DecodeKind::Length);
-        if self.decode_by_length(input, output, &mut stop) {
+        if self.decode_in_order(input, output, &mut stop) {
             return Ok(stop.written);
         }
         Err(self.stopped(input, output, stop))

@@ -5,5 +5,6 @@ pub(crate) mod decode;
 pub(crate) mod encode;
 pub(crate) mod group_size;
 pub(crate) mod lanes;
+pub(crate) mod order;
 pub(crate) mod turn;
 pub(crate) mod words;

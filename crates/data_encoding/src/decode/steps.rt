@@ -13,6 +13,7 @@ use crate::error::DecodeKind;
 use crate::kernel::decode::decode_run;
 use crate::kernel::group_size::GroupSize;
 use crate::kernel::lanes::look_up::LookUp;
+use crate::kernel::order::ConstantOrder;
 
 // How a step ended.
 #[derive(Clone, Copy, Drop)]
@@ -36,10 +37,10 @@ pub(crate) struct Reached {
 }
 
 impl EncodingRef<'_> {
-    /// What is left of a text, with the order as a constant again. Not inlined: with the search in
-    // the same function the loop over lanes was slower by a fifth.
+    /// What is left of a text. Not inlined: with the search in the same function the loop over lanes
+    /// was slower by a fifth.
     #[inline(never)]
-    pub(crate) fn decode_from<L: LookUp, G: GroupSize>(
+    pub(crate) fn decode_from<L: LookUp, O: ConstantOrder, G: GroupSize>(
         &self,
         values: &[u8; 256],
         look_up: &L,
@@ -47,7 +48,7 @@ impl EncodingRef<'_> {
         output: &mut [u8],
         stop: &mut Stop,
     ) -> bool
-        requires reads { Reads self.now values.now G.WIDTH self.now.order }
+        requires reads { Reads self.now values.now G.WIDTH O.ORDER }
         requires held { L.holds values.now look_up.now }
         requires limit { length input.now ≤ DECODE_LIMIT }
         requires exact { decoded_len self.now (length input.now) ≡ Ok (length output.old) }
@@ -55,38 +56,20 @@ impl EncodingRef<'_> {
             output.old }
         ensures { HasEnded self.now input.now output.new stop.new result }
     {
-        match self.fields.order() {
-            BitOrder::MostSignificantFirst => self.decode_steps::<L, G>(
-                values,
-                Some(look_up),
-                BitOrder::MostSignificantFirst,
-                input,
-                output,
-                stop,
-            ),
-            BitOrder::LeastSignificantFirst => self.decode_steps::<L, G>(
-                values,
-                Some(look_up),
-                BitOrder::LeastSignificantFirst,
-                input,
-                output,
-                stop,
-            ),
-        }
+        self.decode_steps::<L, O, G>(values, Some(look_up), input, output, stop)
     }
 
     /// Step after step, to the end of the text.
     #[inline(always)]
-    pub(crate) fn decode_steps<L: LookUp, G: GroupSize>(
+    pub(crate) fn decode_steps<L: LookUp, O: ConstantOrder, G: GroupSize>(
         &self,
         values: &[u8; 256],
         look_up: Option<&L>,
-        order: BitOrder,
         input: &[u8],
         output: &mut [u8],
         stop: &mut Stop,
     ) -> bool
-        requires reads { Reads self.now values.now G.WIDTH order }
+        requires reads { Reads self.now values.now G.WIDTH O.ORDER }
         requires held { IfSome look_up (λ look_up. L.holds values.now look_up.now) }
         requires limit { length input.now ≤ DECODE_LIMIT }
         requires exact { decoded_len self.now (length input.now) ≡ Ok (length output.old) }
@@ -94,11 +77,11 @@ impl EncodingRef<'_> {
             output.old }
         ensures { HasEnded self.now input.now output.new stop.new result }
     {
+        let order = O::ORDER;
         while stop.read < input.len() {
-            let at = self.decode_runs::<L, G>(
+            let at = self.decode_runs::<L, O, G>(
                 values,
                 look_up,
-                order,
                 stop.read,
                 stop.written,
                 input,
@@ -115,17 +98,16 @@ impl EncodingRef<'_> {
 
     /// Runs of whole groups that are symbols alone, with ignored bytes between them.
     #[inline(always)]
-    fn decode_runs<L: LookUp, G: GroupSize>(
+    fn decode_runs<L: LookUp, O: ConstantOrder, G: GroupSize>(
         &self,
         values: &[u8; 256],
         look_up: Option<&L>,
-        order: BitOrder,
         read: usize,
         written: usize,
         input: &[u8],
         output: &mut [u8],
     ) -> Reached
-        requires reads { Reads self.now values.now G.WIDTH order }
+        requires reads { Reads self.now values.now G.WIDTH O.ORDER }
         requires held { IfSome look_up (λ look_up. L.holds values.now look_up.now) }
         requires limit { length input.now ≤ DECODE_LIMIT }
         requires exact { decoded_len self.now (length input.now) ≡ Ok (length output.old) }
@@ -142,7 +124,7 @@ impl EncodingRef<'_> {
         };
         let mut goes_on = true;
         while goes_on {
-            let next = self.decode_run_behind::<L, G>(values, look_up, order, at, input, output);
+            let next = self.decode_run_behind::<L, O, G>(values, look_up, at, input, output);
             if next.read == at.read {
                 return next;
             }
@@ -159,16 +141,15 @@ impl EncodingRef<'_> {
     /// A run of whole groups that are symbols alone, behind bytes that are ignored: these are read
     /// only where the run has a group. Where the text has no look-up, the run finds its own.
     #[inline(always)]
-    pub(crate) fn decode_run_behind<L: LookUp, G: GroupSize>(
+    pub(crate) fn decode_run_behind<L: LookUp, O: ConstantOrder, G: GroupSize>(
         &self,
         values: &[u8; 256],
         look_up: Option<&L>,
-        order: BitOrder,
         at: Reached,
         input: &[u8],
         output: &mut [u8],
     ) -> Reached
-        requires reads { Reads self.now values.now G.WIDTH order }
+        requires reads { Reads self.now values.now G.WIDTH O.ORDER }
         requires held { IfSome look_up (λ look_up. L.holds values.now look_up.now) }
         requires limit { length input.now ≤ DECODE_LIMIT }
         requires exact { decoded_len self.now (length input.now) ≡ Ok (length output.old) }
@@ -180,10 +161,9 @@ impl EncodingRef<'_> {
         ensures further { at.read ≤ result.read }
     {
         let start = at.read + at.ignored;
-        let count = decode_run::<L, G>(
+        let count = decode_run::<L, O, G>(
             values,
             look_up,
-            order,
             &input[start..],
             &mut output[at.written..],
         );

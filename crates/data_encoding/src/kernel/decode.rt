@@ -7,31 +7,32 @@ use crate::encoding::BitOrder;
 use crate::kernel::group_size::GroupSize;
 use crate::kernel::lanes::look_up::LookUp;
 use crate::kernel::lanes::rows::{Rows, rows_of};
+use crate::kernel::order::ConstantOrder;
 use crate::kernel::turn::{DecodeTurn, Lanes};
 use crate::kernel::words::{decode_symbols, entry_of};
 
 /// Decodes whole groups in a row, from the front of the input to the front of the output, up to the
 /// first that has a byte that is no symbol, and returns how many they are. What the output holds
 /// after their bytes is not said. Without a look-up, one is prepared where there are eight groups.
-// Part of its caller, since a call costs more than a short text; the order is a constant there.
+// Part of its caller, since a call costs more than a short text.
 #[inline(always)]
-pub(crate) fn decode_run<L: LookUp, G: GroupSize>(
+pub(crate) fn decode_run<L: LookUp, O: ConstantOrder, G: GroupSize>(
     values: &[u8; 256],
     look_up: Option<&L>,
-    order: BitOrder,
     input: &[u8],
     output: &mut [u8],
 ) -> usize
     requires held { IfSome look_up (λ look_up. L.holds values.now look_up.now) }
     requires room { length input.now / G.SYMBOLS * G.BYTES ≤ length output.old }
-    ensures run { IsRunBy values.now G.WIDTH order input.now result output.old output.new }
-    ensures longest { IsLongestBy values.now G.WIDTH order input.now result }
+    ensures run { IsRunBy values.now G.WIDTH O.ORDER input.now result output.old output.new }
+    ensures longest { IsLongestBy values.now G.WIDTH O.ORDER input.now result }
     ensures within { result * G.SYMBOLS ≤ length input.now }
 {
+    let order = O::ORDER;
     let symbols = G::SYMBOLS;
     let bytes = G::BYTES;
     let count = input.len() / symbols;
-    let first = decode_by_several::<L, G>(values, look_up, order, input, output);
+    let first = decode_by_several::<L, O, G>(values, look_up, input, output);
     for index in first..count {
         let read = index * symbols;
         let written = index * bytes;
@@ -49,21 +50,20 @@ pub(crate) fn decode_run<L: LookUp, G: GroupSize>(
 
 // By lanes, where there are eight groups, and else four at a time.
 #[inline(always)]
-fn decode_by_several<L: LookUp, G: GroupSize>(
+fn decode_by_several<L: LookUp, O: ConstantOrder, G: GroupSize>(
     values: &[u8; 256],
     look_up: Option<&L>,
-    order: BitOrder,
     input: &[u8],
     output: &mut [u8],
 ) -> usize
     requires held { IfSome look_up (λ look_up. L.holds values.now look_up.now) }
     requires room { length input.now / G.SYMBOLS * G.BYTES ≤ length output.old }
-    ensures run { IsRunBy values.now G.WIDTH order input.now result output.old output.new }
+    ensures run { IsRunBy values.now G.WIDTH O.ORDER input.now result output.old output.new }
     ensures within { result ≤ length input.now / G.SYMBOLS }
 {
     let eight = 8 * G::SYMBOLS;
     if input.len() < eight {
-        return decode_by_fours::<G>(values, order, input, output);
+        return decode_by_fours::<G>(values, O::ORDER, input, output);
     }
     // Padded groups may follow one another: then the eight are not decoded in vain.
     if 8 % G::WIDTH != 0 && entry_of(values, input[eight - 1]) >= 128 {
@@ -71,36 +71,27 @@ fn decode_by_several<L: LookUp, G: GroupSize>(
     }
     match look_up {
         Some(look_up) => {
-            decode_turns::<Lanes<L>, G>(&Lanes { look_up: *look_up }, order, input, output)
+            decode_turns::<Lanes<L>, G>(&Lanes { look_up: *look_up }, O::ORDER, input, output)
         }
-        None => decode_by_lanes::<G>(values, order, input, output),
+        None => decode_by_lanes::<O, G>(values, input, output),
     }
 }
 
-// By rows of the table, with the order as a constant again. Not inlined, so that shorter texts do
-// not pay for the room that lanes take.
+// By rows of the table. Not inlined, so that shorter texts do not pay for the room that lanes take.
 #[inline(never)]
-fn decode_by_lanes<G: GroupSize>(
+fn decode_by_lanes<O: ConstantOrder, G: GroupSize>(
     values: &[u8; 256],
-    order: BitOrder,
     input: &[u8],
     output: &mut [u8],
 ) -> usize
     requires room { length input.now / G.SYMBOLS * G.BYTES ≤ length output.old }
-    ensures run { IsRunBy values.now G.WIDTH order input.now result output.old output.new }
+    ensures run { IsRunBy values.now G.WIDTH O.ORDER input.now result output.old output.new }
     ensures within { result ≤ length input.now / G.SYMBOLS }
 {
     let lanes = Lanes {
         look_up: rows_of(values),
     };
-    match order {
-        BitOrder::MostSignificantFirst => {
-            decode_turns::<Lanes<Rows>, G>(&lanes, BitOrder::MostSignificantFirst, input, output)
-        }
-        BitOrder::LeastSignificantFirst => {
-            decode_turns::<Lanes<Rows>, G>(&lanes, BitOrder::LeastSignificantFirst, input, output)
-        }
-    }
+    decode_turns::<Lanes<Rows>, G>(&lanes, O::ORDER, input, output)
 }
 
 // Turn after turn; the groups of a turn with a byte that is no symbol are left.

@@ -1,4 +1,4 @@
-use Rattle.std.proofs.Common.{refl, sym, subst}
+use Rattle.std.proofs.Common.{sym, subst}
 use Rattle.data_encoding.specs.Base.{IsWidth}
 use Rattle.data_encoding.proofs.decoding.ProgressLemmas.{begin}
 use Rattle.data_encoding.proofs.tables.TableLemmas.{Reads-seen}
@@ -7,7 +7,7 @@ use Rattle.data_encoding.proofs.encoding.EncodingRef.decode_long.Goals as goal
 pub decode_from-requires-clause-reads : goal.decode_from-requires-clause-reads
 decode_from-requires-clause-reads g c =
     Reads-seen _ c.self.invariant c.args.self.now c.self.view_is g.G.GroupSize.WIDTH
-    c.args.self.now.order c.requires.width refl
+    g.O.ConstantOrder.ORDER c.requires.width c.requires.order
 
 pub decode_from-requires-clause-so_far : goal.decode_from-requires-clause-so_far
 decode_from-requires-clause-so_far g c =
@@ -18,7 +18,7 @@ decode_from-requires-clause-so_far g c =
 pub decode_from-requires-in-None-clause-reads : goal.decode_from-requires-in-None-clause-reads
 decode_from-requires-in-None-clause-reads g c =
     Reads-seen _ c.self.invariant c.args.self.now c.self.view_is g.G.GroupSize.WIDTH
-    c.args.self.now.order c.requires.width refl
+    g.O.ConstantOrder.ORDER c.requires.width c.requires.order
 
 pub decode_from-requires-in-None-clause-so_far : goal.decode_from-requires-in-None-clause-so_far
 decode_from-requires-in-None-clause-so_far g c =

@@ -9,7 +9,7 @@ use Rattle.data_encoding.proofs.encoding.EncodingRef.decode_text.Goals as goal
 pub decode_run_behind-at-requires-clause-reads : goal.decode_run_behind-at-requires-clause-reads
 decode_run_behind-at-requires-clause-reads g c =
     Reads-seen _ c.self.invariant c.args.self.now c.self.view_is g.G.GroupSize.WIDTH
-    c.args.order c.requires.width c.requires.order
+    g.O.ConstantOrder.ORDER c.requires.width c.requires.order
 
 pub decode_run_behind-at-requires-clause-so_far : goal.decode_run_behind-at-requires-clause-so_far
 decode_run_behind-at-requires-clause-so_far g c =

@@ -76,7 +76,7 @@ returns-then-not-decode_symbols-clause-run g c = λ base reads.
     run-kept base reads.holds.is_width g.G.GroupSize.WIDTH bytes symbols group
     reads.width_is
     c.args.input.now _ c.loop-index.output c.decode_symbols.new.output i _ (omega (arith, room))
-    (c.loop-index.invariant.run base reads)
+    (c.loop-index.invariant.run base (rw c.ORDER-order.ensures reads))
 
 pub returns-then-not-decode_symbols-clause-longest :
     goal.returns-then-not-decode_symbols-clause-longest
@@ -141,10 +141,14 @@ returns-clause-run g c = λ base reads.
     let all : c.loop-index.index ≡ length c.args.input.now / c.SYMBOLS-symbols.result =
     omega (arith, within, c.loop-index-test.false, c.loop-index.auto.index-end) in
     subst (λ n. IsRun base c.args.input.now n c.args.output.now c.loop-index.output) all
-    (c.loop-index.invariant.run base reads)
+    (c.loop-index.invariant.run base (rw c.ORDER-order.ensures reads))
 
 pub loop-index-init : goal.loop-index-init
-loop-index-init g c = record { run = c.decode_by_several-first.ensures.run }
+loop-index-init g c =
+    record {
+      run = λ base reads.
+          c.decode_by_several-first.ensures.run base (rw c.ORDER-order.ensures at reads);
+    }
 
 pub decode_symbols-requires-clause-few : goal.decode_symbols-requires-clause-few
 decode_symbols-requires-clause-few g c =
