@@ -7,9 +7,12 @@ use Rattle.data_encoding.specs.declared.error.DecodeError.{DecodeError}
 use Rattle.data_encoding.specs.declared.error.DecodeKind.{DecodeKind}
 use Rattle.data_encoding.specs.declared.error.DecodeKind.TheVariants.{Length, Symbol, Trailing, Padding}
 use Rattle.data_encoding.specs.Base.{Base}
+use Rattle.data_encoding.specs.Fault.{fault_of, sound_bytes}
+use Rattle.data_encoding.specs.Pieces.{whole_bytes}
 use Rattle.encoding_stream.specs.declared.pieces.BufferDecoder.{BufferDecoder}
 use Rattle.encoding_stream.specs.declared.pieces.Kept.{Kept}
 use Rattle.encoding_stream.specs.Pieces.{most_completed, verdict_of, Keeps}
+use Rattle.encoding_stream.specs.Reading.{HasLastBytes}
 use Rattle.data_encoding_c.specs.declared.pieces.PlainKept.{PlainKept}
 use Rattle.data_encoding_c.specs.Pieces.{kept_told, piece_status, StandsAfter}
 use Rattle.data_encoding_c.specs.Status.{ok, short_buffer, status_of_kind, too_long}
@@ -81,13 +84,13 @@ kind-faulty Trailing is = omega (arith, is)
 kind-faulty Padding is = omega (arith, is)
 
 -- What a copy to the front of an output leaves there.
-pub record IsFront (written : ℕ) (last old new : List ℕ) : Type 0 where
+record IsFront (written : ℕ) (last old new : List ℕ) : Type 0 where
   pub front : take written new ≡ take written last
   pub within : written ≤ length new
   pub behind : drop written new ≡ drop written old
   pub len : length new ≡ length old
 
-pub copied-front : (written : ℕ) (last copied output : List ℕ) → written ≤ length last
+copied-front : (written : ℕ) (last copied output : List ℕ) → written ≤ length last
     → written ≤ length output → copied ≡ take written last
     → IsFront written last output (copied ++ drop written output)
 copied-front written last copied output few inside is =
@@ -109,3 +112,38 @@ copied-front written last copied output few inside is =
       behind = drop-append-drop written output copied written (omega arith) size;
       len = all;
     }
+
+-- What the end of a kept text leaves in an output, whatever the verdict.
+pub record EndsKept (base : Base) (plain : PlainKept) (old new : List ℕ) (read written : ℕ)
+    (verdict : Result (Unit {0}) DecodeError) : Type 0 where
+  pub verdict_is : (text : List ℕ) → StandsAfter base plain text
+      → verdict ≡ verdict_of (fault_of base text)
+  pub bytes : (text : List ℕ) → StandsAfter base plain text
+      → sound_bytes base text ≡ whole_bytes base text ++ take written new
+  pub read_is : (text : List ℕ) → StandsAfter base plain text → read ≡ length text
+  pub within : written ≤ length new
+  pub behind : drop written new ≡ drop written old
+  pub len : length new ≡ length old
+
+-- by what a decoder that keeps these numbers makes of the text
+module _ {base : Base} {plain : PlainKept} {kept : Kept} (told : kept_told plain ≡ Some kept) where
+  pub ended : (last : List ℕ) {copied output : List ℕ} {read written : ℕ}
+      {verdict : Result (Unit {0}) DecodeError}
+      → ((text : List ℕ) → Keeps base kept text → verdict ≡ verdict_of (fault_of base text))
+      → HasLastBytes base kept (take written last)
+      → written ≤ length last → written ≤ length output → copied ≡ take written last
+      → read ≡ kept.len
+      → EndsKept base plain output (copied ++ drop written output) read written verdict
+  ended last {copied} {output} {read} {written} judged bytes few inside is counted =
+      let front = copied-front written last copied output few inside is in
+      record {
+        verdict_is = λ text stands. judged text (stands-kept base plain kept text told stands).1;
+        bytes = λ text stands.
+            bytes text (stands-kept base plain kept text told stands).1
+            ∙ ap (λ more. whole_bytes base text ++ more) (sym front.front);
+        read_is = λ text stands.
+            counted ∙ (stands-kept base plain kept text told stands).1.counted;
+        within = front.within;
+        behind = front.behind;
+        len = front.len;
+      }

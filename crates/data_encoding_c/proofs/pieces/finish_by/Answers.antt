@@ -1,10 +1,8 @@
-use Rattle.std.proofs.Common.{◌≡◌, ◌⊎◌, ◌++◌, List, ℕ, None, Some, drop, take, refl, sym, ap, ◌∙◌, arith, inl, inr}
-use Rattle.data_encoding.specs.Fault.{fault_of, sound_bytes}
-use Rattle.data_encoding.specs.Pieces.{whole_bytes}
-use Rattle.encoding_stream.specs.Pieces.{kept_by, verdict_of}
+use Rattle.std.proofs.Common.{◌≡◌, ◌⊎◌, ◌++◌, List, ℕ, None, Some, drop, refl, sym, ap, ◌∙◌, arith, inl, inr}
+use Rattle.data_encoding.specs.Fault.{fault_of}
 use Rattle.data_encoding_c.specs.Pieces.{StandsAfter}
 use Rattle.data_encoding_c.specs.Status.{status_of_fault}
-use Rattle.data_encoding_c.proofs.PieceLemmas.{copied-front, fault-none, fault-some, kind-faulty, kind-own, no-error, none-stands, one-error, stands-kept}
+use Rattle.data_encoding_c.proofs.PieceLemmas.{EndsKept, ended, fault-none, fault-some, kind-faulty, kind-own, no-error, none-stands, one-error}
 use Rattle.data_encoding_c.proofs.pieces.finish_by.Goals as goal
 
 pub returns-in_default : goal.returns-in_default
@@ -27,43 +25,29 @@ returns-in_default c =
 
 pub returns-in-Ok : goal.returns-in-Ok
 returns-in-Ok c =
-    let base = c.args.encoding.now in
-    let plain = c.args.plain.now in
-    let kept = kept_by c.in-Some.decoder in
     let is = c.in-Some.ensures.base in
-    let told = c.in-Some.ensures.kept in
     let end = c.finish-written in
-    let written : ℕ = end.result.0 in
-    let last = end.new.output in
-    let copied = c.copy_from_slice.new.self in
-    let front =
-    copied-front written last copied c.args.output.now
+    let now : EndsKept c.args.encoding.now c.args.plain.now c.args.output.now
+    (c.copy_from_slice.new.self ++ drop end.result.0 c.args.output.now) c.len-read.result
+    end.result.0 end.result.1 =
+    ended c.in-Some.ensures.kept end.new.output (rw is at end.ensures.verdict)
+    (rw is at end.ensures.bytes)
     (omega (arith, end.ensures.few, end.ensures.len)) (omega (arith, c.if-output-written.false))
-    c.copy_from_slice.ensures.after in
-    let bytes : (text : List ℕ) → StandsAfter base plain text
-    → sound_bytes base text
-    ≡ whole_bytes base text ++ take written (copied ++ drop written c.args.output.now) =
-    λ text stands.
-    rw is at (end.ensures.bytes text (rw is (stands-kept base plain kept text told stands).1))
-    ∙ ap (λ more. whole_bytes base text ++ more) (sym front.front) in
-    let verdict : (text : List ℕ) → StandsAfter base plain text
-    → end.result.1 ≡ verdict_of (fault_of base text) =
-    λ text stands. rw is at (end.ensures.verdict text
-    (rw is (stands-kept base plain kept text told stands).1)) in
-    let none : (text : List ℕ) → StandsAfter base plain text → fault_of base text ≡ None =
-    λ text stands. fault-none (fault_of base text) end.result.1 c.in-Ok.field-0 c.in-Ok.is
-    (verdict text stands) in
+    c.copy_from_slice.ensures.after c.len-read.ensures.value in
+    let none : (text : List ℕ) → StandsAfter c.args.encoding.now c.args.plain.now text
+    → fault_of c.args.encoding.now text ≡ None =
+    λ text stands. fault-none (fault_of c.args.encoding.now text) end.result.1 c.in-Ok.field-0
+    c.in-Ok.is (now.verdict_is text stands) in
     record {
       verdict = λ _ text stands. sym (ap status_of_fault (none text stands));
-      bytes = λ _ text stands. bytes text stands;
+      bytes = λ _ text stands. now.bytes text stands;
       position = λ _ text error stands found.
           absurd (no-error (sym (none text stands) ∙ found));
-      read = λ _ text stands.
-          c.len-read.ensures.value ∙ (stands-kept base plain kept text told stands).1.counted;
+      read = λ _ text stands. now.read_is text stands;
       end = λ _. refl;
-      within = λ _ text stands. front.within;
-      behind = front.behind;
-      len = front.len;
+      within = λ _ text stands. now.within;
+      behind = now.behind;
+      len = now.len;
       short = λ short. absurd (omega (arith, short));
       refused = λ refused. absurd (elim refused [
         | inl is_none ↦ omega (arith, is_none)
@@ -73,47 +57,32 @@ returns-in-Ok c =
 
 pub returns-in-Err : goal.returns-in-Err
 returns-in-Err c =
-    let base = c.args.encoding.now in
-    let plain = c.args.plain.now in
-    let kept = kept_by c.in-Some.decoder in
     let is = c.in-Some.ensures.base in
-    let told = c.in-Some.ensures.kept in
     let end = c.finish-written in
-    let written : ℕ = end.result.0 in
-    let last = end.new.output in
-    let copied = c.copy_from_slice.new.self in
-    let front =
-    copied-front written last copied c.args.output.now
+    let now : EndsKept c.args.encoding.now c.args.plain.now c.args.output.now
+    (c.copy_from_slice.new.self ++ drop end.result.0 c.args.output.now) c.len-read.result
+    end.result.0 end.result.1 =
+    ended c.in-Some.ensures.kept end.new.output (rw is at end.ensures.verdict)
+    (rw is at end.ensures.bytes)
     (omega (arith, end.ensures.few, end.ensures.len)) (omega (arith, c.if-output-written.false))
-    c.copy_from_slice.ensures.after in
-    let bytes : (text : List ℕ) → StandsAfter base plain text
-    → sound_bytes base text
-    ≡ whole_bytes base text ++ take written (copied ++ drop written c.args.output.now) =
-    λ text stands.
-    rw is at (end.ensures.bytes text (rw is (stands-kept base plain kept text told stands).1))
-    ∙ ap (λ more. whole_bytes base text ++ more) (sym front.front) in
-    let verdict : (text : List ℕ) → StandsAfter base plain text
-    → end.result.1 ≡ verdict_of (fault_of base text) =
-    λ text stands. rw is at (end.ensures.verdict text
-    (rw is (stands-kept base plain kept text told stands).1)) in
-    let some : (text : List ℕ) → StandsAfter base plain text
-    → fault_of base text ≡ Some c.in-Err.error =
-    λ text stands. fault-some (fault_of base text) end.result.1 c.in-Err.error c.in-Err.is
-    (verdict text stands) in
+    c.copy_from_slice.ensures.after c.len-read.ensures.value in
+    let some : (text : List ℕ) → StandsAfter c.args.encoding.now c.args.plain.now text
+    → fault_of c.args.encoding.now text ≡ Some c.in-Err.error =
+    λ text stands. fault-some (fault_of c.args.encoding.now text) end.result.1 c.in-Err.error
+    c.in-Err.is (now.verdict_is text stands) in
     let own = λ (n : ℕ) (refused : (n ≡ 19) ⊎ (n ≡ 4)) (same : c.status_of_kind.result ≡ n).
     kind-own c.in-Err.error.kind n refused (sym c.status_of_kind.ensures ∙ same) in
     record {
       verdict = λ _ text stands.
           c.status_of_kind.ensures ∙ sym (ap status_of_fault (some text stands));
-      bytes = λ _ text stands. bytes text stands;
+      bytes = λ _ text stands. now.bytes text stands;
       position = λ _ text error stands found.
           ap (λ e. e.position) (one-error (sym (some text stands) ∙ found));
-      read = λ _ text stands.
-          c.len-read.ensures.value ∙ (stands-kept base plain kept text told stands).1.counted;
+      read = λ _ text stands. now.read_is text stands;
       end = λ is. absurd (kind-faulty c.in-Err.error.kind (sym c.status_of_kind.ensures ∙ is));
-      within = λ _ text stands. front.within;
-      behind = front.behind;
-      len = front.len;
+      within = λ _ text stands. now.within;
+      behind = now.behind;
+      len = now.len;
       short = λ short. absurd (own 4 (inr refl) short);
       refused = λ refused. absurd (elim refused [
         | inl is_none ↦ own 19 (inl refl) is_none
