@@ -37,8 +37,8 @@ pub(crate) struct Reached {
 }
 
 impl EncodingRef<'_> {
-    /// What is left of a text. Not inlined: with the search in the same function the loop over lanes
-    /// was slower by a fifth.
+    /// What is left of a text. Not inlined: with the search in the same function the loop over
+    /// lanes was slower by a fifth.
     #[inline(never)]
     pub(crate) fn decode_from<L: LookUp, O: ConstantOrder, G: GroupSize>(
         &self,
