@@ -54,7 +54,7 @@ includedir=$target
 
 Name: data_encoding
 Description: Base encodings, proved
-Version: 1.0
+Version: 0.1.0
 Libs: -L\${libdir} -ldata_encoding
 Cflags: -I\${includedir}
 END

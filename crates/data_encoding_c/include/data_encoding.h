@@ -108,7 +108,7 @@ typedef enum de_number {
     DE_BASE64URL_NOPAD = 17
 } de_number;
 
-/* What a decoding tells, where its status is DE_OK or that of a faulty text. */
+/* How far a text was decoded, where its status is DE_OK or that of a faulty text. */
 typedef struct de_decoded {
     /* How many bytes of the text were read: of a faulty text, those before its first faulty group
      * or some more, which mean what was written. */
@@ -176,7 +176,7 @@ de_status de_decoder_most(de_number number, const de_decoder *decoder, size_t le
 
 /* Reads a piece of the text, which may be cut anywhere. Writes the data of the groups that are then
  * whole, up to the first faulty one, to the front of output, which has room for as many bytes as
- * de_decoder_most says, and their number to *written. A fault is told at the end. What the output
+ * de_decoder_most says, and their number to *written. A fault is reported at the end. What the output
  * has behind the data, within that room, is not said; what it has behind that room stays.
  * DE_NO_DECODER, DE_TOO_LONG, DE_SHORT_BUFFER. */
 de_status de_decoder_read(de_number number, de_decoder *decoder, const char *input,

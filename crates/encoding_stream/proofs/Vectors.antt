@@ -147,8 +147,14 @@ none_ignored (suc (suc index)) k h = absurd (omega (arith, h))
 groups_filled : Has base64_fields (λ base. FillsGroups base 2 4 2 3)
 groups_filled = record { groups = 1; symbols = lit≤ tt; bytes = lit≤ tt }
 
-whole_groups_alone : Has base64_fields (λ base. AreWholeGroups base (codes "SGVsbG8="))
-whole_groups_alone = record { whole = refl; not_final = refl }
+-- whole groups alone, also with a line end that is ignored
+whole_groups_alone :
+    Has base64_fields (λ base. AreWholeGroups base (codes "SGVsbG8="))
+    × Has base64_mime_fields (λ base. AreWholeGroups base (codes "SGVs" ++ 13 ∷ 10 ∷ []))
+whole_groups_alone = (
+  record { whole = refl; not_final = refl },
+  record { whole = refl; not_final = refl },
+)
 
 -- `8` completes no group behind `SGVsbG`, and there is no last one behind `SGVs`
 nothing_completed :
@@ -178,13 +184,16 @@ groups_judged :
     × (next_group (kept_group (codes "bG8=")) 2 ≡ positioned_from 4 (codes "bG"))
 groups_judged = (λ _. (refl, refl), λ _. refl, refl)
 
--- of base64 without padding `bG8` is a last group, and `!G8` is none
+-- of base64 without padding `bG8` is a last group, and `!G8` is none; a fault before it comes first
 ends_judged :
     Has base64_nopad_fields (λ base. EndsSound base (kept_group (codes "bG8")) (codes "lo"))
     × Has base64_nopad_fields (λ base. EndsFaulty base (kept_group (codes "!G8")) symbol_at_4)
     × Has base64_nopad_fields (λ base.
     fault_with_held base (kept_group (codes "!G8")) ≡ Some symbol_at_4)
-ends_judged = (λ _ _. (refl, refl), λ _ _. refl, refl)
+    × Has base64_nopad_fields (λ base.
+    fault_with_held base (record (kept_group (codes "bG8")) { fault = Some symbol_at_4 })
+    ≡ Some symbol_at_4)
+ends_judged = (λ _ _. (refl, refl), λ _ _. refl, refl, refl)
 
 pushed_by : (base : Base) (text : List ℕ) → Keeps base kept_so_far text
     → (decoder : Decoder) → base_of_decoder decoder ≡ base → decoder.pieces.kept ≡ kept_so_far

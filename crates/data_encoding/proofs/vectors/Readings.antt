@@ -1,5 +1,5 @@
 -- Worked rows of what is decoded: data, faults, lengths.
-use Rattle.std.proofs.Common.{◌≡◌, ℕ, true, false, List, [], ◌∷◌, ◌++◌, map, drop, codes, replicate, Option, Some, None, Result, Ok, Err, refl, lit<, arith}
+use Rattle.std.proofs.Common.{◌≡◌, ℕ, true, false, List, [], ◌∷◌, ◌++◌, length, map, drop, codes, replicate, Option, Some, None, Result, Ok, Err, refl, lit<, arith}
 use Rattle.data_encoding.specs.declared.decode.group.GroupFault.{GroupFault}
 use Rattle.data_encoding.specs.declared.specification.meanings.Refusal.{Refusal}
 use Rattle.data_encoding.specs.declared.encoding.Character.TheVariants.{Symbol as SymbolCharacter, Padding as PaddingCharacter, Invalid}
@@ -21,6 +21,7 @@ use Rattle.data_encoding.specs.Pieces.{unfinished, whole_bytes, whole_groups, he
 use Rattle.data_encoding.specs.Predefined.{translated_fields, hexlower_fields, hexlower_permissive_fields, hexupper_fields, hexupper_permissive_fields, base32_fields, base32_nopad_fields, base32_nopad_nocase_fields, base32_nopad_visual_fields, base32_dnssec_fields, base32_dnscurve_fields, base64_fields, base64_nopad_fields, base64_mime_fields, base64_mime_permissive_fields}
 use Rattle.data_encoding.specs.Encoder.{written}
 use Rattle.data_encoding.specs.Laws.{further}
+use Rattle.data_encoding.specs.Text.{text_of}
 use Rattle.data_encoding.proofs.vectors.Examples.{Hold, by, decoded, bytes, fault, octal_fields, reversed, unchecked, nopad_ignoring_lf_fields, lines_of_8_fields, single_fields}
 
 -- one text that those with the same symbols and padding read in different ways
@@ -373,3 +374,24 @@ pieces_by_steps = (refl, refl, refl, refl, refl, refl, refl, refl, refl)
 -- a fault that is found so many bytes further on
 found_further : (further 4 (at Symbol 1) ≡ at Symbol 5) × (further 4 None ≡ None)
 found_further = (refl, refl)
+
+-- Why laws have their premises. What follows a fault of an unfinished group may take it away; texts
+-- that differ in an ignored byte have their faults at different positions; by its length alone a
+-- padded text may mean more than was encoded, and padding is no symbol; data of other lengths have
+-- texts of other lengths.
+premises_needed :
+    Hold (λ (row : Fields × List ℕ). decoded row.0 row.1) (
+    ((base64_nopad_fields, codes "A"), fault Length 0)
+    ∷ ((base64_nopad_fields, codes "AA"), bytes (0 ∷ []))
+    ∷ ((base64_mime_fields, codes "A!AA"), fault Symbol 1)
+    ∷ ((base64_mime_fields, 10 ∷ codes "A!AA"), fault Symbol 2)
+    ∷ ((base64_fields, codes "AA=="), bytes (0 ∷ []))
+    ∷ []
+    )
+    × (by (λ base. decoded_len base (length (text_of base (0 ∷ [])))) base64_fields
+    ≡ Some (Ok 3))
+    × (by (λ base. meanings_in base (positioned (codes "A="))) base64_fields
+    ≡ Some (SymbolCharacter 0 ∷ PaddingCharacter ∷ []))
+    × (by (λ base. map (λ bytes. length (text_of base bytes)) ([] ∷ (0 ∷ []) ∷ [])) hexlower_fields
+    ≡ Some (0 ∷ 2 ∷ []))
+premises_needed = (refl, refl, refl, refl)
