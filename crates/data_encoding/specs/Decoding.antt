@@ -1,5 +1,5 @@
 -- What the parts of a decoding promise: a run of whole groups, the next group, and its judgement.
-use Rattle.std.specs.Prelude.{◌≡◌, ℕ, ◌+◌, ◌-◌, ◌*◌, ◌/◌, ◌%◌, ◌<◌, ◌≤◌, ◌⊎◌, nat_lt, Bool, true, false, List, [], ◌∷◌, length, map, take, drop, flat_map, if◌then◌else◌, Some, None, is_some, slice_index}
+use Rattle.std.specs.Prelude.{◌≡◌, ℕ, ◌+◌, ◌-◌, ◌*◌, ◌/◌, ◌%◌, ◌<◌, ◌≤◌, ◌⊎◌, nat_lt, Bool, true, false, List, [], ◌∷◌, length, map, take, drop, flat_map, if◌then◌else◌, None, is_some, slice_index}
 use Rattle.std.specs.List.{list_any}
 use Rattle.data_encoding.specs.declared.encoding.BitOrder.{BitOrder}
 use Rattle.data_encoding.specs.declared.error.DecodePartial.{DecodePartial}
@@ -11,7 +11,7 @@ use Rattle.data_encoding.specs.Base.{Base, meaning, is_symbol, is_ignored, is_pa
 use Rattle.data_encoding.specs.Bits.{runs}
 use Rattle.data_encoding.specs.Grammar.{Means, Positioned, groups, is_final, kept, kept_from, bytes_in}
 use Rattle.data_encoding.specs.Lengths.{greatest_valid_length, is_valid_count}
-use Rattle.data_encoding.specs.Fault.{bytes_of_group, count_before_padding, fault_after, fault_of, group_fault, position_of, sound_bytes, symbol_bytes, symbols_fault}
+use Rattle.data_encoding.specs.Fault.{bytes_of_group, count_before_padding, fault_after, fault_at, fault_of, group_fault, position_of, sound_bytes, symbol_bytes, symbols_fault}
 use Rattle.data_encoding.specs.Tables.{Reads}
 use Rattle.data_encoding.specs.Partial.{StopsAt, is_length_fault, position_after}
 
@@ -85,10 +85,12 @@ pub record HasSymbols (base : Base) (group : List ℕ) (count : ℕ) : Type 0 wh
   pub valid : is_valid_count base.width count ≡ true
   pub fault_is : group_fault base group ≡ symbols_fault base (map (meaning base) (take count group))
 
--- A group has that fault, at one of its bytes.
-pub record HasFault (base : Base) (group : List ℕ) (fault : GroupFault) : Type 0 where
+-- A group has that fault, at one of its bytes, wherever it stands after a final one or none.
+pub record HasFault (base : Base) (ended : Bool) (group : List ℕ) (fault : GroupFault)
+    : Type 0 where
   pub inside : fault.index < length group
-  pub is_fault : group_fault base group ≡ Some fault
+  pub is_fault : (placed : List Positioned) → bytes_in placed ≡ group
+      → fault_after ended base placed ≡ fault_at fault.kind placed fault.index
 
 -- The bytes of a part that are not ignored, up to the end of one of them: this many, or all.
 pub record IsGathered (base : Base) (size : ℕ) (part bytes : List ℕ) (span : ℕ) : Type 0 where

@@ -1,5 +1,5 @@
 -- What a judgement of a group finds: its symbols, or its fault, or its bytes.
-use Rattle.std.proofs.Common.{◌≡◌, ℕ, zero, suc, ◌-◌, ◌*◌, ◌/◌, ◌%◌, ◌<◌, ◌≤◌, ◌==◌, ◌≢◌, nat_lt, Bool, true, false, not, cond, ◌&&◌, ◌||◌, List, [], ◌∷◌, ◌++◌, length, map, take, drop, replicate, slice_index, None, refl, sym, ap, ◌∙◌, arith, length-take-le, take-append-drop}
+use Rattle.std.proofs.Common.{◌≡◌, ℕ, zero, suc, ◌-◌, ◌*◌, ◌/◌, ◌%◌, ◌<◌, ◌≤◌, ◌==◌, ◌≢◌, nat_lt, Bool, true, false, not, cond, ◌&&◌, ◌||◌, List, [], ◌∷◌, ◌++◌, length, map, take, drop, replicate, slice_index, Option, None, Some, is_some, refl, sym, ap, ◌∙◌, subst, arith, length-take-le, take-append-drop}
 use Rattle.std.proofs.lemmas.Bool.Decides.{nat_tests}
 use Rattle.std.proofs.Math.Nat.{le-div_iff_mul-le, div-eq_of_lt, zero-mul}
 use Rattle.std.proofs.lemmas.List.{take_all, drop_all, length-drop, length-map, take-map, take_at}
@@ -8,12 +8,16 @@ use Rattle.std.specs.List.{filter_map, list_any, position}
 use Rattle.data_encoding.proofs.grammar.LengthLemmas.{greatest_valid_length-by, is_valid_length-by, whole-less}
 use Rattle.data_encoding.specs.declared.encoding.Character.{Character}
 use Rattle.data_encoding.specs.declared.encoding.Character.TheVariants.{Padding as PaddingCharacter}
+use Rattle.data_encoding.specs.declared.decode.group.GroupFault.{GroupFault}
+use Rattle.data_encoding.specs.declared.error.DecodeError.{DecodeError}
 use Rattle.data_encoding.specs.declared.error.DecodeKind.TheVariants.{Length as LengthFault, Symbol as SymbolFault, Trailing as TrailingFault, Padding as PaddingFault}
 use Rattle.data_encoding.specs.Base.{Base, IsWidth, meaning, is_padded, is_padding, is_symbol, group_symbols, value_of}
 use Rattle.data_encoding.specs.Decoding.{HasFault, HasSymbols, IsDecodedGroup}
-use Rattle.data_encoding.specs.Fault.{count_before_padding, fault_at_first, faulty_at, group_fault, padded_fault_at, plain_fault, symbol_bytes, symbols_fault, trailing_bits, trailing_fault}
+use Rattle.data_encoding.specs.Fault.{count_before_padding, fault_after, fault_at, fault_at_first, faulty_at, group_fault, located, padded_fault_at, plain_fault, symbol_bytes, symbols_fault, trailing_bits, trailing_fault}
+use Rattle.data_encoding.specs.Grammar.{Positioned, bytes_in, positioned_from}
 use Rattle.data_encoding.specs.Lengths.{is_valid_count, greatest_valid_count, greatest_valid_length, is_valid_length}
 use Rattle.data_encoding.specs.Tables.{HoldsValues}
+use Rattle.data_encoding.proofs.grammar.PositionLemmas.{bytes-positioned_from}
 use Rattle.data_encoding.proofs.lists.EndLemmas.{AllSo, count_before_end-at, count_before_end-map, end-passes}
 use Rattle.data_encoding.proofs.lists.ListLemmas.{list_any-none}
 use Rattle.data_encoding.proofs.grammar.GroupLemmas.{all_padding, any_padding, bytes_before_padding, inside-padding, symbols_alone}
@@ -43,6 +47,30 @@ count-before base values holds group are_bytes count within all stops =
       is_not : (v : ℕ) → v ≢ 130 → (v == 130) ≡ false
       is_not v h = grind (arith, nat_tests)
 
+-- the fault of the bytes of a group is its fault where no final one came before
+pub HasFault-own : {base : Base} {group : List ℕ} {fault : GroupFault}
+    → fault.index < length group → group_fault base group ≡ Some fault
+    → HasFault base false group fault
+HasFault-own {base} inside is = record {
+  inside = inside;
+  is_fault = λ placed same.
+      ap (λ l. located placed (group_fault base l)) same ∙ ap (located placed) is;
+}
+
+located-some : (placed : List Positioned) (o : Option GroupFault) (error : DecodeError)
+    → located placed o ≡ Some error → is_some o ≡ true
+located-some placed None error h = cc
+located-some placed (Some fault) error h = refl
+
+-- so its bytes have one
+pub HasFault-some : {base : Base} {group : List ℕ} {fault : GroupFault}
+    → HasFault base false group fault → is_some (group_fault base group) ≡ true
+HasFault-some {base} {group} has =
+    let placed = positioned_from 0 group in
+    let same = bytes-positioned_from 0 group in
+    subst (λ l. is_some (group_fault base l) ≡ true) same
+    (located-some placed (group_fault base (bytes_in placed)) _ (has.is_fault placed same))
+
 module _ (base : Base) (group : List ℕ) where
   abbrev meant : List Character
   meant = map (meaning base) group
@@ -55,25 +83,28 @@ module _ (base : Base) (group : List ℕ) where
     plain-group = rw unpadded
 
     -- without padding a number of symbols may be invalid
+    fault-invalid : (width : ℕ) → base.width ≡ width → is_valid_count width (length group) ≡ false
+        → group_fault base group
+        ≡ faulty_at LengthFault (length group - width * length group % 8 / width)
+    fault-invalid width width_is known =
+        let invalid : is_valid_count base.width (length meant) ≡ false =
+        (λ i. is_valid_count (width_is i) (length_is i)) ∙ known in
+        plain-group
+        ∙ rw invalid
+        (λ i. faulty_at LengthFault (greatest_valid_count (width_is i) (length_is i)))
+
     pub length-invalid : 0 < length group → (width : ℕ) → base.width ≡ width → 0 < width
         → width ≤ width * length group % 8
-        → HasFault base group (record {
+        → HasFault base false group (record {
           index = length group - width * length group % 8 / width;
           kind = LengthFault;
         })
     length-invalid some width width_is pos large =
-        let known : is_valid_count width (length group) ≡ false = grind (arith, nat_tests, large) in
-        let invalid : is_valid_count base.width (length meant) ≡ false =
-        (λ i. is_valid_count (width_is i) (length_is i)) ∙ known in
         let least : 1 ≤ width * length group % 8 / width =
         (le-div_iff_mul-le {k = width} {x = 1} {y = width * length group % 8} pos).1
         (omega (arith, large)) in
-        record {
-          inside = omega (arith, least, some);
-          is_fault = plain-group
-              ∙ rw invalid
-              (λ i. faulty_at LengthFault (greatest_valid_count (width_is i) (length_is i)));
-        }
+        HasFault-own (omega (arith, least, some))
+        (fault-invalid width width_is (grind (arith, nat_tests, large)))
 
     -- or else each byte may be a symbol
     pub symbols-all : is_valid_count base.width (length group) ≡ true
@@ -93,15 +124,16 @@ module _ (base : Base) (group : List ℕ) where
     padded-group = rw padded
 
     -- a padded group is whole
-    pub group-short : 0 < length group → length group < group_symbols base.width
-        → HasFault base group (record { index = 0; kind = LengthFault })
-    group-short some short =
+    fault-short : length group < group_symbols base.width
+        → group_fault base group ≡ faulty_at LengthFault 0
+    fault-short short =
         let less : nat_lt (length meant) (group_symbols base.width) ≡ true =
         grind (arith, nat_tests, short, length_is) in
-        record {
-          inside = some;
-          is_fault = padded-group ∙ rw less;
-        }
+        padded-group ∙ rw less
+
+    pub group-short : 0 < length group → length group < group_symbols base.width
+        → HasFault base false group (record { index = 0; kind = LengthFault })
+    group-short some short = HasFault-own some (fault-short short)
 
     module _ (whole : length group ≡ group_symbols base.width) (count : ℕ)
         (count_is : count ≡ count_before_padding meant) where
@@ -116,14 +148,11 @@ module _ (base : Base) (group : List ℕ) where
 
       pub padding-invalid : IsWidth base.width → 0 < length group → count ≤ length group
           → (count == 0 || not (is_valid_count base.width count)) ≡ true
-          → HasFault base group (record { index = count; kind = PaddingFault })
+          → HasFault base false group (record { index = count; kind = PaddingFault })
       padding-invalid width some within bad =
           let inside = inside-padding base width meant (omega (arith, some, length_is))
           (omega (arith, whole, length_is)) full count (omega (arith, within, length_is)) bad in
-          record {
-            inside = omega (arith, inside, length_is);
-            is_fault = whole-group ∙ rw bad;
-          }
+          HasFault-own (omega (arith, inside, length_is)) (whole-group ∙ rw bad)
 
       pub symbols-before : count ≤ length group → (count == 0) ≡ false
           → is_valid_count base.width count ≡ true → HasSymbols base group count
@@ -152,12 +181,11 @@ fault-length base width group some few invalid = by (is_padded base) refl where
       greatest_valid_length-by base (length group) true is
       ∙ ap (λ n. n * group_symbols base.width) (div-eq_of_lt short)
       ∙ zero-mul (group_symbols base.width) in
-      (group-short base group is some short).is_fault ∙ ap (faulty_at LengthFault) (sym none)
+      fault-short base group is short ∙ ap (faulty_at LengthFault) (sym none)
   by false is =
       let not_valid : is_valid_count base.width (length group) ≡ false =
       sym (is_valid_length-by base (length group) false is) ∙ invalid in
-      let large : base.width ≤ base.width * length group % 8 = grind (arith, nat_tests) in
-      (length-invalid base group is some base.width refl width.some large).is_fault
+      fault-invalid base group is base.width refl not_valid
       ∙ ap (faulty_at LengthFault)
       (sym (greatest_valid_length-by base (length group) false is))
 
@@ -186,17 +214,16 @@ module _ (base : Base) (values : List ℕ) (holds : HoldsValues base values) (gr
   pub symbol-fault : (index : ℕ) → index < length symbols
       → ((k : ℕ) → k < index → slice_index values (slice_index symbols k) < 128)
       → 128 ≤ slice_index values (slice_index symbols index)
-      → HasFault base group (record { index = index; kind = SymbolFault })
-  symbol-fault index inside before there = record {
-    inside = omega (arith, inside, few, has.within);
-    is_fault = has.fault_is ∙ ap (λ o. fault_at_first o (trailing_fault base judged))
-        (no_symbol-some base values holds symbols index (record {
-          are_bytes = part_bytes group are_bytes count;
-          before = before;
-          inside = omega (arith, inside);
-          there = λ _. there;
-        }) inside);
-  }
+      → HasFault base false group (record { index = index; kind = SymbolFault })
+  symbol-fault index inside before there =
+      HasFault-own (omega (arith, inside, few, has.within))
+      (has.fault_is ∙ ap (λ o. fault_at_first o (trailing_fault base judged))
+      (no_symbol-some base values holds symbols index (record {
+        are_bytes = part_bytes group are_bytes count;
+        before = before;
+        inside = omega (arith, inside);
+        there = λ _. there;
+      }) inside))
 
   module _ (low : (k : ℕ) → k < length symbols
       → slice_index values (slice_index symbols k) < 128) where
@@ -216,13 +243,12 @@ module _ (base : Base) (values : List ℕ) (holds : HoldsValues base values) (gr
     pub trailing-fault : base.checks_trailing_bits ≡ true
         → list_any (λ bit. not (bit == 0)) (trailing_bits base judged) ≡ true
         → 0 < length symbols
-        → HasFault base group (record { index = count - 1; kind = TrailingFault })
-    trailing-fault checks some begun = record {
-      inside = omega (arith, begun, few, has.within);
-      is_fault = fault-symbols
-          ∙ (λ i. cond (checks i && some i) (faulty_at TrailingFault (length judged - 1)) None)
-          ∙ ap (λ n. faulty_at TrailingFault (n - 1)) (length-map symbols (meaning base) ∙ few);
-    }
+        → HasFault base false group (record { index = count - 1; kind = TrailingFault })
+    trailing-fault checks some begun =
+        HasFault-own (omega (arith, begun, few, has.within))
+        (fault-symbols
+        ∙ (λ i. cond (checks i && some i) (faulty_at TrailingFault (length judged - 1)) None)
+        ∙ ap (λ n. faulty_at TrailingFault (n - 1)) (length-map symbols (meaning base) ∙ few))
 
     abbrev all : List Character
     all = map (meaning base) group

@@ -2,7 +2,7 @@
 use Rattle.std.proofs.Common.{◌≡◌, ℕ, ◌+◌, ◌-◌, ◌*◌, ◌/◌, ◌%◌, ◌<◌, ◌≤◌, Bool, true, false, not, nat_lt, ◌&&◌, ◌==◌, ◌⊎◌, List, [], ◌++◌, length, take, drop, Some, refl, sym, ap, ◌∙◌, subst, arith, length-take-le, ⊎_elim, map}
 use Rattle.std.proofs.Math.Nat.{mul-le-mul_left, mul-zero, zero-mod}
 use Rattle.std.proofs.Math.Seq.{take-add}
-use Rattle.std.proofs.lemmas.Bool.{cases_lt, eqb-true, false≢true}
+use Rattle.std.proofs.lemmas.Bool.{cases_lt, eqb-true}
 use Rattle.std.proofs.lemmas.Bool.Decides.{nat_tests}
 use Rattle.std.proofs.lemmas.List.{drop-drop, length-drop, take_rest, length-map}
 use Rattle.std.proofs.lemmas.Nat.{div-add-mod'}
@@ -10,26 +10,25 @@ use Rattle.std.proofs.lemmas.Slice.{take-put_mid_below}
 use Rattle.std.specs.List.{list_any}
 use Rattle.std.proofs.Math.Bool.{and-false}
 use Rattle.data_encoding.proofs.decoding.WholeLengthLemmas.{most_bytes-few}
-use Rattle.data_encoding.specs.declared.error.DecodeKind.TheVariants.{Padding as PaddingFault}
 use Rattle.data_encoding.specs.declared.error.DecodeError.{DecodeError}
 use Rattle.data_encoding.specs.declared.error.DecodePartial.{DecodePartial}
 use Rattle.data_encoding.specs.declared.decode.group.GroupFault.{GroupFault}
 use Rattle.data_encoding.specs.Base.{Base, IsWidth, group_bytes, group_symbols, is_padded, is_padding, meaning}
-use Rattle.data_encoding.specs.Decoding.{HasFault, HasNoLastRun, IsDecoded, IsDecodedGroup, IsGathered, IsLastRun, IsRun, IsStop, HasStopped, IsIgnoredFront, valid_front, HasDecodedTo}
-use Rattle.data_encoding.specs.Fault.{fault_after, group_fault, located, position_of, symbol_bytes}
-use Rattle.data_encoding.specs.Grammar.{Means, Positioned, kept, kept_from}
+use Rattle.data_encoding.specs.Decoding.{HasFault, HasNoLastRun, HasRoom, IsDecoded, IsDecodedGroup, IsGathered, IsLastRun, IsRun, IsStop, HasStopped, IsIgnoredFront, valid_front, HasDecodedTo}
+use Rattle.data_encoding.specs.Fault.{group_fault, located, position_of, symbol_bytes}
+use Rattle.data_encoding.specs.Grammar.{Positioned, bytes_in, kept, kept_from}
 use Rattle.data_encoding.specs.Lengths.{greatest_valid_length}
 use Rattle.data_encoding.specs.Partial.{StopsAt, is_length_fault}
 use Rattle.data_encoding.proofs.digits.WidthLemmas.{group_bits}
 use Rattle.data_encoding.proofs.grammar.LengthLemmas.{is_valid_length-by}
 use Rattle.data_encoding.proofs.grammar.GroupLemmas.{GroupMeans-sound}
 use Rattle.data_encoding.proofs.lists.WriteLemmas.{length-rewritten, length-rewritten_same, rewritten, take-rewritten}
-use Rattle.data_encoding.proofs.decoding.GatherLemmas.{bytes-next, gathered-few, gathered-some, is-next, next_bytes, none-next, nothing-kept, position-next}
+use Rattle.data_encoding.proofs.decoding.GatherLemmas.{bytes-next, gathered-few, gathered-some, is-next, next_bytes, none-next, position-next}
 use Rattle.data_encoding.proofs.decoding.GreatestLengthLemmas.{greatest-least, greatest-valid}
 use Rattle.data_encoding.proofs.decoding.LastRunLemmas.{last-none, last-sound, last-unsound}
 use Rattle.data_encoding.proofs.decoding.RoomLemmas.{multiples}
 use Rattle.data_encoding.proofs.decoding.ProgressLemmas.{IsNext, after-group, after-run, room-group, room-run, same-output}
-use Rattle.data_encoding.proofs.decoding.StopLemmas.{IsAtFault, at-fault}
+use Rattle.data_encoding.proofs.decoding.StopLemmas.{IsAtFault, at-fault_front}
 use Rattle.data_encoding.proofs.grammar.KeptLemmas.{nothing-left}
 use Rattle.data_encoding.proofs.decoding.IgnoredFrontLemmas.{gathered-behind, nothing-behind}
 use Rattle.data_encoding.proofs.decoding.LoopLemmas.{IsUnderWay, decoded}
@@ -46,18 +45,6 @@ same-partial : (partial : DecodePartial) (read written : ℕ) (error : DecodeErr
     → record { read = read; written = written; error = error } ≡ partial
 same-partial partial read written error h k l =
     λ i. record { read = sym h i; written = sym k i; error = sym l i }
-
--- a decoding stopped there, whatever stands behind what was written
-stops-same : (base : Base) (text old new : List ℕ) (partial : DecodePartial)
-    → StopsAt base text old partial
-    → take partial.written new ≡ take partial.written old → StopsAt base text new partial
-stops-same base text old new partial stops same =
-    record {
-      is_partial = stops.is_partial;
-      means = subst (Means base (take partial.read text)) (sym same) stops.means;
-      read_before = stops.read_before;
-      within = stops.within;
-    }
 
 -- no group is final where all its bytes are symbols
 no_padding : (b : Bool) (count len : ℕ) → len ≤ count → (not b && nat_lt count len) ≡ false
@@ -84,27 +71,213 @@ module _ {base : Base} {text : List ℕ} {w bytes symbols read written : ℕ} {e
     so_far = so_far;
   }
 
-  -- where no byte is left that is not ignored, the text means what was written
-  pub decoded-ignored :
-      length (kept base (take (length text - read) (drop read text))) ≡ 0
-      → IsDecoded base text written output
-  decoded-ignored none =
-      decoded s (nothing-kept base text read
-      (subst (λ l. length (kept base l) ≡ 0) (take_rest text read) none))
+  -- the same with other bytes behind what was written
+  pub after_none : (rest : List ℕ)
+      → length rest ≡ length (take (length output - written) (drop written output))
+      → IsUnderWay base text w bytes symbols read written ended (rewritten written output rest)
+  after_none rest rest_len =
+      let len = length-rewritten_same written output rest s.so_far.fits rest_len in
+      further len
+      (same-output base s.width text (rewritten written output rest) s.so_far
+      (omega (arith, len, s.so_far.fits))
+      (take-put_mid_below written (length output - written) output rest written (omega arith)
+      s.so_far.fits))
 
-  gathered_here : {group : List ℕ} {span : ℕ}
-      → IsGathered base symbols (take (length text - read) (drop read text)) group span
-      → IsGathered base (group_symbols base.width) (drop read text) group span
-  gathered_here {group} {span} is =
-      rw (s.symbols_is, take_rest text read) at is
+  -- nothing is left where nothing is gathered
+  none-left : (start : ℕ) → start ≤ length text → {group : List ℕ} {span : ℕ}
+      → IsGathered base symbols (take (length text - start) (drop start text)) group span
+      → {empty : Bool} → empty ≡ (length group == 0) → empty ≡ true
+      → kept_from base start text ≡ []
+  none-left start within {group} {span} is empty_is empty =
+      let found : IsGathered base (group_symbols base.width) (drop start text) group span =
+      rw (s.symbols_is, take_rest text start) at is in
+      none-next base s.width text start within found
+      (eqb-true (length group) 0 (sym empty_is ∙ empty))
 
+  -- a group of that many bytes has room, where it may have bytes
+  room-group_of : (count : ℕ) → count ≤ length text - read
+      → (is_padded base ≡ true → count ≡ group_symbols base.width)
+      → base.width * count / 8 ≤ length output - written
+  room-group_of count few whole = by (is_padded base) refl where
+    by : (b : Bool) → is_padded base ≡ b → base.width * count / 8 ≤ length output - written
+    by true padded =
+        let all = whole padded in
+        let bits : base.width * count ≡ 8 * group_bytes base.width =
+        ap (λ n. base.width * n) all ∙ group_bits base.width s.width in
+        let one : 1 * group_symbols base.width ≤ length text - read = omega (arith, all, few) in
+        omega (arith, bits, room-run base s.width text s.so_far 1 one)
+    by false unpadded =
+        omega (arith, room-group base s.width text s.so_far count unpadded few)
+
+  -- so has the greatest front of valid length, where it is one group
+  room-last : HasRoom base (drop read text) (length output - written)
+  room-last few =
+      let rest = drop read text in
+      let front = valid_front base rest in
+      let len = length-front base s.width rest in
+      ⊎_elim
+      (λ (some : 0 < length front).
+      room-group_of (length front)
+      (omega (arith, len, greatest-least base s.width (length rest), length-drop read text))
+      (λ padded.
+      let exact : length front % group_symbols base.width ≡ 0 =
+      ap (λ n. n % group_symbols base.width) len
+      ∙ eqb-true (greatest_valid_length base (length rest) % group_symbols base.width) 0
+      (sym (is_valid_length-by base (greatest_valid_length base (length rest)) true padded)
+      ∙ greatest-valid base s.width (length rest)) in
+      let most = multiples (group_symbols base.width) 0 (length front)
+      (zero-mod (group_symbols base.width)) exact some in
+      omega (arith, most, few)))
+      (λ (none : length front ≤ 0).
+      let no_bits : base.width * length front ≡ 0 =
+      ap (λ n. base.width * n) (omega (arith, none)) ∙ mul-zero base.width in
+      omega (arith, no_bits))
+      (cases_lt 0 (length front))
+
+  module _ {group : List ℕ} {span : ℕ}
+      (is : IsGathered base symbols (take (length text - read) (drop read text)) group span)
+    where
+      -- a text that ends there means what was written
+      pub decoded-empty : {empty : Bool} → empty ≡ (length group == 0) → empty ≡ true
+          → IsDecoded base text written output
+      decoded-empty empty_is empty = decoded s (none-left read s.so_far.within is empty_is empty)
+
+      found_here : IsGathered base (group_symbols base.width) (drop read text) group span
+      found_here = rw (s.symbols_is, take_rest text read) at is
+
+      abbrev placed : List Positioned
+      placed = next_bytes base text read span
+
+      same_bytes : bytes_in placed ≡ group
+      same_bytes = bytes-next base s.width text read s.so_far.within found_here
+
+      next : 0 < length group → IsNext base text read (read + span) placed
+      next some = is-next base s.width text read s.so_far.within found_here some
+
+      -- a group has room
+      pub room-next_group : (is_padded base ≡ true → length group ≡ symbols)
+          → w * length group / 8
+          ≤ length (take (length output - written) (drop written output))
+      room-next_group whole =
+          let few : length group ≤ length text - read =
+          omega (arith, gathered-few found_here, found_here.within, length-drop read text) in
+          let room = room-group_of (length group) few (λ padded. whole padded ∙ s.symbols_is) in
+          let same = ap (λ n. n * length group) (sym s.w_is) in
+          omega (
+            arith,
+            room,
+            same,
+            ap length (take_rest output written),
+            length-drop written output,
+          )
+
+      -- A faulty group stops the decoding.
+      module _ {fault : GroupFault} (has : HasFault base ended group fault) where
+        abbrev error : DecodeError
+        error = record {
+          position = read + position_of (kept base (drop read text)) fault.index;
+          kind = fault.kind;
+        }
+
+        at : IsAtFault base text read written output error
+        at = record {
+          width = s.width;
+          ended = ended;
+          so_far = s.so_far;
+          no_length_fault = s.no_fault;
+          stop = read + span;
+          group = placed;
+          next = next (omega (arith, has.inside));
+          faulty = has.is_fault placed same_bytes
+              ∙ ap (λ n. Some (record { position = n; kind = fault.kind }))
+              (position-next base s.width text read s.so_far.within found_here fault.index
+              has.inside);
+        }
+
+        front_len : length (valid_front base (drop read text))
+            ≡ greatest_valid_length base (length (drop read text))
+        front_len = length-front base s.width (drop read text)
+
+        -- where no last run is found
+        stops-here : (new : List ℕ) → written ≤ length new
+            → take written new ≡ take written output
+            → (is_length_fault fault.kind ≡ true → HasNoLastRun base (drop read text))
+            → StopsAt base text new (record { read = read; written = written; error = error })
+        stops-here new fits same none = by (is_length_fault fault.kind) refl where
+          by : (b : Bool) → is_length_fault fault.kind ≡ b
+              → StopsAt base text new (record { read = read; written = written; error = error })
+          by false is = at-fault_front at is new fits same
+          by true is =
+              let no_run = none is in
+              last-unsound at is (omega (arith, front_len, no_run.0))
+              (λ few. no_run.1 (omega (arith, front_len, few))) new fits same
+
+        -- and where one is
+        stops-after : (new : List ℕ) → take written new ≡ take written output
+            → is_length_fault fault.kind ≡ true → (more : ℕ) → written + more ≤ length new
+            → IsLastRun base (drop read text) more (drop written new)
+            → StopsAt base text new
+            (record { read = error.position; written = written + more; error = error })
+        stops-after new same kind more fits last =
+            ⊎_elim {C = StopsAt base text new
+            (record { read = error.position; written = written + more; error = error })}
+            (λ empty.
+            let none : written + more ≡ written = omega (arith, empty.1) in
+            rw none (last-none at kind (sym front_len ∙ empty.0) new (omega (arith, fits)) same))
+            (λ run.
+            let count = base.width * run.2 / 8 in
+            let bytes : written + more ≡ written + count = ap (λ n. written + n) run.4 in
+            subst (λ n. StopsAt base text new
+            (record { read = error.position; written = n; error = error })) (sym bytes)
+            (last-sound at kind (omega (arith, front_len, run.0)) (omega (arith, front_len, run.1))
+            run.3.sound count new (omega (arith, fits, bytes))
+            (take-add written count new ∙ (λ i. same i ++ run.3.bytes i))))
+            last
+
+        -- whatever was written of it
+        group-stops : (new : List ℕ) (partial : DecodePartial) → written ≤ length new
+            → take written new ≡ take written output
+            → IsStop base (drop read text) read written fault new partial
+            → StopsAt base text new partial
+        group-stops new partial fits same stop =
+            ⊎_elim {C = StopsAt base text new partial}
+            (λ how.
+            subst (StopsAt base text new)
+            (same-partial partial read written error how.0 how.1 stop.error_is)
+            (stops-here new fits same how.2))
+            (λ how.
+            subst (StopsAt base text new)
+            (same-partial partial error.position (written + how.2) error
+            (how.1 ∙ ap (λ (e : DecodeError). e.position) stop.error_is) how.3 stop.error_is)
+            (stops-after new same how.0 how.2 how.4 how.5))
+            stop.how
+
+        pub group-stopped : (rest : List ℕ)
+            → length rest ≡ length (take (length output - written) (drop written output))
+            → HasStopped base text (rewritten written output rest)
+            (record { read = read; written = written; index = fault.index; kind = fault.kind })
+        group-stopped rest rest_len =
+            let same = length-rewritten_same written output rest s.so_far.fits rest_len in
+            record {
+              within = s.so_far.within;
+              fits = omega (arith, same, s.so_far.fits);
+              inside = gathered-some found_here fault.index has.inside;
+              room = λ _. subst (λ n. HasRoom base (drop read text) (n - written)) (sym same)
+                  room-last;
+              stops = λ new partial fits front stop.
+                  group-stops new partial fits
+                  (front ∙ take-put_mid_below written (length output - written) output rest written
+                  (omega arith) s.so_far.fits) stop;
+            }
+
+-- where no final group came before
 module _ {base : Base} {text : List ℕ} {w bytes symbols read written : ℕ} {output : List ℕ}
     (s : IsUnderWay base text w bytes symbols read written false output) where
   module _ {skip : ℕ} (front : IsIgnoredFront base (drop read text) skip) where
     abbrev start : ℕ
     start = read + skip
 
-    pub start-within : read + skip ≤ length text
+    start-within : read + skip ≤ length text
     start-within = omega (arith, front.within, s.so_far.within, length-drop read text)
 
     -- a run has room
@@ -191,337 +364,75 @@ module _ {base : Base} {text : List ℕ} {w bytes symbols read written : ℕ} {o
       pub decoded-none : {empty : Bool} → empty ≡ (length group == 0) → empty ≡ true
           → IsDecoded base text written output
       decoded-none empty_is empty =
-          let found : IsGathered base (group_symbols base.width) (drop start text) group span =
-          rw (s.symbols_is, take_rest text start) at is in
           decoded s (nothing-behind base text read skip s.so_far.within front
-          (none-next base s.width text start start-within found
-          (eqb-true (length group) 0 (sym empty_is ∙ empty))))
+          (none-left s start start-within is empty_is empty))
 
-  -- the same with other bytes behind what was written
-  pub after_none : (rest : List ℕ)
-      → length rest ≡ length (take (length output - written) (drop written output))
-      → IsUnderWay base text w bytes symbols read written false (rewritten written output rest)
-  after_none rest rest_len =
-      let len = length-rewritten_same written output rest s.so_far.fits rest_len in
-      further s len
-      (same-output base s.width text (rewritten written output rest) s.so_far
-      (omega (arith, len, s.so_far.fits))
-      (take-put_mid_below written (length output - written) output rest written (omega arith)
-      s.so_far.fits))
-
-  -- a group of that many bytes has room, where it may have bytes
-  room-group_of : (count : ℕ) → count ≤ length text - read
-      → (is_padded base ≡ true → count ≡ group_symbols base.width)
-      → base.width * count / 8 ≤ length output - written
-  room-group_of count few whole = by (is_padded base) refl where
-    by : (b : Bool) → is_padded base ≡ b → base.width * count / 8 ≤ length output - written
-    by true padded =
-        let all = whole padded in
-        let bits : base.width * count ≡ 8 * group_bytes base.width =
-        ap (λ n. base.width * n) all ∙ group_bits base.width s.width in
-        let one : 1 * group_symbols base.width ≤ length text - read = omega (arith, all, few) in
-        omega (arith, bits, room-run base s.width text s.so_far 1 one)
-    by false unpadded =
-        omega (arith, room-group base s.width text s.so_far count unpadded few)
-
-  -- so has the greatest front of valid length, where it is one group
-  room-last : length (valid_front base (drop read text)) ≤ symbols
-      → w * length (valid_front base (drop read text)) / 8 ≤ length output - written
-  room-last few =
-      let rest = drop read text in
-      let front = valid_front base rest in
-      let len = length-front base s.width rest in
-      let valid = greatest-valid base s.width (length rest) in
-      let room : 0 < length front → base.width * length front / 8 ≤ length output - written =
-      λ some. room-group_of (length front)
-      (omega (arith, len, greatest-least base s.width (length rest), length-drop read text))
-      (λ padded.
-      let exact : length front % group_symbols base.width ≡ 0 =
-      ap (λ n. n % group_symbols base.width) len
-      ∙ eqb-true (greatest_valid_length base (length rest) % group_symbols base.width) 0
-      (sym (is_valid_length-by base (greatest_valid_length base (length rest)) true padded)
-      ∙ valid) in
-      let most = multiples (group_symbols base.width) 0 (length front)
-      (zero-mod (group_symbols base.width)) exact some in
-      omega (arith, most, few, s.symbols_is)) in
-      let same = ap (λ n. n * length front) (sym s.w_is) in
-      ⊎_elim
-      (λ (some : 0 < length front). omega (arith, room some, same))
-      (λ (none : length front ≤ 0).
-      let no_bits : w * length front ≡ 0 =
-      ap (λ n. w * n) (omega (arith, none)) ∙ mul-zero w in
-      omega (arith, no_bits))
-      (cases_lt 0 (length front))
-
+  -- what a group does
   module _ {group : List ℕ} {span : ℕ}
       (is : IsGathered base symbols (take (length text - read) (drop read text)) group span)
-    where
-      found_here : IsGathered base (group_symbols base.width) (drop read text) group span
-      found_here = gathered_here s is
+      (some : 0 < length group) {count : ℕ} {rest : List ℕ}
+      (rest_len : length rest
+      ≡ length (take (length output - written) (drop written output)))
+      (has : IsDecodedGroup base group count rest) where
+    whole : is_padded base ≡ true → length group ≡ symbols
+    whole padded =
+        let len = length-map group (meaning base) in
+        sym len
+        ∙ (GroupMeans-sound base s.width (map (meaning base) group)
+        (omega (arith, len, some)) (omega (arith, len, (found_here s is).few)) has.sound).is_whole
+        padded
+        ∙ sym s.symbols_is
 
-      abbrev placed : List Positioned
-      placed = next_bytes base text read span
+    few : w * count / 8 ≤ length rest
+    few = omega (arith, mul-le-mul_left w has.within, room-next_group s is whole, rest_len)
 
-      few_left : length group ≤ length text - read
-      few_left =
-          omega (arith, gathered-few found_here, found_here.within, length-drop read text)
+    group_done : HasDecodedTo base text (read + span) (written + w * count / 8)
+        (not base.concatenates && nat_lt count (length group))
+        (rewritten written output rest)
+    group_done =
+        let new = rewritten written output rest in
+        let fits = length-rewritten written output rest s.so_far.fits in
+        let same = same_bytes s is in
+        let final = ap (λ b. not base.concatenates && b)
+        (ap (λ l. list_any is_padding (map (meaning base) l)) same ∙ has.final) in
+        rw (← final) (after-group base s.width text (w * count / 8) new s.so_far (next s is some)
+        (ap (λ l. located (placed s is) (group_fault base l)) same
+        ∙ ap (located (placed s is)) has.sound)
+        (omega (arith, few, fits))
+        (take-rewritten written output rest s.so_far.fits (w * count / 8)
+        ∙ ap (λ l. take written output ++ l)
+        (ap (λ n. take (n * count / 8) rest) (sym s.w_is) ∙ has.bytes
+        ∙ ap (λ l. symbol_bytes base (map (meaning base) l)) (sym same))))
 
-      -- a group has room
-      pub room-next_group : (is_padded base ≡ true → length group ≡ symbols)
-          → w * length group / 8
-          ≤ length (take (length output - written) (drop written output))
-      room-next_group whole =
-          let room = room-group_of (length group) few_left
-          (λ padded. whole padded ∙ s.symbols_is) in
-          let same = ap (λ n. n * length group) (sym s.w_is) in
-          omega (
-            arith,
-            room,
-            same,
-            ap length (take_rest output written),
-            length-drop written output,
-          )
+    pub after_group : (stop : ℕ) {final : Bool} → read + span ≡ stop
+        → (not base.concatenates && nat_lt count (length group)) ≡ final
+        → IsUnderWay base text w bytes symbols stop (written + w * count / 8) final
+        (rewritten written output rest)
+    after_group stop {final} place same =
+        further s (length-rewritten_same written output rest s.so_far.fits rest_len)
+        (rw (← place, ← same) group_done)
 
-      module _ (some : 0 < length group) where
-        next : IsNext base text read (read + span) placed
-        next = is-next base s.width text read s.so_far.within found_here some
+    -- it goes on where texts may follow, or where the group has no padding
+    pub group-more : (stop : ℕ) {own : Base} → read + span ≡ stop → own ≡ base
+        → (own.concatenates ≡ true) ⊎ (length group ≤ count)
+        → IsUnderWay base text w bytes symbols stop (written + w * count / 8) false
+        (rewritten written output rest)
+    group-more stop place same how =
+        after_group stop place
+        (⊎_elim
+        (λ joins. ap (λ v. not v && nat_lt count (length group))
+        (ap (λ (b : Base). b.concatenates) (sym same) ∙ joins))
+        (no_padding base.concatenates count (length group)) how)
 
-        fault_here : (fault : GroupFault) → HasFault base group fault
-            → fault_after false base placed
-            ≡ Some (record {
-              position = read + position_of (kept base (drop read text)) fault.index;
-              kind = fault.kind;
-            })
-        fault_here fault has =
-            ap (λ l. located placed (group_fault base l))
-            (bytes-next base s.width text read s.so_far.within found_here)
-            ∙ ap (located placed) has.is_fault
-            ∙ ap (λ n. Some (record { position = n; kind = fault.kind }))
-            (position-next base s.width text read s.so_far.within found_here fault.index has.inside)
-
-        -- before the group, where that is faulty
-        stands : (new : List ℕ) → HasDecodedTo base text read written false new
-            → (error : DecodeError) → fault_after false base placed ≡ Some error
-            → IsAtFault base text read written new error
-        stands new so_far error faulty = record {
-          width = s.width;
-          ended = false;
-          so_far = so_far;
-          no_length_fault = s.no_fault;
-          stop = read + span;
-          group = placed;
-          next = next;
-          faulty = faulty;
-        }
-
-        -- where no last run is found
-        stops-here : (fault : GroupFault) (new : List ℕ) → written ≤ length new
-            → take written new ≡ take written output → (error : DecodeError)
-            → fault_after false base placed ≡ Some error → fault.kind ≡ error.kind
-            → (is_length_fault fault.kind ≡ true → HasNoLastRun base (drop read text))
-            → StopsAt base text new (record { read = read; written = written; error = error })
-        stops-here fault new fits same error faulty kind none =
-            by (is_length_fault error.kind) refl where
-              by : (b : Bool) → is_length_fault error.kind ≡ b
-                  → StopsAt base text new
-                  (record { read = read; written = written; error = error })
-              by false is =
-                  at-fault
-                  (stands new (same-output base s.width text new s.so_far fits same) error faulty)
-                  is
-              by true is =
-                  let len = length-front base s.width (drop read text) in
-                  let no_run = none (ap is_length_fault kind ∙ is) in
-                  last-unsound (stands output s.so_far error faulty) is
-                  (omega (arith, len, no_run.0))
-                  (λ few. no_run.1 (omega (arith, len, few))) new fits same
-
-        -- and where one is
-        stops-after : (new : List ℕ) → take written new ≡ take written output
-            → (error : DecodeError) → fault_after false base placed ≡ Some error
-            → is_length_fault error.kind ≡ true → (more : ℕ) → written + more ≤ length new
-            → IsLastRun base (drop read text) more (drop written new)
-            → StopsAt base text new
-            (record { read = error.position; written = written + more; error = error })
-        stops-after new same error faulty kind more fits last =
-            let front = valid_front base (drop read text) in
-            let len = length-front base s.width (drop read text) in
-            ⊎_elim {C = StopsAt base text new
-            (record { read = error.position; written = written + more; error = error })}
-            (λ empty.
-            let none : written + more ≡ written = omega (arith, empty.1) in
-            rw none (last-none (stands output s.so_far error faulty) kind (sym len ∙ empty.0) new
-            (omega (arith, fits)) same))
-            (λ run.
-            let count = base.width * run.2 / 8 in
-            let bytes : written + more ≡ written + count = ap (λ n. written + n) run.4 in
-            subst (λ n. StopsAt base text new
-            (record { read = error.position; written = n; error = error })) (sym bytes)
-            (last-sound (stands output s.so_far error faulty) kind
-            (omega (arith, len, run.0)) (omega (arith, len, run.1))
-            run.3.sound count new (omega (arith, fits, bytes))
-            (take-add written count new ∙ (λ i. same i ++ run.3.bytes i))))
-            last
-
-        -- a faulty group stops the decoding, whatever was written of it
-        group-stops : (fault : GroupFault) → HasFault base group fault
-            → (rest new : List ℕ) (partial : DecodePartial)
-            → written ≤ length new
-            → take written new ≡ take written (rewritten written output rest)
-            → IsStop base (drop read text) read written fault new partial
-            → StopsAt base text new partial
-        group-stops fault has rest new partial fits same stop =
-            let part = drop read text in
-            let front = valid_front base part in
-            let len = length-front base s.width part in
-            let error : DecodeError = record {
-              position = read + position_of (kept base part) fault.index;
-              kind = fault.kind;
-            } in
-            let front_same : take written new ≡ take written output =
-            same ∙ take-put_mid_below written (length output - written) output rest written
-            (omega arith) s.so_far.fits in
-            let faulty = fault_here fault has in
-            ⊎_elim {C = StopsAt base text new partial}
-            (λ how.
-            subst (StopsAt base text new)
-            (same-partial partial read written error how.0 how.1 stop.error_is)
-            (stops-here fault new fits front_same error faulty refl how.2))
-            (λ how.
-            subst (StopsAt base text new)
-            (same-partial partial error.position (written + how.2) error
-            (how.1 ∙ ap (λ (e : DecodeError). e.position) stop.error_is) how.3 stop.error_is)
-            (stops-after new front_same error faulty how.0 how.2 how.4 how.5))
-            stop.how
-
-        pub group-stopped : {fault : GroupFault} → HasFault base group fault → (rest : List ℕ)
-            → length rest ≡ length (take (length output - written) (drop written output))
-            → HasStopped base text (rewritten written output rest)
-            (record { read = read; written = written; index = fault.index; kind = fault.kind })
-        group-stopped {fault} has rest rest_len =
-            let same = length-rewritten_same written output rest s.so_far.fits rest_len in
-            record {
-              within = s.so_far.within;
-              fits = omega (arith, same, s.so_far.fits);
-              inside = gathered-some found_here fault.index has.inside;
-              room = λ _ few. subst (λ n. base.width * length (valid_front base (drop read text))
-                  / 8 ≤ n - written) (sym same)
-                  (subst (λ n. n * length (valid_front base (drop read text)) / 8
-                  ≤ length output - written) (sym s.w_is)
-                  (room-last (subst (λ n. length (valid_front base (drop read text)) ≤ n)
-                  (sym s.symbols_is) few)));
-              stops = λ new partial fits front stop.
-                  group-stops fault has rest new partial fits front stop;
-            }
-
-        -- what a group does
-        module _ {count : ℕ} {rest : List ℕ}
-            (rest_len : length rest
-            ≡ length (take (length output - written) (drop written output)))
-            (has : IsDecodedGroup base group count rest) where
-          whole : is_padded base ≡ true → length group ≡ symbols
-          whole padded =
-              let len = length-map group (meaning base) in
-              sym len
-              ∙ (GroupMeans-sound base s.width (map (meaning base) group)
-              (omega (arith, len, some)) (omega (arith, len, found_here.few)) has.sound).is_whole
-              padded
-              ∙ sym s.symbols_is
-
-          few : w * count / 8 ≤ length rest
-          few = omega (arith, mul-le-mul_left w has.within, room-next_group whole, rest_len)
-
-          group_done : HasDecodedTo base text (read + span) (written + w * count / 8)
-              (not base.concatenates && nat_lt count (length group))
-              (rewritten written output rest)
-          group_done =
-              let new = rewritten written output rest in
-              let fits = length-rewritten written output rest s.so_far.fits in
-              let same = bytes-next base s.width text read s.so_far.within found_here in
-              let final = ap (λ b. not base.concatenates && b)
-              (ap (λ l. list_any is_padding (map (meaning base) l)) same ∙ has.final) in
-              rw (← final) (after-group base s.width text (w * count / 8) new s.so_far next
-              (ap (λ l. located placed (group_fault base l)) same ∙ ap (located placed) has.sound)
-              (omega (arith, few, fits))
-              (take-rewritten written output rest s.so_far.fits (w * count / 8)
-              ∙ ap (λ l. take written output ++ l)
-              (ap (λ n. take (n * count / 8) rest) (sym s.w_is) ∙ has.bytes
-              ∙ ap (λ l. symbol_bytes base (map (meaning base) l)) (sym same))))
-
-          pub after_group : (stop : ℕ) {final : Bool} → read + span ≡ stop
-              → (not base.concatenates && nat_lt count (length group)) ≡ final
-              → IsUnderWay base text w bytes symbols stop (written + w * count / 8) final
-              (rewritten written output rest)
-          after_group stop {final} place same =
-              further s (length-rewritten_same written output rest s.so_far.fits rest_len)
-              (rw (← place, ← same) group_done)
-
-          -- it goes on where texts may follow, or where the group has no padding
-          pub group-more : (stop : ℕ) {own : Base} → read + span ≡ stop → own ≡ base
-              → (own.concatenates ≡ true) ⊎ (length group ≤ count)
-              → IsUnderWay base text w bytes symbols stop (written + w * count / 8) false
-              (rewritten written output rest)
-          group-more stop place same how =
-              after_group stop place
-              (⊎_elim
-              (λ joins. ap (λ v. not v && nat_lt count (length group))
-              (ap (λ (b : Base). b.concatenates) (sym same) ∙ joins))
-              (no_padding base.concatenates count (length group)) how)
-
-          -- and otherwise the group is final
-          pub group-final : (stop : ℕ) {own : Base} → read + span ≡ stop → own ≡ base
-              → own.concatenates ≡ false → count < length group
-              → IsUnderWay base text w bytes symbols stop (written + w * count / 8) true
-              (rewritten written output rest)
-          group-final stop place same apart padded =
-              let short : nat_lt count (length group) ≡ true = grind (arith, nat_tests, padded) in
-              after_group stop place
-              (λ i. not ((ap (λ (b : Base). b.concatenates) (sym same) ∙ apart) i) && short i)
-
--- after a final group, any other is a fault
-module _ {base : Base} {text : List ℕ} {w bytes symbols read written : ℕ} {output : List ℕ}
-    (s : IsUnderWay base text w bytes symbols read written true output)
-    (left : (group : List ℕ) × (span : ℕ) × (0 < length group)
-    × IsGathered base symbols (take (length text - read) (drop read text)) group span) where
-  other : IsGathered base (group_symbols base.width) (drop read text) left.0 left.1
-  other = gathered_here s left.3
-
-  abbrev fault_there : DecodeError
-  fault_there = record {
-    position = read + position_of (kept base (drop read text)) 0;
-    kind = PaddingFault;
-  }
-
-  final : IsAtFault base text read written output fault_there
-  final = record {
-    width = s.width;
-    ended = true;
-    so_far = s.so_far;
-    no_length_fault = s.no_fault;
-    stop = read + left.1;
-    group = next_bytes base text read left.1;
-    next = is-next base s.width text read s.so_far.within other left.2;
-    faulty = ap (λ n. Some (record { position = n; kind = PaddingFault }))
-        (position-next base s.width text read s.so_far.within other 0 left.2);
-  }
-
-  pub final-stopped : HasStopped base text output
-      (record { read = read; written = written; index = 0; kind = PaddingFault })
-  final-stopped = record {
-    within = s.so_far.within;
-    fits = s.so_far.fits;
-    inside = gathered-some other 0 left.2;
-    room = λ is. absurd (false≢true is);
-    stops = λ new partial fits front stop.
-        ⊎_elim {C = StopsAt base text new partial}
-        (λ how. subst (StopsAt base text new)
-        (same-partial partial read written fault_there how.0 how.1 stop.error_is)
-        (stops-same base text output new
-        (record { read = read; written = written; error = fault_there }) (at-fault final refl)
-        front))
-        (λ how. absurd (false≢true how.0))
-        stop.how;
-  }
+    -- and otherwise the group is final
+    pub group-final : (stop : ℕ) {own : Base} → read + span ≡ stop → own ≡ base
+        → own.concatenates ≡ false → count < length group
+        → IsUnderWay base text w bytes symbols stop (written + w * count / 8) true
+        (rewritten written output rest)
+    group-final stop place same apart padded =
+        let short : nat_lt count (length group) ≡ true = grind (arith, nat_tests, padded) in
+        after_group stop place
+        (λ i. not ((ap (λ (b : Base). b.concatenates) (sym same) ∙ apart) i) && short i)
 
 -- what is found is a group where it is not empty
 pub some-group : {base : Base} {size : ℕ} {part group : List ℕ} {span : ℕ} {empty : Bool}

@@ -211,12 +211,16 @@ module _ {base : Base} {text : List ℕ} {read written : ℕ} {output : List ℕ
       }
 
   -- at a faulty group, the text has its fault
+  pub at-fault_front : is_length_fault error.kind ≡ false → (new : List ℕ) → written ≤ length new
+      → take written new ≡ take written output
+      → StopsAt base text new (record { read = read; written = written; error = error })
+  at-fault_front kind new fits same =
+      stops new read written (rw kind sound_len_is) bounds.0 front_sound fits
+      (sound_bytes-front base at.width text at.so_far ∙ sym same)
+
   pub at-fault : is_length_fault error.kind ≡ false
       → StopsAt base text output (record { read = read; written = written; error = error })
-  at-fault kind =
-      stops output read written
-      (rw kind sound_len_is) bounds.0 front_sound at.so_far.fits
-      (sound_bytes-front base at.width text at.so_far)
+  at-fault kind = at-fault_front kind output at.so_far.fits refl
 
   module _ (none : ignores_some base ≡ false) where
     read_whole : read % size ≡ 0

@@ -4,7 +4,7 @@ use Rattle.std.proofs.lemmas.Bool.{false≢true}
 use Rattle.data_encoding.specs.declared.encoding.Character.TheVariants.{Symbol as SymbolCharacter, Padding as PaddingCharacter, Ignored, Invalid}
 use Rattle.data_encoding.specs.declared.decode.Stop.{Stop}
 use Rattle.data_encoding.specs.declared.decode.steps.Step.TheVariants.{Ended}
-use Rattle.data_encoding.specs.declared.error.DecodeKind.TheVariants.{Symbol, Trailing}
+use Rattle.data_encoding.specs.declared.error.DecodeKind.TheVariants.{Padding, Symbol, Trailing}
 use Rattle.data_encoding.specs.Base.{Base, meaning, is_symbol, ignores_some}
 use Rattle.data_encoding.specs.Layout.{layout, column_of, separator_of}
 use Rattle.data_encoding.specs.Predefined.{unpadded_fields, base64_fields, base64_nopad_fields, base64_mime_fields}
@@ -19,6 +19,7 @@ use Rattle.data_encoding.specs.Entries.{meaning_of_entry, is_entry_of, HoldsEntr
 use Rattle.data_encoding.specs.Meanings.{meanings_of_table, HasEntries}
 use Rattle.data_encoding.specs.Tables.{HasTables, HoldsSymbols, HoldsValues, IsGroup, Reads, Writes}
 use Rattle.data_encoding.specs.Decoding.{AreSound, HasDecodedTo, IsLongest, IsRun, IsDecodedGroup, most_symbols, HasSymbols, HasFault, IsGathered, IsIgnoredFront, valid_front, IsLastRun, HasNoLastRun, HasRoom, IsStop, IsDecoded, HasEnded, HasStepped, fault_of_stop, run_bytes}
+use Rattle.data_encoding.proofs.decoding.GroupJudgementLemmas.{HasFault-own}
 use Rattle.data_encoding.proofs.tables.TableLemmas.{Reads-seen, Writes-tables}
 use Rattle.data_encoding.proofs.vectors.Examples.{built, Has, nopad_ignoring_lf_fields}
 
@@ -81,17 +82,20 @@ whole_group = record {
   has_symbols = refl;
 }
 
--- a group with padding: two symbols, whose byte stands at the front of the output
+-- a group with padding: two symbols, whose byte stands at the front of the output; after a final
+-- group it is a fault
 group_decoded :
     Has base64_fields (λ base.
     IsDecodedGroup base (codes "QQ==") 2 (65 ∷ 0 ∷ 0 ∷ [])
     × HasSymbols base (codes "QR==") 2
-    × HasFault base (codes "QR==") (record { index = 1; kind = Trailing })
+    × HasFault base false (codes "QR==") (record { index = 1; kind = Trailing })
+    × HasFault base true (codes "QQ==") (record { index = 0; kind = Padding })
     × (most_symbols base (codes "QR==") ≡ 2))
 group_decoded = (
   record { within = lit≤ tt; sound = refl; final = refl; bytes = refl },
   record { count_is = refl; within = lit≤ tt; valid = refl; fault_is = refl },
-  record { inside = lit< tt; is_fault = refl },
+  HasFault-own (lit< tt) refl,
+  record { inside = lit< tt; is_fault = λ placed same. refl },
   refl,
 )
 

@@ -1,6 +1,6 @@
 //! The judgement of one group of a text: its bytes, or its fault.
 
-ghost use Rattle.std.specs.Prelude.{◌≡◌, ℕ, ◌*◌, ◌/◌, ◌<◌, ◌≤◌, ◌==◌, not, true, length, map, IsTrue, slice_index, IfOk, IfErr};
+ghost use Rattle.std.specs.Prelude.{◌≡◌, ℕ, ◌*◌, ◌/◌, ◌<◌, ◌≤◌, ◌==◌, not, true, false, length, map, IsTrue, slice_index, IfOk, IfErr};
 ghost use Rattle.std.specs.List.{list_any};
 ghost use Rattle.data_encoding.specs.Base.{Base, meaning, is_padded};
 ghost use Rattle.data_encoding.specs.Decoding.{HasFault, HasSymbols, IsDecodedGroup};
@@ -22,10 +22,12 @@ pub(crate) struct GroupFault {
 
 impl EncodingRef<'_> {
     /// Decodes a group to the front of the output, and returns how many symbols it has. It is the
-    /// one place where a fault of a group is found.
+    /// one place where a fault of a group is found, also that a final group ended the text before.
+    // Each caller passes `ended` as a constant.
     #[inline(always)]
     pub(crate) fn decode_group<G: GroupSize>(
         &self,
+        ended: bool,
         order: BitOrder,
         group: &[u8],
         output: &mut [u8],
@@ -36,10 +38,14 @@ impl EncodingRef<'_> {
         requires few { length group.now ≤ G.SYMBOLS }
         requires room { (is_padded self.now ≡ true → length group.now ≡ G.SYMBOLS)
             → G.WIDTH * length group.now / 8 ≤ length output.old }
+        ensures begun { IfOk result (λ _. ended ≡ false) }
         ensures sound { IfOk result (λ count.
             IsDecodedGroup self.now group.now count output.new) }
-        ensures fault { IfErr result (HasFault self.now group.now) }
+        ensures fault { IfErr result (HasFault self.now ended group.now) }
     {
+        if ended {
+            return Err(faulty(0, DecodeKind::Padding));
+        }
         let count = match self.count_symbols::<G>(group) {
             Ok(count) => count,
             Err(fault) => return Err(fault),
@@ -76,7 +82,7 @@ impl EncodingRef<'_> {
         ensures symbols { IfOk result (HasSymbols self.now group.now) }
         ensures whole { IfOk result
             (λ _. is_padded self.now ≡ true → length group.now ≡ G.SYMBOLS) }
-        ensures fault { IfErr result (HasFault self.now group.now) }
+        ensures fault { IfErr result (HasFault self.now false group.now) }
     {
         let width = G::WIDTH;
         if !self.fields.is_padded() {

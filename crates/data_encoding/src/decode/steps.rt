@@ -1,15 +1,13 @@
 //! Decoding step by step: a run of whole groups, and the group that follows it.
 
-ghost use Rattle.std.specs.Prelude.{◌≡◌, ℕ, List, true, false, ◌<◌, ◌≤◌, length, drop, Ok, IsTrue, IfSome};
+ghost use Rattle.std.specs.Prelude.{◌≡◌, true, false, ◌≤◌, length, drop, Ok, IfSome};
 ghost use Rattle.data_encoding.specs.Base.{Base};
-ghost use Rattle.data_encoding.specs.Decoding.{HasDecodedTo, HasEnded, HasStepped, IsGathered, IsIgnoredFront};
-ghost use Rattle.data_encoding.specs.Grammar.{kept};
+ghost use Rattle.data_encoding.specs.Decoding.{HasDecodedTo, HasEnded, HasStepped, IsIgnoredFront};
 ghost use Rattle.data_encoding.specs.Lengths.{decoded_len};
 ghost use Rattle.data_encoding.specs.Tables.{HoldsValues, Reads};
 
 use crate::decode::{DECODE_LIMIT, Stop};
 use crate::encoding::{BitOrder, EncodingRef, IGNORED};
-use crate::error::DecodeKind;
 use crate::kernel::decode::decode_run;
 use crate::kernel::group_size::GroupSize;
 use crate::kernel::lanes::look_up::LookUp;
@@ -220,18 +218,17 @@ impl EncodingRef<'_> {
             return Step::Ended;
         }
         let rest = &mut output[at.written..];
-        let count = match self.decode_group::<G>(order, group.bytes, rest) {
+        let count = match self.decode_group::<G>(false, order, group.bytes, rest) {
             Ok(count) => count,
             Err(fault) => {
                 *stop = Stop::new(at.read, at.written, fault.index, fault.kind);
                 return Step::Faulty;
             }
         };
-        let read = start + group.span;
-        let written = at.written + G::WIDTH * count / 8;
-        *stop = Stop::new(read, written, 0, DecodeKind::Padding);
+        stop.read = start + group.span;
+        stop.written = at.written + G::WIDTH * count / 8;
         if count < group.bytes.len() && !self.fields.concatenates {
-            if self.is_end::<G>(&input[read..]) {
+            if self.is_end::<G>(input, output, stop) {
                 return Step::Ended;
             }
             return Step::Faulty;
@@ -239,15 +236,28 @@ impl EncodingRef<'_> {
         Step::More
     }
 
-    // Whether no byte is left that is not ignored.
+    // Whether a text ends behind a final group: any group that follows is a fault.
     #[inline(never)]
-    fn is_end<G: GroupSize>(&self, rest: &[u8]) -> bool
-        ensures end { IsTrue result → length (kept self.now rest.now) ≡ 0 }
-        ensures more { result ≡ false → (group : List ℕ) × (span : ℕ) × (0 < length group)
-            × IsGathered self.now G.SYMBOLS rest.now group span }
+    fn is_end<G: GroupSize>(&self, input: &[u8], output: &mut [u8], stop: &mut Stop) -> bool
+        requires width { self.now.width ≡ G.WIDTH }
+        requires exact { decoded_len self.now (length input.now) ≡ Ok (length output.old) }
+        requires so_far { HasDecodedTo self.now input.now stop.old.read stop.old.written true
+            output.old }
+        ensures { HasEnded self.now input.now output.new stop.new result }
     {
         let mut room = [0; 8];
-        self.next_group::<G>(rest, &mut room).bytes.is_empty()
+        let group = self.next_group::<G>(&input[stop.read..], &mut room).bytes;
+        if group.is_empty() {
+            return true;
+        }
+        let order = self.fields.order();
+        let rest = &mut output[stop.written..];
+        if let Err(fault) = self.decode_group::<G>(true, order, group, rest) {
+            stop.index = fault.index;
+            stop.kind = fault.kind;
+            return false;
+        }
+        true
     }
 }
 

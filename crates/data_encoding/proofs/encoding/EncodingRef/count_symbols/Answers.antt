@@ -12,7 +12,7 @@ use Rattle.data_encoding.proofs.encoding.EncodingRef.count_symbols.Goals.{then-c
 
 pub returns-then-trailing-width-clause-fault : goal.returns-then-trailing-width-clause-fault
 returns-then-trailing-width-clause-fault g c =
-    subst (HasFault c.args.self.now c.args.group.now) (sym c.faulty.ensures)
+    subst (HasFault c.args.self.now false c.args.group.now) (sym c.faulty.ensures)
     (length-invalid c.args.self.now c.args.group.now
     (ap is_padded (sym c.self.view_is) ∙ sym c.is_padded.ensures ∙ c.if-not-is_padded.true)
     c.requires.some c.WIDTH-width.result
@@ -34,7 +34,7 @@ pub returns-then-group-SYMBOLS-clause-fault : goal.returns-then-group-SYMBOLS-cl
 returns-then-group-SYMBOLS-clause-fault g c =
     let symbols = c.SYMBOLS.ensures ∙ g.G.GroupSize.is_group.has_symbols ∙ ap group_symbols
     (sym c.requires.width) in
-    subst (HasFault c.args.self.now c.args.group.now) (sym c.faulty-then-group-SYMBOLS.ensures)
+    subst (HasFault c.args.self.now false c.args.group.now) (sym c.faulty-then-group-SYMBOLS.ensures)
     (group-short c.args.self.now c.args.group.now
     (ap is_padded (sym c.self.view_is) ∙ sym c.is_padded.ensures ∙ c.if-not-is_padded.false)
     c.requires.some
@@ -54,7 +54,7 @@ returns-then-count-eq0-clause-fault g c =
       | then-count-eq0-via-else-count-eq0+then-width-count w ↦ grind
           (arith, nat_tests, w.if-width-count.true)
     ] in
-    subst (HasFault seen group) (sym c.faulty-then-count-eq0.ensures)
+    subst (HasFault seen false group) (sym c.faulty-then-count-eq0.ensures)
     (padding-invalid seen group
     (ap is_padded (sym c.self.view_is) ∙ sym c.is_padded.ensures ∙ c.if-not-is_padded.false) whole
     count

@@ -4,7 +4,6 @@ use Rattle.std.proofs.lemmas.Nat.{mul-le}
 use Rattle.std.proofs.lemmas.Bool.{cases_lt, false≢true}
 use Rattle.std.specs.List.{list_any}
 use Rattle.data_encoding.specs.Base.{Base, meaning}
-use Rattle.data_encoding.specs.Decoding.{HasFault}
 use Rattle.data_encoding.specs.Fault.{trailing_bits}
 use Rattle.data_encoding.proofs.decoding.GroupJudgementLemmas.{group-sound, symbol-fault, trailing-fault}
 use Rattle.data_encoding.proofs.digits.SizeLemmas.{IsSmall-group}
@@ -51,7 +50,7 @@ returns-then-index-count-clause-fault g c =
     let found = c.symbol_position-index.result in
     let few = length-take-le count group c.in-Ok.ensures.symbols.within in
     let inside : found < length (take count group) = omega (arith, few, c.if-index-count.true) in
-    subst (HasFault seen group) (sym c.faulty.ensures)
+    rw (c.if-ended.false, c.faulty-then-index-count.ensures)
     (symbol-fault seen c.self.inside.fields.now.values
     (HoldsValues-seen _ c.self.invariant seen c.self.view_is) group
     (λ k. (c.type_inv.group k).fits) count c.in-Ok.ensures.symbols found inside
@@ -72,7 +71,7 @@ returns-then-not-decode_symbols-clause-fault g c =
     absurd (false≢true (c.if-not-decode_symbols.ensures.symbols.1
     (λ k below. c.symbol_position.ensures.before k (omega (arith, past, below))))))
     (cases_lt found (length symbols)) in
-    subst (HasFault seen group) (sym c.faulty-then-not-decode_symbols.ensures)
+    rw (c.if-ended.false, c.faulty-then-not-decode_symbols.ensures)
     (symbol-fault seen c.self.inside.fields.now.values
     (HoldsValues-seen _ c.self.invariant seen c.self.view_is) group
     (λ k. (c.type_inv.group k).fits) count c.in-Ok.ensures.symbols found inside
@@ -98,7 +97,7 @@ returns-then-has_trailing-clause-fault g c =
     let group = c.args.group.now in
     let count = c.in-Ok.count in
     let holds = HoldsValues-seen _ c.self.invariant seen c.self.view_is in
-    subst (HasFault seen group) (sym c.faulty-then-has_trailing.ensures)
+    rw (c.if-ended.false, c.faulty-then-has_trailing.ensures)
     (trailing-fault seen c.self.inside.fields.now.values holds group
     (λ k. (c.type_inv.group k).fits) count
     c.in-Ok.ensures.symbols (c.if-not-decode_symbols.ensures.symbols.0 refl)

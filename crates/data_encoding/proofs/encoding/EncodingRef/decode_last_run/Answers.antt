@@ -1,8 +1,10 @@
-use Rattle.std.proofs.Common.{◌≡◌, ◌*◌, ◌/◌, ◌≤◌, length, take, sym, ap, ◌∙◌, subst, arith, length-take-le, inr}
+use Rattle.std.proofs.Common.{◌≡◌, ◌*◌, ◌/◌, ◌≤◌, true, is_some, length, take, sym, ap, ◌∙◌, subst, arith, length-take-le, inr}
 use Rattle.std.proofs.Math.Nat.{mul-le-mul_left}
 use Rattle.std.proofs.lemmas.Nat.{mul-le}
 use Rattle.data_encoding.specs.Base.{group_symbols}
 use Rattle.data_encoding.specs.Decoding.{IsDecodedGroup, valid_front}
+use Rattle.data_encoding.specs.Fault.{group_fault}
+use Rattle.data_encoding.proofs.decoding.GroupJudgementLemmas.{HasFault-some}
 use Rattle.data_encoding.proofs.digits.SizeLemmas.{IsSmall-group}
 use Rattle.data_encoding.proofs.encoding.EncodingRef.decode_last_run.Goals as goal
 
@@ -52,6 +54,20 @@ returns-then-len-SYMBOLS-clause-none g c = λ _.
     ∙ ap group_symbols (sym c.requires.width) in (
       omega (arith, front_len, c.if-len-eq0.false),
       λ few. absurd (omega (arith, front_len, symbols, c.if-len-SYMBOLS.true, few)),
+    )
+
+pub returns-in-Err-clause-none : goal.returns-in-Err-clause-none
+returns-in-Err-clause-none g c = λ _.
+    let seen = c.args.self.now in
+    let rest = c.args.rest.now in
+    let len = c.greatest_valid_length-len.result in
+    let front : take len rest ≡ valid_front seen rest =
+    ap (λ n. take n rest) c.greatest_valid_length-len.ensures.value in
+    let front_len = ap length (sym front)
+    ∙ length-take-le len rest c.greatest_valid_length-len.ensures.most in (
+      omega (arith, front_len, c.if-len-eq0.false),
+      λ _. subst (λ l. is_some (group_fault seen l) ≡ true) front
+          (HasFault-some c.in-Err.ensures.fault),
     )
 
 pub decode_group-requires-clause-room : goal.decode_group-requires-clause-room

@@ -1,7 +1,7 @@
 use Rattle.std.proofs.Common.{ℕ, ◌+◌, ◌∙◌, inl, inr, refl, sym, arith, length-drop}
 use Rattle.std.proofs.lemmas.Nat.{mul-le}
 use Rattle.data_encoding.proofs.decoding.LoopLemmas.{under_way}
-use Rattle.data_encoding.proofs.decoding.StepLemmas.{after_group, decoded-behind, decoded-ignored, decoded-none, final-stopped, gathered-next, group-final, group-more, group-stopped, room-next_group, some-group, written-few}
+use Rattle.data_encoding.proofs.decoding.StepLemmas.{after_group, decoded-behind, decoded-none, gathered-next, group-final, group-more, group-stopped, room-next_group, some-group, written-few}
 use Rattle.data_encoding.proofs.decoding.GatherLemmas.{gathered-few}
 use Rattle.data_encoding.proofs.digits.SizeLemmas.{IsGroup-same}
 use Rattle.data_encoding.proofs.digits.WidthLemmas.{group_symbols-few}
@@ -28,8 +28,8 @@ decode_group-requires-clause-room g c =
     let some = some-group c.next_group-group.ensures c.is_empty.ensures c.if-is_empty.false in
     room-next_group now (gathered-next now c.requires.front c.next_group-group.ensures some)
 
-pub overflow_mul-written : goal.overflow_mul-written
-overflow_mul-written g c =
+pub overflow_mul-stop : goal.overflow_mul-stop
+overflow_mul-stop g c =
     let eight = group_symbols-few g.G.GroupSize.WIDTH g.G.GroupSize.is_group.is_width in
     let most = mul-le c.WIDTH.result c.in-Ok.count 6 8
     (omega (arith, c.WIDTH.ensures, g.G.GroupSize.is_group.is_width.few))
@@ -42,8 +42,8 @@ overflow_mul-written g c =
     )) in
     record { fits = omega (arith, most) }
 
-pub overflow_add-written : goal.overflow_add-written
-overflow_add-written g c =
+pub overflow_add-stop-2 : goal.overflow_add-stop-2
+overflow_add-stop-2 g c =
     let group = IsGroup-same c.WIDTH.ensures refl refl g.G.GroupSize.is_group in
     let now = under_way group (c.requires.width ∙ sym c.WIDTH.ensures) c.requires.exact
     c.requires.so_far in
@@ -53,31 +53,17 @@ overflow_add-written g c =
     c.decode_group.auto.output c.in-Ok.ensures.sound _ refl refl) in
     record { fits = omega (arith, few, c.requires.limit) }
 
-pub returns-then-is_end : goal.returns-then-is_end
-returns-then-is_end g c =
+pub is_end-requires-clause-so_far : goal.is_end-requires-clause-so_far
+is_end-requires-clause-so_far g c =
     let group = IsGroup-same c.WIDTH.ensures refl refl g.G.GroupSize.is_group in
     let now = under_way group (c.requires.width ∙ sym c.WIDTH.ensures) c.requires.exact
     c.requires.so_far in
     let some = some-group c.next_group-group.ensures c.is_empty.ensures c.if-is_empty.false in
-    let last = after_group now
-    (gathered-next now c.requires.front c.next_group-group.ensures some) some
-    c.decode_group.auto.output c.in-Ok.ensures.sound
-    (c.args.at.read + c.args.at.ignored + c.next_group-group.result.span) (omega arith) refl in
-    rw c.new-2.ensures (decoded-ignored last (c.if-is_end.ensures.end refl))
-
-pub returns-then-not-self : goal.returns-then-not-self
-returns-then-not-self g c =
-    let group = IsGroup-same c.WIDTH.ensures refl refl g.G.GroupSize.is_group in
-    let now = under_way group (c.requires.width ∙ sym c.WIDTH.ensures) c.requires.exact
-    c.requires.so_far in
-    let some = some-group c.next_group-group.ensures c.is_empty.ensures c.if-is_empty.false in
-    let last = group-final now
+    (group-final now
     (gathered-next now c.requires.front c.next_group-group.ensures some) some
     c.decode_group.auto.output c.in-Ok.ensures.sound
     (c.args.at.read + c.args.at.ignored + c.next_group-group.result.span) (omega arith)
-    c.self.view_is
-    c.if-not-self.true c.if-count-group.true in
-    rw c.new-2.ensures (final-stopped last (c.if-is_end.ensures.more refl))
+    c.self.view_is c.if-not-self.true c.if-count-group.true).so_far
 
 pub returns : goal.returns
 returns g c =
@@ -95,7 +81,7 @@ returns g c =
       | else-count-group-via-else-count-group b ↦ inr b.if-count-group.false
     ]) in
     let few = gathered-few c.next_group-group.ensures in
-    rw c.new-2.ensures (omega (arith, some, few), more.so_far)
+    (omega (arith, some, few), more.so_far)
 
 pub returns-in-Err : goal.returns-in-Err
 returns-in-Err g c =
@@ -103,8 +89,8 @@ returns-in-Err g c =
     c.requires.so_far in
     let some = some-group c.next_group-group.ensures c.is_empty.ensures c.if-is_empty.false in
     rw c.new.ensures (group-stopped now
-    (gathered-next now c.requires.front c.next_group-group.ensures some) some
-    c.in-Err.ensures.fault _ c.decode_group.auto.output)
+    (gathered-next now c.requires.front c.next_group-group.ensures some) c.in-Err.ensures.fault _
+    c.decode_group.auto.output)
 
 pub overflow_add-start : goal.overflow_add-start
 overflow_add-start g c =
@@ -116,8 +102,8 @@ slice_bounds-next_group-count g c = omega (arith, length-drop {A = ℕ}, c.requi
 pub slice_bounds-rest-count : goal.slice_bounds-rest-count
 slice_bounds-rest-count g c = c.requires.so_far.fits
 
-pub overflow_add-read : goal.overflow_add-read
-overflow_add-read g c =
+pub overflow_add-stop : goal.overflow_add-stop
+overflow_add-stop g c =
     record {
       fits = omega (
         arith,
@@ -127,15 +113,6 @@ overflow_add-read g c =
         c.requires.limit,
       );
     }
-
-pub slice_bounds-is_end-count : goal.slice_bounds-is_end-count
-slice_bounds-is_end-count g c =
-    omega (
-      arith,
-      length-drop {A = ℕ},
-      c.requires.front.within,
-      c.next_group-group.ensures.within,
-    )
 
 pub decode_group-requires-clause-few : goal.decode_group-requires-clause-few
 decode_group-requires-clause-few g c = c.next_group-group.ensures.few
