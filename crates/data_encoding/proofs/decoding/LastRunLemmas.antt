@@ -1,6 +1,6 @@
 -- Where a decoding stops at a last group that is too short.
 use Rattle.std.proofs.Common.{◌≡◌, ℕ, ◌+◌, ◌-◌, ◌<◌, ◌≤◌, Bool, true, false, not, cond, List, [], ◌∷◌, ◌++◌, length, take, drop, Option, Some, None, is_some, refl, sym, ap, ◌∙◌, subst, arith, length-append, length-take-le, ⊎_elim, map}
-use Rattle.std.proofs.lemmas.Bool.{cases_lt, false≢true}
+use Rattle.std.proofs.lemmas.Bool.{cases_lt, false_from_ne_true, false≢true}
 use Rattle.std.proofs.lemmas.List.{append-nil, length-drop, take-take, take_all, take_at, length-map}
 use Rattle.std.proofs.lemmas.List.Concat.{flat_map-append}
 use Rattle.std.specs.Prelude.{flat_map}
@@ -9,21 +9,21 @@ use Rattle.data_encoding.specs.declared.decode.group.GroupFault.{GroupFault}
 use Rattle.data_encoding.specs.declared.error.DecodeError.{DecodeError}
 use Rattle.data_encoding.specs.declared.error.DecodeKind.{DecodeKind}
 use Rattle.data_encoding.specs.declared.error.DecodeKind.TheVariants.{Length as LengthFault, Padding as PaddingFault}
-use Rattle.data_encoding.specs.Base.{Base, meaning, is_ignored, is_padded, group_symbols, IsWidth}
+use Rattle.data_encoding.specs.Base.{Base, meaning, is_ignored, group_symbols}
 use Rattle.data_encoding.specs.Bits.{runs}
-use Rattle.data_encoding.specs.Grammar.{Positioned, positioned_from, kept, groups, is_final, kept_in, kept_from, bytes_in, meanings_in}
+use Rattle.data_encoding.specs.Grammar.{Positioned, positioned_from, kept, groups, is_final, kept_in, kept_from, bytes_in}
 use Rattle.data_encoding.specs.Lengths.{greatest_valid_length, length_fault, is_valid_length}
 use Rattle.data_encoding.specs.Fault.{bytes_of_group, fault_after, fault_at, fault_of, first_after, group_fault, located, or_else, position_of, sound_after, sound_bytes, symbol_bytes}
 use Rattle.data_encoding.specs.Partial.{StopsAt, read_len, is_length_fault, is_sound_run}
 use Rattle.data_encoding.specs.Decoding.{AreSound}
 use Rattle.data_encoding.proofs.lists.ListLemmas.{filter-all, length-filter}
 use Rattle.data_encoding.proofs.lists.RunLemmas.{runs-join, runs-short}
-use Rattle.data_encoding.proofs.grammar.PositionLemmas.{bytes-positioned_from, length-positioned_from, length-meanings}
+use Rattle.data_encoding.proofs.grammar.PositionLemmas.{bytes-positioned_from, length-positioned_from}
 use Rattle.data_encoding.proofs.grammar.KeptLemmas.{kept_from-more}
-use Rattle.data_encoding.proofs.grammar.LengthLemmas.{length_fault-none, valid-whole, whole-less}
+use Rattle.data_encoding.proofs.grammar.LengthLemmas.{length_fault-none, whole-less}
 use Rattle.data_encoding.proofs.grammar.SoundLemmas.{AreSound-append, first-none, sound-all}
 use Rattle.data_encoding.proofs.decoding.ProgressLemmas.{sound_bytes-front}
-use Rattle.data_encoding.proofs.decoding.StopLemmas.{IsAtFault, bounds, kind-located, kind-next, kind_of, other-group, pos, rest_is, sound_len_is, stops, whole}
+use Rattle.data_encoding.proofs.decoding.StopLemmas.{IsAtFault, bounds, kind-next, kind-valid, kind_of, pos, rest_is, sound_len_is, stops, whole}
 use Rattle.data_encoding.proofs.decoding.GreatestLengthLemmas.{greatest-least, greatest-less, greatest-more, greatest-same, greatest-valid}
 use Rattle.data_encoding.proofs.decoding.IgnoringLemmas.{group-kept}
 use Rattle.data_encoding.proofs.decoding.CutLemmas.{kept-cut}
@@ -36,50 +36,11 @@ last_len base read text = greatest_valid_length base (length (drop read text))
 abbrev last_run : Base → ℕ → List ℕ → List ℕ
 last_run base read text = take (last_len base read text) (drop read text)
 
--- A group is too short: its fault is after the greatest valid number of its bytes.
-record IsShort (base : Base) (group : List Positioned) (error : DecodeError) : Type 0 where
-  few : length group < group_symbols base.width
-  inside : greatest_valid_length base (length group) < length group
-  position_is : error.position ≡ position_of group (greatest_valid_length base (length group))
-
 position-fault : (kind : DecodeKind) (group : List Positioned) (index : ℕ) (error : DecodeError)
     → fault_at kind group index ≡ Some error → error.position ≡ position_of group index
 position-fault kind group index error h =
     let first : DecodeError = record { position = position_of group index; kind = kind } in
     let same : first ≡ error = cc in sym (ap (λ (x : DecodeError). x.position) same)
-
-module _ (base : Base) (width : IsWidth base.width) (group : List Positioned)
-    (some : 0 < length group) (most : length group ≤ group_symbols base.width)
-    (error : DecodeError) (fault : fault_after false base group ≡ Some error)
-    (kind : is_length_fault error.kind ≡ true) where
-  bytes_len : length (bytes_in group) ≡ length group
-  bytes_len = length-map group (λ (k : Positioned). k.byte)
-
-  -- it has a fault of its length only where that is not valid
-  invalid : is_valid_length base (length group) ≡ false
-  invalid = by (is_valid_length base (length group)) refl where
-    by : (b : Bool) → is_valid_length base (length group) ≡ b
-        → is_valid_length base (length group) ≡ false
-    by false is = is
-    by true is =
-        let whole = rw (← length-meanings base group) at
-        (valid-whole base (length group) some is) in
-        absurd (false≢true (sym (kind-located group (group_fault base (bytes_in group)) error
-        (other-group base (meanings_in base group) (is_padded base) refl whole) fault) ∙ kind))
-
-  short-group : IsShort base group error
-  short-group =
-      let index = greatest_valid_length base (length group) in
-      let here : fault_at LengthFault group index ≡ Some error =
-      sym (ap (located group) (fault-length base width (bytes_in group)
-      (omega (arith, some, bytes_len)) (omega (arith, most, bytes_len))
-      (ap (is_valid_length base) bytes_len ∙ invalid))
-      ∙ ap (λ n. fault_at LengthFault group (greatest_valid_length base n)) bytes_len) ∙ fault in
-      record {
-        few = whole-less base width (length group) most invalid;
-        inside = greatest-less base width (length group) invalid;
-        position_is = position-fault LengthFault group index error here;
-      }
 
 module _ {base : Base} {text : List ℕ} {read written : ℕ} {output : List ℕ} {error : DecodeError}
     (at : IsAtFault base text read written output error)
@@ -106,16 +67,38 @@ module _ {base : Base} {text : List ℕ} {read written : ℕ} {output : List ℕ
         absurd (false≢true (sym other ∙ kind))
     by false is h = (is, h)
 
-  short : IsShort base at.group error
-  short =
-      short-group base at.width at.group at.next.is_part.some at.next.few error not_ended.1 kind
+  -- its length is not valid, and its fault is after the greatest valid number of its bytes
+  invalid : is_valid_length base (length at.group) ≡ false
+  invalid =
+      false_from_ne_true (is_valid_length base (length at.group))
+      (λ valid. false≢true (sym (kind-valid at valid) ∙ kind))
+
+  few_members : length at.group < size
+  few_members = whole-less base at.width (length at.group) at.next.few invalid
+
+  index_inside : index < length at.group
+  unfolding index
+  index_inside = greatest-less base at.width (length at.group) invalid
+
+  position_is : error.position ≡ position_of at.group index
+  unfolding index
+  position_is =
+      let bytes = bytes_in at.group in
+      let same = length-map at.group (λ (k : Positioned). k.byte) in
+      let here : fault_at LengthFault at.group index ≡ Some error =
+      sym (ap (located at.group) (fault-length base at.width bytes
+      (omega (arith, at.next.is_part.some, same)) (omega (arith, at.next.few, same))
+      (ap (is_valid_length base) same ∙ invalid))
+      ∙ ap (λ n. fault_at LengthFault at.group (greatest_valid_length base n)) same)
+      ∙ not_ended.1 in
+      position-fault LengthFault at.group index error here
 
   -- it is the last one: all that is left
   group_is : kept_from base read text ≡ at.group
   group_is =
       let last : kept_from base at.stop text ≡ [] =
       ⊎_elim {C = kept_from base at.stop text ≡ []}
-      (λ full. absurd (omega (arith, full, short.few))) (λ none. none) at.next.last in
+      (λ full. absurd (omega (arith, full, few_members))) (λ none. none) at.next.last in
       rest_is at
       ∙ ap (λ l. at.group ++ l) last ∙ append-nil at.group
 
@@ -129,8 +112,8 @@ module _ {base : Base} {text : List ℕ} {read written : ℕ} {output : List ℕ
   kept_before =
       kept-cut base read text at.so_far.within index error.position inside.0
       (omega (arith, inside.1, at.next.is_part.within))
-      (subst (λ g. index < length g) (sym group_is) short.inside)
-      (subst (λ g. error.position ≡ position_of g index) (sym group_is) short.position_is)
+      (subst (λ g. index < length g) (sym group_is) index_inside)
+      (subst (λ g. error.position ≡ position_of g index) (sym group_is) position_is)
       ∙ ap (λ g. kept base (take read text) ++ take index g) group_is
 
   few_kept : length at.group ≤ length (drop read text)
@@ -308,15 +291,14 @@ module _ {base : Base} {text : List ℕ} {read written : ℕ} {output : List ℕ
         none_none : (o : Option GroupFault) → o ≡ None → is_some o ≡ true → ⊥
         none_none o h k = false≢true (sym (ap is_some h) ∙ k)
 
-        by : (b : Bool) → is_sound_run base (drop read text) ≡ b
-            → is_sound_run base (drop read text) ≡ false
-        by false is = is
-        by true is =
+        unsound : is_sound_run base (drop read text) ≡ false
+        unsound =
+            false_from_ne_true (is_sound_run base (drop read text)) (λ is.
             let first : group_fault base (take size front) ≡ None =
             sound_run-first base at.width (drop read text) some is in
             let most : len ≤ length (drop read text) =
             greatest-least base at.width (length (drop read text)) in
-            ⊎_elim {C = is_sound_run base (drop read text) ≡ false}
+            ⊎_elim {C = ⊥}
             (λ (long : size < len).
             let whole : group_fault base (take size (drop read text)) ≡ None =
             ap (group_fault base)
@@ -324,14 +306,11 @@ module _ {base : Base} {text : List ℕ} {read written : ℕ} {output : List ℕ
             absurd (omega (
               arith,
               run_few size (omega (arith, long, most)) (omega arith) whole,
-              short.few,
+              few_members,
             )))
             (λ (few : len ≤ size).
             let front_len : length front ≤ size =
             omega (arith, length-take-le len (drop read text) most, few) in
-            absurd (none_none (group_fault base front)
-            (ap (group_fault base) (sym (take_all size front front_len)) ∙ first) (bad few)))
-            (cases_lt size len)
-
-        unsound : is_sound_run base (drop read text) ≡ false
-        unsound = by (is_sound_run base (drop read text)) refl
+            none_none (group_fault base front)
+            (ap (group_fault base) (sym (take_all size front front_len)) ∙ first) (bad few))
+            (cases_lt size len))

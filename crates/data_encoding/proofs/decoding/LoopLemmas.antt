@@ -1,9 +1,8 @@
 -- A decoding under way, and what it says of its text where it ends or stops.
-use Rattle.std.proofs.Common.{◌≡◌, ℕ, ◌≤◌, Bool, true, false, [], List, length, take, drop, Ok, IsOkAnd, None, sym, ap, ◌∙◌, subst, arith}
+use Rattle.std.proofs.Common.{◌≡◌, ℕ, ◌≤◌, Bool, true, false, [], List, length, Ok, None, sym, ap, ◌∙◌, subst, arith}
 use Rattle.data_encoding.specs.declared.error.DecodePartial.{DecodePartial}
-use Rattle.data_encoding.specs.declared.decode.Stop.{Stop}
 use Rattle.data_encoding.specs.Base.{Base, IsWidth, group_bytes, group_symbols}
-use Rattle.data_encoding.specs.Decoding.{IsDecoded, IsStop, HasStopped, fault_of_stop, HasDecodedTo}
+use Rattle.data_encoding.specs.Decoding.{IsDecoded, HasDecodedTo}
 use Rattle.data_encoding.specs.Grammar.{Means, kept_from}
 use Rattle.data_encoding.specs.Lengths.{decoded_len, length_fault, most_bytes}
 use Rattle.data_encoding.specs.Tables.{IsGroup}
@@ -12,7 +11,7 @@ use Rattle.data_encoding.proofs.grammar.LengthLemmas.{decoded_len-counted}
 use Rattle.data_encoding.proofs.grammar.MeaningLemmas.{no_fault-Means}
 use Rattle.data_encoding.proofs.grammar.KeptLemmas.{nothing-left}
 use Rattle.data_encoding.proofs.decoding.ProgressLemmas.{at-end}
-use Rattle.data_encoding.proofs.decoding.StopLemmas.{fault-partial, most-partial}
+use Rattle.data_encoding.proofs.decoding.StopLemmas.{fault-partial}
 
 -- A decoding under way: so much was read and written of a text whose length has no fault, into an
 -- output of just its size, with the sizes of a group as constants.
@@ -62,22 +61,11 @@ module _ {base : Base} {text : List ℕ} {w bytes symbols read written : ℕ} {e
       let all : length text ≡ read = omega (arith, past, s.so_far.within) in
       decoded (subst (λ n. kept_from base n text ≡ []) all (nothing-left base text))
 
--- What a decoding that stopped says of its text.
-pub stopped-stops : (base : Base) (text old : List ℕ) (stop : Stop) → HasStopped base text old stop
-    → (new : List ℕ) (partial : DecodePartial) → length new ≡ length old
-    → take stop.written new ≡ take stop.written old
-    → IsStop base (drop stop.read text) stop.read stop.written (fault_of_stop stop) new partial
-    → StopsAt base text new partial
-stopped-stops base text old stop stopped new partial len =
-    stopped.stops new partial (omega (arith, len, stopped.fits))
-
-module _ (base : Base) (width : IsWidth base.width) (text output : List ℕ)
-    (partial : DecodePartial) (stops : StopsAt base text output partial) where
-  pub stopped-means : (bytes : List ℕ) → Means base text bytes → false ≡ true
-  stopped-means bytes means =
-      let fault = fault-partial base text partial stops.is_partial in
-      let none = no_fault-Means base width text bytes means in
-      cc
-
-  pub stopped-most : IsOkAnd (decoded_len base partial.read) (λ most. partial.written ≤ most)
-  stopped-most = most-partial base width text output partial stops
+-- what a decoding stopped in means nothing
+pub stopped-means : (base : Base) → IsWidth base.width → (text output : List ℕ)
+    (partial : DecodePartial) → StopsAt base text output partial
+    → (bytes : List ℕ) → Means base text bytes → false ≡ true
+stopped-means base width text output partial stops bytes means =
+    let fault = fault-partial base text partial stops.is_partial in
+    let none = no_fault-Means base width text bytes means in
+    cc

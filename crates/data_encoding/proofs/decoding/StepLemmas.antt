@@ -319,25 +319,19 @@ module _ {base : Base} {text : List ℕ} {w bytes symbols read written : ℕ} {o
             length-drop written output,
           )
 
-      run_done : 0 < count
-          → HasDecodedTo base text (read + skip + count * symbols) (written + count * bytes) false
-          (rewritten written output rest)
-      run_done some =
-          let enc = group_bytes base.width in
-          let new = rewritten written output rest in
-          let fits = length-rewritten written output rest s.so_far.fits in
-          rw (s.symbols_is, s.bytes_is)
-          (after-run base s.width text count new s.so_far front some inside here.are_symbols
-          (omega (arith, room, fits))
-          (take-rewritten written output rest s.so_far.fits (count * enc)
-          ∙ ap (λ l. take written output ++ l) here.bytes))
-
       pub after_run : 0 < count
           → IsUnderWay base text w bytes symbols (read + skip + count * symbols)
           (written + count * bytes) false (rewritten written output rest)
       after_run some =
+          let enc = group_bytes base.width in
+          let new = rewritten written output rest in
+          let fits = length-rewritten written output rest s.so_far.fits in
           further s (length-rewritten_same written output rest s.so_far.fits rest_len)
-          (run_done some)
+          (rw (s.symbols_is, s.bytes_is)
+          (after-run base s.width text count new s.so_far front some inside here.are_symbols
+          (omega (arith, room, fits))
+          (take-rewritten written output rest s.so_far.fits (count * enc)
+          ∙ ap (λ l. take written output ++ l) here.bytes)))
 
     -- nothing is left where nothing is behind ignored bytes
     pub decoded-behind : length text ≤ read + skip → IsDecoded base text written output
@@ -386,31 +380,26 @@ module _ {base : Base} {text : List ℕ} {w bytes symbols read written : ℕ} {o
     few : w * count / 8 ≤ length rest
     few = omega (arith, mul-le-mul_left w has.within, room-next_group s is whole, rest_len)
 
-    group_done : HasDecodedTo base text (read + span) (written + w * count / 8)
-        (not base.concatenates && nat_lt count (length group))
+    pub after_group : (stop : ℕ) {final : Bool} → read + span ≡ stop
+        → (not base.concatenates && nat_lt count (length group)) ≡ final
+        → IsUnderWay base text w bytes symbols stop (written + w * count / 8) final
         (rewritten written output rest)
-    group_done =
+    after_group stop {final} place is_final =
         let new = rewritten written output rest in
         let fits = length-rewritten written output rest s.so_far.fits in
         let same = same_bytes s is in
-        let final = ap (λ b. not base.concatenates && b)
-        (ap (λ l. list_any is_padding (map (meaning base) l)) same ∙ has.final) in
-        rw (← final) (after-group base s.width text (w * count / 8) new s.so_far (next s is some)
+        let judged = ap (λ b. not base.concatenates && b)
+        (ap (λ l. list_any is_padding (map (meaning base) l)) same ∙ has.final) ∙ is_final in
+        further s (length-rewritten_same written output rest s.so_far.fits rest_len)
+        (rw (← place, ← judged) (after-group base s.width text (w * count / 8) new s.so_far
+        (next s is some)
         (ap (λ l. located (placed s is) (group_fault base l)) same
         ∙ ap (located (placed s is)) has.sound)
         (omega (arith, few, fits))
         (take-rewritten written output rest s.so_far.fits (w * count / 8)
         ∙ ap (λ l. take written output ++ l)
         (ap (λ n. take (n * count / 8) rest) (sym s.w_is) ∙ has.bytes
-        ∙ ap (λ l. symbol_bytes base (map (meaning base) l)) (sym same))))
-
-    pub after_group : (stop : ℕ) {final : Bool} → read + span ≡ stop
-        → (not base.concatenates && nat_lt count (length group)) ≡ final
-        → IsUnderWay base text w bytes symbols stop (written + w * count / 8) final
-        (rewritten written output rest)
-    after_group stop {final} place same =
-        further s (length-rewritten_same written output rest s.so_far.fits rest_len)
-        (rw (← place, ← same) group_done)
+        ∙ ap (λ l. symbol_bytes base (map (meaning base) l)) (sym same)))))
 
     -- it goes on where texts may follow, or where the group has no padding
     pub group-more : (stop : ℕ) {own : Base} → read + span ≡ stop → own ≡ base

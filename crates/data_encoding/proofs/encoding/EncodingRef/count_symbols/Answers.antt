@@ -1,11 +1,9 @@
 use Rattle.std.proofs.Common.{◌≡◌, ◌<◌, ◌==◌, ◌||◌, true, false, not, length, sym, ap, ◌∙◌, subst, arith}
-use Rattle.std.proofs.lemmas.Nat.{mul-le}
 use Rattle.std.proofs.lemmas.Bool.Decides.{nat_tests}
 use Rattle.data_encoding.specs.Base.{group_symbols, is_padded}
 use Rattle.data_encoding.specs.Decoding.{HasFault}
 use Rattle.data_encoding.specs.Lengths.{is_valid_count}
-use Rattle.data_encoding.proofs.decoding.GroupJudgementLemmas.{group-short, length-invalid, padding-invalid, symbols-all, symbols-before}
-use Rattle.data_encoding.proofs.digits.SizeLemmas.{IsSmall-group}
+use Rattle.data_encoding.proofs.decoding.GroupJudgementLemmas.{few-bits, group-short, length-invalid, padding-invalid, symbols-all, symbols-before}
 use Rattle.data_encoding.proofs.tables.TableLemmas.{HoldsValues-seen, IsWidth-seen}
 use Rattle.data_encoding.proofs.encoding.EncodingRef.count_symbols.Goals as goal
 use Rattle.data_encoding.proofs.encoding.EncodingRef.count_symbols.Goals.{then-count-eq0-via-then-count-eq0, then-count-eq0-via-else-count-eq0+then-width-count}
@@ -85,16 +83,11 @@ returns-clause-symbols g c =
 
 pub overflow_mul-trailing : goal.overflow_mul-trailing
 overflow_mul-trailing g c =
-    let few = (IsSmall-group g.G.GroupSize.is_group).few_symbols in
-    let most = mul-le c.WIDTH-width.result (length c.args.group.now) 6 8
-    (omega (arith, g.G.GroupSize.is_group.is_width.few, c.WIDTH-width.ensures))
-    (omega (arith, few, c.requires.few)) in
-    record { fits = omega (arith, most) }
+    let few = few-bits g.G.GroupSize.is_group c.WIDTH-width.ensures _ c.requires.few in
+    record { fits = omega (arith, few) }
 
 pub overflow_mul-width : goal.overflow_mul-width
 overflow_mul-width g c =
-    let few = (IsSmall-group g.G.GroupSize.is_group).few_symbols in
-    let most = mul-le c.WIDTH-width.result c.before_padding-count.result 6 8
-    (omega (arith, g.G.GroupSize.is_group.is_width.few, c.WIDTH-width.ensures))
-    (omega (arith, few, c.requires.few, c.before_padding-count.ensures.within)) in
-    record { fits = omega (arith, most) }
+    let few = few-bits g.G.GroupSize.is_group c.WIDTH-width.ensures c.before_padding-count.result
+    (omega (arith, c.requires.few, c.before_padding-count.ensures.within)) in
+    record { fits = omega (arith, few) }

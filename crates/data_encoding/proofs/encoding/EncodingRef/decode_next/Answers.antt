@@ -1,10 +1,9 @@
 use Rattle.std.proofs.Common.{ℕ, ◌+◌, ◌∙◌, inl, inr, refl, sym, arith, length-drop}
-use Rattle.std.proofs.lemmas.Nat.{mul-le}
+use Rattle.data_encoding.proofs.decoding.GroupJudgementLemmas.{few-bits}
 use Rattle.data_encoding.proofs.decoding.LoopLemmas.{under_way}
 use Rattle.data_encoding.proofs.decoding.StepLemmas.{after_group, decoded-behind, decoded-none, gathered-next, group-final, group-more, group-stopped, room-next_group, some-group, written-few}
 use Rattle.data_encoding.proofs.decoding.GatherLemmas.{gathered-few}
 use Rattle.data_encoding.proofs.digits.SizeLemmas.{IsGroup-same}
-use Rattle.data_encoding.proofs.digits.WidthLemmas.{group_symbols-few}
 use Rattle.data_encoding.proofs.encoding.EncodingRef.decode_next.Goals as goal
 use Rattle.data_encoding.proofs.encoding.EncodingRef.decode_next.Goals.{else-count-group-via-then-count-group+else-not-self, else-count-group-via-else-count-group}
 
@@ -30,17 +29,9 @@ decode_group-requires-clause-room g c =
 
 pub overflow_mul-stop : goal.overflow_mul-stop
 overflow_mul-stop g c =
-    let eight = group_symbols-few g.G.GroupSize.WIDTH g.G.GroupSize.is_group.is_width in
-    let most = mul-le c.WIDTH.result c.in-Ok.count 6 8
-    (omega (arith, c.WIDTH.ensures, g.G.GroupSize.is_group.is_width.few))
-    (omega (
-      arith,
-      c.next_group-group.ensures.few,
-      eight,
-      c.in-Ok.ensures.sound.within,
-      g.G.GroupSize.is_group.has_symbols,
-    )) in
-    record { fits = omega (arith, most) }
+    let few = few-bits g.G.GroupSize.is_group c.WIDTH.ensures c.in-Ok.count
+    (omega (arith, c.next_group-group.ensures.few, c.in-Ok.ensures.sound.within)) in
+    record { fits = omega (arith, few) }
 
 pub overflow_add-stop-2 : goal.overflow_add-stop-2
 overflow_add-stop-2 g c =
