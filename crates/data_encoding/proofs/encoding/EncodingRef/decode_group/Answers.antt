@@ -1,5 +1,6 @@
-use Rattle.std.proofs.Common.{◌≡◌, ◌*◌, ◌/◌, ◌<◌, ◌≤◌, ◌==◌, ◌&&◌, false, not, length, map, take, drop, refl, sym, ap, ◌∙◌, arith, length-take-le, ⊎_elim}
-use Rattle.std.proofs.lemmas.Bool.{cases_lt, false≢true}
+use Rattle.std.proofs.Common.{◌≡◌, ◌*◌, ◌/◌, ◌<◌, ◌≤◌, ◌==◌, ◌&&◌, false, not, length, map, take, drop, refl, sym, ap, ◌∙◌, arith, length-take-le}
+use Rattle.std.proofs.Math.Nat.{lt_of_not-le}
+use Rattle.std.proofs.lemmas.Bool.{false≢true}
 use Rattle.std.specs.List.{list_any}
 use Rattle.data_encoding.specs.Base.{Base, meaning}
 use Rattle.data_encoding.specs.Fault.{trailing_bits}
@@ -53,12 +54,10 @@ returns-then-not-decode_symbols-clause-fault g c =
     let symbols = take count group in
     let found = c.symbol_position.result in
     let inside : found < length symbols =
-    ⊎_elim
-    (λ (inside : found < length symbols). inside)
+    lt_of_not-le
     (λ (past : length symbols ≤ found).
-    absurd (false≢true (c.if-not-decode_symbols.ensures.symbols.1
-    (λ k below. c.symbol_position.ensures.before k (omega (arith, past, below))))))
-    (cases_lt found (length symbols)) in
+    false≢true (c.if-not-decode_symbols.ensures.symbols.1
+    (λ k below. c.symbol_position.ensures.before k (omega (arith, past, below))))) in
     rw (c.if-ended.false, c.faulty-then-not-decode_symbols.ensures)
     (symbol-fault seen c.self.inside.fields.now.values
     (HoldsValues-seen _ c.self.invariant seen c.self.view_is) group
