@@ -29,12 +29,12 @@ group_sizes =
     → (bytes % group_bytes w ≡ 0 → symbols % group_symbols w ≡ 0)
     × (symbols ≡ group_symbols w → bytes ≡ group_bytes w)
     × (0 < symbols → symbols < group_symbols w → 0 < bytes % group_bytes w))
-    (λ s b r e h. (λ k. omega (arith, e, h, k), λ k. omega (arith, e, h, k), λ k l. omega (arith, e, h, k, l)))
-    (λ s b r e h. (λ k. omega (arith, e, h, k), λ k. omega (arith, e, h, k), λ k l. omega (arith, e, h, k, l)))
-    (λ s b r e h. (λ k. omega (arith, e, h, k), λ k. omega (arith, e, h, k), λ k l. omega (arith, e, h, k, l)))
-    (λ s b r e h. (λ k. omega (arith, e, h, k), λ k. omega (arith, e, h, k), λ k l. omega (arith, e, h, k, l)))
-    (λ s b r e h. (λ k. omega (arith, e, h, k), λ k. omega (arith, e, h, k), λ k l. omega (arith, e, h, k, l)))
-    (λ s b r e h. (λ k. omega (arith, e, h, k), λ k. omega (arith, e, h, k), λ k l. omega (arith, e, h, k, l)))
+    (λ s b r e h. (λ k. omega arith, λ k. omega arith, λ k l. omega arith))
+    (λ s b r e h. (λ k. omega arith, λ k. omega arith, λ k l. omega arith))
+    (λ s b r e h. (λ k. omega arith, λ k. omega arith, λ k l. omega arith))
+    (λ s b r e h. (λ k. omega arith, λ k. omega arith, λ k l. omega arith))
+    (λ s b r e h. (λ k. omega arith, λ k. omega arith, λ k l. omega arith))
+    (λ s b r e h. (λ k. omega arith, λ k. omega arith, λ k l. omega arith))
 
 some_is : (n : ℕ) → 0 < n → not (n == 0) ≡ true
 some_is n h = grind (arith, nat_tests)

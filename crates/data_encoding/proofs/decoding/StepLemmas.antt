@@ -1,5 +1,5 @@
--- A step of a decoding: what a run, a group and the end do to it.
-use Rattle.std.proofs.Common.{◌≡◌, ℕ, ◌+◌, ◌-◌, ◌*◌, ◌/◌, ◌%◌, ◌<◌, ◌≤◌, Bool, true, false, not, nat_lt, ◌&&◌, ◌==◌, ◌⊎◌, List, [], ◌++◌, length, take, drop, Some, refl, sym, ap, ◌∙◌, subst, arith, length-take-le, ⊎_elim, map}
+-- A decoding under way: what a run, a group and the end do to it.
+use Rattle.std.proofs.Common.{◌≡◌, ℕ, ◌+◌, ◌-◌, ◌*◌, ◌/◌, ◌%◌, ◌<◌, ◌≤◌, Bool, true, false, not, nat_lt, ◌&&◌, ◌==◌, ◌⊎◌, List, [], ◌++◌, length, take, drop, Some, None, Ok, refl, sym, ap, ◌∙◌, subst, arith, length-take-le, ⊎_elim, map}
 use Rattle.std.proofs.Math.Nat.{mul-le-mul_left, mul-zero, zero-mod}
 use Rattle.std.proofs.Math.Seq.{take-add}
 use Rattle.std.proofs.lemmas.Bool.{cases_lt, eqb-true}
@@ -17,21 +17,50 @@ use Rattle.data_encoding.specs.Base.{Base, IsWidth, group_bytes, group_symbols, 
 use Rattle.data_encoding.specs.Decoding.{HasFault, HasNoLastRun, HasRoom, IsDecoded, IsDecodedGroup, IsGathered, IsLastRun, IsRun, IsStop, HasStopped, IsIgnoredFront, valid_front, HasDecodedTo}
 use Rattle.data_encoding.specs.Fault.{group_fault, located, position_of, symbol_bytes}
 use Rattle.data_encoding.specs.Grammar.{Positioned, bytes_in, kept, kept_from}
-use Rattle.data_encoding.specs.Lengths.{greatest_valid_length}
+use Rattle.data_encoding.specs.Lengths.{decoded_len, greatest_valid_length, length_fault, most_bytes}
+use Rattle.data_encoding.specs.Tables.{IsGroup}
 use Rattle.data_encoding.specs.Partial.{StopsAt, is_length_fault}
 use Rattle.data_encoding.proofs.digits.WidthLemmas.{group_bits}
-use Rattle.data_encoding.proofs.grammar.LengthLemmas.{is_valid_length-by}
+use Rattle.data_encoding.proofs.grammar.LengthLemmas.{decoded_len-counted, is_valid_length-by}
 use Rattle.data_encoding.proofs.grammar.GroupLemmas.{GroupMeans-sound}
 use Rattle.data_encoding.proofs.lists.WriteLemmas.{length-rewritten, length-rewritten_same, rewritten, take-rewritten}
 use Rattle.data_encoding.proofs.decoding.GatherLemmas.{bytes-next, gathered-few, gathered-some, is-next, next_bytes, none-next, position-next}
 use Rattle.data_encoding.proofs.decoding.GreatestLengthLemmas.{greatest-least, greatest-valid}
 use Rattle.data_encoding.proofs.decoding.LastRunLemmas.{last-none, last-sound, last-unsound}
 use Rattle.data_encoding.proofs.decoding.RoomLemmas.{multiples}
-use Rattle.data_encoding.proofs.decoding.ProgressLemmas.{IsNext, after-group, after-run, room-group, room-run, same-output}
+use Rattle.data_encoding.proofs.decoding.ProgressLemmas.{IsNext, after-group, after-run, at-end, room-group, room-run, same-output}
 use Rattle.data_encoding.proofs.decoding.StopLemmas.{IsAtFault, at-fault_front}
 use Rattle.data_encoding.proofs.grammar.KeptLemmas.{nothing-left}
 use Rattle.data_encoding.proofs.decoding.IgnoredFrontLemmas.{gathered-behind, nothing-behind}
-use Rattle.data_encoding.proofs.decoding.LoopLemmas.{IsUnderWay, decoded}
+
+-- A decoding under way: so much was read and written of a text whose length has no fault, into an
+-- output of just its size, with the sizes of a group as constants.
+pub record IsUnderWay (base : Base) (text : List ℕ) (w bytes symbols read written : ℕ)
+    (ended : Bool) (output : List ℕ) : Type 0 where
+  pub width : IsWidth base.width
+  pub symbols_is : symbols ≡ group_symbols base.width
+  pub bytes_is : bytes ≡ group_bytes base.width
+  pub w_is : base.width ≡ w
+  pub no_fault : length_fault base (length text) ≡ None
+  pub size_is : most_bytes base (length text) ≡ length output
+  pub so_far : HasDecodedTo base text read written ended output
+
+pub under_way : {base : Base} {text : List ℕ} {w bytes symbols read written : ℕ} {ended : Bool}
+    {output : List ℕ} → IsGroup w bytes symbols → base.width ≡ w
+    → decoded_len base (length text) ≡ Ok (length output)
+    → HasDecodedTo base text read written ended output
+    → IsUnderWay base text w bytes symbols read written ended output
+under_way {base} {text} {output} g w_is exact so_far =
+    let counted = decoded_len-counted base (length text) (length output) exact in
+    record {
+      width = subst IsWidth (sym w_is) g.is_width;
+      symbols_is = g.has_symbols ∙ ap group_symbols (sym w_is);
+      bytes_is = g.has_bytes ∙ ap group_bytes (sym w_is);
+      w_is = w_is;
+      no_fault = counted.0;
+      size_is = counted.1;
+      so_far = so_far;
+    }
 
 -- the front of valid length has that length
 length-front : (base : Base) → IsWidth base.width → (rest : List ℕ)
@@ -46,14 +75,44 @@ same-partial : (partial : DecodePartial) (read written : ℕ) (error : DecodeErr
 same-partial partial read written error h k l =
     λ i. record { read = sym h i; written = sym k i; error = sym l i }
 
--- no group is final where all its bytes are symbols
-no_padding : (b : Bool) (count len : ℕ) → len ≤ count → (not b && nat_lt count len) ≡ false
-no_padding b count len h =
-    let all : nat_lt count len ≡ false = grind (arith, nat_tests) in
-    ap (λ v. not b && v) all ∙ and-false (not b)
+-- no group is final where texts may follow, or where all its bytes are symbols
+pub final-not : {own base : Base} (count len : ℕ) → own ≡ base
+    → (own.concatenates ≡ true) ⊎ (len ≤ count)
+    → (not base.concatenates && nat_lt count len) ≡ false
+final-not {base} count len same =
+    ⊎_elim
+    (λ joins. ap (λ v. not v && nat_lt count len)
+    (ap (λ (b : Base). b.concatenates) (sym same) ∙ joins))
+    (λ few.
+    let all : nat_lt count len ≡ false = grind (arith, nat_tests, few) in
+    ap (λ v. not base.concatenates && v) all ∙ and-false (not base.concatenates))
+
+-- and otherwise it is
+pub final-is : {own base : Base} (count len : ℕ) → own ≡ base → own.concatenates ≡ false
+    → count < len → (not base.concatenates && nat_lt count len) ≡ true
+final-is count len same apart padded =
+    let short : nat_lt count len ≡ true = grind (arith, nat_tests, padded) in
+    λ i. not ((ap (λ (b : Base). b.concatenates) (sym same) ∙ apart) i) && short i
 
 module _ {base : Base} {text : List ℕ} {w bytes symbols read written : ℕ} {ended : Bool}
     {output : List ℕ} (s : IsUnderWay base text w bytes symbols read written ended output) where
+  -- where nothing is left, the text means what was written
+  pub decoded : kept_from base read text ≡ [] → IsDecoded base text written output
+  decoded none =
+      let found = at-end base s.width text s.so_far s.no_fault none in
+      record {
+        fits = s.so_far.fits;
+        no_fault = found.0;
+        bytes_are = found.1;
+        means = found.2;
+      }
+
+  -- as where no byte is left
+  pub decoded-all : length text ≤ read → IsDecoded base text written output
+  decoded-all past =
+      let all : length text ≡ read = omega (arith, past, s.so_far.within) in
+      decoded (subst (λ n. kept_from base n text ≡ []) all (nothing-left base text))
+
   pub written-few : written ≤ length text
   written-few = omega (arith, s.so_far.fits, s.size_is, most_bytes-few base s.width (length text))
 
@@ -140,7 +199,7 @@ module _ {base : Base} {text : List ℕ} {w bytes symbols read written : ℕ} {e
       -- a text that ends there means what was written
       pub decoded-empty : {empty : Bool} → empty ≡ (length group == 0) → empty ≡ true
           → IsDecoded base text written output
-      decoded-empty empty_is empty = decoded s (none-left read s.so_far.within is empty_is empty)
+      decoded-empty empty_is empty = decoded (none-left read s.so_far.within is empty_is empty)
 
       found_here : IsGathered base (group_symbols base.width) (drop read text) group span
       found_here = rw (s.symbols_is, take_rest text read) at is
@@ -400,28 +459,6 @@ module _ {base : Base} {text : List ℕ} {w bytes symbols read written : ℕ} {o
         ∙ ap (λ l. take written output ++ l)
         (ap (λ n. take (n * count / 8) rest) (sym s.w_is) ∙ has.bytes
         ∙ ap (λ l. symbol_bytes base (map (meaning base) l)) (sym same)))))
-
-    -- it goes on where texts may follow, or where the group has no padding
-    pub group-more : (stop : ℕ) {own : Base} → read + span ≡ stop → own ≡ base
-        → (own.concatenates ≡ true) ⊎ (length group ≤ count)
-        → IsUnderWay base text w bytes symbols stop (written + w * count / 8) false
-        (rewritten written output rest)
-    group-more stop place same how =
-        after_group stop place
-        (⊎_elim
-        (λ joins. ap (λ v. not v && nat_lt count (length group))
-        (ap (λ (b : Base). b.concatenates) (sym same) ∙ joins))
-        (no_padding base.concatenates count (length group)) how)
-
-    -- and otherwise the group is final
-    pub group-final : (stop : ℕ) {own : Base} → read + span ≡ stop → own ≡ base
-        → own.concatenates ≡ false → count < length group
-        → IsUnderWay base text w bytes symbols stop (written + w * count / 8) true
-        (rewritten written output rest)
-    group-final stop place same apart padded =
-        let short : nat_lt count (length group) ≡ true = grind (arith, nat_tests, padded) in
-        after_group stop place
-        (λ i. not ((ap (λ (b : Base). b.concatenates) (sym same) ∙ apart) i) && short i)
 
 -- what is found is a group where it is not empty
 pub some-group : {base : Base} {size : ℕ} {part group : List ℕ} {span : ℕ} {empty : Bool}

@@ -1,8 +1,8 @@
 use Rattle.std.proofs.Common.{arith}
 use Rattle.data_encoding.specs.Decoding.{HasStopped}
 use Rattle.data_encoding.specs.Partial.{StopsAt}
-use Rattle.data_encoding.proofs.decoding.LoopLemmas.{stopped-means}
-use Rattle.data_encoding.proofs.decoding.StopLemmas.{most-partial}
+use Rattle.data_encoding.proofs.decoding.StopLemmas.{fault-partial, most-partial}
+use Rattle.data_encoding.proofs.grammar.MeaningLemmas.{no_fault-Means}
 use Rattle.data_encoding.proofs.encoding.EncodingRef.decode_mut.Goals as goal
 use Rattle.data_encoding.proofs.encoding.EncodingRef.decode_mut.Goals.{After-stopped}
 
@@ -16,9 +16,12 @@ stops c =
     (omega (arith, c.stopped.auto.output, ended.fits)) c.stopped.ensures.kept c.stopped.ensures.stop
 
 pub returns-clause-accepted : goal.returns-clause-accepted
-returns-clause-accepted c =
-    stopped-means c.args.self.now c.decode_in_order.ensures.width c.args.input.now
-    c.stopped.new.output c.stopped.result (stops (goal.at.returns-clause-accepted c).After-stopped)
+returns-clause-accepted c bytes means =
+    let fault = fault-partial c.args.self.now c.args.input.now c.stopped.result
+    (stops (goal.at.returns-clause-accepted c).After-stopped).is_partial in
+    let none = no_fault-Means c.args.self.now c.decode_in_order.ensures.width c.args.input.now bytes
+    means in
+    cc
 
 pub returns-clause-fault : goal.returns-clause-fault
 returns-clause-fault c = (stops (goal.at.returns-clause-fault c).After-stopped).is_partial
