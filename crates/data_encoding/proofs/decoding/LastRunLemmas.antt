@@ -7,7 +7,6 @@ use Rattle.std.specs.Prelude.{flat_map}
 use Rattle.data_encoding.proofs.decoding.GroupJudgementLemmas.{fault-length}
 use Rattle.data_encoding.specs.declared.decode.group.GroupFault.{GroupFault}
 use Rattle.data_encoding.specs.declared.error.DecodeError.{DecodeError}
-use Rattle.data_encoding.specs.declared.error.DecodeKind.{DecodeKind}
 use Rattle.data_encoding.specs.declared.error.DecodeKind.TheVariants.{Length as LengthFault, Padding as PaddingFault}
 use Rattle.data_encoding.specs.Base.{Base, meaning, is_ignored, group_symbols}
 use Rattle.data_encoding.specs.Bits.{runs}
@@ -35,12 +34,6 @@ last_len base read text = greatest_valid_length base (length (drop read text))
 
 abbrev last_run : Base → ℕ → List ℕ → List ℕ
 last_run base read text = take (last_len base read text) (drop read text)
-
-position-fault : (kind : DecodeKind) (group : List Positioned) (index : ℕ) (error : DecodeError)
-    → fault_at kind group index ≡ Some error → error.position ≡ position_of group index
-position-fault kind group index error h =
-    let first : DecodeError = record { position = position_of group index; kind = kind } in
-    let same : first ≡ error = cc in sym (ap (λ (x : DecodeError). x.position) same)
 
 module _ {base : Base} {text : List ℕ} {read written : ℕ} {output : List ℕ} {error : DecodeError}
     (at : IsAtFault base text read written output error)
@@ -91,7 +84,10 @@ module _ {base : Base} {text : List ℕ} {read written : ℕ} {output : List ℕ
       (ap (is_valid_length base) same ∙ invalid))
       ∙ ap (λ n. fault_at LengthFault at.group (greatest_valid_length base n)) same)
       ∙ not_ended.1 in
-      position-fault LengthFault at.group index error here
+      let first : DecodeError =
+      record { position = position_of at.group index; kind = LengthFault } in
+      let found : first ≡ error = cc in
+      sym (ap (λ (x : DecodeError). x.position) found)
 
   -- it is the last one: all that is left
   group_is : kept_from base read text ≡ at.group

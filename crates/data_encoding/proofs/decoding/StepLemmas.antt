@@ -62,13 +62,6 @@ under_way {base} {text} {output} g w_is exact so_far =
       so_far = so_far;
     }
 
--- the front of valid length has that length
-length-front : (base : Base) → IsWidth base.width → (rest : List ℕ)
-    → length (valid_front base rest) ≡ greatest_valid_length base (length rest)
-length-front base width rest =
-    length-take-le (greatest_valid_length base (length rest)) rest
-    (greatest-least base width (length rest))
-
 same-partial : (partial : DecodePartial) (read written : ℕ) (error : DecodeError)
     → partial.read ≡ read → partial.written ≡ written → partial.error ≡ error
     → record { read = read; written = written; error = error } ≡ partial
@@ -168,19 +161,25 @@ module _ {base : Base} {text : List ℕ} {w bytes symbols read written : ℕ} {e
     by false unpadded =
         omega (arith, room-group base s.width text s.so_far count unpadded few)
 
-  -- so has the greatest front of valid length, where it is one group
+  -- the greatest front of valid length has that length
+  front_len : length (valid_front base (drop read text))
+      ≡ greatest_valid_length base (length (drop read text))
+  front_len =
+      length-take-le (greatest_valid_length base (length (drop read text))) (drop read text)
+      (greatest-least base s.width (length (drop read text)))
+
+  -- it has room, where it is one group
   room-last : HasRoom base (drop read text) (length output - written)
   room-last few =
       let rest = drop read text in
       let front = valid_front base rest in
-      let len = length-front base s.width rest in
       ⊎_elim
       (λ (some : 0 < length front).
       room-group_of (length front)
-      (omega (arith, len, greatest-least base s.width (length rest), length-drop read text))
+      (omega (arith, front_len, greatest-least base s.width (length rest), length-drop read text))
       (λ padded.
       let exact : length front % group_symbols base.width ≡ 0 =
-      ap (λ n. n % group_symbols base.width) len
+      ap (λ n. n % group_symbols base.width) front_len
       ∙ eqb-true (greatest_valid_length base (length rest) % group_symbols base.width) 0
       (sym (is_valid_length-by base (greatest_valid_length base (length rest)) true padded)
       ∙ greatest-valid base s.width (length rest)) in
@@ -252,10 +251,6 @@ module _ {base : Base} {text : List ℕ} {w bytes symbols read written : ℕ} {e
               (position-next base s.width text read s.so_far.within found_here fault.index
               has.inside);
         }
-
-        front_len : length (valid_front base (drop read text))
-            ≡ greatest_valid_length base (length (drop read text))
-        front_len = length-front base s.width (drop read text)
 
         -- where no last run is found
         stops-here : (new : List ℕ) → written ≤ length new
