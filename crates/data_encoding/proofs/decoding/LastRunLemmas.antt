@@ -28,26 +28,20 @@ use Rattle.data_encoding.proofs.decoding.IgnoringLemmas.{group-kept}
 use Rattle.data_encoding.proofs.decoding.CutLemmas.{kept-cut}
 use Rattle.data_encoding.proofs.decoding.SoundRunLemmas.{sound_run-none, sound_run-group, sound_run-first}
 
--- the greatest valid length of what is left of a text, and the bytes at its front
-abbrev last_len : Base → ℕ → List ℕ → ℕ
-last_len base read text = greatest_valid_length base (length (drop read text))
-
-abbrev last_run : Base → ℕ → List ℕ → List ℕ
-last_run base read text = take (last_len base read text) (drop read text)
-
 module _ {base : Base} {text : List ℕ} {read written : ℕ} {output : List ℕ} {error : DecodeError}
     (at : IsAtFault base text read written output error)
     (kind : is_length_fault error.kind ≡ true) where
   abbrev size : ℕ
   size = group_symbols base.width
 
+  -- the greatest valid length of what is left, and the bytes at its front
   abbrev len : ℕ
-  len = last_len base read text
+  len = greatest_valid_length base (length (drop read text))
 
   abbrev front : List ℕ
-  front = last_run base read text
+  front = take len (drop read text)
 
-  index : ℕ
+  abbrev index : ℕ
   index = greatest_valid_length base (length at.group)
 
   not_ended : (at.ended ≡ false) × (fault_after false base at.group ≡ Some error)
@@ -70,11 +64,9 @@ module _ {base : Base} {text : List ℕ} {read written : ℕ} {output : List ℕ
   few_members = whole-less base at.width (length at.group) at.next.few invalid
 
   index_inside : index < length at.group
-  unfolding index
   index_inside = greatest-less base at.width (length at.group) invalid
 
   position_is : error.position ≡ position_of at.group index
-  unfolding index
   position_is =
       let bytes = bytes_in at.group in
       let same = length-map at.group (λ (k : Positioned). k.byte) in
@@ -98,16 +90,12 @@ module _ {base : Base} {text : List ℕ} {read written : ℕ} {output : List ℕ
       rest_is at
       ∙ ap (λ l. at.group ++ l) last ∙ append-nil at.group
 
-  inside : (read ≤ error.position) × (error.position < at.stop)
-  inside = bounds at
-
   -- before its fault stand that many of its bytes
   kept_before : kept base (take error.position text)
       ≡ kept base (take read text) ++ take index at.group
-  unfolding index
   kept_before =
-      kept-cut base read text at.so_far.within index error.position inside.0
-      (omega (arith, inside.1, at.next.is_part.within))
+      kept-cut base read text at.so_far.within index error.position (bounds at).0
+      (omega (arith, (bounds at).1, at.next.is_part.within))
       (subst (λ g. index < length g) (sym group_is) index_inside)
       (subst (λ g. error.position ≡ position_of g index) (sym group_is) position_is)
       ∙ ap (λ g. kept base (take read text) ++ take index g) group_is
@@ -123,7 +111,6 @@ module _ {base : Base} {text : List ℕ} {read written : ℕ} {output : List ℕ
       )
 
   index_most : index ≤ len
-  unfolding index
   index_most = greatest-more base at.width (length at.group) (length (drop read text)) few_kept
 
   no_length : (part : List ℕ) → length_fault base (length part) ≡ None
@@ -206,23 +193,20 @@ module _ {base : Base} {text : List ℕ} {read written : ℕ} {output : List ℕ
   -- and a run without a fault is read and written too
   module _ (some : 0 < len) (few : len ≤ size)
       (sound : group_fault base front ≡ None) where
-    run : List Positioned
+    abbrev run : List Positioned
     run = positioned_from read front
 
     run_len : length run ≡ len
-    unfolding run
     run_len =
         length-positioned_from read front
         ∙ length-take-le len (drop read text)
         (greatest-least base at.width (length (drop read text)))
 
     bytes_same : bytes_in run ≡ front
-    unfolding run
     bytes_same = bytes-positioned_from read front
 
     -- they are those before the fault
     run_is : take index at.group ≡ run
-    unfolding run index
     run_is =
         let most : len ≤ length (drop read text) =
         greatest-least base at.width (length (drop read text)) in
@@ -282,7 +266,7 @@ module _ {base : Base} {text : List ℕ} {read written : ℕ} {output : List ℕ
       → (new : List ℕ) → written ≤ length new → take written new ≡ take written output
       → StopsAt base text new (record { read = read; written = written; error = error })
   last-unsound some bad new fits same =
-      stops at new read written (read_by false unsound) inside.0 (front_sound read refl) fits
+      stops at new read written (read_by false unsound) (bounds at).0 (front_sound read refl) fits
       (front_bytes read refl ∙ sym same) where
         none_none : (o : Option GroupFault) → o ≡ None → is_some o ≡ true → ⊥
         none_none o h k = false≢true (sym (ap is_some h) ∙ k)
