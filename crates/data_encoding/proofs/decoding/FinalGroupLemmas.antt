@@ -16,8 +16,8 @@ use Rattle.data_encoding.proofs.grammar.UnpaddedGrammarLemmas.{unpadded-Means}
 use Rattle.data_encoding.proofs.grammar.UnpaddedGroupLemmas.{PlainMeans-count}
 use Rattle.data_encoding.proofs.judgement.RuleLemmas.{IsRuled}
 
--- Symbols and their bytes, with fewer bits left than a symbol has: if the bytes are whole groups, so
--- are the symbols; a group of symbols is one of bytes, and fewer symbols are not.
+-- Symbols and their bytes, with fewer bits left than a symbol has: if the bytes are whole groups,
+-- so are the symbols; a group of symbols is one of bytes, and fewer symbols are not.
 group_sizes : (width : ℕ) → IsWidth width → (symbols bytes rest : ℕ)
     → width * symbols ≡ 8 * bytes + rest → rest < width
     → (bytes % group_bytes width ≡ 0 → symbols % group_symbols width ≡ 0)

@@ -1,11 +1,10 @@
 -- Where a decoding stops at a last group that is too short.
-use Rattle.std.proofs.Common.{◌≡◌, ℕ, ◌+◌, ◌-◌, ◌<◌, ◌≤◌, Bool, true, false, not, cond, List, [], ◌∷◌, ◌++◌, length, take, drop, Option, Some, None, is_some, refl, sym, ap, ◌∙◌, subst, arith, length-append, length-take-le, ⊎_elim, map}
+use Rattle.std.proofs.Common.{◌≡◌, ℕ, ◌+◌, ◌-◌, ◌<◌, ◌≤◌, Bool, true, false, not, cond, List, [], ◌∷◌, ◌++◌, length, take, drop, Some, None, is_some, refl, sym, ap, ◌∙◌, subst, arith, length-append, length-take-le, ⊎_elim, map}
 use Rattle.std.proofs.lemmas.Bool.{cases_lt, false_from_ne_true, false≢true}
 use Rattle.std.proofs.lemmas.List.{append-nil, length-drop, take-take, take_all, take_at, length-map}
 use Rattle.std.proofs.lemmas.List.Concat.{flat_map-append}
 use Rattle.std.specs.Prelude.{flat_map}
 use Rattle.data_encoding.proofs.decoding.GroupJudgementLemmas.{fault-length}
-use Rattle.data_encoding.specs.declared.decode.group.GroupFault.{GroupFault}
 use Rattle.data_encoding.specs.declared.error.DecodeError.{DecodeError}
 use Rattle.data_encoding.specs.declared.error.DecodeKind.TheVariants.{Length as LengthFault, Padding as PaddingFault}
 use Rattle.data_encoding.specs.Base.{Base, meaning, is_ignored, group_symbols}
@@ -116,8 +115,7 @@ module _ {base : Base} {text : List ℕ} {read written : ℕ} {output : List ℕ
   no_length : (part : List ℕ) → length_fault base (length part) ≡ None
   no_length part =
       length_fault-none base (length part)
-      (λ none.
-      absurd (false≢true (sym (kind-next at none) ∙ kind)))
+      (λ none. absurd (false≢true (sym (kind-next at none) ∙ kind)))
 
   -- bytes without a fault at the front of what is left are bytes of the group
   run_kept : (count : ℕ) → count ≤ length (drop read text) → count ≤ size
@@ -268,9 +266,6 @@ module _ {base : Base} {text : List ℕ} {read written : ℕ} {output : List ℕ
   last-unsound some bad new fits same =
       stops at new read written (read_by false unsound) (bounds at).0 (front_sound read refl) fits
       (front_bytes read refl ∙ sym same) where
-        none_none : (o : Option GroupFault) → o ≡ None → is_some o ≡ true → ⊥
-        none_none o h k = false≢true (sym (ap is_some h) ∙ k)
-
         unsound : is_sound_run base (drop read text) ≡ false
         unsound =
             false_from_ne_true (is_sound_run base (drop read text)) (λ is.
@@ -291,6 +286,7 @@ module _ {base : Base} {text : List ℕ} {read written : ℕ} {output : List ℕ
             (λ (few : len ≤ size).
             let front_len : length front ≤ size =
             omega (arith, length-take-le len (drop read text) most, few) in
-            none_none (group_fault base front)
-            (ap (group_fault base) (sym (take_all size front front_len)) ∙ first) (bad few))
+            let none : group_fault base front ≡ None =
+            ap (group_fault base) (sym (take_all size front front_len)) ∙ first in
+            false≢true (sym (ap is_some none) ∙ bad few))
             (cases_lt size len))

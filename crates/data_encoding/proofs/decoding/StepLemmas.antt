@@ -262,9 +262,8 @@ module _ {base : Base} {text : List ℕ} {w bytes symbols read written : ℕ} {e
               → StopsAt base text new (record { read = read; written = written; error = error })
           by false is = at-fault_front at is new fits same
           by true is =
-              let no_run = none is in
-              last-unsound at is (omega (arith, front_len, no_run.0))
-              (λ few. no_run.1 (omega (arith, front_len, few))) new fits same
+              last-unsound at is (omega (arith, front_len, (none is).0))
+              (λ few. (none is).1 (omega (arith, front_len, few))) new fits same
 
         -- and where one is
         stops-after : (new : List ℕ) → take written new ≡ take written output

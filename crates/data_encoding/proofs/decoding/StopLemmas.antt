@@ -101,11 +101,10 @@ module _ {base : Base} {text : List ℕ} {read written : ℕ} {output : List ℕ
       at.next.is_part.within
       ∙ ap (λ l. l ++ kept_from base at.stop text) (sym at.next.is_part.is_kept)
 
-  others : List (List Positioned)
+  abbrev others : List (List Positioned)
   others = runs size (kept_from base at.stop text)
 
   groups_left : runs size (at.group ++ kept_from base at.stop text) ≡ at.group ∷ others
-  unfolding others
   groups_left =
       ⊎_elim {C = runs size (at.group ++ kept_from base at.stop text) ≡ at.group ∷ others}
       (λ len. runs-append size at.group (kept_from base at.stop text) pos len)
