@@ -13,7 +13,6 @@ pub mod GreatestLengthLemmas
 pub mod CutLemmas
 pub mod SoundRunLemmas
 pub mod LastRunLemmas
-pub mod LoopLemmas
 pub mod StepLemmas
 pub mod ReadLemmas
 pub mod ResumeLemmas

@@ -16,40 +16,25 @@ use Rattle.data_encoding.proofs.grammar.UnpaddedGrammarLemmas.{unpadded-Means}
 use Rattle.data_encoding.proofs.grammar.UnpaddedGroupLemmas.{PlainMeans-count}
 use Rattle.data_encoding.proofs.judgement.RuleLemmas.{IsRuled}
 
--- symbols of whole groups of bytes, and fewer bits than a symbol's, are whole groups
-symbols_whole : (width : ℕ) → IsWidth width → (symbols bytes rest : ℕ)
-    → width * symbols ≡ 8 * bytes + rest → rest < width → bytes % group_bytes width ≡ 0
-    → symbols % group_symbols width ≡ 0
-symbols_whole =
+-- Symbols and their bytes, with fewer bits left than a symbol has: if the bytes are whole groups,
+-- so are the symbols; a group of symbols is one of bytes, and fewer symbols are not.
+group_sizes : (width : ℕ) → IsWidth width → (symbols bytes rest : ℕ)
+    → width * symbols ≡ 8 * bytes + rest → rest < width
+    → (bytes % group_bytes width ≡ 0 → symbols % group_symbols width ≡ 0)
+    × (symbols ≡ group_symbols width → bytes ≡ group_bytes width)
+    × (0 < symbols → symbols < group_symbols width → 0 < bytes % group_bytes width)
+group_sizes =
     by_width
     (λ w. (symbols bytes rest : ℕ) → w * symbols ≡ 8 * bytes + rest → rest < w
-    → bytes % group_bytes w ≡ 0 → symbols % group_symbols w ≡ 0)
-    (λ s b r e h k. omega (arith, e, h, k)) (λ s b r e h k. omega (arith, e, h, k))
-    (λ s b r e h k. omega (arith, e, h, k)) (λ s b r e h k. omega (arith, e, h, k))
-    (λ s b r e h k. omega (arith, e, h, k)) (λ s b r e h k. omega (arith, e, h, k))
-
--- a group of symbols alone is a whole group of bytes
-bytes_full : (width : ℕ) → IsWidth width → (bytes rest : ℕ)
-    → width * group_symbols width ≡ 8 * bytes + rest → rest < width → bytes ≡ group_bytes width
-bytes_full =
-    by_width
-    (λ w. (bytes rest : ℕ) → w * group_symbols w ≡ 8 * bytes + rest → rest < w
-    → bytes ≡ group_bytes w)
-    (λ b r e h. omega (arith, e, h)) (λ b r e h. omega (arith, e, h))
-    (λ b r e h. omega (arith, e, h)) (λ b r e h. omega (arith, e, h))
-    (λ b r e h. omega (arith, e, h)) (λ b r e h. omega (arith, e, h))
-
--- and one with fewer symbols is not
-bytes_part : (width : ℕ) → IsWidth width → (symbols bytes rest : ℕ) → 0 < symbols
-    → symbols < group_symbols width → width * symbols ≡ 8 * bytes + rest → rest < width
-    → 0 < bytes % group_bytes width
-bytes_part =
-    by_width
-    (λ w. (symbols bytes rest : ℕ) → 0 < symbols → symbols < group_symbols w
-    → w * symbols ≡ 8 * bytes + rest → rest < w → 0 < bytes % group_bytes w)
-    (λ s b r a z e h. omega (arith, a, z, e, h)) (λ s b r a z e h. omega (arith, a, z, e, h))
-    (λ s b r a z e h. omega (arith, a, z, e, h)) (λ s b r a z e h. omega (arith, a, z, e, h))
-    (λ s b r a z e h. omega (arith, a, z, e, h)) (λ s b r a z e h. omega (arith, a, z, e, h))
+    → (bytes % group_bytes w ≡ 0 → symbols % group_symbols w ≡ 0)
+    × (symbols ≡ group_symbols w → bytes ≡ group_bytes w)
+    × (0 < symbols → symbols < group_symbols w → 0 < bytes % group_bytes w))
+    (λ s b r e h. (λ k. omega arith, λ k. omega arith, λ k l. omega arith))
+    (λ s b r e h. (λ k. omega arith, λ k. omega arith, λ k l. omega arith))
+    (λ s b r e h. (λ k. omega arith, λ k. omega arith, λ k l. omega arith))
+    (λ s b r e h. (λ k. omega arith, λ k. omega arith, λ k l. omega arith))
+    (λ s b r e h. (λ k. omega arith, λ k. omega arith, λ k l. omega arith))
+    (λ s b r e h. (λ k. omega arith, λ k. omega arith, λ k l. omega arith))
 
 some_is : (n : ℕ) → 0 < n → not (n == 0) ≡ true
 some_is n h = grind (arith, nat_tests)
@@ -67,10 +52,9 @@ module _ (base : Base) where
         let no_padding : means.padding ≡ 0 = grind (arith, nat_tests) in
         let all : length means.symbols ≡ group_symbols base.width =
         omega (arith, GroupMeans-length base group bytes means padded, no_padding) in
-        bytes_full base.width width (length bytes) (length means.means.rest)
-        (ap (λ n. base.width * n) (sym all)
-        ∙ PlainMeans-count base width means.symbols bytes means.means)
-        means.means.rest_is_short
+        (group_sizes base.width width (length means.symbols) (length bytes)
+        (length means.means.rest) (PlainMeans-count base width means.symbols bytes means.means)
+        means.means.rest_is_short).1 all
 
     group_part : (group : List Character) (bytes : List ℕ) → GroupMeans base group bytes
         → list_any is_padding group ≡ true → 0 < length bytes % size
@@ -80,9 +64,9 @@ module _ (base : Base) where
         let behind : 0 < means.padding = grind (arith, nat_tests) in
         let few : length means.symbols < group_symbols base.width =
         omega (arith, GroupMeans-length base group bytes means padded, behind) in
-        bytes_part base.width width (length means.symbols) (length bytes)
-        (length means.means.rest) means.is_begun few
-        (PlainMeans-count base width means.symbols bytes means.means) means.means.rest_is_short
+        (group_sizes base.width width (length means.symbols) (length bytes)
+        (length means.means.rest) (PlainMeans-count base width means.symbols bytes means.means)
+        means.means.rest_is_short).2 means.is_begun few
 
     -- Where texts may not be concatenated, padding is in the last group alone.
     module _ (apart : base.concatenates ≡ false) where
@@ -142,7 +126,7 @@ module _ (base : Base) (ruled : IsRuled base) (text bytes : List ℕ) where
         let plain =
         (unpadded-Means base ruled.is_width (ap is_some is) text bytes).0 means in
         ap (λ n. n % group_symbols base.width) (sym (length-meanings base (kept base text)))
-        ∙ symbols_whole base.width ruled.is_width (length meant) (length bytes) (length plain.rest)
-        (PlainMeans-count base ruled.is_width meant bytes plain) plain.rest_is_short exact
+        ∙ (group_sizes base.width ruled.is_width (length meant) (length bytes) (length plain.rest)
+        (PlainMeans-count base ruled.is_width meant bytes plain) plain.rest_is_short).0 exact
     by (Some character) is =
         whole-padded base ruled text [] bytes [] (ap is_some is) means

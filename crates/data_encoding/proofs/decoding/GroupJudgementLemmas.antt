@@ -1,7 +1,8 @@
 -- What a judgement of a group finds: its symbols, or its fault, or its bytes.
 use Rattle.std.proofs.Common.{◌≡◌, ℕ, zero, suc, ◌-◌, ◌*◌, ◌/◌, ◌%◌, ◌<◌, ◌≤◌, ◌==◌, ◌≢◌, nat_lt, Bool, true, false, not, cond, ◌&&◌, ◌||◌, List, [], ◌∷◌, ◌++◌, length, map, take, drop, replicate, slice_index, Option, None, Some, is_some, refl, sym, ap, ◌∙◌, subst, arith, length-take-le, take-append-drop}
 use Rattle.std.proofs.lemmas.Bool.Decides.{nat_tests}
-use Rattle.std.proofs.Math.Nat.{le-div_iff_mul-le, div-eq_of_lt, zero-mul}
+use Rattle.std.proofs.Math.Nat.{le-div_iff_mul-le, div-eq_of_lt, mul-le-mul_left, zero-mul}
+use Rattle.std.proofs.lemmas.Nat.{mul-le}
 use Rattle.std.proofs.lemmas.List.{take_all, drop_all, length-drop, length-map, take-map, take_at}
 use Rattle.std.proofs.lemmas.List.Folds.{list_any-append}
 use Rattle.std.specs.List.{filter_map, list_any, position}
@@ -13,10 +14,11 @@ use Rattle.data_encoding.specs.declared.error.DecodeError.{DecodeError}
 use Rattle.data_encoding.specs.declared.error.DecodeKind.TheVariants.{Length as LengthFault, Symbol as SymbolFault, Trailing as TrailingFault, Padding as PaddingFault}
 use Rattle.data_encoding.specs.Base.{Base, IsWidth, meaning, is_padded, is_padding, is_symbol, group_symbols, value_of}
 use Rattle.data_encoding.specs.Decoding.{HasFault, HasSymbols, IsDecodedGroup}
-use Rattle.data_encoding.specs.Fault.{count_before_padding, fault_after, fault_at, fault_at_first, faulty_at, group_fault, located, padded_fault_at, plain_fault, symbol_bytes, symbols_fault, trailing_bits, trailing_fault}
+use Rattle.data_encoding.specs.Fault.{count_before_padding, fault_at_first, faulty_at, group_fault, located, padded_fault_at, plain_fault, symbol_bytes, symbols_fault, trailing_bits, trailing_fault}
 use Rattle.data_encoding.specs.Grammar.{Positioned, bytes_in, positioned_from}
 use Rattle.data_encoding.specs.Lengths.{is_valid_count, greatest_valid_count, greatest_valid_length, is_valid_length}
-use Rattle.data_encoding.specs.Tables.{HoldsValues}
+use Rattle.data_encoding.specs.Tables.{HoldsValues, IsGroup}
+use Rattle.data_encoding.proofs.digits.SizeLemmas.{IsSmall-group}
 use Rattle.data_encoding.proofs.grammar.PositionLemmas.{bytes-positioned_from}
 use Rattle.data_encoding.proofs.lists.EndLemmas.{AllSo, count_before_end-at, count_before_end-map, end-passes}
 use Rattle.data_encoding.proofs.lists.ListLemmas.{list_any-none}
@@ -46,6 +48,18 @@ count-before base values holds group are_bytes count within all stops =
 
       is_not : (v : ℕ) → v ≢ 130 → (v == 130) ≡ false
       is_not v h = grind (arith, nat_tests)
+
+-- the symbols of a group have few bits
+pub few-bits : {w bytes symbols width : ℕ} → IsGroup w bytes symbols → width ≡ w → (count : ℕ)
+    → count ≤ symbols → width * count ≤ 48
+few-bits {width} group same count few =
+    mul-le width count 6 8 (omega (arith, same, group.is_width.few))
+    (omega (arith, (IsSmall-group group).few_symbols, few))
+
+-- where there is room for more of them, there is room for these
+pub room-symbols : {w width count len room : ℕ} → width ≡ w → count ≤ len → w * len / 8 ≤ room
+    → width * count / 8 ≤ room
+room-symbols {w} same few fits = rw same (omega (arith, mul-le-mul_left w few, fits))
 
 -- the fault of the bytes of a group is its fault where no final one came before
 pub HasFault-own : {base : Base} {group : List ℕ} {fault : GroupFault}

@@ -1,85 +1,31 @@
 -- Where a decoding stops at a last group that is too short.
-use Rattle.std.proofs.Common.{◌≡◌, ℕ, ◌+◌, ◌-◌, ◌<◌, ◌≤◌, Bool, true, false, not, cond, List, [], ◌∷◌, ◌++◌, length, take, drop, Option, Some, None, is_some, refl, sym, ap, ◌∙◌, subst, arith, length-append, length-take-le, ⊎_elim, map}
-use Rattle.std.proofs.lemmas.Bool.{cases_lt, false≢true}
+use Rattle.std.proofs.Common.{◌≡◌, ℕ, ◌+◌, ◌-◌, ◌<◌, ◌≤◌, Bool, true, false, not, cond, List, [], ◌∷◌, ◌++◌, length, take, drop, Some, None, is_some, refl, sym, ap, ◌∙◌, subst, arith, length-append, length-take-le, ⊎_elim, map}
+use Rattle.std.proofs.lemmas.Bool.{cases_lt, false_from_ne_true, false≢true}
 use Rattle.std.proofs.lemmas.List.{append-nil, length-drop, take-take, take_all, take_at, length-map}
 use Rattle.std.proofs.lemmas.List.Concat.{flat_map-append}
 use Rattle.std.specs.Prelude.{flat_map}
 use Rattle.data_encoding.proofs.decoding.GroupJudgementLemmas.{fault-length}
-use Rattle.data_encoding.specs.declared.decode.group.GroupFault.{GroupFault}
 use Rattle.data_encoding.specs.declared.error.DecodeError.{DecodeError}
-use Rattle.data_encoding.specs.declared.error.DecodeKind.{DecodeKind}
 use Rattle.data_encoding.specs.declared.error.DecodeKind.TheVariants.{Length as LengthFault, Padding as PaddingFault}
-use Rattle.data_encoding.specs.Base.{Base, meaning, is_ignored, is_padded, group_symbols, IsWidth}
+use Rattle.data_encoding.specs.Base.{Base, meaning, is_ignored, group_symbols}
 use Rattle.data_encoding.specs.Bits.{runs}
-use Rattle.data_encoding.specs.Grammar.{Positioned, positioned_from, kept, groups, is_final, kept_in, kept_from, bytes_in, meanings_in}
+use Rattle.data_encoding.specs.Grammar.{Positioned, positioned_from, kept, groups, is_final, kept_in, kept_from, bytes_in}
 use Rattle.data_encoding.specs.Lengths.{greatest_valid_length, length_fault, is_valid_length}
 use Rattle.data_encoding.specs.Fault.{bytes_of_group, fault_after, fault_at, fault_of, first_after, group_fault, located, or_else, position_of, sound_after, sound_bytes, symbol_bytes}
 use Rattle.data_encoding.specs.Partial.{StopsAt, read_len, is_length_fault, is_sound_run}
 use Rattle.data_encoding.specs.Decoding.{AreSound}
 use Rattle.data_encoding.proofs.lists.ListLemmas.{filter-all, length-filter}
 use Rattle.data_encoding.proofs.lists.RunLemmas.{runs-join, runs-short}
-use Rattle.data_encoding.proofs.grammar.PositionLemmas.{bytes-positioned_from, length-positioned_from, length-meanings}
+use Rattle.data_encoding.proofs.grammar.PositionLemmas.{bytes-positioned_from, length-positioned_from}
 use Rattle.data_encoding.proofs.grammar.KeptLemmas.{kept_from-more}
-use Rattle.data_encoding.proofs.grammar.LengthLemmas.{length_fault-none, valid-whole, whole-less}
+use Rattle.data_encoding.proofs.grammar.LengthLemmas.{length_fault-none, whole-less}
 use Rattle.data_encoding.proofs.grammar.SoundLemmas.{AreSound-append, first-none, sound-all}
 use Rattle.data_encoding.proofs.decoding.ProgressLemmas.{sound_bytes-front}
-use Rattle.data_encoding.proofs.decoding.StopLemmas.{IsAtFault, bounds, kind-located, kind-next, kind_of, other-group, pos, rest_is, sound_len_is, stops, whole}
+use Rattle.data_encoding.proofs.decoding.StopLemmas.{IsAtFault, bounds, kind-next, kind-valid, kind_of, pos, rest_is, sound_len_is, stops, whole}
 use Rattle.data_encoding.proofs.decoding.GreatestLengthLemmas.{greatest-least, greatest-less, greatest-more, greatest-same, greatest-valid}
 use Rattle.data_encoding.proofs.decoding.IgnoringLemmas.{group-kept}
 use Rattle.data_encoding.proofs.decoding.CutLemmas.{kept-cut}
 use Rattle.data_encoding.proofs.decoding.SoundRunLemmas.{sound_run-none, sound_run-group, sound_run-first}
-
--- the greatest valid length of what is left of a text, and the bytes at its front
-abbrev last_len : Base → ℕ → List ℕ → ℕ
-last_len base read text = greatest_valid_length base (length (drop read text))
-
-abbrev last_run : Base → ℕ → List ℕ → List ℕ
-last_run base read text = take (last_len base read text) (drop read text)
-
--- A group is too short: its fault is after the greatest valid number of its bytes.
-record IsShort (base : Base) (group : List Positioned) (error : DecodeError) : Type 0 where
-  few : length group < group_symbols base.width
-  inside : greatest_valid_length base (length group) < length group
-  position_is : error.position ≡ position_of group (greatest_valid_length base (length group))
-
-position-fault : (kind : DecodeKind) (group : List Positioned) (index : ℕ) (error : DecodeError)
-    → fault_at kind group index ≡ Some error → error.position ≡ position_of group index
-position-fault kind group index error h =
-    let first : DecodeError = record { position = position_of group index; kind = kind } in
-    let same : first ≡ error = cc in sym (ap (λ (x : DecodeError). x.position) same)
-
-module _ (base : Base) (width : IsWidth base.width) (group : List Positioned)
-    (some : 0 < length group) (most : length group ≤ group_symbols base.width)
-    (error : DecodeError) (fault : fault_after false base group ≡ Some error)
-    (kind : is_length_fault error.kind ≡ true) where
-  bytes_len : length (bytes_in group) ≡ length group
-  bytes_len = length-map group (λ (k : Positioned). k.byte)
-
-  -- it has a fault of its length only where that is not valid
-  invalid : is_valid_length base (length group) ≡ false
-  invalid = by (is_valid_length base (length group)) refl where
-    by : (b : Bool) → is_valid_length base (length group) ≡ b
-        → is_valid_length base (length group) ≡ false
-    by false is = is
-    by true is =
-        let whole = rw (← length-meanings base group) at
-        (valid-whole base (length group) some is) in
-        absurd (false≢true (sym (kind-located group (group_fault base (bytes_in group)) error
-        (other-group base (meanings_in base group) (is_padded base) refl whole) fault) ∙ kind))
-
-  short-group : IsShort base group error
-  short-group =
-      let index = greatest_valid_length base (length group) in
-      let here : fault_at LengthFault group index ≡ Some error =
-      sym (ap (located group) (fault-length base width (bytes_in group)
-      (omega (arith, some, bytes_len)) (omega (arith, most, bytes_len))
-      (ap (is_valid_length base) bytes_len ∙ invalid))
-      ∙ ap (λ n. fault_at LengthFault group (greatest_valid_length base n)) bytes_len) ∙ fault in
-      record {
-        few = whole-less base width (length group) most invalid;
-        inside = greatest-less base width (length group) invalid;
-        position_is = position-fault LengthFault group index error here;
-      }
 
 module _ {base : Base} {text : List ℕ} {read written : ℕ} {output : List ℕ} {error : DecodeError}
     (at : IsAtFault base text read written output error)
@@ -87,13 +33,14 @@ module _ {base : Base} {text : List ℕ} {read written : ℕ} {output : List ℕ
   abbrev size : ℕ
   size = group_symbols base.width
 
+  -- the greatest valid length of what is left, and the bytes at its front
   abbrev len : ℕ
-  len = last_len base read text
+  len = greatest_valid_length base (length (drop read text))
 
   abbrev front : List ℕ
-  front = last_run base read text
+  front = take len (drop read text)
 
-  index : ℕ
+  abbrev index : ℕ
   index = greatest_valid_length base (length at.group)
 
   not_ended : (at.ended ≡ false) × (fault_after false base at.group ≡ Some error)
@@ -106,31 +53,50 @@ module _ {base : Base} {text : List ℕ} {read written : ℕ} {output : List ℕ
         absurd (false≢true (sym other ∙ kind))
     by false is h = (is, h)
 
-  short : IsShort base at.group error
-  short =
-      short-group base at.width at.group at.next.is_part.some at.next.few error not_ended.1 kind
+  -- its length is not valid, and its fault is after the greatest valid number of its bytes
+  invalid : is_valid_length base (length at.group) ≡ false
+  invalid =
+      false_from_ne_true (is_valid_length base (length at.group))
+      (λ valid. false≢true (sym (kind-valid at valid) ∙ kind))
+
+  few_members : length at.group < size
+  few_members = whole-less base at.width (length at.group) at.next.few invalid
+
+  index_inside : index < length at.group
+  index_inside = greatest-less base at.width (length at.group) invalid
+
+  position_is : error.position ≡ position_of at.group index
+  position_is =
+      let bytes = bytes_in at.group in
+      let same = length-map at.group (λ (k : Positioned). k.byte) in
+      let here : fault_at LengthFault at.group index ≡ Some error =
+      sym (ap (located at.group) (fault-length base at.width bytes
+      (omega (arith, at.next.is_part.some, same)) (omega (arith, at.next.few, same))
+      (ap (is_valid_length base) same ∙ invalid))
+      ∙ ap (λ n. fault_at LengthFault at.group (greatest_valid_length base n)) same)
+      ∙ not_ended.1 in
+      let first : DecodeError =
+      record { position = position_of at.group index; kind = LengthFault } in
+      let found : first ≡ error = cc in
+      sym (ap (λ (x : DecodeError). x.position) found)
 
   -- it is the last one: all that is left
   group_is : kept_from base read text ≡ at.group
   group_is =
       let last : kept_from base at.stop text ≡ [] =
       ⊎_elim {C = kept_from base at.stop text ≡ []}
-      (λ full. absurd (omega (arith, full, short.few))) (λ none. none) at.next.last in
+      (λ full. absurd (omega (arith, full, few_members))) (λ none. none) at.next.last in
       rest_is at
       ∙ ap (λ l. at.group ++ l) last ∙ append-nil at.group
-
-  inside : (read ≤ error.position) × (error.position < at.stop)
-  inside = bounds at
 
   -- before its fault stand that many of its bytes
   kept_before : kept base (take error.position text)
       ≡ kept base (take read text) ++ take index at.group
-  unfolding index
   kept_before =
-      kept-cut base read text at.so_far.within index error.position inside.0
-      (omega (arith, inside.1, at.next.is_part.within))
-      (subst (λ g. index < length g) (sym group_is) short.inside)
-      (subst (λ g. error.position ≡ position_of g index) (sym group_is) short.position_is)
+      kept-cut base read text at.so_far.within index error.position (bounds at).0
+      (omega (arith, (bounds at).1, at.next.is_part.within))
+      (subst (λ g. index < length g) (sym group_is) index_inside)
+      (subst (λ g. error.position ≡ position_of g index) (sym group_is) position_is)
       ∙ ap (λ g. kept base (take read text) ++ take index g) group_is
 
   few_kept : length at.group ≤ length (drop read text)
@@ -144,14 +110,12 @@ module _ {base : Base} {text : List ℕ} {read written : ℕ} {output : List ℕ
       )
 
   index_most : index ≤ len
-  unfolding index
   index_most = greatest-more base at.width (length at.group) (length (drop read text)) few_kept
 
   no_length : (part : List ℕ) → length_fault base (length part) ≡ None
   no_length part =
       length_fault-none base (length part)
-      (λ none.
-      absurd (false≢true (sym (kind-next at none) ∙ kind)))
+      (λ none. absurd (false≢true (sym (kind-next at none) ∙ kind)))
 
   -- bytes without a fault at the front of what is left are bytes of the group
   run_kept : (count : ℕ) → count ≤ length (drop read text) → count ≤ size
@@ -227,23 +191,20 @@ module _ {base : Base} {text : List ℕ} {read written : ℕ} {output : List ℕ
   -- and a run without a fault is read and written too
   module _ (some : 0 < len) (few : len ≤ size)
       (sound : group_fault base front ≡ None) where
-    run : List Positioned
+    abbrev run : List Positioned
     run = positioned_from read front
 
     run_len : length run ≡ len
-    unfolding run
     run_len =
         length-positioned_from read front
         ∙ length-take-le len (drop read text)
         (greatest-least base at.width (length (drop read text)))
 
     bytes_same : bytes_in run ≡ front
-    unfolding run
     bytes_same = bytes-positioned_from read front
 
     -- they are those before the fault
     run_is : take index at.group ≡ run
-    unfolding run index
     run_is =
         let most : len ≤ length (drop read text) =
         greatest-least base at.width (length (drop read text)) in
@@ -303,20 +264,16 @@ module _ {base : Base} {text : List ℕ} {read written : ℕ} {output : List ℕ
       → (new : List ℕ) → written ≤ length new → take written new ≡ take written output
       → StopsAt base text new (record { read = read; written = written; error = error })
   last-unsound some bad new fits same =
-      stops at new read written (read_by false unsound) inside.0 (front_sound read refl) fits
+      stops at new read written (read_by false unsound) (bounds at).0 (front_sound read refl) fits
       (front_bytes read refl ∙ sym same) where
-        none_none : (o : Option GroupFault) → o ≡ None → is_some o ≡ true → ⊥
-        none_none o h k = false≢true (sym (ap is_some h) ∙ k)
-
-        by : (b : Bool) → is_sound_run base (drop read text) ≡ b
-            → is_sound_run base (drop read text) ≡ false
-        by false is = is
-        by true is =
+        unsound : is_sound_run base (drop read text) ≡ false
+        unsound =
+            false_from_ne_true (is_sound_run base (drop read text)) (λ is.
             let first : group_fault base (take size front) ≡ None =
             sound_run-first base at.width (drop read text) some is in
             let most : len ≤ length (drop read text) =
             greatest-least base at.width (length (drop read text)) in
-            ⊎_elim {C = is_sound_run base (drop read text) ≡ false}
+            ⊎_elim {C = ⊥}
             (λ (long : size < len).
             let whole : group_fault base (take size (drop read text)) ≡ None =
             ap (group_fault base)
@@ -324,14 +281,12 @@ module _ {base : Base} {text : List ℕ} {read written : ℕ} {output : List ℕ
             absurd (omega (
               arith,
               run_few size (omega (arith, long, most)) (omega arith) whole,
-              short.few,
+              few_members,
             )))
             (λ (few : len ≤ size).
             let front_len : length front ≤ size =
             omega (arith, length-take-le len (drop read text) most, few) in
-            absurd (none_none (group_fault base front)
-            (ap (group_fault base) (sym (take_all size front front_len)) ∙ first) (bad few)))
-            (cases_lt size len)
-
-        unsound : is_sound_run base (drop read text) ≡ false
-        unsound = by (is_sound_run base (drop read text)) refl
+            let none : group_fault base front ≡ None =
+            ap (group_fault base) (sym (take_all size front front_len)) ∙ first in
+            false≢true (sym (ap is_some none) ∙ bad few))
+            (cases_lt size len))

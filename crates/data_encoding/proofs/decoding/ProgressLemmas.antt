@@ -4,7 +4,7 @@ use Rattle.std.proofs.lemmas.Bool.{false≢true}
 use Rattle.std.proofs.lemmas.List.{length-drop, append-nil, drop-drop, get_or-take}
 use Rattle.std.proofs.Math.Seq.{take-add}
 use Rattle.std.proofs.lemmas.List.Concat.{flat_map-append}
-use Rattle.std.proofs.Math.Nat.{zero-mod, mul-le-mul_left, mul-le-mul_right, mul-mod_left, add-mul, mod_self}
+use Rattle.std.proofs.Math.Nat.{zero-mod, add-mod, mul-le-mul_left, mul-le-mul_right, mul-mod_left, mod_self}
 use Rattle.std.proofs.lemmas.Nat.{div-add-mod'}
 use Rattle.std.specs.Prelude.{flat_map}
 use Rattle.data_encoding.specs.Base.{Base, meaning, is_symbol, is_padded, group_bytes, group_symbols, IsWidth}
@@ -47,19 +47,6 @@ all_at : (test : ℕ → Bool) (xs : List ℕ)
 all_at test [] h = tt
 all_at test (x ∷ xs) h =
     (h 0 (omega arith), all_at test xs (λ k less. h (suc k) (omega (arith, less))))
-
-both_whole : (size m n : ℕ) → m % size ≡ 0 → n % size ≡ 0 → (m + n) % size ≡ 0
-both_whole size m n h k =
-    let parts : m + n ≡ (m / size + n / size) * size =
-    omega (
-      arith,
-      add-mul (m / size) (n / size) size,
-      div-add-mod' m size,
-      div-add-mod' n size,
-      h,
-      k,
-    ) in
-    ap (λ x. x % size) parts ∙ mul-mod_left (m / size + n / size) size
 
 module _ (base : Base) (width : IsWidth base.width) (text : List ℕ) where
   abbrev enc : ℕ
@@ -148,8 +135,8 @@ module _ (base : Base) (width : IsWidth base.width) (text : List ℕ) where
             ⊎ ((kept_from base stop text ≡ []) × (is_padded base ≡ false))}
             (λ whole. inl (ap (λ n. n % dec)
             (ap length parts ∙ length-append (kept base (take read text)) part)
-            ∙ both_whole dec (length (kept base (take read text))) (length part)
-            (whole-before so_far next) whole))
+            ∙ add-mod (length (kept base (take read text))) (length part) dec
+            ∙ (λ i. (whole-before so_far next i + whole i) % dec) ∙ zero-mod dec))
             (λ all. inr all) last;
         ends = ap position_after parts
             ∙ position_after-append (kept base (take read text)) part next.some ∙ next.ends;

@@ -1,5 +1,5 @@
--- A step of a decoding: what a run, a group and the end do to it.
-use Rattle.std.proofs.Common.{◌≡◌, ℕ, ◌+◌, ◌-◌, ◌*◌, ◌/◌, ◌%◌, ◌<◌, ◌≤◌, Bool, true, false, not, nat_lt, ◌&&◌, ◌==◌, ◌⊎◌, List, [], ◌++◌, length, take, drop, Some, refl, sym, ap, ◌∙◌, subst, arith, length-take-le, ⊎_elim, map}
+-- A decoding under way: what a run, a group and the end do to it.
+use Rattle.std.proofs.Common.{◌≡◌, ℕ, ◌+◌, ◌-◌, ◌*◌, ◌/◌, ◌%◌, ◌<◌, ◌≤◌, Bool, true, false, not, nat_lt, ◌&&◌, ◌==◌, ◌⊎◌, List, [], ◌++◌, length, take, drop, Some, None, Ok, refl, sym, ap, ◌∙◌, subst, arith, length-take-le, ⊎_elim, map}
 use Rattle.std.proofs.Math.Nat.{mul-le-mul_left, mul-zero, zero-mod}
 use Rattle.std.proofs.Math.Seq.{take-add}
 use Rattle.std.proofs.lemmas.Bool.{cases_lt, eqb-true}
@@ -17,28 +17,50 @@ use Rattle.data_encoding.specs.Base.{Base, IsWidth, group_bytes, group_symbols, 
 use Rattle.data_encoding.specs.Decoding.{HasFault, HasNoLastRun, HasRoom, IsDecoded, IsDecodedGroup, IsGathered, IsLastRun, IsRun, IsStop, HasStopped, IsIgnoredFront, valid_front, HasDecodedTo}
 use Rattle.data_encoding.specs.Fault.{group_fault, located, position_of, symbol_bytes}
 use Rattle.data_encoding.specs.Grammar.{Positioned, bytes_in, kept, kept_from}
-use Rattle.data_encoding.specs.Lengths.{greatest_valid_length}
+use Rattle.data_encoding.specs.Lengths.{decoded_len, greatest_valid_length, length_fault, most_bytes}
+use Rattle.data_encoding.specs.Tables.{IsGroup}
 use Rattle.data_encoding.specs.Partial.{StopsAt, is_length_fault}
 use Rattle.data_encoding.proofs.digits.WidthLemmas.{group_bits}
-use Rattle.data_encoding.proofs.grammar.LengthLemmas.{is_valid_length-by}
+use Rattle.data_encoding.proofs.grammar.LengthLemmas.{decoded_len-counted, is_valid_length-by}
 use Rattle.data_encoding.proofs.grammar.GroupLemmas.{GroupMeans-sound}
 use Rattle.data_encoding.proofs.lists.WriteLemmas.{length-rewritten, length-rewritten_same, rewritten, take-rewritten}
 use Rattle.data_encoding.proofs.decoding.GatherLemmas.{bytes-next, gathered-few, gathered-some, is-next, next_bytes, none-next, position-next}
 use Rattle.data_encoding.proofs.decoding.GreatestLengthLemmas.{greatest-least, greatest-valid}
 use Rattle.data_encoding.proofs.decoding.LastRunLemmas.{last-none, last-sound, last-unsound}
 use Rattle.data_encoding.proofs.decoding.RoomLemmas.{multiples}
-use Rattle.data_encoding.proofs.decoding.ProgressLemmas.{IsNext, after-group, after-run, room-group, room-run, same-output}
+use Rattle.data_encoding.proofs.decoding.ProgressLemmas.{IsNext, after-group, after-run, at-end, room-group, room-run, same-output}
 use Rattle.data_encoding.proofs.decoding.StopLemmas.{IsAtFault, at-fault_front}
 use Rattle.data_encoding.proofs.grammar.KeptLemmas.{nothing-left}
 use Rattle.data_encoding.proofs.decoding.IgnoredFrontLemmas.{gathered-behind, nothing-behind}
-use Rattle.data_encoding.proofs.decoding.LoopLemmas.{IsUnderWay, decoded}
 
--- the front of valid length has that length
-length-front : (base : Base) → IsWidth base.width → (rest : List ℕ)
-    → length (valid_front base rest) ≡ greatest_valid_length base (length rest)
-length-front base width rest =
-    length-take-le (greatest_valid_length base (length rest)) rest
-    (greatest-least base width (length rest))
+-- A decoding under way: so much was read and written of a text whose length has no fault, into an
+-- output of just its size, with the sizes of a group as constants.
+pub record IsUnderWay (base : Base) (text : List ℕ) (w bytes symbols read written : ℕ)
+    (ended : Bool) (output : List ℕ) : Type 0 where
+  pub width : IsWidth base.width
+  pub symbols_is : symbols ≡ group_symbols base.width
+  pub bytes_is : bytes ≡ group_bytes base.width
+  pub w_is : base.width ≡ w
+  pub no_fault : length_fault base (length text) ≡ None
+  pub size_is : most_bytes base (length text) ≡ length output
+  pub so_far : HasDecodedTo base text read written ended output
+
+pub under_way : {base : Base} {text : List ℕ} {w bytes symbols read written : ℕ} {ended : Bool}
+    {output : List ℕ} → IsGroup w bytes symbols → base.width ≡ w
+    → decoded_len base (length text) ≡ Ok (length output)
+    → HasDecodedTo base text read written ended output
+    → IsUnderWay base text w bytes symbols read written ended output
+under_way {base} {text} {output} g w_is exact so_far =
+    let counted = decoded_len-counted base (length text) (length output) exact in
+    record {
+      width = subst IsWidth (sym w_is) g.is_width;
+      symbols_is = g.has_symbols ∙ ap group_symbols (sym w_is);
+      bytes_is = g.has_bytes ∙ ap group_bytes (sym w_is);
+      w_is = w_is;
+      no_fault = counted.0;
+      size_is = counted.1;
+      so_far = so_far;
+    }
 
 same-partial : (partial : DecodePartial) (read written : ℕ) (error : DecodeError)
     → partial.read ≡ read → partial.written ≡ written → partial.error ≡ error
@@ -46,14 +68,44 @@ same-partial : (partial : DecodePartial) (read written : ℕ) (error : DecodeErr
 same-partial partial read written error h k l =
     λ i. record { read = sym h i; written = sym k i; error = sym l i }
 
--- no group is final where all its bytes are symbols
-no_padding : (b : Bool) (count len : ℕ) → len ≤ count → (not b && nat_lt count len) ≡ false
-no_padding b count len h =
-    let all : nat_lt count len ≡ false = grind (arith, nat_tests) in
-    ap (λ v. not b && v) all ∙ and-false (not b)
+-- no group is final where texts may follow, or where all its bytes are symbols
+pub final-not : {own base : Base} (count len : ℕ) → own ≡ base
+    → (own.concatenates ≡ true) ⊎ (len ≤ count)
+    → (not base.concatenates && nat_lt count len) ≡ false
+final-not {base} count len same =
+    ⊎_elim
+    (λ joins. ap (λ v. not v && nat_lt count len)
+    (ap (λ (b : Base). b.concatenates) (sym same) ∙ joins))
+    (λ few.
+    let all : nat_lt count len ≡ false = grind (arith, nat_tests, few) in
+    ap (λ v. not base.concatenates && v) all ∙ and-false (not base.concatenates))
+
+-- and otherwise it is
+pub final-is : {own base : Base} (count len : ℕ) → own ≡ base → own.concatenates ≡ false
+    → count < len → (not base.concatenates && nat_lt count len) ≡ true
+final-is count len same apart padded =
+    let short : nat_lt count len ≡ true = grind (arith, nat_tests, padded) in
+    λ i. not ((ap (λ (b : Base). b.concatenates) (sym same) ∙ apart) i) && short i
 
 module _ {base : Base} {text : List ℕ} {w bytes symbols read written : ℕ} {ended : Bool}
     {output : List ℕ} (s : IsUnderWay base text w bytes symbols read written ended output) where
+  -- where nothing is left, the text means what was written
+  pub decoded : kept_from base read text ≡ [] → IsDecoded base text written output
+  decoded none =
+      let found = at-end base s.width text s.so_far s.no_fault none in
+      record {
+        fits = s.so_far.fits;
+        no_fault = found.0;
+        bytes_are = found.1;
+        means = found.2;
+      }
+
+  -- as where no byte is left
+  pub decoded-all : length text ≤ read → IsDecoded base text written output
+  decoded-all past =
+      let all : length text ≡ read = omega (arith, past, s.so_far.within) in
+      decoded (subst (λ n. kept_from base n text ≡ []) all (nothing-left base text))
+
   pub written-few : written ≤ length text
   written-few = omega (arith, s.so_far.fits, s.size_is, most_bytes-few base s.width (length text))
 
@@ -109,19 +161,25 @@ module _ {base : Base} {text : List ℕ} {w bytes symbols read written : ℕ} {e
     by false unpadded =
         omega (arith, room-group base s.width text s.so_far count unpadded few)
 
-  -- so has the greatest front of valid length, where it is one group
+  -- the greatest front of valid length has that length
+  front_len : length (valid_front base (drop read text))
+      ≡ greatest_valid_length base (length (drop read text))
+  front_len =
+      length-take-le (greatest_valid_length base (length (drop read text))) (drop read text)
+      (greatest-least base s.width (length (drop read text)))
+
+  -- it has room, where it is one group
   room-last : HasRoom base (drop read text) (length output - written)
   room-last few =
       let rest = drop read text in
       let front = valid_front base rest in
-      let len = length-front base s.width rest in
       ⊎_elim
       (λ (some : 0 < length front).
       room-group_of (length front)
-      (omega (arith, len, greatest-least base s.width (length rest), length-drop read text))
+      (omega (arith, front_len, greatest-least base s.width (length rest), length-drop read text))
       (λ padded.
       let exact : length front % group_symbols base.width ≡ 0 =
-      ap (λ n. n % group_symbols base.width) len
+      ap (λ n. n % group_symbols base.width) front_len
       ∙ eqb-true (greatest_valid_length base (length rest) % group_symbols base.width) 0
       (sym (is_valid_length-by base (greatest_valid_length base (length rest)) true padded)
       ∙ greatest-valid base s.width (length rest)) in
@@ -140,7 +198,7 @@ module _ {base : Base} {text : List ℕ} {w bytes symbols read written : ℕ} {e
       -- a text that ends there means what was written
       pub decoded-empty : {empty : Bool} → empty ≡ (length group == 0) → empty ≡ true
           → IsDecoded base text written output
-      decoded-empty empty_is empty = decoded s (none-left read s.so_far.within is empty_is empty)
+      decoded-empty empty_is empty = decoded (none-left read s.so_far.within is empty_is empty)
 
       found_here : IsGathered base (group_symbols base.width) (drop read text) group span
       found_here = rw (s.symbols_is, take_rest text read) at is
@@ -194,10 +252,6 @@ module _ {base : Base} {text : List ℕ} {w bytes symbols read written : ℕ} {e
               has.inside);
         }
 
-        front_len : length (valid_front base (drop read text))
-            ≡ greatest_valid_length base (length (drop read text))
-        front_len = length-front base s.width (drop read text)
-
         -- where no last run is found
         stops-here : (new : List ℕ) → written ≤ length new
             → take written new ≡ take written output
@@ -208,9 +262,8 @@ module _ {base : Base} {text : List ℕ} {w bytes symbols read written : ℕ} {e
               → StopsAt base text new (record { read = read; written = written; error = error })
           by false is = at-fault_front at is new fits same
           by true is =
-              let no_run = none is in
-              last-unsound at is (omega (arith, front_len, no_run.0))
-              (λ few. no_run.1 (omega (arith, front_len, few))) new fits same
+              last-unsound at is (omega (arith, front_len, (none is).0))
+              (λ few. (none is).1 (omega (arith, front_len, few))) new fits same
 
         -- and where one is
         stops-after : (new : List ℕ) → take written new ≡ take written output
@@ -319,25 +372,19 @@ module _ {base : Base} {text : List ℕ} {w bytes symbols read written : ℕ} {o
             length-drop written output,
           )
 
-      run_done : 0 < count
-          → HasDecodedTo base text (read + skip + count * symbols) (written + count * bytes) false
-          (rewritten written output rest)
-      run_done some =
-          let enc = group_bytes base.width in
-          let new = rewritten written output rest in
-          let fits = length-rewritten written output rest s.so_far.fits in
-          rw (s.symbols_is, s.bytes_is)
-          (after-run base s.width text count new s.so_far front some inside here.are_symbols
-          (omega (arith, room, fits))
-          (take-rewritten written output rest s.so_far.fits (count * enc)
-          ∙ ap (λ l. take written output ++ l) here.bytes))
-
       pub after_run : 0 < count
           → IsUnderWay base text w bytes symbols (read + skip + count * symbols)
           (written + count * bytes) false (rewritten written output rest)
       after_run some =
+          let enc = group_bytes base.width in
+          let new = rewritten written output rest in
+          let fits = length-rewritten written output rest s.so_far.fits in
           further s (length-rewritten_same written output rest s.so_far.fits rest_len)
-          (run_done some)
+          (rw (s.symbols_is, s.bytes_is)
+          (after-run base s.width text count new s.so_far front some inside here.are_symbols
+          (omega (arith, room, fits))
+          (take-rewritten written output rest s.so_far.fits (count * enc)
+          ∙ ap (λ l. take written output ++ l) here.bytes)))
 
     -- nothing is left where nothing is behind ignored bytes
     pub decoded-behind : length text ≤ read + skip → IsDecoded base text written output
@@ -386,53 +433,26 @@ module _ {base : Base} {text : List ℕ} {w bytes symbols read written : ℕ} {o
     few : w * count / 8 ≤ length rest
     few = omega (arith, mul-le-mul_left w has.within, room-next_group s is whole, rest_len)
 
-    group_done : HasDecodedTo base text (read + span) (written + w * count / 8)
-        (not base.concatenates && nat_lt count (length group))
+    pub after_group : (stop : ℕ) {final : Bool} → read + span ≡ stop
+        → (not base.concatenates && nat_lt count (length group)) ≡ final
+        → IsUnderWay base text w bytes symbols stop (written + w * count / 8) final
         (rewritten written output rest)
-    group_done =
+    after_group stop {final} place is_final =
         let new = rewritten written output rest in
         let fits = length-rewritten written output rest s.so_far.fits in
         let same = same_bytes s is in
-        let final = ap (λ b. not base.concatenates && b)
-        (ap (λ l. list_any is_padding (map (meaning base) l)) same ∙ has.final) in
-        rw (← final) (after-group base s.width text (w * count / 8) new s.so_far (next s is some)
+        let judged = ap (λ b. not base.concatenates && b)
+        (ap (λ l. list_any is_padding (map (meaning base) l)) same ∙ has.final) ∙ is_final in
+        further s (length-rewritten_same written output rest s.so_far.fits rest_len)
+        (rw (← place, ← judged) (after-group base s.width text (w * count / 8) new s.so_far
+        (next s is some)
         (ap (λ l. located (placed s is) (group_fault base l)) same
         ∙ ap (located (placed s is)) has.sound)
         (omega (arith, few, fits))
         (take-rewritten written output rest s.so_far.fits (w * count / 8)
         ∙ ap (λ l. take written output ++ l)
         (ap (λ n. take (n * count / 8) rest) (sym s.w_is) ∙ has.bytes
-        ∙ ap (λ l. symbol_bytes base (map (meaning base) l)) (sym same))))
-
-    pub after_group : (stop : ℕ) {final : Bool} → read + span ≡ stop
-        → (not base.concatenates && nat_lt count (length group)) ≡ final
-        → IsUnderWay base text w bytes symbols stop (written + w * count / 8) final
-        (rewritten written output rest)
-    after_group stop {final} place same =
-        further s (length-rewritten_same written output rest s.so_far.fits rest_len)
-        (rw (← place, ← same) group_done)
-
-    -- it goes on where texts may follow, or where the group has no padding
-    pub group-more : (stop : ℕ) {own : Base} → read + span ≡ stop → own ≡ base
-        → (own.concatenates ≡ true) ⊎ (length group ≤ count)
-        → IsUnderWay base text w bytes symbols stop (written + w * count / 8) false
-        (rewritten written output rest)
-    group-more stop place same how =
-        after_group stop place
-        (⊎_elim
-        (λ joins. ap (λ v. not v && nat_lt count (length group))
-        (ap (λ (b : Base). b.concatenates) (sym same) ∙ joins))
-        (no_padding base.concatenates count (length group)) how)
-
-    -- and otherwise the group is final
-    pub group-final : (stop : ℕ) {own : Base} → read + span ≡ stop → own ≡ base
-        → own.concatenates ≡ false → count < length group
-        → IsUnderWay base text w bytes symbols stop (written + w * count / 8) true
-        (rewritten written output rest)
-    group-final stop place same apart padded =
-        let short : nat_lt count (length group) ≡ true = grind (arith, nat_tests, padded) in
-        after_group stop place
-        (λ i. not ((ap (λ (b : Base). b.concatenates) (sym same) ∙ apart) i) && short i)
+        ∙ ap (λ l. symbol_bytes base (map (meaning base) l)) (sym same)))))
 
 -- what is found is a group where it is not empty
 pub some-group : {base : Base} {size : ℕ} {part group : List ℕ} {span : ℕ} {empty : Bool}

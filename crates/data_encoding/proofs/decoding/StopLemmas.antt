@@ -34,7 +34,7 @@ kind_of fault error h k =
     let same : fault ≡ error = cc in subst (λ x. is_length_fault x.kind ≡ false) same k
 
 -- a fault that is none of a length
-abbrev pub IsOther : Option GroupFault → Type 0
+abbrev IsOther : Option GroupFault → Type 0
 IsOther None = Unit {0}
 IsOther (Some fault) = is_length_fault fault.kind ≡ false
 
@@ -54,7 +54,7 @@ other-padding base group true count = refl
 other-padding base group false count = other-symbols base (take count group)
 
 -- a whole group has no fault of a length, nor has an unpadded one of a valid number
-pub other-group : (base : Base) (group : List Character) (b : Bool) → is_padded base ≡ b
+other-group : (base : Base) (group : List Character) (b : Bool) → is_padded base ≡ b
     → cond b (nat_lt (length group) (group_symbols base.width) ≡ false)
     (is_valid_count base.width (length group) ≡ true)
     → IsOther (character_fault base group)
@@ -65,7 +65,7 @@ other-group base group true is whole =
 other-group base group false is valid =
     rw (is, valid) (other-symbols base group)
 
-pub kind-located : (group : List Positioned) (o : Option GroupFault) (error : DecodeError)
+kind-located : (group : List Positioned) (o : Option GroupFault) (error : DecodeError)
     → IsOther o → located group o ≡ Some error → is_length_fault error.kind ≡ false
 kind-located group None error other h = cc
 kind-located group (Some fault) error other h =
@@ -101,11 +101,10 @@ module _ {base : Base} {text : List ℕ} {read written : ℕ} {output : List ℕ
       at.next.is_part.within
       ∙ ap (λ l. l ++ kept_from base at.stop text) (sym at.next.is_part.is_kept)
 
-  others : List (List Positioned)
+  abbrev others : List (List Positioned)
   others = runs size (kept_from base at.stop text)
 
   groups_left : runs size (at.group ++ kept_from base at.stop text) ≡ at.group ∷ others
-  unfolding others
   groups_left =
       ⊎_elim {C = runs size (at.group ++ kept_from base at.stop text) ≡ at.group ∷ others}
       (λ len. runs-append size at.group (kept_from base at.stop text) pos len)
@@ -222,6 +221,20 @@ module _ {base : Base} {text : List ℕ} {read written : ℕ} {output : List ℕ
       → StopsAt base text output (record { read = read; written = written; error = error })
   at-fault kind = at-fault_front kind output at.so_far.fits refl
 
+  -- a group of a valid length has no fault of its length
+  pub kind-valid : is_valid_length base (length at.group) ≡ true
+      → is_length_fault error.kind ≡ false
+  kind-valid valid = by at.ended at.faulty where
+    by : (b : Bool) → fault_after b base at.group ≡ Some error
+        → is_length_fault error.kind ≡ false
+    by true h =
+        kind_of (record { position = position_of at.group 0; kind = PaddingFault }) error h refl
+    by false h =
+        kind-located at.group (group_fault base (bytes_in at.group)) error
+        (other-group base (meanings_in base at.group) (is_padded base) refl
+        (rw (← length-meanings base at.group) at
+        (valid-whole base (length at.group) at.next.is_part.some valid))) h
+
   module _ (none : ignores_some base ≡ false) where
     read_whole : read % size ≡ 0
     read_whole =
@@ -255,27 +268,15 @@ module _ {base : Base} {text : List ℕ} {read written : ℕ} {output : List ℕ
 
     -- where nothing is ignored, that is no fault of a length
     pub kind-next : is_length_fault error.kind ≡ false
-    kind-next = by at.ended at.faulty where
-      valid : is_valid_length base (length at.group) ≡ true
-      valid =
-          ⊎_elim {C = is_valid_length base (length at.group) ≡ true}
-          (λ len.
-          whole-length base at.width (length at.group) (ap (λ n. n % size) len ∙ mod_self size))
-          (λ empty.
-          sym (valid_behind base at.width read (length at.group) read_whole)
-          ∙ ap (is_valid_length base) (last_stop empty)
-          ∙ length_fault-valid base (length text) at.no_length_fault none)
-          at.next.last
-
-      by : (b : Bool) → fault_after b base at.group ≡ Some error
-          → is_length_fault error.kind ≡ false
-      by true h =
-          kind_of (record { position = position_of at.group 0; kind = PaddingFault }) error h refl
-      by false h =
-          kind-located at.group (group_fault base (bytes_in at.group)) error
-          (other-group base (meanings_in base at.group) (is_padded base) refl
-          (rw (← length-meanings base at.group) at
-          (valid-whole base (length at.group) at.next.is_part.some valid))) h
+    kind-next =
+        kind-valid (⊎_elim {C = is_valid_length base (length at.group) ≡ true}
+        (λ len.
+        whole-length base at.width (length at.group) (ap (λ n. n % size) len ∙ mod_self size))
+        (λ empty.
+        sym (valid_behind base at.width read (length at.group) read_whole)
+        ∙ ap (is_valid_length base) (last_stop empty)
+        ∙ length_fault-valid base (length text) at.no_length_fault none)
+        at.next.last)
 
 -- what has a fault means nothing
 pub fault-partial : (base : Base) (text : List ℕ) (partial : DecodePartial)
@@ -287,18 +288,6 @@ fault-partial base text partial h = by (fault_of base text) h where
       let same : partial_at base text error ≡ partial = cc in
       ap (λ (p : DecodePartial). Some p.error) same
 
-written-partial : (base : Base) (text : List ℕ) (partial : DecodePartial)
-    → partial_of base text ≡ Some partial
-    → partial.written ≡ length (sound_bytes base (take partial.read text))
-written-partial base text partial h = by (fault_of base text) h where
-  by : (o : Option DecodeError) → partial_by base text o ≡ Some partial
-      → partial.written ≡ length (sound_bytes base (take partial.read text))
-  by None h = cc
-  by (Some error) h =
-      let same : partial_at base text error ≡ partial = cc in
-      subst (λ (p : DecodePartial). p.written ≡ length (sound_bytes base (take p.read text))) same
-      refl
-
 -- no more is written than what was read may mean
 pub most-partial : (base : Base) → IsWidth base.width → (text output : List ℕ)
     (partial : DecodePartial) → StopsAt base text output partial
@@ -308,9 +297,14 @@ most-partial base width text output partial stops =
     let bytes = take partial.written output in
     let read_len : length front ≡ partial.read =
     length-take-le partial.read text (omega (arith, stops.read_before, stops.within)) in
+    let here : Some (partial_at base text partial.error) ≡ Some partial =
+    ap (partial_by base text) (sym (fault-partial base text partial stops.is_partial))
+    ∙ stops.is_partial in
+    let same : partial_at base text partial.error ≡ partial = cc in
     let written_len : length bytes ≡ partial.written =
     ap length (sym (sound_bytes-Means base width front bytes stops.means))
-    ∙ sym (written-partial base text partial stops.is_partial) in
+    ∙ subst (λ (p : DecodePartial). length (sound_bytes base (take p.read text)) ≡ p.written) same
+    refl in
     subst (λ n. IsOkAnd (decoded_len base n) (λ most. partial.written ≤ most)) read_len
     (subst (λ n. IsOkAnd (decoded_len base (length front)) (λ most. n ≤ most)) written_len
     (decoded_len-Means base width front bytes stops.means))

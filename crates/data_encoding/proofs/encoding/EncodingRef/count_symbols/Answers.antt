@@ -1,18 +1,15 @@
 use Rattle.std.proofs.Common.{◌≡◌, ◌<◌, ◌==◌, ◌||◌, true, false, not, length, sym, ap, ◌∙◌, subst, arith}
-use Rattle.std.proofs.lemmas.Nat.{mul-le}
 use Rattle.std.proofs.lemmas.Bool.Decides.{nat_tests}
 use Rattle.data_encoding.specs.Base.{group_symbols, is_padded}
-use Rattle.data_encoding.specs.Decoding.{HasFault}
 use Rattle.data_encoding.specs.Lengths.{is_valid_count}
-use Rattle.data_encoding.proofs.decoding.GroupJudgementLemmas.{group-short, length-invalid, padding-invalid, symbols-all, symbols-before}
-use Rattle.data_encoding.proofs.digits.SizeLemmas.{IsSmall-group}
+use Rattle.data_encoding.proofs.decoding.GroupJudgementLemmas.{few-bits, group-short, length-invalid, padding-invalid, symbols-all, symbols-before}
 use Rattle.data_encoding.proofs.tables.TableLemmas.{HoldsValues-seen, IsWidth-seen}
 use Rattle.data_encoding.proofs.encoding.EncodingRef.count_symbols.Goals as goal
 use Rattle.data_encoding.proofs.encoding.EncodingRef.count_symbols.Goals.{then-count-eq0-via-then-count-eq0, then-count-eq0-via-else-count-eq0+then-width-count}
 
 pub returns-then-trailing-width-clause-fault : goal.returns-then-trailing-width-clause-fault
 returns-then-trailing-width-clause-fault g c =
-    subst (HasFault c.args.self.now false c.args.group.now) (sym c.faulty.ensures)
+    rw c.faulty.ensures
     (length-invalid c.args.self.now c.args.group.now
     (ap is_padded (sym c.self.view_is) ∙ sym c.is_padded.ensures ∙ c.if-not-is_padded.true)
     c.requires.some c.WIDTH-width.result
@@ -34,7 +31,7 @@ pub returns-then-group-SYMBOLS-clause-fault : goal.returns-then-group-SYMBOLS-cl
 returns-then-group-SYMBOLS-clause-fault g c =
     let symbols = c.SYMBOLS.ensures ∙ g.G.GroupSize.is_group.has_symbols ∙ ap group_symbols
     (sym c.requires.width) in
-    subst (HasFault c.args.self.now false c.args.group.now) (sym c.faulty-then-group-SYMBOLS.ensures)
+    rw c.faulty-then-group-SYMBOLS.ensures
     (group-short c.args.self.now c.args.group.now
     (ap is_padded (sym c.self.view_is) ∙ sym c.is_padded.ensures ∙ c.if-not-is_padded.false)
     c.requires.some
@@ -54,7 +51,7 @@ returns-then-count-eq0-clause-fault g c =
       | then-count-eq0-via-else-count-eq0+then-width-count w ↦ grind
           (arith, nat_tests, w.if-width-count.true)
     ] in
-    subst (HasFault seen false group) (sym c.faulty-then-count-eq0.ensures)
+    rw c.faulty-then-count-eq0.ensures
     (padding-invalid seen group
     (ap is_padded (sym c.self.view_is) ∙ sym c.is_padded.ensures ∙ c.if-not-is_padded.false) whole
     count
@@ -85,16 +82,11 @@ returns-clause-symbols g c =
 
 pub overflow_mul-trailing : goal.overflow_mul-trailing
 overflow_mul-trailing g c =
-    let few = (IsSmall-group g.G.GroupSize.is_group).few_symbols in
-    let most = mul-le c.WIDTH-width.result (length c.args.group.now) 6 8
-    (omega (arith, g.G.GroupSize.is_group.is_width.few, c.WIDTH-width.ensures))
-    (omega (arith, few, c.requires.few)) in
-    record { fits = omega (arith, most) }
+    let few = few-bits g.G.GroupSize.is_group c.WIDTH-width.ensures _ c.requires.few in
+    record { fits = omega (arith, few) }
 
 pub overflow_mul-width : goal.overflow_mul-width
 overflow_mul-width g c =
-    let few = (IsSmall-group g.G.GroupSize.is_group).few_symbols in
-    let most = mul-le c.WIDTH-width.result c.before_padding-count.result 6 8
-    (omega (arith, g.G.GroupSize.is_group.is_width.few, c.WIDTH-width.ensures))
-    (omega (arith, few, c.requires.few, c.before_padding-count.ensures.within)) in
-    record { fits = omega (arith, most) }
+    let few = few-bits g.G.GroupSize.is_group c.WIDTH-width.ensures c.before_padding-count.result
+    (omega (arith, c.requires.few, c.before_padding-count.ensures.within)) in
+    record { fits = omega (arith, few) }

@@ -1,12 +1,10 @@
-use Rattle.std.proofs.Common.{◌≡◌, ◌*◌, ◌/◌, ◌<◌, ◌≤◌, ◌==◌, ◌&&◌, false, not, length, map, take, drop, refl, sym, ap, ◌∙◌, subst, arith, length-take-le, ⊎_elim}
-use Rattle.std.proofs.Math.Nat.{mul-le-mul_left}
-use Rattle.std.proofs.lemmas.Nat.{mul-le}
-use Rattle.std.proofs.lemmas.Bool.{cases_lt, false≢true}
+use Rattle.std.proofs.Common.{◌≡◌, ◌*◌, ◌/◌, ◌<◌, ◌≤◌, ◌==◌, ◌&&◌, false, not, length, map, take, drop, refl, sym, ap, ◌∙◌, arith, length-take-le}
+use Rattle.std.proofs.Math.Nat.{lt_of_not-le}
+use Rattle.std.proofs.lemmas.Bool.{false≢true}
 use Rattle.std.specs.List.{list_any}
 use Rattle.data_encoding.specs.Base.{Base, meaning}
 use Rattle.data_encoding.specs.Fault.{trailing_bits}
-use Rattle.data_encoding.proofs.decoding.GroupJudgementLemmas.{group-sound, symbol-fault, trailing-fault}
-use Rattle.data_encoding.proofs.digits.SizeLemmas.{IsSmall-group}
+use Rattle.data_encoding.proofs.decoding.GroupJudgementLemmas.{few-bits, group-sound, room-symbols, symbol-fault, trailing-fault}
 use Rattle.data_encoding.proofs.digits.WidthLemmas.{group_symbols-few}
 use Rattle.data_encoding.proofs.tables.TableLemmas.{HoldsValues-seen, Reads-seen}
 use Rattle.data_encoding.proofs.encoding.EncodingRef.decode_group.Goals as goal
@@ -14,31 +12,22 @@ use Rattle.data_encoding.proofs.encoding.EncodingRef.decode_group.Goals.{else-se
 
 pub slice_bounds-room-end : goal.slice_bounds-room-end
 slice_bounds-room-end g c =
-    let room : c.WIDTH.result * length c.args.group.now / 8 ≤ length c.args.output.now =
-    subst (λ w. w * length c.args.group.now / 8 ≤ length c.args.output.now) (sym c.WIDTH.ensures)
-    (c.requires.room c.in-Ok.ensures.whole) in
-    let most = mul-le-mul_left c.WIDTH.result c.in-Ok.ensures.symbols.within in
-    omega (arith, most, room)
+    room-symbols c.WIDTH.ensures c.in-Ok.ensures.symbols.within
+    (c.requires.room c.in-Ok.ensures.whole)
 
 pub slice_bounds-room-end-2 : goal.slice_bounds-room-end-2
 slice_bounds-room-end-2 g c =
-    let room : c.WIDTH.result * length c.args.group.now / 8 ≤ length c.args.output.now =
-    subst (λ w. w * length c.args.group.now / 8 ≤ length c.args.output.now) (sym c.WIDTH.ensures)
-    (c.requires.room c.in-Ok.ensures.whole) in
-    let most = mul-le-mul_left c.WIDTH.result c.in-Ok.ensures.symbols.within in
     sym (length-take-le (c.WIDTH.result * c.in-Ok.count / 8) c.args.output.now
-    (omega (arith, most, room)))
+    (room-symbols c.WIDTH.ensures c.in-Ok.ensures.symbols.within
+    (c.requires.room c.in-Ok.ensures.whole)))
 
 pub decode_symbols-requires-clause-exact : goal.decode_symbols-requires-clause-exact
 decode_symbols-requires-clause-exact g c =
-    let room : c.WIDTH.result * length c.args.group.now / 8 ≤ length c.args.output.now =
-    subst (λ w. w * length c.args.group.now / 8 ≤ length c.args.output.now) (sym c.WIDTH.ensures)
-    (c.requires.room c.in-Ok.ensures.whole) in
     let count = c.in-Ok.count in
     let group = c.args.group.now in
     let few = c.in-Ok.ensures.symbols.within in
-    let most = mul-le-mul_left c.WIDTH.result few in
-    length-take-le (c.WIDTH.result * count / 8) c.args.output.now (omega (arith, most, room))
+    length-take-le (c.WIDTH.result * count / 8) c.args.output.now
+    (room-symbols c.WIDTH.ensures few (c.requires.room c.in-Ok.ensures.whole))
     ∙ ap (λ n. c.WIDTH.result * n / 8) (sym (length-take-le count group few))
     ∙ ap (λ w. w * length (take count group) / 8) c.WIDTH.ensures
 
@@ -65,12 +54,10 @@ returns-then-not-decode_symbols-clause-fault g c =
     let symbols = take count group in
     let found = c.symbol_position.result in
     let inside : found < length symbols =
-    ⊎_elim
-    (λ (inside : found < length symbols). inside)
+    lt_of_not-le
     (λ (past : length symbols ≤ found).
-    absurd (false≢true (c.if-not-decode_symbols.ensures.symbols.1
-    (λ k below. c.symbol_position.ensures.before k (omega (arith, past, below))))))
-    (cases_lt found (length symbols)) in
+    false≢true (c.if-not-decode_symbols.ensures.symbols.1
+    (λ k below. c.symbol_position.ensures.before k (omega (arith, past, below))))) in
     rw (c.if-ended.false, c.faulty-then-not-decode_symbols.ensures)
     (symbol-fault seen c.self.inside.fields.now.values
     (HoldsValues-seen _ c.self.invariant seen c.self.view_is) group
@@ -109,16 +96,11 @@ returns-then-has_trailing-clause-fault g c =
 
 pub returns-clause-sound : goal.returns-clause-sound
 returns-clause-sound g c =
-    let room : c.WIDTH.result * length c.args.group.now / 8 ≤ length c.args.output.now =
-    subst (λ w. w * length c.args.group.now / 8 ≤ length c.args.output.now) (sym c.WIDTH.ensures)
-    (c.requires.room c.in-Ok.ensures.whole) in
     let seen = c.args.self.now in
     let group = c.args.group.now in
     let count = c.in-Ok.count in
     let symbols = take count group in
     let judged = map (meaning seen) symbols in
-    let few = c.in-Ok.ensures.symbols.within in
-    let most = mul-le-mul_left c.WIDTH.result few in
     let reads = Reads-seen _ c.self.invariant seen c.self.view_is g.G.GroupSize.WIDTH
     c.args.order c.requires.width c.requires.order in
     let checks = ap (λ (b : Base). b.checks_trailing_bits) (sym c.self.view_is) in
@@ -137,14 +119,14 @@ returns-clause-sound g c =
     c.in-Ok.ensures.symbols (c.if-not-decode_symbols.ensures.symbols.0 refl) quiet
     c.decode_symbols.new.output (drop (c.WIDTH.result * count / 8) c.args.output.now)
     (c.decode_symbols.auto.output
-    ∙ length-take-le (c.WIDTH.result * count / 8) c.args.output.now (omega (arith, most, room))
+    ∙ length-take-le (c.WIDTH.result * count / 8) c.args.output.now
+    (room-symbols c.WIDTH.ensures c.in-Ok.ensures.symbols.within
+    (c.requires.room c.in-Ok.ensures.whole))
     ∙ ap (λ w. w * count / 8) (c.WIDTH.ensures ∙ sym c.requires.width))
     (c.if-not-decode_symbols.ensures.bytes seen reads refl)
 
 pub overflow_mul-room : goal.overflow_mul-room
 overflow_mul-room g c =
-    let few = (IsSmall-group g.G.GroupSize.is_group).few_symbols in
-    let most = mul-le c.WIDTH.result c.in-Ok.count 6 8
-    (omega (arith, g.G.GroupSize.is_group.is_width.few, c.WIDTH.ensures))
-    (omega (arith, few, c.requires.few, c.in-Ok.ensures.symbols.within)) in
-    record { fits = omega (arith, most) }
+    let few = few-bits g.G.GroupSize.is_group c.WIDTH.ensures c.in-Ok.count
+    (omega (arith, c.requires.few, c.in-Ok.ensures.symbols.within)) in
+    record { fits = omega (arith, few) }

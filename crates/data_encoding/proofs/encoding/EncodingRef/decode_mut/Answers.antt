@@ -1,44 +1,40 @@
-use Rattle.data_encoding.proofs.decoding.LoopLemmas.{stopped-means, stopped-most, stopped-stops}
+use Rattle.std.proofs.Common.{arith}
+use Rattle.data_encoding.specs.Decoding.{HasStopped}
+use Rattle.data_encoding.specs.Partial.{StopsAt}
+use Rattle.data_encoding.proofs.decoding.StopLemmas.{fault-partial, most-partial}
+use Rattle.data_encoding.proofs.grammar.MeaningLemmas.{no_fault-Means}
 use Rattle.data_encoding.proofs.encoding.EncodingRef.decode_mut.Goals as goal
+use Rattle.data_encoding.proofs.encoding.EncodingRef.decode_mut.Goals.{After-stopped}
+
+stops : (c : After-stopped)
+    → StopsAt c.args.self.now c.args.input.now c.stopped.new.output c.stopped.result
+stops c =
+    let ended : HasStopped c.args.self.now c.args.input.now c.decode_in_order.new.output
+    c.decode_in_order.new.stop =
+    rw c.if-decode_in_order.false at c.decode_in_order.ensures.ends in
+    ended.stops c.stopped.new.output c.stopped.result
+    (omega (arith, c.stopped.auto.output, ended.fits)) c.stopped.ensures.kept c.stopped.ensures.stop
 
 pub returns-clause-accepted : goal.returns-clause-accepted
-returns-clause-accepted c =
-    let stops = stopped-stops c.args.self.now c.args.input.now c.decode_in_order.new.output
-    c.decode_in_order.new.stop (rw c.if-decode_in_order.false at c.decode_in_order.ensures.ends)
-    c.stopped.new.output c.stopped.result c.stopped.auto.output c.stopped.ensures.kept
-    c.stopped.ensures.stop in
-    stopped-means c.args.self.now c.decode_in_order.ensures.width c.args.input.now
-    c.stopped.new.output c.stopped.result stops
+returns-clause-accepted c bytes means =
+    let fault = fault-partial c.args.self.now c.args.input.now c.stopped.result
+    (stops (goal.at.returns-clause-accepted c).After-stopped).is_partial in
+    let none = no_fault-Means c.args.self.now c.decode_in_order.ensures.width c.args.input.now bytes
+    means in
+    cc
 
 pub returns-clause-fault : goal.returns-clause-fault
-returns-clause-fault c =
-    let stops = stopped-stops c.args.self.now c.args.input.now c.decode_in_order.new.output
-    c.decode_in_order.new.stop (rw c.if-decode_in_order.false at c.decode_in_order.ensures.ends)
-    c.stopped.new.output c.stopped.result c.stopped.auto.output c.stopped.ensures.kept
-    c.stopped.ensures.stop in
-    stops.is_partial
+returns-clause-fault c = (stops (goal.at.returns-clause-fault c).After-stopped).is_partial
 
 pub returns-clause-partial : goal.returns-clause-partial
-returns-clause-partial c =
-    let stops = stopped-stops c.args.self.now c.args.input.now c.decode_in_order.new.output
-    c.decode_in_order.new.stop (rw c.if-decode_in_order.false at c.decode_in_order.ensures.ends)
-    c.stopped.new.output c.stopped.result c.stopped.auto.output c.stopped.ensures.kept
-    c.stopped.ensures.stop in
-    stops.means
+returns-clause-partial c = (stops (goal.at.returns-clause-partial c).After-stopped).means
 
 pub returns-clause-bounds : goal.returns-clause-bounds
 returns-clause-bounds c =
-    let stops = stopped-stops c.args.self.now c.args.input.now c.decode_in_order.new.output
-    c.decode_in_order.new.stop (rw c.if-decode_in_order.false at c.decode_in_order.ensures.ends)
-    c.stopped.new.output c.stopped.result c.stopped.auto.output c.stopped.ensures.kept
-    c.stopped.ensures.stop in
+    let stops = stops (goal.at.returns-clause-bounds c).After-stopped in
     (stops.read_before, stops.within)
 
 pub returns-clause-most : goal.returns-clause-most
 returns-clause-most c =
-    let stops = stopped-stops c.args.self.now c.args.input.now c.decode_in_order.new.output
-    c.decode_in_order.new.stop (rw c.if-decode_in_order.false at c.decode_in_order.ensures.ends)
-    c.stopped.new.output c.stopped.result c.stopped.auto.output c.stopped.ensures.kept
-    c.stopped.ensures.stop in
-    stopped-most c.args.self.now c.decode_in_order.ensures.width c.args.input.now
-    c.stopped.new.output c.stopped.result stops
+    most-partial c.args.self.now c.decode_in_order.ensures.width c.args.input.now
+    c.stopped.new.output c.stopped.result (stops (goal.at.returns-clause-most c).After-stopped)

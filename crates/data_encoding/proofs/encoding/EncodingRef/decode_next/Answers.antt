@@ -1,12 +1,12 @@
-use Rattle.std.proofs.Common.{ℕ, ◌+◌, ◌∙◌, inl, inr, refl, sym, arith, length-drop}
-use Rattle.std.proofs.lemmas.Nat.{mul-le}
-use Rattle.data_encoding.proofs.decoding.LoopLemmas.{under_way}
-use Rattle.data_encoding.proofs.decoding.StepLemmas.{after_group, decoded-behind, decoded-none, gathered-next, group-final, group-more, group-stopped, room-next_group, some-group, written-few}
+use Rattle.std.proofs.Common.{◌≡◌, ℕ, ◌+◌, ◌*◌, ◌/◌, ◌∙◌, ◌&&◌, Bool, not, nat_lt, length, inl, inr, refl, sym, arith, length-drop}
+use Rattle.data_encoding.proofs.decoding.GroupJudgementLemmas.{few-bits}
+use Rattle.data_encoding.proofs.decoding.StepLemmas.{IsUnderWay, after_group, decoded-behind, decoded-none, final-is, final-not, gathered-next, group-stopped, room-next_group, some-group, under_way, written-few}
 use Rattle.data_encoding.proofs.decoding.GatherLemmas.{gathered-few}
 use Rattle.data_encoding.proofs.digits.SizeLemmas.{IsGroup-same}
-use Rattle.data_encoding.proofs.digits.WidthLemmas.{group_symbols-few}
+use Rattle.data_encoding.proofs.lists.WriteLemmas.{rewritten}
+use Rattle.data_encoding.proofs.encoding.EncodingRef.decode_next.Given.{Over}
 use Rattle.data_encoding.proofs.encoding.EncodingRef.decode_next.Goals as goal
-use Rattle.data_encoding.proofs.encoding.EncodingRef.decode_next.Goals.{else-count-group-via-then-count-group+else-not-self, else-count-group-via-else-count-group}
+use Rattle.data_encoding.proofs.encoding.EncodingRef.decode_next.Goals.{After-WIDTH, else-count-group-via-then-count-group+else-not-self, else-count-group-via-else-count-group}
 
 pub returns-then-start-input : goal.returns-then-start-input
 returns-then-start-input g c =
@@ -30,57 +30,46 @@ decode_group-requires-clause-room g c =
 
 pub overflow_mul-stop : goal.overflow_mul-stop
 overflow_mul-stop g c =
-    let eight = group_symbols-few g.G.GroupSize.WIDTH g.G.GroupSize.is_group.is_width in
-    let most = mul-le c.WIDTH.result c.in-Ok.count 6 8
-    (omega (arith, c.WIDTH.ensures, g.G.GroupSize.is_group.is_width.few))
-    (omega (
-      arith,
-      c.next_group-group.ensures.few,
-      eight,
-      c.in-Ok.ensures.sound.within,
-      g.G.GroupSize.is_group.has_symbols,
-    )) in
-    record { fits = omega (arith, most) }
+    let few = few-bits g.G.GroupSize.is_group c.WIDTH.ensures c.in-Ok.count
+    (omega (arith, c.next_group-group.ensures.few, c.in-Ok.ensures.sound.within)) in
+    record { fits = omega (arith, few) }
 
-pub overflow_add-stop-2 : goal.overflow_add-stop-2
-overflow_add-stop-2 g c =
+-- the decoding behind the group, which is final or not
+after : (g : Over) (c : After-WIDTH g) {final : Bool}
+    → (not c.args.self.now.concatenates
+    && nat_lt c.in-Ok.count (length c.next_group-group.result.bytes.now)) ≡ final
+    → IsUnderWay c.args.self.now c.args.input.now c.WIDTH.result g.G.GroupSize.BYTES
+    g.G.GroupSize.SYMBOLS (c.args.at.read + c.args.at.ignored + c.next_group-group.result.span)
+    (c.args.at.written + c.WIDTH.result * c.in-Ok.count / 8) final
+    (rewritten c.args.at.written c.args.output.now c.decode_group.new.output)
+after g c =
     let group = IsGroup-same c.WIDTH.ensures refl refl g.G.GroupSize.is_group in
     let now = under_way group (c.requires.width ∙ sym c.WIDTH.ensures) c.requires.exact
     c.requires.so_far in
     let some = some-group c.next_group-group.ensures c.is_empty.ensures c.if-is_empty.false in
-    let few = written-few (after_group now
-    (gathered-next now c.requires.front c.next_group-group.ensures some) some
-    c.decode_group.auto.output c.in-Ok.ensures.sound _ refl refl) in
+    after_group now (gathered-next now c.requires.front c.next_group-group.ensures some) some
+    c.decode_group.auto.output c.in-Ok.ensures.sound
+    (c.args.at.read + c.args.at.ignored + c.next_group-group.result.span) (omega arith)
+
+pub overflow_add-stop-2 : goal.overflow_add-stop-2
+overflow_add-stop-2 g c =
+    let few = written-few (after g (goal.at.overflow_add-stop-2 g c).After-WIDTH refl) in
     record { fits = omega (arith, few, c.requires.limit) }
 
 pub is_end-requires-clause-so_far : goal.is_end-requires-clause-so_far
 is_end-requires-clause-so_far g c =
-    let group = IsGroup-same c.WIDTH.ensures refl refl g.G.GroupSize.is_group in
-    let now = under_way group (c.requires.width ∙ sym c.WIDTH.ensures) c.requires.exact
-    c.requires.so_far in
-    let some = some-group c.next_group-group.ensures c.is_empty.ensures c.if-is_empty.false in
-    (group-final now
-    (gathered-next now c.requires.front c.next_group-group.ensures some) some
-    c.decode_group.auto.output c.in-Ok.ensures.sound
-    (c.args.at.read + c.args.at.ignored + c.next_group-group.result.span) (omega arith)
-    c.self.view_is c.if-not-self.true c.if-count-group.true).so_far
+    (after g (goal.at.is_end-requires-clause-so_far g c).After-WIDTH
+    (final-is _ _ c.self.view_is c.if-not-self.true c.if-count-group.true)).so_far
 
 pub returns : goal.returns
 returns g c =
-    let group = IsGroup-same c.WIDTH.ensures refl refl g.G.GroupSize.is_group in
-    let now = under_way group (c.requires.width ∙ sym c.WIDTH.ensures) c.requires.exact
-    c.requires.so_far in
     let some = some-group c.next_group-group.ensures c.is_empty.ensures c.if-is_empty.false in
-    let more = group-more now
-    (gathered-next now c.requires.front c.next_group-group.ensures some) some
-    c.decode_group.auto.output c.in-Ok.ensures.sound
-    (c.args.at.read + c.args.at.ignored + c.next_group-group.result.span) (omega arith)
-    c.self.view_is
+    let few = gathered-few c.next_group-group.ensures in
+    let more = after g (goal.at.returns g c).After-WIDTH (final-not _ _ c.self.view_is
     (elim c.else-count-group.branch [
       | else-count-group-via-then-count-group+else-not-self b ↦ inl b.if-not-self.false
       | else-count-group-via-else-count-group b ↦ inr b.if-count-group.false
-    ]) in
-    let few = gathered-few c.next_group-group.ensures in
+    ])) in
     (omega (arith, some, few), more.so_far)
 
 pub returns-in-Err : goal.returns-in-Err

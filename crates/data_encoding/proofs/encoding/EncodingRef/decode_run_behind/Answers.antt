@@ -1,6 +1,5 @@
 use Rattle.std.proofs.Common.{ℕ, ◌+◌, ◌*◌, refl, ap, arith, length-drop}
-use Rattle.data_encoding.proofs.decoding.LoopLemmas.{under_way}
-use Rattle.data_encoding.proofs.decoding.StepLemmas.{after_none, after_run, room-next_run, written-few}
+use Rattle.data_encoding.proofs.decoding.StepLemmas.{after_none, after_run, room-next_run, under_way, written-few}
 use Rattle.data_encoding.proofs.digits.SizeLemmas.{IsGroup-same}
 use Rattle.data_encoding.proofs.lists.PartLemmas.{length-rest}
 use Rattle.data_encoding.proofs.encoding.EncodingRef.decode_run_behind.Goals as goal

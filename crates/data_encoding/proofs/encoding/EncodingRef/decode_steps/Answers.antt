@@ -1,5 +1,5 @@
 use Rattle.std.proofs.Common.{Ok, sym, ap, ◌∙◌}
-use Rattle.data_encoding.proofs.decoding.LoopLemmas.{decoded-all, under_way}
+use Rattle.data_encoding.proofs.decoding.StepLemmas.{decoded-all, under_way}
 use Rattle.data_encoding.proofs.encoding.EncodingRef.decode_steps.Goals as goal
 
 pub returns : goal.returns

@@ -1,7 +1,7 @@
 use Rattle.std.proofs.Common.{Ok, sym, ap, ◌∙◌, subst, arith}
 use Rattle.data_encoding.specs.Base.{IsWidth}
 use Rattle.data_encoding.proofs.decoding.IgnoredFrontLemmas.{no_front}
-use Rattle.data_encoding.proofs.decoding.LoopLemmas.{decoded-all, under_way}
+use Rattle.data_encoding.proofs.decoding.StepLemmas.{decoded-all, under_way}
 use Rattle.data_encoding.proofs.decoding.ProgressLemmas.{begin}
 use Rattle.data_encoding.proofs.tables.TableLemmas.{Reads-seen}
 use Rattle.data_encoding.proofs.encoding.EncodingRef.decode_text.Goals as goal

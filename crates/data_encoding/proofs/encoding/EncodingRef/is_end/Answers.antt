@@ -1,5 +1,4 @@
-use Rattle.data_encoding.proofs.decoding.LoopLemmas.{under_way}
-use Rattle.data_encoding.proofs.decoding.StepLemmas.{decoded-empty, group-stopped, room-next_group}
+use Rattle.data_encoding.proofs.decoding.StepLemmas.{decoded-empty, group-stopped, room-next_group, under_way}
 use Rattle.data_encoding.proofs.encoding.EncodingRef.is_end.Goals as goal
 
 pub returns-then-is_empty : goal.returns-then-is_empty

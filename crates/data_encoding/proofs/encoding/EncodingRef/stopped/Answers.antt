@@ -11,7 +11,7 @@ use Rattle.data_encoding.specs.Partial.{is_length_fault}
 use Rattle.data_encoding.proofs.lists.PartLemmas.{length-rest}
 use Rattle.data_encoding.proofs.lists.WriteLemmas.{drop-put_mid_at, length-put_mid}
 use Rattle.data_encoding.proofs.encoding.EncodingRef.stopped.Goals as goal
-use Rattle.data_encoding.proofs.encoding.EncodingRef.stopped.Goals.{in-Length, in_default}
+use Rattle.data_encoding.proofs.encoding.EncodingRef.stopped.Goals.{After-kept_position, Then-matches, in-Length, in_default}
 
 is_length : (kind : DecodeKind) → is_length_fault kind ≡ true → kind ≡ Length
 is_length Length h = refl
@@ -26,103 +26,88 @@ overflow_add-position c =
     let left = length-drop c.args.stop.read c.args.input.now in
     record { fits = omega (arith, within, whole, left, c.requires.within, c.requires.limit) }
 
-pub returns-else-matches-clause-stop : goal.returns-else-matches-clause-stop
-returns-else-matches-clause-stop c =
-    let rest = drop c.args.stop.read c.args.input.now in
-    let index = c.args.stop.index in
-    let found : c.kept_position.result ≡ position_of (kept c.args.self.now rest) index =
-    subst (λ l. index < length (kept c.args.self.now l)
-    → c.kept_position.result ≡ position_of (kept c.args.self.now l) index)
+-- the position that is reported
+found : (c : After-kept_position)
+    → c.kept_position.result
+    ≡ position_of (kept c.args.self.now (drop c.args.stop.read c.args.input.now)) c.args.stop.index
+found c =
+    subst (λ l. c.args.stop.index < length (kept c.args.self.now l)
+    → c.kept_position.result ≡ position_of (kept c.args.self.now l) c.args.stop.index)
     (take_rest c.args.input.now c.args.stop.read) c.kept_position.ensures.found c.requires.inside
-    in
-    record {
-      error_is = ap (λ n. record { position = c.args.stop.read + n; kind = c.args.stop.kind })
-          found;
-      how = inl (
-        refl,
-        refl,
-        λ length_is. elim c.match-matches.branch [
-          | in-Length w ↦ absurd (false≢true (sym c.if-matches.false ∙ w.matches-is))
-          | in_default w ↦
-              absurd (w.in_default.not-Length (is_length c.args.stop.kind length_is))
-        ],
-      );
-    }
+
+length_is : (c : Then-matches) → is_length_fault c.args.stop.kind ≡ true
+length_is c =
+    elim c.match-matches.branch [
+      | in-Length w ↦ ap is_length_fault w.in-Length.is
+      | in_default w ↦ absurd (false≢true (sym w.matches-is ∙ c.if-matches.true))
+    ]
+
+pub returns-else-matches-clause-stop : goal.returns-else-matches-clause-stop
+returns-else-matches-clause-stop c = record {
+  error_is = ap (λ n. record { position = c.args.stop.read + n; kind = c.args.stop.kind })
+      (found (goal.at.returns-else-matches-clause-stop c).After-kept_position);
+  how = inl (
+    refl,
+    refl,
+    λ length_is. elim c.match-matches.branch [
+      | in-Length w ↦ absurd (false≢true (sym c.if-matches.false ∙ w.matches-is))
+      | in_default w ↦ absurd (w.in_default.not-Length (is_length c.args.stop.kind length_is))
+    ],
+  );
+}
 
 pub returns-in-Some-clause-stop : goal.returns-in-Some-clause-stop
 returns-in-Some-clause-stop c =
     let seen = c.args.self.now in
     let rest = drop c.args.stop.read c.args.input.now in
-    let whole = take_rest c.args.input.now c.args.stop.read in
-    let index = c.args.stop.index in
     let output = c.args.output.now in
     let written = c.args.stop.written in
     let count = c.in-Some.count in
-    let found : c.kept_position.result ≡ position_of (kept seen rest) index =
-    subst (λ l. index < length (kept seen l)
-    → c.kept_position.result ≡ position_of (kept seen l) index)
-    whole c.kept_position.ensures.found c.requires.inside in
-    let length_is : is_length_fault c.args.stop.kind ≡ true =
-    elim c.match-matches.branch [
-      | in-Length w ↦ ap is_length_fault w.in-Length.is
-      | in_default w ↦ absurd (false≢true (sym w.matches-is ∙ c.if-matches.true))
-    ] in
     let last = c.decode_front.new.output in
-    let back = drop-put_mid_at written output last c.requires.fits in
     let run = c.in-Some.ensures.run in
-    let new = put_mid written (length output - written) output last in
     let left = c.decode_front.auto.output ∙ ap length (take_rest output written)
     ∙ length-drop written output in
-    let new_len : length new ≡ length output =
+    let new_len : length (put_mid written (length output - written) output last)
+    ≡ length output =
     length-put_mid written (length output - written) output last
     (omega (arith, c.requires.fits)) left in
     record {
       error_is = ap (λ n. record { position = c.args.stop.read + n; kind = c.args.stop.kind })
-          found;
+          (found (goal.at.returns-in-Some-clause-stop c).After-kept_position);
       how = inr (
-        length_is,
+        length_is (goal.at.returns-in-Some-clause-stop c).Then-matches,
         refl,
         count,
         refl,
         omega (arith, run.0, new_len, left, c.requires.fits),
-        subst (λ l. IsLastRun seen rest count l) (sym back)
-            (subst (λ l. IsLastRun seen l count last) whole run.1),
+        subst (λ l. IsLastRun seen rest count l)
+            (sym (drop-put_mid_at written output last c.requires.fits))
+            (subst (λ l. IsLastRun seen l count last)
+            (take_rest c.args.input.now c.args.stop.read) run.1),
       );
     }
 
 pub returns-in_default-decode_front-clause-stop : goal.returns-in_default-decode_front-clause-stop
-returns-in_default-decode_front-clause-stop c =
-    let seen = c.args.self.now in
-    let rest = drop c.args.stop.read c.args.input.now in
-    let whole = take_rest c.args.input.now c.args.stop.read in
-    let index = c.args.stop.index in
-    let found : c.kept_position.result ≡ position_of (kept seen rest) index =
-    subst (λ l. index < length (kept seen l)
-    → c.kept_position.result ≡ position_of (kept seen l) index)
-    whole c.kept_position.ensures.found c.requires.inside in
-    record {
-      error_is = ap (λ n. record { position = c.args.stop.read + n; kind = c.args.stop.kind })
-          found;
-      how = inl (
-        refl,
-        refl,
-        λ _. subst (HasNoLastRun seen) whole (c.in_default-decode_front.ensures.none refl),
-      );
-    }
+returns-in_default-decode_front-clause-stop c = record {
+  error_is = ap (λ n. record { position = c.args.stop.read + n; kind = c.args.stop.kind })
+      (found (goal.at.returns-in_default-decode_front-clause-stop c).After-kept_position);
+  how = inl (
+    refl,
+    refl,
+    λ _. subst (HasNoLastRun c.args.self.now) (take_rest c.args.input.now c.args.stop.read)
+        (c.in_default-decode_front.ensures.none refl),
+  );
+}
 
 pub decode_front-requires-clause-room : goal.decode_front-requires-clause-room
 decode_front-requires-clause-room c =
     let output = c.args.output.now in
     let written = c.args.stop.written in
-    let length_is : is_length_fault c.args.stop.kind ≡ true =
-    elim c.match-matches.branch [
-      | in-Length w ↦ ap is_length_fault w.in-Length.is
-      | in_default w ↦ absurd (false≢true (sym w.matches-is ∙ c.if-matches.true))
-    ] in
     let left = ap length (take_rest output written) ∙ length-drop written output in
     subst (HasRoom c.args.self.now _) (sym left)
     (subst (λ l. HasRoom c.args.self.now l (length output - written))
-    (sym (take_rest c.args.input.now c.args.stop.read)) (c.requires.room length_is))
+    (sym (take_rest c.args.input.now c.args.stop.read))
+    (c.requires.room (length_is (goal.at.decode_front-requires-clause-room c).Then-matches)))
 
 pub slice_bounds-rest-count : goal.slice_bounds-rest-count
 slice_bounds-rest-count c = c.requires.within
