@@ -1,6 +1,7 @@
 -- Entries of a table at bytes in lanes, from rows of sixteen, and the test of them all.
 use Rattle.std.proofs.Common.{◌≡◌, ℕ, zero, suc, ◌+◌, ◌*◌, ◌/◌, ◌%◌, ◌^◌, ◌<◌, ◌≤◌, Bool, true, false, not, cond, eqb, leb, List, [], ◌∷◌, ◌++◌, length, map, take, drop, get_or, slice_index, replicate, bit_and, bit_or, w8, refl, sym, ap, ◌∙◌, subst, arith, eqb-true, leb-false, length-append}
 use Rattle.std.proofs.lemmas.Bool.{leb-true}
+use Rattle.std.proofs.lemmas.Bool.Decides.{nat_tests}
 use Rattle.std.proofs.lemmas.Nat.{and_mask, and_le_r, le_or_r}
 use Rattle.std.proofs.lemmas.Nat.Bits.{and_high}
 use Rattle.std.proofs.lemmas.List.{length-map, get_or-map, get_or-take, get_or-drop, ext_get_or, map-append, take_at}
@@ -17,24 +18,16 @@ abbrev repeats : ℕ → List ℕ → List ℕ
 repeats times xs = concat (replicate times xs)
 
 -- no lane is at least the limit
-below-first : (limit lane : ℕ) (lanes : List ℕ)
-    → mask_l (map (leb limit) (lane ∷ lanes)) ≡ 0 → (test : Bool) → leb limit lane ≡ test
-    → (mask_l (map (leb limit) lanes) ≡ 0 → AllByRecursion (λ x. x < limit) lanes)
-    → AllByRecursion (λ x. x < limit) (lane ∷ lanes)
-below-first limit lane lanes e true is others =
-    let one : 1 + 2 * mask_l (map (leb limit) lanes) ≡ 0 =
-    ap (λ b. cond b 1 0 + 2 * mask_l (map (leb limit) lanes)) (sym is) ∙ e in
-    absurd (omega (arith, one))
-below-first limit lane lanes e false is others =
-    let none : 0 + 2 * mask_l (map (leb limit) lanes) ≡ 0 =
-    ap (λ b. cond b 1 0 + 2 * mask_l (map (leb limit) lanes)) (sym is) ∙ e in
-    (leb-false limit lane is, others (omega (arith, none)))
+below-first : (limit lane rest : ℕ) → cond (leb limit lane) 1 0 + 2 * rest ≡ 0
+    → (lane < limit) × (rest ≡ 0)
+below-first limit lane rest e = grind (arith, nat_tests)
 
 below-by_mask : (limit : ℕ) (lanes : List ℕ) → mask_l (map (leb limit) lanes) ≡ 0
     → AllByRecursion (λ lane. lane < limit) lanes
 below-by_mask limit [] e = tt
 below-by_mask limit (lane ∷ lanes) e =
-    below-first limit lane lanes e (leb limit lane) refl (below-by_mask limit lanes)
+    let first = below-first limit lane (mask_l (map (leb limit) lanes)) e in
+    (first.0, below-by_mask limit lanes first.1)
 
 abbrev pub at_most : ℕ → ℕ → ℕ
 at_most a b = cond (leb a b) 255 0
@@ -159,86 +152,28 @@ of_rows values =
     (chosen_by 2 (chosen_by 3 (in_row values 48) (in_row values 32))
     (chosen_by 3 (in_row values 16) (in_row values 0)))
 
-abbrev choose : List ℕ → ℕ → Bool → Bool → Bool → ℕ
-choose values byte a b c =
-    cond a
-    (cond b (cond c (in_row values 112 byte) (in_row values 96 byte))
-    (cond c (in_row values 80 byte) (in_row values 64 byte)))
-    (cond b (cond c (in_row values 48 byte) (in_row values 32 byte))
-    (cond c (in_row values 16 byte) (in_row values 0 byte)))
-
--- the bits of a byte
-abbrev bit : ℕ → ℕ → Bool
-bit byte shift = leb 128 (up byte shift)
+-- what both sides give, each where the bit is as it wants
+by-bit : (byte is shift x y : ℕ) → (128 ≤ up byte shift → x ≡ is) → (up byte shift < 128 → y ≡ is)
+    → cond (leb 128 (up byte shift)) x y ≡ is
+by-bit byte is shift x y set clear = go (leb 128 (up byte shift)) refl
+  where
+    go : (b : Bool) → leb 128 (up byte shift) ≡ b → cond b x y ≡ is
+    go true e = set (leb-true 128 (up byte shift) e)
+    go false e = clear (leb-false 128 (up byte shift) e)
 
 of_rows-is : (values : List ℕ) (byte : ℕ) → byte < 128
     → of_rows values byte ≡ slice_index values byte
 of_rows-is values byte h =
-    go (bit byte 1) refl (bit byte 2) refl (bit byte 3) refl
+    let by = by-bit byte (slice_index values byte) in
+    by 1 _ _
+    (λ a. by 2 _ _ (λ b. by 3 _ _ (λ c. at 112 (omega arith)) (λ c. at 96 (omega arith)))
+    (λ b. by 3 _ _ (λ c. at 80 (omega arith)) (λ c. at 64 (omega arith))))
+    (λ a. by 2 _ _ (λ b. by 3 _ _ (λ c. at 48 (omega arith)) (λ c. at 32 (omega arith)))
+    (λ b. by 3 _ _ (λ c. at 16 (omega arith)) (λ c. at 0 (omega arith))))
   where
     at : (start : ℕ) → start + byte % 16 ≡ byte
         → in_row values start byte ≡ slice_index values byte
-    at start e = ap (λ k. slice_index values k) e
-
-    go : (a : Bool) → bit byte 1 ≡ a → (b : Bool) → bit byte 2 ≡ b
-        → (c : Bool) → bit byte 3 ≡ c
-        → choose values byte a b c ≡ slice_index values byte
-    go true e true f true k = at 112 (omega (
-      arith,
-      h,
-      leb-true 128 (up byte 1) e,
-      leb-true 128 (up byte 2) f,
-      leb-true 128 (up byte 3) k,
-    ))
-    go true e true f false k = at 96 (omega (
-      arith,
-      h,
-      leb-true 128 (up byte 1) e,
-      leb-true 128 (up byte 2) f,
-      leb-false 128 (up byte 3) k,
-    ))
-    go true e false f true k = at 80 (omega (
-      arith,
-      h,
-      leb-true 128 (up byte 1) e,
-      leb-false 128 (up byte 2) f,
-      leb-true 128 (up byte 3) k,
-    ))
-    go true e false f false k = at 64 (omega (
-      arith,
-      h,
-      leb-true 128 (up byte 1) e,
-      leb-false 128 (up byte 2) f,
-      leb-false 128 (up byte 3) k,
-    ))
-    go false e true f true k = at 48 (omega (
-      arith,
-      h,
-      leb-false 128 (up byte 1) e,
-      leb-true 128 (up byte 2) f,
-      leb-true 128 (up byte 3) k,
-    ))
-    go false e true f false k = at 32 (omega (
-      arith,
-      h,
-      leb-false 128 (up byte 1) e,
-      leb-true 128 (up byte 2) f,
-      leb-false 128 (up byte 3) k,
-    ))
-    go false e false f true k = at 16 (omega (
-      arith,
-      h,
-      leb-false 128 (up byte 1) e,
-      leb-false 128 (up byte 2) f,
-      leb-true 128 (up byte 3) k,
-    ))
-    go false e false f false k = at 0 (omega (
-      arith,
-      h,
-      leb-false 128 (up byte 1) e,
-      leb-false 128 (up byte 2) f,
-      leb-false 128 (up byte 3) k,
-    ))
+    at start e = ap (slice_index values) e
 
 -- a byte from 128 on keeps its highest bit
 abbrev of_byte : List ℕ → ℕ → ℕ

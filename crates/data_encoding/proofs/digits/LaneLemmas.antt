@@ -2,7 +2,7 @@
 use Rattle.std.proofs.Common.{◌≡◌, ℕ, ◌+◌, ◌*◌, ◌/◌, ◌%◌, ◌^◌, ◌<◌, ◌≤◌, Bool, cond, List, [], ◌∷◌, ◌++◌, length, map, replicate, bit_and, bit_or, refl, sym, ap, ◌∙◌, arith}
 use Rattle.std.proofs.Math.Nat.{pow-zero, pow-succ', mul_comm, mul-add, mul_assoc, mod-lt}
 use Rattle.std.proofs.lemmas.Nat.{div-mul-add, mod-mul-add, pow_pos}
-use Rattle.std.proofs.lemmas.Simd.{zip2_splat, zip2_of_maps, splat_is_map}
+use Rattle.std.proofs.lemmas.Simd.{map-map, zip2_splat, zip2_of_maps, splat_is_map}
 use Rattle.std.specs.Prelude.{flat_map}
 use Rattle.std.specs.List.{AllByRecursion, range_with_len}
 use Rattle.std.specs.Simd.Lanes.{number_l, digits_l, sel_l, zip2}
@@ -89,6 +89,11 @@ pub map-same : {V X : Type 0} (P : V → Type 0) (f g : V → X) → ((v : V) �
     → (vs : List V) → AllByRecursion P vs → map f vs ≡ map g vs
 map-same P f g same [] h = refl
 map-same P f g same (v ∷ vs) h = λ i. same v h.0 i ∷ map-same P f g same vs h.1 i
+
+-- lanes that are mapped once more
+pub mapped-on : (f g : ℕ → ℕ) (words : List ℕ) {xs ys : List ℕ} → xs ≡ map f words → ys ≡ map g xs
+    → ys ≡ map (λ word. g (f word)) words
+mapped-on f g words is more = more ∙ ap (map g) is ∙ map-map g f words
 
 -- what holds of any four lanes
 by_four : (P : List ℕ → Type 0) → ((a b c d : ℕ) → P (a ∷ b ∷ c ∷ d ∷ []))
