@@ -34,18 +34,37 @@ abbrev at_row : List ℕ → ℕ → ℕ
 at_row row byte = in_row row 0 (byte / 16)
 
 -- a row, as what it has from its own beginning on
-pub own-row : (row : List ℕ) → IsRow row 0 row
+own-row : (row : List ℕ) → IsRow row 0 row
 own-row row k h = ap (λ j. get_or row j 0) (omega arith)
 
 abbrev down : ℕ → ℕ → ℕ
 down a b = a / 2 ^ b
 
-pub at-rows : (row : List ℕ) (count : ℕ) (bytes entries : List ℕ) → length bytes ≡ count
+at-rows : (row : List ℕ) (count : ℕ) (bytes entries : List ℕ) → length bytes ≡ count
     → entries ≡ map (in_row row 0) (zip2 down bytes (replicate count 4))
     → entries ≡ map (at_row row) bytes
 at-rows row count bytes entries long e =
     e ∙ ap (map (in_row row 0)) (zip2_splat down bytes count 4 long)
     ∙ map-map (in_row row 0) (λ byte. down byte 4) bytes
+
+-- what is looked up in a row
+abbrev LooksUp : List ℕ → List ℕ → List ℕ → Type 0
+LooksUp row places found =
+    (values : List ℕ) (start : ℕ) → IsRow values start row → found ≡ map (in_row values start) places
+
+-- what is looked up for the entries at bytes
+pub rows-found : (affine : Affine) (count : ℕ) (bytes bits : List ℕ) {symbols found deltas : List ℕ}
+    → bits ≡ bits_of_rows → length bytes ≡ count → LooksUp affine.symbols bytes symbols
+    → LooksUp bits (zip2 down bytes (replicate count 4)) found
+    → LooksUp affine.deltas (zip2 down bytes (replicate count 4)) deltas
+    → (symbols ≡ map (in_row affine.symbols 0) bytes) × (found ≡ map (at_row bits_of_rows) bytes)
+    × (deltas ≡ map (at_row affine.deltas) bytes)
+rows-found affine count bytes bits {symbols} {found} {deltas} is long first second third = (
+  first affine.symbols 0 (own-row affine.symbols),
+  at-rows bits_of_rows count bytes found long
+      (second bits_of_rows 0 (subst (IsRow bits_of_rows 0) (sym is) (own-row bits_of_rows))),
+  at-rows affine.deltas count bytes deltas long (third affine.deltas 0 (own-row affine.deltas)),
+)
 
 pub found-are : (affine : Affine) (count : ℕ) (bytes symbols bits deltas : List ℕ)
     → length bytes ≡ count → symbols ≡ map (in_row affine.symbols 0) bytes

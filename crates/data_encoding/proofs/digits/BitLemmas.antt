@@ -8,6 +8,7 @@ use Rattle.std.specs.List.{AllByRecursion}
 use Rattle.data_encoding.specs.declared.encoding.BitOrder.{BitOrder}
 use Rattle.data_encoding.specs.declared.encoding.BitOrder.TheVariants.{MostSignificantFirst, LeastSignificantFirst}
 use Rattle.data_encoding.specs.Bits.{low_bits, number_of_low_bits, bits_of, number_of}
+use Rattle.data_encoding.proofs.lists.EachLemmas.{all_joined, all_parts, all_reversed}
 
 -- each is 0 or 1
 abbrev pub AreBits : List ℕ → Type 0
@@ -86,16 +87,13 @@ low_bits-mod (suc count) number =
 
 pub AreBits-append : (bits others : List ℕ) → AreBits bits → AreBits others
     → AreBits (bits ++ others)
-AreBits-append [] others h k = k
-AreBits-append (bit ∷ bits) others h k = (h.0, AreBits-append bits others h.1 k)
+AreBits-append = all_joined (λ bit. bit < 2)
 
 pub AreBits-left : (bits others : List ℕ) → AreBits (bits ++ others) → AreBits bits
-AreBits-left [] others h = tt
-AreBits-left (bit ∷ bits) others h = (h.0, AreBits-left bits others h.1)
+AreBits-left bits others h = (all_parts (λ bit. bit < 2) bits others h).0
 
 pub AreBits-right : (bits others : List ℕ) → AreBits (bits ++ others) → AreBits others
-AreBits-right [] others h = h
-AreBits-right (bit ∷ bits) others h = AreBits-right bits others h.1
+AreBits-right bits others h = (all_parts (λ bit. bit < 2) bits others h).1
 
 pub AreBits-take : (n : ℕ) (bits : List ℕ) → AreBits bits → AreBits (take n bits)
 AreBits-take n bits h = AreBits-left (take n bits) (drop n bits) (rw take-append-drop h)
@@ -104,10 +102,7 @@ pub AreBits-drop : (n : ℕ) (bits : List ℕ) → AreBits bits → AreBits (dro
 AreBits-drop n bits h = AreBits-right (take n bits) (drop n bits) (rw take-append-drop h)
 
 pub AreBits-reverse : (bits : List ℕ) → AreBits bits → AreBits (reverse bits)
-AreBits-reverse [] h = tt
-AreBits-reverse (bit ∷ bits) h =
-    subst AreBits (sym (reverse-append (bit ∷ []) bits))
-    (AreBits-append (reverse bits) (bit ∷ []) (AreBits-reverse bits h.1) (h.0, tt))
+AreBits-reverse bits h = all_reversed (λ bit. bit < 2) bits h
 
 pub AreBits-flat_map : {X : Type 0} (f : X → List ℕ) (xs : List X) → ((x : X) → AreBits (f x))
     → AreBits (flat_map f xs)

@@ -10,6 +10,7 @@ use Rattle.std.specs.List.{AllByRecursion}
 use Rattle.std.specs.Simd.Lanes.{number_l}
 use Rattle.data_encoding.specs.declared.encoding.BitOrder.TheVariants.{LeastSignificantFirst}
 use Rattle.data_encoding.specs.Lanes.{digits_of, spread_word, halved_lane}
+use Rattle.data_encoding.proofs.lists.EachLemmas.{all_weaker}
 use Rattle.data_encoding.proofs.digits.FieldLemmas.{and_fields, or_fields, times_fields}
 use Rattle.data_encoding.proofs.digits.LaneLemmas.{number-of-wide, map-same}
 use Rattle.data_encoding.proofs.digits.WordLemmas.{map-twice}
@@ -17,12 +18,6 @@ use Rattle.data_encoding.proofs.digits.WordLemmas.{map-twice}
 -- a field in two
 abbrev halves : ℕ → ℕ → List ℕ
 halves half field = field % 2 ^ half ∷ field / 2 ^ half ∷ []
-
--- what holds of smaller numbers holds of each
-all-weaker : (a b : ℕ) → a ≤ b → (xs : List ℕ) → AllByRecursion (λ x. x < a) xs
-    → AllByRecursion (λ x. x < b) xs
-all-weaker a b h [] k = tt
-all-weaker a b h (x ∷ xs) k = (omega (arith, h, k.0), all-weaker a b h xs k.1)
 
 square : (n : ℕ) → 2 ^ (n + n) ≡ (2 ^ n) ^ 2
 square n =
@@ -101,7 +96,8 @@ module _ (half up : ℕ) where
       let k = half + up + (half + up) in
       let all = number_l (2 ^ k) fields in
       let wide = pow_mono {i = half + half} {j = k} (omega arith) in
-      let fits = all-weaker (2 ^ (half + half)) (2 ^ k) wide fields h in
+      let fits = all_weaker (λ field. field < 2 ^ (half + half)) (λ field. field < 2 ^ k)
+      (λ field less. omega arith) fields h in
       let mask = 2 ^ (half + half) - 2 ^ half in
       let masks = number_l (2 ^ k) (replicate (length fields) mask) in
       let low = and_fields k (2 ^ half - 1)

@@ -1,5 +1,5 @@
 -- Lanes: digits that make a wider lane, and what is computed lane by lane.
-use Rattle.std.proofs.Common.{◌≡◌, ℕ, ◌+◌, ◌*◌, ◌/◌, ◌%◌, ◌^◌, ◌<◌, ◌≤◌, Bool, cond, List, [], ◌∷◌, ◌++◌, length, map, replicate, bit_and, bit_or, refl, sym, ap, ◌∙◌, arith}
+use Rattle.std.proofs.Common.{◌≡◌, ℕ, zero, suc, ◌+◌, ◌*◌, ◌/◌, ◌%◌, ◌^◌, ◌<◌, ◌≤◌, Bool, cond, List, [], ◌∷◌, ◌++◌, length, map, replicate, bit_and, bit_or, refl, sym, ap, ◌∙◌, arith}
 use Rattle.std.proofs.Math.Nat.{pow-zero, pow-succ', mul_comm, mul-add, mul_assoc, mod-lt}
 use Rattle.std.proofs.lemmas.Nat.{div-mul-add, mod-mul-add, pow_pos}
 use Rattle.std.proofs.lemmas.Simd.{map-map, zip2_splat, zip2_of_maps, splat_is_map}
@@ -28,6 +28,12 @@ number-joined p (x ∷ xs) ys =
     ∙ ap (λ n. p * low + n) (sym (mul_assoc p times high)
     ∙ ap (λ n. n * high) (sym (pow-succ' p (length xs)))))
     ∙ omega arith
+
+-- zeros above change nothing
+pub number-padded : (p : ℕ) (xs : List ℕ) (n : ℕ) → number_l p (xs ++ replicate n 0) ≡ number_l p xs
+number-padded p [] zero = refl
+number-padded p [] (suc n) = ap (λ m. 0 + p * m) (number-padded p [] n) ∙ omega arith
+number-padded p (x ∷ xs) n = ap (λ m. x + p * m) (number-padded p xs n)
 
 -- a wide digit made of k others each is their number
 pub number-of-wide : (p k q : ℕ) → q ≡ p ^ k → (f : ℕ → List ℕ) (ws : List ℕ)

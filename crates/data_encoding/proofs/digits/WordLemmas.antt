@@ -6,12 +6,14 @@ use Rattle.std.proofs.lemmas.Nat.{div-mul-add, mod-mul-add, pow-add, shl_whole, 
 use Rattle.std.proofs.Math.Pow.{pow_mono}
 use Rattle.std.proofs.Math.Nat.{pow-succ', mul_comm, mul_assoc, add_comm, mul-add, mul-zero, zero-add}
 use Rattle.std.specs.Prelude.{flat_map}
-use Rattle.std.specs.List.{range_with_len}
+use Rattle.std.specs.List.{AllByRecursion, range_with_len}
+use Rattle.std.specs.Simd.Lanes.{number_l}
 use Rattle.std.specs.Simd.{first_chunks}
 use Rattle.data_encoding.specs.declared.encoding.BitOrder.{BitOrder}
 use Rattle.data_encoding.specs.declared.encoding.BitOrder.TheVariants.{MostSignificantFirst, LeastSignificantFirst}
 use Rattle.data_encoding.specs.Bits.{low_bits, number_of_low_bits, bits_of, number_of}
 use Rattle.data_encoding.specs.Words.{weight, digit, zeros_to, word_of}
+use Rattle.data_encoding.proofs.lists.EachLemmas.{all_replicate, all_reversed}
 use Rattle.data_encoding.proofs.digits.BitLemmas.{AreBits, AreBits-append, AreBits-left, AreBits-right, AreBits-reverse, length-bits_of, length-pieces, number-low_bits, number-below, length-low_bits}
 
 regroup : (b x m y : ℕ) → b + 2 * (x + m * y) ≡ b + 2 * x + 2 * m * y
@@ -91,6 +93,43 @@ flat-more : (f : ℕ → List ℕ) (digits : List ℕ) (d : ℕ)
     → flat_map f (digits ++ d ∷ []) ≡ flat_map f digits ++ f d
 flat-more f digits d =
     flat_map-append f digits (d ∷ []) ∙ ap (λ l. flat_map f digits ++ l) (append-nil (f d))
+
+-- a word that is whole is the number of its digits
+number-pieces : (size : ℕ) (digits : List ℕ) → AllByRecursion (λ d. d < 2 ^ size) digits
+    → number_of_low_bits (flat_map (low_bits size) digits) ≡ number_l (2 ^ size) digits
+number-pieces size [] h = refl
+number-pieces size (d ∷ digits) h =
+    number-append (low_bits size d) (flat_map (low_bits size) digits)
+    ∙ (λ i. number-low_bits size d h.0 i
+    + 2 ^ length-low_bits size d i * number-pieces size digits h.1 i)
+
+reverse-pieces : (size : ℕ) (digits : List ℕ)
+    → reverse (flat_map (bits_of MostSignificantFirst size) digits)
+    ≡ flat_map (low_bits size) (reverse digits)
+reverse-pieces size [] = refl
+reverse-pieces size (d ∷ digits) =
+    reverse-append (reverse (low_bits size d))
+    (flat_map (bits_of MostSignificantFirst size) digits)
+    ∙ (λ i. reverse-pieces size digits i ++ reverse-reverse (low_bits size d) i)
+    ∙ sym (ap (flat_map (low_bits size)) (reverse-append (d ∷ []) digits)
+    ∙ flat-more (low_bits size) (reverse digits) d)
+
+abbrev pub lowest_first : BitOrder → List ℕ → List ℕ
+lowest_first LeastSignificantFirst digits = digits
+lowest_first MostSignificantFirst digits = reverse digits
+
+pub word-number : (order : BitOrder) (size : ℕ) (digits : List ℕ)
+    → AllByRecursion (λ d. d < 2 ^ size) digits
+    → word_of order size (length digits) digits ≡ number_l (2 ^ size) (lowest_first order digits)
+word-number LeastSignificantFirst size digits h =
+    word-least size (length digits) digits ∙ number-pieces size digits h
+word-number MostSignificantFirst size digits h =
+    let none : size * length digits - size * length digits ≡ 0 = omega arith in
+    word-most size (length digits) digits
+    ∙ (λ i. 2 ^ none i * number_of_low_bits (reverse-pieces size digits i))
+    ∙ ap (λ n. 2 ^ 0 * n) (number-pieces size (reverse digits)
+    (all_reversed (λ d. d < 2 ^ size) digits h))
+    ∙ omega arith
 
 pub word_of-nil : (order : BitOrder) (size count : ℕ) → word_of order size count [] ≡ 0
 word_of-nil LeastSignificantFirst size count = word-least size count []
@@ -266,8 +305,7 @@ map-twice f g [] = refl
 map-twice f g (x ∷ xs) = ap (λ l. f (g x) ∷ l) (map-twice f g xs)
 
 pub AreBits-zeros : (n : ℕ) → AreBits (replicate n 0)
-AreBits-zeros zero = tt
-AreBits-zeros (suc n) = (omega arith, AreBits-zeros n)
+AreBits-zeros n = all_replicate (λ bit. bit < 2) n 0 (omega arith)
 
 -- the first digits of a word of bits are the numbers of its first runs
 pub digits-runs : (order : BitOrder) (size count n : ℕ) (bits : List ℕ) → AreBits bits
