@@ -3,7 +3,7 @@ use Rattle.std.proofs.Common.{◌≡◌, ℕ, zero, suc, ◌+◌, ◌-◌, ◌*�
 use Rattle.std.proofs.lemmas.Bool.{leb-true}
 use Rattle.std.proofs.lemmas.Nat.{and_le_r}
 use Rattle.std.proofs.lemmas.List.{length-map, get_or-map, get_or-drop, get_or-replicate, map-id, ext_get_or}
-use Rattle.std.proofs.lemmas.List.FromFn.{get_or-range_with_len, length-range_with_len}
+use Rattle.std.proofs.lemmas.List.FromFn.{get_or-map-range_with_len, length-map-range_with_len}
 use Rattle.std.proofs.lemmas.Simd.{length-chunk, zip2_of_maps, zip2_splat, splat_is_map, tops_compared, map-map}
 use Rattle.std.specs.List.{AllByRecursion, range_with_len}
 use Rattle.std.specs.Simd.Lanes.{Each1, chunk, zip2, sel_l, top}
@@ -12,6 +12,7 @@ use Rattle.data_encoding.specs.Affine.{HoldsAffine, affine_entry, affine_value, 
 use Rattle.data_encoding.specs.Values.{IsRow, in_row}
 use Rattle.data_encoding.proofs.digits.GatherRowLemmas.{row-of}
 use Rattle.data_encoding.proofs.digits.LaneLemmas.{selected}
+use Rattle.data_encoding.proofs.digits.WordLemmas.{map-range-same}
 use Rattle.data_encoding.proofs.lists.EachLemmas.{all-at}
 
 abbrev pub equal : ℕ → ℕ → ℕ
@@ -50,7 +51,8 @@ at-rows row count bytes entries long e =
 -- what is looked up in a row
 abbrev LooksUp : List ℕ → List ℕ → List ℕ → Type 0
 LooksUp row places found =
-    (values : List ℕ) (start : ℕ) → IsRow values start row → found ≡ map (in_row values start) places
+    (values : List ℕ) (start : ℕ) → IsRow values start row
+    → found ≡ map (in_row values start) places
 
 -- what is looked up for the entries at bytes
 pub rows-found : (affine : Affine) (count : ℕ) (bytes bits : List ℕ) {symbols found deltas : List ℕ}
@@ -127,27 +129,22 @@ entries-are values affine held (byte ∷ bytes) fits small =
     ∷ entries-are values affine held bytes fits.1 small.1 i
 
 -- the bytes of a row, as they are computed
-pub row-bytes : (row count start : ℕ) → row < 8 → start + count ≤ 16
-    → map (λ k. (k + 16 * row) % 256) (range_with_len start count)
-    ≡ map (λ k. 16 * row + k) (range_with_len start count)
-row-bytes row zero start few inside = refl
-row-bytes row (suc count) start few inside =
-    let here : (start + 16 * row) % 256 ≡ 16 * row + start = omega (arith, few, inside) in
-    λ i. here i ∷ row-bytes row count (start + 1) few (omega (arith, inside)) i
+pub row-bytes : (row : ℕ) → row < 8
+    → map (λ k. (k + 16 * row) % 256) (range_with_len 0 16)
+    ≡ map (λ k. 16 * row + k) (range_with_len 0 16)
+row-bytes row few =
+    map-range-same (λ k. (k + 16 * row) % 256) (λ k. 16 * row + k) 16 (λ k h. omega (arith, few, h))
 
 counted-at : (f : ℕ → ℕ) (count k : ℕ) → k < count
     → get_or (map f (range_with_len 0 count)) k 0 ≡ f k
-counted-at f count k h =
-    get_or-map f (range_with_len 0 count) k 0 0 (omega (arith, h, length-range_with_len 0 count))
-    ∙ ap f (get_or-range_with_len 0 count k 0 h ∙ omega arith)
+counted-at f count k h = get_or-map-range_with_len f 0 count k k 0 h (omega arith)
 
 -- lanes that are counted from 0
 listed : (f : ℕ → ℕ) (count : ℕ) (lanes : List ℕ) → length lanes ≡ count
     → ((k : ℕ) → k < count → get_or lanes k 0 ≡ f k) → lanes ≡ map f (range_with_len 0 count)
 listed f count lanes long each =
-    let counted : length (map f (range_with_len 0 count)) ≡ count =
-    length-map (range_with_len 0 count) f ∙ length-range_with_len 0 count in
-    ext_get_or 0 lanes (map f (range_with_len 0 count)) (long ∙ sym counted)
+    ext_get_or 0 lanes (map f (range_with_len 0 count))
+    (long ∙ sym (length-map-range_with_len f 0 count))
     (λ k h.
     let inside : k < count = omega (arith, h, long) in
     each k inside ∙ sym (counted-at f count k inside))
@@ -198,7 +195,7 @@ agreed affine values bytes found row long few are_bytes are_found passes k h sma
     (splat_is_map places 16 0 refl)
     (zip2_of_maps plus entry (λ _. 128) places found_are (splat_is_map places 16 128 refl)) in
     let inside : k < length (map lane places) =
-    omega (arith, h, length-map places lane, length-range_with_len 0 16) in
+    omega (arith, h, length-map-range_with_len lane 0 16) in
     same-entry (entry k) (own k) small
     (subst (λ n. n < 128) (counted-at lane 16 k h)
     (all-at (λ n. n < 128) (map lane places)

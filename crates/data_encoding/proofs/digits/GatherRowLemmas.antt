@@ -59,7 +59,7 @@ row-of start values k h =
     ∙ get_or-drop start values k 0
 
 -- the places of bytes in a row, each below sixteen
-abbrev places : ℕ → List ℕ → List ℕ
+abbrev pub places : ℕ → List ℕ → List ℕ
 places count bytes = zip2 bit_and bytes (replicate count 15)
 
 places-are : (count : ℕ) (bytes : List ℕ) → length bytes ≡ count
@@ -91,19 +91,18 @@ repeated-row (suc times) row long =
     ∙ (λ i. (pick_l-range_with_len 0 (row ++ row) 0 16 (omega (arith, length-append row row, long))
     ∙ take_at row row 16 long) i ++ repeated-row times row long i)
 
--- what a row has at bytes
-pub looked-up : (times : ℕ) (values row bytes : List ℕ) (start : ℕ) → length row ≡ 16
-    → length bytes ≡ times * 16 → IsRow values start row
-    → swz_l w8 16 (repeats times row) 0 (places (times * 16) bytes)
-    ≡ map (in_row values start) bytes
-looked-up times values row bytes start sixteen long is_row =
+-- what a table of sixteen entries, over and over, has at bytes
+pub in_lanes : (times : ℕ) (entry : ℕ → ℕ) (table bytes : List ℕ) → length bytes ≡ times * 16
+    → ((place : ℕ) → place < times * 16 → get_or table place 0 ≡ entry (place % 16))
+    → swz_l w8 16 table 0 (places (times * 16) bytes) ≡ map (λ byte. entry (byte % 16)) bytes
+in_lanes times entry table bytes long has =
     let count = times * 16 in
-    let table = repeats times row in
     let js = places count bytes in
+    let shown = λ (byte : ℕ). entry (byte % 16) in
     let len : length (swz_l w8 16 table 0 js) ≡ count =
     length-swz_l w8 16 table 0 js ∙ length-places count bytes long in
-    ext_get_or 0 (swz_l w8 16 table 0 js) (map (in_row values start) bytes)
-    (len ∙ sym (length-map bytes (in_row values start) ∙ long))
+    ext_get_or 0 (swz_l w8 16 table 0 js) (map shown bytes)
+    (len ∙ sym (length-map bytes shown ∙ long))
     (λ i h.
     let within : i < length bytes = omega (arith, h, len, long) in
     let here : get_or js i 0 ≡ get_or bytes i 0 % 16 =
@@ -111,15 +110,22 @@ looked-up times values row bytes start sixteen long is_row =
     ∙ get_or-map (λ byte. bit_and byte 15) bytes i 0 0 within
     ∙ and_mask (get_or bytes i 0) 4 in
     let place = 16 * ((0 + i) / 16) + get_or js i 0 in
-    let inside : place < times * 16 = omega (arith, here, within, long) in
-    let at : place % length row ≡ get_or bytes i 0 % 16 =
-    ap (λ n. place % n) sixteen ∙ omega (arith, here) in
+    let low : place % 16 ≡ get_or bytes i 0 % 16 = omega (arith, here) in
     get_or-swz_l_below w8 16 table 0 js i
     (omega (arith, within, long, length-places count bytes long)) (omega (arith, here))
-    ∙ get_or-repeats times row place (subst (λ n. place < times * n) (sym sixteen) inside)
-    ∙ ap (λ k. get_or row k 0) at
-    ∙ is_row (get_or bytes i 0 % 16) (omega arith)
-    ∙ sym (get_or-map (in_row values start) bytes i 0 0 within))
+    ∙ has place (omega (arith, here, within, long)) ∙ ap entry low
+    ∙ sym (get_or-map shown bytes i 0 0 within))
+
+-- what a row has at bytes
+pub looked-up : (times : ℕ) (values row bytes : List ℕ) (start : ℕ) → length row ≡ 16
+    → length bytes ≡ times * 16 → IsRow values start row
+    → swz_l w8 16 (repeats times row) 0 (places (times * 16) bytes)
+    ≡ map (in_row values start) bytes
+looked-up times values row bytes start sixteen long is_row =
+    in_lanes times (λ k. slice_index values (start + k)) (repeats times row) bytes long
+    (λ place h.
+    get_or-repeats times row place (subst (λ n. place < times * n) (sym sixteen) h)
+    ∙ ap (λ n. get_or row (place % n) 0) sixteen ∙ is_row (place % 16) (omega arith))
 
 -- the lanes where a bit is set
 abbrev pub up : ℕ → ℕ → ℕ

@@ -16,7 +16,8 @@ use Rattle.data_encoding.specs.declared.encoding.BitOrder.TheVariants.{MostSigni
 use Rattle.data_encoding.specs.Bits.{bits_of, number_of, number_of_low_bits}
 use Rattle.data_encoding.specs.Values.{joined}
 use Rattle.data_encoding.specs.Words.{weight, word_of}
-use Rattle.data_encoding.proofs.digits.BitLemmas.{AreBits-bits_of, AreBits-flat_map, length-bits_of, length-pieces, number_of-below}
+use Rattle.data_encoding.proofs.digits.BitLemmas.{length-bits_of, length-pieces}
+use Rattle.data_encoding.proofs.digits.GroupWordLemmas.{word_of-below}
 use Rattle.data_encoding.proofs.digits.WordLemmas.{number-append, word_of-more, word_of-nil}
 
 -- a number has no more digits than it was made of
@@ -118,12 +119,7 @@ module _ (order : BitOrder) (size : ℕ) where
 
   word-below : (count : ℕ) (digits : List ℕ) → length digits ≡ count
       → word count digits < 2 ^ (size * count)
-  word-below count digits e =
-      subst (λ n. n < 2 ^ (size * count)) (sym (word-full count digits e))
-      (subst (λ n. number_of order (bits digits) < 2 ^ n)
-      (length-bits digits ∙ ap (λ n. size * n) e)
-      (number_of-below order (bits digits)
-      (AreBits-flat_map (bits_of order size) digits (AreBits-bits_of order size))))
+  word-below count digits e = word_of-below order size count digits (omega (arith, e))
 
   word-halves : (count : ℕ) (front back : List ℕ) → length front ≡ count → length back ≡ count
       → word (count + count) (front ++ back)

@@ -18,7 +18,7 @@ use Rattle.data_encoding.proofs.digits.LaneLemmas.{number-of-wide, number-padded
 use Rattle.data_encoding.proofs.digits.WordLemmas.{AreBits-zeros, lowest_first, word-number, map-range-same, word_of-nil, word_of-more}
 
 -- a word has no more bits than its digits
-word_of-below : (order : BitOrder) (size count : ℕ) (digits : List ℕ) → length digits ≤ count
+pub word_of-below : (order : BitOrder) (size count : ℕ) (digits : List ℕ) → length digits ≤ count
     → word_of order size count digits < 2 ^ (size * count)
 word_of-below order size count digits h =
     let bits = flat_map (bits_of order size) digits in

@@ -30,7 +30,8 @@ module _ (width : ℕ) (words lanes : List ℕ) (narrow : width ≤ 8) (long : l
   bytes count q = digits_l 256 (count * 8) (number_l q lanes)
 
   length-words : (count : ℕ) → lanes ≡ map (spread_word width count) words → length words ≡ 8
-  length-words count is = sym (length-map words (spread_word width count)) ∙ ap length (sym is) ∙ long
+  length-words count is =
+      sym (length-map words (spread_word width count)) ∙ ap length (sym is) ∙ long
 
   lane_bytes : (count q : ℕ) → q ≡ 256 ^ count
       → ((word : ℕ) → length (digits_of LeastSignificantFirst width count word) ≡ count)
@@ -121,5 +122,6 @@ module _ (order : BitOrder) (width count : ℕ) where
             ∙ by_eight (λ ws. take (8 * count) (joined (times ws)) ≡ joined ws) front words refl;
         below =
             rw is (all_pieces (λ digit. digit < 2 ^ width) (digits_of order width count)
-            (times words) (λ word. digits_of-below order width count (2 ^ width) word (omega arith)));
+            (times words)
+            (λ word. digits_of-below order width count (2 ^ width) word (omega arith)));
       }

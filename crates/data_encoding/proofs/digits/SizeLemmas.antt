@@ -15,16 +15,8 @@ IsSmall width bytes symbols = record {
 IsSmall-width : (width : ℕ) → IsWidth width
     → IsSmall width (group_bytes width) (group_symbols width)
 IsSmall-width =
-    let small : (w : ℕ) → group_bytes w ≤ 5 → group_symbols w ≤ 8 → w * group_symbols w ≤ 40
-    → IsSmall w (group_bytes w) (group_symbols w) =
-    λ w b s n. record { few_bytes = b; few_symbols = s; few_bits = n } in
-    by_width (λ w. IsSmall w (group_bytes w) (group_symbols w))
-    (small 1 (omega arith) (omega arith) (omega arith))
-    (small 2 (omega arith) (omega arith) (omega arith))
-    (small 3 (omega arith) (omega arith) (omega arith))
-    (small 4 (omega arith) (omega arith) (omega arith))
-    (small 5 (omega arith) (omega arith) (omega arith))
-    (small 6 (omega arith) (omega arith) (omega arith))
+    by_width (λ w. IsSmall w (group_bytes w) (group_symbols w)) (omega arith) (omega arith)
+    (omega arith) (omega arith) (omega arith) (omega arith)
 
 pub IsSmall-group : {width bytes symbols : ℕ} → IsGroup width bytes symbols
     → IsSmall width bytes symbols
@@ -59,8 +51,8 @@ pub symbols-within : {width bytes symbols : ℕ} → IsGroup width bytes symbols
     → (n : ℕ) → n ≤ bytes → (8 * n + (width - 1)) / width ≤ symbols
 symbols-within {width} group n few =
     let within = by_width (λ w. n ≤ group_bytes w → (8 * n + (w - 1)) / w ≤ group_symbols w)
-    (λ h. omega (arith, h)) (λ h. omega (arith, h)) (λ h. omega (arith, h))
-    (λ h. omega (arith, h)) (λ h. omega (arith, h)) (λ h. omega (arith, h)) width group.is_width in
+    (omega arith) (omega arith) (omega arith) (omega arith) (omega arith) (omega arith) width
+    group.is_width in
     subst (λ s. (8 * n + (width - 1)) / width ≤ s) (sym group.has_symbols)
     (within (subst (λ b. n ≤ b) group.has_bytes few))
 

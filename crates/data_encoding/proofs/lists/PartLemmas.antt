@@ -4,7 +4,7 @@ use Rattle.std.proofs.lemmas.List.{length-drop}
 use Rattle.std.proofs.Math.Nat.{mul-add, add-mul, mul_left_comm, mul-add-div, mul-add-mod_self_left, mul-le-mul_right, div-eq_of_lt}
 use Rattle.std.proofs.lemmas.Nat.{div-add-mod'}
 use Rattle.data_encoding.specs.Tables.{IsGroup}
-use Rattle.data_encoding.proofs.digits.SizeLemmas.{IsGroup-same}
+use Rattle.data_encoding.proofs.digits.SizeLemmas.{IsGroup-same, room-same}
 use Rattle.data_encoding.proofs.digits.WidthLemmas.{group_bits, group_bytes-pos, group_symbols-pos}
 use Rattle.data_encoding.specs.Base.{IsWidth}
 
@@ -91,6 +91,12 @@ pub turn-within : (n groups size i : ℕ) → i < n / size / groups
     → i * groups * size + groups * size ≤ n
 turn-within n groups size i h =
     omega (arith, turns-before (n / size) groups size i h, groups-within n size)
+
+-- and has room where all groups have room
+pub turn-room : {b s bytes symbols : ℕ} (n groups i m : ℕ) → bytes ≡ b → symbols ≡ s
+    → n / s * b ≤ m → i < n / symbols / groups → i * groups * bytes + groups * bytes ≤ m
+turn-room {b} {s} {bytes} {symbols} n groups i m q r room h =
+    omega (arith, turns-before (n / symbols) groups bytes i h, room-same n m q r room)
 
 -- one of four parts ends before the end
 pub part-of-four : (n size i : ℕ) → n ≡ 4 * size → i < 4 → i * size + size ≤ n

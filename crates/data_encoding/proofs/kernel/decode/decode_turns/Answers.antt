@@ -2,8 +2,8 @@ use Rattle.std.proofs.Common.{◌≡◌, ℕ, ◌+◌, ◌-◌, ◌*◌, ◌/◌
 use Rattle.std.proofs.Math.Nat.{div-le_self}
 use Rattle.data_encoding.specs.Decoding.{IsRun}
 use Rattle.data_encoding.proofs.decoding.SymbolRunLemmas.{run-kept, run-none, run-next}
-use Rattle.data_encoding.proofs.digits.SizeLemmas.{IsGroup-same, room-same}
-use Rattle.data_encoding.proofs.lists.PartLemmas.{IsWhole-group, group-before, groups-within, length-part, one-more, turns-before, turn-within}
+use Rattle.data_encoding.proofs.digits.SizeLemmas.{IsGroup-same}
+use Rattle.data_encoding.proofs.lists.PartLemmas.{IsWhole-group, group-before, groups-within, length-part, one-more, turn-room, turn-within}
 use Rattle.data_encoding.proofs.kernel.decode.decode_turns.Goals as goal
 
 pub nonzero_div-count : goal.nonzero_div-count
@@ -42,25 +42,18 @@ overflow_mul-read g c =
 
 pub slice_bounds-decode-end-in-loop-index : goal.slice_bounds-decode-end-in-loop-index
 slice_bounds-decode-end-in-loop-index g c =
-    omega (
-      arith,
-      turns-before (length c.args.input.now / c.SYMBOLS-symbols.result) c.GROUPS-groups.result
-          c.BYTES-bytes.result c.loop-index.index c.loop-index-test.true,
-      room-same _ _ c.BYTES-bytes.ensures c.SYMBOLS-symbols.ensures c.requires.room,
-      c.loop-index.auto.output,
-    )
+    let room = turn-room (length c.args.input.now) c.GROUPS-groups.result c.loop-index.index _
+    c.BYTES-bytes.ensures c.SYMBOLS-symbols.ensures c.requires.room c.loop-index-test.true in
+    omega (arith, c.loop-index.auto.output)
 
 pub overflow_add-written : goal.overflow_add-written
 overflow_add-written g c = omega (arith, slice_bounds-decode-end-in-loop-index g c)
 
 pub overflow_mul-written : goal.overflow_mul-written
 overflow_mul-written g c =
-    omega (
-      arith,
-      turns-before (length c.args.input.now / c.SYMBOLS-symbols.result) c.GROUPS-groups.result
-          c.BYTES-bytes.result c.loop-index.index c.loop-index-test.true,
-      room-same _ _ c.BYTES-bytes.ensures c.SYMBOLS-symbols.ensures c.requires.room,
-    )
+    let room = turn-room (length c.args.input.now) c.GROUPS-groups.result c.loop-index.index _
+    c.BYTES-bytes.ensures c.SYMBOLS-symbols.ensures c.requires.room c.loop-index-test.true in
+    omega arith
 
 pub loop-index-preserved : goal.loop-index-preserved
 loop-index-preserved g c =
@@ -75,12 +68,9 @@ loop-index-preserved g c =
     let within = turn-within (length input) groups symbols c.loop-index.index
     c.loop-index-test.true in
     let room : first * bytes + groups * bytes ≤ length output =
-    omega (
-      arith,
-      turns-before (length input / symbols) groups bytes c.loop-index.index c.loop-index-test.true,
-      room-same _ _ c.BYTES-bytes.ensures c.SYMBOLS-symbols.ensures c.requires.room,
-      c.loop-index.auto.output,
-    ) in
+    rw c.loop-index.auto.output
+    (turn-room (length input) groups c.loop-index.index _ c.BYTES-bytes.ensures
+    c.SYMBOLS-symbols.ensures c.requires.room c.loop-index-test.true) in
     let shown_len : length c.decode.new.output ≡ groups * bytes =
     c.decode.auto.output ∙ length-part (first * bytes) (groups * bytes) output room in
     let part = take (first * symbols + groups * symbols - first * symbols)
@@ -105,13 +95,9 @@ returns-then-not-decode-clause-run g c = λ values held base reads.
     let group = IsGroup-same refl c.BYTES-bytes.ensures c.SYMBOLS-symbols.ensures
     g.G.GroupSize.is_group in
     let room : first * bytes + c.GROUPS-groups.result * bytes ≤ length c.loop-index.output =
-    omega (
-      arith,
-      turns-before (length c.args.input.now / c.SYMBOLS-symbols.result) c.GROUPS-groups.result
-          bytes c.loop-index.index c.loop-index-test.true,
-      room-same _ _ c.BYTES-bytes.ensures c.SYMBOLS-symbols.ensures c.requires.room,
-      c.loop-index.auto.output,
-    ) in
+    rw c.loop-index.auto.output
+    (turn-room (length c.args.input.now) c.GROUPS-groups.result c.loop-index.index _
+    c.BYTES-bytes.ensures c.SYMBOLS-symbols.ensures c.requires.room c.loop-index-test.true) in
     run-kept base reads.holds.is_width g.G.GroupSize.WIDTH bytes c.SYMBOLS-symbols.result group
     reads.width_is c.args.input.now _ c.loop-index.output c.decode.new.output first _
     (omega (arith, room)) (c.loop-index.invariant.run values held base reads)
@@ -160,13 +146,9 @@ pub decode-requires-clause-exact : goal.decode-requires-clause-exact
 decode-requires-clause-exact g c =
     length-part (c.loop-index.index * c.GROUPS-groups.result * c.BYTES-bytes.result)
     (c.GROUPS-groups.result * c.BYTES-bytes.result) c.loop-index.output
-    (omega (
-      arith,
-      turns-before (length c.args.input.now / c.SYMBOLS-symbols.result) c.GROUPS-groups.result
-          c.BYTES-bytes.result c.loop-index.index c.loop-index-test.true,
-      room-same _ _ c.BYTES-bytes.ensures c.SYMBOLS-symbols.ensures c.requires.room,
-      c.loop-index.auto.output,
-    ))
+    (rw c.loop-index.auto.output
+    (turn-room (length c.args.input.now) c.GROUPS-groups.result c.loop-index.index _
+    c.BYTES-bytes.ensures c.SYMBOLS-symbols.ensures c.requires.room c.loop-index-test.true))
     ∙ (λ k. c.GROUPS-groups.ensures k * c.BYTES-bytes.ensures k)
 
 pub returns-then-not-decode-clause-within : goal.returns-then-not-decode-clause-within

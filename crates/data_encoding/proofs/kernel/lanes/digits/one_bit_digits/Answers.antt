@@ -14,4 +14,5 @@ returns c =
     held c.args.order 1 8 1 c.args.input.now (λ ws. ws)
     (λ a b c d e f g h. refl)
     (c.join_eights.ensures 1 (group_words c.args.order 1 8 c.args.input.now) (omega arith)
-    (c.spread_one_bit.ensures ∙ ap (map (spread_word 1 8)) (map-id c.eight_ones.result ∙ c.eight_ones.ensures c.args.order)))
+    (c.spread_one_bit.ensures ∙ ap (map (spread_word 1 8))
+    (map-id c.eight_ones.result ∙ c.eight_ones.ensures c.args.order)))

@@ -6,5 +6,7 @@ use Rattle.data_encoding.proofs.kernel.lanes.digits.spread_three_bits.Goals as g
 
 pub returns : goal.returns
 returns c =
-    mapped-on _ _ c.args.words (mapped-on _ _ c.args.words c.halved_wide-fours.ensures c.halved_wide-twos.ensures) c.halved_wide.ensures
+    mapped-on _ _ c.args.words
+    (mapped-on _ _ c.args.words c.halved_wide-fours.ensures c.halved_wide-twos.ensures)
+    c.halved_wide.ensures
     ∙ map-same (λ word. word < 2 ^ 24) _ (spread_word 3 8) spread-three c.args.words c.requires

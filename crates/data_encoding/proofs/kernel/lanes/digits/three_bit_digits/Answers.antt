@@ -14,4 +14,5 @@ returns c =
     held c.args.order 3 8 3 c.args.input.now (λ ws. ws)
     (λ a b c d e f g h. refl)
     (c.join_eights.ensures 3 (group_words c.args.order 3 8 c.args.input.now) (omega arith)
-    (c.spread_three_bits.ensures ∙ ap (map (spread_word 3 8)) (map-id c.eight_threes.result ∙ c.eight_threes.ensures)))
+    (c.spread_three_bits.ensures ∙ ap (map (spread_word 3 8))
+    (map-id c.eight_threes.result ∙ c.eight_threes.ensures)))

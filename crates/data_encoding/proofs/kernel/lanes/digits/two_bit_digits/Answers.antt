@@ -14,4 +14,5 @@ returns c =
     held c.args.order 2 4 1 c.args.input.now (λ ws. ws ++ ws)
     (λ a b c d e f g h. refl)
     (c.join_fours.ensures 2 (group_words c.args.order 1 8 c.args.input.now) (omega arith)
-    (c.spread_two_bits.ensures ∙ ap (map (spread_word 2 4)) (map-id c.eight_ones.result ∙ c.eight_ones.ensures c.args.order)))
+    (c.spread_two_bits.ensures ∙ ap (map (spread_word 2 4))
+    (map-id c.eight_ones.result ∙ c.eight_ones.ensures c.args.order)))
