@@ -217,7 +217,5 @@ row-more affine values row below here byte h =
     go true e =
         let from = leb-true (16 * row) byte e in
         let same : 16 * row + (byte - 16 * row) ≡ byte = omega (arith, from) in
-        subst
-        (λ b. affine_entry affine b < 128 → affine_entry affine b ≡ slice_index values b) same
-        (here (byte - 16 * row) (omega (arith, from, h)))
+        rw same at (here (byte - 16 * row) (omega (arith, from, h)))
     go false e = below byte (leb-false (16 * row) byte e)

@@ -110,10 +110,9 @@ in_lanes times entry table bytes long has =
     ∙ get_or-map (λ byte. bit_and byte 15) bytes i 0 0 within
     ∙ and_mask (get_or bytes i 0) 4 in
     let place = 16 * ((0 + i) / 16) + get_or js i 0 in
-    let low : place % 16 ≡ get_or bytes i 0 % 16 = omega (arith, here) in
     get_or-swz_l_below w8 16 table 0 js i
     (omega (arith, within, long, length-places count bytes long)) (omega (arith, here))
-    ∙ has place (omega (arith, here, within, long)) ∙ ap entry low
+    ∙ has place (omega (arith, here, within, long)) ∙ ap entry (omega (arith, here))
     ∙ sym (get_or-map shown bytes i 0 0 within))
 
 -- what a row has at bytes
@@ -191,8 +190,7 @@ of_byte-is values byte fits h =
     let high : bit_and byte 128 ≡ byte / 128 % 2 * 128 = and_high byte 1 7 in
     let low : byte < 128 =
     omega (arith, fits, h, high, le_or_r (of_rows values byte) (bit_and byte 128)) in
-    let none : bit_and byte 128 ≡ 0 = omega (arith, high, low) in
-    ap (bit_or (of_rows values byte)) none ∙ or_zero_r (of_rows values byte)
+    ap (bit_or (of_rows values byte)) (omega (arith, high, low)) ∙ or_zero_r (of_rows values byte)
     ∙ of_rows-is values byte low
 
 pub of_bytes-are : (values bytes : List ℕ) → Each1 (λ byte. byte < 256) bytes

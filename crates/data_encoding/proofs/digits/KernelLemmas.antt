@@ -100,8 +100,7 @@ pub plain_text-word : (base : Base) (order : BitOrder) (width bytes count : ℕ)
 plain_text-word base order width bytes count symbols input group few writes =
     let same = group_same_bits width bytes count group in
     text_by-word base order width bytes count symbols input group.is_width.some same few
-    (subst (λ m. (byte : ℕ) → byte < 256 → symbol base (byte % 2 ^ m) ≡ slice_index symbols byte)
-    writes.width_is writes.holds.at_byte) (omega (arith, group.is_width.few))
+    (rw writes.width_is at writes.holds.at_byte) (omega (arith, group.is_width.few))
     ∙ sym (λ i. text_by base (writes.width_is i) (writes.order_is i)
     (bits_of_bytes (writes.order_is i) input))
 
@@ -180,5 +179,4 @@ pub entries_below : (base : Base) (width : ℕ) (values input : List ℕ)
     → base.width ≡ width → HoldsValues base values
     → (k : ℕ) → k < length input → slice_index values (slice_index input k) < 2 ^ width
 entries_below base width values input fits low w holds k below =
-    subst (λ m. slice_index values (slice_index input k) < 2 ^ m) w
-    (holds.below (slice_index input k) (fits k) (low k below))
+    rw w at (holds.below (slice_index input k) (fits k) (low k below))

@@ -104,9 +104,7 @@ module _ (entries values highs lows : List ℕ) (long : length values ≡ 64) wh
       (λ value e. entry-later entries 16 (value % 16) (value % 32)
       (omega (arith, bit value, eqb-false (bit_and value 16) 0 e)) (omega (arith, room)))
       (λ value e.
-      let same : value % 16 ≡ value % 32 =
-      omega (arith, bit value, eqb-true (bit_and value 16) 0 e) in
-      ap (λ k. get_or entries k 0) same)
+      ap (λ k. get_or entries k 0) (omega (arith, bit value, eqb-true (bit_and value 16) 0 e)))
       values highs lows long
 
   pub in_sixty_four : 64 ≤ length entries
@@ -123,9 +121,7 @@ module _ (entries values highs lows : List ℕ) (long : length values ≡ 64) wh
       (λ value e. entry-later entries 32 (value % 32) (value % 64)
       (omega (arith, bit value, eqb-false (bit_and value 32) 0 e)) (omega (arith, room)))
       (λ value e.
-      let same : value % 32 ≡ value % 64 =
-      omega (arith, bit value, eqb-true (bit_and value 32) 0 e) in
-      ap (λ k. get_or entries k 0) same)
+      ap (λ k. get_or entries k 0) (omega (arith, bit value, eqb-true (bit_and value 32) 0 e)))
       values highs lows long
 
 -- values below a bound are their own lowest bits

@@ -20,19 +20,14 @@ IsSmall-width =
 
 pub IsSmall-group : {width bytes symbols : ℕ} → IsGroup width bytes symbols
     → IsSmall width bytes symbols
-IsSmall-group {width} {bytes} {symbols} group =
-    let small = IsSmall-width width group.is_width in
-    record {
-      few_bytes = subst (λ n. n ≤ 5) (sym group.has_bytes) small.few_bytes;
-      few_symbols = subst (λ n. n ≤ 8) (sym group.has_symbols) small.few_symbols;
-      few_bits = subst (λ n. width * n ≤ 40) (sym group.has_symbols) small.few_bits;
-    }
+IsSmall-group {width} group =
+    rw (group.has_bytes, group.has_symbols) (IsSmall-width width group.is_width)
 
 -- a group has eight, four or two symbols
 pub symbols-are : {width bytes symbols : ℕ} → IsGroup width bytes symbols
     → (symbols ≡ 8) ⊎ (symbols ≡ 4) ⊎ (symbols ≡ 2)
 symbols-are {width} group =
-    subst (λ n. (n ≡ 8) ⊎ (n ≡ 4) ⊎ (n ≡ 2)) (sym group.has_symbols)
+    rw group.has_symbols
     (by_width (λ w. (group_symbols w ≡ 8) ⊎ (group_symbols w ≡ 4) ⊎ (group_symbols w ≡ 2))
     (inl refl) (inr (inl refl)) (inl refl) (inr (inr refl)) (inl refl) (inr (inl refl)) width
     group.is_width)
@@ -41,7 +36,7 @@ symbols-are {width} group =
 pub bytes-are : {width bytes symbols : ℕ} → IsGroup width bytes symbols
     → (bytes ≡ 1) ⊎ (bytes ≡ 3) ⊎ (bytes ≡ 5)
 bytes-are {width} group =
-    subst (λ n. (n ≡ 1) ⊎ (n ≡ 3) ⊎ (n ≡ 5)) (sym group.has_bytes)
+    rw group.has_bytes
     (by_width (λ w. (group_bytes w ≡ 1) ⊎ (group_bytes w ≡ 3) ⊎ (group_bytes w ≡ 5))
     (inl refl) (inl refl) (inr (inl refl)) (inl refl) (inr (inr refl)) (inr (inl refl)) width
     group.is_width)
@@ -53,8 +48,7 @@ symbols-within {width} group n few =
     let within = by_width (λ w. n ≤ group_bytes w → (8 * n + (w - 1)) / w ≤ group_symbols w)
     (omega arith) (omega arith) (omega arith) (omega arith) (omega arith) (omega arith) width
     group.is_width in
-    subst (λ s. (8 * n + (width - 1)) / width ≤ s) (sym group.has_symbols)
-    (within (subst (λ b. n ≤ b) group.has_bytes few))
+    rw group.has_symbols (within (rw group.has_bytes at few))
 
 -- what is equal to the sizes of a group are such sizes
 pub IsGroup-same : {w b s width bytes symbols : ℕ} → width ≡ w → bytes ≡ b → symbols ≡ s

@@ -196,9 +196,7 @@ word_of-more LeastSignificantFirst size count index digits d is h k =
 word_of-more MostSignificantFirst size count index digits d is h k =
     let r = count - 1 - index in
     let whole : index + 1 + r ≡ count = omega arith in
-    subst (λ m. word_of MostSignificantFirst size m (digits ++ d ∷ [])
-    ≡ word_of MostSignificantFirst size m digits + d * 2 ^ (size * r)) whole
-    (more_most size index r digits d is k)
+    rw whole at (more_most size index r digits d is k)
 
 -- the number of the bits below some that stand between a front and a rest
 abbrev bits_below : BitOrder → List ℕ → List ℕ → ℕ

@@ -160,8 +160,7 @@ symbols-agree target known n (s ∷ symbols) own =
       (first.0, first.1 ∙ ap (λ v. Symbol v) here),
       symbols-agree target known (n + 1) symbols (λ i h.
           let at = own (suc i) (omega (arith, h)) in
-          let next : n + suc i ≡ n + 1 + i = omega arith in
-          (at.0, at.1 ∙ ap (λ v. Symbol v) next)),
+          (at.0, at.1 ∙ ap (λ v. Symbol v) (omega arith))),
     )
 
 ignored-agree : (target known : List Character) (bytes : List ℕ)
@@ -225,12 +224,7 @@ module _ (base : Base) (ruled : IsRuled base) where
       and_from (not (column == 0)) (not (length separator == 0))
       (apart_test column 0 (λ e. omega (arith, e, rule.some)))
       (apart_test (length separator) 0 (λ e. omega (arith, e, rule.ended))) in
-      subst
-      (λ b. AllByRecursion (Agrees base.meanings no_meanings) (cond b
-      (Require (nat_lt column 256 && nat_lt (length separator) 256) WrapLength
-      ∷ Require (column % group_symbols base.width == 0) (WrapWidth (group_symbols base.width))
-      ∷ ignored_judgements separator) []))
-      (sym on) (
+      rw on (
         and_from (nat_lt column 256) (nat_lt (length separator) 256)
             (lt-ltb column 256 rule.short) (lt-ltb (length separator) 256 rule.ends_short),
         (
@@ -244,8 +238,7 @@ module _ (base : Base) (ruled : IsRuled base) where
       from_parts (Agrees base.meanings no_meanings) base.width (fields_of base) (
         symbols-agree base.meanings no_meanings 0 base.symbols (λ i h.
             let own = ruled.own i h in
-            let first : i ≡ 0 + i = omega arith in
-            (own.0, own.1 ∙ ap (λ v. Symbol v) first)),
+            (own.0, own.1 ∙ ap (λ v. Symbol v) (omega arith))),
         padding-agrees base.padding ruled.padding,
         ignored-agree base.meanings no_meanings (fields_of base).ignored
             (all_in_range (λ byte. (byte < 128) × (get_or base.meanings byte Invalid ≡ Ignored))
@@ -276,16 +269,14 @@ module _ (base : Base) (ruled : IsRuled base) where
       → get_or meanings (get_or base.symbols i 0) Invalid ≡ Symbol i
   symbol-there meanings held i h =
       let all = parts_of (IsHeld meanings) base.width (fields_of base) held in
-      let here : 0 + i ≡ i = omega arith in
-      (symbols-held meanings 0 base.symbols all.0 i h).1 ∙ ap (λ v. Symbol v) here
+      (symbols-held meanings 0 base.symbols all.0 i h).1 ∙ ap (λ v. Symbol v) (omega arith)
 
   padding-there : (meanings : List Character) → AllByRecursion (IsHeld meanings) before_pairs
       → (character : ℕ) → base.padding ≡ Some character
       → get_or meanings character Invalid ≡ Padding
   padding-there meanings held character is =
       let all = parts_of (IsHeld meanings) base.width (fields_of base) held in
-      let one = subst (λ o. AllByRecursion (IsHeld meanings) (padding_judgements base.width o)) is
-      all.1 in
+      let one = rw is at all.1 in
       one.1.1.0.1 (λ e. cc)
 
   ignored-there : (meanings : List Character) → AllByRecursion (IsHeld meanings) before_pairs
@@ -309,9 +300,7 @@ module _ (base : Base) (ruled : IsRuled base) where
       (low, own.0, (λ e. let bad : Symbol value ≡ Invalid = sym there ∙ e in cc), is ∙ sym own.1)
   pair-agrees byte low Padding is t =
       let own = padding-own byte low is in
-      subst
-      (λ o. Agrees base.meanings halfway (Translate byte (unwrap_or o 0)))
-      (sym own.1)
+      subst (λ o. Agrees base.meanings halfway (Translate byte (unwrap_or o 0))) (sym own.1)
       (let there = padding-there halfway halfway-held own.0 own.1 in
       (low, own.2, (λ e. let bad : Padding ≡ Invalid = sym there ∙ e in cc), is ∙ sym own.3))
   pair-agrees byte low _ is t = cc

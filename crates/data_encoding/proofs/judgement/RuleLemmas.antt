@@ -285,8 +285,7 @@ module _ (width : ℕ) (fields : Fields) (meanings : List Character)
         long = (steps).long;
         own = λ i h.
             let is = symbols-held meanings 0 fields.symbols (held).0 i h in
-            let first : 0 + i ≡ i = omega arith in
-            (is.0, is.1 ∙ ap (λ v. Symbol v) first);
+            (is.0, is.1 ∙ ap (λ v. Symbol v) (omega arith));
         within =
             passes (is_within (length fields.symbols)) refl
             (λ v h. lt-ltb v (length fields.symbols) h) refl

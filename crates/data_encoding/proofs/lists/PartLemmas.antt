@@ -18,15 +18,12 @@ pub record IsWhole (width bytes symbols : ℕ) : Type 0 where
 pub IsWhole-group : (width bytes symbols : ℕ) → IsGroup width bytes symbols
     → IsWhole width bytes symbols
 IsWhole-group width bytes symbols g =
-    let is : IsWidth width = g.is_width in
-    record {
-      is_width = is;
-      same_bits =
-          ap (λ n. width * n) g.has_symbols ∙ group_bits width is
-          ∙ ap (λ n. 8 * n) (sym g.has_bytes);
-      some_bytes = subst (λ n. 0 < n) (sym g.has_bytes) (group_bytes-pos width is);
-      some_symbols = subst (λ n. 0 < n) (sym g.has_symbols) (group_symbols-pos width is);
-    }
+    rw (g.has_bytes, g.has_symbols) (record {
+      is_width = g.is_width;
+      same_bits = group_bits width g.is_width;
+      some_bytes = group_bytes-pos width g.is_width;
+      some_symbols = group_symbols-pos width g.is_width;
+    })
 
 -- as by sizes that equal those of a group
 pub IsWhole-same : {w b s bytes symbols : ℕ} → bytes ≡ b → symbols ≡ s → IsGroup w b s
@@ -92,7 +89,13 @@ pub turn-within : (n groups size i : ℕ) → i < n / size / groups
 turn-within n groups size i h =
     omega (arith, turns-before (n / size) groups size i h, groups-within n size)
 
--- and has room where all groups have room
+-- and has room where all groups have room, as has a group
+pub group-room : {b s bytes symbols : ℕ} (n i m : ℕ) → bytes ≡ b → symbols ≡ s → n / s * b ≤ m
+    → i < n / symbols → i * bytes + bytes ≤ m
+group-room {b} {s} {bytes} {symbols} n i m q r room h =
+    let next : i + 1 ≤ n / symbols = omega (arith, h) in
+    omega (arith, one-more i bytes, mul-le-mul_right bytes next, room-same n m q r room)
+
 pub turn-room : {b s bytes symbols : ℕ} (n groups i m : ℕ) → bytes ≡ b → symbols ≡ s
     → n / s * b ≤ m → i < n / symbols / groups → i * groups * bytes + groups * bytes ≤ m
 turn-room {b} {s} {bytes} {symbols} n groups i m q r room h =

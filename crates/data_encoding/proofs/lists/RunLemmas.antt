@@ -18,8 +18,7 @@ run_count size count = (count + (size - 1)) / size
 
 run_count-add : (size n : ℕ) → 0 < size → run_count size (size + n) ≡ suc (run_count size n)
 run_count-add size n h =
-    let regroup : size + n + (size - 1) ≡ size + (n + (size - 1)) = omega arith in
-    ap (λ k. k / size) regroup ∙ add-div_left (n + (size - 1)) h ∙ omega arith
+    ap (λ k. k / size) (omega arith) ∙ add-div_left (n + (size - 1)) h ∙ omega arith
 
 pub run_count-short : (size n : ℕ) → 0 < n → n ≤ size → run_count size n ≡ 1
 run_count-short size n h k =

@@ -1,26 +1,19 @@
 use Rattle.std.proofs.Common.{◌≡◌, ℕ, ◌+◌, ◌-◌, ◌*◌, ◌/◌, ◌≤◌, length, take, drop, refl, sym, ap, ◌∙◌, subst, arith}
-use Rattle.std.proofs.Math.Nat.{div-le_self}
+use Rattle.std.proofs.Math.Nat.{div-le_self, zero-mul}
 use Rattle.data_encoding.specs.Decoding.{IsRun}
 use Rattle.data_encoding.proofs.decoding.SymbolRunLemmas.{run-kept, run-none, run-next}
 use Rattle.data_encoding.proofs.digits.SizeLemmas.{IsGroup-same}
-use Rattle.data_encoding.proofs.lists.PartLemmas.{IsWhole-group, group-before, groups-within, length-part, one-more, turn-room, turn-within}
+use Rattle.data_encoding.proofs.lists.PartLemmas.{IsWhole-same, group-before, groups-within, length-part, one-more, turn-room, turn-within}
 use Rattle.data_encoding.proofs.kernel.decode.decode_turns.Goals as goal
 
 pub nonzero_div-count : goal.nonzero_div-count
 nonzero_div-count g c =
-    let group = IsGroup-same refl c.BYTES-bytes.ensures c.SYMBOLS-symbols.ensures
-    g.G.GroupSize.is_group in
-    (IsWhole-group g.G.GroupSize.WIDTH c.BYTES-bytes.result c.SYMBOLS-symbols.result
-    group).some_symbols
-
-none : (groups : ℕ) → 0 ≡ 0 * groups
-none groups = omega arith
+    (IsWhole-same c.BYTES-bytes.ensures c.SYMBOLS-symbols.ensures g.G.GroupSize.is_group).some_symbols
 
 pub loop-index-init : goal.loop-index-init
 loop-index-init g c = record {
   run = λ values held base reads.
-      subst (λ n. IsRun base c.args.input.now n c.args.output.now c.args.output.now)
-      (none c.GROUPS-groups.result)
+      rw zero-mul
       (run-none base reads.holds.is_width c.args.input.now c.args.output.now c.args.output.now);
 }
 
@@ -107,10 +100,7 @@ returns-clause-run g c = λ values held base reads.
     let count = length c.args.input.now / c.SYMBOLS-symbols.result / c.GROUPS-groups.result in
     let all : c.loop-index.index ≡ count =
     omega (arith, c.loop-index-test.false, c.loop-index.auto.index-end) in
-    subst
-    (λ n. IsRun base c.args.input.now (n * c.GROUPS-groups.result) c.args.output.now
-    c.loop-index.output) all
-    (c.loop-index.invariant.run values held base reads)
+    rw all at (c.loop-index.invariant.run values held base reads)
 
 pub nonzero_div-count-2 : goal.nonzero_div-count-2
 nonzero_div-count-2 g c = omega (arith, c.GROUPS-groups.ensures, g.T.DecodeTurn.some_groups)

@@ -142,15 +142,13 @@ returns g c base writes =
     let input = c.args.input.now in
     let output = c.loop-index.output in
     let bytes = c.GROUPS-groups.result * c.BYTES-bytes.result in
-    let symbols = c.GROUPS-groups.result * c.SYMBOLS.result in
     let count = c.saturating_sub.result / bytes in
     let all : c.loop-index.index ≡ count =
     omega (arith, c.loop-index-test.false, c.loop-index.auto.index-end) in
     let within : count * bytes ≤ length input =
     omega (arith, groups-within c.saturating_sub.result bytes, c.saturating_sub.ensures) in
     written-rest whole base writes.width_is input output c.encode_rest.new.output count
-    (subst (λ n. take (n * symbols) output ≡ plain_text base (take (n * bytes) input)) all
-    (c.loop-index.invariant.written base writes)) within
+    (rw all at (c.loop-index.invariant.written base writes)) within
     (groups_fit whole (length input) (length output) count
     (c.loop-index.auto.output ∙ c.requires.exact) within)
     c.encode_rest.auto.output (c.encode_rest.ensures base writes)

@@ -78,5 +78,4 @@ pub returns : goal.returns
 returns g c = λ all base reads.
     let end : c.loop-index.index ≡ 4 =
     omega (arith, c.loop-index-test.false, c.loop-index.auto.index-end) in
-    subst (λ n. IsRun base c.args.input.now n c.args.output.now c.loop-index.output) end
-    (c.loop-index.invariant.run (ltb-true _ _ all) base reads)
+    rw end at (c.loop-index.invariant.run (ltb-true _ _ all) base reads)

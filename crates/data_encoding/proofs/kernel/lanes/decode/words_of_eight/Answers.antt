@@ -35,7 +35,6 @@ returns-clause-words c = λ small.
 
 pub returns-clause-fit : goal.returns-clause-fit
 returns-clause-fit c = λ small.
-    subst (AllByRecursion (λ word. word < 2 ^ (c.args.width * 8)))
-    (sym (returns-clause-words c small))
+    rw (returns-clause-words c small)
     (words-fit c.args.order c.args.width (c.args.width * 8) 8 (omega arith) 8 c.args.values
     c.fits-values.0)

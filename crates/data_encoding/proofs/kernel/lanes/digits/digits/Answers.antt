@@ -11,9 +11,7 @@ digits-at : (order : BitOrder) (input lanes : List ℕ) {width bytes symbols k :
     → HasDigits order input lanes k (group_bytes k) (group_symbols k)
     → HasDigits order input lanes width bytes symbols
 digits-at order input lanes {width} {bytes} {symbols} {k} group is has =
-    subst (HasDigits order input lanes width bytes) (sym group.has_symbols)
-    (subst (λ n. HasDigits order input lanes width n (group_symbols width)) (sym group.has_bytes)
-    (subst (λ n. HasDigits order input lanes n (group_bytes n) (group_symbols n)) (sym is) has))
+    rw (group.has_symbols, group.has_bytes, is) has
 
 bytes-at : (n : ℕ) {width bytes symbols k w : ℕ} → IsGroup width bytes symbols → w ≡ width → w ≡ k
     → 10 * bytes ≤ n + 2 → 10 * group_bytes k ≤ n + 2
