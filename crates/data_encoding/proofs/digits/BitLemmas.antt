@@ -148,5 +148,4 @@ pub length-pieces : {X : Type 0} (size : ℕ) (f : X → List ℕ) (xs : List X)
     → ((x : X) → length (f x) ≡ size) → length (flat_map f xs) ≡ size * length xs
 length-pieces size f [] h = omega arith
 length-pieces size f (x ∷ xs) h =
-    length-append (f x) (flat_map f xs) ∙ ap (λ n. n + length (flat_map f xs)) (h x)
-    ∙ ap (λ n. size + n) (length-pieces size f xs h) ∙ omega arith
+    omega (arith, length-append (f x) (flat_map f xs), h x, length-pieces size f xs h)

@@ -9,7 +9,7 @@ use Rattle.std.specs.List.{AllByRecursion}
 use Rattle.std.specs.Simd.Lanes.{number_l}
 
 turned : (k a b : ℕ) → a + 2 ^ k * b ≡ b * 2 ^ k + a
-turned k a b = ap (λ n. a + n) (mul_comm (2 ^ k) b) ∙ omega arith
+turned k a b = omega arith
 
 -- what is computed bit by bit is computed of each of two parts of a number alone
 module _ (op bit : ℕ → ℕ → ℕ) (k : ℕ)
@@ -67,10 +67,4 @@ or_fields k f g P p q (x ∷ xs) h =
 pub times_fields : (p times : ℕ) (fields : List ℕ)
     → number_l p fields * times ≡ number_l p (map (λ x. x * times) fields)
 times_fields p times [] = zero-mul times
-times_fields p times (x ∷ xs) =
-    let more : (x + p * number_l p xs) * times ≡ x * times + p * (number_l p xs * times) =
-    mul_right x p (number_l p xs) times in
-    more ∙ ap (λ n. x * times + p * n) (times_fields p times xs)
-  where
-    mul_right : (x p n t : ℕ) → (x + p * n) * t ≡ x * t + p * (n * t)
-    mul_right x p n t = add-mul x (p * n) t ∙ ap (λ k. x * t + k) (mul_assoc p n t)
+times_fields p times (x ∷ xs) = omega (arith, ap (λ n. p * n) (times_fields p times xs))

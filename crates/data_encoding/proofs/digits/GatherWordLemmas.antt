@@ -28,8 +28,7 @@ number-below p (x ∷ xs) h =
     let rest = number_l p xs in
     let up : p * (rest + 1) ≤ p * p ^ length xs =
     mul-le-mul_left p (omega (arith, number-below p xs h.1)) in
-    let next : p * (rest + 1) ≡ p * rest + p = mul-add p rest 1 ∙ omega arith in
-    subst (λ n. x + p * rest < n) (sym (pow-succ' p (length xs))) (omega (arith, up, next, h.0))
+    omega (arith, up, pow-succ' p (length xs), h.0)
 
 -- a number of its own digits
 pub number-of-digits : (p n x : ℕ) → 0 < p → x < p ^ n → number_l p (digits_l p n x) ≡ x
@@ -58,18 +57,9 @@ pairs-of p (suc n) (a ∷ []) h e = absurd (omega (arith, e))
 pairs-of p (suc n) (a ∷ b ∷ xs) h e =
     let rest = number_l p xs in
     let pair = a + p * (b + p * 0) in
-    let pair_is : pair ≡ a + p * b =
-    ap (λ z. a + p * (b + z)) (mul-zero p) ∙ omega arith in
-    let whole : a + p * (b + p * rest) ≡ rest * (p * p) + pair =
-    omega (
-      arith,
-      mul-add p b (p * rest),
-      mul_assoc p p rest,
-      mul_comm (p * p) rest,
-      pair_is,
-    ) in
+    let whole : a + p * (b + p * rest) ≡ rest * (p * p) + pair = omega arith in
     let up : p * (b + 1) ≤ p * p = mul-le-mul_left p (omega (arith, h.1.0)) in
-    let below : pair < p * p = omega (arith, pair_is, up, mul-add p b 1, h.0) in
+    let below : pair < p * p = omega (arith, up, h.0) in
     let low : (a + p * (b + p * rest)) % (p * p) ≡ pair =
     ap (λ m. m % (p * p)) whole ∙ mod-mul-add rest (p * p) pair below in
     let high : (a + p * (b + p * rest)) / (p * p) ≡ rest =
@@ -196,8 +186,7 @@ module _ (order : BitOrder) (size : ℕ) where
         let h = 2 ^ half in
         let most : 2 ^ (size * count) ≤ h = pow_mono (omega (arith, part_is, few)) in
         let a_below : a < h = omega (arith, word-below count front f, most) in
-        let lane : a + h * (b_ + h * 0) ≡ b_ * h + a =
-        ap (λ z. a + h * (b_ + z)) (mul-zero h) ∙ omega (arith, mul_comm h b_) in
+        let lane : a + h * (b_ + h * 0) ≡ b_ * h + a = omega arith in
         let low : (a + h * (b_ + h * 0)) % h ≡ a =
         ap (λ n. n % h) lane ∙ mod-mul-add b_ h a a_below in
         let high : (a + h * (b_ + h * 0)) / h ≡ b_ =
@@ -205,9 +194,8 @@ module _ (order : BitOrder) (size : ℕ) where
         let all = word (count + count) (front ++ back) in
         let long : length (front ++ back) ≡ count + count =
         length-append front back ∙ (λ i. f i + b i) in
-        let wide : size * (count + count) ≤ half + half =
-        omega (arith, mul-add size count count, part_is, few) in
-        let most_all : 2 ^ (size * (count + count)) ≤ 2 ^ (half + half) = pow_mono wide in
+        let most_all : 2 ^ (size * (count + count)) ≤ 2 ^ (half + half) =
+        pow_mono (omega (arith, part_is, few)) in
         let fits : all < 2 ^ (half + half) =
         omega (arith, word-below (count + count) (front ++ back) long, most_all) in
         (λ i. (low i * 2 ^ weight order (part_is i) 2 0 + high i * 2 ^ weight order (part_is i) 2 1)
@@ -249,7 +237,7 @@ module _ (order : BitOrder) (size : ℕ) where
         let words = map (word count) (first_chunks count (n + n) values) in
         let part_few : size * count ≤ half = omega (arith, part_is, few) in
         let same : length values ≡ count * (n + n) =
-        long ∙ omega (arith, add-mul count count n, mul-add count n n) in
+        long ∙ omega arith in
         ap (map (joined order half part)) (pairs-of (2 ^ half) n words
         (words-fit half count part_few (n + n) values same) (length-words count (n + n) values))
         ∙ map-map (joined order half part) (number_l (2 ^ half)) (first_chunks 2 n words)

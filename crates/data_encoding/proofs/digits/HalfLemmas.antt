@@ -56,12 +56,9 @@ module _ (half up : ℕ) where
         mod-lt field (pow_pos half),
         pow_mono {i = half} {j = half + up} (omega arith),
       ) in
-      let last : field / 2 ^ half + 2 ^ (half + up) * 0 ≡ field / 2 ^ half = omega arith in
       (λ i. bit_or (and_mask field half i) (high_half field h i))
       ∙ or_shifted_r (field / 2 ^ half) (half + up) (field % 2 ^ half) low
-      ∙ add_comm (field / 2 ^ half * 2 ^ (half + up)) (field % 2 ^ half)
-      ∙ ap (λ n. field % 2 ^ half + n) (mul_comm (field / 2 ^ half) (2 ^ (half + up))
-      ∙ ap (λ n. 2 ^ (half + up) * n) (sym last))
+      ∙ omega arith
 
   low_fits : (field : ℕ) → field < 2 ^ (half + half)
       → bit_and field (2 ^ half - 1) < 2 ^ (half + up + (half + up))

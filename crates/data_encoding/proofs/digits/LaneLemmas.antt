@@ -16,18 +16,13 @@ use Rattle.data_encoding.proofs.lists.EachLemmas.{all_joined}
 number-joined : (p : ℕ) (xs ys : List ℕ)
     → number_l p (xs ++ ys) ≡ number_l p xs + p ^ length xs * number_l p ys
 number-joined p [] ys =
-    let high = number_l p ys in
-    let one : p ^ 0 * high ≡ 1 * high = ap (λ n. n * high) (pow-zero p) in
-    omega (arith, one)
+    omega (arith, ap (λ n. n * number_l p ys) (pow-zero p))
 number-joined p (x ∷ xs) ys =
-    let low = number_l p xs in
-    let high = number_l p ys in
-    let times = p ^ length xs in
-    ap (λ n. x + p * n) (number-joined p xs ys)
-    ∙ ap (λ n. x + n) (mul-add p low (times * high)
-    ∙ ap (λ n. p * low + n) (sym (mul_assoc p times high)
-    ∙ ap (λ n. n * high) (sym (pow-succ' p (length xs)))))
-    ∙ omega arith
+    omega (
+      arith,
+      ap (λ n. p * n) (number-joined p xs ys),
+      ap (λ n. n * number_l p ys) (pow-succ' p (length xs)),
+    )
 
 -- zeros above change nothing
 pub number-padded : (p : ℕ) (xs : List ℕ) (n : ℕ) → number_l p (xs ++ replicate n 0) ≡ number_l p xs
@@ -49,8 +44,7 @@ pub digits-of-number : (p : ℕ) (xs : List ℕ) → AllByRecursion (λ x. x < p
     → digits_l p (length xs) (number_l p xs) ≡ xs
 digits-of-number p [] h = refl
 digits-of-number p (x ∷ xs) h =
-    let turned : x + p * number_l p xs ≡ number_l p xs * p + x =
-    ap (λ n. x + n) (mul_comm p (number_l p xs)) ∙ omega arith in
+    let turned : x + p * number_l p xs ≡ number_l p xs * p + x = omega arith in
     let low : (x + p * number_l p xs) % p ≡ x =
     ap (λ n. n % p) turned ∙ mod-mul-add (number_l p xs) p x h.0 in
     let high : (x + p * number_l p xs) / p ≡ number_l p xs =

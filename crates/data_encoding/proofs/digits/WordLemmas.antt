@@ -16,19 +16,17 @@ use Rattle.data_encoding.specs.Words.{weight, digit, zeros_to, word_of}
 use Rattle.data_encoding.proofs.lists.EachLemmas.{all_replicate, all_reversed}
 use Rattle.data_encoding.proofs.digits.BitLemmas.{AreBits, AreBits-append, AreBits-left, AreBits-right, AreBits-reverse, length-bits_of, length-pieces, number-low_bits, number-below, length-low_bits}
 
-regroup : (b x m y : ℕ) → b + 2 * (x + m * y) ≡ b + 2 * x + 2 * m * y
-regroup b x m y = omega (arith, mul_assoc 2 m y)
-
 -- lower bits, and then higher ones
 pub number-append : (low high : List ℕ)
     → number_of_low_bits (low ++ high)
     ≡ number_of_low_bits low + 2 ^ length low * number_of_low_bits high
 number-append [] high = omega arith
 number-append (bit ∷ low) high =
-    ap (λ n. bit + 2 * n) (number-append low high)
-    ∙ regroup bit (number_of_low_bits low) (2 ^ length low) (number_of_low_bits high)
-    ∙ ap (λ m. bit + 2 * number_of_low_bits low + m * number_of_low_bits high)
-    (sym (pow-succ' 2 (length low)))
+    omega (
+      arith,
+      number-append low high,
+      ap (λ m. m * number_of_low_bits high) (pow-succ' 2 (length low)),
+    )
 
 pub number-zeros : (n : ℕ) → number_of_low_bits (replicate n 0) ≡ 0
 number-zeros zero = refl
@@ -53,9 +51,7 @@ number-middle low middle high h k =
     let n = number_of_low_bits high in
     let all : number_of_low_bits (low ++ (middle ++ high)) ≡ (n * M + m) * L + l =
     number-append low (middle ++ high)
-    ∙ ap (λ x. l + L * x) (number-append middle high)
-    ∙ ap (λ x. l + x) (mul_comm L (m + M * n)) ∙ ap (λ x. l + (m + x) * L) (mul_comm M n)
-    ∙ ap (λ x. l + x * L) (add_comm m (n * M)) ∙ add_comm l ((n * M + m) * L) in
+    ∙ ap (λ x. l + L * x) (number-append middle high) ∙ omega arith in
     ap (λ x. x / L % M) all
     ∙ ap (λ x. x % M) (div-mul-add (n * M + m) L l (number-below low h))
     ∙ mod-mul-add n M m (number-below middle k)
@@ -151,13 +147,13 @@ more_least size count digits d h =
     ∙ ap (λ n. n + d * 2 ^ (size * length digits)) (sym (word-least size count digits))
 
 above : (size i r : ℕ) → size * (i + 1 + r) - size * (i + 1) ≡ size * r
-above size i r = omega (arith, mul-add size (i + 1) r)
+above size i r = omega arith
 
 above_all : (size i r : ℕ) → size * (i + 1 + r) - size * i ≡ size * r + size
-above_all size i r = omega (arith, mul-add size (i + 1) r, mul-add size i 1)
+above_all size i r = omega arith
 
 regroup_most : (w s d n : ℕ) → w * (d + s * n) ≡ w * s * n + d * w
-regroup_most w s d n = mul-add w d (s * n) ∙ omega (arith, mul_comm w d, mul_assoc w s n)
+regroup_most w s d n = omega arith
 
 more_most : (size i r : ℕ) (digits : List ℕ) (d : ℕ) → length digits ≡ i → d < 2 ^ size
     → word_of MostSignificantFirst size (i + 1 + r) (digits ++ d ∷ [])
@@ -249,8 +245,7 @@ digit-number_of order size count index bits h e k =
     let r = count - 1 - index in
     let whole : index + 1 + r ≡ count = omega arith in
     let parts : size * count ≡ size * index + size + size * r =
-    ap (λ n. size * n) (sym whole)
-    ∙ omega (arith, mul-add size (index + 1) r, mul-add size index 1) in
+    ap (λ n. size * n) (sym whole) ∙ omega arith in
     let front = take (size * index) bits in
     let others = drop (size * index) bits in
     let run = take size others in

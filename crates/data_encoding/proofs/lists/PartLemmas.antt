@@ -39,8 +39,7 @@ module _ (m d from to extra : ℕ) (same : m * from ≡ d * to) (pos : 0 < d) wh
 
   split : (n q r : ℕ) → n ≡ q * from + r → m * n + extra ≡ d * (q * to) + (m * r + extra)
   split n q r e =
-      let parts : m * n ≡ m * (q * from) + m * r = ap (λ k. m * k) e ∙ mul-add m (q * from) r in
-      omega (arith, parts, regroup q)
+      omega (arith, ap (λ k. m * k) e, regroup q)
 
   quotient : (n q r : ℕ) → n ≡ q * from + r
       → (m * n + extra) / d ≡ q * to + (m * r + extra) / d
@@ -66,23 +65,20 @@ module _ (m d from to extra : ℕ) (same : m * from ≡ d * to) (pos : 0 < d) wh
 -- a group before the last whole one ends before it
 pub group-before : (n size i : ℕ) → i < n / size → i * size + size ≤ n
 group-before n size i h =
-    let next : (i + 1) * size ≡ i * size + size = add-mul i 1 size ∙ omega arith in
     let up : (i + 1) * size ≤ n / size * size = mul-le-mul_right size (omega (arith, h)) in
-    omega (arith, up, next, div-add-mod' n size)
+    omega (arith, up, div-add-mod' n size)
 
 pub groups-within : (n size : ℕ) → n / size * size ≤ n
 groups-within n size = omega (arith, div-add-mod' n size)
 
 pub one-more : (i size : ℕ) → (i + 1) * size ≡ i * size + size
-one-more i size = add-mul i 1 size ∙ omega arith
+one-more i size = omega arith
 
 -- the groups of the next turn end before the last of them
 pub turns-before : (n groups size i : ℕ) → i < n / groups
     → i * groups * size + groups * size ≤ n * size
 turns-before n groups size i h =
-    let next : i * groups * size + groups * size ≡ (i * groups + groups) * size =
-    sym (add-mul (i * groups) groups size) in
-    omega (arith, next, mul-le-mul_right size (group-before n groups i h))
+    omega (arith, mul-le-mul_right size (group-before n groups i h))
 
 pub turn-within : (n groups size i : ℕ) → i < n / size / groups
     → i * groups * size + groups * size ≤ n
@@ -94,7 +90,7 @@ pub group-room : {b s bytes symbols : ℕ} (n i m : ℕ) → bytes ≡ b → sym
     → i < n / symbols → i * bytes + bytes ≤ m
 group-room {b} {s} {bytes} {symbols} n i m q r room h =
     let next : i + 1 ≤ n / symbols = omega (arith, h) in
-    omega (arith, one-more i bytes, mul-le-mul_right bytes next, room-same n m q r room)
+    omega (arith, mul-le-mul_right bytes next, room-same n m q r room)
 
 pub turn-room : {b s bytes symbols : ℕ} (n groups i m : ℕ) → bytes ≡ b → symbols ≡ s
     → n / s * b ≤ m → i < n / symbols / groups → i * groups * bytes + groups * bytes ≤ m
@@ -105,7 +101,7 @@ turn-room {b} {s} {bytes} {symbols} n groups i m q r room h =
 pub part-of-four : (n size i : ℕ) → n ≡ 4 * size → i < 4 → i * size + size ≤ n
 part-of-four n size i e h =
     let up : (i + 1) * size ≤ 4 * size = mul-le-mul_right size (omega (arith, h)) in
-    omega (arith, up, one-more i size, e)
+    omega (arith, up, e)
 
 -- a whole group gives a whole group
 pub whole-group : (m d from to extra : ℕ) → m * from ≡ d * to → extra < d

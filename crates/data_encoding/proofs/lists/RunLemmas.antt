@@ -192,15 +192,12 @@ length-each_ended : {X : Type 0} (end : List X) (parts : List (List X))
     ≡ length (flat_map (λ part. part) parts) + length parts * length end
 length-each_ended end [] = sym (zero-mul (length end)) ∙ omega arith
 length-each_ended end (part ∷ parts) =
-    let more : suc (length parts) * length end
-    ≡ length end + length parts * length end = suc-mul (length parts) (length end) ∙ omega arith in
     omega (
       arith,
       length-append (part ++ end) (flat_map (λ p. p ++ end) parts),
       length-append part end,
       length-append part (flat_map (λ p. p) parts),
       length-each_ended end parts,
-      more,
     )
 
 -- the runs with an end behind each

@@ -101,7 +101,8 @@ flags-back w o c s few =
       few = omega (arith, first.2, second.2, third.2);
       width_is = omega (arith, first.2, second.2, third.2);
       order_is =
-          ap (λ n. cond (n == 1) MostSignificantFirst LeastSignificantFirst) (omega (arith, first.2, second.2, third.2)) ∙ first.3;
+          ap (λ n. cond (n == 1) MostSignificantFirst LeastSignificantFirst)
+          (omega (arith, first.2, second.2, third.2)) ∙ first.3;
       checks_is = ap (λ n. n == 1) (omega (arith, first.2, second.2, third.2)) ∙ second.3;
       concatenates_is = ap (λ n. n == 0) (omega (arith, first.2, second.2, third.2)) ∙ third.3;
     }

@@ -7,7 +7,8 @@ use Rattle.data_encoding.proofs.kernel.decode.decode_run.Goals as goal
 
 pub nonzero_div-count : goal.nonzero_div-count
 nonzero_div-count g c =
-    (IsWhole-same c.BYTES-bytes.ensures c.SYMBOLS-symbols.ensures g.G.GroupSize.is_group).some_symbols
+    (IsWhole-same c.BYTES-bytes.ensures c.SYMBOLS-symbols.ensures
+    g.G.GroupSize.is_group).some_symbols
 
 pub slice_bounds-decode_symbols-end : goal.slice_bounds-decode_symbols-end
 slice_bounds-decode_symbols-end g c =

@@ -8,7 +8,8 @@ use Rattle.data_encoding.proofs.kernel.decode.decode_turns.Goals as goal
 
 pub nonzero_div-count : goal.nonzero_div-count
 nonzero_div-count g c =
-    (IsWhole-same c.BYTES-bytes.ensures c.SYMBOLS-symbols.ensures g.G.GroupSize.is_group).some_symbols
+    (IsWhole-same c.BYTES-bytes.ensures c.SYMBOLS-symbols.ensures
+    g.G.GroupSize.is_group).some_symbols
 
 pub loop-index-init : goal.loop-index-init
 loop-index-init g c = record {
