@@ -1,8 +1,8 @@
 -- Entries of a table that is affine by rows of sixteen, at bytes in lanes.
-use Rattle.std.proofs.Common.{◌≡◌, ℕ, zero, suc, ◌+◌, ◌-◌, ◌*◌, ◌/◌, ◌%◌, ◌^◌, ◌<◌, ◌≤◌, Bool, true, false, cond, eqb, leb, List, [], ◌∷◌, length, map, take, drop, get_or, slice_index, replicate, bit_and, w8, refl, sym, ap, ◌∙◌, subst, arith, eqb-true, leb-false}
+use Rattle.std.proofs.Common.{◌≡◌, ℕ, ◌+◌, ◌-◌, ◌*◌, ◌/◌, ◌%◌, ◌^◌, ◌<◌, ◌≤◌, Bool, true, false, cond, eqb, leb, List, [], ◌∷◌, length, map, take, drop, get_or, slice_index, replicate, bit_and, w8, refl, sym, ap, ◌∙◌, subst, arith, eqb-true, leb-false}
 use Rattle.std.proofs.lemmas.Bool.{leb-true}
 use Rattle.std.proofs.lemmas.Nat.{and_le_r}
-use Rattle.std.proofs.lemmas.List.{length-map, get_or-map, get_or-drop, get_or-replicate, map-id, ext_get_or}
+use Rattle.std.proofs.lemmas.List.{get_or-drop, get_or-replicate, map-id, ext_get_or}
 use Rattle.std.proofs.lemmas.List.FromFn.{get_or-map-range_with_len, length-map-range_with_len}
 use Rattle.std.proofs.lemmas.Simd.{length-chunk, zip2_of_maps, zip2_splat, splat_is_map, tops_compared, map-map}
 use Rattle.std.specs.List.{AllByRecursion, range_with_len}

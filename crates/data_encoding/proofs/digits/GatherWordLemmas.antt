@@ -4,7 +4,7 @@ use Rattle.std.proofs.lemmas.List.{append-nil, drop-drop, length-drop, length-re
 use Rattle.std.proofs.lemmas.List.Concat.{flat_map-append}
 use Rattle.std.proofs.lemmas.Nat.{div-add-mod', div-mul-add, mod-mul-add}
 use Rattle.std.proofs.lemmas.Simd.{map-map}
-use Rattle.std.proofs.Math.Nat.{add-mul, mul-add, mul_assoc, mul_comm, mul-zero, mul-one, mul-le-mul_left, mod-eq_of_lt, div-lt_iff_lt-mul, pow-zero, pow-succ'}
+use Rattle.std.proofs.Math.Nat.{mul_comm, mul-zero, mul-one, mul-le-mul_left, mod-eq_of_lt, div-lt_iff_lt-mul, pow-zero, pow-succ'}
 use Rattle.std.proofs.Math.Pow.{pow_mono}
 use Rattle.std.proofs.Math.Seq.{take-add}
 use Rattle.std.specs.Prelude.{flat_map}

@@ -14,7 +14,7 @@ use Rattle.data_encoding.specs.Bits.{bits_of}
 use Rattle.data_encoding.specs.Lanes.{group_word, group_words}
 use Rattle.data_encoding.specs.Words.{word_of, zeros_to}
 use Rattle.data_encoding.proofs.digits.BitLemmas.{AreBits, AreBits-append, AreBits-flat_map, AreBits-bits_of, number_of-below, length-pieces, length-bits_of}
-use Rattle.data_encoding.proofs.digits.LaneLemmas.{number-of-wide, number-padded, digits-of-number, all_mapped, map-same}
+use Rattle.data_encoding.proofs.digits.LaneLemmas.{number-of-wide, number-padded, digits-of-number, all_mapped}
 use Rattle.data_encoding.proofs.digits.WordLemmas.{AreBits-zeros, lowest_first, word-number, map-range-same, word_of-nil, word_of-more}
 
 -- a word has no more bits than its digits

@@ -1,6 +1,6 @@
 -- Lanes: digits that make a wider lane, and what is computed lane by lane.
 use Rattle.std.proofs.Common.{◌≡◌, ℕ, zero, suc, ◌+◌, ◌*◌, ◌/◌, ◌%◌, ◌^◌, ◌<◌, ◌≤◌, Bool, cond, List, [], ◌∷◌, ◌++◌, length, map, replicate, bit_and, bit_or, refl, sym, ap, ◌∙◌, arith}
-use Rattle.std.proofs.Math.Nat.{pow-zero, pow-succ', mul_comm, mul-add, mul_assoc, mod-lt}
+use Rattle.std.proofs.Math.Nat.{pow-zero, pow-succ', mod-lt}
 use Rattle.std.proofs.lemmas.Nat.{div-mul-add, mod-mul-add, pow_pos}
 use Rattle.std.proofs.lemmas.Simd.{map-map, zip2_splat, zip2_of_maps, splat_is_map}
 use Rattle.std.specs.Prelude.{flat_map}

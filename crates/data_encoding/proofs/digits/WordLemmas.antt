@@ -4,7 +4,7 @@ use Rattle.std.proofs.lemmas.List.{length-reverse, reverse-reverse, reverse-appe
 use Rattle.std.proofs.lemmas.List.Concat.{flat_map-append}
 use Rattle.std.proofs.lemmas.Nat.{div-mul-add, mod-mul-add, pow-add, shl_whole, mul-le}
 use Rattle.std.proofs.Math.Pow.{pow_mono}
-use Rattle.std.proofs.Math.Nat.{pow-succ', mul_comm, mul_assoc, add_comm, mul-add, mul-zero, zero-add}
+use Rattle.std.proofs.Math.Nat.{pow-succ', mul_comm, mul-add, mul-zero, zero-add}
 use Rattle.std.specs.Prelude.{flat_map}
 use Rattle.std.specs.List.{AllByRecursion, range_with_len}
 use Rattle.std.specs.Simd.Lanes.{number_l}

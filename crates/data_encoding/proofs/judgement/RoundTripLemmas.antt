@@ -1,12 +1,12 @@
 -- The specification of a base yields it again.
-use Rattle.std.proofs.Common.{◌≡◌, ◌≢◌, ◌⊎◌, ℕ, suc, ◌+◌, ◌%◌, ◌<◌, ◌≤◌, ◌==◌, Bool, true, false, not, ◌&&◌, nat_le, nat_lt, cond, if◌then◌else◌, List, [], ◌∷◌, length, map, get_or, Option, Some, None, unwrap_or, Ok, Err, refl, sym, ap, ◌∙◌, subst, arith, inl, inr, ⊎_elim, get_or-set_same, get_or-set_other}
+use Rattle.std.proofs.Common.{◌≡◌, ◌≢◌, ◌⊎◌, ℕ, suc, ◌+◌, ◌%◌, ◌<◌, ◌≤◌, ◌==◌, Bool, true, false, not, nat_le, nat_lt, cond, if◌then◌else◌, List, [], ◌∷◌, length, map, get_or, Option, Some, None, unwrap_or, Ok, Err, refl, sym, ap, ◌∙◌, subst, arith, inl, inr, ⊎_elim, get_or-set_same, get_or-set_other}
 use Rattle.std.proofs.lemmas.Bool.{and_from, false≢true, cases_eq, cases_lt, eq-eqb, ltb-true, lt-ltb, lt-leb}
 use Rattle.std.proofs.lemmas.List.{ext_get_or, get_or-replicate, get_or_past, length-map}
 use Rattle.std.proofs.Math.ListN.{set}
 use Rattle.std.specs.List.{AllByRecursion}
 use Rattle.data_encoding.specs.declared.encoding.Character.{Character}
 use Rattle.data_encoding.specs.declared.encoding.Character.TheVariants.{Symbol, Padding, Ignored, Invalid}
-use Rattle.data_encoding.specs.declared.specification.meanings.Refusal.TheVariants.{NotAscii, Undefined, WrapLength, WrapWidth}
+use Rattle.data_encoding.specs.declared.specification.meanings.Refusal.TheVariants.{NotAscii, Undefined}
 use Rattle.data_encoding.specs.Base.{Base, Wrapping, group_symbols, is_ignored, meaning, symbol}
 use Rattle.data_encoding.specs.Fields.{Judgement, base_of, base_with, defined, ignored_judgements, is_same, judged, judgements, meanings_after, no_meanings, padding_judgements, pair_judgements, symbol_judgements, translated, translation_judgements, width_of, wrapping_judgements, wraps, Require, Define, Translate, IsSpecified}
 use Rattle.data_encoding.specs.Layout.{column_of, fields_of, is_translated, own_character, separator_of, translated_bytes}

@@ -1,7 +1,7 @@
 -- Where groups stand in what is read and in what is written.
-use Rattle.std.proofs.Common.{◌≡◌, ℕ, ◌+◌, ◌-◌, ◌*◌, ◌/◌, ◌%◌, ◌<◌, ◌≤◌, List, length, take, drop, refl, sym, ap, ◌∙◌, subst, arith, length-take-le}
+use Rattle.std.proofs.Common.{◌≡◌, ℕ, ◌+◌, ◌-◌, ◌*◌, ◌/◌, ◌<◌, ◌≤◌, List, length, take, drop, refl, ap, ◌∙◌, arith, length-take-le}
 use Rattle.std.proofs.lemmas.List.{length-drop}
-use Rattle.std.proofs.Math.Nat.{mul-add, add-mul, mul_left_comm, mul-add-div, mul-add-mod_self_left, mul-le-mul_right, div-eq_of_lt}
+use Rattle.std.proofs.Math.Nat.{mul_left_comm, mul-add-div, mul-le-mul_right, div-eq_of_lt}
 use Rattle.std.proofs.lemmas.Nat.{div-add-mod'}
 use Rattle.data_encoding.specs.Tables.{IsGroup}
 use Rattle.data_encoding.proofs.digits.SizeLemmas.{IsGroup-same, room-same}
@@ -55,12 +55,6 @@ module _ (m d from to extra : ℕ) (same : m * from ≡ d * to) (pos : 0 < d) wh
       → (m * n + extra) / d - i * to ≡ (m * (n - i * from) + extra) / d
   size-rest n i h =
       let whole = quotient n i (n - i * from) (omega (arith, h)) in omega (arith, whole)
-
-  pub rest-of-bits : (n i : ℕ) → i * from ≤ n
-      → (m * n + extra) % d ≡ (m * (n - i * from) + extra) % d
-  rest-of-bits n i h =
-      ap (λ k. k % d) (split n i (n - i * from) (omega (arith, h)))
-      ∙ mul-add-mod_self_left d (i * to) (m * (n - i * from) + extra)
 
 -- a group before the last whole one ends before it
 pub group-before : (n size i : ℕ) → i < n / size → i * size + size ≤ n

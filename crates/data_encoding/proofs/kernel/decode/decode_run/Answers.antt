@@ -1,6 +1,5 @@
-use Rattle.std.proofs.Common.{◌≡◌, ℕ, ◌+◌, ◌*◌, ◌/◌, ◌<◌, ◌≤◌, length, refl, sym, ap, ◌∙◌, subst, arith}
+use Rattle.std.proofs.Common.{◌≡◌, ◌+◌, ◌*◌, ◌/◌, ◌≤◌, length, refl, sym, ap, ◌∙◌, subst, arith}
 use Rattle.data_encoding.proofs.digits.SizeLemmas.{IsGroup-same}
-use Rattle.data_encoding.specs.Decoding.{IsRun}
 use Rattle.data_encoding.proofs.decoding.SymbolRunLemmas.{group-next, run-all, run-kept, run-longest}
 use Rattle.data_encoding.proofs.lists.PartLemmas.{IsWhole-same, group-before, group-room, groups-within, length-part}
 use Rattle.data_encoding.proofs.kernel.decode.decode_run.Goals as goal

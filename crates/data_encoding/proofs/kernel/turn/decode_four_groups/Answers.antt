@@ -1,8 +1,7 @@
-use Rattle.std.proofs.Common.{◌≡◌, ◌*◌, ◌<◌, length, refl, ◌∙◌, subst, arith, ap, sym}
+use Rattle.std.proofs.Common.{◌≡◌, ◌*◌, ◌<◌, length, refl, ◌∙◌, arith, ap, sym}
 use Rattle.data_encoding.proofs.digits.SizeLemmas.{IsGroup-same}
 use Rattle.std.proofs.lemmas.Bool.{ltb-true}
 use Rattle.std.proofs.lemmas.Nat.{le_or_l, le_or_r}
-use Rattle.data_encoding.specs.Decoding.{IsRun}
 use Rattle.data_encoding.proofs.decoding.SymbolRunLemmas.{run-none, group-next}
 use Rattle.data_encoding.proofs.lists.PartLemmas.{length-part, part-of-four}
 use Rattle.data_encoding.proofs.kernel.turn.decode_four_groups.Goals as goal

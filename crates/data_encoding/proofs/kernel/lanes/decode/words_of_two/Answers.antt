@@ -1,7 +1,6 @@
-use Rattle.std.proofs.Common.{◌*◌, ◌^◌, ◌<◌, subst, map, sym, ap, ◌∙◌, arith}
+use Rattle.std.proofs.Common.{◌*◌, map, sym, ap, ◌∙◌, arith}
 use Rattle.std.proofs.lemmas.List.{map-id}
 use Rattle.std.proofs.Math.Nat.{mul-one}
-use Rattle.std.specs.List.{AllByRecursion}
 use Rattle.std.specs.Simd.Lanes.{number_l, digits_l}
 use Rattle.data_encoding.specs.Values.{joined}
 use Rattle.data_encoding.proofs.digits.GatherWordLemmas.{words-fit, words-of-one, words-step}
