@@ -1,6 +1,7 @@
 -- Entries of a table that is affine by rows of sixteen, at bytes in lanes.
-use Rattle.std.proofs.Common.{◌≡◌, ℕ, ◌+◌, ◌-◌, ◌*◌, ◌/◌, ◌%◌, ◌^◌, ◌<◌, ◌≤◌, Bool, true, false, cond, eqb, leb, List, [], ◌∷◌, length, map, take, drop, get_or, slice_index, replicate, bit_and, w8, refl, sym, ap, ◌∙◌, subst, arith, eqb-true, leb-false}
-use Rattle.std.proofs.lemmas.Bool.{leb-true}
+use Rattle.std.proofs.Common.{◌≡◌, ℕ, ◌+◌, ◌-◌, ◌*◌, ◌/◌, ◌%◌, ◌^◌, ◌<◌, ◌≤◌, Bool, true, false, cond, eqb, leb, List, [], ◌∷◌, length, map, take, drop, get_or, slice_index, replicate, bit_and, w8, refl, sym, ap, ◌∙◌, subst, arith, ⊎_elim}
+use Rattle.std.proofs.lemmas.Bool.{cases_lt}
+use Rattle.std.proofs.lemmas.Bool.Decides.{nat_tests}
 use Rattle.std.proofs.lemmas.Nat.{and_le_r}
 use Rattle.std.proofs.lemmas.List.{get_or-drop, get_or-replicate, map-id, ext_get_or}
 use Rattle.std.proofs.lemmas.List.FromFn.{get_or-map-range_with_len, length-map-range_with_len}
@@ -90,10 +91,8 @@ found-are affine count bytes symbols bits deltas long at_symbols at_bits at_delt
 no-bit : (row : ℕ) → 8 ≤ row → row < 16 → get_or bits_of_rows row 0 ≡ 0
 no-bit row high low =
     ap (λ k. get_or bits_of_rows k 0) (omega (arith, high))
-    ∙ go (row - 8) (omega (arith, high, low))
-  where
-    go : (k : ℕ) → k < 8 → get_or bits_of_rows (8 + k) 0 ≡ 0
-    go k h = sym (get_or-drop 8 bits_of_rows k 0) ∙ get_or-replicate 8 k 0 0 h
+    ∙ sym (get_or-drop 8 bits_of_rows (row - 8) 0)
+    ∙ get_or-replicate 8 (row - 8) 0 0 (omega (arith, high, low))
 
 -- and a byte there is no symbol
 high-entry : (affine : Affine) (byte : ℕ) → 128 ≤ byte → byte < 256
@@ -111,13 +110,9 @@ entry-is : (values : List ℕ) (affine : Affine) → HoldsAffine values affine �
     → byte < 256 → affine_entry affine byte < 128
     → affine_entry affine byte ≡ slice_index values byte
 entry-is values affine held byte fits small =
-    held.agrees byte (go (leb 128 byte) refl) small
-  where
-    go : (test : Bool) → leb 128 byte ≡ test → byte < 128
-    go true e =
-        let high = high-entry affine byte (leb-true 128 byte e) fits in
-        absurd (omega (arith, small, high))
-    go false e = leb-false 128 byte e
+    held.agrees byte (⊎_elim (λ (low : byte < 128). low)
+    (λ (high : 128 ≤ byte). absurd (omega (arith, small, high-entry affine byte high fits)))
+    (cases_lt byte 128)) small
 
 pub entries-are : (values : List ℕ) (affine : Affine) → HoldsAffine values affine
     → (bytes : List ℕ) → Each1 (λ byte. byte < 256) bytes
@@ -152,14 +147,7 @@ listed f count lanes long each =
 -- a lane that passes
 same-entry : (entry own : ℕ) → entry < 128 → cond (eqb entry own) 0 (plus entry 128) < 128
     → entry ≡ own
-same-entry entry own small passes =
-    go (eqb entry own) refl
-  where
-    go : (test : Bool) → eqb entry own ≡ test → entry ≡ own
-    go true e = eqb-true entry own e
-    go false e =
-        let moved = subst (λ test. cond test 0 (plus entry 128) < 128) e passes in
-        absurd (omega (arith, small, moved))
+same-entry entry own small passes = grind (arith, nat_tests)
 
 -- the entries of a row, as they are loaded
 abbrev entries_of : ℕ → List ℕ → List ℕ
@@ -210,12 +198,8 @@ pub row-more : (affine : Affine) (values : List ℕ) (row : ℕ)
     → (byte : ℕ) → byte < 16 * (row + 1) → affine_entry affine byte < 128
     → affine_entry affine byte ≡ slice_index values byte
 row-more affine values row below here byte h =
-    go (leb (16 * row) byte) refl
-  where
-    go : (test : Bool) → leb (16 * row) byte ≡ test → affine_entry affine byte < 128
-        → affine_entry affine byte ≡ slice_index values byte
-    go true e =
-        let from = leb-true (16 * row) byte e in
-        let same : 16 * row + (byte - 16 * row) ≡ byte = omega (arith, from) in
-        rw same at (here (byte - 16 * row) (omega (arith, from, h)))
-    go false e = below byte (leb-false (16 * row) byte e)
+    ⊎_elim (λ (low : byte < 16 * row). below byte low)
+    (λ (from : 16 * row ≤ byte).
+    let same : 16 * row + (byte - 16 * row) ≡ byte = omega arith in
+    rw same at (here (byte - 16 * row) (omega arith)))
+    (cases_lt byte (16 * row))

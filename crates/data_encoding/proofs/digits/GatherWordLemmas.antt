@@ -18,7 +18,7 @@ use Rattle.data_encoding.specs.Values.{joined}
 use Rattle.data_encoding.specs.Words.{weight, word_of}
 use Rattle.data_encoding.proofs.digits.BitLemmas.{length-bits_of, length-pieces}
 use Rattle.data_encoding.proofs.digits.GroupWordLemmas.{word_of-below}
-use Rattle.data_encoding.proofs.digits.WordLemmas.{number-append, word_of-more, word_of-nil}
+use Rattle.data_encoding.proofs.digits.WordLemmas.{number-append, word-one}
 
 -- a number has no more digits than it was made of
 number-below : (p : ℕ) (xs : List ℕ) → AllByRecursion (λ x. x < p) xs
@@ -125,17 +125,6 @@ module _ (order : BitOrder) (size : ℕ) where
       ∙ sym (λ i. word-full count front f i * 2 ^ weight order n 2 0
       + word-full count back b i * 2 ^ weight order n 2 1)
 
-  -- a value is its own word
-  word-one : (value : ℕ) → value < 2 ^ size → word 1 (value ∷ []) ≡ value
-  word-one value h =
-      word_of-more order size 1 0 [] value refl (omega arith) h
-      ∙ (λ i. word_of-nil order size 1 i + value * none order i)
-      ∙ omega arith
-    where
-      none : (o : BitOrder) → 2 ^ weight o size 1 0 ≡ 1
-      none LeastSignificantFirst = weight-low size
-      none MostSignificantFirst = weight-low size
-
   pub words-of-one : (n : ℕ) (values : List ℕ) → length values ≡ n
       → AllByRecursion (λ value. value < 2 ^ size) values
       → values ≡ map (word 1) (first_chunks 1 n values)
@@ -143,7 +132,7 @@ module _ (order : BitOrder) (size : ℕ) where
   words-of-one zero (value ∷ values) e h = absurd (omega (arith, e))
   words-of-one (suc n) [] e h = absurd (omega (arith, e))
   words-of-one (suc n) (value ∷ values) e h =
-      λ i. sym (word-one value h.0) i ∷ words-of-one n values (omega (arith, e)) h.1 i
+      λ i. sym (word-one order size value h.0) i ∷ words-of-one n values (omega (arith, e)) h.1 i
 
   pub words-fit : (half count : ℕ) → size * count ≤ half → (n : ℕ) (values : List ℕ)
       → length values ≡ count * n

@@ -15,7 +15,7 @@ use Rattle.data_encoding.specs.Lanes.{group_word, group_words}
 use Rattle.data_encoding.specs.Words.{word_of, zeros_to}
 use Rattle.data_encoding.proofs.digits.BitLemmas.{AreBits, AreBits-append, AreBits-flat_map, AreBits-bits_of, number_of-below, length-pieces, length-bits_of}
 use Rattle.data_encoding.proofs.digits.LaneLemmas.{number-of-wide, number-padded, digits-of-number, all_mapped}
-use Rattle.data_encoding.proofs.digits.WordLemmas.{AreBits-zeros, lowest_first, word-number, map-range-same, word_of-nil, word_of-more}
+use Rattle.data_encoding.proofs.digits.WordLemmas.{AreBits-zeros, lowest_first, word-number, map-range-same, word-one}
 
 -- a word has no more bits than its digits
 pub word_of-below : (order : BitOrder) (size count : ℕ) (digits : List ℕ) → length digits ≤ count
@@ -60,20 +60,11 @@ word-later order size start input group later e =
     ∙ ap (λ l. word_of order 8 size (take size l))
     (drop-drop (size * group) start input ∙ ap (λ n. drop n input) e)
 
--- a byte is the word of its group
-pub word-one : (order : BitOrder) (byte : ℕ) → byte < 256 → word_of order 8 1 (byte ∷ []) ≡ byte
-word-one MostSignificantFirst byte h =
-    word_of-more MostSignificantFirst 8 1 0 [] byte refl (omega arith) h
-    ∙ ap (λ n. n + byte * 2 ^ 0) (word_of-nil MostSignificantFirst 8 1) ∙ omega arith
-word-one LeastSignificantFirst byte h =
-    word_of-more LeastSignificantFirst 8 1 0 [] byte refl (omega arith) h
-    ∙ ap (λ n. n + byte * 2 ^ 0) (word_of-nil LeastSignificantFirst 8 1) ∙ omega arith
-
 module _ (input : List ℕ) (small : (k : ℕ) → get_or input k 0 < 256) where
   word-of-byte : (order : BitOrder) (group : ℕ) → group < length input
       → get_or input group 0 ≡ word_of order 8 1 (take 1 (drop group input))
   word-of-byte order group h =
-      sym (word-one order (get_or input group 0) (small group))
+      sym (word-one order 8 (get_or input group 0) (small group))
       ∙ ap (λ l. word_of order 8 1 (take 1 l)) (sym (drop_more input group 0 h))
 
   -- the first eight bytes are the words of their groups

@@ -18,7 +18,7 @@ use Rattle.data_encoding.proofs.digits.BitLemmas.{AreBits, AreBits-flat_map, Are
 use Rattle.data_encoding.proofs.grammar.UnpaddedGroupLemmas.{length-bits_of_bytes, length-bits_of_values}
 use Rattle.data_encoding.proofs.lists.RunLemmas.{first_chunks-append, run_count, run_count-few}
 use Rattle.data_encoding.proofs.text.PlainTextLemmas.{filled_count, text_by, run_count-missing}
-use Rattle.data_encoding.proofs.digits.WidthLemmas.{group_bits}
+use Rattle.data_encoding.proofs.lists.PartLemmas.{IsWhole-group}
 use Rattle.data_encoding.proofs.digits.WordLemmas.{digits-runs, map-twice, map-range-same}
 
 -- whole runs of bits and zeros, however many zeros there are
@@ -82,14 +82,6 @@ text_by-word base order width bytes count symbols input some same few at narrow 
     (omega arith))
     ∙ ap (λ m. show (first_chunks width m (bits ++ replicate extra 0))) (sym count_of)
 
--- the bytes of a whole group and its symbols have as many bits
-group_same_bits : (width bytes count : ℕ) → IsGroup width bytes count
-    → width * count ≡ 8 * bytes
-group_same_bits width bytes count group =
-    ap (λ n. width * n) group.has_symbols
-    ∙ group_bits width (group.is_width)
-    ∙ ap (λ n. 8 * n) (sym group.has_bytes)
-
 -- the same of a base
 pub plain_text-word : (base : Base) (order : BitOrder) (width bytes count : ℕ)
     (symbols input : List ℕ) → IsGroup width bytes count → length input ≤ bytes
@@ -98,7 +90,7 @@ pub plain_text-word : (base : Base) (order : BitOrder) (width bytes count : ℕ)
     (range_with_len 0 ((8 * length input + (width - 1)) / width))
     ≡ plain_text base input
 plain_text-word base order width bytes count symbols input group few writes =
-    let same = group_same_bits width bytes count group in
+    let same = (IsWhole-group width bytes count group).same_bits in
     text_by-word base order width bytes count symbols input group.is_width.some same few
     (rw writes.width_is at writes.holds.at_byte) (omega (arith, group.is_width.few))
     ∙ sym (λ i. text_by base (writes.width_is i) (writes.order_is i)
@@ -164,7 +156,7 @@ pub symbol_bytes-word : (base : Base) (order : BitOrder) (width bytes count n : 
     (range_with_len 0 n)
     ≡ symbol_bytes base (map (meaning base) input)
 symbol_bytes-word base order width bytes count n values input group few is fits low reads =
-    let same = group_same_bits width bytes count group in
+    let same = (IsWhole-group width bytes count group).same_bits in
     let len : length (map (slice_index values) input) ≡ length input =
     length-map input (slice_index values) in
     let found = values_in-table base values input reads.holds fits low in

@@ -127,6 +127,14 @@ word-number MostSignificantFirst size digits h =
     (all_reversed (λ d. d < 2 ^ size) digits h))
     ∙ omega arith
 
+-- a value is its own word
+pub word-one : (order : BitOrder) (size value : ℕ) → value < 2 ^ size
+    → word_of order size 1 (value ∷ []) ≡ value
+word-one LeastSignificantFirst size value h =
+    word-number LeastSignificantFirst size (value ∷ []) (h, tt) ∙ omega arith
+word-one MostSignificantFirst size value h =
+    word-number MostSignificantFirst size (value ∷ []) (h, tt) ∙ omega arith
+
 pub word_of-nil : (order : BitOrder) (size count : ℕ) → word_of order size count [] ≡ 0
 word_of-nil LeastSignificantFirst size count = word-least size count []
 word_of-nil MostSignificantFirst size count =
@@ -225,17 +233,6 @@ weight-below : (order : BitOrder) (size count index : ℕ) (front rest : List �
 weight-below LeastSignificantFirst size count index front rest f r = sym f
 weight-below MostSignificantFirst size count index front rest f r = sym r
 
--- a digit is the number of its bits
-digit-parts : (order : BitOrder) (size count index : ℕ) (front run rest : List ℕ)
-    → AreBits (front ++ (run ++ rest)) → length front ≡ size * index → length run ≡ size
-    → length rest ≡ size * (count - 1 - index)
-    → digit order size count (number_of order (front ++ (run ++ rest))) index
-    ≡ number_of order run
-digit-parts order size count index front run rest h f m r =
-    (λ i. number_of order (front ++ (run ++ rest))
-    / 2 ^ weight-below order size count index front rest f r i % 2 ^ sym m i)
-    ∙ number-part order front run rest h
-
 -- the bits of a digit, counted from the first
 digit-number_of : (order : BitOrder) (size count index : ℕ) (bits : List ℕ) → AreBits bits
     → length bits ≡ size * count → index < count
@@ -260,8 +257,9 @@ digit-number_of order size count index bits h e k =
     ap (λ l. front ++ l) (take-append-drop size others)
     ∙ take-append-drop (size * index) bits in
     ap (λ l. digit order size count (number_of order l) index) (sym joined)
-    ∙ digit-parts order size count index front run rest (subst AreBits (sym joined) h)
-    front_len run_len rest_len
+    ∙ (λ i. number_of order (front ++ (run ++ rest))
+    / 2 ^ weight-below order size count index front rest front_len rest_len i % 2 ^ sym run_len i)
+    ∙ number-part order front run rest (subst AreBits (sym joined) h)
 
 -- runs by their places
 runs_from : (size n a : ℕ) (xs : List ℕ)

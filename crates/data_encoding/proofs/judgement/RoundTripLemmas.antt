@@ -1,5 +1,5 @@
 -- The specification of a base yields it again.
-use Rattle.std.proofs.Common.{◌≡◌, ◌≢◌, ◌⊎◌, ℕ, suc, ◌+◌, ◌%◌, ◌<◌, ◌≤◌, ◌==◌, Bool, true, false, not, nat_le, nat_lt, cond, if◌then◌else◌, List, [], ◌∷◌, length, map, get_or, Option, Some, None, unwrap_or, Ok, Err, refl, sym, ap, ◌∙◌, subst, arith, inl, inr, ⊎_elim, get_or-set_same, get_or-set_other}
+use Rattle.std.proofs.Common.{◌≡◌, ◌≢◌, ◌⊎◌, ◌↔◌, ℕ, suc, ◌+◌, ◌%◌, ◌<◌, ◌≤◌, ◌==◌, Bool, true, false, not, nat_le, nat_lt, cond, if◌then◌else◌, List, [], ◌∷◌, length, map, get_or, Option, Some, None, unwrap_or, Ok, Err, refl, sym, ap, ◌∙◌, subst, arith, inl, inr, ⊎_elim, get_or-set_same, get_or-set_other}
 use Rattle.std.proofs.lemmas.Bool.{and_from, false≢true, cases_eq, cases_lt, eq-eqb, ltb-true, lt-ltb, lt-leb}
 use Rattle.std.proofs.lemmas.List.{ext_get_or, get_or-replicate, get_or_past, length-map}
 use Rattle.std.proofs.Math.ListN.{set}
@@ -35,12 +35,6 @@ record GoesOn (r : Judged) (target : List Character) : Type 0 where
   is : r ≡ Ok after
   below : IsBelow after target
 
-by_cases : (past same free : Bool) (before : List Character) (byte : ℕ) (m : Character)
-    → nat_le 128 byte ≡ past → is_same (get_or before byte Invalid) m ≡ same
-    → is_same (get_or before byte Invalid) Invalid ≡ free
-    → defined before byte m ≡ defined_by past same free before byte m
-by_cases past same free before byte m p s f = λ i. defined_by (p i) (s i) (f i) before byte m
-
 set-below : (target before : List Character) (byte : ℕ) (m : Character) → length before ≡ 128
     → byte < 128 → get_or target byte Invalid ≡ m → IsBelow before target
     → IsBelow (set before byte m) target
@@ -70,8 +64,8 @@ define-goes target before byte m long low is below =
           → GoesOn (defined before byte m) target
       by_same true s = record {
         after = before;
-        is = by_cases false true (is_same (get_or before byte Invalid) Invalid) before byte m past s
-            refl;
+        is = λ i. defined_by (past i) (s i) (is_same (get_or before byte Invalid) Invalid) before byte
+            m;
         below = below;
       }
       by_same false s = record {
@@ -84,7 +78,7 @@ define-goes target before byte m long low is below =
             ap (λ n. is_same n m) (there ∙ is) ∙ is_same-self m in
             absurd (false≢true (sym s ∙ yes)))
             (below byte) in
-            by_cases false false true before byte m past s (ap (λ n. is_same n Invalid) none);
+            (λ i. defined_by (past i) (s i) (is_same (none i) Invalid) before byte m);
         below = set-below target before byte m long low is below;
       }
 
@@ -169,17 +163,13 @@ ignored-agree : (target known : List Character) (bytes : List ℕ)
 ignored-agree target known [] all = tt
 ignored-agree target known (byte ∷ bytes) all = (all.0, ignored-agree target known bytes all.1)
 
-pairs-agree : (target known : List Character) (f : ℕ → ℕ) (bytes : List ℕ)
-    → AllByRecursion (λ byte. Agrees target known (Translate byte (f byte))) bytes
-    → AllByRecursion (Agrees target known) (pair_judgements bytes (map f bytes))
-pairs-agree target known f [] all = tt
-pairs-agree target known f (byte ∷ bytes) all = (all.0, pairs-agree target known f bytes all.1)
-
-pairs-held : (meanings : List Character) (f : ℕ → ℕ) (bytes : List ℕ)
-    → AllByRecursion (IsHeld meanings) (pair_judgements bytes (map f bytes))
-    → AllByRecursion (λ byte. IsHeld meanings (Translate byte (f byte))) bytes
-pairs-held meanings f [] all = tt
-pairs-held meanings f (byte ∷ bytes) all = (all.0, pairs-held meanings f bytes all.1)
+-- what holds of all pairs
+pairs-hold : (P : Judgement → Type 0) (f : ℕ → ℕ) (bytes : List ℕ)
+    → AllByRecursion P (pair_judgements bytes (map f bytes))
+    ↔ AllByRecursion (λ byte. P (Translate byte (f byte))) bytes
+pairs-hold P f [] = (λ h. tt, λ h. tt)
+pairs-hold P f (byte ∷ bytes) =
+    let rest = pairs-hold P f bytes in (λ h. (h.0, rest.0 h.1), λ h. (h.0, rest.1 h.1))
 
 module _ (base : Base) (ruled : IsRuled base) where
   pub value-small : (byte value : ℕ) → byte < 128 → meaning base byte ≡ Symbol value
@@ -317,7 +307,7 @@ module _ (base : Base) (ruled : IsRuled base) where
   pairs-all : AllByRecursion (Agrees base.meanings halfway) pairs
   pairs-all = (
     eq-eqb (length from) (length (map own from)) (sym (length-map from own)),
-    pairs-agree base.meanings halfway own from
+    (pairs-hold (Agrees base.meanings halfway) own from).1
         (all_in_range (λ byte. Agrees base.meanings halfway (Translate byte (own byte)))
         (λ byte. is_translated base byte (own_character base (meaning base byte))) 0 128
         (λ byte from low is. pair-agrees byte (omega arith) (meaning base byte) refl is)),
@@ -354,7 +344,7 @@ module _ (base : Base) (ruled : IsRuled base) where
   translated-there byte low is e =
       let at = at_in_range (λ k. IsHeld last (Translate k (own k)))
       (λ k. is_translated base k (own_character base (meaning base k))) 0 128 byte
-      (pairs-held last own from (last-held).1.1) (omega arith) (omega arith) is in
+      ((pairs-hold (IsHeld last) own from).0 (last-held).1.1) (omega arith) (omega arith) is in
       at.2 (sym at.3 ∙ e)
 
   -- a byte is translated, or is the character itself

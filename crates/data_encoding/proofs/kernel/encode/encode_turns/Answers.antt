@@ -61,20 +61,16 @@ pub overflow_mul-written : goal.overflow_mul-written
 overflow_mul-written g c =
     let whole = IsWhole-turn c.GROUPS-groups.ensures c.BYTES-bytes.ensures c.SYMBOLS.ensures
     g.T.EncodeTurn.some_groups g.G.GroupSize.is_group in
-    omega (
-      arith,
-      next_fits whole (length c.args.input.now) (length c.loop-index.output)
-          c.saturating_sub.result _ c.loop-index.index (c.loop-index.auto.output ∙ c.requires.exact)
-          c.saturating_sub.ensures c.loop-index-test.true,
-    )
+    let room = next_fits whole _ _ _ _ _ (c.loop-index.auto.output ∙ c.requires.exact)
+    c.saturating_sub.ensures c.loop-index-test.true in
+    omega arith
 
 pub slice_bounds-encode-end-in-loop-index : goal.slice_bounds-encode-end-in-loop-index
 slice_bounds-encode-end-in-loop-index g c =
     let whole = IsWhole-turn c.GROUPS-groups.ensures c.BYTES-bytes.ensures c.SYMBOLS.ensures
     g.T.EncodeTurn.some_groups g.G.GroupSize.is_group in
-    next_fits whole (length c.args.input.now) (length c.loop-index.output) c.saturating_sub.result _
-    c.loop-index.index (c.loop-index.auto.output ∙ c.requires.exact) c.saturating_sub.ensures
-    c.loop-index-test.true
+    next_fits whole _ _ _ _ _ (c.loop-index.auto.output ∙ c.requires.exact)
+    c.saturating_sub.ensures c.loop-index-test.true
 
 pub overflow_add-written : goal.overflow_add-written
 overflow_add-written g c = omega (arith, slice_bounds-encode-end-in-loop-index g c)
@@ -88,9 +84,8 @@ loop-index-preserved g c =
     let bytes = c.GROUPS-groups.result * c.BYTES-bytes.result in
     let loaded = bytes + c.AHEAD.result * (c.BYTES-bytes.result - 1) in
     let read = take (i * bytes + loaded - i * bytes) (drop (i * bytes) input) in
-    let room = next_fits whole (length input) (length c.loop-index.output) c.saturating_sub.result _
-    i (c.loop-index.auto.output ∙ c.requires.exact) c.saturating_sub.ensures
-    c.loop-index-test.true in
+    let room = next_fits whole _ _ _ _ _ (c.loop-index.auto.output ∙ c.requires.exact)
+    c.saturating_sub.ensures c.loop-index-test.true in
     record {
       written = λ base writes.
           written-next whole base writes.width_is input c.loop-index.output c.encode.new.output i
@@ -112,8 +107,7 @@ slice_bounds-encode_rest-count-2 g c =
     let whole = IsWhole-turn c.GROUPS-groups.ensures c.BYTES-bytes.ensures c.SYMBOLS.ensures
     g.T.EncodeTurn.some_groups g.G.GroupSize.is_group in
     let bytes = c.GROUPS-groups.result * c.BYTES-bytes.result in
-    groups_fit whole (length c.args.input.now) (length c.loop-index.output)
-    (c.saturating_sub.result / bytes) (c.loop-index.auto.output ∙ c.requires.exact)
+    groups_fit whole _ _ _ (c.loop-index.auto.output ∙ c.requires.exact)
     (omega (arith, groups-within c.saturating_sub.result bytes, c.saturating_sub.ensures))
 
 pub slice_bounds-encode_rest-start-2 : goal.slice_bounds-encode_rest-start-2
@@ -202,8 +196,7 @@ encode-requires-clause-exact g c =
     g.T.EncodeTurn.some_groups g.G.GroupSize.is_group in
     let symbols = c.GROUPS-groups.result * c.SYMBOLS.result in
     length-part (c.loop-index.index * symbols) symbols c.loop-index.output
-    (next_fits whole (length c.args.input.now) (length c.loop-index.output)
-    c.saturating_sub.result _ c.loop-index.index (c.loop-index.auto.output ∙ c.requires.exact)
+    (next_fits whole _ _ _ _ _ (c.loop-index.auto.output ∙ c.requires.exact)
     c.saturating_sub.ensures c.loop-index-test.true)
     ∙ (λ k. c.GROUPS-groups.ensures k * c.SYMBOLS.ensures k)
 
