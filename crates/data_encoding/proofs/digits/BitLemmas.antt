@@ -22,16 +22,11 @@ AreBits-low_bits : (count number : ℕ) → AreBits (low_bits count number)
 AreBits-low_bits zero number = tt
 AreBits-low_bits (suc count) number = (omega arith, AreBits-low_bits count (number / 2))
 
-double : (a b : ℕ) → a < 2 * b → a / 2 < b
-double a b h = omega arith
-
 pub number-low_bits : (count number : ℕ) → number < 2 ^ count
     → number_of_low_bits (low_bits count number) ≡ number
 number-low_bits zero number h = omega arith
 number-low_bits (suc count) number h =
-    let below : number < 2 * 2 ^ count = subst (λ m. number < m) (pow-succ' 2 count) h in
-    let half = number-low_bits count (number / 2) (double number (2 ^ count) below) in
-    ap (λ n. number % 2 + 2 * n) half ∙ omega arith
+    omega (arith, number-low_bits count (number / 2) (omega (arith, pow-succ' 2 count)))
 
 low_bits-number : (bits : List ℕ) → AreBits bits
     → low_bits (length bits) (number_of_low_bits bits) ≡ bits
@@ -46,8 +41,7 @@ low_bits-number (bit ∷ bits) h =
 pub number-below : (bits : List ℕ) → AreBits bits → number_of_low_bits bits < 2 ^ length bits
 number-below [] h = omega arith
 number-below (bit ∷ bits) h =
-    subst (λ m. bit + 2 * number_of_low_bits bits < m) (sym (pow-succ' 2 (length bits)))
-    (omega (arith, h.0, number-below bits h.1))
+    omega (arith, h.0, number-below bits h.1, pow-succ' 2 (length bits))
 
 -- the lowest bits, and then those above them
 pub low_bits-add : (few more number : ℕ)

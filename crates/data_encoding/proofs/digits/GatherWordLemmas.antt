@@ -139,13 +139,12 @@ module _ (order : BitOrder) (size : ℕ) where
       → AllByRecursion (λ word. word < 2 ^ half) (map (word count) (first_chunks count n values))
   words-fit half count few zero values e = tt
   words-fit half count few (suc n) values e =
-      let more : count * suc n ≡ count + count * n = omega arith in
       let first = word-below count (take count values)
-      (length-take-le count values (omega (arith, e, more))) in
+      (length-take-le count values (omega (arith, e))) in
       let most : 2 ^ (size * count) ≤ 2 ^ half = pow_mono few in (
         omega (arith, first, most),
         words-fit half count few n (drop count values)
-            (length-drop count values ∙ omega (arith, e, more)),
+            (length-drop count values ∙ omega (arith, e)),
       )
 
   length-words : (count n : ℕ) (values : List ℕ)
@@ -202,16 +201,15 @@ module _ (order : BitOrder) (size : ℕ) where
     words-joined (suc n) (suc zero) values e long = absurd (omega (arith, e))
     words-joined (suc n) (suc (suc m)) values e long =
         let both = count + count in
-        let more : both * suc n ≡ both + both * n = omega arith in
         let front = take count values in
         let back = take count (drop count values) in
-        let f : length front ≡ count = length-take-le count values (omega (arith, long, more)) in
+        let f : length front ≡ count = length-take-le count values (omega (arith, long)) in
         let b : length back ≡ count =
         length-take-le count (drop count values)
-        (omega (arith, length-drop count values, long, more)) in
+        (omega (arith, length-drop count values, long)) in
         let rest = words-joined n m (drop count (drop count values)) (omega (arith, e))
         (length-drop count (drop count values)
-        ∙ omega (arith, length-drop count values, long, more)) in
+        ∙ omega (arith, length-drop count values, long)) in
         λ i. (joined-word front back f b
         ∙ ap (word both) (sym (take-add count count values))) i
         ∷ (rest ∙ ap (λ l. map (word both) (first_chunks both n l)) (drop-drop count count values))

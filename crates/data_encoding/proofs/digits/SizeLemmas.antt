@@ -53,14 +53,9 @@ symbols-within {width} group n few =
 -- what is equal to the sizes of a group are such sizes
 pub IsGroup-same : {w b s width bytes symbols : ℕ} → width ≡ w → bytes ≡ b → symbols ≡ s
     → IsGroup w b s → IsGroup width bytes symbols
-IsGroup-same p q r group = record {
-  is_width = subst IsWidth (sym p) group.is_width;
-  has_bytes = q ∙ group.has_bytes ∙ ap group_bytes (sym p);
-  has_symbols = r ∙ group.has_symbols ∙ ap group_symbols (sym p);
-}
+IsGroup-same p q r group = rw (p, q, r) group
 
 -- and the room for so many groups is the same
 pub room-same : {b s bytes symbols : ℕ} (n m : ℕ) → bytes ≡ b → symbols ≡ s
     → n / s * b ≤ m → n / symbols * bytes ≤ m
-room-same {b} {s} {bytes} {symbols} n m q r room =
-    subst (λ k. n / symbols * k ≤ m) (sym q) (subst (λ k. n / k * b ≤ m) (sym r) room)
+room-same n m q r room = rw (q, r) room

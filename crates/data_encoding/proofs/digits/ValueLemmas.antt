@@ -20,15 +20,14 @@ AreValuesOf-runs zero order width bits some h e =
     let none : bits ≡ [] = nil_from_length bits (omega (arith, e)) in
     rw (none, runs-nil {X = ℕ} width some) (record { same_bits = refl; below = tt })
 AreValuesOf-runs (suc count) order width bits some h e =
-    let more : width * suc count ≡ width + width * count = omega arith in
-    let long : width ≤ length bits = omega (arith, e, more) in
+    let long : width ≤ length bits = omega (arith, e) in
     let front = take width bits in
     let rest = drop width bits in
     let front_len : length front ≡ width = length-take-le width bits long in
     let rest_len : length rest ≡ length bits - width = length-drop width bits in
     let front_bits : AreBits front = AreBits-take width bits h in
     let others = AreValuesOf-runs count order width rest some (AreBits-drop width bits h)
-    (omega (arith, rest_len, e, more)) in
+    (omega (arith, rest_len, e)) in
     let first : bits_of order width (number_of order front) ≡ front =
     rw front_len at (bits_of-number_of order front front_bits) in
     let first_below : number_of order front < 2 ^ width =

@@ -160,9 +160,6 @@ above size i r = omega arith
 above_all : (size i r : ℕ) → size * (i + 1 + r) - size * i ≡ size * r + size
 above_all size i r = omega arith
 
-regroup_most : (w s d n : ℕ) → w * (d + s * n) ≡ w * s * n + d * w
-regroup_most w s d n = omega arith
-
 more_most : (size i r : ℕ) (digits : List ℕ) (d : ℕ) → length digits ≡ i → d < 2 ^ size
     → word_of MostSignificantFirst size (i + 1 + r) (digits ++ d ∷ [])
     ≡ word_of MostSignificantFirst size (i + 1 + r) digits + d * 2 ^ (size * r)
@@ -178,16 +175,14 @@ more_most size i r digits d is h =
     ∙ (λ j. number-low_bits size d h j + 2 ^ length-low_bits size d j * n) in
     let len : length (digits ++ d ∷ []) ≡ i + 1 =
     length-append digits (d ∷ []) ∙ ap (λ k. k + 1) is in
-    word-most size count (digits ++ d ∷ [])
+    let after = word-most size count (digits ++ d ∷ [])
     ∙ ap (λ l. 2 ^ (size * count - size * length (digits ++ d ∷ [])) * number_of_low_bits
     (reverse l)) (flat-more (bits_of MostSignificantFirst size) digits d)
     ∙ (λ j. 2 ^ (size * count - size * len j) * turned j)
-    ∙ ap (λ e. 2 ^ e * (d + 2 ^ size * n)) (above size i r)
-    ∙ regroup_most (2 ^ (size * r)) (2 ^ size) d n
-    ∙ ap (λ m. m * n + d * 2 ^ (size * r)) (sym (pow-add 2 (size * r) size)
-    ∙ ap (λ e. 2 ^ e) (sym (above_all size i r)
-    ∙ ap (λ k. size * count - size * k) (sym is)))
-    ∙ ap (λ m. m + d * 2 ^ (size * r)) (sym (word-most size count digits))
+    ∙ ap (λ e. 2 ^ e * (d + 2 ^ size * n)) (above size i r) in
+    let before = word-most size count digits ∙ (λ j. 2 ^ (size * count - size * is j) * n)
+    ∙ ap (λ e. 2 ^ e * n) (above_all size i r) ∙ ap (λ m. m * n) (pow-add 2 (size * r) size) in
+    omega (arith, after, before)
 
 -- a digit more adds that digit times its weight
 pub word_of-more : (order : BitOrder) (size count index : ℕ) (digits : List ℕ) (d : ℕ)

@@ -74,7 +74,6 @@ pub first_chunks-append : {X : Type 0} (size n : ℕ) (xs ys : List X) → size 
     → first_chunks size n (xs ++ ys) ≡ first_chunks size n xs
 first_chunks-append size zero xs ys h = refl
 first_chunks-append size (suc n) xs ys h =
-    let more : size * suc n ≡ size + size * n = mul-suc size n ∙ omega arith in
     let first = take-append-le size xs ys (omega arith) in
     let others = drop-append-le size xs ys (omega arith) in
     let len = length-drop size xs in
