@@ -78,16 +78,14 @@ number_of-halves LeastSignificantFirst n front back f b =
     let high = number_of_low_bits back in
     number-append front back
     ∙ ap (λ m. low + 2 ^ m * high) (f ∙ sym (mul-one n))
-    ∙ (let one : low * 2 ^ (n * 0) ≡ low = ap (λ m. low * m) (weight-low n) ∙ omega arith in
-    omega (arith, one, mul_comm high (2 ^ (n * 1))))
+    ∙ omega (arith, ap (λ m. low * m) (weight-low n))
 number_of-halves MostSignificantFirst n front back f b =
     let low = number_of_low_bits (reverse back) in
     let high = number_of_low_bits (reverse front) in
     ap number_of_low_bits (reverse-append front back)
     ∙ number-append (reverse back) (reverse front)
     ∙ ap (λ m. low + 2 ^ m * high) (length-reverse back ∙ b ∙ sym (mul-one n))
-    ∙ (let one : low * 2 ^ (n * 0) ≡ low = ap (λ m. low * m) (weight-low n) ∙ omega arith in
-    omega (arith, one, mul_comm high (2 ^ (n * 1))))
+    ∙ omega (arith, ap (λ m. low * m) (weight-low n))
 
 module _ (order : BitOrder) (size : ℕ) where
   abbrev bits : List ℕ → List ℕ

@@ -28,8 +28,7 @@ word_of-below order size count digits h =
     let most : size * length digits ≤ size * count =
     mul-le size (length digits) size count (omega arith) h in
     let all : length (zeros_to (size * count) bits) ≡ size * count =
-    length-append bits (replicate extra 0)
-    ∙ ap (λ m. length bits + m) (length-replicate {A = ℕ} extra 0) ∙ omega (arith, len, most) in
+    simp (length-append, length-replicate) (omega (arith, len, most)) in
     let are : AreBits bits =
     AreBits-flat_map (bits_of order size) digits (AreBits-bits_of order size) in
     subst (λ n. word_of order size count digits < 2 ^ n) all

@@ -2,7 +2,7 @@
 use Rattle.std.proofs.Common.{◌≡◌, ℕ, ◌+◌, ◌-◌, ◌*◌, ◌/◌, ◌%◌, ◌^◌, ◌<◌, List, [], ◌∷◌, length, map, replicate, bit_and, bit_or, refl, sym, ap, ◌∙◌, subst, arith}
 use Rattle.std.proofs.Math.Nat.{pow-succ', pow-zero, mul_assoc, mod-eq_of_lt, mod-lt, mul-lt-mul_of_pos_right, div-lt_iff_lt-mul}
 use Rattle.std.proofs.lemmas.Nat.{and_le_l, and_le_r, and_mask, mul-le, pow-add, pow_pos}
-use Rattle.std.proofs.Math.Pow.{pow_mono}
+use Rattle.std.proofs.Math.Pow.{pow_mono, shr_mod}
 use Rattle.std.proofs.lemmas.Nat.Bits.{and_high}
 use Rattle.std.specs.Int.Bits.{or_shifted_r}
 use Rattle.std.specs.Prelude.{flat_map}
@@ -37,11 +37,8 @@ module _ (half up : ℕ) where
       → bit_and field (2 ^ (half + half) - 2 ^ half) * 2 ^ up
       ≡ field / 2 ^ half * 2 ^ (half + up)
   high_half field h =
-      let few : field / 2 ^ half < 2 ^ half =
-      (div-lt_iff_lt-mul {k = 2 ^ half} {x = field} {y = 2 ^ half} (pow_pos half)).1
-      (subst (λ n. field < n) (pow-add 2 half half) h) in
       ap (λ n. n * 2 ^ up) (and_high field half half
-      ∙ ap (λ n. n * 2 ^ half) (mod-eq_of_lt few))
+      ∙ ap (λ n. n * 2 ^ half) (shr_mod half half h))
       ∙ mul_assoc (field / 2 ^ half) (2 ^ half) (2 ^ up)
       ∙ ap (λ n. field / 2 ^ half * n) (sym (pow-add 2 half up))
 

@@ -31,8 +31,7 @@ first_chunks-zeros size n a b bits h k =
     ∙ ap (λ l. bits ++ l) (sym (replicate-append-replicate a (b - a) 0))
     ∙ sym (append_assoc bits (replicate a 0) (replicate (b - a) 0)) in
     let len : length (bits ++ replicate a 0) ≡ length bits + a =
-    length-append bits (replicate a 0)
-    ∙ ap (λ m. length bits + m) (length-replicate {A = ℕ} a 0) in
+    simp (length-append, length-replicate) in
     ap (first_chunks size n) more
     ∙ first_chunks-append size n (bits ++ replicate a 0) (replicate (b - a) 0) (omega arith)
 
@@ -64,8 +63,7 @@ text_by-word base order width bytes count symbols input some same few at narrow 
     let word = number_of order (zeros_to (width * count) bits) in
     let show = map (λ run. symbol base (number_of order run)) in
     let runs_len : length (bits ++ replicate extra 0) ≡ length bits + extra =
-    length-append bits (replicate extra 0)
-    ∙ ap (λ m. length bits + m) (length-replicate {A = ℕ} extra 0) in
+    simp (length-append, length-replicate) in
     let count_of : run_count width (length (bits ++ replicate extra 0)) ≡ n =
     ap (run_count width) runs_len ∙ run_count-missing width (length bits) some ∙ sym many in
     ap (λ m. map (λ k. slice_index symbols (low_byte order width count

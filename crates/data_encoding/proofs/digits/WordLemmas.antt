@@ -303,9 +303,7 @@ digits-runs order size count n bits h e k =
     let extra = size * count - length bits in
     let all = zeros_to (size * count) bits in
     let are : AreBits all = AreBits-append bits (replicate extra 0) h (AreBits-zeros extra) in
-    let len : length all ≡ size * count =
-    length-append bits (replicate extra 0)
-    ∙ ap (λ m. length bits + m) (length-replicate {A = ℕ} extra 0) ∙ omega arith in
+    let len : length all ≡ size * count = simp (length-append, length-replicate) (omega arith) in
     map-range-same (digit order size count (number_of order all))
     (λ j. number_of order (take size (drop (size * j) all))) n
     (λ j below. digit-number_of order size count j all are len (omega arith))

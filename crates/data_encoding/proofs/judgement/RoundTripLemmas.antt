@@ -64,8 +64,9 @@ define-goes target before byte m long low is below =
           → GoesOn (defined before byte m) target
       by_same true s = record {
         after = before;
-        is = λ i. defined_by (past i) (s i) (is_same (get_or before byte Invalid) Invalid) before byte
-            m;
+        is =
+            λ i. defined_by (past i) (s i) (is_same (get_or before byte Invalid) Invalid)
+            before byte m;
         below = below;
       }
       by_same false s = record {
