@@ -62,9 +62,8 @@ loop-index-preserved g c =
     let within = turn-within (length input) groups symbols c.loop-index.index
     c.loop-index-test.true in
     let room : first * bytes + groups * bytes ≤ length output =
-    rw c.loop-index.auto.output
-    (turn-room (length input) groups c.loop-index.index _ c.BYTES-bytes.ensures
-    c.SYMBOLS-symbols.ensures c.requires.room c.loop-index-test.true) in
+    rw c.loop-index.auto.output (turn-room _ _ _ _ c.BYTES-bytes.ensures c.SYMBOLS-symbols.ensures
+    c.requires.room c.loop-index-test.true) in
     let shown_len : length c.decode.new.output ≡ groups * bytes =
     c.decode.auto.output ∙ length-part (first * bytes) (groups * bytes) output room in
     let part = take (first * symbols + groups * symbols - first * symbols)
@@ -89,9 +88,8 @@ returns-then-not-decode-clause-run g c = λ values held base reads.
     let group = IsGroup-same refl c.BYTES-bytes.ensures c.SYMBOLS-symbols.ensures
     g.G.GroupSize.is_group in
     let room : first * bytes + c.GROUPS-groups.result * bytes ≤ length c.loop-index.output =
-    rw c.loop-index.auto.output
-    (turn-room (length c.args.input.now) c.GROUPS-groups.result c.loop-index.index _
-    c.BYTES-bytes.ensures c.SYMBOLS-symbols.ensures c.requires.room c.loop-index-test.true) in
+    rw c.loop-index.auto.output (turn-room _ _ _ _ c.BYTES-bytes.ensures c.SYMBOLS-symbols.ensures
+    c.requires.room c.loop-index-test.true) in
     run-kept base reads.holds.is_width g.G.GroupSize.WIDTH bytes c.SYMBOLS-symbols.result group
     reads.width_is c.args.input.now _ c.loop-index.output c.decode.new.output first _
     (omega (arith, room)) (c.loop-index.invariant.run values held base reads)
@@ -137,9 +135,8 @@ pub decode-requires-clause-exact : goal.decode-requires-clause-exact
 decode-requires-clause-exact g c =
     length-part (c.loop-index.index * c.GROUPS-groups.result * c.BYTES-bytes.result)
     (c.GROUPS-groups.result * c.BYTES-bytes.result) c.loop-index.output
-    (rw c.loop-index.auto.output
-    (turn-room (length c.args.input.now) c.GROUPS-groups.result c.loop-index.index _
-    c.BYTES-bytes.ensures c.SYMBOLS-symbols.ensures c.requires.room c.loop-index-test.true))
+    (rw c.loop-index.auto.output (turn-room _ _ _ _ c.BYTES-bytes.ensures
+    c.SYMBOLS-symbols.ensures c.requires.room c.loop-index-test.true))
     ∙ (λ k. c.GROUPS-groups.ensures k * c.BYTES-bytes.ensures k)
 
 pub returns-then-not-decode-clause-within : goal.returns-then-not-decode-clause-within

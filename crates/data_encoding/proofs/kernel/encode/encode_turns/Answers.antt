@@ -124,8 +124,7 @@ encode_rest-requires-clause-exact g c =
     let bytes = c.GROUPS-groups.result * c.BYTES-bytes.result in
     let count = c.saturating_sub.result / bytes in
     length-rest (count * (c.GROUPS-groups.result * c.SYMBOLS.result)) c.loop-index.output
-    ∙ rest_fits whole (length c.args.input.now) (length c.loop-index.output) count
-    (c.loop-index.auto.output ∙ c.requires.exact)
+    ∙ rest_fits whole _ _ count (c.loop-index.auto.output ∙ c.requires.exact)
     (omega (arith, groups-within c.saturating_sub.result bytes, c.saturating_sub.ensures))
     ∙ ap (λ n. (8 * n + (width - 1)) / width) (sym (length-rest (count * bytes) c.args.input.now))
 
@@ -143,8 +142,7 @@ returns g c base writes =
     omega (arith, groups-within c.saturating_sub.result bytes, c.saturating_sub.ensures) in
     written-rest whole base writes.width_is input output c.encode_rest.new.output count
     (rw all at (c.loop-index.invariant.written base writes)) within
-    (groups_fit whole (length input) (length output) count
-    (c.loop-index.auto.output ∙ c.requires.exact) within)
+    (groups_fit whole _ _ count (c.loop-index.auto.output ∙ c.requires.exact) within)
     c.encode_rest.auto.output (c.encode_rest.ensures base writes)
 
 pub slice_bounds-encode-end : goal.slice_bounds-encode-end
