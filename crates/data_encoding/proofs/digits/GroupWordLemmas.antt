@@ -1,5 +1,5 @@
 -- The words of groups of bytes, in lanes.
-use Rattle.std.proofs.Common.{◌≡◌, ℕ, ◌+◌, ◌-◌, ◌*◌, ◌^◌, ◌<◌, ◌≤◌, List, [], ◌∷◌, ◌++◌, length, map, take, drop, get_or, replicate, refl, sym, ap, ◌∙◌, subst, arith, length-append, length-take-le}
+use Rattle.std.proofs.Common.{◌≡◌, ℕ, ◌+◌, ◌-◌, ◌*◌, ◌^◌, ◌<◌, ◌≤◌, List, ◌++◌, length, map, take, drop, get_or, replicate, sym, ap, ◌∙◌, subst, arith, length-append, length-take-le}
 use Rattle.std.proofs.lemmas.List.{drop_more, drop-drop, length-drop, length-replicate, length-take, take_all, drop-take, take-take}
 use Rattle.std.proofs.lemmas.List.FromFn.{length-map-range_with_len}
 use Rattle.std.proofs.lemmas.Nat.{mul-le}
@@ -9,7 +9,6 @@ use Rattle.std.specs.Prelude.{flat_map}
 use Rattle.std.specs.List.{AllByRecursion, range_with_len}
 use Rattle.std.specs.Simd.Lanes.{number_l, digits_l, pick_l}
 use Rattle.data_encoding.specs.declared.encoding.BitOrder.{BitOrder}
-use Rattle.data_encoding.specs.declared.encoding.BitOrder.TheVariants.{MostSignificantFirst, LeastSignificantFirst}
 use Rattle.data_encoding.specs.Bits.{bits_of}
 use Rattle.data_encoding.specs.Lanes.{group_word, group_words}
 use Rattle.data_encoding.specs.Words.{word_of, zeros_to}

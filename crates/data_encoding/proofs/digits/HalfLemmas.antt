@@ -1,6 +1,6 @@
 -- Fields of a number that are split in two halves, each in a field of its own.
-use Rattle.std.proofs.Common.{◌≡◌, ℕ, ◌+◌, ◌-◌, ◌*◌, ◌/◌, ◌%◌, ◌^◌, ◌<◌, List, [], ◌∷◌, length, map, replicate, bit_and, bit_or, refl, sym, ap, ◌∙◌, subst, arith}
-use Rattle.std.proofs.Math.Nat.{pow-succ', pow-zero, mul_assoc, mod-eq_of_lt, mod-lt, mul-lt-mul_of_pos_right, div-lt_iff_lt-mul}
+use Rattle.std.proofs.Common.{◌≡◌, ℕ, ◌+◌, ◌-◌, ◌*◌, ◌/◌, ◌%◌, ◌^◌, ◌<◌, List, [], ◌∷◌, length, map, replicate, bit_and, bit_or, refl, sym, ap, ◌∙◌, arith}
+use Rattle.std.proofs.Math.Nat.{pow-succ', pow-zero, mul_assoc, mod-eq_of_lt, mod-lt, mul-lt-mul_of_pos_right}
 use Rattle.std.proofs.lemmas.Nat.{and_le_l, and_le_r, and_mask, mul-le, pow-add, pow_pos}
 use Rattle.std.proofs.Math.Pow.{pow_mono, shr_mod}
 use Rattle.std.proofs.lemmas.Nat.Bits.{and_high}

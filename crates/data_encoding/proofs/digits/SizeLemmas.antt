@@ -1,5 +1,5 @@
 -- The sizes of a group.
-use Rattle.std.proofs.Common.{◌≡◌, ◌⊎◌, inl, inr, ℕ, ◌+◌, ◌-◌, ◌*◌, ◌/◌, ◌≤◌, ap, ◌∙◌, refl, subst, sym, arith}
+use Rattle.std.proofs.Common.{◌≡◌, ◌⊎◌, inl, inr, ℕ, ◌+◌, ◌-◌, ◌*◌, ◌/◌, ◌≤◌, refl, arith}
 use Rattle.data_encoding.specs.Base.{IsWidth, group_bytes, group_symbols}
 use Rattle.data_encoding.specs.Tables.{IsGroup}
 use Rattle.data_encoding.proofs.digits.WidthLemmas.{by_width}

@@ -1,5 +1,5 @@
 -- What the builder makes of a specification.
-use Rattle.std.proofs.Common.{◌≡◌, ℕ, zero, suc, ◌%◌, ◌/◌, ◌^◌, ◌<◌, ◌==◌, Bool, true, false, ◌||◌, cond, List, [], ◌++◌, length, map, take, replicate, Option, Some, None, is_none, IfSome, Ok, refl, sym, ap, ◌∙◌, arith}
+use Rattle.std.proofs.Common.{◌≡◌, ℕ, zero, suc, ◌%◌, ◌/◌, ◌^◌, ◌<◌, ◌==◌, Bool, true, false, ◌||◌, cond, List, [], length, map, take, replicate, Option, Some, None, is_none, IfSome, Ok, refl, sym, ap, ◌∙◌, arith}
 use Rattle.std.specs.List.{concat, list_any}
 use Rattle.data_encoding.specs.declared.encoding.Character.{Character}
 use Rattle.data_encoding.specs.Base.{IsWidth, is_ignored}

@@ -1,6 +1,6 @@
 -- A list again and again.
 use Rattle.std.proofs.Common.{◌≡◌, ℕ, zero, suc, ◌+◌, ◌-◌, ◌*◌, ◌%◌, ◌<◌, ◌≤◌, List, ◌∷◌, length, map, take, get_or, replicate, refl, sym, ap, ◌∙◌, arith, ⊎_elim, length-append, append_assoc, ◌++◌}
-use Rattle.std.proofs.Math.Nat.{mod-eq-sub-mod, mod-eq_of_lt, zero-mul, suc-mul, zero-add, suc-add}
+use Rattle.std.proofs.Math.Nat.{mod-eq-sub-mod, mod-eq_of_lt, zero-mul, zero-add, suc-add}
 use Rattle.std.proofs.lemmas.Bool.{cases_lt}
 use Rattle.std.proofs.lemmas.List.{get_or_append_left, get_or-append_right, take_at}
 use Rattle.std.specs.List.{concat}

@@ -1,6 +1,6 @@
 -- Lists cut into runs.
 use Rattle.std.proofs.Common.{◌≡◌, ℕ, zero, suc, ◌+◌, ◌-◌, ◌*◌, ◌/◌, ◌%◌, ◌<◌, ◌≤◌, List, [], ◌∷◌, ◌++◌, length, map, take, drop, refl, sym, ap, ◌∙◌, arith, length-append, append-nil, append_assoc, take-append-drop, length-take, length-take-le, subst, ⊎_elim}
-use Rattle.std.proofs.Math.Nat.{mod-eq-sub-mod, mod-eq_of_lt, add-div_left, add-mul, div-eq_of_lt, div-eq_of_lt-le, div-mul-le_self, lt-div-mul-add, mul-le-mul_right, mul-suc, zero-mul, suc-mul}
+use Rattle.std.proofs.Math.Nat.{mod-eq-sub-mod, mod-eq_of_lt, add-div_left, add-mul, div-eq_of_lt, div-eq_of_lt-le, div-mul-le_self, lt-div-mul-add, mul-le-mul_right, zero-mul, suc-mul}
 use Rattle.std.proofs.lemmas.List.{take_at, drop_at, take_all, drop_all, length-map, take-map, drop-map, length-drop, take-append-le, drop-append-le}
 use Rattle.std.proofs.lemmas.Nat.{div_below, le-div}
 use Rattle.std.proofs.lemmas.Bool.{cases_lt}
