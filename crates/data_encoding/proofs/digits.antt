@@ -9,8 +9,6 @@ pub mod FieldLemmas
 pub mod HalfLemmas
 pub mod JoinLemmas
 pub mod GroupWordLemmas
-pub mod ThreeByteLemmas
-pub mod FiveByteLemmas
 pub mod RowLemmas
 pub mod SizeLemmas
 pub mod GatherStepLemmas

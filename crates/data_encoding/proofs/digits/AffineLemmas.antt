@@ -1,9 +1,10 @@
 -- Entries of a table that is affine by rows of sixteen, at bytes in lanes.
-use Rattle.std.proofs.Common.{◌≡◌, ℕ, zero, suc, ◌+◌, ◌-◌, ◌*◌, ◌/◌, ◌%◌, ◌^◌, ◌<◌, ◌≤◌, Bool, true, false, cond, eqb, leb, List, [], ◌∷◌, length, map, take, drop, get_or, slice_index, replicate, bit_and, w8, refl, sym, ap, ◌∙◌, subst, arith, eqb-true, leb-false}
-use Rattle.std.proofs.lemmas.Bool.{leb-true}
+use Rattle.std.proofs.Common.{◌≡◌, ℕ, ◌+◌, ◌-◌, ◌*◌, ◌/◌, ◌%◌, ◌^◌, ◌<◌, ◌≤◌, cond, eqb, List, [], ◌∷◌, length, map, take, drop, get_or, slice_index, replicate, bit_and, w8, refl, sym, ap, ◌∙◌, subst, arith, ⊎_elim}
+use Rattle.std.proofs.lemmas.Bool.{cases_lt}
+use Rattle.std.proofs.lemmas.Bool.Decides.{nat_tests}
 use Rattle.std.proofs.lemmas.Nat.{and_le_r}
-use Rattle.std.proofs.lemmas.List.{length-map, get_or-map, get_or-drop, get_or-replicate, map-id, ext_get_or}
-use Rattle.std.proofs.lemmas.List.FromFn.{get_or-range_with_len, length-range_with_len}
+use Rattle.std.proofs.lemmas.List.{get_or-drop, get_or-replicate, map-id, ext_get_or}
+use Rattle.std.proofs.lemmas.List.FromFn.{get_or-map-range_with_len, length-map-range_with_len}
 use Rattle.std.proofs.lemmas.Simd.{length-chunk, zip2_of_maps, zip2_splat, splat_is_map, tops_compared, map-map}
 use Rattle.std.specs.List.{AllByRecursion, range_with_len}
 use Rattle.std.specs.Simd.Lanes.{Each1, chunk, zip2, sel_l, top}
@@ -12,6 +13,7 @@ use Rattle.data_encoding.specs.Affine.{HoldsAffine, affine_entry, affine_value, 
 use Rattle.data_encoding.specs.Values.{IsRow, in_row}
 use Rattle.data_encoding.proofs.digits.GatherRowLemmas.{row-of}
 use Rattle.data_encoding.proofs.digits.LaneLemmas.{selected}
+use Rattle.data_encoding.proofs.digits.WordLemmas.{map-range-same}
 use Rattle.data_encoding.proofs.lists.EachLemmas.{all-at}
 
 abbrev pub equal : ℕ → ℕ → ℕ
@@ -34,18 +36,38 @@ abbrev at_row : List ℕ → ℕ → ℕ
 at_row row byte = in_row row 0 (byte / 16)
 
 -- a row, as what it has from its own beginning on
-pub own-row : (row : List ℕ) → IsRow row 0 row
+own-row : (row : List ℕ) → IsRow row 0 row
 own-row row k h = ap (λ j. get_or row j 0) (omega arith)
 
 abbrev down : ℕ → ℕ → ℕ
 down a b = a / 2 ^ b
 
-pub at-rows : (row : List ℕ) (count : ℕ) (bytes entries : List ℕ) → length bytes ≡ count
+at-rows : (row : List ℕ) (count : ℕ) (bytes entries : List ℕ) → length bytes ≡ count
     → entries ≡ map (in_row row 0) (zip2 down bytes (replicate count 4))
     → entries ≡ map (at_row row) bytes
 at-rows row count bytes entries long e =
     e ∙ ap (map (in_row row 0)) (zip2_splat down bytes count 4 long)
     ∙ map-map (in_row row 0) (λ byte. down byte 4) bytes
+
+-- what is looked up in a row
+abbrev LooksUp : List ℕ → List ℕ → List ℕ → Type 0
+LooksUp row places found =
+    (values : List ℕ) (start : ℕ) → IsRow values start row
+    → found ≡ map (in_row values start) places
+
+-- what is looked up for the entries at bytes
+pub rows-found : (affine : Affine) (count : ℕ) (bytes bits : List ℕ) {symbols found deltas : List ℕ}
+    → bits ≡ bits_of_rows → length bytes ≡ count → LooksUp affine.symbols bytes symbols
+    → LooksUp bits (zip2 down bytes (replicate count 4)) found
+    → LooksUp affine.deltas (zip2 down bytes (replicate count 4)) deltas
+    → (symbols ≡ map (in_row affine.symbols 0) bytes) × (found ≡ map (at_row bits_of_rows) bytes)
+    × (deltas ≡ map (at_row affine.deltas) bytes)
+rows-found affine count bytes bits {symbols} {found} {deltas} is long first second third = (
+  first affine.symbols 0 (own-row affine.symbols),
+  at-rows bits_of_rows count bytes found long
+      (second bits_of_rows 0 (subst (IsRow bits_of_rows 0) (sym is) (own-row bits_of_rows))),
+  at-rows affine.deltas count bytes deltas long (third affine.deltas 0 (own-row affine.deltas)),
+)
 
 pub found-are : (affine : Affine) (count : ℕ) (bytes symbols bits deltas : List ℕ)
     → length bytes ≡ count → symbols ≡ map (in_row affine.symbols 0) bytes
@@ -69,10 +91,8 @@ found-are affine count bytes symbols bits deltas long at_symbols at_bits at_delt
 no-bit : (row : ℕ) → 8 ≤ row → row < 16 → get_or bits_of_rows row 0 ≡ 0
 no-bit row high low =
     ap (λ k. get_or bits_of_rows k 0) (omega (arith, high))
-    ∙ go (row - 8) (omega (arith, high, low))
-  where
-    go : (k : ℕ) → k < 8 → get_or bits_of_rows (8 + k) 0 ≡ 0
-    go k h = sym (get_or-drop 8 bits_of_rows k 0) ∙ get_or-replicate 8 k 0 0 h
+    ∙ sym (get_or-drop 8 bits_of_rows (row - 8) 0)
+    ∙ get_or-replicate 8 (row - 8) 0 0 (omega (arith, high, low))
 
 -- and a byte there is no symbol
 high-entry : (affine : Affine) (byte : ℕ) → 128 ≤ byte → byte < 256
@@ -90,13 +110,9 @@ entry-is : (values : List ℕ) (affine : Affine) → HoldsAffine values affine �
     → byte < 256 → affine_entry affine byte < 128
     → affine_entry affine byte ≡ slice_index values byte
 entry-is values affine held byte fits small =
-    held.agrees byte (go (leb 128 byte) refl) small
-  where
-    go : (test : Bool) → leb 128 byte ≡ test → byte < 128
-    go true e =
-        let high = high-entry affine byte (leb-true 128 byte e) fits in
-        absurd (omega (arith, small, high))
-    go false e = leb-false 128 byte e
+    held.agrees byte (⊎_elim (λ (low : byte < 128). low)
+    (λ (high : 128 ≤ byte). absurd (omega (arith, small, high-entry affine byte high fits)))
+    (cases_lt byte 128)) small
 
 pub entries-are : (values : List ℕ) (affine : Affine) → HoldsAffine values affine
     → (bytes : List ℕ) → Each1 (λ byte. byte < 256) bytes
@@ -108,27 +124,22 @@ entries-are values affine held (byte ∷ bytes) fits small =
     ∷ entries-are values affine held bytes fits.1 small.1 i
 
 -- the bytes of a row, as they are computed
-pub row-bytes : (row count start : ℕ) → row < 8 → start + count ≤ 16
-    → map (λ k. (k + 16 * row) % 256) (range_with_len start count)
-    ≡ map (λ k. 16 * row + k) (range_with_len start count)
-row-bytes row zero start few inside = refl
-row-bytes row (suc count) start few inside =
-    let here : (start + 16 * row) % 256 ≡ 16 * row + start = omega (arith, few, inside) in
-    λ i. here i ∷ row-bytes row count (start + 1) few (omega (arith, inside)) i
+pub row-bytes : (row : ℕ) → row < 8
+    → map (λ k. (k + 16 * row) % 256) (range_with_len 0 16)
+    ≡ map (λ k. 16 * row + k) (range_with_len 0 16)
+row-bytes row few =
+    map-range-same (λ k. (k + 16 * row) % 256) (λ k. 16 * row + k) 16 (λ k h. omega (arith, few, h))
 
 counted-at : (f : ℕ → ℕ) (count k : ℕ) → k < count
     → get_or (map f (range_with_len 0 count)) k 0 ≡ f k
-counted-at f count k h =
-    get_or-map f (range_with_len 0 count) k 0 0 (omega (arith, h, length-range_with_len 0 count))
-    ∙ ap f (get_or-range_with_len 0 count k 0 h ∙ omega arith)
+counted-at f count k h = get_or-map-range_with_len f 0 count k k 0 h (omega arith)
 
 -- lanes that are counted from 0
 listed : (f : ℕ → ℕ) (count : ℕ) (lanes : List ℕ) → length lanes ≡ count
     → ((k : ℕ) → k < count → get_or lanes k 0 ≡ f k) → lanes ≡ map f (range_with_len 0 count)
 listed f count lanes long each =
-    let counted : length (map f (range_with_len 0 count)) ≡ count =
-    length-map (range_with_len 0 count) f ∙ length-range_with_len 0 count in
-    ext_get_or 0 lanes (map f (range_with_len 0 count)) (long ∙ sym counted)
+    ext_get_or 0 lanes (map f (range_with_len 0 count))
+    (long ∙ sym (length-map-range_with_len f 0 count))
     (λ k h.
     let inside : k < count = omega (arith, h, long) in
     each k inside ∙ sym (counted-at f count k inside))
@@ -136,14 +147,7 @@ listed f count lanes long each =
 -- a lane that passes
 same-entry : (entry own : ℕ) → entry < 128 → cond (eqb entry own) 0 (plus entry 128) < 128
     → entry ≡ own
-same-entry entry own small passes =
-    go (eqb entry own) refl
-  where
-    go : (test : Bool) → eqb entry own ≡ test → entry ≡ own
-    go true e = eqb-true entry own e
-    go false e =
-        let moved = subst (λ test. cond test 0 (plus entry 128) < 128) e passes in
-        absurd (omega (arith, small, moved))
+same-entry entry own small passes = grind (arith, nat_tests)
 
 -- the entries of a row, as they are loaded
 abbrev entries_of : ℕ → List ℕ → List ℕ
@@ -179,7 +183,7 @@ agreed affine values bytes found row long few are_bytes are_found passes k h sma
     (splat_is_map places 16 0 refl)
     (zip2_of_maps plus entry (λ _. 128) places found_are (splat_is_map places 16 128 refl)) in
     let inside : k < length (map lane places) =
-    omega (arith, h, length-map places lane, length-range_with_len 0 16) in
+    omega (arith, h, length-map-range_with_len lane 0 16) in
     same-entry (entry k) (own k) small
     (subst (λ n. n < 128) (counted-at lane 16 k h)
     (all-at (λ n. n < 128) (map lane places)
@@ -194,14 +198,8 @@ pub row-more : (affine : Affine) (values : List ℕ) (row : ℕ)
     → (byte : ℕ) → byte < 16 * (row + 1) → affine_entry affine byte < 128
     → affine_entry affine byte ≡ slice_index values byte
 row-more affine values row below here byte h =
-    go (leb (16 * row) byte) refl
-  where
-    go : (test : Bool) → leb (16 * row) byte ≡ test → affine_entry affine byte < 128
-        → affine_entry affine byte ≡ slice_index values byte
-    go true e =
-        let from = leb-true (16 * row) byte e in
-        let same : 16 * row + (byte - 16 * row) ≡ byte = omega (arith, from) in
-        subst
-        (λ b. affine_entry affine b < 128 → affine_entry affine b ≡ slice_index values b) same
-        (here (byte - 16 * row) (omega (arith, from, h)))
-    go false e = below byte (leb-false (16 * row) byte e)
+    ⊎_elim (λ (low : byte < 16 * row). below byte low)
+    (λ (from : 16 * row ≤ byte).
+    let same : 16 * row + (byte - 16 * row) ≡ byte = omega arith in
+    rw same at (here (byte - 16 * row) (omega arith)))
+    (cases_lt byte (16 * row))

@@ -1,6 +1,6 @@
 -- Numbers as bits, in either order.
 use Rattle.std.proofs.Common.{◌≡◌, ℕ, zero, suc, ◌+◌, ◌*◌, ◌/◌, ◌%◌, ◌^◌, ◌<◌, List, [], ◌∷◌, ◌++◌, length, take, drop, reverse, refl, sym, ap, ◌∙◌, subst, arith, length-append, take-append-drop}
-use Rattle.std.proofs.lemmas.List.{length-reverse, reverse-reverse, reverse-append}
+use Rattle.std.proofs.lemmas.List.{length-reverse, reverse-reverse}
 use Rattle.std.proofs.Math.Nat.{pow-succ', zero-add, suc-add, div-one, div-div-eq-div-mul, mod-lt}
 use Rattle.std.proofs.lemmas.Nat.{div-add-mod', mod-mul-add, pow_pos}
 use Rattle.std.specs.Prelude.{flat_map}
@@ -8,6 +8,7 @@ use Rattle.std.specs.List.{AllByRecursion}
 use Rattle.data_encoding.specs.declared.encoding.BitOrder.{BitOrder}
 use Rattle.data_encoding.specs.declared.encoding.BitOrder.TheVariants.{MostSignificantFirst, LeastSignificantFirst}
 use Rattle.data_encoding.specs.Bits.{low_bits, number_of_low_bits, bits_of, number_of}
+use Rattle.data_encoding.proofs.lists.EachLemmas.{all_joined, all_parts, all_reversed}
 
 -- each is 0 or 1
 abbrev pub AreBits : List ℕ → Type 0
@@ -21,16 +22,11 @@ AreBits-low_bits : (count number : ℕ) → AreBits (low_bits count number)
 AreBits-low_bits zero number = tt
 AreBits-low_bits (suc count) number = (omega arith, AreBits-low_bits count (number / 2))
 
-double : (a b : ℕ) → a < 2 * b → a / 2 < b
-double a b h = omega arith
-
 pub number-low_bits : (count number : ℕ) → number < 2 ^ count
     → number_of_low_bits (low_bits count number) ≡ number
 number-low_bits zero number h = omega arith
 number-low_bits (suc count) number h =
-    let below : number < 2 * 2 ^ count = subst (λ m. number < m) (pow-succ' 2 count) h in
-    let half = number-low_bits count (number / 2) (double number (2 ^ count) below) in
-    ap (λ n. number % 2 + 2 * n) half ∙ omega arith
+    omega (arith, number-low_bits count (number / 2) (omega (arith, pow-succ' 2 count)))
 
 low_bits-number : (bits : List ℕ) → AreBits bits
     → low_bits (length bits) (number_of_low_bits bits) ≡ bits
@@ -45,8 +41,7 @@ low_bits-number (bit ∷ bits) h =
 pub number-below : (bits : List ℕ) → AreBits bits → number_of_low_bits bits < 2 ^ length bits
 number-below [] h = omega arith
 number-below (bit ∷ bits) h =
-    subst (λ m. bit + 2 * number_of_low_bits bits < m) (sym (pow-succ' 2 (length bits)))
-    (omega (arith, h.0, number-below bits h.1))
+    omega (arith, h.0, number-below bits h.1, pow-succ' 2 (length bits))
 
 -- the lowest bits, and then those above them
 pub low_bits-add : (few more number : ℕ)
@@ -86,16 +81,13 @@ low_bits-mod (suc count) number =
 
 pub AreBits-append : (bits others : List ℕ) → AreBits bits → AreBits others
     → AreBits (bits ++ others)
-AreBits-append [] others h k = k
-AreBits-append (bit ∷ bits) others h k = (h.0, AreBits-append bits others h.1 k)
+AreBits-append = all_joined (λ bit. bit < 2)
 
 pub AreBits-left : (bits others : List ℕ) → AreBits (bits ++ others) → AreBits bits
-AreBits-left [] others h = tt
-AreBits-left (bit ∷ bits) others h = (h.0, AreBits-left bits others h.1)
+AreBits-left bits others h = (all_parts (λ bit. bit < 2) bits others h).0
 
 pub AreBits-right : (bits others : List ℕ) → AreBits (bits ++ others) → AreBits others
-AreBits-right [] others h = h
-AreBits-right (bit ∷ bits) others h = AreBits-right bits others h.1
+AreBits-right bits others h = (all_parts (λ bit. bit < 2) bits others h).1
 
 pub AreBits-take : (n : ℕ) (bits : List ℕ) → AreBits bits → AreBits (take n bits)
 AreBits-take n bits h = AreBits-left (take n bits) (drop n bits) (rw take-append-drop h)
@@ -104,10 +96,7 @@ pub AreBits-drop : (n : ℕ) (bits : List ℕ) → AreBits bits → AreBits (dro
 AreBits-drop n bits h = AreBits-right (take n bits) (drop n bits) (rw take-append-drop h)
 
 pub AreBits-reverse : (bits : List ℕ) → AreBits bits → AreBits (reverse bits)
-AreBits-reverse [] h = tt
-AreBits-reverse (bit ∷ bits) h =
-    subst AreBits (sym (reverse-append (bit ∷ []) bits))
-    (AreBits-append (reverse bits) (bit ∷ []) (AreBits-reverse bits h.1) (h.0, tt))
+AreBits-reverse bits h = all_reversed (λ bit. bit < 2) bits h
 
 pub AreBits-flat_map : {X : Type 0} (f : X → List ℕ) (xs : List X) → ((x : X) → AreBits (f x))
     → AreBits (flat_map f xs)
@@ -153,5 +142,4 @@ pub length-pieces : {X : Type 0} (size : ℕ) (f : X → List ℕ) (xs : List X)
     → ((x : X) → length (f x) ≡ size) → length (flat_map f xs) ≡ size * length xs
 length-pieces size f [] h = omega arith
 length-pieces size f (x ∷ xs) h =
-    length-append (f x) (flat_map f xs) ∙ ap (λ n. n + length (flat_map f xs)) (h x)
-    ∙ ap (λ n. size + n) (length-pieces size f xs h) ∙ omega arith
+    omega (arith, length-append (f x) (flat_map f xs), h x, length-pieces size f xs h)

@@ -1,6 +1,6 @@
 -- Fields of a number: what masks and ors do to each.
-use Rattle.std.proofs.Common.{◌≡◌, ℕ, ◌+◌, ◌-◌, ◌*◌, ◌^◌, ◌<◌, ◌≤◌, List, [], ◌∷◌, length, map, replicate, bit_and, bit_or, min, max, refl, sym, ap, ◌∙◌, inl, inr, arith}
-use Rattle.std.proofs.Math.Nat.{mul_comm, mul_assoc, add-mul, zero-mul}
+use Rattle.std.proofs.Common.{◌≡◌, ℕ, ◌+◌, ◌-◌, ◌*◌, ◌^◌, ◌<◌, List, [], ◌∷◌, length, map, replicate, bit_and, bit_or, min, max, refl, sym, ap, ◌∙◌, inl, inr, arith}
+use Rattle.std.proofs.Math.Nat.{zero-mul}
 use Rattle.std.proofs.lemmas.Bool.{cases_lt}
 use Rattle.std.proofs.lemmas.Nat.{and_le_l, or_lt}
 use Rattle.std.proofs.lemmas.Nat.Bits.{bit_at_and, bit_at_or, bit_at_cat_low, bit_at_cat_high, same_from_bits}
@@ -8,63 +8,39 @@ use Rattle.std.specs.Int.{bit_at}
 use Rattle.std.specs.List.{AllByRecursion}
 use Rattle.std.specs.Simd.Lanes.{number_l}
 
--- a bit of two parts of a number
-low_bit : (k a b i : ℕ) → i < k → bit_at (b * 2 ^ k + a) i ≡ bit_at a i
-low_bit k a b i h = bit_at_cat_low b k a i h
-
-high_bit : (k a b i : ℕ) → a < 2 ^ k → k ≤ i → bit_at (b * 2 ^ k + a) i ≡ bit_at b (i - k)
-high_bit k a b i h g = bit_at_cat_high b k a i h g
-
--- each part is masked alone
-and_parts : (k a b m n : ℕ) → a < 2 ^ k → m < 2 ^ k
-    → bit_and (b * 2 ^ k + a) (n * 2 ^ k + m) ≡ bit_and b n * 2 ^ k + bit_and a m
-and_parts k a b m n p q =
-    same_from_bits _ _
-    (λ i. elim (cases_lt i k) [
-      | inl l ↦
-          bit_at_and _ _ i
-          ∙ (λ j. min (low_bit k a b i l j) (low_bit k m n i l j))
-          ∙ sym (bit_at_and a m i)
-          ∙ sym (low_bit k (bit_and a m) (bit_and b n) i l)
-      | inr g ↦
-          bit_at_and _ _ i
-          ∙ (λ j. min (high_bit k a b i p g j) (high_bit k m n i q g j))
-          ∙ sym (bit_at_and b n (i - k))
-          ∙ sym (high_bit k (bit_and a m) (bit_and b n) i (omega (arith, p, and_le_l a m)) g)
-    ])
-
-or_parts : (k a b m n : ℕ) → a < 2 ^ k → m < 2 ^ k
-    → bit_or (b * 2 ^ k + a) (n * 2 ^ k + m) ≡ bit_or b n * 2 ^ k + bit_or a m
-or_parts k a b m n p q =
-    same_from_bits _ _
-    (λ i. elim (cases_lt i k) [
-      | inl l ↦
-          bit_at_or _ _ i
-          ∙ (λ j. max (low_bit k a b i l j) (low_bit k m n i l j))
-          ∙ sym (bit_at_or a m i)
-          ∙ sym (low_bit k (bit_or a m) (bit_or b n) i l)
-      | inr g ↦
-          bit_at_or _ _ i
-          ∙ (λ j. max (high_bit k a b i p g j) (high_bit k m n i q g j))
-          ∙ sym (bit_at_or b n (i - k))
-          ∙ sym (high_bit k (bit_or a m) (bit_or b n) i (or_lt k a m p q) g)
-    ])
-
 turned : (k a b : ℕ) → a + 2 ^ k * b ≡ b * 2 ^ k + a
-turned k a b = ap (λ n. a + n) (mul_comm (2 ^ k) b) ∙ omega arith
+turned k a b = omega arith
 
--- the same with the lower part first
+-- what is computed bit by bit is computed of each of two parts of a number alone
+module _ (op bit : ℕ → ℕ → ℕ) (k : ℕ)
+    (bits : (a b i : ℕ) → bit_at (op a b) i ≡ bit (bit_at a i) (bit_at b i))
+    (fits : (a b : ℕ) → a < 2 ^ k → b < 2 ^ k → op a b < 2 ^ k) where
+  parts : (a b m n : ℕ) → a < 2 ^ k → m < 2 ^ k
+      → op (b * 2 ^ k + a) (n * 2 ^ k + m) ≡ op b n * 2 ^ k + op a m
+  parts a b m n p q =
+      same_from_bits _ _ (λ i. bits _ _ i ∙ elim (cases_lt i k) [
+        | inl l ↦
+            (λ j. bit (bit_at_cat_low b k a i l j) (bit_at_cat_low n k m i l j))
+            ∙ sym (bit_at_cat_low (op b n) k (op a m) i l ∙ bits a m i)
+        | inr g ↦
+            (λ j. bit (bit_at_cat_high b k a i p g j) (bit_at_cat_high n k m i q g j))
+            ∙ sym (bit_at_cat_high (op b n) k (op a m) i (fits a m p q) g ∙ bits b n (i - k))
+      ])
+
+  -- the same with the lower part first
+  field : (a b m n : ℕ) → a < 2 ^ k → m < 2 ^ k
+      → op (a + 2 ^ k * b) (m + 2 ^ k * n) ≡ op a m + 2 ^ k * op b n
+  field a b m n p q =
+      (λ j. op (turned k a b j) (turned k m n j)) ∙ parts a b m n p q
+      ∙ sym (turned k (op a m) (op b n))
+
 and_field : (k a b m n : ℕ) → a < 2 ^ k → m < 2 ^ k
     → bit_and (a + 2 ^ k * b) (m + 2 ^ k * n) ≡ bit_and a m + 2 ^ k * bit_and b n
-and_field k a b m n p q =
-    (λ j. bit_and (turned k a b j) (turned k m n j)) ∙ and_parts k a b m n p q
-    ∙ sym (turned k (bit_and a m) (bit_and b n))
+and_field k = field bit_and min k bit_at_and (λ a b p q. omega (arith, p, and_le_l a b))
 
 or_field : (k a b m n : ℕ) → a < 2 ^ k → m < 2 ^ k
     → bit_or (a + 2 ^ k * b) (m + 2 ^ k * n) ≡ bit_or a m + 2 ^ k * bit_or b n
-or_field k a b m n p q =
-    (λ j. bit_or (turned k a b j) (turned k m n j)) ∙ or_parts k a b m n p q
-    ∙ sym (turned k (bit_or a m) (bit_or b n))
+or_field k = field bit_or max k bit_at_or (or_lt k)
 
 -- a mask with the same part at each field masks each field
 pub and_fields : (k mask : ℕ) → mask < 2 ^ k → (fields : List ℕ)
@@ -91,10 +67,4 @@ or_fields k f g P p q (x ∷ xs) h =
 pub times_fields : (p times : ℕ) (fields : List ℕ)
     → number_l p fields * times ≡ number_l p (map (λ x. x * times) fields)
 times_fields p times [] = zero-mul times
-times_fields p times (x ∷ xs) =
-    let more : (x + p * number_l p xs) * times ≡ x * times + p * (number_l p xs * times) =
-    mul_right x p (number_l p xs) times in
-    more ∙ ap (λ n. x * times + p * n) (times_fields p times xs)
-  where
-    mul_right : (x p n t : ℕ) → (x + p * n) * t ≡ x * t + p * (n * t)
-    mul_right x p n t = add-mul x (p * n) t ∙ ap (λ k. x * t + k) (mul_assoc p n t)
+times_fields p times (x ∷ xs) = omega (arith, ap (λ n. p * n) (times_fields p times xs))

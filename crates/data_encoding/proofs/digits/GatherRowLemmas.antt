@@ -1,6 +1,7 @@
 -- Entries of a table at bytes in lanes, from rows of sixteen, and the test of them all.
 use Rattle.std.proofs.Common.{◌≡◌, ℕ, zero, suc, ◌+◌, ◌*◌, ◌/◌, ◌%◌, ◌^◌, ◌<◌, ◌≤◌, Bool, true, false, not, cond, eqb, leb, List, [], ◌∷◌, ◌++◌, length, map, take, drop, get_or, slice_index, replicate, bit_and, bit_or, w8, refl, sym, ap, ◌∙◌, subst, arith, eqb-true, leb-false, length-append}
 use Rattle.std.proofs.lemmas.Bool.{leb-true}
+use Rattle.std.proofs.lemmas.Bool.Decides.{nat_tests}
 use Rattle.std.proofs.lemmas.Nat.{and_mask, and_le_r, le_or_r}
 use Rattle.std.proofs.lemmas.Nat.Bits.{and_high}
 use Rattle.std.proofs.lemmas.List.{length-map, get_or-map, get_or-take, get_or-drop, ext_get_or, map-append, take_at}
@@ -17,24 +18,16 @@ abbrev repeats : ℕ → List ℕ → List ℕ
 repeats times xs = concat (replicate times xs)
 
 -- no lane is at least the limit
-below-first : (limit lane : ℕ) (lanes : List ℕ)
-    → mask_l (map (leb limit) (lane ∷ lanes)) ≡ 0 → (test : Bool) → leb limit lane ≡ test
-    → (mask_l (map (leb limit) lanes) ≡ 0 → AllByRecursion (λ x. x < limit) lanes)
-    → AllByRecursion (λ x. x < limit) (lane ∷ lanes)
-below-first limit lane lanes e true is others =
-    let one : 1 + 2 * mask_l (map (leb limit) lanes) ≡ 0 =
-    ap (λ b. cond b 1 0 + 2 * mask_l (map (leb limit) lanes)) (sym is) ∙ e in
-    absurd (omega (arith, one))
-below-first limit lane lanes e false is others =
-    let none : 0 + 2 * mask_l (map (leb limit) lanes) ≡ 0 =
-    ap (λ b. cond b 1 0 + 2 * mask_l (map (leb limit) lanes)) (sym is) ∙ e in
-    (leb-false limit lane is, others (omega (arith, none)))
+below-first : (limit lane rest : ℕ) → cond (leb limit lane) 1 0 + 2 * rest ≡ 0
+    → (lane < limit) × (rest ≡ 0)
+below-first limit lane rest e = grind (arith, nat_tests)
 
 below-by_mask : (limit : ℕ) (lanes : List ℕ) → mask_l (map (leb limit) lanes) ≡ 0
     → AllByRecursion (λ lane. lane < limit) lanes
 below-by_mask limit [] e = tt
 below-by_mask limit (lane ∷ lanes) e =
-    below-first limit lane lanes e (leb limit lane) refl (below-by_mask limit lanes)
+    let first = below-first limit lane (mask_l (map (leb limit) lanes)) e in
+    (first.0, below-by_mask limit lanes first.1)
 
 abbrev pub at_most : ℕ → ℕ → ℕ
 at_most a b = cond (leb a b) 255 0
@@ -66,7 +59,7 @@ row-of start values k h =
     ∙ get_or-drop start values k 0
 
 -- the places of bytes in a row, each below sixteen
-abbrev places : ℕ → List ℕ → List ℕ
+abbrev pub places : ℕ → List ℕ → List ℕ
 places count bytes = zip2 bit_and bytes (replicate count 15)
 
 places-are : (count : ℕ) (bytes : List ℕ) → length bytes ≡ count
@@ -98,19 +91,18 @@ repeated-row (suc times) row long =
     ∙ (λ i. (pick_l-range_with_len 0 (row ++ row) 0 16 (omega (arith, length-append row row, long))
     ∙ take_at row row 16 long) i ++ repeated-row times row long i)
 
--- what a row has at bytes
-pub looked-up : (times : ℕ) (values row bytes : List ℕ) (start : ℕ) → length row ≡ 16
-    → length bytes ≡ times * 16 → IsRow values start row
-    → swz_l w8 16 (repeats times row) 0 (places (times * 16) bytes)
-    ≡ map (in_row values start) bytes
-looked-up times values row bytes start sixteen long is_row =
+-- what a table of sixteen entries, over and over, has at bytes
+pub in_lanes : (times : ℕ) (entry : ℕ → ℕ) (table bytes : List ℕ) → length bytes ≡ times * 16
+    → ((place : ℕ) → place < times * 16 → get_or table place 0 ≡ entry (place % 16))
+    → swz_l w8 16 table 0 (places (times * 16) bytes) ≡ map (λ byte. entry (byte % 16)) bytes
+in_lanes times entry table bytes long has =
     let count = times * 16 in
-    let table = repeats times row in
     let js = places count bytes in
+    let shown = λ (byte : ℕ). entry (byte % 16) in
     let len : length (swz_l w8 16 table 0 js) ≡ count =
     length-swz_l w8 16 table 0 js ∙ length-places count bytes long in
-    ext_get_or 0 (swz_l w8 16 table 0 js) (map (in_row values start) bytes)
-    (len ∙ sym (length-map bytes (in_row values start) ∙ long))
+    ext_get_or 0 (swz_l w8 16 table 0 js) (map shown bytes)
+    (len ∙ sym (length-map bytes shown ∙ long))
     (λ i h.
     let within : i < length bytes = omega (arith, h, len, long) in
     let here : get_or js i 0 ≡ get_or bytes i 0 % 16 =
@@ -118,15 +110,21 @@ looked-up times values row bytes start sixteen long is_row =
     ∙ get_or-map (λ byte. bit_and byte 15) bytes i 0 0 within
     ∙ and_mask (get_or bytes i 0) 4 in
     let place = 16 * ((0 + i) / 16) + get_or js i 0 in
-    let inside : place < times * 16 = omega (arith, here, within, long) in
-    let at : place % length row ≡ get_or bytes i 0 % 16 =
-    ap (λ n. place % n) sixteen ∙ omega (arith, here) in
     get_or-swz_l_below w8 16 table 0 js i
     (omega (arith, within, long, length-places count bytes long)) (omega (arith, here))
-    ∙ get_or-repeats times row place (subst (λ n. place < times * n) (sym sixteen) inside)
-    ∙ ap (λ k. get_or row k 0) at
-    ∙ is_row (get_or bytes i 0 % 16) (omega arith)
-    ∙ sym (get_or-map (in_row values start) bytes i 0 0 within))
+    ∙ has place (omega (arith, here, within, long)) ∙ ap entry (omega (arith, here))
+    ∙ sym (get_or-map shown bytes i 0 0 within))
+
+-- what a row has at bytes
+pub looked-up : (times : ℕ) (values row bytes : List ℕ) (start : ℕ) → length row ≡ 16
+    → length bytes ≡ times * 16 → IsRow values start row
+    → swz_l w8 16 (repeats times row) 0 (places (times * 16) bytes)
+    ≡ map (in_row values start) bytes
+looked-up times values row bytes start sixteen long is_row =
+    in_lanes times (λ k. slice_index values (start + k)) (repeats times row) bytes long
+    (λ place h.
+    get_or-repeats times row place (subst (λ n. place < times * n) (sym sixteen) h)
+    ∙ ap (λ n. get_or row (place % n) 0) sixteen ∙ is_row (place % 16) (omega arith))
 
 -- the lanes where a bit is set
 abbrev pub up : ℕ → ℕ → ℕ
@@ -159,86 +157,28 @@ of_rows values =
     (chosen_by 2 (chosen_by 3 (in_row values 48) (in_row values 32))
     (chosen_by 3 (in_row values 16) (in_row values 0)))
 
-abbrev choose : List ℕ → ℕ → Bool → Bool → Bool → ℕ
-choose values byte a b c =
-    cond a
-    (cond b (cond c (in_row values 112 byte) (in_row values 96 byte))
-    (cond c (in_row values 80 byte) (in_row values 64 byte)))
-    (cond b (cond c (in_row values 48 byte) (in_row values 32 byte))
-    (cond c (in_row values 16 byte) (in_row values 0 byte)))
-
--- the bits of a byte
-abbrev bit : ℕ → ℕ → Bool
-bit byte shift = leb 128 (up byte shift)
+-- what both sides give, each where the bit is as it wants
+by-bit : (byte is shift x y : ℕ) → (128 ≤ up byte shift → x ≡ is) → (up byte shift < 128 → y ≡ is)
+    → cond (leb 128 (up byte shift)) x y ≡ is
+by-bit byte is shift x y set clear = go (leb 128 (up byte shift)) refl
+  where
+    go : (b : Bool) → leb 128 (up byte shift) ≡ b → cond b x y ≡ is
+    go true e = set (leb-true 128 (up byte shift) e)
+    go false e = clear (leb-false 128 (up byte shift) e)
 
 of_rows-is : (values : List ℕ) (byte : ℕ) → byte < 128
     → of_rows values byte ≡ slice_index values byte
 of_rows-is values byte h =
-    go (bit byte 1) refl (bit byte 2) refl (bit byte 3) refl
+    let by = by-bit byte (slice_index values byte) in
+    by 1 _ _
+    (λ a. by 2 _ _ (λ b. by 3 _ _ (λ c. at 112 (omega arith)) (λ c. at 96 (omega arith)))
+    (λ b. by 3 _ _ (λ c. at 80 (omega arith)) (λ c. at 64 (omega arith))))
+    (λ a. by 2 _ _ (λ b. by 3 _ _ (λ c. at 48 (omega arith)) (λ c. at 32 (omega arith)))
+    (λ b. by 3 _ _ (λ c. at 16 (omega arith)) (λ c. at 0 (omega arith))))
   where
     at : (start : ℕ) → start + byte % 16 ≡ byte
         → in_row values start byte ≡ slice_index values byte
-    at start e = ap (λ k. slice_index values k) e
-
-    go : (a : Bool) → bit byte 1 ≡ a → (b : Bool) → bit byte 2 ≡ b
-        → (c : Bool) → bit byte 3 ≡ c
-        → choose values byte a b c ≡ slice_index values byte
-    go true e true f true k = at 112 (omega (
-      arith,
-      h,
-      leb-true 128 (up byte 1) e,
-      leb-true 128 (up byte 2) f,
-      leb-true 128 (up byte 3) k,
-    ))
-    go true e true f false k = at 96 (omega (
-      arith,
-      h,
-      leb-true 128 (up byte 1) e,
-      leb-true 128 (up byte 2) f,
-      leb-false 128 (up byte 3) k,
-    ))
-    go true e false f true k = at 80 (omega (
-      arith,
-      h,
-      leb-true 128 (up byte 1) e,
-      leb-false 128 (up byte 2) f,
-      leb-true 128 (up byte 3) k,
-    ))
-    go true e false f false k = at 64 (omega (
-      arith,
-      h,
-      leb-true 128 (up byte 1) e,
-      leb-false 128 (up byte 2) f,
-      leb-false 128 (up byte 3) k,
-    ))
-    go false e true f true k = at 48 (omega (
-      arith,
-      h,
-      leb-false 128 (up byte 1) e,
-      leb-true 128 (up byte 2) f,
-      leb-true 128 (up byte 3) k,
-    ))
-    go false e true f false k = at 32 (omega (
-      arith,
-      h,
-      leb-false 128 (up byte 1) e,
-      leb-true 128 (up byte 2) f,
-      leb-false 128 (up byte 3) k,
-    ))
-    go false e false f true k = at 16 (omega (
-      arith,
-      h,
-      leb-false 128 (up byte 1) e,
-      leb-false 128 (up byte 2) f,
-      leb-true 128 (up byte 3) k,
-    ))
-    go false e false f false k = at 0 (omega (
-      arith,
-      h,
-      leb-false 128 (up byte 1) e,
-      leb-false 128 (up byte 2) f,
-      leb-false 128 (up byte 3) k,
-    ))
+    at start e = ap (slice_index values) e
 
 -- a byte from 128 on keeps its highest bit
 abbrev of_byte : List ℕ → ℕ → ℕ
@@ -250,8 +190,7 @@ of_byte-is values byte fits h =
     let high : bit_and byte 128 ≡ byte / 128 % 2 * 128 = and_high byte 1 7 in
     let low : byte < 128 =
     omega (arith, fits, h, high, le_or_r (of_rows values byte) (bit_and byte 128)) in
-    let none : bit_and byte 128 ≡ 0 = omega (arith, high, low) in
-    ap (bit_or (of_rows values byte)) none ∙ or_zero_r (of_rows values byte)
+    ap (bit_or (of_rows values byte)) (omega (arith, high, low)) ∙ or_zero_r (of_rows values byte)
     ∙ of_rows-is values byte low
 
 pub of_bytes-are : (values bytes : List ℕ) → Each1 (λ byte. byte < 256) bytes

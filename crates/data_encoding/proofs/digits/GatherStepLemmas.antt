@@ -1,7 +1,8 @@
 -- Two halves of each lane as one number.
-use Rattle.std.proofs.Common.{◌≡◌, ℕ, ◌+◌, ◌*◌, ◌/◌, ◌%◌, ◌^◌, ◌<◌, ◌≤◌, List, [], ◌∷◌, length, map, replicate, bit_and, ap, ◌∙◌, subst, arith}
-use Rattle.std.proofs.Math.Nat.{mod-lt, div-lt_iff_lt-mul}
-use Rattle.std.proofs.lemmas.Nat.{pow_pos, pow-add, shl_whole}
+use Rattle.std.proofs.Common.{◌≡◌, ℕ, ◌+◌, ◌*◌, ◌/◌, ◌%◌, ◌^◌, ◌<◌, ◌≤◌, List, [], ◌∷◌, length, map, replicate, bit_and, ap, ◌∙◌, arith}
+use Rattle.std.proofs.Math.Nat.{mod-lt}
+use Rattle.std.proofs.Math.Pow.{shr_mod}
+use Rattle.std.proofs.lemmas.Nat.{pow_pos, shl_whole}
 use Rattle.std.proofs.lemmas.Simd.{zip2_splat, zip2_of_maps, splat_is_map}
 use Rattle.std.specs.List.{AllByRecursion}
 use Rattle.std.specs.Simd.Lanes.{zip2, Each1}
@@ -31,8 +32,7 @@ module _ (half : ℕ) where
 
   high-below : (lane : ℕ) → lane < 2 ^ (half + half) → lane / 2 ^ half < 2 ^ half
   high-below lane h =
-      (div-lt_iff_lt-mul {k = 2 ^ half} {x = lane} {y = 2 ^ half} (pow_pos half)).1
-      (subst (λ n. lane < n) (pow-add 2 half half) h)
+      omega (arith, shr_mod half half h, mod-lt (lane / 2 ^ half) (pow_pos half))
 
   pub joined-lanes : (order : BitOrder) (size mask count low high : ℕ) (lanes : List ℕ)
       → ((x : ℕ) → bit_and x mask ≡ x % 2 ^ half) → low ≤ half → high ≤ half

@@ -4,7 +4,7 @@ use Rattle.std.proofs.lemmas.List.{append-nil, drop-drop, length-drop, length-re
 use Rattle.std.proofs.lemmas.List.Concat.{flat_map-append}
 use Rattle.std.proofs.lemmas.Nat.{div-add-mod', div-mul-add, mod-mul-add}
 use Rattle.std.proofs.lemmas.Simd.{map-map}
-use Rattle.std.proofs.Math.Nat.{add-mul, mul-add, mul_assoc, mul_comm, mul-zero, mul-one, mul-le-mul_left, mod-eq_of_lt, div-lt_iff_lt-mul, pow-zero, pow-succ'}
+use Rattle.std.proofs.Math.Nat.{mul_comm, mul-zero, mul-one, mul-le-mul_left, mod-eq_of_lt, div-lt_iff_lt-mul, pow-zero, pow-succ'}
 use Rattle.std.proofs.Math.Pow.{pow_mono}
 use Rattle.std.proofs.Math.Seq.{take-add}
 use Rattle.std.specs.Prelude.{flat_map}
@@ -16,8 +16,9 @@ use Rattle.data_encoding.specs.declared.encoding.BitOrder.TheVariants.{MostSigni
 use Rattle.data_encoding.specs.Bits.{bits_of, number_of, number_of_low_bits}
 use Rattle.data_encoding.specs.Values.{joined}
 use Rattle.data_encoding.specs.Words.{weight, word_of}
-use Rattle.data_encoding.proofs.digits.BitLemmas.{AreBits-bits_of, AreBits-flat_map, length-bits_of, length-pieces, number_of-below}
-use Rattle.data_encoding.proofs.digits.WordLemmas.{number-append, word_of-more, word_of-nil}
+use Rattle.data_encoding.proofs.digits.BitLemmas.{length-bits_of, length-pieces}
+use Rattle.data_encoding.proofs.digits.GroupWordLemmas.{word_of-below}
+use Rattle.data_encoding.proofs.digits.WordLemmas.{number-append, word-one}
 
 -- a number has no more digits than it was made of
 number-below : (p : ℕ) (xs : List ℕ) → AllByRecursion (λ x. x < p) xs
@@ -27,8 +28,7 @@ number-below p (x ∷ xs) h =
     let rest = number_l p xs in
     let up : p * (rest + 1) ≤ p * p ^ length xs =
     mul-le-mul_left p (omega (arith, number-below p xs h.1)) in
-    let next : p * (rest + 1) ≡ p * rest + p = mul-add p rest 1 ∙ omega arith in
-    subst (λ n. x + p * rest < n) (sym (pow-succ' p (length xs))) (omega (arith, up, next, h.0))
+    omega (arith, up, pow-succ' p (length xs), h.0)
 
 -- a number of its own digits
 pub number-of-digits : (p n x : ℕ) → 0 < p → x < p ^ n → number_l p (digits_l p n x) ≡ x
@@ -57,18 +57,9 @@ pairs-of p (suc n) (a ∷ []) h e = absurd (omega (arith, e))
 pairs-of p (suc n) (a ∷ b ∷ xs) h e =
     let rest = number_l p xs in
     let pair = a + p * (b + p * 0) in
-    let pair_is : pair ≡ a + p * b =
-    ap (λ z. a + p * (b + z)) (mul-zero p) ∙ omega arith in
-    let whole : a + p * (b + p * rest) ≡ rest * (p * p) + pair =
-    omega (
-      arith,
-      mul-add p b (p * rest),
-      mul_assoc p p rest,
-      mul_comm (p * p) rest,
-      pair_is,
-    ) in
+    let whole : a + p * (b + p * rest) ≡ rest * (p * p) + pair = omega arith in
     let up : p * (b + 1) ≤ p * p = mul-le-mul_left p (omega (arith, h.1.0)) in
-    let below : pair < p * p = omega (arith, pair_is, up, mul-add p b 1, h.0) in
+    let below : pair < p * p = omega (arith, up, h.0) in
     let low : (a + p * (b + p * rest)) % (p * p) ≡ pair =
     ap (λ m. m % (p * p)) whole ∙ mod-mul-add rest (p * p) pair below in
     let high : (a + p * (b + p * rest)) / (p * p) ≡ rest =
@@ -87,16 +78,14 @@ number_of-halves LeastSignificantFirst n front back f b =
     let high = number_of_low_bits back in
     number-append front back
     ∙ ap (λ m. low + 2 ^ m * high) (f ∙ sym (mul-one n))
-    ∙ (let one : low * 2 ^ (n * 0) ≡ low = ap (λ m. low * m) (weight-low n) ∙ omega arith in
-    omega (arith, one, mul_comm high (2 ^ (n * 1))))
+    ∙ omega (arith, ap (λ m. low * m) (weight-low n))
 number_of-halves MostSignificantFirst n front back f b =
     let low = number_of_low_bits (reverse back) in
     let high = number_of_low_bits (reverse front) in
     ap number_of_low_bits (reverse-append front back)
     ∙ number-append (reverse back) (reverse front)
     ∙ ap (λ m. low + 2 ^ m * high) (length-reverse back ∙ b ∙ sym (mul-one n))
-    ∙ (let one : low * 2 ^ (n * 0) ≡ low = ap (λ m. low * m) (weight-low n) ∙ omega arith in
-    omega (arith, one, mul_comm high (2 ^ (n * 1))))
+    ∙ omega (arith, ap (λ m. low * m) (weight-low n))
 
 module _ (order : BitOrder) (size : ℕ) where
   abbrev bits : List ℕ → List ℕ
@@ -118,12 +107,7 @@ module _ (order : BitOrder) (size : ℕ) where
 
   word-below : (count : ℕ) (digits : List ℕ) → length digits ≡ count
       → word count digits < 2 ^ (size * count)
-  word-below count digits e =
-      subst (λ n. n < 2 ^ (size * count)) (sym (word-full count digits e))
-      (subst (λ n. number_of order (bits digits) < 2 ^ n)
-      (length-bits digits ∙ ap (λ n. size * n) e)
-      (number_of-below order (bits digits)
-      (AreBits-flat_map (bits_of order size) digits (AreBits-bits_of order size))))
+  word-below count digits e = word_of-below order size count digits (omega (arith, e))
 
   word-halves : (count : ℕ) (front back : List ℕ) → length front ≡ count → length back ≡ count
       → word (count + count) (front ++ back)
@@ -139,17 +123,6 @@ module _ (order : BitOrder) (size : ℕ) where
       ∙ sym (λ i. word-full count front f i * 2 ^ weight order n 2 0
       + word-full count back b i * 2 ^ weight order n 2 1)
 
-  -- a value is its own word
-  word-one : (value : ℕ) → value < 2 ^ size → word 1 (value ∷ []) ≡ value
-  word-one value h =
-      word_of-more order size 1 0 [] value refl (omega arith) h
-      ∙ (λ i. word_of-nil order size 1 i + value * none order i)
-      ∙ omega arith
-    where
-      none : (o : BitOrder) → 2 ^ weight o size 1 0 ≡ 1
-      none LeastSignificantFirst = weight-low size
-      none MostSignificantFirst = weight-low size
-
   pub words-of-one : (n : ℕ) (values : List ℕ) → length values ≡ n
       → AllByRecursion (λ value. value < 2 ^ size) values
       → values ≡ map (word 1) (first_chunks 1 n values)
@@ -157,20 +130,19 @@ module _ (order : BitOrder) (size : ℕ) where
   words-of-one zero (value ∷ values) e h = absurd (omega (arith, e))
   words-of-one (suc n) [] e h = absurd (omega (arith, e))
   words-of-one (suc n) (value ∷ values) e h =
-      λ i. sym (word-one value h.0) i ∷ words-of-one n values (omega (arith, e)) h.1 i
+      λ i. sym (word-one order size value h.0) i ∷ words-of-one n values (omega (arith, e)) h.1 i
 
   pub words-fit : (half count : ℕ) → size * count ≤ half → (n : ℕ) (values : List ℕ)
       → length values ≡ count * n
       → AllByRecursion (λ word. word < 2 ^ half) (map (word count) (first_chunks count n values))
   words-fit half count few zero values e = tt
   words-fit half count few (suc n) values e =
-      let more : count * suc n ≡ count + count * n = omega arith in
       let first = word-below count (take count values)
-      (length-take-le count values (omega (arith, e, more))) in
+      (length-take-le count values (omega (arith, e))) in
       let most : 2 ^ (size * count) ≤ 2 ^ half = pow_mono few in (
         omega (arith, first, most),
         words-fit half count few n (drop count values)
-            (length-drop count values ∙ omega (arith, e, more)),
+            (length-drop count values ∙ omega (arith, e)),
       )
 
   length-words : (count n : ℕ) (values : List ℕ)
@@ -200,8 +172,7 @@ module _ (order : BitOrder) (size : ℕ) where
         let h = 2 ^ half in
         let most : 2 ^ (size * count) ≤ h = pow_mono (omega (arith, part_is, few)) in
         let a_below : a < h = omega (arith, word-below count front f, most) in
-        let lane : a + h * (b_ + h * 0) ≡ b_ * h + a =
-        ap (λ z. a + h * (b_ + z)) (mul-zero h) ∙ omega (arith, mul_comm h b_) in
+        let lane : a + h * (b_ + h * 0) ≡ b_ * h + a = omega arith in
         let low : (a + h * (b_ + h * 0)) % h ≡ a =
         ap (λ n. n % h) lane ∙ mod-mul-add b_ h a a_below in
         let high : (a + h * (b_ + h * 0)) / h ≡ b_ =
@@ -209,9 +180,8 @@ module _ (order : BitOrder) (size : ℕ) where
         let all = word (count + count) (front ++ back) in
         let long : length (front ++ back) ≡ count + count =
         length-append front back ∙ (λ i. f i + b i) in
-        let wide : size * (count + count) ≤ half + half =
-        omega (arith, mul-add size count count, part_is, few) in
-        let most_all : 2 ^ (size * (count + count)) ≤ 2 ^ (half + half) = pow_mono wide in
+        let most_all : 2 ^ (size * (count + count)) ≤ 2 ^ (half + half) =
+        pow_mono (omega (arith, part_is, few)) in
         let fits : all < 2 ^ (half + half) =
         omega (arith, word-below (count + count) (front ++ back) long, most_all) in
         (λ i. (low i * 2 ^ weight order (part_is i) 2 0 + high i * 2 ^ weight order (part_is i) 2 1)
@@ -229,16 +199,15 @@ module _ (order : BitOrder) (size : ℕ) where
     words-joined (suc n) (suc zero) values e long = absurd (omega (arith, e))
     words-joined (suc n) (suc (suc m)) values e long =
         let both = count + count in
-        let more : both * suc n ≡ both + both * n = omega arith in
         let front = take count values in
         let back = take count (drop count values) in
-        let f : length front ≡ count = length-take-le count values (omega (arith, long, more)) in
+        let f : length front ≡ count = length-take-le count values (omega (arith, long)) in
         let b : length back ≡ count =
         length-take-le count (drop count values)
-        (omega (arith, length-drop count values, long, more)) in
+        (omega (arith, length-drop count values, long)) in
         let rest = words-joined n m (drop count (drop count values)) (omega (arith, e))
         (length-drop count (drop count values)
-        ∙ omega (arith, length-drop count values, long, more)) in
+        ∙ omega (arith, length-drop count values, long)) in
         λ i. (joined-word front back f b
         ∙ ap (word both) (sym (take-add count count values))) i
         ∷ (rest ∙ ap (λ l. map (word both) (first_chunks both n l)) (drop-drop count count values))
@@ -253,7 +222,7 @@ module _ (order : BitOrder) (size : ℕ) where
         let words = map (word count) (first_chunks count (n + n) values) in
         let part_few : size * count ≤ half = omega (arith, part_is, few) in
         let same : length values ≡ count * (n + n) =
-        long ∙ omega (arith, add-mul count count n, mul-add count n n) in
+        long ∙ omega arith in
         ap (map (joined order half part)) (pairs-of (2 ^ half) n words
         (words-fit half count part_few (n + n) values same) (length-words count (n + n) values))
         ∙ map-map (joined order half part) (number_l (2 ^ half)) (first_chunks 2 n words)

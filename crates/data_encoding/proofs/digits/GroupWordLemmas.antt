@@ -1,23 +1,23 @@
 -- The words of groups of bytes, in lanes.
-use Rattle.std.proofs.Common.{◌≡◌, ℕ, ◌+◌, ◌-◌, ◌*◌, ◌^◌, ◌<◌, ◌≤◌, List, [], ◌∷◌, length, map, take, drop, get_or, replicate, refl, sym, ap, ◌∙◌, subst, arith, length-append}
-use Rattle.std.proofs.lemmas.List.{drop_more, drop-drop, length-drop, length-replicate, length-take, take_all}
+use Rattle.std.proofs.Common.{◌≡◌, ℕ, ◌+◌, ◌-◌, ◌*◌, ◌^◌, ◌<◌, ◌≤◌, List, ◌++◌, length, map, take, drop, get_or, replicate, sym, ap, ◌∙◌, subst, arith, length-append, length-take-le}
+use Rattle.std.proofs.lemmas.List.{drop_more, drop-drop, length-drop, length-replicate, length-take, take_all, drop-take, take-take}
 use Rattle.std.proofs.lemmas.List.FromFn.{length-map-range_with_len}
 use Rattle.std.proofs.lemmas.Nat.{mul-le}
+use Rattle.std.proofs.Math.Nat.{mul-add}
 use Rattle.std.proofs.lemmas.Simd.{pick_l-range_with_len}
 use Rattle.std.specs.Prelude.{flat_map}
 use Rattle.std.specs.List.{AllByRecursion, range_with_len}
-use Rattle.std.specs.Simd.Lanes.{number_l, digits_l}
+use Rattle.std.specs.Simd.Lanes.{number_l, digits_l, pick_l}
 use Rattle.data_encoding.specs.declared.encoding.BitOrder.{BitOrder}
-use Rattle.data_encoding.specs.declared.encoding.BitOrder.TheVariants.{MostSignificantFirst, LeastSignificantFirst}
 use Rattle.data_encoding.specs.Bits.{bits_of}
 use Rattle.data_encoding.specs.Lanes.{group_word, group_words}
 use Rattle.data_encoding.specs.Words.{word_of, zeros_to}
 use Rattle.data_encoding.proofs.digits.BitLemmas.{AreBits, AreBits-append, AreBits-flat_map, AreBits-bits_of, number_of-below, length-pieces, length-bits_of}
-use Rattle.data_encoding.proofs.digits.LaneLemmas.{number-of-wide, digits-of-number, all_mapped, map-same}
-use Rattle.data_encoding.proofs.digits.WordLemmas.{AreBits-zeros, map-range-same, word_of-nil, word_of-more}
+use Rattle.data_encoding.proofs.digits.LaneLemmas.{number-of-wide, number-padded, digits-of-number, all_mapped}
+use Rattle.data_encoding.proofs.digits.WordLemmas.{AreBits-zeros, lowest_first, word-number, map-range-same, word-one}
 
 -- a word has no more bits than its digits
-word_of-below : (order : BitOrder) (size count : ℕ) (digits : List ℕ) → length digits ≤ count
+pub word_of-below : (order : BitOrder) (size count : ℕ) (digits : List ℕ) → length digits ≤ count
     → word_of order size count digits < 2 ^ (size * count)
 word_of-below order size count digits h =
     let bits = flat_map (bits_of order size) digits in
@@ -27,8 +27,7 @@ word_of-below order size count digits h =
     let most : size * length digits ≤ size * count =
     mul-le size (length digits) size count (omega arith) h in
     let all : length (zeros_to (size * count) bits) ≡ size * count =
-    length-append bits (replicate extra 0)
-    ∙ ap (λ m. length bits + m) (length-replicate {A = ℕ} extra 0) ∙ omega (arith, len, most) in
+    simp (length-append, length-replicate) (omega (arith, len, most)) in
     let are : AreBits bits =
     AreBits-flat_map (bits_of order size) digits (AreBits-bits_of order size) in
     subst (λ n. word_of order size count digits < 2 ^ n) all
@@ -59,20 +58,11 @@ word-later order size start input group later e =
     ∙ ap (λ l. word_of order 8 size (take size l))
     (drop-drop (size * group) start input ∙ ap (λ n. drop n input) e)
 
--- a byte is the word of its group
-pub word-one : (order : BitOrder) (byte : ℕ) → byte < 256 → word_of order 8 1 (byte ∷ []) ≡ byte
-word-one MostSignificantFirst byte h =
-    word_of-more MostSignificantFirst 8 1 0 [] byte refl (omega arith) h
-    ∙ ap (λ n. n + byte * 2 ^ 0) (word_of-nil MostSignificantFirst 8 1) ∙ omega arith
-word-one LeastSignificantFirst byte h =
-    word_of-more LeastSignificantFirst 8 1 0 [] byte refl (omega arith) h
-    ∙ ap (λ n. n + byte * 2 ^ 0) (word_of-nil LeastSignificantFirst 8 1) ∙ omega arith
-
 module _ (input : List ℕ) (small : (k : ℕ) → get_or input k 0 < 256) where
   word-of-byte : (order : BitOrder) (group : ℕ) → group < length input
       → get_or input group 0 ≡ word_of order 8 1 (take 1 (drop group input))
   word-of-byte order group h =
-      sym (word-one order (get_or input group 0) (small group))
+      sym (word-one order 8 (get_or input group 0) (small group))
       ∙ ap (λ l. word_of order 8 1 (take 1 l)) (sym (drop_more input group 0 h))
 
   -- the first eight bytes are the words of their groups
@@ -88,19 +78,8 @@ module _ (input : List ℕ) (small : (k : ℕ) → get_or input k 0 < 256) where
           → map (λ k. get_or xs k 0) (range_with_len 0 n) ≡ take n xs
       get-all n xs h = pick_l-range_with_len 0 xs 0 n (omega (arith, h))
 
--- lanes that are made wider
-pub widened : (bits : ℕ) (cast : ℕ → ℕ) → ((x : ℕ) → x < 2 ^ bits → cast x ≡ x)
-    → (xs words : List ℕ) → xs ≡ words → AllByRecursion (λ x. x < 2 ^ bits) words
-    → map cast xs ≡ words
-widened bits cast same xs words is few =
-    ap (map cast) is ∙ map-same (λ x. x < 2 ^ bits) cast (λ x. x) same words few ∙ map-id words
-  where
-    map-id : (ys : List ℕ) → map (λ x. x) ys ≡ ys
-    map-id [] = refl
-    map-id (y ∷ ys) = ap (λ l. y ∷ l) (map-id ys)
-
 -- lanes of so many bytes are the words that their bytes make
-pub words-of-bytes : (order : BitOrder) (size k count q : ℕ) (input : List ℕ) → q ≡ 256 ^ k
+words-of-bytes : (order : BitOrder) (size k count q : ℕ) (input : List ℕ) → q ≡ 256 ^ k
     → 2 ^ (8 * size) ≤ q → (lane : ℕ → List ℕ) → ((group : ℕ) → length (lane group) ≡ k)
     → ((group : ℕ) → group < count → number_l 256 (lane group) ≡ group_word order size input group)
     → digits_l q count (number_l 256 (flat_map lane (range_with_len 0 count)))
@@ -116,3 +95,48 @@ words-of-bytes order size k count q input e wide lane long is =
     (map-range-same (λ group. number_l 256 (lane group)) (group_word order size input) count is)
     ∙ ap (λ n. digits_l q n (number_l q words)) (sym len)
     ∙ digits-of-number q words below
+
+-- the bytes of the lane of a group, the lowest first, where so many bytes are loaded
+abbrev lane : BitOrder → ℕ → ℕ → List ℕ → ℕ → List ℕ
+lane order size more loaded group =
+    lowest_first order (pick_l 0 loaded (range_with_len (size * group) size)) ++ replicate more 0
+
+module _ (order : BitOrder) (size more : ℕ) (input : List ℕ) (long : 16 ≤ length input)
+    (small : (k : ℕ) → get_or input k 0 < 256) where
+  lane-word : (group : ℕ) → size * group + size ≤ 16
+      → number_l 256 (lane order size more (take 16 input) group)
+      ≡ group_word order size input group
+  lane-word group h =
+      let i = size * group in
+      let bytes = take size (drop i input) in
+      let rest : i + (16 - i) ≡ 16 = omega (arith, h) in
+      let loaded : pick_l 0 (take 16 input) (range_with_len i size) ≡ bytes =
+      pick_l-range_with_len 0 (take 16 input) i size
+      (omega (arith, h, length-take-le 16 input long))
+      ∙ ap (λ n. take size (drop i (take n input))) (sym rest)
+      ∙ ap (take size) (drop-take i (16 - i) input)
+      ∙ take-take size (16 - i) (drop i input) (omega (arith, h)) in
+      let below : AllByRecursion (λ byte. byte < 256) bytes =
+      rw (pick_l-range_with_len 0 input i size (omega (arith, h, long))) at
+      (all_mapped (λ byte. byte < 256) (λ k. get_or input k 0) (range_with_len i size) small) in
+      number-padded 256 (lowest_first order (pick_l 0 (take 16 input) (range_with_len i size))) more
+      ∙ ap (λ l. number_l 256 (lowest_first order l)) loaded
+      ∙ sym (word-number order 8 bytes below)
+      ∙ ap (λ n. word_of order 8 n bytes)
+      (length-take-le size (drop i input) (omega (arith, h, long, length-drop i input)))
+
+  pub lanes-are-words : (count q : ℕ) → q ≡ 256 ^ (size + more) → 2 ^ (8 * size) ≤ q
+      → size * count ≤ 16
+      → ((group : ℕ) → length (lane order size more (take 16 input) group) ≡ size + more)
+      → digits_l q count
+      (number_l 256 (flat_map (lane order size more (take 16 input)) (range_with_len 0 count)))
+      ≡ group_words order size count input
+  lanes-are-words count q e wide room each =
+      words-of-bytes order size (size + more) count q input e wide
+      (lane order size more (take 16 input)) each
+      (λ group h. lane-word group (omega (
+        arith,
+        room,
+        mul-add size group 1,
+        mul-le size (group + 1) size count (omega arith) (omega (arith, h)),
+      )))

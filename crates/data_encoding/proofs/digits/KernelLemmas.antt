@@ -1,5 +1,5 @@
 -- The text and the bytes of a group, from its word.
-use Rattle.std.proofs.Common.{◌≡◌, ℕ, suc, ◌+◌, ◌-◌, ◌*◌, ◌/◌, ◌%◌, ◌^◌, ◌<◌, ◌≤◌, List, [], ◌∷◌, ◌++◌, length, map, take, drop, replicate, slice_index, refl, sym, ap, ◌∙◌, subst, arith, length-append, append_assoc, take-append-drop, length-take-le}
+use Rattle.std.proofs.Common.{◌≡◌, ℕ, suc, ◌+◌, ◌-◌, ◌*◌, ◌/◌, ◌%◌, ◌^◌, ◌<◌, ◌≤◌, List, [], ◌∷◌, ◌++◌, length, map, take, drop, replicate, slice_index, refl, sym, ap, ◌∙◌, arith, length-append, append_assoc, take-append-drop, length-take-le}
 use Rattle.std.proofs.lemmas.List.{length-replicate, length-map, replicate-append-replicate}
 use Rattle.std.proofs.lemmas.Nat.{mul-le, pow_pos}
 use Rattle.std.proofs.Math.Nat.{mod-lt}
@@ -18,7 +18,7 @@ use Rattle.data_encoding.proofs.digits.BitLemmas.{AreBits, AreBits-flat_map, Are
 use Rattle.data_encoding.proofs.grammar.UnpaddedGroupLemmas.{length-bits_of_bytes, length-bits_of_values}
 use Rattle.data_encoding.proofs.lists.RunLemmas.{first_chunks-append, run_count, run_count-few}
 use Rattle.data_encoding.proofs.text.PlainTextLemmas.{filled_count, text_by, run_count-missing}
-use Rattle.data_encoding.proofs.digits.WidthLemmas.{group_bits}
+use Rattle.data_encoding.proofs.lists.PartLemmas.{IsWhole-group}
 use Rattle.data_encoding.proofs.digits.WordLemmas.{digits-runs, map-twice, map-range-same}
 
 -- whole runs of bits and zeros, however many zeros there are
@@ -31,8 +31,7 @@ first_chunks-zeros size n a b bits h k =
     ∙ ap (λ l. bits ++ l) (sym (replicate-append-replicate a (b - a) 0))
     ∙ sym (append_assoc bits (replicate a 0) (replicate (b - a) 0)) in
     let len : length (bits ++ replicate a 0) ≡ length bits + a =
-    length-append bits (replicate a 0)
-    ∙ ap (λ m. length bits + m) (length-replicate {A = ℕ} a 0) in
+    simp (length-append, length-replicate) in
     ap (first_chunks size n) more
     ∙ first_chunks-append size n (bits ++ replicate a 0) (replicate (b - a) 0) (omega arith)
 
@@ -64,8 +63,7 @@ text_by-word base order width bytes count symbols input some same few at narrow 
     let word = number_of order (zeros_to (width * count) bits) in
     let show = map (λ run. symbol base (number_of order run)) in
     let runs_len : length (bits ++ replicate extra 0) ≡ length bits + extra =
-    length-append bits (replicate extra 0)
-    ∙ ap (λ m. length bits + m) (length-replicate {A = ℕ} extra 0) in
+    simp (length-append, length-replicate) in
     let count_of : run_count width (length (bits ++ replicate extra 0)) ≡ n =
     ap (run_count width) runs_len ∙ run_count-missing width (length bits) some ∙ sym many in
     ap (λ m. map (λ k. slice_index symbols (low_byte order width count
@@ -82,14 +80,6 @@ text_by-word base order width bytes count symbols input some same few at narrow 
     (omega arith))
     ∙ ap (λ m. show (first_chunks width m (bits ++ replicate extra 0))) (sym count_of)
 
--- the bytes of a whole group and its symbols have as many bits
-group_same_bits : (width bytes count : ℕ) → IsGroup width bytes count
-    → width * count ≡ 8 * bytes
-group_same_bits width bytes count group =
-    ap (λ n. width * n) group.has_symbols
-    ∙ group_bits width (group.is_width)
-    ∙ ap (λ n. 8 * n) (sym group.has_bytes)
-
 -- the same of a base
 pub plain_text-word : (base : Base) (order : BitOrder) (width bytes count : ℕ)
     (symbols input : List ℕ) → IsGroup width bytes count → length input ≤ bytes
@@ -98,10 +88,9 @@ pub plain_text-word : (base : Base) (order : BitOrder) (width bytes count : ℕ)
     (range_with_len 0 ((8 * length input + (width - 1)) / width))
     ≡ plain_text base input
 plain_text-word base order width bytes count symbols input group few writes =
-    let same = group_same_bits width bytes count group in
+    let same = (IsWhole-group width bytes count group).same_bits in
     text_by-word base order width bytes count symbols input group.is_width.some same few
-    (subst (λ m. (byte : ℕ) → byte < 256 → symbol base (byte % 2 ^ m) ≡ slice_index symbols byte)
-    writes.width_is writes.holds.at_byte) (omega (arith, group.is_width.few))
+    (rw writes.width_is at writes.holds.at_byte) (omega (arith, group.is_width.few))
     ∙ sym (λ i. text_by base (writes.width_is i) (writes.order_is i)
     (bits_of_bytes (writes.order_is i) input))
 
@@ -165,7 +154,7 @@ pub symbol_bytes-word : (base : Base) (order : BitOrder) (width bytes count n : 
     (range_with_len 0 n)
     ≡ symbol_bytes base (map (meaning base) input)
 symbol_bytes-word base order width bytes count n values input group few is fits low reads =
-    let same = group_same_bits width bytes count group in
+    let same = (IsWhole-group width bytes count group).same_bits in
     let len : length (map (slice_index values) input) ≡ length input =
     length-map input (slice_index values) in
     let found = values_in-table base values input reads.holds fits low in
@@ -180,5 +169,4 @@ pub entries_below : (base : Base) (width : ℕ) (values input : List ℕ)
     → base.width ≡ width → HoldsValues base values
     → (k : ℕ) → k < length input → slice_index values (slice_index input k) < 2 ^ width
 entries_below base width values input fits low w holds k below =
-    subst (λ m. slice_index values (slice_index input k) < 2 ^ m) w
-    (holds.below (slice_index input k) (fits k) (low k below))
+    rw w at (holds.below (slice_index input k) (fits k) (low k below))

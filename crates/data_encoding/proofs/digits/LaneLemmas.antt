@@ -1,8 +1,8 @@
 -- Lanes: digits that make a wider lane, and what is computed lane by lane.
-use Rattle.std.proofs.Common.{◌≡◌, ℕ, ◌+◌, ◌*◌, ◌/◌, ◌%◌, ◌^◌, ◌<◌, ◌≤◌, Bool, cond, List, [], ◌∷◌, ◌++◌, length, map, replicate, bit_and, bit_or, refl, sym, ap, ◌∙◌, arith}
-use Rattle.std.proofs.Math.Nat.{pow-zero, pow-succ', mul_comm, mul-add, mul_assoc, mod-lt}
+use Rattle.std.proofs.Common.{◌≡◌, ℕ, zero, suc, ◌+◌, ◌*◌, ◌/◌, ◌%◌, ◌^◌, ◌<◌, ◌≤◌, Bool, cond, List, [], ◌∷◌, ◌++◌, length, map, replicate, bit_and, bit_or, refl, sym, ap, ◌∙◌, arith}
+use Rattle.std.proofs.Math.Nat.{pow-zero, pow-succ', mod-lt}
 use Rattle.std.proofs.lemmas.Nat.{div-mul-add, mod-mul-add, pow_pos}
-use Rattle.std.proofs.lemmas.Simd.{zip2_splat, zip2_of_maps, splat_is_map}
+use Rattle.std.proofs.lemmas.Simd.{map-map, zip2_splat, zip2_of_maps, splat_is_map}
 use Rattle.std.specs.Prelude.{flat_map}
 use Rattle.std.specs.List.{AllByRecursion, range_with_len}
 use Rattle.std.specs.Simd.Lanes.{number_l, digits_l, sel_l, zip2}
@@ -16,18 +16,19 @@ use Rattle.data_encoding.proofs.lists.EachLemmas.{all_joined}
 number-joined : (p : ℕ) (xs ys : List ℕ)
     → number_l p (xs ++ ys) ≡ number_l p xs + p ^ length xs * number_l p ys
 number-joined p [] ys =
-    let high = number_l p ys in
-    let one : p ^ 0 * high ≡ 1 * high = ap (λ n. n * high) (pow-zero p) in
-    omega (arith, one)
+    omega (arith, ap (λ n. n * number_l p ys) (pow-zero p))
 number-joined p (x ∷ xs) ys =
-    let low = number_l p xs in
-    let high = number_l p ys in
-    let times = p ^ length xs in
-    ap (λ n. x + p * n) (number-joined p xs ys)
-    ∙ ap (λ n. x + n) (mul-add p low (times * high)
-    ∙ ap (λ n. p * low + n) (sym (mul_assoc p times high)
-    ∙ ap (λ n. n * high) (sym (pow-succ' p (length xs)))))
-    ∙ omega arith
+    omega (
+      arith,
+      ap (λ n. p * n) (number-joined p xs ys),
+      ap (λ n. n * number_l p ys) (pow-succ' p (length xs)),
+    )
+
+-- zeros above change nothing
+pub number-padded : (p : ℕ) (xs : List ℕ) (n : ℕ) → number_l p (xs ++ replicate n 0) ≡ number_l p xs
+number-padded p [] zero = refl
+number-padded p [] (suc n) = ap (λ m. 0 + p * m) (number-padded p [] n) ∙ omega arith
+number-padded p (x ∷ xs) n = ap (λ m. x + p * m) (number-padded p xs n)
 
 -- a wide digit made of k others each is their number
 pub number-of-wide : (p k q : ℕ) → q ≡ p ^ k → (f : ℕ → List ℕ) (ws : List ℕ)
@@ -43,8 +44,7 @@ pub digits-of-number : (p : ℕ) (xs : List ℕ) → AllByRecursion (λ x. x < p
     → digits_l p (length xs) (number_l p xs) ≡ xs
 digits-of-number p [] h = refl
 digits-of-number p (x ∷ xs) h =
-    let turned : x + p * number_l p xs ≡ number_l p xs * p + x =
-    ap (λ n. x + n) (mul_comm p (number_l p xs)) ∙ omega arith in
+    let turned : x + p * number_l p xs ≡ number_l p xs * p + x = omega arith in
     let low : (x + p * number_l p xs) % p ≡ x =
     ap (λ n. n % p) turned ∙ mod-mul-add (number_l p xs) p x h.0 in
     let high : (x + p * number_l p xs) / p ≡ number_l p xs =
@@ -89,6 +89,11 @@ pub map-same : {V X : Type 0} (P : V → Type 0) (f g : V → X) → ((v : V) �
     → (vs : List V) → AllByRecursion P vs → map f vs ≡ map g vs
 map-same P f g same [] h = refl
 map-same P f g same (v ∷ vs) h = λ i. same v h.0 i ∷ map-same P f g same vs h.1 i
+
+-- lanes that are mapped once more
+pub mapped-on : (f g : ℕ → ℕ) (words : List ℕ) {xs ys : List ℕ} → xs ≡ map f words → ys ≡ map g xs
+    → ys ≡ map (λ word. g (f word)) words
+mapped-on f g words is more = more ∙ ap (map g) is ∙ map-map g f words
 
 -- what holds of any four lanes
 by_four : (P : List ℕ → Type 0) → ((a b c d : ℕ) → P (a ∷ b ∷ c ∷ d ∷ []))

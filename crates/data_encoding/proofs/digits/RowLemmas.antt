@@ -1,14 +1,14 @@
 -- Entries of a table by the lowest bits of each lane, from rows of sixteen.
-use Rattle.std.proofs.Common.{◌≡◌, ℕ, ◌+◌, ◌-◌, ◌*◌, ◌/◌, ◌%◌, ◌<◌, ◌≤◌, Bool, true, false, not, cond, eqb, List, ◌++◌, length, map, take, drop, get_or, slice_index, replicate, bit_and, w8, refl, sym, ap, ◌∙◌, arith, eqb-true, length-take-le}
+use Rattle.std.proofs.Common.{◌≡◌, ℕ, ◌+◌, ◌-◌, ◌%◌, ◌<◌, ◌≤◌, Bool, true, false, not, cond, eqb, List, ◌++◌, length, map, take, drop, get_or, slice_index, replicate, bit_and, w8, refl, ap, ◌∙◌, arith, eqb-true, length-take-le}
 use Rattle.std.proofs.lemmas.Bool.{eqb-false}
-use Rattle.std.proofs.lemmas.Nat.{and_mask, and_le_r}
 use Rattle.std.proofs.lemmas.Nat.Bits.{and_high}
-use Rattle.std.proofs.lemmas.List.{length-map, get_or-map, get_or-take, get_or-drop, ext_get_or}
+use Rattle.std.proofs.lemmas.List.{length-map, get_or-take, get_or-drop}
 use Rattle.std.proofs.lemmas.List.FromFn.{get_or-map-range_with_len}
-use Rattle.std.proofs.lemmas.Simd.{swz_l, SwzOk, SwzOk-from_below, length-swz_l, get_or-swz_l_below, zip2_splat, tops_compared, Each1-all, Each1-zip2, Each2-splat, map-map, pick_l_left}
+use Rattle.std.proofs.lemmas.Simd.{swz_l, zip2_splat, tops_compared, map-map, pick_l_left}
 use Rattle.std.proofs.Math.Nat.{mod-eq_of_lt}
 use Rattle.std.specs.List.{AllByRecursion, range_with_len}
 use Rattle.std.specs.Simd.Lanes.{zip2, sel_l, top, pick_l, chunk}
+use Rattle.data_encoding.proofs.digits.GatherRowLemmas.{in_lanes, places}
 use Rattle.data_encoding.proofs.digits.LaneLemmas.{selected, map-same}
 use Rattle.data_encoding.proofs.digits.WordLemmas.{map-range-same, map-twice}
 
@@ -26,50 +26,14 @@ rows-are entries long =
     ∙ map-range-same (λ lane. get_or row (lane % 16) 0) (λ lane. slice_index entries (lane % 16)) 64
     (λ lane _. get_or-take 16 entries (lane % 16) 0 (omega arith))
 
--- the places of values in their rows, each below 16
-abbrev pub places : List ℕ → List ℕ
-places values = zip2 bit_and values (replicate 64 15)
-
-places-are : (values : List ℕ) → length values ≡ 64
-    → places values ≡ map (λ value. bit_and value 15) values
-places-are values long = zip2_splat bit_and values 64 15 long
-
-length-places : (values : List ℕ) → length values ≡ 64 → length (places values) ≡ 64
-length-places values long =
-    ap length (places-are values long) ∙ length-map values (λ value. bit_and value 15) ∙ long
-
-pub places-ok : (values : List ℕ) → length values ≡ 64 → SwzOk w8 16 64 0 (places values)
-places-ok values long =
-    let below = Each1-all (λ a. bit_and a 15 < 16) (λ a. omega (arith, and_le_r a 15)) values in
-    SwzOk-from_below w8 16 4 64 0 (places values) refl (omega (arith, length-places values long))
-    (Each1-zip2 bit_and (λ j. j < 16) values (replicate 64 15)
-    (Each2-splat (λ a b. bit_and a b < 16) values 64 15 below))
-
 -- what stands in the rows at the places of values
 pub in_rows : (entry : ℕ → ℕ) (rows values : List ℕ) → length values ≡ 64
     → rows ≡ map (λ lane. entry (lane % 16)) (range_with_len 0 64)
-    → swz_l w8 16 rows 0 (places values) ≡ map (λ value. entry (value % 16)) values
+    → swz_l w8 16 rows 0 (places 64 values) ≡ map (λ value. entry (value % 16)) values
 in_rows entry rows values long is =
-    let js = places values in
-    let count = length-places values long in
-    let len : length (swz_l w8 16 rows 0 js) ≡ 64 = length-swz_l w8 16 rows 0 js ∙ count in
-    let shown = λ (value : ℕ). entry (value % 16) in
-    ext_get_or 0 (swz_l w8 16 rows 0 js) (map shown values)
-    (len ∙ sym (length-map values shown ∙ long))
-    (λ i h.
-    let lane : i < 64 = omega (arith, h, len) in
-    let within : i < length values = omega (arith, lane, long) in
-    let here : get_or js i 0 ≡ get_or values i 0 % 16 =
-    ap (λ l. get_or l i 0) (places-are values long)
-    ∙ get_or-map (λ value. bit_and value 15) values i 0 0 within ∙ and_mask (get_or values i 0) 4 in
-    let place = 16 * ((0 + i) / 16) + get_or js i 0 in
-    let inside : place < 64 = omega (arith, here, lane) in
-    let low : place % 16 ≡ get_or values i 0 % 16 = omega (arith, here) in
-    get_or-swz_l_below w8 16 rows 0 js i (omega (arith, lane, count)) (omega (arith, here))
-    ∙ ap (λ l. get_or l place 0) is
-    ∙ get_or-map-range_with_len (λ k. entry (k % 16)) 0 64 place place 0 inside (omega arith)
-    ∙ ap entry low
-    ∙ sym (get_or-map shown values i 0 0 within))
+    in_lanes 4 entry rows values long
+    (λ place h. ap (λ l. get_or l place 0) is
+    ∙ get_or-map-range_with_len (λ k. entry (k % 16)) 0 64 place place 0 h (omega arith))
 
 -- the test of a bit of each lane
 abbrev pub differs : ℕ → ℕ → ℕ
@@ -140,9 +104,7 @@ module _ (entries values highs lows : List ℕ) (long : length values ≡ 64) wh
       (λ value e. entry-later entries 16 (value % 16) (value % 32)
       (omega (arith, bit value, eqb-false (bit_and value 16) 0 e)) (omega (arith, room)))
       (λ value e.
-      let same : value % 16 ≡ value % 32 =
-      omega (arith, bit value, eqb-true (bit_and value 16) 0 e) in
-      ap (λ k. get_or entries k 0) same)
+      ap (λ k. get_or entries k 0) (omega (arith, bit value, eqb-true (bit_and value 16) 0 e)))
       values highs lows long
 
   pub in_sixty_four : 64 ≤ length entries
@@ -159,9 +121,7 @@ module _ (entries values highs lows : List ℕ) (long : length values ≡ 64) wh
       (λ value e. entry-later entries 32 (value % 32) (value % 64)
       (omega (arith, bit value, eqb-false (bit_and value 32) 0 e)) (omega (arith, room)))
       (λ value e.
-      let same : value % 32 ≡ value % 64 =
-      omega (arith, bit value, eqb-true (bit_and value 32) 0 e) in
-      ap (λ k. get_or entries k 0) same)
+      ap (λ k. get_or entries k 0) (omega (arith, bit value, eqb-true (bit_and value 32) 0 e)))
       values highs lows long
 
 -- values below a bound are their own lowest bits

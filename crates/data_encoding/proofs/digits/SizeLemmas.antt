@@ -1,5 +1,5 @@
 -- The sizes of a group.
-use Rattle.std.proofs.Common.{◌≡◌, ◌⊎◌, inl, inr, ℕ, ◌+◌, ◌-◌, ◌*◌, ◌/◌, ◌≤◌, ap, ◌∙◌, refl, subst, sym, arith}
+use Rattle.std.proofs.Common.{◌≡◌, ◌⊎◌, inl, inr, ℕ, ◌+◌, ◌-◌, ◌*◌, ◌/◌, ◌≤◌, refl, arith}
 use Rattle.data_encoding.specs.Base.{IsWidth, group_bytes, group_symbols}
 use Rattle.data_encoding.specs.Tables.{IsGroup}
 use Rattle.data_encoding.proofs.digits.WidthLemmas.{by_width}
@@ -15,32 +15,19 @@ IsSmall width bytes symbols = record {
 IsSmall-width : (width : ℕ) → IsWidth width
     → IsSmall width (group_bytes width) (group_symbols width)
 IsSmall-width =
-    let small : (w : ℕ) → group_bytes w ≤ 5 → group_symbols w ≤ 8 → w * group_symbols w ≤ 40
-    → IsSmall w (group_bytes w) (group_symbols w) =
-    λ w b s n. record { few_bytes = b; few_symbols = s; few_bits = n } in
-    by_width (λ w. IsSmall w (group_bytes w) (group_symbols w))
-    (small 1 (omega arith) (omega arith) (omega arith))
-    (small 2 (omega arith) (omega arith) (omega arith))
-    (small 3 (omega arith) (omega arith) (omega arith))
-    (small 4 (omega arith) (omega arith) (omega arith))
-    (small 5 (omega arith) (omega arith) (omega arith))
-    (small 6 (omega arith) (omega arith) (omega arith))
+    by_width (λ w. IsSmall w (group_bytes w) (group_symbols w)) (omega arith) (omega arith)
+    (omega arith) (omega arith) (omega arith) (omega arith)
 
 pub IsSmall-group : {width bytes symbols : ℕ} → IsGroup width bytes symbols
     → IsSmall width bytes symbols
-IsSmall-group {width} {bytes} {symbols} group =
-    let small = IsSmall-width width group.is_width in
-    record {
-      few_bytes = subst (λ n. n ≤ 5) (sym group.has_bytes) small.few_bytes;
-      few_symbols = subst (λ n. n ≤ 8) (sym group.has_symbols) small.few_symbols;
-      few_bits = subst (λ n. width * n ≤ 40) (sym group.has_symbols) small.few_bits;
-    }
+IsSmall-group {width} group =
+    rw (group.has_bytes, group.has_symbols) (IsSmall-width width group.is_width)
 
 -- a group has eight, four or two symbols
 pub symbols-are : {width bytes symbols : ℕ} → IsGroup width bytes symbols
     → (symbols ≡ 8) ⊎ (symbols ≡ 4) ⊎ (symbols ≡ 2)
 symbols-are {width} group =
-    subst (λ n. (n ≡ 8) ⊎ (n ≡ 4) ⊎ (n ≡ 2)) (sym group.has_symbols)
+    rw group.has_symbols
     (by_width (λ w. (group_symbols w ≡ 8) ⊎ (group_symbols w ≡ 4) ⊎ (group_symbols w ≡ 2))
     (inl refl) (inr (inl refl)) (inl refl) (inr (inr refl)) (inl refl) (inr (inl refl)) width
     group.is_width)
@@ -49,7 +36,7 @@ symbols-are {width} group =
 pub bytes-are : {width bytes symbols : ℕ} → IsGroup width bytes symbols
     → (bytes ≡ 1) ⊎ (bytes ≡ 3) ⊎ (bytes ≡ 5)
 bytes-are {width} group =
-    subst (λ n. (n ≡ 1) ⊎ (n ≡ 3) ⊎ (n ≡ 5)) (sym group.has_bytes)
+    rw group.has_bytes
     (by_width (λ w. (group_bytes w ≡ 1) ⊎ (group_bytes w ≡ 3) ⊎ (group_bytes w ≡ 5))
     (inl refl) (inl refl) (inr (inl refl)) (inl refl) (inr (inr refl)) (inr (inl refl)) width
     group.is_width)
@@ -59,22 +46,16 @@ pub symbols-within : {width bytes symbols : ℕ} → IsGroup width bytes symbols
     → (n : ℕ) → n ≤ bytes → (8 * n + (width - 1)) / width ≤ symbols
 symbols-within {width} group n few =
     let within = by_width (λ w. n ≤ group_bytes w → (8 * n + (w - 1)) / w ≤ group_symbols w)
-    (λ h. omega (arith, h)) (λ h. omega (arith, h)) (λ h. omega (arith, h))
-    (λ h. omega (arith, h)) (λ h. omega (arith, h)) (λ h. omega (arith, h)) width group.is_width in
-    subst (λ s. (8 * n + (width - 1)) / width ≤ s) (sym group.has_symbols)
-    (within (subst (λ b. n ≤ b) group.has_bytes few))
+    (omega arith) (omega arith) (omega arith) (omega arith) (omega arith) (omega arith) width
+    group.is_width in
+    rw group.has_symbols (within (rw group.has_bytes at few))
 
 -- what is equal to the sizes of a group are such sizes
 pub IsGroup-same : {w b s width bytes symbols : ℕ} → width ≡ w → bytes ≡ b → symbols ≡ s
     → IsGroup w b s → IsGroup width bytes symbols
-IsGroup-same p q r group = record {
-  is_width = subst IsWidth (sym p) group.is_width;
-  has_bytes = q ∙ group.has_bytes ∙ ap group_bytes (sym p);
-  has_symbols = r ∙ group.has_symbols ∙ ap group_symbols (sym p);
-}
+IsGroup-same p q r group = rw (p, q, r) group
 
 -- and the room for so many groups is the same
 pub room-same : {b s bytes symbols : ℕ} (n m : ℕ) → bytes ≡ b → symbols ≡ s
     → n / s * b ≤ m → n / symbols * bytes ≤ m
-room-same {b} {s} {bytes} {symbols} n m q r room =
-    subst (λ k. n / symbols * k ≤ m) (sym q) (subst (λ k. n / k * b ≤ m) (sym r) room)
+room-same n m q r room = rw (q, r) room

@@ -1,5 +1,5 @@
 -- Whole runs of bits, as numbers.
-use Rattle.std.proofs.Common.{◌≡◌, ℕ, zero, suc, ◌+◌, ◌-◌, ◌*◌, ◌^◌, ◌<◌, ◌≤◌, List, [], ◌∷◌, ◌++◌, length, map, take, drop, refl, sym, ap, ◌∙◌, subst, arith, take-append-drop, length-take-le}
+use Rattle.std.proofs.Common.{◌≡◌, ℕ, zero, suc, ◌-◌, ◌*◌, ◌^◌, ◌<◌, ◌≤◌, List, [], ◌∷◌, ◌++◌, length, map, take, drop, refl, sym, ap, ◌∙◌, subst, arith, take-append-drop, length-take-le}
 use Rattle.std.proofs.lemmas.List.{length-drop, nil_from_length}
 use Rattle.std.specs.Prelude.{flat_map}
 use Rattle.std.specs.List.{AllByRecursion}
@@ -18,24 +18,20 @@ pub AreValuesOf-runs : (count : ℕ) (order : BitOrder) (width : ℕ) (bits : Li
     → AreValuesOf order width bits (map (number_of order) (runs width bits))
 AreValuesOf-runs zero order width bits some h e =
     let none : bits ≡ [] = nil_from_length bits (omega (arith, e)) in
-    subst (λ bs. AreValuesOf order width bs (map (number_of order) (runs width bs))) (sym none)
-    (subst (λ rs. AreValuesOf order width [] (map (number_of order) rs))
-    (sym (runs-nil {X = ℕ} width some)) (record { same_bits = refl; below = tt }))
+    rw (none, runs-nil {X = ℕ} width some) (record { same_bits = refl; below = tt })
 AreValuesOf-runs (suc count) order width bits some h e =
-    let more : width * suc count ≡ width + width * count = omega arith in
-    let long : width ≤ length bits = omega (arith, e, more) in
+    let long : width ≤ length bits = omega (arith, e) in
     let front = take width bits in
     let rest = drop width bits in
     let front_len : length front ≡ width = length-take-le width bits long in
     let rest_len : length rest ≡ length bits - width = length-drop width bits in
     let front_bits : AreBits front = AreBits-take width bits h in
     let others = AreValuesOf-runs count order width rest some (AreBits-drop width bits h)
-    (omega (arith, rest_len, e, more)) in
+    (omega (arith, rest_len, e)) in
     let first : bits_of order width (number_of order front) ≡ front =
-    subst (λ m. bits_of order m (number_of order front) ≡ front) front_len
-    (bits_of-number_of order front front_bits) in
+    rw front_len at (bits_of-number_of order front front_bits) in
     let first_below : number_of order front < 2 ^ width =
-    subst (λ m. number_of order front < 2 ^ m) front_len (number_of-below order front front_bits) in
+    rw front_len at (number_of-below order front front_bits) in
     let is : number_of order front ∷ map (number_of order) (runs width rest)
     ≡ map (number_of order) (runs width bits) =
     ap (map (number_of order)) (sym (runs-first width bits some (omega (arith, long, some)))) in

@@ -4,18 +4,17 @@ use Rattle.std.proofs.lemmas.List.{length-reverse, reverse-reverse, reverse-appe
 use Rattle.std.proofs.lemmas.List.Concat.{flat_map-append}
 use Rattle.std.proofs.lemmas.Nat.{div-mul-add, mod-mul-add, pow-add, shl_whole, mul-le}
 use Rattle.std.proofs.Math.Pow.{pow_mono}
-use Rattle.std.proofs.Math.Nat.{pow-succ', mul_comm, mul_assoc, add_comm, mul-add, mul-zero, zero-add}
+use Rattle.std.proofs.Math.Nat.{pow-succ', mul_comm, mul-add, mul-zero, zero-add}
 use Rattle.std.specs.Prelude.{flat_map}
-use Rattle.std.specs.List.{range_with_len}
+use Rattle.std.specs.List.{AllByRecursion, range_with_len}
+use Rattle.std.specs.Simd.Lanes.{number_l}
 use Rattle.std.specs.Simd.{first_chunks}
 use Rattle.data_encoding.specs.declared.encoding.BitOrder.{BitOrder}
 use Rattle.data_encoding.specs.declared.encoding.BitOrder.TheVariants.{MostSignificantFirst, LeastSignificantFirst}
 use Rattle.data_encoding.specs.Bits.{low_bits, number_of_low_bits, bits_of, number_of}
 use Rattle.data_encoding.specs.Words.{weight, digit, zeros_to, word_of}
+use Rattle.data_encoding.proofs.lists.EachLemmas.{all_replicate, all_reversed}
 use Rattle.data_encoding.proofs.digits.BitLemmas.{AreBits, AreBits-append, AreBits-left, AreBits-right, AreBits-reverse, length-bits_of, length-pieces, number-low_bits, number-below, length-low_bits}
-
-regroup : (b x m y : ℕ) → b + 2 * (x + m * y) ≡ b + 2 * x + 2 * m * y
-regroup b x m y = omega (arith, mul_assoc 2 m y)
 
 -- lower bits, and then higher ones
 pub number-append : (low high : List ℕ)
@@ -23,10 +22,11 @@ pub number-append : (low high : List ℕ)
     ≡ number_of_low_bits low + 2 ^ length low * number_of_low_bits high
 number-append [] high = omega arith
 number-append (bit ∷ low) high =
-    ap (λ n. bit + 2 * n) (number-append low high)
-    ∙ regroup bit (number_of_low_bits low) (2 ^ length low) (number_of_low_bits high)
-    ∙ ap (λ m. bit + 2 * number_of_low_bits low + m * number_of_low_bits high)
-    (sym (pow-succ' 2 (length low)))
+    omega (
+      arith,
+      number-append low high,
+      ap (λ m. m * number_of_low_bits high) (pow-succ' 2 (length low)),
+    )
 
 pub number-zeros : (n : ℕ) → number_of_low_bits (replicate n 0) ≡ 0
 number-zeros zero = refl
@@ -51,9 +51,7 @@ number-middle low middle high h k =
     let n = number_of_low_bits high in
     let all : number_of_low_bits (low ++ (middle ++ high)) ≡ (n * M + m) * L + l =
     number-append low (middle ++ high)
-    ∙ ap (λ x. l + L * x) (number-append middle high)
-    ∙ ap (λ x. l + x) (mul_comm L (m + M * n)) ∙ ap (λ x. l + (m + x) * L) (mul_comm M n)
-    ∙ ap (λ x. l + x * L) (add_comm m (n * M)) ∙ add_comm l ((n * M + m) * L) in
+    ∙ ap (λ x. l + L * x) (number-append middle high) ∙ omega arith in
     ap (λ x. x / L % M) all
     ∙ ap (λ x. x % M) (div-mul-add (n * M + m) L l (number-below low h))
     ∙ mod-mul-add n M m (number-below middle k)
@@ -92,6 +90,51 @@ flat-more : (f : ℕ → List ℕ) (digits : List ℕ) (d : ℕ)
 flat-more f digits d =
     flat_map-append f digits (d ∷ []) ∙ ap (λ l. flat_map f digits ++ l) (append-nil (f d))
 
+-- a word that is whole is the number of its digits
+number-pieces : (size : ℕ) (digits : List ℕ) → AllByRecursion (λ d. d < 2 ^ size) digits
+    → number_of_low_bits (flat_map (low_bits size) digits) ≡ number_l (2 ^ size) digits
+number-pieces size [] h = refl
+number-pieces size (d ∷ digits) h =
+    number-append (low_bits size d) (flat_map (low_bits size) digits)
+    ∙ (λ i. number-low_bits size d h.0 i
+    + 2 ^ length-low_bits size d i * number-pieces size digits h.1 i)
+
+reverse-pieces : (size : ℕ) (digits : List ℕ)
+    → reverse (flat_map (bits_of MostSignificantFirst size) digits)
+    ≡ flat_map (low_bits size) (reverse digits)
+reverse-pieces size [] = refl
+reverse-pieces size (d ∷ digits) =
+    reverse-append (reverse (low_bits size d))
+    (flat_map (bits_of MostSignificantFirst size) digits)
+    ∙ (λ i. reverse-pieces size digits i ++ reverse-reverse (low_bits size d) i)
+    ∙ sym (ap (flat_map (low_bits size)) (reverse-append (d ∷ []) digits)
+    ∙ flat-more (low_bits size) (reverse digits) d)
+
+abbrev pub lowest_first : BitOrder → List ℕ → List ℕ
+lowest_first LeastSignificantFirst digits = digits
+lowest_first MostSignificantFirst digits = reverse digits
+
+pub word-number : (order : BitOrder) (size : ℕ) (digits : List ℕ)
+    → AllByRecursion (λ d. d < 2 ^ size) digits
+    → word_of order size (length digits) digits ≡ number_l (2 ^ size) (lowest_first order digits)
+word-number LeastSignificantFirst size digits h =
+    word-least size (length digits) digits ∙ number-pieces size digits h
+word-number MostSignificantFirst size digits h =
+    let none : size * length digits - size * length digits ≡ 0 = omega arith in
+    word-most size (length digits) digits
+    ∙ (λ i. 2 ^ none i * number_of_low_bits (reverse-pieces size digits i))
+    ∙ ap (λ n. 2 ^ 0 * n) (number-pieces size (reverse digits)
+    (all_reversed (λ d. d < 2 ^ size) digits h))
+    ∙ omega arith
+
+-- a value is its own word
+pub word-one : (order : BitOrder) (size value : ℕ) → value < 2 ^ size
+    → word_of order size 1 (value ∷ []) ≡ value
+word-one LeastSignificantFirst size value h =
+    word-number LeastSignificantFirst size (value ∷ []) (h, tt) ∙ omega arith
+word-one MostSignificantFirst size value h =
+    word-number MostSignificantFirst size (value ∷ []) (h, tt) ∙ omega arith
+
 pub word_of-nil : (order : BitOrder) (size count : ℕ) → word_of order size count [] ≡ 0
 word_of-nil LeastSignificantFirst size count = word-least size count []
 word_of-nil MostSignificantFirst size count =
@@ -112,13 +155,10 @@ more_least size count digits d h =
     ∙ ap (λ n. n + d * 2 ^ (size * length digits)) (sym (word-least size count digits))
 
 above : (size i r : ℕ) → size * (i + 1 + r) - size * (i + 1) ≡ size * r
-above size i r = omega (arith, mul-add size (i + 1) r)
+above size i r = omega arith
 
 above_all : (size i r : ℕ) → size * (i + 1 + r) - size * i ≡ size * r + size
-above_all size i r = omega (arith, mul-add size (i + 1) r, mul-add size i 1)
-
-regroup_most : (w s d n : ℕ) → w * (d + s * n) ≡ w * s * n + d * w
-regroup_most w s d n = mul-add w d (s * n) ∙ omega (arith, mul_comm w d, mul_assoc w s n)
+above_all size i r = omega arith
 
 more_most : (size i r : ℕ) (digits : List ℕ) (d : ℕ) → length digits ≡ i → d < 2 ^ size
     → word_of MostSignificantFirst size (i + 1 + r) (digits ++ d ∷ [])
@@ -135,16 +175,14 @@ more_most size i r digits d is h =
     ∙ (λ j. number-low_bits size d h j + 2 ^ length-low_bits size d j * n) in
     let len : length (digits ++ d ∷ []) ≡ i + 1 =
     length-append digits (d ∷ []) ∙ ap (λ k. k + 1) is in
-    word-most size count (digits ++ d ∷ [])
+    let after = word-most size count (digits ++ d ∷ [])
     ∙ ap (λ l. 2 ^ (size * count - size * length (digits ++ d ∷ [])) * number_of_low_bits
     (reverse l)) (flat-more (bits_of MostSignificantFirst size) digits d)
     ∙ (λ j. 2 ^ (size * count - size * len j) * turned j)
-    ∙ ap (λ e. 2 ^ e * (d + 2 ^ size * n)) (above size i r)
-    ∙ regroup_most (2 ^ (size * r)) (2 ^ size) d n
-    ∙ ap (λ m. m * n + d * 2 ^ (size * r)) (sym (pow-add 2 (size * r) size)
-    ∙ ap (λ e. 2 ^ e) (sym (above_all size i r)
-    ∙ ap (λ k. size * count - size * k) (sym is)))
-    ∙ ap (λ m. m + d * 2 ^ (size * r)) (sym (word-most size count digits))
+    ∙ ap (λ e. 2 ^ e * (d + 2 ^ size * n)) (above size i r) in
+    let before = word-most size count digits ∙ (λ j. 2 ^ (size * count - size * is j) * n)
+    ∙ ap (λ e. 2 ^ e * n) (above_all size i r) ∙ ap (λ m. m * n) (pow-add 2 (size * r) size) in
+    omega (arith, after, before)
 
 -- a digit more adds that digit times its weight
 pub word_of-more : (order : BitOrder) (size count index : ℕ) (digits : List ℕ) (d : ℕ)
@@ -157,9 +195,7 @@ word_of-more LeastSignificantFirst size count index digits d is h k =
 word_of-more MostSignificantFirst size count index digits d is h k =
     let r = count - 1 - index in
     let whole : index + 1 + r ≡ count = omega arith in
-    subst (λ m. word_of MostSignificantFirst size m (digits ++ d ∷ [])
-    ≡ word_of MostSignificantFirst size m digits + d * 2 ^ (size * r)) whole
-    (more_most size index r digits d is k)
+    rw whole at (more_most size index r digits d is k)
 
 -- the number of the bits below some that stand between a front and a rest
 abbrev bits_below : BitOrder → List ℕ → List ℕ → ℕ
@@ -192,17 +228,6 @@ weight-below : (order : BitOrder) (size count index : ℕ) (front rest : List �
 weight-below LeastSignificantFirst size count index front rest f r = sym f
 weight-below MostSignificantFirst size count index front rest f r = sym r
 
--- a digit is the number of its bits
-digit-parts : (order : BitOrder) (size count index : ℕ) (front run rest : List ℕ)
-    → AreBits (front ++ (run ++ rest)) → length front ≡ size * index → length run ≡ size
-    → length rest ≡ size * (count - 1 - index)
-    → digit order size count (number_of order (front ++ (run ++ rest))) index
-    ≡ number_of order run
-digit-parts order size count index front run rest h f m r =
-    (λ i. number_of order (front ++ (run ++ rest))
-    / 2 ^ weight-below order size count index front rest f r i % 2 ^ sym m i)
-    ∙ number-part order front run rest h
-
 -- the bits of a digit, counted from the first
 digit-number_of : (order : BitOrder) (size count index : ℕ) (bits : List ℕ) → AreBits bits
     → length bits ≡ size * count → index < count
@@ -212,8 +237,7 @@ digit-number_of order size count index bits h e k =
     let r = count - 1 - index in
     let whole : index + 1 + r ≡ count = omega arith in
     let parts : size * count ≡ size * index + size + size * r =
-    ap (λ n. size * n) (sym whole)
-    ∙ omega (arith, mul-add size (index + 1) r, mul-add size index 1) in
+    ap (λ n. size * n) (sym whole) ∙ omega arith in
     let front = take (size * index) bits in
     let others = drop (size * index) bits in
     let run = take size others in
@@ -228,8 +252,9 @@ digit-number_of order size count index bits h e k =
     ap (λ l. front ++ l) (take-append-drop size others)
     ∙ take-append-drop (size * index) bits in
     ap (λ l. digit order size count (number_of order l) index) (sym joined)
-    ∙ digit-parts order size count index front run rest (subst AreBits (sym joined) h)
-    front_len run_len rest_len
+    ∙ (λ i. number_of order (front ++ (run ++ rest))
+    / 2 ^ weight-below order size count index front rest front_len rest_len i % 2 ^ sym run_len i)
+    ∙ number-part order front run rest (subst AreBits (sym joined) h)
 
 -- runs by their places
 runs_from : (size n a : ℕ) (xs : List ℕ)
@@ -266,8 +291,7 @@ map-twice f g [] = refl
 map-twice f g (x ∷ xs) = ap (λ l. f (g x) ∷ l) (map-twice f g xs)
 
 pub AreBits-zeros : (n : ℕ) → AreBits (replicate n 0)
-AreBits-zeros zero = tt
-AreBits-zeros (suc n) = (omega arith, AreBits-zeros n)
+AreBits-zeros n = all_replicate (λ bit. bit < 2) n 0 (omega arith)
 
 -- the first digits of a word of bits are the numbers of its first runs
 pub digits-runs : (order : BitOrder) (size count n : ℕ) (bits : List ℕ) → AreBits bits
@@ -279,9 +303,7 @@ digits-runs order size count n bits h e k =
     let extra = size * count - length bits in
     let all = zeros_to (size * count) bits in
     let are : AreBits all = AreBits-append bits (replicate extra 0) h (AreBits-zeros extra) in
-    let len : length all ≡ size * count =
-    length-append bits (replicate extra 0)
-    ∙ ap (λ m. length bits + m) (length-replicate {A = ℕ} extra 0) ∙ omega arith in
+    let len : length all ≡ size * count = simp (length-append, length-replicate) (omega arith) in
     map-range-same (digit order size count (number_of order all))
     (λ j. number_of order (take size (drop (size * j) all))) n
     (λ j below. digit-number_of order size count j all are len (omega arith))

@@ -1,5 +1,5 @@
 -- What the builder makes of a specification.
-use Rattle.std.proofs.Common.{◌≡◌, ℕ, zero, suc, ◌%◌, ◌/◌, ◌^◌, ◌<◌, ◌==◌, Bool, true, false, ◌||◌, cond, List, [], ◌++◌, length, map, take, replicate, Option, Some, None, is_none, IfSome, Ok, refl, sym, ap, ◌∙◌, arith}
+use Rattle.std.proofs.Common.{◌≡◌, ℕ, zero, suc, ◌%◌, ◌/◌, ◌^◌, ◌<◌, ◌==◌, Bool, true, false, ◌||◌, cond, List, [], length, map, take, replicate, Option, Some, None, is_none, IfSome, Ok, refl, sym, ap, ◌∙◌, arith}
 use Rattle.std.specs.List.{concat, list_any}
 use Rattle.data_encoding.specs.declared.encoding.Character.{Character}
 use Rattle.data_encoding.specs.Base.{IsWidth, is_ignored}
@@ -36,11 +36,7 @@ module _ (width : ℕ) (fields : Fields) where
       ≡ meanings_after (meanings_after (meanings_after (meanings_after
       (meanings_after (Ok no_meanings) a) b) c) d) e
   judged-parts =
-      let r : Judged = Ok no_meanings in
-      meanings_after-append r (a ++ b ++ c ++ d) e
-      ∙ ap (λ s. meanings_after s e) (meanings_after-append r (a ++ b ++ c) d
-      ∙ ap (λ s. meanings_after s d) (meanings_after-append r (a ++ b) c
-      ∙ ap (λ s. meanings_after s c) (meanings_after-append r a b)))
+      simp meanings_after-append
 
   module _ {none : List Character} (is : none ≡ no_meanings) where
     pub after-symbols : (r : Judged) → meanings_after (Ok none) a ≡ r

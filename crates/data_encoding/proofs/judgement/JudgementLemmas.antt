@@ -280,12 +280,10 @@ pub symbols-held : (meanings : List Character) (n : ℕ) (symbols : List ℕ)
 symbols-held meanings n [] held i h = absurd (omega (arith, h))
 symbols-held meanings n (s ∷ symbols) held zero h =
     let is_some : Symbol n ≢ Invalid = λ e. cc in
-    let first : n ≡ n + 0 = omega arith in
-    (held.0.0, held.0.1 is_some ∙ ap (λ v. Symbol v) first)
+    (held.0.0, held.0.1 is_some ∙ ap (λ v. Symbol v) (omega arith))
 symbols-held meanings n (s ∷ symbols) held (suc i) h =
     let rest = symbols-held meanings (n + 1) symbols held.1 i (omega (arith, h)) in
-    let next : n + 1 + i ≡ n + suc i = omega arith in
-    (rest.0, rest.1 ∙ ap (λ v. Symbol v) next)
+    (rest.0, rest.1 ∙ ap (λ v. Symbol v) (omega arith))
 
 pub symbols-bring : (test : Character → Bool) (n : ℕ) (symbols : List ℕ)
     → ((v : ℕ) → v < n + length symbols → test (Symbol v) ≡ true)

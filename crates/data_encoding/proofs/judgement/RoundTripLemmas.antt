@@ -1,12 +1,12 @@
 -- The specification of a base yields it again.
-use Rattle.std.proofs.Common.{◌≡◌, ◌≢◌, ◌⊎◌, ℕ, suc, ◌+◌, ◌%◌, ◌<◌, ◌≤◌, ◌==◌, Bool, true, false, not, ◌&&◌, nat_le, nat_lt, cond, if◌then◌else◌, List, [], ◌∷◌, length, map, get_or, Option, Some, None, unwrap_or, Ok, Err, refl, sym, ap, ◌∙◌, subst, arith, inl, inr, ⊎_elim, get_or-set_same, get_or-set_other}
+use Rattle.std.proofs.Common.{◌≡◌, ◌≢◌, ◌⊎◌, ◌↔◌, ℕ, suc, ◌+◌, ◌%◌, ◌<◌, ◌≤◌, ◌==◌, Bool, true, false, not, nat_le, nat_lt, cond, if◌then◌else◌, List, [], ◌∷◌, length, map, get_or, Option, Some, None, unwrap_or, Ok, Err, refl, sym, ap, ◌∙◌, subst, arith, inl, inr, ⊎_elim, get_or-set_same, get_or-set_other}
 use Rattle.std.proofs.lemmas.Bool.{and_from, false≢true, cases_eq, cases_lt, eq-eqb, ltb-true, lt-ltb, lt-leb}
 use Rattle.std.proofs.lemmas.List.{ext_get_or, get_or-replicate, get_or_past, length-map}
 use Rattle.std.proofs.Math.ListN.{set}
 use Rattle.std.specs.List.{AllByRecursion}
 use Rattle.data_encoding.specs.declared.encoding.Character.{Character}
 use Rattle.data_encoding.specs.declared.encoding.Character.TheVariants.{Symbol, Padding, Ignored, Invalid}
-use Rattle.data_encoding.specs.declared.specification.meanings.Refusal.TheVariants.{NotAscii, Undefined, WrapLength, WrapWidth}
+use Rattle.data_encoding.specs.declared.specification.meanings.Refusal.TheVariants.{NotAscii, Undefined}
 use Rattle.data_encoding.specs.Base.{Base, Wrapping, group_symbols, is_ignored, meaning, symbol}
 use Rattle.data_encoding.specs.Fields.{Judgement, base_of, base_with, defined, ignored_judgements, is_same, judged, judgements, meanings_after, no_meanings, padding_judgements, pair_judgements, symbol_judgements, translated, translation_judgements, width_of, wrapping_judgements, wraps, Require, Define, Translate, IsSpecified}
 use Rattle.data_encoding.specs.Layout.{column_of, fields_of, is_translated, own_character, separator_of, translated_bytes}
@@ -34,12 +34,6 @@ record GoesOn (r : Judged) (target : List Character) : Type 0 where
   after : List Character
   is : r ≡ Ok after
   below : IsBelow after target
-
-by_cases : (past same free : Bool) (before : List Character) (byte : ℕ) (m : Character)
-    → nat_le 128 byte ≡ past → is_same (get_or before byte Invalid) m ≡ same
-    → is_same (get_or before byte Invalid) Invalid ≡ free
-    → defined before byte m ≡ defined_by past same free before byte m
-by_cases past same free before byte m p s f = λ i. defined_by (p i) (s i) (f i) before byte m
 
 set-below : (target before : List Character) (byte : ℕ) (m : Character) → length before ≡ 128
     → byte < 128 → get_or target byte Invalid ≡ m → IsBelow before target
@@ -70,8 +64,9 @@ define-goes target before byte m long low is below =
           → GoesOn (defined before byte m) target
       by_same true s = record {
         after = before;
-        is = by_cases false true (is_same (get_or before byte Invalid) Invalid) before byte m past s
-            refl;
+        is =
+            λ i. defined_by (past i) (s i) (is_same (get_or before byte Invalid) Invalid)
+            before byte m;
         below = below;
       }
       by_same false s = record {
@@ -84,7 +79,7 @@ define-goes target before byte m long low is below =
             ap (λ n. is_same n m) (there ∙ is) ∙ is_same-self m in
             absurd (false≢true (sym s ∙ yes)))
             (below byte) in
-            by_cases false false true before byte m past s (ap (λ n. is_same n Invalid) none);
+            (λ i. defined_by (past i) (s i) (is_same (none i) Invalid) before byte m);
         below = set-below target before byte m long low is below;
       }
 
@@ -160,8 +155,7 @@ symbols-agree target known n (s ∷ symbols) own =
       (first.0, first.1 ∙ ap (λ v. Symbol v) here),
       symbols-agree target known (n + 1) symbols (λ i h.
           let at = own (suc i) (omega (arith, h)) in
-          let next : n + suc i ≡ n + 1 + i = omega arith in
-          (at.0, at.1 ∙ ap (λ v. Symbol v) next)),
+          (at.0, at.1 ∙ ap (λ v. Symbol v) (omega arith))),
     )
 
 ignored-agree : (target known : List Character) (bytes : List ℕ)
@@ -170,17 +164,13 @@ ignored-agree : (target known : List Character) (bytes : List ℕ)
 ignored-agree target known [] all = tt
 ignored-agree target known (byte ∷ bytes) all = (all.0, ignored-agree target known bytes all.1)
 
-pairs-agree : (target known : List Character) (f : ℕ → ℕ) (bytes : List ℕ)
-    → AllByRecursion (λ byte. Agrees target known (Translate byte (f byte))) bytes
-    → AllByRecursion (Agrees target known) (pair_judgements bytes (map f bytes))
-pairs-agree target known f [] all = tt
-pairs-agree target known f (byte ∷ bytes) all = (all.0, pairs-agree target known f bytes all.1)
-
-pairs-held : (meanings : List Character) (f : ℕ → ℕ) (bytes : List ℕ)
-    → AllByRecursion (IsHeld meanings) (pair_judgements bytes (map f bytes))
-    → AllByRecursion (λ byte. IsHeld meanings (Translate byte (f byte))) bytes
-pairs-held meanings f [] all = tt
-pairs-held meanings f (byte ∷ bytes) all = (all.0, pairs-held meanings f bytes all.1)
+-- what holds of all pairs
+pairs-hold : (P : Judgement → Type 0) (f : ℕ → ℕ) (bytes : List ℕ)
+    → AllByRecursion P (pair_judgements bytes (map f bytes))
+    ↔ AllByRecursion (λ byte. P (Translate byte (f byte))) bytes
+pairs-hold P f [] = (λ h. tt, λ h. tt)
+pairs-hold P f (byte ∷ bytes) =
+    let rest = pairs-hold P f bytes in (λ h. (h.0, rest.0 h.1), λ h. (h.0, rest.1 h.1))
 
 module _ (base : Base) (ruled : IsRuled base) where
   pub value-small : (byte value : ℕ) → byte < 128 → meaning base byte ≡ Symbol value
@@ -225,12 +215,7 @@ module _ (base : Base) (ruled : IsRuled base) where
       and_from (not (column == 0)) (not (length separator == 0))
       (apart_test column 0 (λ e. omega (arith, e, rule.some)))
       (apart_test (length separator) 0 (λ e. omega (arith, e, rule.ended))) in
-      subst
-      (λ b. AllByRecursion (Agrees base.meanings no_meanings) (cond b
-      (Require (nat_lt column 256 && nat_lt (length separator) 256) WrapLength
-      ∷ Require (column % group_symbols base.width == 0) (WrapWidth (group_symbols base.width))
-      ∷ ignored_judgements separator) []))
-      (sym on) (
+      rw on (
         and_from (nat_lt column 256) (nat_lt (length separator) 256)
             (lt-ltb column 256 rule.short) (lt-ltb (length separator) 256 rule.ends_short),
         (
@@ -244,8 +229,7 @@ module _ (base : Base) (ruled : IsRuled base) where
       from_parts (Agrees base.meanings no_meanings) base.width (fields_of base) (
         symbols-agree base.meanings no_meanings 0 base.symbols (λ i h.
             let own = ruled.own i h in
-            let first : i ≡ 0 + i = omega arith in
-            (own.0, own.1 ∙ ap (λ v. Symbol v) first)),
+            (own.0, own.1 ∙ ap (λ v. Symbol v) (omega arith))),
         padding-agrees base.padding ruled.padding,
         ignored-agree base.meanings no_meanings (fields_of base).ignored
             (all_in_range (λ byte. (byte < 128) × (get_or base.meanings byte Invalid ≡ Ignored))
@@ -276,16 +260,14 @@ module _ (base : Base) (ruled : IsRuled base) where
       → get_or meanings (get_or base.symbols i 0) Invalid ≡ Symbol i
   symbol-there meanings held i h =
       let all = parts_of (IsHeld meanings) base.width (fields_of base) held in
-      let here : 0 + i ≡ i = omega arith in
-      (symbols-held meanings 0 base.symbols all.0 i h).1 ∙ ap (λ v. Symbol v) here
+      (symbols-held meanings 0 base.symbols all.0 i h).1 ∙ ap (λ v. Symbol v) (omega arith)
 
   padding-there : (meanings : List Character) → AllByRecursion (IsHeld meanings) before_pairs
       → (character : ℕ) → base.padding ≡ Some character
       → get_or meanings character Invalid ≡ Padding
   padding-there meanings held character is =
       let all = parts_of (IsHeld meanings) base.width (fields_of base) held in
-      let one = subst (λ o. AllByRecursion (IsHeld meanings) (padding_judgements base.width o)) is
-      all.1 in
+      let one = rw is at all.1 in
       one.1.1.0.1 (λ e. cc)
 
   ignored-there : (meanings : List Character) → AllByRecursion (IsHeld meanings) before_pairs
@@ -309,9 +291,7 @@ module _ (base : Base) (ruled : IsRuled base) where
       (low, own.0, (λ e. let bad : Symbol value ≡ Invalid = sym there ∙ e in cc), is ∙ sym own.1)
   pair-agrees byte low Padding is t =
       let own = padding-own byte low is in
-      subst
-      (λ o. Agrees base.meanings halfway (Translate byte (unwrap_or o 0)))
-      (sym own.1)
+      subst (λ o. Agrees base.meanings halfway (Translate byte (unwrap_or o 0))) (sym own.1)
       (let there = padding-there halfway halfway-held own.0 own.1 in
       (low, own.2, (λ e. let bad : Padding ≡ Invalid = sym there ∙ e in cc), is ∙ sym own.3))
   pair-agrees byte low _ is t = cc
@@ -328,7 +308,7 @@ module _ (base : Base) (ruled : IsRuled base) where
   pairs-all : AllByRecursion (Agrees base.meanings halfway) pairs
   pairs-all = (
     eq-eqb (length from) (length (map own from)) (sym (length-map from own)),
-    pairs-agree base.meanings halfway own from
+    (pairs-hold (Agrees base.meanings halfway) own from).1
         (all_in_range (λ byte. Agrees base.meanings halfway (Translate byte (own byte)))
         (λ byte. is_translated base byte (own_character base (meaning base byte))) 0 128
         (λ byte from low is. pair-agrees byte (omega arith) (meaning base byte) refl is)),
@@ -365,7 +345,7 @@ module _ (base : Base) (ruled : IsRuled base) where
   translated-there byte low is e =
       let at = at_in_range (λ k. IsHeld last (Translate k (own k)))
       (λ k. is_translated base k (own_character base (meaning base k))) 0 128 byte
-      (pairs-held last own from (last-held).1.1) (omega arith) (omega arith) is in
+      ((pairs-hold (IsHeld last) own from).0 (last-held).1.1) (omega arith) (omega arith) is in
       at.2 (sym at.3 ∙ e)
 
   -- a byte is translated, or is the character itself

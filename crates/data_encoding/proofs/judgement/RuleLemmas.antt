@@ -1,5 +1,5 @@
 -- The rules that a base keeps, and that each yield of a specification keeps them.
-use Rattle.std.proofs.Common.{◌≡◌, ℕ, zero, suc, ◌+◌, ◌%◌, ◌^◌, ◌<◌, ◌==◌, Bool, true, false, not, ◌&&◌, ◌||◌, nat_lt, cond, List, [], ◌∷◌, ◌++◌, length, map, get_or, Option, Some, None, is_none, Result, Ok, Err, refl, sym, ap, ◌∙◌, subst, arith}
+use Rattle.std.proofs.Common.{◌≡◌, ℕ, zero, suc, ◌%◌, ◌^◌, ◌<◌, ◌==◌, Bool, true, false, not, ◌&&◌, ◌||◌, nat_lt, cond, List, [], ◌∷◌, ◌++◌, length, map, get_or, Option, Some, None, is_none, Result, Ok, Err, refl, sym, ap, ◌∙◌, subst, arith}
 use Rattle.std.proofs.lemmas.Bool.{and_parts, ltb-true, eqb-true, lt-ltb}
 use Rattle.std.proofs.lemmas.Bool.Decides.{nat_tests}
 use Rattle.std.proofs.lemmas.List.Quantifiers.{position-Some}
@@ -285,8 +285,7 @@ module _ (width : ℕ) (fields : Fields) (meanings : List Character)
         long = (steps).long;
         own = λ i h.
             let is = symbols-held meanings 0 fields.symbols (held).0 i h in
-            let first : 0 + i ≡ i = omega arith in
-            (is.0, is.1 ∙ ap (λ v. Symbol v) first);
+            (is.0, is.1 ∙ ap (λ v. Symbol v) (omega arith));
         within =
             passes (is_within (length fields.symbols)) refl
             (λ v h. lt-ltb v (length fields.symbols) h) refl

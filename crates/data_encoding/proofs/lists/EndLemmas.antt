@@ -6,18 +6,11 @@ use Rattle.std.proofs.lemmas.Bool.{false≢true}
 use Rattle.std.proofs.lemmas.List.Folds.{length-prefix_len}
 use Rattle.std.proofs.lemmas.List.Sums.{prefix_len-le-length, prefix_len_passes, prefix_len_stops, take_while-cons}
 use Rattle.data_encoding.proofs.lists.ListLemmas.{AllFail}
-use Rattle.data_encoding.proofs.lists.EachLemmas.{all_joined}
+use Rattle.data_encoding.proofs.lists.EachLemmas.{all_reversed}
 
 -- each passes the test
 abbrev pub AllSo : {X : Type 0} → (X → Bool) → List X → Type 0
 AllSo test xs = AllByRecursion (λ x. test x ≡ true) xs
-
-all_reversed : {X : Type 0} (P : X → Type 0) (xs : List X) → AllByRecursion P xs
-    → AllByRecursion P (reverse xs)
-all_reversed P [] h = tt
-all_reversed P (x ∷ xs) h =
-    subst (AllByRecursion P) (sym (reverse-append (x ∷ []) xs))
-    (all_joined P (reverse xs) (x ∷ []) (all_reversed P xs h.1) (h.0, tt))
 
 reverse-map : {X Y : Type 0} (f : X → Y) (xs : List X) → reverse (map f xs) ≡ map f (reverse xs)
 reverse-map f [] = refl

@@ -1,10 +1,10 @@
 -- Where groups stand in what is read and in what is written.
-use Rattle.std.proofs.Common.{◌≡◌, ℕ, ◌+◌, ◌-◌, ◌*◌, ◌/◌, ◌%◌, ◌<◌, ◌≤◌, List, length, take, drop, refl, sym, ap, ◌∙◌, subst, arith, length-take-le}
+use Rattle.std.proofs.Common.{◌≡◌, ℕ, ◌+◌, ◌-◌, ◌*◌, ◌/◌, ◌<◌, ◌≤◌, List, length, take, drop, refl, ap, ◌∙◌, arith, length-take-le}
 use Rattle.std.proofs.lemmas.List.{length-drop}
-use Rattle.std.proofs.Math.Nat.{mul-add, add-mul, mul_left_comm, mul-add-div, mul-add-mod_self_left, mul-le-mul_right, div-eq_of_lt}
+use Rattle.std.proofs.Math.Nat.{mul_left_comm, mul-add-div, mul-le-mul_right, div-eq_of_lt}
 use Rattle.std.proofs.lemmas.Nat.{div-add-mod'}
 use Rattle.data_encoding.specs.Tables.{IsGroup}
-use Rattle.data_encoding.proofs.digits.SizeLemmas.{IsGroup-same}
+use Rattle.data_encoding.proofs.digits.SizeLemmas.{IsGroup-same, room-same}
 use Rattle.data_encoding.proofs.digits.WidthLemmas.{group_bits, group_bytes-pos, group_symbols-pos}
 use Rattle.data_encoding.specs.Base.{IsWidth}
 
@@ -18,15 +18,12 @@ pub record IsWhole (width bytes symbols : ℕ) : Type 0 where
 pub IsWhole-group : (width bytes symbols : ℕ) → IsGroup width bytes symbols
     → IsWhole width bytes symbols
 IsWhole-group width bytes symbols g =
-    let is : IsWidth width = g.is_width in
-    record {
-      is_width = is;
-      same_bits =
-          ap (λ n. width * n) g.has_symbols ∙ group_bits width is
-          ∙ ap (λ n. 8 * n) (sym g.has_bytes);
-      some_bytes = subst (λ n. 0 < n) (sym g.has_bytes) (group_bytes-pos width is);
-      some_symbols = subst (λ n. 0 < n) (sym g.has_symbols) (group_symbols-pos width is);
-    }
+    rw (g.has_bytes, g.has_symbols) (record {
+      is_width = g.is_width;
+      same_bits = group_bits width g.is_width;
+      some_bytes = group_bytes-pos width g.is_width;
+      some_symbols = group_symbols-pos width g.is_width;
+    })
 
 -- as by sizes that equal those of a group
 pub IsWhole-same : {w b s bytes symbols : ℕ} → bytes ≡ b → symbols ≡ s → IsGroup w b s
@@ -42,8 +39,7 @@ module _ (m d from to extra : ℕ) (same : m * from ≡ d * to) (pos : 0 < d) wh
 
   split : (n q r : ℕ) → n ≡ q * from + r → m * n + extra ≡ d * (q * to) + (m * r + extra)
   split n q r e =
-      let parts : m * n ≡ m * (q * from) + m * r = ap (λ k. m * k) e ∙ mul-add m (q * from) r in
-      omega (arith, parts, regroup q)
+      omega (arith, ap (λ k. m * k) e, regroup q)
 
   quotient : (n q r : ℕ) → n ≡ q * from + r
       → (m * n + extra) / d ≡ q * to + (m * r + extra) / d
@@ -60,43 +56,46 @@ module _ (m d from to extra : ℕ) (same : m * from ≡ d * to) (pos : 0 < d) wh
   size-rest n i h =
       let whole = quotient n i (n - i * from) (omega (arith, h)) in omega (arith, whole)
 
-  pub rest-of-bits : (n i : ℕ) → i * from ≤ n
-      → (m * n + extra) % d ≡ (m * (n - i * from) + extra) % d
-  rest-of-bits n i h =
-      ap (λ k. k % d) (split n i (n - i * from) (omega (arith, h)))
-      ∙ mul-add-mod_self_left d (i * to) (m * (n - i * from) + extra)
-
 -- a group before the last whole one ends before it
 pub group-before : (n size i : ℕ) → i < n / size → i * size + size ≤ n
 group-before n size i h =
-    let next : (i + 1) * size ≡ i * size + size = add-mul i 1 size ∙ omega arith in
     let up : (i + 1) * size ≤ n / size * size = mul-le-mul_right size (omega (arith, h)) in
-    omega (arith, up, next, div-add-mod' n size)
+    omega (arith, up, div-add-mod' n size)
 
 pub groups-within : (n size : ℕ) → n / size * size ≤ n
 groups-within n size = omega (arith, div-add-mod' n size)
 
 pub one-more : (i size : ℕ) → (i + 1) * size ≡ i * size + size
-one-more i size = add-mul i 1 size ∙ omega arith
+one-more i size = omega arith
 
 -- the groups of the next turn end before the last of them
 pub turns-before : (n groups size i : ℕ) → i < n / groups
     → i * groups * size + groups * size ≤ n * size
 turns-before n groups size i h =
-    let next : i * groups * size + groups * size ≡ (i * groups + groups) * size =
-    sym (add-mul (i * groups) groups size) in
-    omega (arith, next, mul-le-mul_right size (group-before n groups i h))
+    omega (arith, mul-le-mul_right size (group-before n groups i h))
 
 pub turn-within : (n groups size i : ℕ) → i < n / size / groups
     → i * groups * size + groups * size ≤ n
 turn-within n groups size i h =
     omega (arith, turns-before (n / size) groups size i h, groups-within n size)
 
+-- and has room where all groups have room, as has a group
+pub group-room : {b s bytes symbols : ℕ} (n i m : ℕ) → bytes ≡ b → symbols ≡ s → n / s * b ≤ m
+    → i < n / symbols → i * bytes + bytes ≤ m
+group-room {b} {s} {bytes} {symbols} n i m q r room h =
+    let next : i + 1 ≤ n / symbols = omega (arith, h) in
+    omega (arith, mul-le-mul_right bytes next, room-same n m q r room)
+
+pub turn-room : {b s bytes symbols : ℕ} (n groups i m : ℕ) → bytes ≡ b → symbols ≡ s
+    → n / s * b ≤ m → i < n / symbols / groups → i * groups * bytes + groups * bytes ≤ m
+turn-room {b} {s} {bytes} {symbols} n groups i m q r room h =
+    omega (arith, turns-before (n / symbols) groups bytes i h, room-same n m q r room)
+
 -- one of four parts ends before the end
 pub part-of-four : (n size i : ℕ) → n ≡ 4 * size → i < 4 → i * size + size ≤ n
 part-of-four n size i e h =
     let up : (i + 1) * size ≤ 4 * size = mul-le-mul_right size (omega (arith, h)) in
-    omega (arith, up, one-more i size, e)
+    omega (arith, up, e)
 
 -- a whole group gives a whole group
 pub whole-group : (m d from to extra : ℕ) → m * from ≡ d * to → extra < d

@@ -121,9 +121,7 @@ module _ {made : List ℕ → List ℕ} {size made_len : ℕ} {input output : Li
           take_all (read_end - i * size) rest (omega (arith, length-rest, read_is, short))
           ∙ sym (take_all size rest (omega (arith, short))))
           (λ (long : size ≤ length rest).
-          let whole : read_end - i * size ≡ size =
-          omega (arith, length-rest, read_is, long, before) in
-          ap (λ n. take n rest) whole)
+          ap (λ n. take n rest) (omega (arith, length-rest, read_is, long, before)))
           (cases_lt (length rest) size)
 
       piece-ends : min (length (made input)) (i * made_len + made_len)

@@ -1,6 +1,6 @@
 -- A list again and again.
 use Rattle.std.proofs.Common.{◌≡◌, ℕ, zero, suc, ◌+◌, ◌-◌, ◌*◌, ◌%◌, ◌<◌, ◌≤◌, List, ◌∷◌, length, map, take, get_or, replicate, refl, sym, ap, ◌∙◌, arith, ⊎_elim, length-append, append_assoc, ◌++◌}
-use Rattle.std.proofs.Math.Nat.{mod-eq-sub-mod, mod-eq_of_lt, zero-mul, suc-mul, zero-add, suc-add}
+use Rattle.std.proofs.Math.Nat.{mod-eq-sub-mod, mod-eq_of_lt, zero-mul, zero-add, suc-add}
 use Rattle.std.proofs.lemmas.Bool.{cases_lt}
 use Rattle.std.proofs.lemmas.List.{get_or_append_left, get_or-append_right, take_at}
 use Rattle.std.specs.List.{concat}
@@ -12,22 +12,20 @@ pub length-repeats : (times : ℕ) (xs : List ℕ)
     → length (concat (replicate times xs)) ≡ times * length xs
 length-repeats zero xs = sym (zero-mul (length xs))
 length-repeats (suc times) xs =
-    length-append xs (repeats times xs) ∙ ap (λ n. length xs + n) (length-repeats times xs)
-    ∙ sym (suc-mul times (length xs) ∙ omega arith)
+    omega (arith, length-append xs (repeats times xs), length-repeats times xs)
 
 pub get_or-repeats : (times : ℕ) (xs : List ℕ) (k : ℕ) → k < times * length xs
     → get_or (concat (replicate times xs)) k 0 ≡ get_or xs (k % length xs) 0
 get_or-repeats zero xs k h = absurd (omega (arith, h, zero-mul (length xs)))
 get_or-repeats (suc times) xs k h =
     let size = length xs in
-    let more : suc times * size ≡ size + times * size = suc-mul times size ∙ omega arith in
     ⊎_elim
     (λ (first : k < size).
     get_or_append_left xs (repeats times xs) 0 k first
     ∙ ap (λ n. get_or xs n 0) (sym (mod-eq_of_lt first)))
     (λ (later : size ≤ k).
     get_or-append_right xs (repeats times xs) size k 0 refl later
-    ∙ get_or-repeats times xs (k - size) (omega (arith, h, more))
+    ∙ get_or-repeats times xs (k - size) (omega (arith, h))
     ∙ ap (λ n. get_or xs n 0) (sym (mod-eq-sub-mod later)))
     (cases_lt k size)
 

@@ -1,6 +1,6 @@
 -- Lists cut into runs.
 use Rattle.std.proofs.Common.{◌≡◌, ℕ, zero, suc, ◌+◌, ◌-◌, ◌*◌, ◌/◌, ◌%◌, ◌<◌, ◌≤◌, List, [], ◌∷◌, ◌++◌, length, map, take, drop, refl, sym, ap, ◌∙◌, arith, length-append, append-nil, append_assoc, take-append-drop, length-take, length-take-le, subst, ⊎_elim}
-use Rattle.std.proofs.Math.Nat.{mod-eq-sub-mod, mod-eq_of_lt, add-div_left, add-mul, div-eq_of_lt, div-eq_of_lt-le, div-mul-le_self, lt-div-mul-add, mul-le-mul_right, mul-suc, zero-mul, suc-mul}
+use Rattle.std.proofs.Math.Nat.{mod-eq-sub-mod, mod-eq_of_lt, add-div_left, add-mul, div-eq_of_lt, div-eq_of_lt-le, div-mul-le_self, lt-div-mul-add, mul-le-mul_right, zero-mul, suc-mul}
 use Rattle.std.proofs.lemmas.List.{take_at, drop_at, take_all, drop_all, length-map, take-map, drop-map, length-drop, take-append-le, drop-append-le}
 use Rattle.std.proofs.lemmas.Nat.{div_below, le-div}
 use Rattle.std.proofs.lemmas.Bool.{cases_lt}
@@ -18,8 +18,7 @@ run_count size count = (count + (size - 1)) / size
 
 run_count-add : (size n : ℕ) → 0 < size → run_count size (size + n) ≡ suc (run_count size n)
 run_count-add size n h =
-    let regroup : size + n + (size - 1) ≡ size + (n + (size - 1)) = omega arith in
-    ap (λ k. k / size) regroup ∙ add-div_left (n + (size - 1)) h ∙ omega arith
+    ap (λ k. k / size) (omega arith) ∙ add-div_left (n + (size - 1)) h ∙ omega arith
 
 pub run_count-short : (size n : ℕ) → 0 < n → n ≤ size → run_count size n ≡ 1
 run_count-short size n h k =
@@ -75,7 +74,6 @@ pub first_chunks-append : {X : Type 0} (size n : ℕ) (xs ys : List X) → size 
     → first_chunks size n (xs ++ ys) ≡ first_chunks size n xs
 first_chunks-append size zero xs ys h = refl
 first_chunks-append size (suc n) xs ys h =
-    let more : size * suc n ≡ size + size * n = mul-suc size n ∙ omega arith in
     let first = take-append-le size xs ys (omega arith) in
     let others = drop-append-le size xs ys (omega arith) in
     let len = length-drop size xs in
@@ -193,15 +191,12 @@ length-each_ended : {X : Type 0} (end : List X) (parts : List (List X))
     ≡ length (flat_map (λ part. part) parts) + length parts * length end
 length-each_ended end [] = sym (zero-mul (length end)) ∙ omega arith
 length-each_ended end (part ∷ parts) =
-    let more : suc (length parts) * length end
-    ≡ length end + length parts * length end = suc-mul (length parts) (length end) ∙ omega arith in
     omega (
       arith,
       length-append (part ++ end) (flat_map (λ p. p ++ end) parts),
       length-append part end,
       length-append part (flat_map (λ p. p) parts),
       length-each_ended end parts,
-      more,
     )
 
 -- the runs with an end behind each

@@ -33,15 +33,13 @@ module _ {X : Type 0} (size : ℕ) (some : 0 < size) where
       → length rest < size
       → (whole_runs size (front ++ rest) ≡ runs size front) × (left size (front ++ rest) ≡ rest)
   whole_runs-is count front rest whole short =
-      let more : (count + 1) * size ≡ count * size + size =
-      add-mul count 1 size ∙ omega arith in
       let len = length-append front rest in
       let parts : length (front ++ rest) / size ≡ count =
       div-eq_of_lt-le {k = count} size {m = length (front ++ rest)} (omega (arith, len, whole))
-      (omega (arith, len, whole, short, more)) in
+      (omega (arith, len, whole, short)) in
       let runs_are : run_count size (length front) ≡ count =
       div-eq_of_lt-le {k = count} size (omega (arith, whole))
-      (omega (arith, whole, more, some)) in (
+      (omega (arith, whole, some)) in (
         ap (λ n. first_chunks size n (front ++ rest)) parts
             ∙ first_chunks-append size count front rest
             (omega (arith, whole, mul_comm size count))

@@ -179,9 +179,8 @@ module _ (base : Base) (ruled : IsRuled base) where
         ended = omega (arith, long, rule.ended);
         ends_short = omega (arith, long, rule.ends_short);
         ignored = λ k from less.
-            let place : k ≡ 515 + (k - 515) = omega arith in
             let at : get_or (layout base) k 0 ≡ get_or lines.separator (k - 515) 0 =
-            ap (λ n. get_or (layout base) n 0) place
+            ap (λ n. get_or (layout base) n 0) (omega arith)
             ∙ sym (get_or-drop 515 (layout base) (k - 515) 0)
             ∙ ap (λ l. get_or l (k - 515) 0) ((read).separator ∙ ap separator_of some) in
             let told = all-at (λ byte. (byte < 128) × (meaning base byte ≡ Ignored))

@@ -97,16 +97,14 @@ flags-back w o c s few =
     let second = check_bit c in
     let third = single_bit s in
     let sum = flags w o c s in
-    let order : sum / 8 % 2 ≡ first.0 = omega (arith, first.2, second.2, third.2) in
-    let check : sum / 16 % 2 ≡ second.0 = omega (arith, first.2, second.2, third.2) in
-    let single : sum / 32 % 2 ≡ third.0 = omega (arith, first.2, second.2, third.2) in
     record {
       few = omega (arith, first.2, second.2, third.2);
       width_is = omega (arith, first.2, second.2, third.2);
       order_is =
-          ap (λ n. cond (n == 1) MostSignificantFirst LeastSignificantFirst) order ∙ first.3;
-      checks_is = ap (λ n. n == 1) check ∙ second.3;
-      concatenates_is = ap (λ n. n == 0) single ∙ third.3;
+          ap (λ n. cond (n == 1) MostSignificantFirst LeastSignificantFirst)
+          (omega (arith, first.2, second.2, third.2)) ∙ first.3;
+      checks_is = ap (λ n. n == 1) (omega (arith, first.2, second.2, third.2)) ∙ second.3;
+      concatenates_is = ap (λ n. n == 0) (omega (arith, first.2, second.2, third.2)) ∙ third.3;
     }
 
 padding-back : (base : Base) (o : Option ℕ) → IsRuledPadding base o

@@ -1,24 +1,13 @@
-use Rattle.std.proofs.Common.{◌≡◌, ℕ, ◌+◌, ◌*◌, ◌/◌, ◌<◌, ◌≤◌, length, refl, sym, ap, ◌∙◌, subst, arith}
-use Rattle.data_encoding.proofs.digits.SizeLemmas.{IsGroup-same, room-same}
-use Rattle.data_encoding.specs.Decoding.{IsRun}
+use Rattle.std.proofs.Common.{◌≡◌, ◌+◌, ◌*◌, ◌/◌, ◌≤◌, length, refl, sym, ap, ◌∙◌, subst, arith}
+use Rattle.data_encoding.proofs.digits.SizeLemmas.{IsGroup-same}
 use Rattle.data_encoding.proofs.decoding.SymbolRunLemmas.{group-next, run-all, run-kept, run-longest}
-use Rattle.data_encoding.proofs.lists.PartLemmas.{IsWhole-group, group-before, groups-within, length-part, one-more}
-use Rattle.std.proofs.Math.Nat.{mul-le-mul_right}
+use Rattle.data_encoding.proofs.lists.PartLemmas.{IsWhole-same, group-before, group-room, groups-within, length-part}
 use Rattle.data_encoding.proofs.kernel.decode.decode_run.Goals as goal
-
--- a group before the last one ends within what all groups take
-ends_within : (n size i : ℕ) → i < n → i * size + size ≤ n * size
-ends_within n size i h =
-    let next : i + 1 ≤ n = omega (arith, h) in
-    omega (arith, one-more i size, mul-le-mul_right size next)
 
 pub nonzero_div-count : goal.nonzero_div-count
 nonzero_div-count g c =
-    let bytes = c.BYTES-bytes.result in
-    let symbols = c.SYMBOLS-symbols.result in
-    let group = IsGroup-same refl c.BYTES-bytes.ensures c.SYMBOLS-symbols.ensures
-    g.G.GroupSize.is_group in
-    (IsWhole-group g.G.GroupSize.WIDTH bytes symbols group).some_symbols
+    (IsWhole-same c.BYTES-bytes.ensures c.SYMBOLS-symbols.ensures
+    g.G.GroupSize.is_group).some_symbols
 
 pub slice_bounds-decode_symbols-end : goal.slice_bounds-decode_symbols-end
 slice_bounds-decode_symbols-end g c =
@@ -33,25 +22,16 @@ overflow_add-read g c = omega (arith, slice_bounds-decode_symbols-end g c)
 
 pub overflow_mul-written : goal.overflow_mul-written
 overflow_mul-written g c =
-    omega (
-      arith,
-      ends_within (length c.args.input.now / c.SYMBOLS-symbols.result) c.BYTES-bytes.result
-          c.loop-index.index
-          c.loop-index-test.true,
-      (room-same _ _ c.BYTES-bytes.ensures c.SYMBOLS-symbols.ensures c.requires.room),
-    )
+    let room = group-room (length c.args.input.now) c.loop-index.index _ c.BYTES-bytes.ensures
+    c.SYMBOLS-symbols.ensures c.requires.room c.loop-index-test.true in
+    omega arith
 
 pub slice_bounds-decode_symbols-end-in-loop-index :
     goal.slice_bounds-decode_symbols-end-in-loop-index
 slice_bounds-decode_symbols-end-in-loop-index g c =
-    omega (
-      arith,
-      ends_within (length c.args.input.now / c.SYMBOLS-symbols.result) c.BYTES-bytes.result
-          c.loop-index.index
-          c.loop-index-test.true,
-      (room-same _ _ c.BYTES-bytes.ensures c.SYMBOLS-symbols.ensures c.requires.room),
-      c.loop-index.auto.output,
-    )
+    rw (c.loop-index.auto.output, c.decode_by_several-first.auto.output)
+    (group-room (length c.args.input.now) c.loop-index.index _ c.BYTES-bytes.ensures
+    c.SYMBOLS-symbols.ensures c.requires.room c.loop-index-test.true)
 
 pub overflow_add-written : goal.overflow_add-written
 overflow_add-written g c = omega (arith, slice_bounds-decode_symbols-end-in-loop-index g c)
@@ -67,12 +47,9 @@ returns-then-not-decode_symbols-clause-run g c = λ base reads.
     g.G.GroupSize.is_group in
     let i = c.loop-index.index in
     let room : i * bytes + bytes ≤ length c.loop-index.output =
-    omega (
-      arith,
-      ends_within (length c.args.input.now / symbols) bytes i c.loop-index-test.true,
-      (room-same _ _ c.BYTES-bytes.ensures c.SYMBOLS-symbols.ensures c.requires.room),
-      c.loop-index.auto.output,
-    ) in
+    rw (c.loop-index.auto.output, c.decode_by_several-first.auto.output)
+    (group-room (length c.args.input.now) c.loop-index.index _ c.BYTES-bytes.ensures
+    c.SYMBOLS-symbols.ensures c.requires.room c.loop-index-test.true) in
     run-kept base reads.holds.is_width g.G.GroupSize.WIDTH bytes symbols group
     reads.width_is
     c.args.input.now _ c.loop-index.output c.decode_symbols.new.output i _ (omega (arith, room))
@@ -113,12 +90,9 @@ loop-index-preserved g c =
     let within : i * dec + dec ≤ length input =
     group-before (length input) dec i c.loop-index-test.true in
     let room : i * enc + enc ≤ length output =
-    omega (
-      arith,
-      ends_within (length input / dec) enc i c.loop-index-test.true,
-      (room-same _ _ c.BYTES-bytes.ensures c.SYMBOLS-symbols.ensures c.requires.room),
-      c.loop-index.auto.output,
-    ) in
+    rw (c.loop-index.auto.output, c.decode_by_several-first.auto.output)
+    (group-room (length c.args.input.now) c.loop-index.index _ c.BYTES-bytes.ensures
+    c.SYMBOLS-symbols.ensures c.requires.room c.loop-index-test.true) in
     let shown_len : length c.decode_symbols.new.output ≡ enc =
     c.decode_symbols.auto.output ∙ length-part (i * enc) enc output room in
     record {
@@ -140,8 +114,7 @@ returns-clause-run g c = λ base reads.
     c.decode_by_several-first.ensures.within in
     let all : c.loop-index.index ≡ length c.args.input.now / c.SYMBOLS-symbols.result =
     omega (arith, within, c.loop-index-test.false, c.loop-index.auto.index-end) in
-    subst (λ n. IsRun base c.args.input.now n c.args.output.now c.loop-index.output) all
-    (c.loop-index.invariant.run base (rw c.ORDER-order.ensures reads))
+    rw all at (c.loop-index.invariant.run base (rw c.ORDER-order.ensures reads))
 
 pub loop-index-init : goal.loop-index-init
 loop-index-init g c =
@@ -163,20 +136,15 @@ pub decode_symbols-requires-clause-exact : goal.decode_symbols-requires-clause-e
 decode_symbols-requires-clause-exact g c =
     let bytes = c.BYTES-bytes.result in
     let symbols = c.SYMBOLS-symbols.result in
-    let group = IsGroup-same refl c.BYTES-bytes.ensures c.SYMBOLS-symbols.ensures
-    g.G.GroupSize.is_group in
     let i = c.loop-index.index in
-    let count = length c.args.input.now / symbols in
     let read = length-part (i * symbols) symbols c.args.input.now
     (group-before _ symbols i c.loop-index-test.true) in
     let wrote = length-part (i * bytes) bytes c.loop-index.output
-    (omega (
-      arith,
-      ends_within count bytes i c.loop-index-test.true,
-      (room-same _ _ c.BYTES-bytes.ensures c.SYMBOLS-symbols.ensures c.requires.room),
-      c.loop-index.auto.output,
-    )) in
-    let same = (IsWhole-group g.G.GroupSize.WIDTH bytes symbols group).same_bits in
+    (rw (c.loop-index.auto.output, c.decode_by_several-first.auto.output)
+    (group-room (length c.args.input.now) c.loop-index.index _ c.BYTES-bytes.ensures
+    c.SYMBOLS-symbols.ensures c.requires.room c.loop-index-test.true)) in
+    let same = (IsWhole-same c.BYTES-bytes.ensures c.SYMBOLS-symbols.ensures
+    g.G.GroupSize.is_group).same_bits in
     omega (arith, wrote, ap (λ n. g.G.GroupSize.WIDTH * n) read, same)
 
 pub returns-clause-within : goal.returns-clause-within

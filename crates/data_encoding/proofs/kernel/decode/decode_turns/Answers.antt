@@ -1,26 +1,20 @@
-use Rattle.std.proofs.Common.{◌≡◌, ℕ, ◌+◌, ◌-◌, ◌*◌, ◌/◌, ◌≤◌, length, take, drop, refl, sym, ap, ◌∙◌, subst, arith}
-use Rattle.std.proofs.Math.Nat.{div-le_self}
+use Rattle.std.proofs.Common.{◌≡◌, ◌+◌, ◌-◌, ◌*◌, ◌/◌, ◌≤◌, length, take, drop, refl, sym, ap, ◌∙◌, subst, arith}
+use Rattle.std.proofs.Math.Nat.{div-le_self, zero-mul}
 use Rattle.data_encoding.specs.Decoding.{IsRun}
 use Rattle.data_encoding.proofs.decoding.SymbolRunLemmas.{run-kept, run-none, run-next}
-use Rattle.data_encoding.proofs.digits.SizeLemmas.{IsGroup-same, room-same}
-use Rattle.data_encoding.proofs.lists.PartLemmas.{IsWhole-group, group-before, groups-within, length-part, one-more, turns-before, turn-within}
+use Rattle.data_encoding.proofs.digits.SizeLemmas.{IsGroup-same}
+use Rattle.data_encoding.proofs.lists.PartLemmas.{IsWhole-same, group-before, groups-within, length-part, one-more, turn-room, turn-within}
 use Rattle.data_encoding.proofs.kernel.decode.decode_turns.Goals as goal
 
 pub nonzero_div-count : goal.nonzero_div-count
 nonzero_div-count g c =
-    let group = IsGroup-same refl c.BYTES-bytes.ensures c.SYMBOLS-symbols.ensures
-    g.G.GroupSize.is_group in
-    (IsWhole-group g.G.GroupSize.WIDTH c.BYTES-bytes.result c.SYMBOLS-symbols.result
-    group).some_symbols
-
-none : (groups : ℕ) → 0 ≡ 0 * groups
-none groups = omega arith
+    (IsWhole-same c.BYTES-bytes.ensures c.SYMBOLS-symbols.ensures
+    g.G.GroupSize.is_group).some_symbols
 
 pub loop-index-init : goal.loop-index-init
 loop-index-init g c = record {
   run = λ values held base reads.
-      subst (λ n. IsRun base c.args.input.now n c.args.output.now c.args.output.now)
-      (none c.GROUPS-groups.result)
+      rw zero-mul
       (run-none base reads.holds.is_width c.args.input.now c.args.output.now c.args.output.now);
 }
 
@@ -42,25 +36,18 @@ overflow_mul-read g c =
 
 pub slice_bounds-decode-end-in-loop-index : goal.slice_bounds-decode-end-in-loop-index
 slice_bounds-decode-end-in-loop-index g c =
-    omega (
-      arith,
-      turns-before (length c.args.input.now / c.SYMBOLS-symbols.result) c.GROUPS-groups.result
-          c.BYTES-bytes.result c.loop-index.index c.loop-index-test.true,
-      room-same _ _ c.BYTES-bytes.ensures c.SYMBOLS-symbols.ensures c.requires.room,
-      c.loop-index.auto.output,
-    )
+    let room = turn-room (length c.args.input.now) c.GROUPS-groups.result c.loop-index.index _
+    c.BYTES-bytes.ensures c.SYMBOLS-symbols.ensures c.requires.room c.loop-index-test.true in
+    omega (arith, c.loop-index.auto.output)
 
 pub overflow_add-written : goal.overflow_add-written
 overflow_add-written g c = omega (arith, slice_bounds-decode-end-in-loop-index g c)
 
 pub overflow_mul-written : goal.overflow_mul-written
 overflow_mul-written g c =
-    omega (
-      arith,
-      turns-before (length c.args.input.now / c.SYMBOLS-symbols.result) c.GROUPS-groups.result
-          c.BYTES-bytes.result c.loop-index.index c.loop-index-test.true,
-      room-same _ _ c.BYTES-bytes.ensures c.SYMBOLS-symbols.ensures c.requires.room,
-    )
+    let room = turn-room (length c.args.input.now) c.GROUPS-groups.result c.loop-index.index _
+    c.BYTES-bytes.ensures c.SYMBOLS-symbols.ensures c.requires.room c.loop-index-test.true in
+    omega arith
 
 pub loop-index-preserved : goal.loop-index-preserved
 loop-index-preserved g c =
@@ -75,12 +62,8 @@ loop-index-preserved g c =
     let within = turn-within (length input) groups symbols c.loop-index.index
     c.loop-index-test.true in
     let room : first * bytes + groups * bytes ≤ length output =
-    omega (
-      arith,
-      turns-before (length input / symbols) groups bytes c.loop-index.index c.loop-index-test.true,
-      room-same _ _ c.BYTES-bytes.ensures c.SYMBOLS-symbols.ensures c.requires.room,
-      c.loop-index.auto.output,
-    ) in
+    rw c.loop-index.auto.output (turn-room _ _ _ _ c.BYTES-bytes.ensures c.SYMBOLS-symbols.ensures
+    c.requires.room c.loop-index-test.true) in
     let shown_len : length c.decode.new.output ≡ groups * bytes =
     c.decode.auto.output ∙ length-part (first * bytes) (groups * bytes) output room in
     let part = take (first * symbols + groups * symbols - first * symbols)
@@ -105,13 +88,8 @@ returns-then-not-decode-clause-run g c = λ values held base reads.
     let group = IsGroup-same refl c.BYTES-bytes.ensures c.SYMBOLS-symbols.ensures
     g.G.GroupSize.is_group in
     let room : first * bytes + c.GROUPS-groups.result * bytes ≤ length c.loop-index.output =
-    omega (
-      arith,
-      turns-before (length c.args.input.now / c.SYMBOLS-symbols.result) c.GROUPS-groups.result
-          bytes c.loop-index.index c.loop-index-test.true,
-      room-same _ _ c.BYTES-bytes.ensures c.SYMBOLS-symbols.ensures c.requires.room,
-      c.loop-index.auto.output,
-    ) in
+    rw c.loop-index.auto.output (turn-room _ _ _ _ c.BYTES-bytes.ensures c.SYMBOLS-symbols.ensures
+    c.requires.room c.loop-index-test.true) in
     run-kept base reads.holds.is_width g.G.GroupSize.WIDTH bytes c.SYMBOLS-symbols.result group
     reads.width_is c.args.input.now _ c.loop-index.output c.decode.new.output first _
     (omega (arith, room)) (c.loop-index.invariant.run values held base reads)
@@ -121,10 +99,7 @@ returns-clause-run g c = λ values held base reads.
     let count = length c.args.input.now / c.SYMBOLS-symbols.result / c.GROUPS-groups.result in
     let all : c.loop-index.index ≡ count =
     omega (arith, c.loop-index-test.false, c.loop-index.auto.index-end) in
-    subst
-    (λ n. IsRun base c.args.input.now (n * c.GROUPS-groups.result) c.args.output.now
-    c.loop-index.output) all
-    (c.loop-index.invariant.run values held base reads)
+    rw all at (c.loop-index.invariant.run values held base reads)
 
 pub nonzero_div-count-2 : goal.nonzero_div-count-2
 nonzero_div-count-2 g c = omega (arith, c.GROUPS-groups.ensures, g.T.DecodeTurn.some_groups)
@@ -160,13 +135,8 @@ pub decode-requires-clause-exact : goal.decode-requires-clause-exact
 decode-requires-clause-exact g c =
     length-part (c.loop-index.index * c.GROUPS-groups.result * c.BYTES-bytes.result)
     (c.GROUPS-groups.result * c.BYTES-bytes.result) c.loop-index.output
-    (omega (
-      arith,
-      turns-before (length c.args.input.now / c.SYMBOLS-symbols.result) c.GROUPS-groups.result
-          c.BYTES-bytes.result c.loop-index.index c.loop-index-test.true,
-      room-same _ _ c.BYTES-bytes.ensures c.SYMBOLS-symbols.ensures c.requires.room,
-      c.loop-index.auto.output,
-    ))
+    (rw c.loop-index.auto.output (turn-room _ _ _ _ c.BYTES-bytes.ensures
+    c.SYMBOLS-symbols.ensures c.requires.room c.loop-index-test.true))
     ∙ (λ k. c.GROUPS-groups.ensures k * c.BYTES-bytes.ensures k)
 
 pub returns-then-not-decode-clause-within : goal.returns-then-not-decode-clause-within

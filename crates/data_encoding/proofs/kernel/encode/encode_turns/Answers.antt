@@ -61,20 +61,16 @@ pub overflow_mul-written : goal.overflow_mul-written
 overflow_mul-written g c =
     let whole = IsWhole-turn c.GROUPS-groups.ensures c.BYTES-bytes.ensures c.SYMBOLS.ensures
     g.T.EncodeTurn.some_groups g.G.GroupSize.is_group in
-    omega (
-      arith,
-      next_fits whole (length c.args.input.now) (length c.loop-index.output)
-          c.saturating_sub.result _ c.loop-index.index (c.loop-index.auto.output ∙ c.requires.exact)
-          c.saturating_sub.ensures c.loop-index-test.true,
-    )
+    let room = next_fits whole _ _ _ _ _ (c.loop-index.auto.output ∙ c.requires.exact)
+    c.saturating_sub.ensures c.loop-index-test.true in
+    omega arith
 
 pub slice_bounds-encode-end-in-loop-index : goal.slice_bounds-encode-end-in-loop-index
 slice_bounds-encode-end-in-loop-index g c =
     let whole = IsWhole-turn c.GROUPS-groups.ensures c.BYTES-bytes.ensures c.SYMBOLS.ensures
     g.T.EncodeTurn.some_groups g.G.GroupSize.is_group in
-    next_fits whole (length c.args.input.now) (length c.loop-index.output) c.saturating_sub.result _
-    c.loop-index.index (c.loop-index.auto.output ∙ c.requires.exact) c.saturating_sub.ensures
-    c.loop-index-test.true
+    next_fits whole _ _ _ _ _ (c.loop-index.auto.output ∙ c.requires.exact)
+    c.saturating_sub.ensures c.loop-index-test.true
 
 pub overflow_add-written : goal.overflow_add-written
 overflow_add-written g c = omega (arith, slice_bounds-encode-end-in-loop-index g c)
@@ -88,9 +84,8 @@ loop-index-preserved g c =
     let bytes = c.GROUPS-groups.result * c.BYTES-bytes.result in
     let loaded = bytes + c.AHEAD.result * (c.BYTES-bytes.result - 1) in
     let read = take (i * bytes + loaded - i * bytes) (drop (i * bytes) input) in
-    let room = next_fits whole (length input) (length c.loop-index.output) c.saturating_sub.result _
-    i (c.loop-index.auto.output ∙ c.requires.exact) c.saturating_sub.ensures
-    c.loop-index-test.true in
+    let room = next_fits whole _ _ _ _ _ (c.loop-index.auto.output ∙ c.requires.exact)
+    c.saturating_sub.ensures c.loop-index-test.true in
     record {
       written = λ base writes.
           written-next whole base writes.width_is input c.loop-index.output c.encode.new.output i
@@ -112,8 +107,7 @@ slice_bounds-encode_rest-count-2 g c =
     let whole = IsWhole-turn c.GROUPS-groups.ensures c.BYTES-bytes.ensures c.SYMBOLS.ensures
     g.T.EncodeTurn.some_groups g.G.GroupSize.is_group in
     let bytes = c.GROUPS-groups.result * c.BYTES-bytes.result in
-    groups_fit whole (length c.args.input.now) (length c.loop-index.output)
-    (c.saturating_sub.result / bytes) (c.loop-index.auto.output ∙ c.requires.exact)
+    groups_fit whole _ _ _ (c.loop-index.auto.output ∙ c.requires.exact)
     (omega (arith, groups-within c.saturating_sub.result bytes, c.saturating_sub.ensures))
 
 pub slice_bounds-encode_rest-start-2 : goal.slice_bounds-encode_rest-start-2
@@ -130,8 +124,7 @@ encode_rest-requires-clause-exact g c =
     let bytes = c.GROUPS-groups.result * c.BYTES-bytes.result in
     let count = c.saturating_sub.result / bytes in
     length-rest (count * (c.GROUPS-groups.result * c.SYMBOLS.result)) c.loop-index.output
-    ∙ rest_fits whole (length c.args.input.now) (length c.loop-index.output) count
-    (c.loop-index.auto.output ∙ c.requires.exact)
+    ∙ rest_fits whole _ _ count (c.loop-index.auto.output ∙ c.requires.exact)
     (omega (arith, groups-within c.saturating_sub.result bytes, c.saturating_sub.ensures))
     ∙ ap (λ n. (8 * n + (width - 1)) / width) (sym (length-rest (count * bytes) c.args.input.now))
 
@@ -142,17 +135,14 @@ returns g c base writes =
     let input = c.args.input.now in
     let output = c.loop-index.output in
     let bytes = c.GROUPS-groups.result * c.BYTES-bytes.result in
-    let symbols = c.GROUPS-groups.result * c.SYMBOLS.result in
     let count = c.saturating_sub.result / bytes in
     let all : c.loop-index.index ≡ count =
     omega (arith, c.loop-index-test.false, c.loop-index.auto.index-end) in
     let within : count * bytes ≤ length input =
     omega (arith, groups-within c.saturating_sub.result bytes, c.saturating_sub.ensures) in
     written-rest whole base writes.width_is input output c.encode_rest.new.output count
-    (subst (λ n. take (n * symbols) output ≡ plain_text base (take (n * bytes) input)) all
-    (c.loop-index.invariant.written base writes)) within
-    (groups_fit whole (length input) (length output) count
-    (c.loop-index.auto.output ∙ c.requires.exact) within)
+    (rw all at (c.loop-index.invariant.written base writes)) within
+    (groups_fit whole _ _ count (c.loop-index.auto.output ∙ c.requires.exact) within)
     c.encode_rest.auto.output (c.encode_rest.ensures base writes)
 
 pub slice_bounds-encode-end : goal.slice_bounds-encode-end
@@ -204,8 +194,7 @@ encode-requires-clause-exact g c =
     g.T.EncodeTurn.some_groups g.G.GroupSize.is_group in
     let symbols = c.GROUPS-groups.result * c.SYMBOLS.result in
     length-part (c.loop-index.index * symbols) symbols c.loop-index.output
-    (next_fits whole (length c.args.input.now) (length c.loop-index.output)
-    c.saturating_sub.result _ c.loop-index.index (c.loop-index.auto.output ∙ c.requires.exact)
+    (next_fits whole _ _ _ _ _ (c.loop-index.auto.output ∙ c.requires.exact)
     c.saturating_sub.ensures c.loop-index-test.true)
     ∙ (λ k. c.GROUPS-groups.ensures k * c.SYMBOLS.ensures k)
 

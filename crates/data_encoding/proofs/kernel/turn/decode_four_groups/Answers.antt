@@ -1,8 +1,7 @@
-use Rattle.std.proofs.Common.{◌≡◌, ◌*◌, ◌<◌, length, refl, ◌∙◌, subst, arith, ap, sym}
+use Rattle.std.proofs.Common.{◌≡◌, ◌*◌, ◌<◌, length, refl, ◌∙◌, arith, ap, sym}
 use Rattle.data_encoding.proofs.digits.SizeLemmas.{IsGroup-same}
 use Rattle.std.proofs.lemmas.Bool.{ltb-true}
 use Rattle.std.proofs.lemmas.Nat.{le_or_l, le_or_r}
-use Rattle.data_encoding.specs.Decoding.{IsRun}
 use Rattle.data_encoding.proofs.decoding.SymbolRunLemmas.{run-none, group-next}
 use Rattle.data_encoding.proofs.lists.PartLemmas.{length-part, part-of-four}
 use Rattle.data_encoding.proofs.kernel.turn.decode_four_groups.Goals as goal
@@ -78,5 +77,4 @@ pub returns : goal.returns
 returns g c = λ all base reads.
     let end : c.loop-index.index ≡ 4 =
     omega (arith, c.loop-index-test.false, c.loop-index.auto.index-end) in
-    subst (λ n. IsRun base c.args.input.now n c.args.output.now c.loop-index.output) end
-    (c.loop-index.invariant.run (ltb-true _ _ all) base reads)
+    rw end at (c.loop-index.invariant.run (ltb-true _ _ all) base reads)

@@ -7,17 +7,11 @@ use Rattle.data_encoding.proofs.lists.WriteLemmas.{put_mid-end}
 use Rattle.data_encoding.proofs.kernel.words.five_bytes_of_word.Goals as goal
 
 -- the bytes of the lower half of a word are those of the word
-low-0 : (word : ℕ) → word % 2 ^ 32 % 256 ≡ word / 2 ^ 0 % 256
-low-0 word = omega arith
-
-low-1 : (word : ℕ) → word % 2 ^ 32 / 2 ^ 8 % 256 ≡ word / 2 ^ 8 % 256
-low-1 word = omega arith
-
-low-2 : (word : ℕ) → word % 2 ^ 32 / 2 ^ 16 % 256 ≡ word / 2 ^ 16 % 256
-low-2 word = omega arith
-
-low-3 : (word : ℕ) → word % 2 ^ 32 / 2 ^ 24 % 256 ≡ word / 2 ^ 24 % 256
-low-3 word = omega arith
+low-bytes : (word : ℕ) → (word % 2 ^ 32 % 256 ≡ word / 2 ^ 0 % 256)
+    × (word % 2 ^ 32 / 2 ^ 8 % 256 ≡ word / 2 ^ 8 % 256)
+    × (word % 2 ^ 32 / 2 ^ 16 % 256 ≡ word / 2 ^ 16 % 256)
+    × (word % 2 ^ 32 / 2 ^ 24 % 256 ≡ word / 2 ^ 24 % 256)
+low-bytes word = omega arith
 
 pub returns-in-MostSignificantFirst : goal.returns-in-MostSignificantFirst
 returns-in-MostSignificantFirst c =
@@ -25,11 +19,12 @@ returns-in-MostSignificantFirst c =
     let output = c.args.output.now in
     let first = c.byte_at.result in
     let some = take_more_set output 0 first (omega (arith, c.requires.exact)) in
+    let is = low-bytes word in
     let low = ap (to_be_bytes w32) (and_mask word 32) in
     put_mid-end 1 (slice_set output 0 first) c.copy_from_slice.new.self
     ∙ ap (λ l. l ++ c.copy_from_slice.new.self) some
     ∙ (λ i. c.byte_at.ensures i ∷ (c.copy_from_slice.ensures.after ∙ c.to_be_bytes.ensures ∙ low) i)
-    ∙ (λ i. word / 2 ^ 32 % 256 ∷ low-3 word i ∷ low-2 word i ∷ low-1 word i ∷ low-0 word i ∷ [])
+    ∙ (λ i. word / 2 ^ 32 % 256 ∷ is.3 i ∷ is.2 i ∷ is.1 i ∷ is.0 i ∷ [])
     ∙ ap (λ order. digit order 8 5 word 0 ∷ digit order 8 5 word 1 ∷ digit order 8 5 word 2
     ∷ digit order 8 5 word 3 ∷ digit order 8 5 word 4 ∷ []) (sym c.in-MostSignificantFirst.is)
 
@@ -40,6 +35,7 @@ returns-in-LeastSignificantFirst c =
     let four = c.copy_from_slice-in-LeastSignificantFirst.new.self in
     let last = c.byte_at-in-LeastSignificantFirst.result in
     let all = four ++ drop 4 output in
+    let is = low-bytes word in
     let low = ap (to_le_bytes w32) (and_mask word 32) in
     let four_is = c.copy_from_slice-in-LeastSignificantFirst.ensures.after ∙ c.to_le_bytes.ensures
     ∙ low in
@@ -51,6 +47,6 @@ returns-in-LeastSignificantFirst c =
     ∙ take_more_set all 4 last (omega (arith, len))
     ∙ (λ i. (take_at four (drop 4 output) 4 four_len ∙ four_is) i
     ++ c.byte_at-in-LeastSignificantFirst.ensures i ∷ [])
-    ∙ (λ i. low-0 word i ∷ low-1 word i ∷ low-2 word i ∷ low-3 word i ∷ word / 2 ^ 32 % 256 ∷ [])
+    ∙ (λ i. is.0 i ∷ is.1 i ∷ is.2 i ∷ is.3 i ∷ word / 2 ^ 32 % 256 ∷ [])
     ∙ ap (λ order. digit order 8 5 word 0 ∷ digit order 8 5 word 1 ∷ digit order 8 5 word 2
     ∷ digit order 8 5 word 3 ∷ digit order 8 5 word 4 ∷ []) (sym c.in-LeastSignificantFirst.is)

@@ -1,6 +1,5 @@
-use Rattle.std.proofs.Common.{lit≤}
 use Rattle.data_encoding.proofs.digits.AffineLemmas.{row-bytes}
 use Rattle.data_encoding.proofs.kernel.lanes.affine.bytes_of_row.Goals as goal
 
 pub returns : goal.returns
-returns c = row-bytes c.args.row 16 0 c.requires (lit≤ tt)
+returns c = row-bytes c.args.row c.requires

@@ -1,7 +1,6 @@
-use Rattle.std.proofs.Common.{◌*◌, ◌^◌, ◌<◌, subst, map, sym, ap, ◌∙◌, arith}
+use Rattle.std.proofs.Common.{◌*◌, map, sym, ap, ◌∙◌, arith}
 use Rattle.std.proofs.lemmas.List.{map-id}
 use Rattle.std.proofs.Math.Nat.{mul-one}
-use Rattle.std.specs.List.{AllByRecursion}
 use Rattle.std.specs.Simd.Lanes.{number_l, digits_l}
 use Rattle.data_encoding.specs.Values.{joined}
 use Rattle.data_encoding.proofs.digits.GatherWordLemmas.{words-fit, words-of-one, words-step}
@@ -21,7 +20,6 @@ returns-clause-words c = λ small.
 
 pub returns-clause-fit : goal.returns-clause-fit
 returns-clause-fit c = λ small.
-    subst (AllByRecursion (λ word. word < 2 ^ (c.args.width * 2)))
-    (sym (returns-clause-words c small))
+    rw (returns-clause-words c small)
     (words-fit c.args.order c.args.width (c.args.width * 2) 2 (omega arith) 8 c.args.values
     c.fits-values.0)

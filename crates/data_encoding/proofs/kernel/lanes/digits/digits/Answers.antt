@@ -1,18 +1,9 @@
-use Rattle.std.proofs.Common.{◌≡◌, ℕ, ◌+◌, ◌*◌, ◌<◌, ◌≤◌, ◌^◌, List, take, flat_map, sym, ◌∙◌, subst, arith}
-use Rattle.std.specs.List.{AllByRecursion}
+use Rattle.std.proofs.Common.{◌≡◌, ℕ, ◌+◌, ◌*◌, ◌≤◌, List, refl, sym, ◌∙◌, subst, arith}
 use Rattle.data_encoding.specs.declared.encoding.BitOrder.{BitOrder}
 use Rattle.data_encoding.specs.Base.{group_bytes, group_symbols}
-use Rattle.data_encoding.specs.Lanes.{group_words, digits_of}
 use Rattle.data_encoding.specs.Tables.{IsGroup}
+use Rattle.data_encoding.proofs.digits.JoinLemmas.{HasDigits}
 use Rattle.data_encoding.proofs.kernel.lanes.digits.digits.Goals as goal
-
--- lanes hold the digits of eight groups of these sizes
-abbrev HasDigits : BitOrder → List ℕ → List ℕ → ℕ → ℕ → ℕ → Type 0
-HasDigits order input lanes width bytes symbols = record {
-  digits : take (8 * symbols) lanes
-      ≡ flat_map (digits_of order width symbols) (group_words order bytes 8 input);
-  below : AllByRecursion (λ digit. digit < 2 ^ width) lanes;
-}
 
 -- and a width that equals theirs has these sizes
 digits-at : (order : BitOrder) (input lanes : List ℕ) {width bytes symbols k : ℕ}
@@ -20,23 +11,19 @@ digits-at : (order : BitOrder) (input lanes : List ℕ) {width bytes symbols k :
     → HasDigits order input lanes k (group_bytes k) (group_symbols k)
     → HasDigits order input lanes width bytes symbols
 digits-at order input lanes {width} {bytes} {symbols} {k} group is has =
-    subst (HasDigits order input lanes width bytes) (sym group.has_symbols)
-    (subst (λ n. HasDigits order input lanes width n (group_symbols width)) (sym group.has_bytes)
-    (subst (λ n. HasDigits order input lanes n (group_bytes n) (group_symbols n)) (sym is) has))
+    rw (group.has_symbols, group.has_bytes, is) has
 
-bytes-at : (n : ℕ) {width bytes symbols k : ℕ} → IsGroup width bytes symbols → width ≡ k
+bytes-at : (n : ℕ) {width bytes symbols k w : ℕ} → IsGroup width bytes symbols → w ≡ width → w ≡ k
     → 10 * bytes ≤ n + 2 → 10 * group_bytes k ≤ n + 2
-bytes-at n group is enough =
-    subst (λ w. 10 * group_bytes w ≤ n + 2) is
+bytes-at n group is at enough =
+    subst (λ w. 10 * group_bytes w ≤ n + 2) (sym is ∙ at)
     (subst (λ b. 10 * b ≤ n + 2) group.has_bytes enough)
 
 pub one_bit_digits-requires : goal.one_bit_digits-requires
 one_bit_digits-requires g c =
-    omega (
-      arith,
-      bytes-at _ g.G.GroupSize.is_group (sym c.WIDTH-width.ensures ∙ c.if-width-eq1.true)
-          c.requires.bytes,
-    )
+    let enough = bytes-at _ g.G.GroupSize.is_group c.WIDTH-width.ensures c.if-width-eq1.true
+    c.requires.bytes in
+    omega arith
 
 pub returns-then-width-eq1 : goal.returns-then-width-eq1
 returns-then-width-eq1 g c =
@@ -45,11 +32,9 @@ returns-then-width-eq1 g c =
 
 pub two_bit_digits-requires : goal.two_bit_digits-requires
 two_bit_digits-requires g c =
-    omega (
-      arith,
-      bytes-at _ g.G.GroupSize.is_group (sym c.WIDTH-width.ensures ∙ c.if-width-eq2.true)
-          c.requires.bytes,
-    )
+    let enough = bytes-at _ g.G.GroupSize.is_group c.WIDTH-width.ensures c.if-width-eq2.true
+    c.requires.bytes in
+    omega arith
 
 pub returns-then-width-eq2 : goal.returns-then-width-eq2
 returns-then-width-eq2 g c =
@@ -58,11 +43,9 @@ returns-then-width-eq2 g c =
 
 pub three_bit_digits-requires : goal.three_bit_digits-requires
 three_bit_digits-requires g c =
-    omega (
-      arith,
-      bytes-at _ g.G.GroupSize.is_group (sym c.WIDTH-width.ensures ∙ c.if-width-eq3.true)
-          c.requires.bytes,
-    )
+    let enough = bytes-at _ g.G.GroupSize.is_group c.WIDTH-width.ensures c.if-width-eq3.true
+    c.requires.bytes in
+    omega arith
 
 pub returns-then-width-eq3 : goal.returns-then-width-eq3
 returns-then-width-eq3 g c =
@@ -71,11 +54,9 @@ returns-then-width-eq3 g c =
 
 pub four_bit_digits-requires : goal.four_bit_digits-requires
 four_bit_digits-requires g c =
-    omega (
-      arith,
-      bytes-at _ g.G.GroupSize.is_group (sym c.WIDTH-width.ensures ∙ c.if-width-eq4.true)
-          c.requires.bytes,
-    )
+    let enough = bytes-at _ g.G.GroupSize.is_group c.WIDTH-width.ensures c.if-width-eq4.true
+    c.requires.bytes in
+    omega arith
 
 pub returns-then-width-eq4 : goal.returns-then-width-eq4
 returns-then-width-eq4 g c =
@@ -84,11 +65,9 @@ returns-then-width-eq4 g c =
 
 pub five_bit_digits-requires : goal.five_bit_digits-requires
 five_bit_digits-requires g c =
-    omega (
-      arith,
-      bytes-at _ g.G.GroupSize.is_group (sym c.WIDTH-width.ensures ∙ c.if-width-eq5.true)
-          c.requires.bytes,
-    )
+    let enough = bytes-at _ g.G.GroupSize.is_group c.WIDTH-width.ensures c.if-width-eq5.true
+    c.requires.bytes in
+    omega arith
 
 pub returns-then-width-eq5 : goal.returns-then-width-eq5
 returns-then-width-eq5 g c =
@@ -99,7 +78,7 @@ pub six_bit_digits-requires : goal.six_bit_digits-requires
 six_bit_digits-requires g c =
     let is : g.G.GroupSize.WIDTH ≡ 6 =
     omega (arith, g.G.GroupSize.is_group.is_width.some, g.G.GroupSize.is_group.is_width.few) in
-    omega (arith, bytes-at _ g.G.GroupSize.is_group is c.requires.bytes)
+    omega (arith, bytes-at _ g.G.GroupSize.is_group refl is c.requires.bytes)
 
 pub returns : goal.returns
 returns g c =

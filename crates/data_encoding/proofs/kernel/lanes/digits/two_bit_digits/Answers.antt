@@ -1,37 +1,18 @@
-use Rattle.std.proofs.Common.{◌≡◌, ◌<◌, ◌^◌, ◌++◌, map, take, flat_map, refl, sym, ap, ◌∙◌, subst, arith}
-use Rattle.std.specs.List.{AllByRecursion}
-use Rattle.data_encoding.specs.Lanes.{group_words, digits_of, spread_word}
-use Rattle.data_encoding.proofs.digits.GroupWordLemmas.{widened, words-below}
-use Rattle.data_encoding.proofs.digits.JoinLemmas.{front_four, joined-below}
+use Rattle.std.proofs.Common.{◌++◌, map, ap, ◌∙◌, arith, refl}
+use Rattle.std.proofs.lemmas.List.{map-id}
+use Rattle.data_encoding.specs.Lanes.{group_words, spread_word}
+use Rattle.data_encoding.proofs.digits.GroupWordLemmas.{words-below}
+use Rattle.data_encoding.proofs.digits.JoinLemmas.{held}
 use Rattle.data_encoding.proofs.kernel.lanes.digits.two_bit_digits.Goals as goal
 
 pub spread_two_bits-requires : goal.spread_two_bits-requires
 spread_two_bits-requires c =
-    let order = c.args.order in
-    let words = group_words order 1 8 c.args.input.now in
-    let loaded = widened 8 (λ x. x) (λ x h. refl) c.eight_ones.result words
-    (c.eight_ones.ensures c.args.order) (words-below order 1 8 c.args.input.now) in
-    subst (AllByRecursion (λ word. word < 2 ^ 8)) (sym loaded)
-    (words-below order 1 8 c.args.input.now)
+    rw (map-id, c.eight_ones.ensures c.args.order) (words-below c.args.order 1 8 c.args.input.now)
 
-joined : (c : goal.After-join_fours) → c.join_fours.result
-    ≡ (let words = group_words c.args.order 1 8 c.args.input.now in
-    flat_map (digits_of c.args.order 2 4) (words ++ words))
-joined c =
-    let order = c.args.order in
-    let words = group_words order 1 8 c.args.input.now in
-    let loaded = widened 8 (λ x. x) (λ x h. refl) c.eight_ones.result words
-    (c.eight_ones.ensures c.args.order) (words-below order 1 8 c.args.input.now) in
-    c.join_fours.ensures 2 words (omega arith)
-    (c.spread_two_bits.ensures ∙ ap (map (spread_word 2 4)) loaded)
-
-pub returns-clause-digits : goal.returns-clause-digits
-returns-clause-digits c =
-    ap (take 32) (joined c)
-    ∙ front_four c.args.order 2 (group_words c.args.order 1 8 c.args.input.now) refl
-
-pub returns-clause-below : goal.returns-clause-below
-returns-clause-below c =
-    let words = group_words c.args.order 1 8 c.args.input.now in
-    subst (AllByRecursion (λ digit. digit < 2 ^ 2)) (sym (joined c))
-    (joined-below c.args.order 2 4 (words ++ words))
+pub returns : goal.returns
+returns c =
+    held c.args.order 2 4 1 c.args.input.now (λ ws. ws ++ ws)
+    (λ a b c d e f g h. refl)
+    (c.join_fours.ensures 2 (group_words c.args.order 1 8 c.args.input.now) (omega arith)
+    (c.spread_two_bits.ensures ∙ ap (map (spread_word 2 4))
+    (map-id c.eight_ones.result ∙ c.eight_ones.ensures c.args.order)))

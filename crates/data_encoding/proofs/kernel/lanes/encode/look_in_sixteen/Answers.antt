@@ -1,9 +1,10 @@
 use Rattle.std.proofs.Common.{slice_index}
-use Rattle.data_encoding.proofs.digits.RowLemmas.{in_rows, places-ok}
+use Rattle.data_encoding.proofs.digits.GatherRowLemmas.{places-ok}
+use Rattle.data_encoding.proofs.digits.RowLemmas.{in_rows}
 use Rattle.data_encoding.proofs.kernel.lanes.encode.look_in_sixteen.Goals as goal
 
 pub swizzle : goal.swizzle
-swizzle c = places-ok c.args.values c.fits-values.0
+swizzle c = places-ok 4 c.args.values c.fits-values.0
 
 pub returns : goal.returns
 returns c =

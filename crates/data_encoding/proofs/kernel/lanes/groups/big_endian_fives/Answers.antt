@@ -1,5 +1,10 @@
-use Rattle.data_encoding.proofs.digits.FiveByteLemmas.{fives_most}
+use Rattle.std.proofs.Common.{refl, arith}
+use Rattle.data_encoding.specs.declared.encoding.BitOrder.TheVariants.{MostSignificantFirst}
+use Rattle.data_encoding.proofs.digits.GroupWordLemmas.{lanes-are-words}
 use Rattle.data_encoding.proofs.kernel.lanes.groups.big_endian_fives.Goals as goal
 
 pub returns : goal.returns
-returns c = fives_most c.args.input.now c.requires (λ k. (c.type_inv.input k).fits)
+returns c =
+    lanes-are-words MostSignificantFirst 5 3 c.args.input.now c.requires
+    (λ k. (c.type_inv.input k).fits) 2 18446744073709551616 refl (omega arith) (omega arith)
+    (λ group. refl)

@@ -1,5 +1,10 @@
-use Rattle.data_encoding.proofs.digits.ThreeByteLemmas.{threes_most}
+use Rattle.std.proofs.Common.{refl, arith}
+use Rattle.data_encoding.specs.declared.encoding.BitOrder.TheVariants.{MostSignificantFirst}
+use Rattle.data_encoding.proofs.digits.GroupWordLemmas.{lanes-are-words}
 use Rattle.data_encoding.proofs.kernel.lanes.groups.big_endian_threes.Goals as goal
 
 pub returns : goal.returns
-returns c = threes_most c.args.input.now c.requires (λ k. (c.type_inv.input k).fits)
+returns c =
+    lanes-are-words MostSignificantFirst 3 1 c.args.input.now c.requires
+    (λ k. (c.type_inv.input k).fits) 4 4294967296 refl (omega arith) (omega arith)
+    (λ group. refl)
