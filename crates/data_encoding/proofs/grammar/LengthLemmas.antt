@@ -9,6 +9,11 @@ use Rattle.data_encoding.specs.declared.error.DecodeError.{DecodeError}
 use Rattle.data_encoding.specs.Base.{Base, is_padded, ignores_some, group_bytes, group_symbols, IsWidth}
 use Rattle.data_encoding.specs.Lengths.{decoded_len, greatest_valid_count, greatest_valid_length, is_valid_count, is_valid_length, length_fault, most_bytes, unless_fault}
 
+-- the six, for a search
+pub widths : (width : ℕ) → IsWidth width
+    → (width ≡ 1) ⊎ (width ≡ 2) ⊎ (width ≡ 3) ⊎ (width ≡ 4) ⊎ (width ≡ 5) ⊎ (width ≡ 6)
+widths width is = grind arith
+
 module _ (base : Base) (len : ℕ) where
   pub length_fault-none : (ignores_some base ≡ false → is_valid_length base len ≡ true)
       → length_fault base len ≡ None
@@ -46,20 +51,11 @@ module _ (base : Base) (len : ℕ) where
       → (length_fault base len ≡ None) × (most_bytes base len ≡ count)
   decoded_len-counted count h = grind arith
 
-widths : (width : ℕ) → IsWidth width
-    → (width ≡ 1) ⊎ (width ≡ 2) ⊎ (width ≡ 3) ⊎ (width ≡ 4) ⊎ (width ≡ 5) ⊎ (width ≡ 6)
-widths width is = grind arith
-
--- symbols of whole groups are a valid number
-whole_count : (width : ℕ) → IsWidth width → (len : ℕ) → len % group_symbols width ≡ 0
-    → is_valid_count width len ≡ true
-whole_count width is len h = grind (arith, nat_tests, widths width is)
-
 -- the length of whole groups is valid
 pub whole-length : (base : Base) → IsWidth base.width → (len : ℕ)
     → len % group_symbols base.width ≡ 0 → is_valid_length base len ≡ true
 whole-length base width len exact =
-    grind (arith, nat_tests, whole_count base.width width len exact)
+    grind (arith, nat_tests, widths base.width width)
 
 -- so a group of no valid length is not whole
 pub whole-less : (base : Base) → IsWidth base.width → (len : ℕ) → len ≤ group_symbols base.width
@@ -82,23 +78,10 @@ valid-whole base len some valid =
 -- The bits of symbols are whole bytes exactly where their groups are whole.
 pub whole_bits : (width : ℕ) → IsWidth width → (len : ℕ)
     → (width * len % 8 == 0) ≡ (len % group_symbols width == 0)
-whole_bits =
-    by_width (λ w. (len : ℕ) → (w * len % 8 == 0) ≡ (len % group_symbols w == 0))
-    (λ len. grind (arith, nat_tests)) (λ len. grind (arith, nat_tests))
-    (λ len. grind (arith, nat_tests)) (λ len. grind (arith, nat_tests))
-    (λ len. grind (arith, nat_tests)) (λ len. grind (arith, nat_tests))
+whole_bits width is len = grind (arith, nat_tests, widths width is)
 
--- Their bytes are as many as whole groups of them have.
-whole_count_bytes : (width : ℕ) → IsWidth width → (len : ℕ) → len % group_symbols width ≡ 0
-    → len / group_symbols width * group_bytes width ≡ width * len / 8
-whole_count_bytes =
-    by_width
-    (λ w. (len : ℕ) → len % group_symbols w ≡ 0
-    → len / group_symbols w * group_bytes w ≡ w * len / 8)
-    (λ len h. omega arith) (λ len h. omega arith) (λ len h. omega arith) (λ len h. omega arith)
-    (λ len h. omega arith) (λ len h. omega arith)
-
+-- Bytes of a valid length are those of its bits.
 pub most_bytes-valid : (base : Base) → IsWidth base.width → (width len : ℕ) → width ≡ base.width
     → is_valid_length base len ≡ true → width * len / 8 ≡ most_bytes base len
 most_bytes-valid base is_width width len same valid =
-    grind (arith, nat_tests, whole_count_bytes base.width is_width len)
+    grind (arith, nat_tests, widths base.width is_width)
