@@ -21,6 +21,8 @@ use Rattle.data_encoding.proofs.grammar.SoundLemmas.{AreSound-none, bytes-AreSou
 use Rattle.data_encoding.proofs.lists.ListLemmas.{AllFail, map-filter}
 use Rattle.data_encoding.proofs.lists.RunLemmas.{few_runs, runs-join, runs-map}
 use Rattle.data_encoding.proofs.judgement.RuleLemmas.{IsRuled}
+use Rattle.std.proofs.lemmas.Bool.Decides.{nat_tests}
+use Rattle.data_encoding.proofs.grammar.LengthLemmas.{widths}
 
 -- the same bytes, this many positions further on
 abbrev pub moved : ℕ → List Positioned → List Positioned
@@ -47,12 +49,10 @@ position_of-moved count (k ∷ ks) (suc index) h =
 
 further-or_else : (count : ℕ) (o p : Option DecodeError)
     → or_else (further count o) (further count p) ≡ further count (or_else o p)
-further-or_else count None p = refl
-further-or_else count (Some error) p = refl
+further-or_else count o p = grind arith
 
 is_some-further : (count : ℕ) (o : Option DecodeError) → is_some (further count o) ≡ is_some o
-is_some-further count None = refl
-is_some-further count (Some error) = refl
+is_some-further count o = grind arith
 
 -- What stands behind whole groups is as valid as alone.
 
@@ -67,21 +67,7 @@ IsBehind width m n =
 
 is_behind : (width : ℕ) → IsWidth width → (m n : ℕ) → m % group_symbols width ≡ 0
     → IsBehind width m n
-is_behind =
-    by_width (λ w. (m n : ℕ) → m % group_symbols w ≡ 0 → IsBehind w m n)
-    (λ m n h. (omega arith, omega arith, omega arith, omega arith))
-    (λ m n h. (omega arith, omega arith, omega arith, omega arith))
-    (λ m n h. (omega arith, omega arith, omega arith, omega arith))
-    (λ m n h. (omega arith, omega arith, omega arith, omega arith))
-    (λ m n h. (omega arith, omega arith, omega arith, omega arith))
-    (λ m n h. (omega arith, omega arith, omega arith, omega arith))
-
-further_if : (count position : ℕ) (valid : Bool)
-    → cond (not valid) (Some (record { position = count + position; kind = LengthFault })) None
-    ≡ further count
-    (cond (not valid) (Some (record { position = position; kind = LengthFault })) None)
-further_if count position true = refl
-further_if count position false = refl
+is_behind width is m n h = grind (arith, nat_tests, widths width is)
 
 module _ (base : Base) (width : IsWidth base.width) where
   abbrev size : ℕ
@@ -93,30 +79,11 @@ module _ (base : Base) (width : IsWidth base.width) where
       let is = is_behind base.width width m n h in
       λ i. cond (is_padded base) (is.2 i == 0) (nat_lt (is.0 i) base.width)
 
-  greatest_behind : (m n : ℕ) → m % size ≡ 0
-      → greatest_valid_length base (m + n) ≡ m + greatest_valid_length base n
-  greatest_behind m n h = by (is_padded base) where
-    by : (b : Bool)
-        → cond b ((m + n) / size * size) (greatest_valid_count base.width (m + n))
-        ≡ m + cond b (n / size * size) (greatest_valid_count base.width n)
-    by true = (is_behind base.width width m n h).3
-    by false = (is_behind base.width width m n h).1
-
   pub length_fault-behind : (m n : ℕ) → (ignores_some base ≡ false → m % size ≡ 0)
       → length_fault base (m + n) ≡ further m (length_fault base n)
-  length_fault-behind m n whole = by (ignores_some base) refl where
-    by : (b : Bool) → ignores_some base ≡ b
-        → cond (not b && not (is_valid_length base (m + n)))
-        (Some (record { position = greatest_valid_length base (m + n); kind = LengthFault })) None
-        ≡ further m (cond (not b && not (is_valid_length base n))
-        (Some (record { position = greatest_valid_length base n; kind = LengthFault })) None)
-    by true is = refl
-    by false is =
-        let valid = valid_behind m n (whole is) in
-        let greatest = greatest_behind m n (whole is) in
-        (λ i. cond (not (valid i))
-        (Some (record { position = greatest i; kind = LengthFault })) None)
-        ∙ further_if m (greatest_valid_length base n) (is_valid_length base n)
+  length_fault-behind m n whole =
+      let is = λ (none : ignores_some base ≡ false). is_behind base.width width m n (whole none) in
+      grind (arith, is)
 
   -- the kept bytes of a part that stands further on
   pub kept_in-moved : (count start : ℕ) (part : List ℕ)
@@ -125,8 +92,8 @@ module _ (base : Base) (width : IsWidth base.width) where
       let further_on : Positioned → Positioned =
       λ k. record { position = count + k.position; byte = k.byte } in
       let keeps : Positioned → Bool = λ k. not (is_ignored (meaning base k.byte)) in
-      ap (filter keeps) (positioned-moved count start part)
-      ∙ sym (map-filter further_on keeps (positioned_from start part))
+      rw (positioned-moved count start part)
+      (sym (map-filter further_on keeps (positioned_from start part)))
 
   abbrev pub AreFew : List (List Positioned) → Type 0
   AreFew gs =
@@ -139,25 +106,25 @@ module _ (base : Base) (width : IsWidth base.width) where
       ap (λ n. Some (record { position = n; kind = PaddingFault }))
       (position_of-moved count group 0 some)
   fault_after-moved count false group some few =
-      ap (λ l. located (moved count group) (group_fault base l)) (bytes-moved count group)
-      ∙ located-further group (moved count group) count (group_fault base (bytes_in group))
-      (group_fault-inside base width group some few) (position_of-moved count group)
+      rw (bytes-moved count group)
+      (located-further group (moved count group) count (group_fault base (bytes_in group))
+      (group_fault-inside base width group some few) (position_of-moved count group))
 
   pub final-moved : (count : ℕ) (group : List Positioned)
       → is_final base (moved count group) ≡ is_final base group
   final-moved count group =
-      ap (λ l. not base.concatenates && list_any is_padding (map (meaning base) l))
-      (bytes-moved count group)
+      rw (bytes-moved count group)
 
   pub first-moved : (count : ℕ) (ended : Bool) (gs : List (List Positioned)) → AreFew gs
       → first_after ended base (map (moved count) gs) ≡ further count (first_after ended base gs)
   first-moved count ended [] few = refl
   first-moved count ended (g ∷ gs) few =
-      (λ i. or_else (fault_after-moved count ended g few.0.0 few.0.1 i)
-      (first_after (final-moved count g i) base (map (moved count) gs)))
-      ∙ ap (or_else (further count (fault_after ended base g)))
-      (first-moved count (is_final base g) gs few.1)
-      ∙ further-or_else count (fault_after ended base g) (first_after (is_final base g) base gs)
+      rw (
+        fault_after-moved count ended g few.0.0 few.0.1,
+        final-moved count g,
+        first-moved count (is_final base g) gs few.1,
+      )
+      (further-or_else count (fault_after ended base g) (first_after (is_final base g) base gs))
 
   abbrev pub bytes_before : Bool → List (List Positioned) → List ℕ
   bytes_before ended gs = flat_map (bytes_of_group base) (sound_after ended base gs)
@@ -166,24 +133,22 @@ module _ (base : Base) (width : IsWidth base.width) where
       → bytes_before ended (map (moved count) gs) ≡ bytes_before ended gs
   sound-moved count ended [] few = refl
   sound-moved count ended (g ∷ gs) few =
-      let faulty : is_some (fault_after ended base (moved count g))
-      ≡ is_some (fault_after ended base g) =
-      ap is_some (fault_after-moved count ended g few.0.0 few.0.1)
-      ∙ is_some-further count (fault_after ended base g) in
-      let here = ap (λ l. symbol_bytes base (map (meaning base) l)) (bytes-moved count g) in
-      (λ i. flat_map (bytes_of_group base) (cond (faulty i) []
-      (moved count g ∷ sound_after (final-moved count g i) base (map (moved count) gs))))
-      ∙ by (is_some (fault_after ended base g)) here
-      (sound-moved count (is_final base g) gs few.1) where
-        by : (b : Bool) → bytes_of_group base (moved count g) ≡ bytes_of_group base g
+      rw (
+        fault_after-moved count ended g few.0.0 few.0.1,
+        is_some-further count (fault_after ended base g),
+        final-moved count g,
+      )
+      (by (is_some (fault_after ended base g))
+      (sound-moved count (is_final base g) gs few.1)) where
+        by : (b : Bool)
             → bytes_before (is_final base g) (map (moved count) gs)
             ≡ bytes_before (is_final base g) gs
             → flat_map (bytes_of_group base) (cond b []
             (moved count g ∷ sound_after (is_final base g) base (map (moved count) gs)))
             ≡ flat_map (bytes_of_group base) (cond b []
             (g ∷ sound_after (is_final base g) base gs))
-        by true here others = refl
-        by false here others = λ i. here i ++ others i
+        by true others = refl
+        by false others = rw (bytes-moved count g, others)
 
   not_ended : (begun : Bool) (gs : List (List Positioned)) → begun ≡ false
       → AllFail (is_final base) gs → ends_after base begun gs ≡ false
@@ -206,15 +171,16 @@ module _ (base : Base) (width : IsWidth base.width) (text after : List ℕ)
   groups_joined : groups base (text ++ after) ≡ groups base text ++ others
   groups_joined =
       let pos = group_symbols-pos base.width width in
+      let further_on : Positioned → Positioned =
+      λ k. record { position = count + k.position; byte = k.byte } in
       let part : kept_in base (0 + count) after ≡ moved count (kept base after) =
       ap (λ n. kept_in base n after) (omega arith) ∙ kept_in-moved base width count 0 after in
-      ap (runs (group_symbols base.width)) (kept_in-append base 0 text after)
-      ∙ runs-join (group_symbols base.width) (kept base text) _ pos whole
-      ∙ ap (λ ks. groups base text ++ runs (group_symbols base.width) ks) part
-      ∙ ap (λ gs. groups base text ++ gs)
-      (runs-map (group_symbols base.width)
-      (λ (k : Positioned). record { position = count + k.position; byte = k.byte })
-      (kept base after) pos)
+      rw (
+        kept_in-append base 0 text after,
+        runs-join (group_symbols base.width) (kept base text) _ pos whole,
+        part,
+        runs-map (group_symbols base.width) further_on (kept base after) pos,
+      )
 
   module _ (ended : Bool) (sound : AreSound base false (groups base text) ended) where
     -- its fault, as far on as the first text is long
@@ -233,19 +199,20 @@ module _ (base : Base) (width : IsWidth base.width) (text after : List ℕ)
         ap (first_fault base) groups_joined
         ∙ first-AreSound base false ended (groups base text) others sound
         ∙ first-moved base width count ended (groups base after) few in
-        (λ i. or_else (lengths i) (firsts i))
-        ∙ further-or_else count (length_fault base (length after))
-        (first_after ended base (groups base after))
+        rw (lengths, firsts)
+        (further-or_else count (length_fault base (length after))
+        (first_after ended base (groups base after)))
 
     -- and its bytes
     pub bytes-after_whole : sound_bytes base (text ++ after)
         ≡ flat_map (bytes_of_group base) (groups base text)
         ++ bytes_before base width ended (groups base after)
     bytes-after_whole =
-        ap (λ gs. flat_map (bytes_of_group base) (sound_after false base gs)) groups_joined
-        ∙ bytes-AreSound base false ended (groups base text) others sound
-        ∙ ap (λ l. flat_map (bytes_of_group base) (groups base text) ++ l)
-        (sound-moved base width count ended (groups base after) few)
+        rw (
+          groups_joined,
+          bytes-AreSound base false ended (groups base text) others sound,
+          sound-moved base width count ended (groups base after) few,
+        )
 
 module _ (base : Base) (ruled : IsRuled base) (text after bytes : List ℕ)
     (follows : MayBeFollowed base text) (means : Means base text bytes) where
@@ -260,17 +227,16 @@ module _ (base : Base) (ruled : IsRuled base) (text after bytes : List ℕ)
   sound =
       let none = neither_fault (length_fault base (length text))
       (first_fault base (groups base text)) (no_fault-Means base is_width text bytes means) in
-      subst (AreSound base false (groups base text))
-      (not_ended base is_width false (groups base text) refl whole.1)
-      (AreSound-none base false (groups base text) none.1)
+      rw (not_ended base is_width false (groups base text) refl whole.1)
+      at (AreSound-none base false (groups base text) none.1)
 
   pub fault-join : fault_of base (text ++ after) ≡ further (length text) (fault_of base after)
   fault-join = fault-after_whole base is_width text after whole.0 false sound
 
   pub sound_bytes-join : sound_bytes base (text ++ after) ≡ bytes ++ sound_bytes base after
   sound_bytes-join =
-      bytes-after_whole base is_width text after whole.0 false sound
-      ∙ ap (λ l. l ++ sound_bytes base after)
-      (ap (flat_map (bytes_of_group base))
-      (sym (sound-all base false false (groups base text) sound))
-      ∙ sound_bytes-Means base is_width text bytes means)
+      rw (
+        bytes-after_whole base is_width text after whole.0 false sound,
+        ← (sound-all base false false (groups base text) sound),
+        sound_bytes-Means base is_width text bytes means,
+      )

@@ -18,7 +18,7 @@ use Rattle.data_encoding.proofs.digits.WidthLemmas.{group_bits, group_symbols-po
 use Rattle.data_encoding.proofs.lists.EachLemmas.{all_parts, all_weaker}
 use Rattle.data_encoding.proofs.lists.EndLemmas.{AllSo}
 use Rattle.data_encoding.proofs.lists.ListLemmas.{AllFail, position-none, filter-all}
-use Rattle.data_encoding.proofs.lists.RunLemmas.{runs-nil, runs-append}
+use Rattle.data_encoding.proofs.lists.RunLemmas.{runs-nil, runs-append, runs-first}
 use Rattle.data_encoding.proofs.grammar.UnpaddedGroupLemmas.{plain_fault-valid, are_symbols, length-bits_of_values, PlainMeans-sound}
 use Rattle.data_encoding.proofs.grammar.GroupLemmas.{whole-valid, GroupMeans-no_fault, GroupMeans-symbols}
 use Rattle.data_encoding.proofs.grammar.PositionLemmas.{bytes-positioned_from, length-meanings, runs-meanings}
@@ -50,10 +50,9 @@ module _ (base : Base) (width : IsWidth base.width) (group : List Positioned)
   none_trail : trailing_fault base meant ≡ None
   none_trail =
       let many : length values ≡ group_symbols base.width =
-      sym (length-map values (λ value. Symbol value)) ∙ ap length (sym meanings) ∙ meant_len in
+      omega (arith, simp length-map at (ap length meanings), meant_len) in
       let bits : length (symbol_bits base meant) ≡ 8 * group_bytes base.width =
-      length-bits_of_values base.order base.width values
-      ∙ ap (λ n. base.width * n) many ∙ group_bits base.width width in
+      rw (length-bits_of_values base.order base.width values, many) (group_bits base.width width) in
       let rest : trailing_bits base meant ≡ [] =
       drop_all (length (symbol_bits base meant) / 8 * 8) (symbol_bits base meant)
       (omega (arith, bits)) in
@@ -61,9 +60,8 @@ module _ (base : Base) (width : IsWidth base.width) (group : List Positioned)
 
   plain : plain_fault base meant ≡ None
   plain =
-      plain_fault-valid base meant
-      (ap (is_valid_count base.width) meant_len ∙ whole-valid base.width width)
-      ∙ ap (λ o. fault_at_first o (trailing_fault base meant)) none ∙ none_trail
+      plain_fault-valid base meant (rw meant_len (whole-valid base.width width))
+      ∙ rw none none_trail
 
   -- a whole group of symbols has no fault, and may be followed
   pub group_fault-symbols : group_fault base (bytes_in group) ≡ None
@@ -77,10 +75,7 @@ module _ (base : Base) (width : IsWidth base.width) (group : List Positioned)
   is_final-symbols = symbols-not_final base meant values meanings
 
 symbol_kept : (m : Character) → is_symbol m ≡ true → not (is_ignored m) ≡ true
-symbol_kept (Symbol value) h = refl
-symbol_kept Padding h = cc
-symbol_kept Ignored h = cc
-symbol_kept Invalid h = cc
+symbol_kept m h = grind arith
 
 pub symbols-positioned : (base : Base) (start : ℕ) (part : List ℕ)
     → AllSo (λ byte. is_symbol (meaning base byte)) part
@@ -107,10 +102,11 @@ pub AreSound-symbols : (base : Base) → IsWidth base.width → (count : ℕ) (k
     → AreSound base false (runs (group_symbols base.width) ks) false
 AreSound-symbols base width zero ks len symbols =
     let none = nil_from_length ks (len ∙ zero-mul (group_symbols base.width)) in
-    subst (λ gs. AreSound base false gs false)
-    (sym (ap (runs (group_symbols base.width)) none
-    ∙ runs-nil {X = Positioned} (group_symbols base.width) (group_symbols-pos base.width width)))
-    refl
+    rw (
+      none,
+      runs-nil {X = Positioned} (group_symbols base.width)
+          (group_symbols-pos base.width width),
+    )
 AreSound-symbols base width (suc count) ks len symbols =
     let size = group_symbols base.width in
     let front = take size ks in
@@ -119,14 +115,11 @@ AreSound-symbols base width (suc count) ks len symbols =
     let front_len : length front ≡ size = length-take-le size ks (omega (arith, more)) in
     let back_len : length back ≡ count * size = length-drop size ks ∙ omega (arith, more) in
     let parts = all_parts (λ (k : Positioned). is_symbol (meaning base k.byte) ≡ true) front back
-    (subst (AllSo (λ k. is_symbol (meaning base k.byte))) (sym (take-append-drop size ks))
-    symbols) in
-    subst (λ gs. AreSound base false gs false)
-    (sym (runs-append size front back (group_symbols-pos base.width width) front_len)
-    ∙ ap (runs size) (take-append-drop size ks)) (
+    (rw take-append-drop symbols) in
+    let pos = group_symbols-pos base.width width in
+    rw (runs-first size ks pos (omega (arith, more, pos))) (
       ap (located front) (group_fault-symbols base width front front_len parts.0),
-      subst (λ b. AreSound base b (runs size back) false)
-          (sym (is_final-symbols base width front front_len parts.0))
+      rw (is_final-symbols base width front front_len parts.0)
           (AreSound-symbols base width count back back_len parts.1),
     )
 
