@@ -93,14 +93,10 @@ module _ (base : Base) (ruled : IsRuled base) (lines : Wrapping) (some : base.wr
 
     pub alignment-is : alignment base ≡ groups * group_bytes base.width
     alignment-is =
-        ap (λ o. align_by o base.width) some
-        ∙ line-groups lines.column base.width ruled.is_width are.whole
+        rw some (line-groups lines.column base.width ruled.is_width are.whole)
 
     groups-some : 0 < groups
-    groups-some = by groups column-is where
-      by : (n : ℕ) → lines.column ≡ n * group_symbols base.width → 0 < n
-      by zero e = absurd (omega (arith, are.some, e, zero-mul (group_symbols base.width)))
-      by (suc n) e = omega arith
+    groups-some = grind (arith, column-is, are.some)
 
     pub alignment-some : 0 < alignment base
     alignment-some =
@@ -122,17 +118,13 @@ module _ (base : Base) (ruled : IsRuled base) (lines : Wrapping) (some : base.wr
               (group_bytes-few base.width ruled.is_width),
         )
 
-    text-lines : (bytes : List ℕ)
-        → text_of base bytes ≡ in_lines (Some lines) (padded_text base bytes)
-    text-lines bytes = ap (λ o. in_lines o (padded_text base bytes)) some
-
     -- a separator for each line
     pub length-lines : (bytes : List ℕ) → length (text_of base bytes)
         ≡ length (padded_text base bytes)
         + run_count lines.column (length (padded_text base bytes)) * length lines.separator
     length-lines bytes =
-        ap length (text-lines bytes)
-        ∙ length-ended lines.column lines.separator (padded_text base bytes) are.some
+        rw some
+        (length-ended lines.column lines.separator (padded_text base bytes) are.some)
 
     lines-few : (bytes : List ℕ)
         → run_count lines.column (length (padded_text base bytes)) ≤ length bytes
@@ -166,14 +158,8 @@ module _ (base : Base) (ruled : IsRuled base) (lines : Wrapping) (some : base.wr
           omega (
             arith,
             padded-fits base ruled.is_width bytes (count * groups)
-                (omega (
-                  arith,
-                  few,
-                  ap (λ n. count * n) alignment-is,
-                  mul_assoc count groups (group_bytes base.width),
-                )),
+                (omega (arith, few, ap (λ n. count * n) alignment-is)),
             ap (λ n. count * n) column-is,
-            mul_assoc count groups (group_symbols base.width),
           )
 
       pub short-lines : length (text_of base bytes)
@@ -188,7 +174,6 @@ module _ (base : Base) (ruled : IsRuled base) (lines : Wrapping) (some : base.wr
             length-lines bytes,
             padded-lines,
             mul-le-mul_right ends all,
-            mul-add count lines.column ends,
           )
 
     pub whole-lines : (count : ℕ) (bytes : List ℕ) → length bytes ≡ count * alignment base
@@ -196,37 +181,29 @@ module _ (base : Base) (ruled : IsRuled base) (lines : Wrapping) (some : base.wr
     whole-lines count bytes e =
         let ends = length lines.separator in
         let long : length (padded_text base bytes) ≡ count * lines.column =
-        length-padded_groups base ruled.is_width bytes (count * groups)
-        (e ∙ ap (λ n. count * n) alignment-is
-        ∙ sym (mul_assoc count groups (group_bytes base.width)))
-        ∙ mul_assoc count groups (group_symbols base.width)
-        ∙ ap (λ n. count * n) (sym column-is) in
-        length-lines bytes
-        ∙ (λ i. long i + run_count lines.column (long i) * ends)
-        ∙ ap (λ n. count * lines.column + n * ends)
-        (run_count-whole lines.column count are.some)
-        ∙ sym (mul-add count lines.column ends)
+        omega (
+          arith,
+          length-padded_groups base ruled.is_width bytes (count * groups)
+              (omega (arith, e, ap (λ n. count * n) alignment-is)),
+          ap (λ n. count * n) column-is,
+        ) in
+        rw (length-lines bytes, long, run_count-whole lines.column count are.some) (omega arith)
 
     -- data of at most a line
     one-line : (bytes : List ℕ) → length bytes ≤ alignment base → 0 < length bytes
         → text_of base bytes ≡ padded_text base bytes ++ lines.separator
     one-line bytes few any =
-        text-lines bytes
-        ∙ ended-short lines.column lines.separator (padded_text base bytes)
+        rw some
+        (ended-short lines.column lines.separator (padded_text base bytes)
         (padded-some base ruled.is_width bytes any)
-        (omega (arith, padded-lines 1 bytes (omega (arith, few))))
+        (omega (arith, padded-lines 1 bytes (omega (arith, few)))))
 
 -- a separator of 255 behind each line of eight symbols, of one byte, is the most
 pub text-most : (base : Base) → IsRuled base → (bytes : List ℕ)
     → length (text_of base bytes) ≤ 263 * length bytes
 text-most base ruled bytes = by base.wrapping refl where
   by : (o : Option Wrapping) → base.wrapping ≡ o → length (text_of base bytes) ≤ 263 * length bytes
-  by None is =
-      omega (
-        arith,
-        ap length (text_of-unwrapped base bytes is),
-        padded-most base ruled.is_width bytes,
-      )
+  by None is = rw (text_of-unwrapped base bytes is) (omega (arith, padded-most base ruled.is_width bytes))
   by (Some lines) is = lines-most base ruled lines is bytes
 
 pub text_of-nil : (base : Base) → IsRuled base → text_of base [] ≡ []
@@ -241,7 +218,7 @@ pub text_of-line : (base : Base) → IsRuled base → (bytes : List ℕ) → 0 <
 text_of-line base ruled bytes any few = by base.wrapping refl where
   by : (o : Option Wrapping) → base.wrapping ≡ o
       → text_of base bytes ≡ padded_text base bytes ++ separator_by o
-  by None is = text_of-unwrapped base bytes is ∙ sym (append-nil (padded_text base bytes))
+  by None is = rw append-nil (text_of-unwrapped base bytes is)
   by (Some lines) is = one-line base ruled lines is bytes few any
 
 -- a text is ASCII with its separators too
@@ -263,31 +240,25 @@ ascii-text_of base ruled bytes ascii = by base.wrapping ruled.wrapping where
 module _ (e : EncodingTables) (rules : KeepsRules e) (seen : Base)
     (is : base_of_tables e ≡ seen) where
   pub IsRuled-seen : IsRuled seen
-  IsRuled-seen = subst IsRuled is (IsRuled-tables e rules)
+  IsRuled-seen = rw is at (IsRuled-tables e rules)
 
   pub separator-seen : separator_by seen.wrapping ≡ e.separator
-  separator-seen =
-      ap (λ b. separator_by b.wrapping) (sym is)
-      ∙ by e.column e.separator rules.wrapping where
-        by : (column : ℕ) (separator : List ℕ) → KeepsWrapping column separator e.width e.values
-            → separator_by (wrapping_by column separator) ≡ separator
-        by zero separator keeps = sym keeps
-        by (suc n) separator keeps = refl
+  separator-seen = rw (← is) (by e.column e.separator rules.wrapping) where
+    by : (column : ℕ) (separator : List ℕ) → KeepsWrapping column separator e.width e.values
+        → separator_by (wrapping_by column separator) ≡ separator
+    by zero separator keeps = sym keeps
+    by (suc n) separator keeps = refl
 
   pub wrapping-seen : e.column ≢ 0 → seen.wrapping
       ≡ Some (record { column = e.column; separator = e.separator })
-  wrapping-seen h = ap (λ b. b.wrapping) (sym is) ∙ by e.column h where
-    by : (column : ℕ) → column ≢ 0 → wrapping_by column e.separator
-        ≡ Some (record { column = column; separator = e.separator })
-    by zero k = absurd (k refl)
-    by (suc n) k = refl
+  wrapping-seen h = rw (← is) (grind (arith, h))
 
   pub has-lines : e.column ≢ 0 → IsSome seen.wrapping
   has-lines h = ap is_some (wrapping-seen h)
 
   pub unwrapped-seen : e.column ≡ 0 → seen.wrapping ≡ None
   unwrapped-seen h =
-      ap (λ b. b.wrapping) (sym is) ∙ ap (λ n. wrapping_by n e.separator) h
+      rw (← is, h)
 
   pub ascii-seen : (bytes : List ℕ) → AllByRecursion (λ byte. byte < 128) (text_of seen bytes)
   ascii-seen bytes =

@@ -68,21 +68,19 @@ module _ (base : Base) (ruled : IsRuled base) where
     pub none_ignored-plain_text : AllFail (λ byte. is_ignored (meaning base byte))
         (plain_text base bytes)
     none_ignored-plain_text =
-        subst (AllFail (λ byte. is_ignored (meaning base byte))) (sym text_is)
-        (none_ignored values are_values.below)
+        rw text_is (none_ignored values are_values.below)
 
     pub PlainMeans-plain_text : All (λ byte. byte < 256) bytes
         → PlainMeans base (map (meaning base) (plain_text base bytes)) bytes
     PlainMeans-plain_text below =
-        let rest_len = length-replicate lack 0 in record {
+        let rest_len = length-replicate {A = ℕ} lack 0 in record {
           values = values;
           rest = replicate lack 0;
-          are_symbols =
-              ap (map (meaning base)) text_is ∙ own_meanings values are_values.below;
+          are_symbols = rw text_is (own_meanings values are_values.below);
           same_bits = are_values.same_bits;
           rest_is_short =
-              subst (λ n. n < base.width) (sym rest_len)
+              rw rest_len
               (mod_below (base.width - length octets % base.width) base.width width.some);
-          rest_is_zero = λ e. ap (λ n. replicate n 0) (sym rest_len);
+          rest_is_zero = λ e. rw rest_len;
           are_bytes = below;
         }
