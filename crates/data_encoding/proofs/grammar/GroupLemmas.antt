@@ -62,7 +62,8 @@ module _ (base : Base) (width : IsWidth base.width) (group : List Character)
       λ over. le-div 1 bits base.width width.some (omega arith) in
       let front : 0 < count → length (take count group) ≡ count =
       λ begun. length-take-le count group (omega arith) in
-      grind (arith, nat_tests, inside-symbols base group some, inside-symbols base (take count group), plain, front, inside-padding)
+      let fewer = inside-symbols base (take count group) in
+      grind (arith, nat_tests, inside-symbols base group some, fewer, plain, front, inside-padding)
 
 -- the fault of a group is at one of its members
 pub group_fault-inside : (base : Base) → IsWidth base.width → (group : List Positioned)
@@ -78,8 +79,7 @@ pub located-inside : (group : List Positioned) (o : Option GroupFault) (error : 
     → IsInside (length group) o → located group o ≡ Some error
     → (index : ℕ) × (index < length group) × (error.position ≡ position_of group index)
 located-inside group None error inside e = cc
-located-inside group (Some fault) error inside e =
-    (fault.index, inside, cc)
+located-inside group (Some fault) error inside e = (fault.index, inside, cc)
 
 -- or further on, where each byte of one group is so far behind that of the other
 pub located-further : (ks js : List Positioned) (count : ℕ) (o : Option GroupFault)
@@ -123,8 +123,7 @@ all_padding (m ∷ meanings) h = λ i. padding_only m h.0 i ∷ all_padding mean
 -- and is found where there is some
 pub any_padding : (count : ℕ) → list_any is_padding (replicate count Padding) ≡ nat_lt 0 count
 any_padding zero = refl
-any_padding (suc count) =
-    grind (arith, nat_tests)
+any_padding (suc count) = grind (arith, nat_tests)
 
 -- padding has no value
 no_values : (count : ℕ) → filter_map value_of (replicate count Padding) ≡ []
@@ -139,8 +138,7 @@ symbols_alone (value ∷ values) = (refl, symbols_alone values)
 -- and no bytes
 pub bytes_before_padding : (base : Base) (symbols : List Character) (count : ℕ)
     → symbol_bytes base (symbols ++ replicate count Padding) ≡ symbol_bytes base symbols
-bytes_before_padding base symbols count =
-    simp (filter_map-append, no_values, append-nil)
+bytes_before_padding base symbols count = simp (filter_map-append, no_values, append-nil)
 
 -- the symbols of a group, and the padding behind them
 padding-behind : (group : List Character)
@@ -157,11 +155,8 @@ module _ (base : Base) (group : List Character) (bytes : List ℕ)
     pub GroupMeans-length : is_padded base ≡ true
         → length means.symbols + means.padding ≡ group_symbols base.width
     GroupMeans-length padded =
-        omega (
-          arith,
-          simp (length-append, length-replicate) at (ap length means.is_group),
-          means.is_whole padded,
-        )
+        let len = simp (length-append, length-replicate) at (ap length means.is_group) in
+        omega (arith, means.is_whole padded)
 
     symbols_fail : AllFail is_padding means.symbols
     symbols_fail =
@@ -169,11 +164,8 @@ module _ (base : Base) (group : List Character) (bytes : List ℕ)
 
     pub GroupMeans-padding : list_any is_padding group ≡ nat_lt 0 means.padding
     GroupMeans-padding =
-        rw (
-          means.is_group,
-          list_any-append is_padding means.symbols _,
-          list_any-none is_padding means.symbols symbols_fail,
-        ) (any_padding means.padding)
+        rw (means.is_group, list_any-append, list_any-none is_padding means.symbols symbols_fail)
+        (any_padding means.padding)
 
 module _ (base : Base) (width : IsWidth base.width) (group : List Character) where
   -- one with no fault means its bytes
@@ -196,6 +188,8 @@ module _ (base : Base) (width : IsWidth base.width) (group : List Character) whe
         let len : length symbols ≡ count = length-take-le count group (omega arith) in
         let sound : plain_fault base symbols ≡ None =
         plain_fault-valid base symbols (rw len judged.2) ∙ judged.3 in
+        let same : symbol_bytes base group ≡ symbol_bytes base symbols =
+        ap (symbol_bytes base) (padding-behind group) ∙ bytes_before_padding base symbols _ in
         record {
           symbols = symbols;
           padding = length (drop count group);
@@ -203,10 +197,7 @@ module _ (base : Base) (width : IsWidth base.width) (group : List Character) whe
           is_whole = λ padded. omega arith;
           is_plain = λ unpadded. absurd (false≢true (sym unpadded ∙ is));
           is_begun = omega arith;
-          means = subst (PlainMeans base symbols)
-              (sym (ap (symbol_bytes base) (padding-behind group)
-              ∙ bytes_before_padding base symbols (length (drop count group))))
-              (PlainMeans-sound base width symbols sound);
+          means = rw same (PlainMeans-sound base width symbols sound);
         }
 
   module _ (bytes : List ℕ) (means : GroupMeans base group bytes) where
@@ -232,13 +223,9 @@ module _ (base : Base) (width : IsWidth base.width) (group : List Character) whe
       by false is =
           PlainMeans-no_fault base width group bytes (GroupMeans-plain base group bytes is means)
       by true is =
-          let count = length means.symbols in
           let valid = PlainMeans-valid base width means.symbols bytes means.means in
-          let all = means.is_whole is in
-          let whole : nat_lt (length group) (group_symbols base.width) ≡ false =
-          grind (arith, nat_tests, all) in
-          let begun : (count == 0) ≡ false = grind (arith, nat_tests, means.is_begun) in
-          let front : take count group ≡ means.symbols = rw means.is_group (take_at _ _ count refl) in
-          ap (padded_fault_at base group) count_is
-          ∙ rw (whole, begun, valid, front) (sym (plain_fault-valid base means.symbols valid)
-          ∙ PlainMeans-no_fault base width means.symbols bytes means.means)
+          let sound = rw valid at (PlainMeans-no_fault base width means.symbols bytes means.means) in
+          let whole = means.is_whole is in
+          let front : take (length means.symbols) group ≡ means.symbols =
+          rw means.is_group (take_at _ _ _ refl) in
+          rw (count_is, front) (grind (arith, nat_tests, valid, sound, whole))

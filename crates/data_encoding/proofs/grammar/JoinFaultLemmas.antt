@@ -44,15 +44,11 @@ position_of-moved : (count : ℕ) (ks : List Positioned) (index : ℕ) → index
     → position_of (moved count ks) index ≡ count + position_of ks index
 position_of-moved count [] index h = absurd (omega (arith, h))
 position_of-moved count (k ∷ ks) zero h = refl
-position_of-moved count (k ∷ ks) (suc index) h =
-    position_of-moved count ks index (omega (arith, h))
+position_of-moved count (k ∷ ks) (suc index) h = position_of-moved count ks index (omega (arith, h))
 
 further-or_else : (count : ℕ) (o p : Option DecodeError)
     → or_else (further count o) (further count p) ≡ further count (or_else o p)
 further-or_else count o p = grind arith
-
-is_some-further : (count : ℕ) (o : Option DecodeError) → is_some (further count o) ≡ is_some o
-is_some-further count o = grind arith
 
 -- What stands behind whole groups is as valid as alone.
 
@@ -96,15 +92,12 @@ module _ (base : Base) (width : IsWidth base.width) where
       (sym (map-filter further_on keeps (positioned_from start part)))
 
   abbrev pub AreFew : List (List Positioned) → Type 0
-  AreFew gs =
-      AllByRecursion (λ (g : List Positioned). (0 < length g) × (length g ≤ size)) gs
+  AreFew gs = AllByRecursion (λ (g : List Positioned). (0 < length g) × (length g ≤ size)) gs
 
   fault_after-moved : (count : ℕ) (ended : Bool) (group : List Positioned) → 0 < length group
       → length group ≤ size
       → fault_after ended base (moved count group) ≡ further count (fault_after ended base group)
-  fault_after-moved count true group some few =
-      ap (λ n. Some (record { position = n; kind = PaddingFault }))
-      (position_of-moved count group 0 some)
+  fault_after-moved count true group some few = rw (position_of-moved count group 0 some)
   fault_after-moved count false group some few =
       rw (bytes-moved count group)
       (located-further group (moved count group) count (group_fault base (bytes_in group))
@@ -112,19 +105,14 @@ module _ (base : Base) (width : IsWidth base.width) where
 
   pub final-moved : (count : ℕ) (group : List Positioned)
       → is_final base (moved count group) ≡ is_final base group
-  final-moved count group =
-      rw (bytes-moved count group)
+  final-moved count group = rw (bytes-moved count group)
 
   pub first-moved : (count : ℕ) (ended : Bool) (gs : List (List Positioned)) → AreFew gs
       → first_after ended base (map (moved count) gs) ≡ further count (first_after ended base gs)
   first-moved count ended [] few = refl
   first-moved count ended (g ∷ gs) few =
-      rw (
-        fault_after-moved count ended g few.0.0 few.0.1,
-        final-moved count g,
-        first-moved count (is_final base g) gs few.1,
-      )
-      (further-or_else count (fault_after ended base g) (first_after (is_final base g) base gs))
+      rw (fault_after-moved count ended g few.0.0 few.0.1, final-moved count g)
+      (rw (first-moved count (is_final base g) gs few.1) (further-or_else count _ _))
 
   abbrev pub bytes_before : Bool → List (List Positioned) → List ℕ
   bytes_before ended gs = flat_map (bytes_of_group base) (sound_after ended base gs)
@@ -133,22 +121,17 @@ module _ (base : Base) (width : IsWidth base.width) where
       → bytes_before ended (map (moved count) gs) ≡ bytes_before ended gs
   sound-moved count ended [] few = refl
   sound-moved count ended (g ∷ gs) few =
-      rw (
-        fault_after-moved count ended g few.0.0 few.0.1,
-        is_some-further count (fault_after ended base g),
-        final-moved count g,
-      )
-      (by (is_some (fault_after ended base g))
-      (sound-moved count (is_final base g) gs few.1)) where
-        by : (b : Bool)
+      rw (fault_after-moved count ended g few.0.0 few.0.1, final-moved count g)
+      (by (fault_after ended base g) (sound-moved count (is_final base g) gs few.1)) where
+        by : (o : Option DecodeError)
             → bytes_before (is_final base g) (map (moved count) gs)
             ≡ bytes_before (is_final base g) gs
-            → flat_map (bytes_of_group base) (cond b []
+            → flat_map (bytes_of_group base) (cond (is_some (further count o)) []
             (moved count g ∷ sound_after (is_final base g) base (map (moved count) gs)))
-            ≡ flat_map (bytes_of_group base) (cond b []
+            ≡ flat_map (bytes_of_group base) (cond (is_some o) []
             (g ∷ sound_after (is_final base g) base gs))
-        by true others = refl
-        by false others = rw (bytes-moved count g, others)
+        by (Some error) others = refl
+        by None others = rw (bytes-moved count g, others)
 
   not_ended : (begun : Bool) (gs : List (List Positioned)) → begun ≡ false
       → AllFail (is_final base) gs → ends_after base begun gs ≡ false
@@ -165,22 +148,16 @@ module _ (base : Base) (width : IsWidth base.width) (text after : List ℕ)
   others = map (moved count) (groups base after)
 
   few : AreFew base width (groups base after)
-  few =
-      few_runs (group_symbols base.width) (kept base after) (group_symbols-pos base.width width)
+  few = few_runs (group_symbols base.width) (kept base after) (group_symbols-pos base.width width)
 
   groups_joined : groups base (text ++ after) ≡ groups base text ++ others
   groups_joined =
       let pos = group_symbols-pos base.width width in
-      let further_on : Positioned → Positioned =
-      λ k. record { position = count + k.position; byte = k.byte } in
+      let size = group_symbols base.width in
       let part : kept_in base (0 + count) after ≡ moved count (kept base after) =
       ap (λ n. kept_in base n after) (omega arith) ∙ kept_in-moved base width count 0 after in
-      rw (
-        kept_in-append base 0 text after,
-        runs-join (group_symbols base.width) (kept base text) _ pos whole,
-        part,
-        runs-map (group_symbols base.width) further_on (kept base after) pos,
-      )
+      rw (kept_in-append base 0 text after, runs-join size (kept base text) _ pos whole)
+      (rw (part, runs-map size _ (kept base after) pos))
 
   module _ (ended : Bool) (sound : AreSound base false (groups base text) ended) where
     -- its fault, as far on as the first text is long
@@ -190,15 +167,12 @@ module _ (base : Base) (width : IsWidth base.width) (text after : List ℕ)
     fault-after_whole =
         let lengths : length_fault base (length (text ++ after))
         ≡ further count (length_fault base (length after)) =
-        ap (length_fault base) (length-append text after)
-        ∙ length_fault-behind base width count (length after)
-        (λ none. ap (λ n. n % group_symbols base.width) (sym (length-kept_plain base text none))
-        ∙ whole) in
+        rw (length-append text after) (length_fault-behind base width count (length after)
+        (λ none. rw (← (length-kept_plain base text none)) whole)) in
         let firsts : first_fault base (groups base (text ++ after))
         ≡ further count (first_after ended base (groups base after)) =
-        ap (first_fault base) groups_joined
-        ∙ first-AreSound base false ended (groups base text) others sound
-        ∙ first-moved base width count ended (groups base after) few in
+        rw (groups_joined, first-AreSound base false ended (groups base text) others sound)
+        (first-moved base width count ended (groups base after) few) in
         rw (lengths, firsts)
         (further-or_else count (length_fault base (length after))
         (first_after ended base (groups base after)))
@@ -208,11 +182,8 @@ module _ (base : Base) (width : IsWidth base.width) (text after : List ℕ)
         ≡ flat_map (bytes_of_group base) (groups base text)
         ++ bytes_before base width ended (groups base after)
     bytes-after_whole =
-        rw (
-          groups_joined,
-          bytes-AreSound base false ended (groups base text) others sound,
-          sound-moved base width count ended (groups base after) few,
-        )
+        rw (groups_joined, bytes-AreSound base false ended (groups base text) others sound)
+        (rw (sound-moved base width count ended (groups base after) few))
 
 module _ (base : Base) (ruled : IsRuled base) (text after bytes : List ℕ)
     (follows : MayBeFollowed base text) (means : Means base text bytes) where
@@ -235,8 +206,6 @@ module _ (base : Base) (ruled : IsRuled base) (text after bytes : List ℕ)
 
   pub sound_bytes-join : sound_bytes base (text ++ after) ≡ bytes ++ sound_bytes base after
   sound_bytes-join =
-      rw (
-        bytes-after_whole base is_width text after whole.0 false sound,
-        ← (sound-all base false false (groups base text) sound),
-        sound_bytes-Means base is_width text bytes means,
-      )
+      rw (bytes-after_whole base is_width text after whole.0 false sound)
+      (rw (← (sound-all base false false (groups base text) sound))
+      (rw (sound_bytes-Means base is_width text bytes means)))

@@ -47,8 +47,7 @@ module _ (base : Base) (ruled : IsRuled base) where
       → AllFail (is_final base) gs → GroupsMean base (map (meanings_in base) gs) bytes
       → GroupsMean base (map (meanings_in base) hs) more
       → GroupsMean base (map (meanings_in base) (gs ++ hs)) (bytes ++ more)
-  GroupsMean-append [] hs bytes more none first second =
-      rw first second
+  GroupsMean-append [] hs bytes more none first second = rw first second
   GroupsMean-append (g ∷ gs) hs bytes more none first second = (
     first.0,
     first.1 ++ more,

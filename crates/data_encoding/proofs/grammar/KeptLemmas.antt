@@ -57,8 +57,7 @@ module _ (base : Base) where
 
   -- nothing is left after all of a text
   pub nothing-left : (text : List ℕ) → kept_from base (length text) text ≡ []
-  nothing-left text =
-      rw (drop_all (length text) text (omega arith))
+  nothing-left text = rw (drop_all (length text) text (omega arith))
 
 -- the position after the last of some is that of these and any before them
 after_first-append : (xs ys : List Positioned) → 0 < length xs

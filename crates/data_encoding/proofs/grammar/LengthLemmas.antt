@@ -54,8 +54,7 @@ module _ (base : Base) (len : ℕ) where
 -- the length of whole groups is valid
 pub whole-length : (base : Base) → IsWidth base.width → (len : ℕ)
     → len % group_symbols base.width ≡ 0 → is_valid_length base len ≡ true
-whole-length base width len exact =
-    grind (arith, nat_tests, widths base.width width)
+whole-length base width len exact = grind (arith, nat_tests, widths base.width width)
 
 -- so a group of no valid length is not whole
 pub whole-less : (base : Base) → IsWidth base.width → (len : ℕ) → len ≤ group_symbols base.width

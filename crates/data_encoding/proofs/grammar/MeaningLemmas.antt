@@ -27,13 +27,9 @@ none_follow base ended [] h = refl
 none_follow base ended (g ∷ gs) h = let never = fault_after-none base true g h.0 in cc
 
 module _ (base : Base) (width : IsWidth base.width) where
-  abbrev AreFew : List (List Positioned) → Type 0
-  AreFew gs =
-      AllByRecursion (λ (g : List Positioned).
-      (0 < length g) × (length g ≤ group_symbols base.width)) gs
-
   -- groups without a fault mean their bytes joined
-  GroupsMean-sound : (begun ended : Bool) (gs : List (List Positioned)) → AreFew gs
+  GroupsMean-sound : (begun ended : Bool) (gs : List (List Positioned))
+      → AllByRecursion (λ g. (0 < length g) × (length g ≤ group_symbols base.width)) gs
       → AreSound base begun gs ended
       → GroupsMean base (map (meanings_in base) gs) (flat_map (bytes_of_group base) gs)
   GroupsMean-sound begun ended [] few h = refl
@@ -44,8 +40,7 @@ module _ (base : Base) (width : IsWidth base.width) where
     GroupMeans-sound base width (meanings_in base g)
         (omega (arith, few.0.0, length-meanings base g))
         (omega (arith, few.0.1, length-meanings base g)) (fault_after-none base begun g h.0).1,
-    (λ final. ap (map (meanings_in base))
-        (none_follow base ended gs (subst (λ b. AreSound base b gs ended) final h.1))),
+    (λ final. ap (map (meanings_in base)) (none_follow base ended gs (rw final at h.1))),
     GroupsMean-sound (is_final base g) ended gs few.1 h.1,
   )
 
@@ -55,24 +50,18 @@ module _ (base : Base) (width : IsWidth base.width) where
       → GroupsMean base (map (meanings_in base) gs) bytes
       → AreSound base begun gs (ends_after base begun gs)
   sound-GroupsMean begun [] bytes last h = refl
-  sound-GroupsMean begun (g ∷ gs) bytes last h =
-      (here begun last, sound-GroupsMean (is_final base g) gs h.1 h.4 h.5) where
-        here : (b : Bool) → (b ≡ true → map (meanings_in base) (g ∷ gs) ≡ [])
-            → fault_after b base g ≡ None
-        here true none = let never = none refl in cc
-        here false none =
-            ap (located g) (GroupMeans-no_fault base width (meanings_in base g) h.0 h.3)
+  sound-GroupsMean true (g ∷ gs) bytes last h = let never = last refl in absurd cc
+  sound-GroupsMean false (g ∷ gs) bytes last h = (
+    ap (located g) (GroupMeans-no_fault base width (meanings_in base g) h.0 h.3),
+    sound-GroupsMean (is_final base g) gs h.1 h.4 h.5,
+  )
 
   bytes-GroupsMean : (gs : List (List Positioned)) (bytes : List ℕ)
       → GroupsMean base (map (meanings_in base) gs) bytes
       → flat_map (bytes_of_group base) gs ≡ bytes
   bytes-GroupsMean [] bytes h = sym h
   bytes-GroupsMean (g ∷ gs) bytes h =
-      rw (
-        GroupMeans-bytes base width (meanings_in base g) h.0 h.3,
-        bytes-GroupsMean gs h.1 h.5,
-      )
-      (sym h.2)
+      cc (GroupMeans-bytes base width (meanings_in base g) h.0 h.3, bytes-GroupsMean gs h.1 h.5)
 
   -- Where there is padding, they are whole, and each means at most the bytes of a whole group.
   module _ (padded : is_padded base ≡ true) where

@@ -24,8 +24,7 @@ positioned_from-append place (x ∷ xs) ys =
 
 pub length-positioned_from : (place : ℕ) (text : List ℕ)
     → length (positioned_from place text) ≡ length text
-length-positioned_from place text =
-    simp (length-map, length-enumerate_from)
+length-positioned_from place text = simp (length-map, length-enumerate_from)
 
 -- what the bytes of a group mean is as long as the group
 pub length-meanings : (base : Base) (ks : List Positioned)
@@ -48,8 +47,7 @@ runs-meanings base size ks some =
 pub bytes-positioned_from : (place : ℕ) (group : List ℕ)
     → bytes_in (positioned_from place group) ≡ group
 bytes-positioned_from place [] = refl
-bytes-positioned_from place (byte ∷ group) =
-    rw (bytes-positioned_from (place + 1) group)
+bytes-positioned_from place (byte ∷ group) = rw (bytes-positioned_from (place + 1) group)
 
 pub length-by_bytes : (ks : List Positioned) (group : List ℕ) → bytes_in ks ≡ group
     → length ks ≡ length group

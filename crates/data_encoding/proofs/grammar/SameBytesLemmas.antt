@@ -41,5 +41,4 @@ module _ (base : Base) where
     pub Means-same : (text other bytes : List ℕ)
         → bytes_in (kept base text) ≡ bytes_in (kept base other) → Means base text bytes
         → Means base other bytes
-    Means-same text other bytes same =
-        Means-alike text other bytes (ap (map (meaning base)) same)
+    Means-same text other bytes same = Means-alike text other bytes (ap (map (meaning base)) same)

@@ -57,8 +57,7 @@ module _ (base : Base) where
   seen-positioned : (start : ℕ) (text : List ℕ)
       → seen_in (positioned_from start text) ≡ enumerate_from start (map (meaning base) text)
   seen-positioned start [] = refl
-  seen-positioned start (byte ∷ text) =
-      rw (seen-positioned (start + 1) text)
+  seen-positioned start (byte ∷ text) = rw (seen-positioned (start + 1) text)
 
   -- bytes that mean the same are kept at the same positions
   kept_in-seen : (start : ℕ) (text other : List ℕ)
@@ -66,23 +65,14 @@ module _ (base : Base) where
       → seen_in (kept_in base start text) ≡ seen_in (kept_in base start other)
   kept_in-seen start text other same =
       let keeps : ℕ × Character → Bool = λ s. not (is_ignored s.1) in
-      rw (
-        map-filter seen keeps (positioned_from start text),
-        map-filter seen keeps (positioned_from start other),
-        seen-positioned,
-        seen-positioned,
-        same,
-      )
+      simp (map-filter seen keeps, seen-positioned, same)
 
   fault_after-seen : (ended : Bool) (ks js : List Positioned) → seen_in ks ≡ seen_in js
       → fault_after ended base ks ≡ fault_after ended base js
   fault_after-seen ended ks js same =
       let stand = of-seen (λ p. p.0) ks js same in
-      rw (
-        fault_at-alike ks js stand PaddingFault 0,
-        located-alike ks js stand (group_fault base (bytes_in ks)),
-        meanings-seen ks js same,
-      )
+      rw (fault_at-alike ks js stand PaddingFault 0, located-alike ks js stand _)
+      (rw (meanings-seen ks js same))
 
   -- the first faulty group has the same fault
   first_after-seen : (ended : Bool) (gs hs : List (List Positioned))
@@ -93,11 +83,8 @@ module _ (base : Base) where
   first_after-seen ended (ks ∷ gs) (js ∷ hs) same =
       let here : seen_in ks ≡ seen_in js = cc in
       let others : map seen_in gs ≡ map seen_in hs = cc in
-      rw (
-        fault_after-seen ended ks js here,
-        meanings-seen ks js here,
-        first_after-seen (is_final base js) gs hs others,
-      )
+      rw (fault_after-seen ended ks js here, meanings-seen ks js here)
+      (rw (first_after-seen (is_final base js) gs hs others))
 
   module _ (width : IsWidth base.width) (text other : List ℕ)
       (same : map (meaning base) text ≡ map (meaning base) other) where

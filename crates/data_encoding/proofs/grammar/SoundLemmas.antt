@@ -44,8 +44,7 @@ module _ (base : Base) where
   pub AreSound-append : (begun middle ended : Bool) (groups others : List (List Positioned))
       → AreSound base begun groups middle → AreSound base middle others ended
       → AreSound base begun (groups ++ others) ended
-  AreSound-append begun middle ended [] others h k =
-      rw h k
+  AreSound-append begun middle ended [] others h k = rw h k
   AreSound-append begun middle ended (group ∷ groups) others h k =
       (h.0, AreSound-append (is_final base group) middle ended groups others h.1 k)
 
@@ -76,13 +75,11 @@ module _ (base : Base) where
 
   pub first-none : (begun ended : Bool) (groups : List (List Positioned))
       → AreSound base begun groups ended → first_after begun base groups ≡ None
-  first-none begun ended groups h =
-      simp append-nil at (first-AreSound begun ended groups [] h)
+  first-none begun ended groups h = simp append-nil at (first-AreSound begun ended groups [] h)
 
   pub sound-all : (begun ended : Bool) (groups : List (List Positioned))
       → AreSound base begun groups ended → sound_after begun base groups ≡ groups
-  sound-all begun ended groups h =
-      simp append-nil at (sound-AreSound begun ended groups [] h)
+  sound-all begun ended groups h = simp append-nil at (sound-AreSound begun ended groups [] h)
 
   -- groups are sound where none has a fault
   pub AreSound-none : (begun : Bool) (groups : List (List Positioned))

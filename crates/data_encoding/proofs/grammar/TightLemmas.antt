@@ -27,8 +27,7 @@ no_lines-plain base ruled none = by base.wrapping ruled.wrapping where
       → AllByRecursion (λ byte. (byte < 128) × (meaning base byte ≡ Ignored)) bytes
       → 0 < length bytes → ⊥
   ignored_by [] all some = absurd (omega (arith, some))
-  ignored_by (byte ∷ bytes) all some =
-      cc (never_ignored base none byte, ap is_ignored all.0.1)
+  ignored_by (byte ∷ bytes) all some = cc (never_ignored base none byte, ap is_ignored all.0.1)
 
   by : (o : Option Wrapping) → IsRuledWrapping base o → o ≡ None
   by None h = refl
@@ -49,14 +48,9 @@ length-plain_text_of base ruled unpadded none text bytes others means same =
     let count = symbols_of base.width ruled.is_width (length meant) (length bytes)
     (length plain.rest) (PlainMeans-count base ruled.is_width meant bytes plain)
     plain.rest_is_short in
-    rw (
-      text_of-unwrapped base others (no_lines-plain base ruled none),
-      length-unpadded base others ruled.is_width (ap is_some unpadded),
-      same,
-      count,
-      length-meanings,
-    )
-    (sym (length-kept_plain base text none))
+    rw (no_lines-plain base ruled none)
+    (rw (length-unpadded base others ruled.is_width (ap is_some unpadded), same, count)
+    (rw length-meanings (sym (length-kept_plain base text none))))
 
 pub most-Means : (base : Base) → IsWidth base.width → base.padding ≡ None
     → ignores_some base ≡ false → (text bytes : List ℕ) → Means base text bytes
@@ -72,8 +66,7 @@ most-Means base width unpadded none text bytes means =
 
 each-bytes : (base : Base) (gs : List (List Character)) (bytes : List ℕ)
     → GroupsMean base gs bytes → All (λ byte. byte < 256) bytes
-each-bytes base [] bytes none =
-    rw none (All-from_recursion (λ byte. byte < 256) [] tt)
+each-bytes base [] bytes none = rw none (All-from_recursion (λ byte. byte < 256) [] tt)
 each-bytes base (group ∷ gs) bytes means =
     rw means.2 (All-append (λ byte. byte < 256) means.0 means.1 means.3.means.are_bytes
     (each-bytes base gs means.1 means.5))

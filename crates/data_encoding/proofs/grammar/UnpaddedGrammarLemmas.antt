@@ -13,11 +13,12 @@ use Rattle.data_encoding.specs.Grammar.{GroupsMean, Means, PlainMeans, kept, mea
 use Rattle.data_encoding.proofs.grammar.GroupLemmas.{GroupMeans-plain, GroupMeans-symbols}
 use Rattle.data_encoding.proofs.grammar.PositionLemmas.{runs-meanings}
 use Rattle.data_encoding.proofs.grammar.SoundLemmas.{symbols-not_final}
-use Rattle.data_encoding.proofs.grammar.UnpaddedGroupLemmas.{PlainMeans-count, length-bits_of_bytes, length-bits_of_values}
+use Rattle.data_encoding.proofs.grammar.UnpaddedGroupLemmas.{PlainMeans-count, length-bits_of_bytes, length-bits_of_values, PlainMeans-sound}
 use Rattle.data_encoding.proofs.lists.ListLemmas.{parts_same}
 use Rattle.data_encoding.proofs.lists.RunLemmas.{by_runs, runs-first, runs-nil, runs-short}
 use Rattle.data_encoding.proofs.digits.WidthLemmas.{group_bits, group_symbols-pos}
 use Rattle.std.proofs.Math.Nat.{mul-le-mul_left}
+use Rattle.std.proofs.lemmas.Bool.Decides.{nat_tests}
 
 module _ (base : Base) (width : IsWidth base.width) where
   abbrev size : ℕ
@@ -30,15 +31,7 @@ module _ (base : Base) (width : IsWidth base.width) where
   bits values = flat_map (bits_of base.order base.width) values
 
   PlainMeans-nil : PlainMeans base [] []
-  PlainMeans-nil = record {
-    values = [];
-    rest = [];
-    are_symbols = refl;
-    same_bits = refl;
-    rest_is_short = width.some;
-    rest_is_zero = λ e. refl;
-    are_bytes = All-from_recursion (λ byte. byte < 256) [] tt;
-  }
+  PlainMeans-nil = PlainMeans-sound base width [] (grind (arith, nat_tests))
 
   -- symbols of whole bytes, and others behind them, mean their bytes joined
   pub PlainMeans-append : (group others : List Character) (bytes more : List ℕ) (whole : ℕ)
@@ -72,14 +65,7 @@ module _ (base : Base) (width : IsWidth base.width) where
       let count = PlainMeans-count base width ks bytes means in
       let full : base.width * size ≡ 8 * byte_count = group_bits base.width width in
       let enough : byte_count ≤ length bytes =
-      omega (
-        arith,
-        count,
-        full,
-        mul-le-mul_left base.width long,
-        means.rest_is_short,
-        width.few,
-      ) in
+      omega (arith, mul-le-mul_left base.width long) in
       let v = take size means.values in
       let vs = drop size means.values in
       let v_len : length v ≡ size =

@@ -115,13 +115,7 @@ module _ (base : Base) (width : IsWidth base.width) (group : List Character) whe
         let front = bits_of_bytes base.order bytes in
         let len = simp length-append at (ap length bits_are) in
         let whole : length (symbol_bits base group) / 8 * 8 ≡ length front =
-        omega (
-          arith,
-          len,
-          length-bits_of_bytes base.order bytes,
-          means.rest_is_short,
-          width.few,
-        ) in (
+        omega (arith, length-bits_of_bytes base.order bytes) in (
           rw (whole, bits_are) (take_at front means.rest (length front) refl),
           rw (whole, bits_are) (drop_at front means.rest (length front) refl),
         )
@@ -141,12 +135,9 @@ module _ (base : Base) (width : IsWidth base.width) (group : List Character) whe
 
     pub PlainMeans-bytes : symbol_bytes base group ≡ bytes
     PlainMeans-bytes =
-        rw (
-          split.0,
-          runs-flat_map 8 (bits_of base.order 8) bytes (omega arith) (length-bits_of base.order 8),
-        )
-        (numbers_back base.order bytes
-        (recursion_from_All (λ byte. byte < 256) bytes means.are_bytes))
+        rw split.0
+        (rw (runs-flat_map 8 (bits_of base.order 8) bytes (omega arith) (length-bits_of base.order 8))
+        (numbers_back base.order bytes (recursion_from_All _ bytes means.are_bytes)))
 
     no_trailing : trailing_fault base group ≡ None
     no_trailing =

@@ -47,8 +47,8 @@ module _ (base : Base) (width : IsWidth base.width) (group : List Positioned)
   meanings : meant ≡ map (λ value. Symbol value) values
   meanings = are_symbols meant none
 
-  none_trail : trailing_fault base meant ≡ None
-  none_trail =
+  plain : plain_fault base meant ≡ None
+  plain =
       let many : length values ≡ group_symbols base.width =
       omega (arith, simp length-map at (ap length meanings), meant_len) in
       let bits : length (symbol_bits base meant) ≡ 8 * group_bytes base.width =
@@ -56,12 +56,9 @@ module _ (base : Base) (width : IsWidth base.width) (group : List Positioned)
       let rest : trailing_bits base meant ≡ [] =
       drop_all (length (symbol_bits base meant) / 8 * 8) (symbol_bits base meant)
       (omega (arith, bits)) in
-      rw (rest, and-false base.checks_trailing_bits)
-
-  plain : plain_fault base meant ≡ None
-  plain =
-      plain_fault-valid base meant (rw meant_len (whole-valid base.width width))
-      ∙ rw none none_trail
+      let valid : is_valid_count base.width (length meant) ≡ true =
+      rw meant_len (whole-valid base.width width) in
+      rw (valid, none, rest, and-false base.checks_trailing_bits)
 
   -- a whole group of symbols has no fault, and may be followed
   pub group_fault-symbols : group_fault base (bytes_in group) ≡ None
@@ -87,13 +84,9 @@ symbols-positioned base start (byte ∷ part) h = (h.0, symbols-positioned base 
 pub kept_in-symbols : (base : Base) (start : ℕ) (part : List ℕ)
     → AllSo (λ byte. is_symbol (meaning base byte)) part
     → kept_in base start part ≡ positioned_from start part
-kept_in-symbols base start part h =
-    filter-all (λ (k : Positioned). not (is_ignored (meaning base k.byte)))
-    (positioned_from start part)
-    (all_weaker (λ k. is_symbol (meaning base k.byte) ≡ true)
-    (λ k. not (is_ignored (meaning base k.byte)) ≡ true)
-    (λ k h. symbol_kept (meaning base k.byte) h) (positioned_from start part)
-    (symbols-positioned base start part h))
+kept_in-symbols base start [] h = refl
+kept_in-symbols base start (byte ∷ part) h =
+    rw (symbol_kept (meaning base byte) h.0, kept_in-symbols base (start + 1) part h.1)
 
 -- whole groups of symbols are sound
 pub AreSound-symbols : (base : Base) → IsWidth base.width → (count : ℕ) (ks : List Positioned)
@@ -102,11 +95,7 @@ pub AreSound-symbols : (base : Base) → IsWidth base.width → (count : ℕ) (k
     → AreSound base false (runs (group_symbols base.width) ks) false
 AreSound-symbols base width zero ks len symbols =
     let none = nil_from_length ks (len ∙ zero-mul (group_symbols base.width)) in
-    rw (
-      none,
-      runs-nil {X = Positioned} (group_symbols base.width)
-          (group_symbols-pos base.width width),
-    )
+    rw (none, runs-nil {X = Positioned} _ (group_symbols-pos base.width width))
 AreSound-symbols base width (suc count) ks len symbols =
     let size = group_symbols base.width in
     let front = take size ks in

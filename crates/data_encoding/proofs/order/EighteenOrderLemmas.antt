@@ -37,8 +37,7 @@ is_most order h = grind arith
 
 -- what shows that a base is ordered
 abbrev is_ascending : Base → Bool
-is_ascending base =
-    (order_flag base.order == 8) && ascends base.symbols && is_none base.padding
+is_ascending base = (order_flag base.order == 8) && ascends base.symbols && is_none base.padding
 
 is_ordered : (base : Base) → is_ascending base ≡ true → IsOrdered base
 is_ordered base h =
@@ -48,13 +47,11 @@ is_ordered base h =
     record {
       most_significant_first = is_most base.order first.0;
       ascending = pairs-ascend base.symbols first.1;
-      padding_first =
-          λ character padded. absurd (false≢true (sym (ap is_none padded) ∙ both.1));
+      padding_first = λ character padded. absurd (false≢true (sym (ap is_none padded) ∙ both.1));
     }
 
 pub six-ordered : All (Yields IsOrdered) ordered_fields
-six-ordered =
-    yields_all IsOrdered is_ascending (λ base ruled. is_ordered base) ordered_fields refl
+six-ordered = yields_all IsOrdered is_ascending (λ base ruled. is_ordered base) ordered_fields refl
 
 -- a symbol that is not below the next
 abbrev Descends : ℕ → Base → Type 0

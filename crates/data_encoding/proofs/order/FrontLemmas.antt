@@ -56,8 +56,7 @@ front_number-below n xs h =
 
 -- no bits
 front_number-nil : (n : ℕ) → front_number n [] ≡ 0
-front_number-nil n =
-    rw (front-nil n, reverse-zeros n) (number-zeros n)
+front_number-nil n = rw (front-nil n, reverse-zeros n) (number-zeros n)
 
 -- a bit more
 front_number-cons : (n x : ℕ) (xs : List ℕ)
@@ -88,8 +87,7 @@ before-behind n (x ∷ same) xs ys h = inr (refl, before-behind n same xs ys h)
 bits_of-last : (count x : ℕ) (xs : List ℕ)
     → bits_of MostSignificantFirst (suc count) x ++ xs
     ≡ bits_of MostSignificantFirst count (x / 2) ++ (x % 2 ∷ xs)
-bits_of-last count x xs =
-    rw (reverse-append (x % 2 ∷ []) (low_bits count (x / 2)), append_assoc)
+bits_of-last count x xs = rw (reverse-append (x % 2 ∷ []) (low_bits count (x / 2)), append_assoc)
 
 -- the bits of a lesser number, whatever follows
 before-bits : (n count x y : ℕ) (xs ys : List ℕ) → x < y → y < 2 ^ count

@@ -22,8 +22,7 @@ module _ (base : Base) (width : ℕ) (order : BitOrder) (some : 0 < width) where
   shown_run run = symbol base (number_of order run)
 
   text_by-nil : text_by base width order [] ≡ []
-  text_by-nil =
-      rw (filled-whole 0 width [] (mod-eq_of_lt some), runs-nil {X = ℕ} width some)
+  text_by-nil = rw (filled-whole 0 width [] (mod-eq_of_lt some), runs-nil {X = ℕ} width some)
 
   -- the first symbol, and the text of the bits behind its own
   pub text_by-first : (bits : List ℕ) → 0 < length bits
@@ -160,8 +159,7 @@ module _ (base : Base) where
         by_padding : (o : Option ℕ) → base.padding ≡ o
             → IsBefore (with_padding o size (text_in MostSignificantFirst bytes))
             (with_padding o size (text_in MostSignificantFirst others))
-        by_padding None none =
-            simp append-nil at (texts [] (λ value h rest. tt) [])
+        by_padding None none = simp append-nil at (texts [] (λ value h rest. tt) [])
         by_padding (Some character) is =
             let low : (value : ℕ) → value < 2 ^ base.width → character < symbol base value =
             λ value h. ordered.padding_first character is value 0

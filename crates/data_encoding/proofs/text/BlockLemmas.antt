@@ -67,12 +67,7 @@ module _ (base : Base) (len : ℕ) (is : IsBlockLength base len) (room size : �
 
   pub piece-few : room / len * size ≤ room
   piece-few =
-      omega (
-        arith,
-        size-same,
-        mul-le-mul_left (room / len) is.no_shorter,
-        div-mul-le_self room len,
-      )
+      omega (arith, size-same, mul-le-mul_left (room / len) is.no_shorter, div-mul-le_self room len)
 
   pub piece-some : 510 ≤ room → 0 < room / len * size
   piece-some most =
@@ -86,8 +81,4 @@ module _ (base : Base) (len : ℕ) (is : IsBlockLength base len) (room size : �
   pub piece-fits : (bytes : List ℕ) → length bytes ≤ room / len * size
       → length (text_of base bytes) ≤ room
   piece-fits bytes few =
-      omega (
-        arith,
-        is.fits (room / len) bytes (rw size-same at few),
-        div-mul-le_self room len,
-      )
+      omega (arith, is.fits (room / len) bytes (rw size-same at few), div-mul-le_self room len)

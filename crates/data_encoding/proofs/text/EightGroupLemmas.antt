@@ -22,8 +22,7 @@ use Rattle.data_encoding.proofs.text.PlainTextLemmas.{plain_text-join, plain_tex
 map-pieces : {X Y Z : Type 0} (f : Y → Z) (g : X → List Y) (xs : List X)
     → map f (flat_map g xs) ≡ flat_map (λ x. map f (g x)) xs
 map-pieces f g [] = refl
-map-pieces f g (x ∷ xs) =
-    simp (map-append, map-pieces f g xs)
+map-pieces f g (x ∷ xs) = simp (map-append, map-pieces f g xs)
 
 module _ (base : Base) (order : BitOrder) (width bytes count : ℕ) (symbols : List ℕ)
     (group : IsGroup width bytes count) (writes : Writes base symbols width order) where

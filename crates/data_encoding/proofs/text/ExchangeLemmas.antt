@@ -22,8 +22,7 @@ module _ (base other : Base) (ruled : IsRuled base) (differ : DifferInSymbols ba
   symbols-exchanged : (ns : List ℕ) → AllByRecursion (λ n. n < 2 ^ base.width) ns
       → map exchange (map (symbol base) ns) ≡ map (symbol other) ns
   symbols-exchanged [] h = refl
-  symbols-exchanged (n ∷ ns) h =
-      rw (own_meaning base ruled n h.0, symbols-exchanged ns h.1)
+  symbols-exchanged (n ∷ ns) h = rw (own_meaning base ruled n h.0, symbols-exchanged ns h.1)
 
   plain-exchanged : (bytes : List ℕ)
       → plain_text other bytes ≡ map exchange (plain_text base bytes)
@@ -71,8 +70,7 @@ module _ (base other : Base) (ruled : IsRuled base) (differ : DifferInSymbols ba
       → AllByRecursion (λ byte. (byte < 128) × (meaning base byte ≡ Ignored)) part
       → map exchange part ≡ part
   ignored-exchanged [] h = refl
-  ignored-exchanged (byte ∷ part) h =
-      rw (h.0.1, ignored-exchanged part h.1)
+  ignored-exchanged (byte ∷ part) h = rw (h.0.1, ignored-exchanged part h.1)
 
   module _ (lines : Wrapping) (are : AreLines base lines) where
     each_line : (parts : List (List ℕ))

@@ -11,8 +11,7 @@ use Rattle.data_encoding.proofs.text.TextJoinLemmas.{text_of-join}
 
 -- two lengths of whole blocks together
 whole-both : (m n size : ℕ) → m % size ≡ 0 → n % size ≡ 0 → (m + n) % size ≡ 0
-whole-both m n size one other =
-    rw (← (mod-add-mod m size n), one, zero-add) other
+whole-both m n size one other = rw (← (mod-add-mod m size n), one, zero-add) other
 
 -- nothing was handed over yet
 pub HasEncoded-nothing : (base : Base) → IsRuled base → (text : List ℕ) → 0 < alignment base

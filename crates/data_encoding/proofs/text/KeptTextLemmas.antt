@@ -18,8 +18,7 @@ use Rattle.data_encoding.proofs.text.SymbolMeaningLemmas.{none_ignored-plain_tex
 module _ {X : Type 0} (test : X → Bool) where
   filter-none : (xs : List X) → AllFail test xs → filter test xs ≡ []
   filter-none [] h = refl
-  filter-none (x ∷ xs) h =
-      rw h.0 (filter-none xs h.1)
+  filter-none (x ∷ xs) h = rw h.0 (filter-none xs h.1)
 
   -- what is put after each part, and left out
   filter-ended : (end : List X) → filter test end ≡ [] → (parts : List (List X))

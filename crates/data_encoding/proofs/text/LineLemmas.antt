@@ -92,8 +92,7 @@ module _ (base : Base) (ruled : IsRuled base) (lines : Wrapping) (some : base.wr
     column-is = whole-parts lines.column (group_symbols base.width) are.whole
 
     pub alignment-is : alignment base ≡ groups * group_bytes base.width
-    alignment-is =
-        rw some (line-groups lines.column base.width ruled.is_width are.whole)
+    alignment-is = rw some (line-groups lines.column base.width ruled.is_width are.whole)
 
     groups-some : 0 < groups
     groups-some = grind (arith, column-is, are.some)
@@ -133,11 +132,7 @@ module _ (base : Base) (ruled : IsRuled base) (lines : Wrapping) (some : base.wr
         let long : size ≤ lines.column =
         omega (arith, column-is, mul-le 1 size groups size groups-some (omega arith)) in
         run_count-few lines.column (length (padded_text base bytes)) (length bytes) are.some
-        (omega (
-          arith,
-          padded-each base ruled.is_width bytes,
-          mul-le-mul_left (length bytes) long,
-        ))
+        (omega (arith, padded-each base ruled.is_width bytes, mul-le-mul_left (length bytes) long))
 
     lines-most : (bytes : List ℕ) → length (text_of base bytes) ≤ 263 * length bytes
     lines-most bytes =
@@ -169,12 +164,7 @@ module _ (base : Base) (ruled : IsRuled base) (lines : Wrapping) (some : base.wr
           let all : run_count lines.column (length (padded_text base bytes)) ≤ count =
           run_count-few lines.column (length (padded_text base bytes)) count are.some
           padded-lines in
-          omega (
-            arith,
-            length-lines bytes,
-            padded-lines,
-            mul-le-mul_right ends all,
-          )
+          omega (arith, length-lines bytes, padded-lines, mul-le-mul_right ends all)
 
     pub whole-lines : (count : ℕ) (bytes : List ℕ) → length bytes ≡ count * alignment base
         → length (text_of base bytes) ≡ count * (lines.column + length lines.separator)
@@ -257,8 +247,7 @@ module _ (e : EncodingTables) (rules : KeepsRules e) (seen : Base)
   has-lines h = ap is_some (wrapping-seen h)
 
   pub unwrapped-seen : e.column ≡ 0 → seen.wrapping ≡ None
-  unwrapped-seen h =
-      rw (← is, h)
+  unwrapped-seen h = rw (← is, h)
 
   pub ascii-seen : (bytes : List ℕ) → AllByRecursion (λ byte. byte < 128) (text_of seen bytes)
   ascii-seen bytes =

@@ -108,8 +108,7 @@ module _ {e : EncodingTables} {seen : Base} (rules : KeepsRules e) (is : base_of
     lines-few = div-le_self room e.column
 
     pub lines-some : 256 ≤ room → 0 < room / e.column
-    lines-some enough =
-        le-div 1 room e.column columns-some (omega (arith, lines-are.short, enough))
+    lines-some enough = le-div 1 room e.column columns-some (omega (arith, lines-are.short, enough))
 
     pub lines-fit : {size : ℕ} (bytes : List ℕ) → size ≡ alignment seen
         → length bytes ≤ room / e.column * size → length (padded_text seen bytes) ≤ room

@@ -45,13 +45,11 @@ module _ (base : Base) (bytes : List ℕ) (width : IsWidth base.width) where
 
   pub length-unpadded : is_padded base ≡ false
       → length (padded_text base bytes) ≡ run_count base.width (8 * length bytes)
-  length-unpadded none =
-      rw (padded_text-unpadded none) (length-plain_text base bytes width.some)
+  length-unpadded none = rw (padded_text-unpadded none) (length-plain_text base bytes width.some)
 
   filled : (character : ℕ) → base.padding ≡ Some character → padded_text base bytes
       ≡ filled_with character (group_symbols base.width) (plain_text base bytes)
-  filled character some =
-      rw some
+  filled character some = rw some
 
   -- the symbols and the padding are one after the other
   module _ (count size : ℕ) (is : count ≡ run_count base.width (8 * length bytes))

@@ -20,12 +20,10 @@ missing-join size a b h e =
     rw same
 
 pub missing-none : (size n : ℕ) → n % size ≡ 0 → missing size n ≡ 0
-missing-none size n e =
-    grind (arith, mod_self size)
+missing-none size n e = grind (arith, mod_self size)
 
 pub missing-some : (size n : ℕ) → 0 < size → 0 < n % size → missing size n ≡ size - n % size
-missing-some size n h e =
-    mod-eq_of_lt (let below = mod_below n size h in omega arith)
+missing-some size n h e = mod-eq_of_lt (let below = mod_below n size h in omega arith)
 
 -- with what is missing, a list is as long as its runs
 pub filled_count : (size n : ℕ) → 0 < size → n + missing size n ≡ size * run_count size n
@@ -62,8 +60,7 @@ filled-join filler size xs ys h e =
 
 pub filled-whole : (filler size : ℕ) (xs : List ℕ) → length xs % size ≡ 0
     → filled_with filler size xs ≡ xs
-filled-whole filler size xs e =
-    rw (missing-none size (length xs) e) (append-nil xs)
+filled-whole filler size xs e = rw (missing-none size (length xs) e) (append-nil xs)
 
 -- data of whole symbols, and then other data
 pub plain_text-join : (base : Base) (bytes others : List ℕ) → 0 < base.width

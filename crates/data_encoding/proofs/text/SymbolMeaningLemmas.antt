@@ -34,8 +34,7 @@ module _ (base : Base) (ruled : IsRuled base) where
   none_ignored : (values : List ℕ) → AllByRecursion (λ value. value < 2 ^ base.width) values
       → AllFail (λ byte. is_ignored (meaning base byte)) (map (symbol base) values)
   none_ignored [] h = tt
-  none_ignored (value ∷ values) h =
-      (ap is_ignored (own_meaning value h.0), none_ignored values h.1)
+  none_ignored (value ∷ values) h = (ap is_ignored (own_meaning value h.0), none_ignored values h.1)
 
   module _ (bytes : List ℕ) where
     abbrev pub octets : List ℕ
@@ -67,8 +66,7 @@ module _ (base : Base) (ruled : IsRuled base) where
     -- no byte of the text is ignored
     pub none_ignored-plain_text : AllFail (λ byte. is_ignored (meaning base byte))
         (plain_text base bytes)
-    none_ignored-plain_text =
-        rw text_is (none_ignored values are_values.below)
+    none_ignored-plain_text = rw text_is (none_ignored values are_values.below)
 
     pub PlainMeans-plain_text : All (λ byte. byte < 256) bytes
         → PlainMeans base (map (meaning base) (plain_text base bytes)) bytes

@@ -44,8 +44,7 @@ module _ (base : Base) (width : IsWidth base.width) (bytes : List ℕ) (q : ℕ)
       bits-whole (omega (arith, width.some))
 
   plain_groups : length (plain_text base bytes) % group_symbols base.width ≡ 0
-  plain_groups =
-      rw length-plain_groups (mul-mod_left q (group_symbols base.width))
+  plain_groups = rw length-plain_groups (mul-mod_left q (group_symbols base.width))
 
   -- whole groups of bytes are as many whole groups of symbols
   pub length-padded_groups : length (padded_text base bytes) ≡ q * group_symbols base.width

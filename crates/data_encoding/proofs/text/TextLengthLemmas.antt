@@ -40,8 +40,7 @@ module _ (base : Base) (ruled : IsRuled base) where
 
     by : (o : Option Wrapping) → base.wrapping ≡ o
         → length (text_of base bytes) ≡ length (text_of base others)
-    by None none =
-        rw (text_of-unwrapped base bytes none, text_of-unwrapped base others none) padded
+    by None none = rw (text_of-unwrapped base bytes none, text_of-unwrapped base others none) padded
     by (Some lines) some =
         rw (
           length-lines base ruled lines some bytes,

@@ -66,8 +66,7 @@ module _ {W : Type 0} (gives : W → List ℕ → W → Type 0) where
         whole =
             rw (append_assoc before.done (text_of base piece) (text_of base others), ← split)
             before.whole;
-        within =
-            omega (arith, ap length others-is, length-drop n rest, before.within);
+        within = omega (arith, ap length others-is, length-drop n rest, before.within);
       }
 
   pub written-all : (base : Base) (input rest : List ℕ) (first now last : W)
