@@ -63,13 +63,8 @@ front_number-cons : (n x : ℕ) (xs : List ℕ)
     → front_number (suc n) (x ∷ xs) ≡ front_number n xs + 2 ^ n * x
 front_number-cons n x xs =
     let bits = front n xs in
-    rw (
-      reverse-append (x ∷ []) bits,
-      number-append (reverse bits) (x ∷ []),
-      length-reverse bits,
-      length-front n xs,
-    )
-    (omega arith)
+    rw (reverse-append (x ∷ []) bits, number-append (reverse bits) (x ∷ []))
+    (rw (length-reverse bits, length-front n xs) (omega arith))
 
 -- The first of two lists comes before the second: by their first difference, or as a front of it
 -- that lacks at least so many.
@@ -114,11 +109,7 @@ pub before-bytes : (bytes others : List ℕ) → AllByRecursion (λ byte. byte <
 before-bytes [] [] all h = absurd h
 before-bytes (x ∷ xs) [] all h = absurd h
 before-bytes [] (y ∷ ys) all h =
-    omega (
-      arith,
-      length-append (bits_of MostSignificantFirst 8 y) (bits_of_bytes MostSignificantFirst ys),
-      length-bits_of MostSignificantFirst 8 y,
-    )
+    omega (arith, length-append {A = ℕ}, length-bits_of MostSignificantFirst 8 y)
 before-bytes (x ∷ xs) (y ∷ ys) all h =
     let bits = bits_of_bytes MostSignificantFirst xs in
     let more = bits_of_bytes MostSignificantFirst ys in

@@ -49,11 +49,8 @@ module _ (base : Base) (width : ℕ) (order : BitOrder) (some : 0 < width) where
       let parts : filled_with 0 width bits ≡ first ++ filled_with 0 width rest =
       rw take-append-drop
       at (filled-join 0 width first rest some (rw len (mod_self width))) in
-      rw (
-        parts,
-        runs-append width first (filled_with 0 width rest) some len,
-        front-long width bits long,
-      ))
+      rw (parts, runs-append width first (filled_with 0 width rest) some len)
+      (rw (front-long width bits long)))
       (cases_lt (length bits) width)
 
 -- Symbols of some bits each, that ascend; and what may stand behind a text, before each symbol.
@@ -71,13 +68,10 @@ module _ (base : Base) (width : ℕ) (some : 0 < width) (few : width < 8)
   before-some : (xs ys other : List ℕ) → AreBits ys → xs ≡ [] → 0 < length ys
       → IsBefore (shown xs ++ end) (shown ys ++ other)
   before-some xs ys other are none more =
-      rw (
-        none,
-        text_by-nil base width MostSignificantFirst some,
-        text_by-first base width MostSignificantFirst some ys more,
-      )
+      rw (none, text_by-nil base width MostSignificantFirst some)
+      (rw (text_by-first base width MostSignificantFirst some ys more)
       (low (front_number width ys) (front_number-below width ys are)
-      (shown (drop width ys) ++ other))
+      (shown (drop width ys) ++ other)))
 
   -- n is at least the length
   before-text : (n : ℕ) (xs ys other : List ℕ) → length xs ≤ n → AreBits xs → AreBits ys
@@ -91,10 +85,8 @@ module _ (base : Base) (width : ℕ) (some : 0 < width) (few : width < 8)
       let two = y ∷ ys in
       let len : length (drop width one) ≤ n =
       omega (arith, length-drop width one, some, bound) in
-      rw (
-        text_by-first base width MostSignificantFirst some one (omega arith),
-        text_by-first base width MostSignificantFirst some two (omega arith),
-      )
+      rw (text_by-first base width MostSignificantFirst some one (omega arith))
+      (rw (text_by-first base width MostSignificantFirst some two (omega arith))
       (⊎_elim
       (λ (less : front_number width one < front_number width two).
       inl (ascends (front_number width one) (front_number width two) less
@@ -112,7 +104,7 @@ module _ (base : Base) (width : ℕ) (some : 0 < width) (few : width < 8)
             (AreBits-drop width two k) rest)
             same.1,
       ))
-      (front-compared 8 width one two few h k before))
+      (front-compared 8 width one two few h k before)))
 
   pub before-texts : (bytes others other : List ℕ) → All (λ byte. byte < 256) others
       → IsBefore bytes others

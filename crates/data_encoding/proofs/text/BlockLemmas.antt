@@ -43,19 +43,12 @@ module _ (base : Base) (ruled : IsRuled base) where
       record {
         some = alignment-some base ruled lines some;
         no_shorter =
-            omega (
-              arith,
-              alignment-is base ruled lines some,
-              column-is base ruled lines some,
-              mul-le-mul_left (groups base ruled lines some)
-                  (group_bytes-few base.width ruled.is_width),
-            );
+            let fewer = mul-le-mul_left (groups base ruled lines some)
+            (group_bytes-few base.width ruled.is_width) in
+            omega (arith, alignment-is base ruled lines some, column-is base ruled lines some);
         few =
-            omega (
-              arith,
-              (few-columns base.width ruled.is_width lines.column rules.short rules.whole).0,
-              rules.ends_short,
-            );
+            let short = few-columns base.width ruled.is_width lines.column rules.short rules.whole in
+            omega arith;
         fits = λ count bytes few. short-lines base ruled lines some count bytes few;
       }
 

@@ -28,24 +28,17 @@ module _ (base other : Base) (ruled : IsRuled base) (differ : DifferInSymbols ba
       → plain_text other bytes ≡ map exchange (plain_text base bytes)
   plain-exchanged bytes =
       let filled = filled_with 0 base.width (bits_of_bytes base.order bytes) in
-      rw (
-        text_is base ruled bytes,
-        symbols-exchanged (values base ruled bytes) (are_values base ruled bytes).below,
-        ← differ.width,
-        ← differ.order,
-      )
-      (sym (map-twice (symbol other) (number_of base.order) (runs base.width filled)))
+      rw (text_is base ruled bytes, ← differ.width, ← differ.order)
+      (rw (symbols-exchanged (values base ruled bytes) (are_values base ruled bytes).below)
+      (sym (map-twice (symbol other) (number_of base.order) (runs base.width filled))))
 
   filled-exchanged : (character another size : ℕ) (text : List ℕ)
       → exchange character ≡ another
       → filled_with another size (map exchange text)
       ≡ map exchange (filled_with character size text)
   filled-exchanged character another size text same =
-      rw (
-        length-map text exchange,
-        map-append,
-        map-replicate exchange another (missing size (length text)) character same,
-      )
+      rw (length-map text exchange, map-append)
+      (rw (map-replicate exchange another (missing size (length text)) character same))
 
   padding-exchanged : (o p : Option ℕ) → base.padding ≡ o → other.padding ≡ p
       → is_some o ≡ is_some p → (size : ℕ) (text : List ℕ)

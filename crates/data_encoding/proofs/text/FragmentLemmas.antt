@@ -40,6 +40,7 @@ module _ (base : Base) (ruled : IsRuled base) (before bytes text held : List ℕ
       rw full (mod_self (alignment base)) in
       let texts : text_of base parts ≡ text_of base block ++ text_of base blocks =
       text_of-join base ruled block blocks block_whole in
+      let all = text_of-join base ruled has.encoded parts has.is_aligned in
       record {
         encoded = has.encoded ++ parts;
         are_bytes = simp (has.are_bytes, cut, parted, filled, append_assoc);
@@ -48,25 +49,12 @@ module _ (base : Base) (ruled : IsRuled base) (before bytes text held : List ℕ
             (rw (length-append block blocks)
             (whole-both (length block) (length blocks) (alignment base) block_whole aligned)));
         is_short = short;
-        is_written = simp (
-          other,
-          one,
-          has.is_written,
-          text_of-join base ruled has.encoded parts
-              has.is_aligned,
-          texts,
-          append_assoc,
-        );
+        is_written = simp (other, one, has.is_written, all, texts, append_assoc);
       }
 
   -- what is held is encoded at the end
   pub text_of-fragments : (whole : List ℕ) → whole ≡ text ++ text_of base held
       → whole ≡ before ++ text_of base bytes
   text_of-fragments whole written =
-      simp (
-        written,
-        has.is_written,
-        has.are_bytes,
-        text_of-join base ruled has.encoded held has.is_aligned,
-        append_assoc,
-      )
+      let all = text_of-join base ruled has.encoded held has.is_aligned in
+      simp (written, has.is_written, has.are_bytes, all, append_assoc)

@@ -16,12 +16,8 @@ use Rattle.data_encoding.proofs.text.PaddedTextLemmas.{length-filled_with}
 pub length-filled_once : (character size : ℕ) (text : List ℕ) → 0 < length text
     → length text ≤ size → length (filled_with character size text) ≡ size
 length-filled_once character size text some few =
-    rw (
-      length-filled_with character size text,
-      filled_count size (length text) (omega (arith, some, few)),
-      run_count-short size (length text) some few,
-    )
-    (omega arith)
+    rw (length-filled_with character size text, filled_count size (length text) (omega arith))
+    (rw (run_count-short size (length text) some few) (omega arith))
 
 module _ (base : Base) where
   -- bytes that each mean padding

@@ -36,34 +36,23 @@ module _ (base : Base) (width : IsWidth base.width) (bytes : List ℕ) where
         let count = run_count base.width (8 * length bytes) in
         let same = ap (λ n. n * group_symbols base.width)
         (groups-same base.width width (length bytes)) in
-        omega (
-          arith,
-          length-unpadded base bytes width is,
-          runs-reach (group_symbols base.width) count (group_symbols-pos base.width width),
-          same,
-        )
+        let reach = runs-reach (group_symbols base.width) count (group_symbols-pos base.width width) in
+        omega (arith, length-unpadded base bytes width is)
 
   -- nor than any number of whole groups that holds the data
   pub padded-fits : (count : ℕ) → length bytes ≤ count * group_bytes base.width
       → length (padded_text base bytes) ≤ count * group_symbols base.width
   padded-fits count few =
-      omega (
-        arith,
-        padded-few,
-        mul-le-mul_right (group_symbols base.width)
-            (run_count-few (group_bytes base.width) (length bytes) count
-            (group_bytes-pos base.width width) few),
-      )
+      let groups = run_count-few (group_bytes base.width) (length bytes) count
+      (group_bytes-pos base.width width) few in
+      omega (arith, padded-few, mul-le-mul_right (group_symbols base.width) groups)
 
   -- and some where there are some data
   padded-some : 0 < length bytes → 0 < length (padded_text base bytes)
   padded-some some =
-      omega (
-        arith,
-        symbols-first base bytes width (run_count base.width (8 * length bytes))
-            (length (padded_text base bytes)) refl refl,
-        run_count-some base.width (8 * length bytes) width.some (omega (arith, some)),
-      )
+      let count = run_count base.width (8 * length bytes) in
+      let first = symbols-first base bytes width count (length (padded_text base bytes)) refl refl in
+      omega (arith, run_count-some base.width (8 * length bytes) width.some (omega arith))
 
   -- at most a whole group of each byte
   padded-each : length (padded_text base bytes) ≤ length bytes * group_symbols base.width
@@ -73,11 +62,8 @@ module _ (base : Base) (width : IsWidth base.width) (bytes : List ℕ) where
 
   padded-most : length (padded_text base bytes) ≤ 8 * length bytes
   padded-most =
-      omega (
-        arith,
-        padded-each,
-        mul-le-mul_left (length bytes) (group_symbols-few base.width width),
-      )
+      let most = mul-le-mul_left (length bytes) (group_symbols-few base.width width) in
+      omega (arith, padded-each)
 
 module _ (base : Base) (ruled : IsRuled base) (lines : Wrapping) (some : base.wrapping ≡ Some lines)
   where
@@ -99,23 +85,8 @@ module _ (base : Base) (ruled : IsRuled base) (lines : Wrapping) (some : base.wr
 
     pub alignment-some : 0 < alignment base
     alignment-some =
-        omega (
-          arith,
-          alignment-is,
-          groups-some,
-          le-mul_of_pos_right groups (group_bytes-pos base.width ruled.is_width),
-        )
-
-    pub alignment-few : alignment base < 256
-    alignment-few =
-        omega (
-          arith,
-          alignment-is,
-          column-is,
-          are.short,
-          mul-le groups (group_bytes base.width) groups (group_symbols base.width) (omega arith)
-              (group_bytes-few base.width ruled.is_width),
-        )
+        let bytes = le-mul_of_pos_right groups (group_bytes-pos base.width ruled.is_width) in
+        omega (arith, alignment-is, groups-some)
 
     -- a separator for each line
     pub length-lines : (bytes : List ℕ) → length (text_of base bytes)
@@ -131,31 +102,24 @@ module _ (base : Base) (ruled : IsRuled base) (lines : Wrapping) (some : base.wr
         let size = group_symbols base.width in
         let long : size ≤ lines.column =
         omega (arith, column-is, mul-le 1 size groups size groups-some (omega arith)) in
+        let most = mul-le-mul_left (length bytes) long in
         run_count-few lines.column (length (padded_text base bytes)) (length bytes) are.some
-        (omega (arith, padded-each base ruled.is_width bytes, mul-le-mul_left (length bytes) long))
+        (omega (arith, padded-each base ruled.is_width bytes))
 
     lines-most : (bytes : List ℕ) → length (text_of base bytes) ≤ 263 * length bytes
     lines-most bytes =
-        omega (
-          arith,
-          length-lines bytes,
-          padded-most base ruled.is_width bytes,
-          are.ends_short,
-          mul-le (run_count lines.column (length (padded_text base bytes)))
-              (length lines.separator) (length bytes) 255 (lines-few bytes)
-              (omega (arith, are.ends_short)),
-        )
+        let ends = mul-le (run_count lines.column (length (padded_text base bytes)))
+        (length lines.separator) (length bytes) 255 (lines-few bytes)
+        (omega (arith, are.ends_short)) in
+        omega (arith, length-lines bytes, padded-most base ruled.is_width bytes)
 
     -- data of at most so many lines
     module _ (count : ℕ) (bytes : List ℕ) (few : length bytes ≤ count * alignment base) where
       pub padded-lines : length (padded_text base bytes) ≤ count * lines.column
       padded-lines =
-          omega (
-            arith,
-            padded-fits base ruled.is_width bytes (count * groups)
-                (omega (arith, few, ap (λ n. count * n) alignment-is)),
-            ap (λ n. count * n) column-is,
-          )
+          let all = padded-fits base ruled.is_width bytes (count * groups)
+          (omega (arith, few, ap (λ n. count * n) alignment-is)) in
+          omega (arith, ap (λ n. count * n) column-is)
 
       pub short-lines : length (text_of base bytes)
           ≤ count * (lines.column + length lines.separator)
@@ -170,13 +134,10 @@ module _ (base : Base) (ruled : IsRuled base) (lines : Wrapping) (some : base.wr
         → length (text_of base bytes) ≡ count * (lines.column + length lines.separator)
     whole-lines count bytes e =
         let ends = length lines.separator in
+        let all = length-padded_groups base ruled.is_width bytes (count * groups)
+        (omega (arith, e, ap (λ n. count * n) alignment-is)) in
         let long : length (padded_text base bytes) ≡ count * lines.column =
-        omega (
-          arith,
-          length-padded_groups base ruled.is_width bytes (count * groups)
-              (omega (arith, e, ap (λ n. count * n) alignment-is)),
-          ap (λ n. count * n) column-is,
-        ) in
+        omega (arith, ap (λ n. count * n) column-is) in
         rw (length-lines bytes, long, run_count-whole lines.column count are.some) (omega arith)
 
     -- data of at most a line

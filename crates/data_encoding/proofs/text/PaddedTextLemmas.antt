@@ -56,13 +56,8 @@ module _ (base : Base) (bytes : List ℕ) (width : IsWidth base.width) where
       (whole : size ≡ length (padded_text base bytes)) where
     pub symbols-first : count ≤ size
     symbols-first =
-        omega (
-          arith,
-          is,
-          whole,
-          length-plain_text base bytes width.some,
-          length-with_padding base.padding (group_symbols base.width) (plain_text base bytes),
-        )
+        let all = length-with_padding base.padding (group_symbols base.width) (plain_text base bytes)
+        in omega (arith, length-plain_text base bytes width.some)
 
     pub padded_text-some : (character : ℕ) → base.padding ≡ Some character
         → padded_text base bytes ≡ plain_text base bytes ++ replicate (size - count) character
@@ -80,14 +75,10 @@ module _ (base : Base) (bytes : List ℕ) (width : IsWidth base.width) where
   length-padded some =
       let size = group_symbols base.width in
       let text = plain_text base bytes in
-      rw (
-        length-with_padding base.padding size text,
-        some,
-        filled_count size (length text) (group_symbols-pos base.width width),
-        length-plain_text base bytes width.some,
-        groups-same base.width width (length bytes),
-      )
-      (mul_comm size (run_count (group_bytes base.width) (length bytes)))
+      rw (length-with_padding base.padding size text, some)
+      (rw (filled_count size (length text) (group_symbols-pos base.width width))
+      (rw (length-plain_text base bytes width.some, groups-same base.width width (length bytes))
+      (mul_comm size (run_count (group_bytes base.width) (length bytes)))))
 
 -- a text of ASCII symbols and ASCII padding is ASCII
 pub ascii-padded_text : (base : Base) (bytes : List ℕ) → ((value : ℕ) → symbol base value < 128)

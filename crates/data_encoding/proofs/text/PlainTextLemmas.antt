@@ -70,13 +70,9 @@ plain_text-join base bytes others h e =
     let bits = bits_of_bytes base.order bytes in
     let more = bits_of_bytes base.order others in
     let whole : length bits % base.width ≡ 0 = rw (length-bits_of_bytes base.order bytes) e in
-    rw (
-      flat_map-append (bits_of base.order 8) bytes others,
-      filled-join 0 base.width bits more h whole,
-      runs-join base.width bits (filled_with 0 base.width more) h whole,
-      map-append,
-      filled-whole 0 base.width bits whole,
-    )
+    rw (flat_map-append, filled-join 0 base.width bits more h whole)
+    (rw (runs-join base.width bits (filled_with 0 base.width more) h whole, map-append)
+    (rw (filled-whole 0 base.width bits whole)))
 
 pub length-plain_text : (base : Base) (bytes : List ℕ) → 0 < base.width
     → length (plain_text base bytes) ≡ run_count base.width (8 * length bytes)

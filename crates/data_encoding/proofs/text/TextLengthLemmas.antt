@@ -19,17 +19,11 @@ module _ (base : Base) (ruled : IsRuled base) where
     by : (b : Bool) → is_padded base ≡ b
         → length (padded_text base bytes) ≡ length (padded_text base others)
     by true is =
-        rw (
-          length-padded base bytes ruled.is_width is,
-          length-padded base others ruled.is_width is,
-          same,
-        )
+        rw (length-padded base bytes ruled.is_width is)
+        (rw (length-padded base others ruled.is_width is, same))
     by false is =
-        rw (
-          length-unpadded base bytes ruled.is_width is,
-          length-unpadded base others ruled.is_width is,
-          same,
-        )
+        rw (length-unpadded base bytes ruled.is_width is)
+        (rw (length-unpadded base others ruled.is_width is, same))
 
   -- texts of as many bytes are as long
   pub text-same : (bytes others : List ℕ) → length bytes ≡ length others
@@ -42,11 +36,8 @@ module _ (base : Base) (ruled : IsRuled base) where
         → length (text_of base bytes) ≡ length (text_of base others)
     by None none = rw (text_of-unwrapped base bytes none, text_of-unwrapped base others none) padded
     by (Some lines) some =
-        rw (
-          length-lines base ruled lines some bytes,
-          length-lines base ruled lines some others,
-          padded,
-        )
+        rw (length-lines base ruled lines some bytes)
+        (rw (length-lines base ruled lines some others, padded))
 
 -- the symbols of so many bytes
 counted : (width : ℕ) → IsWidth width → (n : ℕ)

@@ -143,9 +143,7 @@ module _ (base : Base) (ruled : IsRuled base) where
             (unpadded-Means base width (ap is_some is) (text_of base bytes) bytes).1
             (rw same (PlainMeans-plain_text base ruled bytes below))
         by (Some character) is h same =
-            rw (
-              ← (runs-meanings base (group_symbols base.width) (kept base (text_of base bytes))
-                  (group_symbols-pos base.width width)),
-              same,
-            )
+            let cut = runs-meanings base (group_symbols base.width) (kept base (text_of base bytes))
+            (group_symbols-pos base.width width) in
+            rw (← cut, same)
             (groups_meant (ap is_some is) character h.1 bytes below)
