@@ -1,17 +1,15 @@
 -- The fault of a text behind one that means bytes.
-use Rattle.std.proofs.Common.{◌≡◌, ℕ, zero, suc, ◌+◌, ◌*◌, ◌/◌, ◌%◌, ◌<◌, ◌≤◌, ◌==◌, nat_lt, Bool, true, false, not, cond, ◌&&◌, List, [], ◌∷◌, ◌++◌, map, length, Option, Some, None, is_some, refl, sym, ap, ◌∙◌, subst, arith, length-append}
+use Rattle.std.proofs.Common.{◌≡◌, ℕ, zero, suc, ◌+◌, ◌*◌, ◌/◌, ◌%◌, ◌<◌, ◌≤◌, ◌==◌, nat_lt, Bool, true, false, not, cond, List, [], ◌∷◌, ◌++◌, map, length, Option, Some, None, is_some, refl, sym, ap, ◌∙◌, arith, length-append}
 use Rattle.std.specs.Prelude.{flat_map}
-use Rattle.std.specs.List.{AllByRecursion, filter, list_any}
+use Rattle.std.specs.List.{AllByRecursion}
 use Rattle.data_encoding.specs.declared.error.DecodeError.{DecodeError}
-use Rattle.data_encoding.specs.declared.error.DecodeKind.TheVariants.{Length as LengthFault, Padding as PaddingFault}
-use Rattle.data_encoding.specs.Base.{Base, IsWidth, meaning, is_ignored, is_padded, ignores_some, group_symbols, is_padding}
-use Rattle.data_encoding.specs.Bits.{runs}
+use Rattle.data_encoding.specs.Base.{Base, IsWidth, meaning, is_ignored, is_padded, ignores_some, group_symbols}
 use Rattle.data_encoding.specs.Grammar.{Positioned, kept, groups, is_final, Means, kept_in, bytes_in, positioned_from}
-use Rattle.data_encoding.specs.Lengths.{greatest_valid_count, greatest_valid_length, is_valid_length, length_fault}
-use Rattle.data_encoding.specs.Fault.{bytes_of_group, fault_after, fault_of, first_after, first_fault, or_else, position_of, sound_after, sound_bytes, group_fault, located, symbol_bytes}
+use Rattle.data_encoding.specs.Lengths.{greatest_valid_count, is_valid_length, length_fault}
+use Rattle.data_encoding.specs.Fault.{bytes_of_group, fault_after, fault_of, first_after, first_fault, or_else, position_of, sound_after, sound_bytes, group_fault}
 use Rattle.data_encoding.specs.Laws.{MayBeFollowed, further}
 use Rattle.data_encoding.specs.Decoding.{AreSound}
-use Rattle.data_encoding.proofs.digits.WidthLemmas.{by_width, group_symbols-pos}
+use Rattle.data_encoding.proofs.digits.WidthLemmas.{group_symbols-pos}
 use Rattle.data_encoding.proofs.grammar.GroupLemmas.{group_fault-inside, located-further}
 use Rattle.data_encoding.proofs.grammar.JoinLemmas.{followed}
 use Rattle.data_encoding.proofs.grammar.KeptLemmas.{kept_in-append}
@@ -37,8 +35,7 @@ positioned-moved : (count start : ℕ) (part : List ℕ)
 positioned-moved count start [] = refl
 positioned-moved count start (byte ∷ part) =
     let next : count + start + 1 ≡ count + (start + 1) = omega arith in
-    ap (λ ks. record { position = count + start; byte = byte } ∷ ks)
-    (ap (λ n. positioned_from n part) next ∙ positioned-moved count (start + 1) part)
+    rw (next, positioned-moved count (start + 1) part)
 
 position_of-moved : (count : ℕ) (ks : List Positioned) (index : ℕ) → index < length ks
     → position_of (moved count ks) index ≡ count + position_of ks index
@@ -50,19 +47,14 @@ further-or_else : (count : ℕ) (o p : Option DecodeError)
     → or_else (further count o) (further count p) ≡ further count (or_else o p)
 further-or_else count o p = grind arith
 
--- What stands behind whole groups is as valid as alone.
-
--- its bits and the greatest valid count, and the part of a group and the whole groups
-abbrev IsBehind : ℕ → ℕ → ℕ → Type 0
-IsBehind width m n =
-    (width * (m + n) % 8 ≡ width * n % 8)
+-- What stands behind whole groups is as valid as alone: its bits and the greatest valid count, and
+-- the part of a group and the whole groups.
+is_behind : (width : ℕ) → IsWidth width → (m n : ℕ) → m % group_symbols width ≡ 0
+    → (width * (m + n) % 8 ≡ width * n % 8)
     × (greatest_valid_count width (m + n) ≡ m + greatest_valid_count width n)
     × ((m + n) % group_symbols width ≡ n % group_symbols width)
     × ((m + n) / group_symbols width * group_symbols width
     ≡ m + n / group_symbols width * group_symbols width)
-
-is_behind : (width : ℕ) → IsWidth width → (m n : ℕ) → m % group_symbols width ≡ 0
-    → IsBehind width m n
 is_behind width is m n h = grind (arith, nat_tests, widths width is)
 
 module _ (base : Base) (width : IsWidth base.width) where
@@ -85,11 +77,9 @@ module _ (base : Base) (width : IsWidth base.width) where
   pub kept_in-moved : (count start : ℕ) (part : List ℕ)
       → kept_in base (count + start) part ≡ moved count (kept_in base start part)
   kept_in-moved count start part =
-      let further_on : Positioned → Positioned =
-      λ k. record { position = count + k.position; byte = k.byte } in
       let keeps : Positioned → Bool = λ k. not (is_ignored (meaning base k.byte)) in
       rw (positioned-moved count start part)
-      (sym (map-filter further_on keeps (positioned_from start part)))
+      (sym (map-filter _ keeps (positioned_from start part)))
 
   abbrev pub AreFew : List (List Positioned) → Type 0
   AreFew gs = AllByRecursion (λ (g : List Positioned). (0 < length g) × (length g ≤ size)) gs

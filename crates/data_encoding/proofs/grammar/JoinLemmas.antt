@@ -1,5 +1,5 @@
 -- Texts one after the other.
-use Rattle.std.proofs.Common.{◌≡◌, ℕ, ◌⊎◌, flat_map, ◌+◌, ◌*◌, ◌%◌, ◌<◌, ◌==◌, Bool, true, false, not, ◌&&◌, List, [], ◌∷◌, ◌++◌, length, Option, Some, None, is_some, inl, inr, refl, sym, ap, ◌∙◌, subst, arith, append_assoc, ⊎_elim, map}
+use Rattle.std.proofs.Common.{◌≡◌, ℕ, ◌⊎◌, flat_map, ◌+◌, ◌*◌, ◌%◌, ◌<◌, Bool, true, false, not, ◌&&◌, List, [], ◌∷◌, ◌++◌, length, Option, is_some, inl, inr, sym, ap, ◌∙◌, subst, arith, append_assoc, ⊎_elim, map}
 use Rattle.std.proofs.Math.Nat.{mul-mod_left}
 use Rattle.std.proofs.lemmas.Bool.{false≢true}
 use Rattle.std.proofs.lemmas.List.Elements.{All-filter, All-map, recursion_from_All}
@@ -12,7 +12,7 @@ use Rattle.data_encoding.specs.Base.{Base, IsWidth, meaning, is_ignored, is_padd
 use Rattle.data_encoding.specs.Bits.{runs}
 use Rattle.data_encoding.specs.Grammar.{Positioned, kept, groups, PlainMeans, GroupsMean, Means, is_final, kept_in, bytes_in, meanings_in}
 use Rattle.data_encoding.specs.Laws.{MayBeFollowed}
-use Rattle.data_encoding.proofs.digits.WidthLemmas.{by_width, group_symbols-pos}
+use Rattle.data_encoding.proofs.digits.WidthLemmas.{group_symbols-pos}
 use Rattle.data_encoding.proofs.grammar.GroupLemmas.{symbols_alone}
 use Rattle.data_encoding.proofs.grammar.KeptLemmas.{kept_in-append}
 use Rattle.data_encoding.proofs.grammar.MeaningLemmas.{length-groups}

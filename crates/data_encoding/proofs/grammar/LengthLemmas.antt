@@ -1,13 +1,10 @@
 -- The fault of a length, for every base.
-use Rattle.std.proofs.Common.{◌≡◌, ℕ, ◌*◌, ◌/◌, ◌%◌, ◌==◌, ◌⊎◌, Bool, true, false, not, cond, ◌&&◌, Option, Some, None, Ok, Err, refl, ap, ◌<◌, ◌≤◌, nat_lt, sym, ◌∙◌, arith}
-use Rattle.std.proofs.lemmas.Bool.{eqb-true, false≢true}
+use Rattle.std.proofs.Common.{◌≡◌, ℕ, ◌*◌, ◌/◌, ◌%◌, ◌==◌, ◌⊎◌, Bool, true, false, cond, None, Ok, Err, ◌<◌, ◌≤◌, nat_lt, arith}
 use Rattle.std.proofs.lemmas.Bool.Decides.{nat_tests}
-use Rattle.std.proofs.Math.Nat.{lt_of_not-le, mod-eq_of_lt, mod_self}
-use Rattle.data_encoding.proofs.digits.WidthLemmas.{by_width}
+use Rattle.std.proofs.Math.Nat.{mod-eq_of_lt, mod_self}
 use Rattle.data_encoding.specs.declared.error.DecodeKind.TheVariants.{Length as LengthFault}
-use Rattle.data_encoding.specs.declared.error.DecodeError.{DecodeError}
 use Rattle.data_encoding.specs.Base.{Base, is_padded, ignores_some, group_bytes, group_symbols, IsWidth}
-use Rattle.data_encoding.specs.Lengths.{decoded_len, greatest_valid_count, greatest_valid_length, is_valid_count, is_valid_length, length_fault, most_bytes, unless_fault}
+use Rattle.data_encoding.specs.Lengths.{decoded_len, greatest_valid_count, greatest_valid_length, is_valid_count, is_valid_length, length_fault, most_bytes}
 
 -- the six, for a search
 pub widths : (width : ℕ) → IsWidth width
@@ -60,10 +57,7 @@ whole-length base width len exact = grind (arith, nat_tests, widths base.width w
 pub whole-less : (base : Base) → IsWidth base.width → (len : ℕ) → len ≤ group_symbols base.width
     → is_valid_length base len ≡ false → len < group_symbols base.width
 whole-less base width len few invalid =
-    lt_of_not-le
-    (λ (all : group_symbols base.width ≤ len).
-    let same : len ≡ group_symbols base.width = omega arith in
-    cc (whole-length base width len (rw same (mod_self (group_symbols base.width)))))
+    grind (arith, nat_tests, whole-length base width len, mod_self (group_symbols base.width))
 
 -- and a padded one of a valid length is
 pub valid-whole : (base : Base) (len : ℕ) → 0 < len → is_valid_length base len ≡ true

@@ -1,14 +1,14 @@
 -- A text means something exactly where it has no fault, and then one list of bytes.
-use Rattle.std.proofs.Common.{◌≡◌, ℕ, ◌+◌, ◌*◌, ◌/◌, ◌%◌, ◌<◌, ◌≤◌, Bool, true, false, List, [], ◌∷◌, ◌++◌, length, Some, None, IsOkAnd, refl, sym, ap, ◌∙◌, subst, arith, length-append, map}
-use Rattle.std.proofs.Math.Nat.{mul-mod_left, mul-le-mul_right, mul-le-mul_left, add_comm, zero-mul, suc-mul, le-div_iff_mul-le}
+use Rattle.std.proofs.Common.{◌≡◌, ℕ, ◌*◌, ◌<◌, ◌≤◌, Bool, true, false, List, [], ◌∷◌, length, Some, None, IsOkAnd, refl, sym, ap, arith, length-append, map}
+use Rattle.std.proofs.Math.Nat.{mul-mod_left, mul-le-mul_right, mul-le-mul_left}
 use Rattle.std.specs.Prelude.{flat_map}
 use Rattle.std.specs.List.{AllByRecursion}
 use Rattle.data_encoding.specs.declared.encoding.Character.{Character}
 use Rattle.data_encoding.specs.declared.error.DecodeError.{DecodeError}
 use Rattle.data_encoding.specs.Base.{Base, is_padded, group_symbols, group_bytes, IsWidth}
 use Rattle.data_encoding.specs.Grammar.{Positioned, kept, groups, GroupMeans, GroupsMean, Means, PlainMeans, is_final, meanings_in}
-use Rattle.data_encoding.specs.Lengths.{decoded_len, is_valid_count, is_valid_length, length_fault, most_bytes}
-use Rattle.data_encoding.specs.Fault.{bytes_of_group, fault_after, fault_of, first_fault, or_else, sound_bytes, located}
+use Rattle.data_encoding.specs.Lengths.{decoded_len, is_valid_length, length_fault, most_bytes}
+use Rattle.data_encoding.specs.Fault.{bytes_of_group, fault_of, first_fault, sound_bytes, located}
 use Rattle.data_encoding.specs.Decoding.{AreSound}
 use Rattle.data_encoding.proofs.digits.WidthLemmas.{group_bits, group_symbols-pos}
 use Rattle.data_encoding.proofs.lists.RunLemmas.{few_runs, flat_map-runs}
@@ -16,7 +16,7 @@ use Rattle.data_encoding.proofs.grammar.UnpaddedGroupLemmas.{PlainMeans-count, P
 use Rattle.data_encoding.proofs.grammar.UnpaddedGrammarLemmas.{unpadded-Means}
 use Rattle.data_encoding.proofs.grammar.GroupLemmas.{GroupMeans-length, GroupMeans-sound, GroupMeans-no_fault, GroupMeans-bytes}
 use Rattle.data_encoding.proofs.grammar.PositionLemmas.{length-kept, length-kept_plain, length-meanings}
-use Rattle.data_encoding.proofs.grammar.LengthLemmas.{is_valid_length-by, length_fault-none, whole-length}
+use Rattle.data_encoding.proofs.grammar.LengthLemmas.{length_fault-none, whole-length}
 use Rattle.data_encoding.proofs.grammar.SoundLemmas.{AreSound-none, ends_after, fault_after-none, neither_fault, first-none, sound-all}
 use Rattle.std.proofs.lemmas.Nat.{le-div}
 

@@ -1,8 +1,8 @@
 -- Characters with their places.
-use Rattle.std.proofs.Common.{◌≡◌, ℕ, zero, suc, ◌+◌, ◌<◌, ◌≤◌, false, true, not, List, [], ◌∷◌, ◌++◌, length, map, get_or, refl, sym, ap, ◌∙◌, arith}
+use Rattle.std.proofs.Common.{◌≡◌, ℕ, zero, suc, ◌+◌, ◌<◌, ◌≤◌, false, not, List, [], ◌∷◌, ◌++◌, length, map, get_or, refl, ap, ◌∙◌, arith}
 use Rattle.std.proofs.lemmas.List.{length-map, map-append}
 use Rattle.std.proofs.lemmas.List.FromFn.{length-enumerate_from}
-use Rattle.std.specs.List.{AllByRecursion, enumerate_from, filter}
+use Rattle.std.specs.List.{filter}
 use Rattle.data_encoding.specs.declared.encoding.Character.{Character}
 use Rattle.data_encoding.specs.declared.encoding.Character.TheVariants.{Invalid}
 use Rattle.data_encoding.specs.Base.{Base, meaning, is_ignored, ignores_some}
@@ -10,7 +10,7 @@ use Rattle.data_encoding.specs.Grammar.{Positioned, bytes_in, positioned, positi
 use Rattle.data_encoding.specs.Fault.{position_of}
 use Rattle.data_encoding.specs.Bits.{runs}
 use Rattle.data_encoding.proofs.digits.WordLemmas.{map-twice}
-use Rattle.data_encoding.proofs.lists.ListLemmas.{AllFail, AllFail-list_any, filter-all, length-filter}
+use Rattle.data_encoding.proofs.lists.ListLemmas.{AllFail, AllFail-list_any, length-filter}
 use Rattle.data_encoding.proofs.lists.RunLemmas.{runs-map}
 use Rattle.std.proofs.Math.Nat.{add-zero}
 

@@ -1,17 +1,16 @@
 -- Texts whose bytes mean the same one by one mean the same, and have the same fault.
-use Rattle.std.proofs.Common.{◌≡◌, ℕ, ◌+◌, ◌&&◌, Bool, false, not, cond, List, [], ◌∷◌, length, map, Option, Some, None, get_or, refl, sym, ap, ◌∙◌}
+use Rattle.std.proofs.Common.{◌≡◌, ℕ, ◌+◌, Bool, false, not, List, [], ◌∷◌, length, map, Option, Some, None, get_or, refl, sym, ap, ◌∙◌}
 use Rattle.std.proofs.lemmas.List.{length-map}
 use Rattle.std.proofs.Math.ListN.{get_or-map}
-use Rattle.std.specs.List.{enumerate_from, filter, list_any}
+use Rattle.std.specs.List.{enumerate_from}
 use Rattle.data_encoding.specs.declared.decode.group.GroupFault.{GroupFault}
 use Rattle.data_encoding.specs.declared.encoding.Character.{Character}
 use Rattle.data_encoding.specs.declared.error.DecodeKind.{DecodeKind}
 use Rattle.data_encoding.specs.declared.error.DecodeKind.TheVariants.{Padding as PaddingFault}
-use Rattle.data_encoding.specs.Base.{Base, IsWidth, meaning, is_ignored, is_padding, group_symbols}
+use Rattle.data_encoding.specs.Base.{Base, IsWidth, meaning, is_ignored, group_symbols}
 use Rattle.data_encoding.specs.Bits.{runs}
-use Rattle.data_encoding.specs.Grammar.{Positioned, Means, bytes_in, groups, is_final, kept, kept_in, meanings_in, positioned_from}
-use Rattle.data_encoding.specs.Fault.{character_fault, fault_after, fault_at, fault_of, first_after, group_fault, located, or_else}
-use Rattle.data_encoding.specs.Lengths.{length_fault}
+use Rattle.data_encoding.specs.Grammar.{Positioned, Means, groups, is_final, kept, kept_in, meanings_in, positioned_from}
+use Rattle.data_encoding.specs.Fault.{fault_after, fault_at, fault_of, first_after, located}
 use Rattle.data_encoding.proofs.digits.WidthLemmas.{group_symbols-pos}
 use Rattle.data_encoding.proofs.digits.WordLemmas.{map-twice}
 use Rattle.data_encoding.proofs.grammar.SameBytesLemmas.{Means-alike}

@@ -1,5 +1,5 @@
 -- Groups without a fault, one after the other.
-use Rattle.std.proofs.Common.{◌≡◌, ℕ, Bool, true, false, not, cond, ◌&&◌, List, [], ◌∷◌, ◌++◌, map, Option, Some, None, is_some, refl, sym, ap, ◌∙◌, subst, arith}
+use Rattle.std.proofs.Common.{◌≡◌, ℕ, Bool, true, false, not, ◌&&◌, List, [], ◌∷◌, ◌++◌, map, Option, None, refl, arith}
 use Rattle.std.proofs.lemmas.List.{append-nil}
 use Rattle.std.proofs.lemmas.List.Concat.{flat_map-append}
 use Rattle.std.specs.Prelude.{flat_map}
@@ -13,7 +13,7 @@ use Rattle.data_encoding.specs.Base.{Base, is_padding}
 use Rattle.data_encoding.specs.Grammar.{Positioned, bytes_in, is_final}
 use Rattle.data_encoding.specs.Fault.{bytes_of_group, fault_after, first_after, group_fault, located, or_else, sound_after}
 use Rattle.data_encoding.specs.Decoding.{AreSound}
-use Rattle.data_encoding.proofs.lists.ListLemmas.{AllFail, list_any-none}
+use Rattle.data_encoding.proofs.lists.ListLemmas.{list_any-none}
 use Rattle.data_encoding.proofs.grammar.GroupLemmas.{symbols_alone}
 
 -- whether one ended after them, sound or not

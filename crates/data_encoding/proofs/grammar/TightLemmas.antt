@@ -1,7 +1,6 @@
 -- What a text means is bytes, and how many, where there is no padding and no ignored byte.
-use Rattle.std.proofs.Common.{◌≡◌, ℕ, ◌+◌, ◌*◌, ◌/◌, false, ◌<◌, List, [], ◌∷◌, length, All, Option, Some, None, is_some, refl, sym, ap, ◌∙◌, subst, arith, map}
+use Rattle.std.proofs.Common.{◌≡◌, ℕ, ◌+◌, ◌*◌, false, ◌<◌, List, [], ◌∷◌, length, All, Option, Some, None, is_some, refl, sym, ap, arith, map}
 use Rattle.std.proofs.lemmas.List.Elements.{All-append, All-from_recursion}
-use Rattle.std.proofs.lemmas.Bool.{false≢true}
 use Rattle.std.specs.List.{AllByRecursion}
 use Rattle.data_encoding.specs.declared.encoding.Character.{Character}
 use Rattle.data_encoding.specs.declared.encoding.Character.TheVariants.{Ignored}
@@ -9,15 +8,13 @@ use Rattle.data_encoding.specs.Base.{Base, IsWidth, Wrapping, ignores_some, is_i
 use Rattle.data_encoding.specs.Grammar.{GroupsMean, Means, groups, kept, meanings_in}
 use Rattle.data_encoding.specs.Lengths.{most_bytes}
 use Rattle.data_encoding.specs.Text.{text_of}
-use Rattle.data_encoding.proofs.digits.WidthLemmas.{by_width}
 use Rattle.data_encoding.proofs.grammar.LengthLemmas.{most_bytes-by, widths}
 use Rattle.data_encoding.proofs.grammar.PositionLemmas.{length-kept_plain, never_ignored, length-meanings}
 use Rattle.data_encoding.proofs.grammar.UnpaddedGrammarLemmas.{unpadded-Means}
 use Rattle.data_encoding.proofs.grammar.UnpaddedGroupLemmas.{PlainMeans-count}
 use Rattle.data_encoding.proofs.lists.RunLemmas.{run_count}
 use Rattle.data_encoding.proofs.judgement.RuleLemmas.{IsRuled, IsRuledWrapping}
-use Rattle.data_encoding.proofs.text.PaddedTextLemmas.{length-unpadded, text_of-unwrapped}
-use Rattle.std.proofs.lemmas.Bool.Decides.{nat_tests}
+use Rattle.data_encoding.proofs.text.PaddedTextLemmas.{length-unpadded}
 
 -- where no byte is ignored, there are no lines
 pub no_lines-plain : (base : Base) → IsRuled base → ignores_some base ≡ false

@@ -1,25 +1,22 @@
 -- Symbols of one group: the bytes that they mean, and their fault.
-use Rattle.std.proofs.Common.{◌≡◌, ℕ, ◌+◌, ◌*◌, ◌/◌, ◌%◌, ◌<◌, ◌==◌, Bool, true, false, not, cond, ◌&&◌, List, [], ◌∷◌, ◌++◌, length, map, take, drop, Option, Some, None, refl, sym, ap, ◌∙◌, arith, length-append, take-append-drop, length-take-le}
-use Rattle.std.proofs.lemmas.Bool.{false≢true}
+use Rattle.std.proofs.Common.{◌≡◌, ℕ, ◌+◌, ◌*◌, ◌/◌, ◌%◌, ◌<◌, ◌==◌, true, false, not, List, [], ◌∷◌, ◌++◌, length, map, take, None, refl, sym, ap, ◌∙◌, arith, length-append, take-append-drop, length-take-le}
 use Rattle.std.proofs.lemmas.Bool.Decides.{nat_tests}
 use Rattle.std.proofs.lemmas.List.{length-map, length-drop, take_at, drop_at}
-use Rattle.std.proofs.lemmas.Nat.{div-add-mod'}
 use Rattle.std.specs.Prelude.{flat_map}
 use Rattle.std.specs.List.{AllByRecursion, list_any, filter_map, position}
 use Rattle.std.proofs.lemmas.List.Elements.{All-from_recursion, recursion_from_All}
-use Rattle.data_encoding.specs.declared.decode.group.GroupFault.{GroupFault}
 use Rattle.data_encoding.specs.declared.encoding.BitOrder.{BitOrder}
 use Rattle.data_encoding.specs.declared.encoding.Character.{Character}
-use Rattle.data_encoding.specs.declared.encoding.Character.TheVariants.{Symbol, Padding, Ignored, Invalid}
+use Rattle.data_encoding.specs.declared.encoding.Character.TheVariants.{Symbol}
 use Rattle.data_encoding.specs.Base.{Base, is_symbol, value_of, IsWidth}
-use Rattle.data_encoding.specs.Bits.{bits_of, number_of, bits_of_bytes, runs}
+use Rattle.data_encoding.specs.Bits.{bits_of, number_of, bits_of_bytes}
 use Rattle.data_encoding.specs.Grammar.{PlainMeans}
 use Rattle.data_encoding.specs.Lengths.{is_valid_count}
-use Rattle.data_encoding.specs.Fault.{symbol_bits, trailing_bits, symbol_bytes, plain_fault, symbols_fault, trailing_fault, fault_at_first}
+use Rattle.data_encoding.specs.Fault.{symbol_bits, trailing_bits, symbol_bytes, plain_fault, symbols_fault, trailing_fault}
 use Rattle.data_encoding.proofs.digits.BitLemmas.{AreBits, AreBits-take, AreBits-flat_map, AreBits-bits_of, length-bits_of, length-pieces, number_of-bits_of}
 use Rattle.data_encoding.proofs.digits.ValueLemmas.{AreValuesOf-runs}
 use Rattle.data_encoding.proofs.lists.EachLemmas.{all_replicate, all_weaker}
-use Rattle.data_encoding.proofs.lists.ListLemmas.{AllFail, cond-none, position-none, AllFail-position, list_any-none, AllFail-list_any, zeros}
+use Rattle.data_encoding.proofs.lists.ListLemmas.{AllFail, position-none, AllFail-position, list_any-none, AllFail-list_any, zeros}
 use Rattle.data_encoding.proofs.lists.RunLemmas.{runs-flat_map}
 
 numbers_back : (order : BitOrder) (bytes : List ℕ) → AllByRecursion (λ byte. byte < 256) bytes

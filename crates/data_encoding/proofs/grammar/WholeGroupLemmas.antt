@@ -1,5 +1,5 @@
 -- Whole groups of symbols alone.
-use Rattle.std.proofs.Common.{◌≡◌, ℕ, zero, suc, ◌+◌, ◌*◌, ◌/◌, true, false, not, List, [], ◌∷◌, length, map, take, drop, None, refl, sym, ap, ◌∙◌, subst, arith, take-append-drop, length-take-le}
+use Rattle.std.proofs.Common.{◌≡◌, ℕ, zero, suc, ◌+◌, ◌*◌, ◌/◌, true, false, not, List, [], ◌∷◌, length, map, take, drop, None, refl, sym, ap, ◌∙◌, arith, take-append-drop, length-take-le}
 use Rattle.std.proofs.Math.Nat.{zero-mul, suc-mul}
 use Rattle.std.proofs.lemmas.List.{length-map, length-drop, drop_all, nil_from_length}
 use Rattle.std.proofs.lemmas.List.Folds.{flat_map-map}
@@ -7,19 +7,19 @@ use Rattle.std.specs.Prelude.{flat_map}
 use Rattle.std.specs.List.{filter_map, position}
 use Rattle.std.proofs.Math.Bool.{and-false}
 use Rattle.data_encoding.specs.declared.encoding.Character.{Character}
-use Rattle.data_encoding.specs.declared.encoding.Character.TheVariants.{Symbol, Padding, Ignored, Invalid}
+use Rattle.data_encoding.specs.declared.encoding.Character.TheVariants.{Symbol}
 use Rattle.data_encoding.specs.Base.{Base, meaning, is_symbol, is_ignored, group_symbols, group_bytes, value_of, IsWidth}
 use Rattle.data_encoding.specs.Bits.{runs}
 use Rattle.data_encoding.specs.Grammar.{Positioned, bytes_in, is_final, kept_in, meanings_in, positioned_from}
 use Rattle.data_encoding.specs.Lengths.{is_valid_count}
-use Rattle.data_encoding.specs.Fault.{bytes_of_group, fault_at_first, group_fault, located, plain_fault, symbol_bits, symbol_bytes, trailing_bits, trailing_fault}
+use Rattle.data_encoding.specs.Fault.{bytes_of_group, group_fault, located, plain_fault, symbol_bits, symbol_bytes, trailing_bits}
 use Rattle.data_encoding.specs.Decoding.{AreSound, run_bytes}
 use Rattle.data_encoding.proofs.digits.WidthLemmas.{group_bits, group_symbols-pos}
-use Rattle.data_encoding.proofs.lists.EachLemmas.{all_parts, all_weaker}
+use Rattle.data_encoding.proofs.lists.EachLemmas.{all_parts}
 use Rattle.data_encoding.proofs.lists.EndLemmas.{AllSo}
-use Rattle.data_encoding.proofs.lists.ListLemmas.{AllFail, position-none, filter-all}
-use Rattle.data_encoding.proofs.lists.RunLemmas.{runs-nil, runs-append, runs-first}
-use Rattle.data_encoding.proofs.grammar.UnpaddedGroupLemmas.{plain_fault-valid, are_symbols, length-bits_of_values, PlainMeans-sound}
+use Rattle.data_encoding.proofs.lists.ListLemmas.{AllFail, position-none}
+use Rattle.data_encoding.proofs.lists.RunLemmas.{runs-nil, runs-first}
+use Rattle.data_encoding.proofs.grammar.UnpaddedGroupLemmas.{are_symbols, length-bits_of_values, PlainMeans-sound}
 use Rattle.data_encoding.proofs.grammar.GroupLemmas.{whole-valid, GroupMeans-no_fault, GroupMeans-symbols}
 use Rattle.data_encoding.proofs.grammar.PositionLemmas.{bytes-positioned_from, length-meanings, runs-meanings}
 use Rattle.data_encoding.proofs.grammar.SoundLemmas.{symbols-not_final}

@@ -5,7 +5,7 @@ use Rattle.std.proofs.lemmas.Bool.{cases_lt}
 use Rattle.std.proofs.lemmas.List.{length-reverse, reverse-append, length-drop}
 use Rattle.std.specs.List.{AllByRecursion}
 use Rattle.data_encoding.specs.declared.encoding.BitOrder.TheVariants.{MostSignificantFirst}
-use Rattle.data_encoding.specs.Bits.{low_bits, number_of_low_bits, bits_of, number_of, bits_of_bytes}
+use Rattle.data_encoding.specs.Bits.{low_bits, bits_of, number_of, bits_of_bytes}
 use Rattle.data_encoding.specs.Order.{IsBefore}
 use Rattle.data_encoding.proofs.digits.BitLemmas.{AreBits, length-bits_of, number_of-below}
 use Rattle.data_encoding.proofs.digits.WordLemmas.{number-append, number-zeros, reverse-zeros}

@@ -1,5 +1,5 @@
 -- An ordered base keeps the order of data.
-use Rattle.std.proofs.Common.{◌≡◌, ℕ, zero, suc, ◌-◌, ◌%◌, ◌^◌, ◌<◌, ◌≤◌, List, [], ◌∷◌, ◌++◌, length, map, take, drop, replicate, All, Option, Some, None, refl, sym, ap, ◌∙◌, subst, arith, inl, inr, ⊎_elim, take-append-drop, length-take-le}
+use Rattle.std.proofs.Common.{◌≡◌, ℕ, zero, suc, ◌-◌, ◌%◌, ◌^◌, ◌<◌, ◌≤◌, List, [], ◌∷◌, ◌++◌, length, take, drop, replicate, All, Option, Some, None, refl, ap, ◌∙◌, arith, inl, inr, ⊎_elim, take-append-drop, length-take-le}
 use Rattle.std.proofs.Math.Nat.{mod-eq_of_lt, mod_self}
 use Rattle.std.proofs.lemmas.Bool.{cases_lt}
 use Rattle.std.proofs.lemmas.List.{append-nil, drop_all, length-drop}
@@ -9,12 +9,11 @@ use Rattle.data_encoding.specs.declared.encoding.BitOrder.TheVariants.{MostSigni
 use Rattle.data_encoding.specs.Base.{Base, symbol, group_symbols}
 use Rattle.data_encoding.specs.Bits.{bits_of, number_of, bits_of_bytes, missing, runs}
 use Rattle.data_encoding.specs.Order.{IsBefore, IsOrdered, KeepsOrder}
-use Rattle.data_encoding.specs.Text.{filled_with, with_padding, padded_text, text_of}
+use Rattle.data_encoding.specs.Text.{filled_with, with_padding}
 use Rattle.data_encoding.proofs.digits.BitLemmas.{AreBits, AreBits-bits_of, AreBits-drop, AreBits-flat_map}
 use Rattle.data_encoding.proofs.lists.RunLemmas.{runs-append, runs-nil, runs-short}
 use Rattle.data_encoding.proofs.order.FrontLemmas.{front, front_number, front-long, front-short, front_number-below, length-front, front-compared, before-bytes, IsBeforeBy, IsRestBefore}
 use Rattle.data_encoding.proofs.judgement.RuleLemmas.{IsRuled}
-use Rattle.data_encoding.proofs.text.PaddedTextLemmas.{text_of-unwrapped}
 use Rattle.data_encoding.proofs.text.PlainTextLemmas.{filled-join, filled-whole, missing-some, text_by}
 
 module _ (base : Base) (width : ℕ) (order : BitOrder) (some : 0 < width) where

@@ -1,11 +1,11 @@
 -- Blocks of data, which are whole groups or whole lines: how long their texts are.
-use Rattle.std.proofs.Common.{◌≡◌, ℕ, ◌+◌, ◌*◌, ◌/◌, ◌%◌, ◌<◌, ◌≤◌, Some, None, List, length, sym, ap, ◌∙◌, subst, arith}
+use Rattle.std.proofs.Common.{◌≡◌, ℕ, ◌+◌, ◌*◌, ◌/◌, ◌%◌, ◌<◌, ◌≤◌, Some, None, List, length, ap, arith}
 use Rattle.std.proofs.Math.Nat.{div-mul-le_self, mul-pos, mul-le-mul_left, mul-mod_left}
 use Rattle.std.proofs.lemmas.Nat.{le-div}
 use Rattle.data_encoding.specs.Base.{Base, IsWidth, Wrapping, group_bytes, group_symbols}
 use Rattle.data_encoding.specs.Lengths.{IsBlockLength, align_by, alignment}
 use Rattle.data_encoding.specs.Text.{text_of}
-use Rattle.data_encoding.proofs.digits.WidthLemmas.{by_width, group_bytes-few, group_bytes-pos, group_symbols-few}
+use Rattle.data_encoding.proofs.digits.WidthLemmas.{group_bytes-few, group_bytes-pos, group_symbols-few}
 use Rattle.data_encoding.proofs.judgement.RuleLemmas.{IsRuled}
 use Rattle.data_encoding.proofs.text.LineLemmas.{alignment-is, alignment-some, are, column-is, groups, padded-fits, short-lines}
 use Rattle.data_encoding.proofs.text.PaddedTextLemmas.{text_of-unwrapped}

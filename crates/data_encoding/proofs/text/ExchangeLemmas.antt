@@ -1,12 +1,11 @@
 -- Texts of the same data in two encodings that differ in their symbols alone.
-use Rattle.std.proofs.Common.{◌≡◌, ℕ, ◌^◌, ◌<◌, List, [], ◌∷◌, ◌++◌, length, map, replicate, Option, Some, None, is_some, unwrap_or, refl, sym, ap, ◌∙◌, subst}
+use Rattle.std.proofs.Common.{◌≡◌, ℕ, ◌^◌, ◌<◌, List, [], ◌∷◌, ◌++◌, length, map, Option, Some, None, is_some, refl, sym, subst}
 use Rattle.std.proofs.lemmas.List.{length-map, map-append}
 use Rattle.std.specs.Prelude.{flat_map}
 use Rattle.std.specs.List.{AllByRecursion}
 use Rattle.data_encoding.specs.declared.encoding.Character.TheVariants.{Ignored, Padding}
 use Rattle.data_encoding.specs.Base.{Base, Wrapping, meaning, symbol, group_symbols}
 use Rattle.data_encoding.specs.Bits.{bits_of_bytes, missing, number_of, runs}
-use Rattle.data_encoding.specs.Layout.{own_character}
 use Rattle.data_encoding.specs.SameMeaning.{DifferInSymbols, exchanged}
 use Rattle.data_encoding.specs.Text.{filled_with, in_lines, padded_text, plain_text, text_of, with_padding}
 use Rattle.data_encoding.proofs.digits.WordLemmas.{map-twice}

@@ -1,5 +1,5 @@
 -- Data that is encoded piece by piece: blocks as they fill, and the rest at the end.
-use Rattle.std.proofs.Common.{[], refl, append-nil, ◌≡◌, ℕ, ◌+◌, ◌%◌, ◌<◌, List, ◌++◌, length, sym, ap, ◌∙◌, append_assoc, length-append}
+use Rattle.std.proofs.Common.{[], refl, append-nil, ◌≡◌, ℕ, ◌+◌, ◌%◌, ◌<◌, List, ◌++◌, length, append_assoc, length-append}
 use Rattle.std.proofs.Math.Nat.{mod-add-mod, mod-eq_of_lt, mod_self, zero-add}
 use Rattle.data_encoding.specs.Base.{Base}
 use Rattle.data_encoding.specs.Fragments.{HasEncoded}

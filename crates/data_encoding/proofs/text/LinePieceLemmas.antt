@@ -1,5 +1,5 @@
 -- Texts in lines, made by pieces: line by line, and by blocks of lines.
-use Rattle.std.proofs.Common.{◌≡◌, ℕ, ◌+◌, ◌*◌, ◌/◌, ◌%◌, ◌<◌, ◌≤◌, Some, IsSome, List, ◌++◌, length, sym, ap, ◌∙◌, subst, arith, length-append}
+use Rattle.std.proofs.Common.{◌≡◌, ℕ, ◌+◌, ◌*◌, ◌/◌, ◌<◌, ◌≤◌, Some, IsSome, List, ◌++◌, length, ap, arith, length-append}
 use Rattle.std.proofs.Math.Nat.{div-le_self, le-mul_of_pos_right, mul-mod_left, mul_assoc}
 use Rattle.std.proofs.lemmas.Nat.{le-div}
 use Rattle.std.proofs.lemmas.List.Concat.{flat_map-append}
@@ -8,7 +8,7 @@ use Rattle.data_encoding.specs.Base.{Base, Wrapping}
 use Rattle.data_encoding.specs.Bits.{runs}
 use Rattle.data_encoding.specs.Encoding.{EncodingTables, KeepsRules, base_of_tables}
 use Rattle.data_encoding.specs.Lengths.{alignment}
-use Rattle.data_encoding.specs.Text.{in_lines, padded_text, text_of}
+use Rattle.data_encoding.specs.Text.{padded_text, text_of}
 use Rattle.data_encoding.proofs.judgement.RuleLemmas.{AreLines, IsRuled}
 use Rattle.data_encoding.proofs.lists.PartLemmas.{groups-within}
 use Rattle.data_encoding.proofs.lists.PieceLemmas.{IsByPieces}
@@ -79,9 +79,7 @@ module _ {e : EncodingTables} {seen : Base} (rules : KeepsRules e) (is : base_of
 
   pub line-few : {ends : ℕ} → ends ≡ length e.separator → e.column + ends ≤ 510
   line-few ends-is =
-      let columns : e.column < 256 = lines-are.short in
-      let few : length e.separator < 256 = lines-are.ends_short in
-      omega (arith, columns, few, ends-is)
+      omega (arith, lines-are.short, lines-are.ends_short)
 
   pub text-wrapped : (input : List ℕ) {separator padded : List ℕ}
       → separator ≡ e.separator → padded ≡ padded_text seen input

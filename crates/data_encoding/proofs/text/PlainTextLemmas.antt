@@ -1,5 +1,5 @@
 -- The symbols of data, in parts.
-use Rattle.std.proofs.Common.{◌≡◌, ℕ, ◌+◌, ◌-◌, ◌*◌, ◌/◌, ◌%◌, ◌<◌, ◌≤◌, List, [], ◌∷◌, ◌++◌, length, map, replicate, sym, ap, ◌∙◌, arith, ⊎_elim, length-append, append_assoc}
+use Rattle.std.proofs.Common.{◌≡◌, ℕ, ◌+◌, ◌-◌, ◌*◌, ◌/◌, ◌%◌, ◌<◌, ◌≤◌, List, [], ◌∷◌, ◌++◌, length, map, ap, ◌∙◌, arith, ⊎_elim, length-append, append_assoc}
 use Rattle.std.proofs.lemmas.List.{length-map, map-append, append-nil, length-replicate, nil_from_length}
 use Rattle.std.proofs.lemmas.List.Concat.{flat_map-append}
 use Rattle.std.proofs.lemmas.Bool.{cases_lt}
@@ -8,7 +8,7 @@ use Rattle.std.proofs.Math.Nat.{add-mod, mul_comm, mod-mod, mod-eq_of_lt, mod_se
 use Rattle.std.specs.List.{AllByRecursion}
 use Rattle.data_encoding.specs.declared.encoding.BitOrder.{BitOrder}
 use Rattle.data_encoding.specs.Base.{Base, symbol}
-use Rattle.data_encoding.specs.Bits.{bits_of, number_of, bits_of_bytes, missing, runs}
+use Rattle.data_encoding.specs.Bits.{number_of, bits_of_bytes, missing, runs}
 use Rattle.data_encoding.specs.Text.{filled_with, plain_text}
 use Rattle.data_encoding.proofs.grammar.UnpaddedGroupLemmas.{length-bits_of_bytes}
 use Rattle.data_encoding.proofs.lists.RunLemmas.{run_count, run_count-whole, length-runs, runs-join}

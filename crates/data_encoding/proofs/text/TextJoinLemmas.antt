@@ -1,9 +1,8 @@
 -- The texts of data that are joined at whole groups or at whole lines.
 use Rattle.std.proofs.Common.{◌≡◌, ℕ, ◌-◌, ◌*◌, ◌/◌, ◌%◌, ◌<◌, Option, Some, None, List, ◌++◌, length, refl, sym, ap, ◌∙◌, arith}
-use Rattle.std.proofs.Math.Nat.{mul-div_right, mul-mod_left, mul-mod_right, mul_assoc, mul_comm, mul_left_comm}
+use Rattle.std.proofs.Math.Nat.{mul-mod_left, mul-mod_right}
 use Rattle.std.proofs.lemmas.List.Concat.{flat_map-append}
 use Rattle.std.proofs.lemmas.Nat.{div-add-mod'}
-use Rattle.std.specs.Prelude.{flat_map}
 use Rattle.data_encoding.specs.Base.{Base, IsWidth, Wrapping, group_bytes, group_symbols}
 use Rattle.data_encoding.specs.Lengths.{align_by, alignment}
 use Rattle.data_encoding.specs.Text.{in_lines, padded_text, plain_text, text_of, with_padding}

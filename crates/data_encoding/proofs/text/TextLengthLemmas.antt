@@ -1,10 +1,9 @@
 -- The length of a text is decided by that of its data, and tells it where there is no padding.
-use Rattle.std.proofs.Common.{◌≡◌, ℕ, ◌+◌, ◌*◌, ◌/◌, ◌%◌, ◌<◌, Bool, true, false, List, length, Option, Some, None, Ok, is_some, refl, sym, ap, ◌∙◌, arith}
+use Rattle.std.proofs.Common.{◌≡◌, ℕ, ◌*◌, ◌/◌, ◌%◌, ◌<◌, Bool, true, false, List, length, Option, Some, None, Ok, is_some, refl, ap, ◌∙◌, arith}
 use Rattle.std.proofs.lemmas.Bool.{lt-ltb}
-use Rattle.data_encoding.specs.Base.{Base, IsWidth, Wrapping, group_bytes, group_symbols, is_padded}
+use Rattle.data_encoding.specs.Base.{Base, IsWidth, Wrapping, is_padded}
 use Rattle.data_encoding.specs.Lengths.{decoded_len}
 use Rattle.data_encoding.specs.Text.{padded_text, text_of}
-use Rattle.data_encoding.proofs.digits.WidthLemmas.{by_width}
 use Rattle.data_encoding.proofs.grammar.LengthLemmas.{decoded_len-valid, is_valid_length-by, most_bytes-by, widths}
 use Rattle.data_encoding.proofs.lists.RunLemmas.{run_count}
 use Rattle.data_encoding.proofs.judgement.RuleLemmas.{IsRuled}

@@ -1,5 +1,5 @@
 -- Texts that are written in calls.
-use Rattle.std.proofs.Common.{◌≡◌, ℕ, ◌%◌, ◌≤◌, Result, Ok, Err, IsOk, OnOk, List, [], ◌∷◌, ◌++◌, length, take, drop, refl, sym, ap, ◌∙◌, subst, arith, append_assoc, take-append-drop, length-take-le}
+use Rattle.std.proofs.Common.{◌≡◌, ℕ, ◌%◌, ◌≤◌, Result, Ok, Err, IsOk, OnOk, List, [], ◌∷◌, ◌++◌, length, take, drop, refl, ap, subst, arith, append_assoc, take-append-drop, length-take-le}
 use Rattle.std.proofs.Output.{has_written_append, writes_in_calls_append, writes_in_calls_nil, writes_in_calls_single}
 use Rattle.std.proofs.lemmas.List.{length-drop, nil_from_length}
 use Rattle.std.specs.Fmt.{HasWritten, IsPlainFormatter, WritesInCalls}
