@@ -17,7 +17,7 @@ use Rattle.data_encoding.specs.Grammar.{Positioned, PlainMeans, GroupMeans, byte
 use Rattle.data_encoding.specs.Laws.{further}
 use Rattle.data_encoding.specs.Lengths.{is_valid_count}
 use Rattle.data_encoding.specs.Fault.{character_fault, count_before_padding, group_fault, located, padded_fault_at, plain_fault, position_of, symbol_bytes, symbols_fault}
-use Rattle.data_encoding.proofs.digits.WidthLemmas.{by_width}
+use Rattle.data_encoding.proofs.grammar.LengthLemmas.{widths}
 use Rattle.data_encoding.proofs.grammar.PositionLemmas.{length-meanings}
 use Rattle.data_encoding.proofs.grammar.UnpaddedGroupLemmas.{plain_fault-valid, PlainMeans-sound, PlainMeans-valid, PlainMeans-bytes, PlainMeans-no_fault}
 use Rattle.data_encoding.proofs.lists.EachLemmas.{all_replicate}
@@ -35,8 +35,7 @@ inside-symbols base group some = grind (arith, nat_tests)
 
 -- all symbols of a whole group are a valid number
 pub whole-valid : (width : ℕ) → IsWidth width → is_valid_count width (group_symbols width) ≡ true
-whole-valid =
-    by_width (λ w. is_valid_count w (group_symbols w) ≡ true) refl refl refl refl refl refl
+whole-valid width is = grind (arith, nat_tests, widths width is)
 
 module _ (base : Base) (width : IsWidth base.width) (group : List Character)
     (some : 0 < length group) (few : length group ≤ group_symbols base.width) where
@@ -84,8 +83,7 @@ pub located-further : (ks js : List Positioned) (count : ℕ) (o : Option GroupF
     → ((index : ℕ) → index < length ks → position_of js index ≡ count + position_of ks index)
     → located js o ≡ further count (located ks o)
 located-further ks js count None inside behind = refl
-located-further ks js count (Some fault) inside behind =
-    ap (λ n. Some (record { position = n; kind = fault.kind })) (behind fault.index inside)
+located-further ks js count (Some fault) inside behind = rw (behind fault.index inside)
 
 -- symbols alone are a group: a whole one, or any where there is no padding
 pub GroupMeans-symbols : (base : Base) (group : List Character) (bytes : List ℕ)

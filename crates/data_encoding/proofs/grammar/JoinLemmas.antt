@@ -6,6 +6,7 @@ use Rattle.std.proofs.lemmas.List.Elements.{All-filter, All-map, recursion_from_
 use Rattle.std.specs.Prelude.{All}
 use Rattle.std.specs.List.{list_any}
 use Rattle.std.proofs.Math.Bool.{and-false}
+use Rattle.std.proofs.lemmas.Bool.Decides.{nat_tests}
 use Rattle.data_encoding.proofs.grammar.PositionLemmas.{length-meanings, meanings-append}
 use Rattle.data_encoding.specs.declared.encoding.Character.{Character}
 use Rattle.data_encoding.specs.Base.{Base, IsWidth, meaning, is_ignored, is_padded, is_padding, group_symbols}
@@ -23,7 +24,6 @@ use Rattle.data_encoding.proofs.lists.EachLemmas.{all_parts}
 use Rattle.data_encoding.proofs.lists.ListLemmas.{AllFail, list_any-none}
 use Rattle.data_encoding.proofs.lists.RunLemmas.{flat_map-runs, runs-join}
 use Rattle.data_encoding.proofs.judgement.RuleLemmas.{IsRuled, IsRuledPadding}
-use Rattle.std.proofs.lemmas.Bool.Decides.{nat_tests}
 use Rattle.data_encoding.proofs.grammar.LengthLemmas.{widths}
 
 -- where eight bits are whole symbols, symbols of bytes are whole groups

@@ -60,16 +60,11 @@ module _ (base : Base) where
   nothing-left text = rw (drop_all (length text) text (omega arith))
 
 -- the position after the last of some is that of these and any before them
-after_first-append : (xs ys : List Positioned) → 0 < length xs
-    → position_after_first (xs ++ ys) ≡ position_after_first xs
-after_first-append [] ys h = absurd (omega (arith, h))
-after_first-append (x ∷ xs) ys h = refl
-
 pub position_after-append : (xs ys : List Positioned) → 0 < length ys
     → position_after (xs ++ ys) ≡ position_after ys
 position_after-append xs ys h =
-    rw (reverse-append xs ys)
-    (after_first-append (reverse ys) (reverse xs) (omega (arith, length-reverse ys, h)))
+    let some : 0 < length (reverse ys) = omega (arith, length-reverse ys) in
+    rw (reverse-append xs ys) (grind arith)
 
 pub position_after-positioned : (start : ℕ) (part : List ℕ) → 0 < length part
     → position_after (positioned_from start part) ≡ start + length part

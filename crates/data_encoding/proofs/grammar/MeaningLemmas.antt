@@ -3,6 +3,7 @@ use Rattle.std.proofs.Common.{◌≡◌, ℕ, ◌*◌, ◌<◌, ◌≤◌, Bool,
 use Rattle.std.proofs.Math.Nat.{mul-mod_left, mul-le-mul_right, mul-le-mul_left}
 use Rattle.std.specs.Prelude.{flat_map}
 use Rattle.std.specs.List.{AllByRecursion}
+use Rattle.std.proofs.lemmas.Nat.{le-div}
 use Rattle.data_encoding.specs.declared.encoding.Character.{Character}
 use Rattle.data_encoding.specs.declared.error.DecodeError.{DecodeError}
 use Rattle.data_encoding.specs.Base.{Base, is_padded, group_symbols, group_bytes, IsWidth}
@@ -18,7 +19,6 @@ use Rattle.data_encoding.proofs.grammar.GroupLemmas.{GroupMeans-length, GroupMea
 use Rattle.data_encoding.proofs.grammar.PositionLemmas.{length-kept, length-kept_plain, length-meanings}
 use Rattle.data_encoding.proofs.grammar.LengthLemmas.{length_fault-none, whole-length}
 use Rattle.data_encoding.proofs.grammar.SoundLemmas.{AreSound-none, ends_after, fault_after-none, neither_fault, first-none, sound-all}
-use Rattle.std.proofs.lemmas.Nat.{le-div}
 
 -- none follows one that ended
 none_follow : (base : Base) (ended : Bool) (gs : List (List Positioned))
@@ -44,24 +44,19 @@ module _ (base : Base) (width : IsWidth base.width) where
     GroupsMean-sound (is_final base g) ended gs few.1 h.1,
   )
 
-  -- and groups that mean something have none
+  -- and groups that mean something have none, and mean no other bytes
   sound-GroupsMean : (begun : Bool) (gs : List (List Positioned)) (bytes : List ℕ)
       → (begun ≡ true → map (meanings_in base) gs ≡ [])
       → GroupsMean base (map (meanings_in base) gs) bytes
       → AreSound base begun gs (ends_after base begun gs)
-  sound-GroupsMean begun [] bytes last h = refl
+      × (flat_map (bytes_of_group base) gs ≡ bytes)
+  sound-GroupsMean begun [] bytes last h = (refl, sym h)
   sound-GroupsMean true (g ∷ gs) bytes last h = let never = last refl in absurd cc
-  sound-GroupsMean false (g ∷ gs) bytes last h = (
-    ap (located g) (GroupMeans-no_fault base width (meanings_in base g) h.0 h.3),
-    sound-GroupsMean (is_final base g) gs h.1 h.4 h.5,
-  )
-
-  bytes-GroupsMean : (gs : List (List Positioned)) (bytes : List ℕ)
-      → GroupsMean base (map (meanings_in base) gs) bytes
-      → flat_map (bytes_of_group base) gs ≡ bytes
-  bytes-GroupsMean [] bytes h = sym h
-  bytes-GroupsMean (g ∷ gs) bytes h =
-      cc (GroupMeans-bytes base width (meanings_in base g) h.0 h.3, bytes-GroupsMean gs h.1 h.5)
+  sound-GroupsMean false (g ∷ gs) bytes last h =
+      let others = sound-GroupsMean (is_final base g) gs h.1 h.4 h.5 in (
+        (ap (located g) (GroupMeans-no_fault base width (meanings_in base g) h.0 h.3), others.0),
+        cc (GroupMeans-bytes base width (meanings_in base g) h.0 h.3, others.1),
+      )
 
   -- Where there is padding, they are whole, and each means at most the bytes of a whole group.
   module _ (padded : is_padded base ≡ true) where
@@ -125,13 +120,14 @@ module _ (base : Base) (width : IsWidth base.width) where
                 at (PlainMeans-valid base width meant bytes (plain is)))
 
       sound : AreSound base false (groups base text) (ends_after base false (groups base text))
+          × (flat_map (bytes_of_group base) (groups base text) ≡ bytes)
       sound = sound-GroupsMean false (groups base text) bytes (λ h. cc) means
 
       -- a text that means something has no fault
       pub no_fault-Means : fault_of base text ≡ None
       no_fault-Means =
           let gs = groups base text in
-          rw no_length_fault-Means (first-none base false (ends_after base false gs) gs sound)
+          rw no_length_fault-Means (first-none base false (ends_after base false gs) gs sound.0)
 
       -- nor has one with a fault any meaning
       pub faulty-Means : (error : DecodeError) → fault_of base text ≡ Some error → ⊥
@@ -141,8 +137,7 @@ module _ (base : Base) (width : IsWidth base.width) where
       pub sound_bytes-Means : sound_bytes base text ≡ bytes
       sound_bytes-Means =
           let gs = groups base text in
-          rw (sound-all base false (ends_after base false gs) gs sound)
-          (bytes-GroupsMean gs bytes means)
+          rw (sound-all base false (ends_after base false gs) gs sound.0) sound.1
 
       -- a text means at most as many bytes as its length allows
       pub length-Means : length bytes ≤ most_bytes base (length text)

@@ -3,6 +3,7 @@ use Rattle.std.proofs.Common.{◌≡◌, ℕ, zero, suc, ◌+◌, ◌<◌, ◌�
 use Rattle.std.proofs.lemmas.List.{length-map, map-append}
 use Rattle.std.proofs.lemmas.List.FromFn.{length-enumerate_from}
 use Rattle.std.specs.List.{filter}
+use Rattle.std.proofs.Math.Nat.{add-zero}
 use Rattle.data_encoding.specs.declared.encoding.Character.{Character}
 use Rattle.data_encoding.specs.declared.encoding.Character.TheVariants.{Invalid}
 use Rattle.data_encoding.specs.Base.{Base, meaning, is_ignored, ignores_some}
@@ -12,7 +13,6 @@ use Rattle.data_encoding.specs.Bits.{runs}
 use Rattle.data_encoding.proofs.digits.WordLemmas.{map-twice}
 use Rattle.data_encoding.proofs.lists.ListLemmas.{AllFail, AllFail-list_any, length-filter}
 use Rattle.data_encoding.proofs.lists.RunLemmas.{runs-map}
-use Rattle.std.proofs.Math.Nat.{add-zero}
 
 pub positioned_from-append : (place : ℕ) (xs ys : List ℕ)
     → positioned_from place (xs ++ ys)

@@ -5,6 +5,8 @@ use Rattle.std.proofs.lemmas.List.{length-map, map-append, append-nil, nil_from_
 use Rattle.std.proofs.lemmas.List.Concat.{flat_map-append}
 use Rattle.std.proofs.lemmas.List.Elements.{All-append, All-take, All-drop}
 use Rattle.std.specs.Prelude.{flat_map}
+use Rattle.std.proofs.Math.Nat.{mul-le-mul_left}
+use Rattle.std.proofs.lemmas.Bool.Decides.{nat_tests}
 use Rattle.data_encoding.specs.declared.encoding.Character.{Character}
 use Rattle.data_encoding.specs.declared.encoding.Character.TheVariants.{Symbol}
 use Rattle.data_encoding.specs.Base.{Base, is_padded, group_bytes, group_symbols, IsWidth}
@@ -17,8 +19,6 @@ use Rattle.data_encoding.proofs.grammar.UnpaddedGroupLemmas.{PlainMeans-count, l
 use Rattle.data_encoding.proofs.lists.ListLemmas.{parts_same}
 use Rattle.data_encoding.proofs.lists.RunLemmas.{by_runs, runs-first, runs-nil, runs-short}
 use Rattle.data_encoding.proofs.digits.WidthLemmas.{group_bits, group_symbols-pos}
-use Rattle.std.proofs.Math.Nat.{mul-le-mul_left}
-use Rattle.std.proofs.lemmas.Bool.Decides.{nat_tests}
 
 module _ (base : Base) (width : IsWidth base.width) where
   abbrev size : ℕ

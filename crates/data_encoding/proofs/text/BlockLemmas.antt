@@ -2,6 +2,7 @@
 use Rattle.std.proofs.Common.{◌≡◌, ℕ, ◌+◌, ◌*◌, ◌/◌, ◌%◌, ◌<◌, ◌≤◌, Some, None, List, length, ap, arith}
 use Rattle.std.proofs.Math.Nat.{div-mul-le_self, mul-pos, mul-le-mul_left, mul-mod_left}
 use Rattle.std.proofs.lemmas.Nat.{le-div}
+use Rattle.std.proofs.lemmas.Bool.Decides.{nat_tests}
 use Rattle.data_encoding.specs.Base.{Base, IsWidth, Wrapping, group_bytes, group_symbols}
 use Rattle.data_encoding.specs.Lengths.{IsBlockLength, align_by, alignment}
 use Rattle.data_encoding.specs.Text.{text_of}
@@ -10,7 +11,6 @@ use Rattle.data_encoding.proofs.judgement.RuleLemmas.{IsRuled}
 use Rattle.data_encoding.proofs.text.LineLemmas.{alignment-is, alignment-some, are, column-is, groups, padded-fits, short-lines}
 use Rattle.data_encoding.proofs.text.PaddedTextLemmas.{text_of-unwrapped}
 use Rattle.data_encoding.proofs.grammar.LengthLemmas.{widths}
-use Rattle.std.proofs.lemmas.Bool.Decides.{nat_tests}
 
 -- lines of whole groups that are below 256: their characters, and their bytes
 abbrev FewColumns : ℕ → Type 0

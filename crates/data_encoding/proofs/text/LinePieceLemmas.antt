@@ -78,8 +78,7 @@ module _ {e : EncodingTables} {seen : Base} (rules : KeepsRules e) (is : base_of
   text-few = text-most seen ruled
 
   pub line-few : {ends : ℕ} → ends ≡ length e.separator → e.column + ends ≤ 510
-  line-few ends-is =
-      omega (arith, lines-are.short, lines-are.ends_short)
+  line-few ends-is = omega (arith, lines-are.short, lines-are.ends_short)
 
   pub text-wrapped : (input : List ℕ) {separator padded : List ℕ}
       → separator ≡ e.separator → padded ≡ padded_text seen input

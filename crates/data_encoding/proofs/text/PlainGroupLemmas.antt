@@ -52,8 +52,7 @@ module _ {width bytes symbols : ℕ} (whole : IsWhole width bytes symbols) where
     some_width = subst (λ w. 0 < w) (sym is) whole.is_width.some
 
     pub written-none : take (0 * symbols) output ≡ plain_text base (take (0 * bytes) input)
-    written-none =
-        rw (zero-mul symbols, zero-mul bytes) (sym (plain_text-nil base some_width))
+    written-none = rw (zero-mul symbols, zero-mul bytes) (sym (plain_text-nil base some_width))
 
     module _ (shown : List ℕ) (i : ℕ)
         (so_far : take (i * symbols) output ≡ plain_text base (take (i * bytes) input)) where

@@ -1,6 +1,7 @@
 -- The length of a text is decided by that of its data, and tells it where there is no padding.
 use Rattle.std.proofs.Common.{◌≡◌, ℕ, ◌*◌, ◌/◌, ◌%◌, ◌<◌, Bool, true, false, List, length, Option, Some, None, Ok, is_some, refl, ap, ◌∙◌, arith}
 use Rattle.std.proofs.lemmas.Bool.{lt-ltb}
+use Rattle.std.proofs.lemmas.Bool.Decides.{nat_tests}
 use Rattle.data_encoding.specs.Base.{Base, IsWidth, Wrapping, is_padded}
 use Rattle.data_encoding.specs.Lengths.{decoded_len}
 use Rattle.data_encoding.specs.Text.{padded_text, text_of}
@@ -9,7 +10,6 @@ use Rattle.data_encoding.proofs.lists.RunLemmas.{run_count}
 use Rattle.data_encoding.proofs.judgement.RuleLemmas.{IsRuled}
 use Rattle.data_encoding.proofs.text.LineLemmas.{length-lines}
 use Rattle.data_encoding.proofs.text.PaddedTextLemmas.{length-padded, length-unpadded, text_of-unwrapped}
-use Rattle.std.proofs.lemmas.Bool.Decides.{nat_tests}
 
 module _ (base : Base) (ruled : IsRuled base) where
   padded-same : (bytes others : List ℕ) → length bytes ≡ length others
