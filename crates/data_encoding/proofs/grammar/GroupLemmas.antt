@@ -219,7 +219,7 @@ module _ (base : Base) (width : IsWidth base.width) (group : List Character) whe
           PlainMeans-no_fault base width group bytes (GroupMeans-plain base group bytes is means)
       by true is =
           let valid = PlainMeans-valid base width means.symbols bytes means.means in
-          let sound = rw valid at (PlainMeans-no_fault base width means.symbols bytes means.means) in
+          let sound = rw valid at (PlainMeans-no_fault base width _ bytes means.means) in
           let whole = means.is_whole is in
           let front : take (length means.symbols) group ≡ means.symbols =
           rw means.is_group (take_at _ _ _ refl) in

@@ -146,7 +146,8 @@ module _ (base : Base) (ruled : IsRuled base) where
         → Means base (text ++ after) (bytes ++ more)
     Means-join follows first second =
         let whole = followed follows first in
-        rw (joined, runs-join size (kept base text) rest (group_symbols-pos base.width width) whole.0)
+        let pos = group_symbols-pos base.width width in
+        rw (joined, runs-join size (kept base text) rest pos whole.0)
         (GroupsMean-append (groups base text) (runs size rest) bytes more whole.1 first
         (subst (λ gs. GroupsMean base gs more)
         (runs-alike base width (kept base after) rest (ap (map (meaning base)) same)) second))

@@ -79,8 +79,8 @@ filter-plain base h (k ∷ ks) = rw (never_ignored base h k.byte, filter-plain b
 
 pub length-kept : (base : Base) (text : List ℕ) → length (kept base text) ≤ length text
 length-kept base text =
-    simp length-positioned_from
-    at (length-filter (λ (k : Positioned). not (is_ignored (meaning base k.byte))) (positioned text))
+    simp length-positioned_from at (length-filter
+    (λ (k : Positioned). not (is_ignored (meaning base k.byte))) (positioned text))
 
 pub length-kept_plain : (base : Base) (text : List ℕ) → ignores_some base ≡ false
     → length (kept base text) ≡ length text

@@ -76,8 +76,8 @@ module _ (base : Base) (width : IsWidth base.width) where
       let same = parts_same (bits v) (bits vs) (bits_of_bytes base.order front)
       (bits_of_bytes base.order back ++ means.rest)
       (simp (← append_assoc, ← flat_map-append, take-append-drop) means.same_bits)
-      (rw (length-bits_of_values, v_len, length-bits_of_bytes, length-take-le byte_count bytes enough)
-      full) in (
+      (rw (length-bits_of_values, v_len, length-bits_of_bytes)
+      (rw (length-take-le byte_count bytes enough) full)) in (
         record {
           values = v;
           rest = [];

@@ -133,7 +133,7 @@ module _ (base : Base) (width : IsWidth base.width) (group : List Character) whe
     pub PlainMeans-bytes : symbol_bytes base group ≡ bytes
     PlainMeans-bytes =
         rw split.0
-        (rw (runs-flat_map 8 (bits_of base.order 8) bytes (omega arith) (length-bits_of base.order 8))
+        (rw (runs-flat_map 8 _ bytes (omega arith) (length-bits_of base.order 8))
         (numbers_back base.order bytes (recursion_from_All _ bytes means.are_bytes)))
 
     no_trailing : trailing_fault base group ≡ None

@@ -269,7 +269,8 @@ module _ (base : Base) (ruled : IsRuled base) (unwrapped : base.wrapping ≡ Non
           ascending =
               λ i j d less inside.
               rw (get_or_default base.symbols i d 0 (omega (arith, less, inside)))
-              (rw (get_or_default base.symbols j d 0 inside) (all-above i j less (within j inside)));
+              (rw (get_or_default base.symbols j d 0 inside)
+              (all-above i j less (within j inside)));
           padding_first =
               λ character padded.
               let below = padding-below character padded in

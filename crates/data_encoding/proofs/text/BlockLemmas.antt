@@ -47,7 +47,8 @@ module _ (base : Base) (ruled : IsRuled base) where
             (group_bytes-few base.width ruled.is_width) in
             omega (arith, alignment-is base ruled lines some, column-is base ruled lines some);
         few =
-            let short = few-columns base.width ruled.is_width lines.column rules.short rules.whole in
+            let short = few-columns base.width ruled.is_width lines.column rules.short
+            rules.whole in
             omega arith;
         fits = λ count bytes few. short-lines base ruled lines some count bytes few;
       }

@@ -36,7 +36,7 @@ module _ (base : Base) (width : IsWidth base.width) (bytes : List ℕ) where
         let count = run_count base.width (8 * length bytes) in
         let same = ap (λ n. n * group_symbols base.width)
         (groups-same base.width width (length bytes)) in
-        let reach = runs-reach (group_symbols base.width) count (group_symbols-pos base.width width) in
+        let reach = runs-reach _ count (group_symbols-pos base.width width) in
         omega (arith, length-unpadded base bytes width is)
 
   -- nor than any number of whole groups that holds the data
@@ -51,7 +51,7 @@ module _ (base : Base) (width : IsWidth base.width) (bytes : List ℕ) where
   padded-some : 0 < length bytes → 0 < length (padded_text base bytes)
   padded-some some =
       let count = run_count base.width (8 * length bytes) in
-      let first = symbols-first base bytes width count (length (padded_text base bytes)) refl refl in
+      let first = symbols-first base bytes width count _ refl refl in
       omega (arith, run_count-some base.width (8 * length bytes) width.some (omega arith))
 
   -- at most a whole group of each byte
@@ -154,7 +154,8 @@ pub text-most : (base : Base) → IsRuled base → (bytes : List ℕ)
     → length (text_of base bytes) ≤ 263 * length bytes
 text-most base ruled bytes = by base.wrapping refl where
   by : (o : Option Wrapping) → base.wrapping ≡ o → length (text_of base bytes) ≤ 263 * length bytes
-  by None is = rw (text_of-unwrapped base bytes is) (omega (arith, padded-most base ruled.is_width bytes))
+  by None is =
+      rw (text_of-unwrapped base bytes is) (omega (arith, padded-most base ruled.is_width bytes))
   by (Some lines) is = lines-most base ruled lines is bytes
 
 pub text_of-nil : (base : Base) → IsRuled base → text_of base [] ≡ []

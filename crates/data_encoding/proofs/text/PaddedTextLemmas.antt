@@ -56,8 +56,9 @@ module _ (base : Base) (bytes : List ℕ) (width : IsWidth base.width) where
       (whole : size ≡ length (padded_text base bytes)) where
     pub symbols-first : count ≤ size
     symbols-first =
-        let all = length-with_padding base.padding (group_symbols base.width) (plain_text base bytes)
-        in omega (arith, length-plain_text base bytes width.some)
+        let all = length-with_padding base.padding (group_symbols base.width)
+        (plain_text base bytes) in
+        omega (arith, length-plain_text base bytes width.some)
 
     pub padded_text-some : (character : ℕ) → base.padding ≡ Some character
         → padded_text base bytes ≡ plain_text base bytes ++ replicate (size - count) character

@@ -30,13 +30,13 @@ module _ {width bytes symbols : ℕ} (whole : IsWhole width bytes symbols) (n si
     (e : size ≡ (8 * n + (width - 1)) / width) (within : i * bytes ≤ n) where
   pub groups_fit : i * symbols ≤ size
   groups_fit =
-      rw e (room-rest 8 width bytes symbols (width - 1) (sym whole.same_bits) whole.is_width.some n i
-      within)
+      rw e (room-rest 8 width bytes symbols (width - 1) (sym whole.same_bits) whole.is_width.some
+      n i within)
 
   pub rest_fits : size - i * symbols ≡ (8 * (n - i * bytes) + (width - 1)) / width
   rest_fits =
-      rw e (size-rest 8 width bytes symbols (width - 1) (sym whole.same_bits) whole.is_width.some n i
-      within)
+      rw e (size-rest 8 width bytes symbols (width - 1) (sym whole.same_bits) whole.is_width.some
+      n i within)
 
 module _ {width bytes symbols : ℕ} (whole : IsWhole width bytes symbols) where
   -- there is room for what the next groups give, of n bytes all but those that are only loaded

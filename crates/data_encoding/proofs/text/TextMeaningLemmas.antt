@@ -56,7 +56,8 @@ module _ (base : Base) (ruled : IsRuled base) where
     none_meant =
         let positive = group_symbols-pos base.width width in
         let empty : filled [] ≡ [] =
-        rw (plain_text-nil base width.some) (filled-whole character size [] (mod-eq_of_lt positive)) in
+        rw (plain_text-nil base width.some)
+        (filled-whole character size [] (mod-eq_of_lt positive)) in
         rw (empty, runs-nil {X = Character} size positive)
 
     -- the last group
