@@ -1,5 +1,5 @@
 -- A group of any base: where its fault is, and that it means something exactly where it has none.
-use Rattle.std.proofs.Common.{◌≡◌, ℕ, zero, suc, ◌+◌, ◌-◌, ◌*◌, ◌/◌, ◌%◌, ◌<◌, ◌≤◌, ◌==◌, nat_lt, Bool, true, false, not, cond, ◌&&◌, ◌||◌, List, [], ◌∷◌, ◌++◌, length, map, take, drop, replicate, Option, Some, None, refl, sym, ap, ◌∙◌, subst, arith, length-append, take-append-drop, length-take-le}
+use Rattle.std.proofs.Common.{◌≡◌, ℕ, zero, suc, ◌+◌, ◌*◌, ◌/◌, ◌%◌, ◌<◌, ◌≤◌, ◌==◌, nat_lt, Bool, true, false, not, cond, ◌||◌, List, [], ◌∷◌, ◌++◌, length, map, take, drop, replicate, Option, Some, None, refl, sym, ap, ◌∙◌, subst, arith, length-append, take-append-drop, length-take-le}
 use Rattle.std.proofs.Math.Nat.{lt_of_not-le}
 use Rattle.std.proofs.lemmas.Bool.{false≢true}
 use Rattle.std.proofs.lemmas.Bool.Decides.{nat_tests}
@@ -7,24 +7,21 @@ use Rattle.std.proofs.lemmas.List.{length-replicate, take_at, append-nil}
 use Rattle.std.proofs.lemmas.List.Elements.{filter_map-append}
 use Rattle.std.proofs.lemmas.List.Folds.{list_any-append}
 use Rattle.std.proofs.lemmas.Nat.{le-div}
-use Rattle.std.specs.Prelude.{flat_map}
-use Rattle.std.specs.List.{filter_map, list_any, position, prefix_len}
+use Rattle.std.specs.List.{filter_map, list_any}
 use Rattle.data_encoding.specs.declared.decode.group.GroupFault.{GroupFault}
 use Rattle.data_encoding.specs.declared.encoding.Character.{Character}
-use Rattle.data_encoding.specs.declared.encoding.Character.TheVariants.{Symbol, Padding, Ignored, Invalid}
+use Rattle.data_encoding.specs.declared.encoding.Character.TheVariants.{Symbol, Padding}
 use Rattle.data_encoding.specs.declared.error.DecodeError.{DecodeError}
-use Rattle.data_encoding.specs.declared.error.DecodeKind.TheVariants.{Trailing as TrailingFault}
-use Rattle.data_encoding.specs.Base.{Base, is_symbol, is_padding, is_padded, value_of, group_symbols, IsWidth}
-use Rattle.data_encoding.specs.Bits.{bits_of, number_of, runs}
+use Rattle.data_encoding.specs.Base.{Base, is_padding, is_padded, value_of, group_symbols, IsWidth}
 use Rattle.data_encoding.specs.Grammar.{Positioned, PlainMeans, GroupMeans, bytes_in, meanings_in}
 use Rattle.data_encoding.specs.Laws.{further}
 use Rattle.data_encoding.specs.Lengths.{is_valid_count}
-use Rattle.data_encoding.specs.Fault.{character_fault, count_before_padding, fault_at_first, faulty_at, group_fault, located, padded_fault_at, plain_fault, position_of, symbol_bytes, symbols_fault, trailing_bits, trailing_fault}
-use Rattle.data_encoding.proofs.digits.WidthLemmas.{by_width}
+use Rattle.data_encoding.specs.Fault.{character_fault, count_before_padding, group_fault, located, padded_fault_at, plain_fault, position_of, symbol_bytes, symbols_fault}
+use Rattle.data_encoding.proofs.grammar.LengthLemmas.{widths}
 use Rattle.data_encoding.proofs.grammar.PositionLemmas.{length-meanings}
 use Rattle.data_encoding.proofs.grammar.UnpaddedGroupLemmas.{plain_fault-valid, PlainMeans-sound, PlainMeans-valid, PlainMeans-bytes, PlainMeans-no_fault}
 use Rattle.data_encoding.proofs.lists.EachLemmas.{all_replicate}
-use Rattle.data_encoding.proofs.lists.ListLemmas.{AllFail, cond-none, list_any-none}
+use Rattle.data_encoding.proofs.lists.ListLemmas.{AllFail, list_any-none}
 use Rattle.data_encoding.proofs.lists.EndLemmas.{AllSo, count_before_end-is, end-passes}
 
 -- a fault that is found has an index below a count
@@ -32,68 +29,16 @@ abbrev pub IsInside : ℕ → Option GroupFault → Type 0
 IsInside count None = Unit {0}
 IsInside count (Some fault) = fault.index < count
 
-inside-either : (count : ℕ) (b : Bool) (o p : Option GroupFault)
-    → (b ≡ true → IsInside count o) → (b ≡ false → IsInside count p) → IsInside count (cond b o p)
-inside-either count true o p h k = h refl
-inside-either count false o p h k = k refl
-
-inside-more : (few count : ℕ) → few ≤ count → (o : Option GroupFault) → IsInside few o
-    → IsInside count o
-inside-more few count most None h = tt
-inside-more few count most (Some fault) h = omega (arith, h, most)
-
-inside-position : {X : Type 0} (test : X → Bool) (xs : List X) (otherwise : Option GroupFault)
-    → IsInside (length xs) otherwise
-    → IsInside (length xs) (fault_at_first (position test xs) otherwise)
-inside-position test xs otherwise h = by (nat_lt place (length xs)) refl where
-  place : ℕ
-  place = prefix_len (λ x. not (test x)) xs
-
-  by : (b : Bool) → nat_lt place (length xs) ≡ b
-      → IsInside (length xs) (fault_at_first (cond b (Some place) None) otherwise)
-  by true e = grind (arith, nat_tests)
-  by false e = h
-
-inside-trailing : (base : Base) (group : List Character)
-    → IsInside (length group) (trailing_fault base group)
-inside-trailing base [] = by base.checks_trailing_bits where
-  by : (b : Bool) → IsInside 0 (cond (b && false) (faulty_at TrailingFault 0) None)
-  by true = tt
-  by false = tt
-inside-trailing base (m ∷ group) =
-    inside-either (length (m ∷ group))
-    (base.checks_trailing_bits
-    && list_any (λ bit. not (bit == 0)) (trailing_bits base (m ∷ group)))
-    (faulty_at TrailingFault (length (m ∷ group) - 1)) None (λ _. omega arith) (λ _. tt)
-
-inside-symbols : (base : Base) (group : List Character)
+inside-symbols : (base : Base) (group : List Character) → 0 < length group
     → IsInside (length group) (symbols_fault base group)
-inside-symbols base group =
-    inside-position (λ m. not (is_symbol m)) group (trailing_fault base group)
-    (inside-trailing base group)
-
-not_bad : (width count : ℕ) → 0 < count → is_valid_count width count ≡ true
-    → (count == 0 || not (is_valid_count width count)) ≡ true → ⊥
-not_bad width count some valid h =
-    let nonzero : (count == 0) ≡ false = grind (arith, nat_tests) in
-    false≢true (sym (λ i. nonzero i || not (valid i)) ∙ h)
+inside-symbols base group some = grind (arith, nat_tests)
 
 -- all symbols of a whole group are a valid number
 pub whole-valid : (width : ℕ) → IsWidth width → is_valid_count width (group_symbols width) ≡ true
-whole-valid =
-    by_width (λ w. is_valid_count w (group_symbols w) ≡ true) refl refl refl refl refl refl
+whole-valid width is = grind (arith, nat_tests, widths width is)
 
 module _ (base : Base) (width : IsWidth base.width) (group : List Character)
     (some : 0 < length group) (few : length group ≤ group_symbols base.width) where
-  inside-plain : IsInside (length group) (plain_fault base group)
-  inside-plain =
-      let bits = base.width * length group % 8 in
-      inside-either _ (is_valid_count base.width (length group)) _ _
-      (λ valid. inside-symbols base group)
-      (λ invalid.
-      let over : base.width ≤ bits = grind (arith, nat_tests) in
-      omega (arith, le-div 1 bits base.width width.some (omega (arith, over)), some))
-
   -- padding of an invalid number begins in the group
   pub inside-padding : nat_lt (length group) (group_symbols base.width) ≡ false → (count : ℕ)
       → count ≤ length group → (count == 0 || not (is_valid_count base.width count)) ≡ true
@@ -101,22 +46,20 @@ module _ (base : Base) (width : IsWidth base.width) (group : List Character)
   inside-padding whole count most h =
       lt_of_not-le
       (λ (all : length group ≤ count).
-      let same : group_symbols base.width ≡ count = grind (arith, nat_tests) in
-      not_bad base.width count (omega (arith, some, all))
-      (subst (λ n. is_valid_count base.width n ≡ true) same (whole-valid base.width width)) h)
+      let same : count ≡ group_symbols base.width = grind (arith, nat_tests) in
+      let valid = rw (← same) at (whole-valid base.width width) in
+      grind (arith, nat_tests, valid, some, all, h))
 
   inside-characters : IsInside (length group) (character_fault base group)
   inside-characters =
       let count = count_before_padding group in
-      inside-either _ (is_padded base) _ _
-      (λ padded. inside-either _ (nat_lt (length group) (group_symbols base.width)) _ _
-      (λ short. some)
-      (λ whole. inside-either _ (count == 0 || not (is_valid_count base.width count)) _ _
-      (λ bad. inside-padding whole count (omega arith) bad)
-      (λ good. inside-more (length (take count group)) (length group)
-      (omega (arith, length-take-le count group (omega arith)))
-      (symbols_fault base (take count group)) (inside-symbols base (take count group)))))
-      (λ unpadded. inside-plain)
+      let bits = base.width * length group % 8 in
+      let plain : base.width ≤ bits → 0 < bits / base.width =
+      λ over. le-div 1 bits base.width width.some (omega arith) in
+      let front : 0 < count → length (take count group) ≡ count =
+      λ begun. length-take-le count group (omega arith) in
+      let fewer = inside-symbols base (take count group) in
+      grind (arith, nat_tests, inside-symbols base group some, fewer, plain, front, inside-padding)
 
 -- the fault of a group is at one of its members
 pub group_fault-inside : (base : Base) → IsWidth base.width → (group : List Positioned)
@@ -132,8 +75,7 @@ pub located-inside : (group : List Positioned) (o : Option GroupFault) (error : 
     → IsInside (length group) o → located group o ≡ Some error
     → (index : ℕ) × (index < length group) × (error.position ≡ position_of group index)
 located-inside group None error inside e = cc
-located-inside group (Some fault) error inside e =
-    (fault.index, inside, cc)
+located-inside group (Some fault) error inside e = (fault.index, inside, cc)
 
 -- or further on, where each byte of one group is so far behind that of the other
 pub located-further : (ks js : List Positioned) (count : ℕ) (o : Option GroupFault)
@@ -141,8 +83,7 @@ pub located-further : (ks js : List Positioned) (count : ℕ) (o : Option GroupF
     → ((index : ℕ) → index < length ks → position_of js index ≡ count + position_of ks index)
     → located js o ≡ further count (located ks o)
 located-further ks js count None inside behind = refl
-located-further ks js count (Some fault) inside behind =
-    ap (λ n. Some (record { position = n; kind = fault.kind })) (behind fault.index inside)
+located-further ks js count (Some fault) inside behind = rw (behind fault.index inside)
 
 -- symbols alone are a group: a whole one, or any where there is no padding
 pub GroupMeans-symbols : (base : Base) (group : List Character) (bytes : List ℕ)
@@ -162,18 +103,12 @@ GroupMeans-symbols base group bytes some whole means = record {
 pub GroupMeans-plain : (base : Base) (group : List Character) (bytes : List ℕ)
     → is_padded base ≡ false → GroupMeans base group bytes → PlainMeans base group bytes
 GroupMeans-plain base group bytes unpadded means =
-    subst (λ l. PlainMeans base l bytes)
-    (sym (means.is_group
-    ∙ ap (λ n. means.symbols ++ replicate n Padding) (means.is_plain unpadded)
-    ∙ append-nil means.symbols)) means.means
+    rw (means.is_group, means.is_plain unpadded, append-nil means.symbols) means.means
 
 -- Groups with padding.
 
 padding_only : (m : Character) → is_padding m ≡ true → m ≡ Padding
-padding_only (Symbol value) h = cc
-padding_only Padding h = refl
-padding_only Ignored h = cc
-padding_only Invalid h = cc
+padding_only m h = grind arith
 
 pub all_padding : (meanings : List Character) → AllSo is_padding meanings
     → meanings ≡ replicate (length meanings) Padding
@@ -183,8 +118,7 @@ all_padding (m ∷ meanings) h = λ i. padding_only m h.0 i ∷ all_padding mean
 -- and is found where there is some
 pub any_padding : (count : ℕ) → list_any is_padding (replicate count Padding) ≡ nat_lt 0 count
 any_padding zero = refl
-any_padding (suc count) =
-    let some : nat_lt 0 (suc count) ≡ true = grind (arith, nat_tests) in sym some
+any_padding (suc count) = grind (arith, nat_tests)
 
 -- padding has no value
 no_values : (count : ℕ) → filter_map value_of (replicate count Padding) ≡ []
@@ -199,21 +133,15 @@ symbols_alone (value ∷ values) = (refl, symbols_alone values)
 -- and no bytes
 pub bytes_before_padding : (base : Base) (symbols : List Character) (count : ℕ)
     → symbol_bytes base (symbols ++ replicate count Padding) ≡ symbol_bytes base symbols
-bytes_before_padding base symbols count =
-    ap (λ values. let bits = flat_map (bits_of base.order base.width) values in
-    map (number_of base.order) (runs 8 (take (length bits / 8 * 8) bits)))
-    (filter_map-append value_of symbols (replicate count Padding)
-    ∙ ap (λ l. filter_map value_of symbols ++ l) (no_values count)
-    ∙ append-nil (filter_map value_of symbols))
+bytes_before_padding base symbols count = simp (filter_map-append, no_values, append-nil)
 
 -- the symbols of a group, and the padding behind them
 padding-behind : (group : List Character)
     → group ≡ take (count_before_padding group) group
     ++ replicate (length (drop (count_before_padding group) group)) Padding
 padding-behind group =
-    let count = count_before_padding group in
-    sym (take-append-drop count group)
-    ∙ ap (λ l. take count group ++ l) (all_padding (drop count group) (end-passes is_padding group))
+    rw (← (all_padding (drop (count_before_padding group) group) (end-passes is_padding group)))
+    (sym (take-append-drop (count_before_padding group) group))
 
 module _ (base : Base) (group : List Character) (bytes : List ℕ)
     (means : GroupMeans base group bytes)
@@ -222,9 +150,8 @@ module _ (base : Base) (group : List Character) (bytes : List ℕ)
     pub GroupMeans-length : is_padded base ≡ true
         → length means.symbols + means.padding ≡ group_symbols base.width
     GroupMeans-length padded =
-        ap (λ n. length means.symbols + n) (sym (length-replicate means.padding Padding))
-        ∙ sym (length-append means.symbols (replicate means.padding Padding))
-        ∙ ap length (sym means.is_group) ∙ means.is_whole padded
+        let len = simp (length-append, length-replicate) at (ap length means.is_group) in
+        omega (arith, means.is_whole padded)
 
     symbols_fail : AllFail is_padding means.symbols
     symbols_fail =
@@ -232,10 +159,8 @@ module _ (base : Base) (group : List Character) (bytes : List ℕ)
 
     pub GroupMeans-padding : list_any is_padding group ≡ nat_lt 0 means.padding
     GroupMeans-padding =
-        ap (list_any is_padding) means.is_group
-        ∙ list_any-append is_padding means.symbols (replicate means.padding Padding)
-        ∙ (λ i.
-        list_any-none is_padding means.symbols symbols_fail i || any_padding means.padding i)
+        rw (means.is_group, list_any-append, list_any-none is_padding means.symbols symbols_fail)
+        (any_padding means.padding)
 
 module _ (base : Base) (width : IsWidth base.width) (group : List Character) where
   -- one with no fault means its bytes
@@ -252,29 +177,23 @@ module _ (base : Base) (width : IsWidth base.width) (group : List Character) whe
     by true is h =
         let count = count_before_padding group in
         let symbols = take count group in
-        let whole = cond-none (nat_lt (length group) (group_symbols base.width)) _ _ h in
-        let begun = cond-none (count == 0 || not (is_valid_count base.width count)) _ _
-        whole.1 in
-        let good = both_false (count == 0) (is_valid_count base.width count) begun.0 in
+        let judged : (group_symbols base.width ≤ length group) × (0 < count)
+        × (is_valid_count base.width count ≡ true) × (symbols_fault base symbols ≡ None) =
+        grind (arith, nat_tests) in
         let len : length symbols ≡ count = length-take-le count group (omega arith) in
         let sound : plain_fault base symbols ≡ None =
-        plain_fault-valid base symbols (ap (is_valid_count base.width) len ∙ good.1) ∙ begun.1 in
+        plain_fault-valid base symbols (rw len judged.2) ∙ judged.3 in
+        let same : symbol_bytes base group ≡ symbol_bytes base symbols =
+        ap (symbol_bytes base) (padding-behind group) ∙ bytes_before_padding base symbols _ in
         record {
           symbols = symbols;
           padding = length (drop count group);
           is_group = padding-behind group;
-          is_whole = λ padded. grind (arith, nat_tests, few, whole.0);
+          is_whole = λ padded. omega arith;
           is_plain = λ unpadded. absurd (false≢true (sym unpadded ∙ is));
-          is_begun = grind (arith, nat_tests, len, good.0);
-          means = subst (PlainMeans base symbols)
-              (sym (ap (symbol_bytes base) (padding-behind group)
-              ∙ bytes_before_padding base symbols (length (drop count group))))
-              (PlainMeans-sound base width symbols sound);
-        } where
-          both_false : (a b : Bool) → (a || not b) ≡ false → (a ≡ false) × (b ≡ true)
-          both_false true b h = cc
-          both_false false true h = (refl, refl)
-          both_false false false h = cc
+          is_begun = omega arith;
+          means = rw same (PlainMeans-sound base width symbols sound);
+        }
 
   module _ (bytes : List ℕ) (means : GroupMeans base group bytes) where
     pub GroupMeans-bytes : symbol_bytes base group ≡ bytes
@@ -299,15 +218,9 @@ module _ (base : Base) (width : IsWidth base.width) (group : List Character) whe
       by false is =
           PlainMeans-no_fault base width group bytes (GroupMeans-plain base group bytes is means)
       by true is =
-          let count = length means.symbols in
           let valid = PlainMeans-valid base width means.symbols bytes means.means in
-          let all = means.is_whole is in
-          let whole : nat_lt (length group) (group_symbols base.width) ≡ false =
-          grind (arith, nat_tests, all) in
-          let begun : (count == 0) ≡ false = grind (arith, nat_tests, means.is_begun) in
-          let front : take count group ≡ means.symbols =
-          ap (take count) means.is_group
-          ∙ take_at means.symbols (replicate means.padding Padding) count refl in
-          ap (padded_fault_at base group) count_is
-          ∙ rw (whole, begun, valid, front) (sym (plain_fault-valid base means.symbols valid)
-          ∙ PlainMeans-no_fault base width means.symbols bytes means.means)
+          let sound = rw valid at (PlainMeans-no_fault base width _ bytes means.means) in
+          let whole = means.is_whole is in
+          let front : take (length means.symbols) group ≡ means.symbols =
+          rw means.is_group (take_at _ _ _ refl) in
+          rw (count_is, front) (grind (arith, nat_tests, valid, sound, whole))

@@ -1,17 +1,16 @@
 -- The fault of a text behind one that means bytes.
-use Rattle.std.proofs.Common.{◌≡◌, ℕ, zero, suc, ◌+◌, ◌*◌, ◌/◌, ◌%◌, ◌<◌, ◌≤◌, ◌==◌, nat_lt, Bool, true, false, not, cond, ◌&&◌, List, [], ◌∷◌, ◌++◌, map, length, Option, Some, None, is_some, refl, sym, ap, ◌∙◌, subst, arith, length-append}
+use Rattle.std.proofs.Common.{◌≡◌, ℕ, zero, suc, ◌+◌, ◌*◌, ◌/◌, ◌%◌, ◌<◌, ◌≤◌, ◌==◌, nat_lt, Bool, true, false, not, cond, List, [], ◌∷◌, ◌++◌, map, length, Option, Some, None, is_some, refl, sym, ap, ◌∙◌, arith, length-append}
 use Rattle.std.specs.Prelude.{flat_map}
-use Rattle.std.specs.List.{AllByRecursion, filter, list_any}
+use Rattle.std.specs.List.{AllByRecursion}
+use Rattle.std.proofs.lemmas.Bool.Decides.{nat_tests}
 use Rattle.data_encoding.specs.declared.error.DecodeError.{DecodeError}
-use Rattle.data_encoding.specs.declared.error.DecodeKind.TheVariants.{Length as LengthFault, Padding as PaddingFault}
-use Rattle.data_encoding.specs.Base.{Base, IsWidth, meaning, is_ignored, is_padded, ignores_some, group_symbols, is_padding}
-use Rattle.data_encoding.specs.Bits.{runs}
+use Rattle.data_encoding.specs.Base.{Base, IsWidth, meaning, is_ignored, is_padded, ignores_some, group_symbols}
 use Rattle.data_encoding.specs.Grammar.{Positioned, kept, groups, is_final, Means, kept_in, bytes_in, positioned_from}
-use Rattle.data_encoding.specs.Lengths.{greatest_valid_count, greatest_valid_length, is_valid_length, length_fault}
-use Rattle.data_encoding.specs.Fault.{bytes_of_group, fault_after, fault_of, first_after, first_fault, or_else, position_of, sound_after, sound_bytes, group_fault, located, symbol_bytes}
+use Rattle.data_encoding.specs.Lengths.{greatest_valid_count, is_valid_length, length_fault}
+use Rattle.data_encoding.specs.Fault.{bytes_of_group, fault_after, fault_of, first_after, first_fault, or_else, position_of, sound_after, sound_bytes, group_fault}
 use Rattle.data_encoding.specs.Laws.{MayBeFollowed, further}
 use Rattle.data_encoding.specs.Decoding.{AreSound}
-use Rattle.data_encoding.proofs.digits.WidthLemmas.{by_width, group_symbols-pos}
+use Rattle.data_encoding.proofs.digits.WidthLemmas.{group_symbols-pos}
 use Rattle.data_encoding.proofs.grammar.GroupLemmas.{group_fault-inside, located-further}
 use Rattle.data_encoding.proofs.grammar.JoinLemmas.{followed}
 use Rattle.data_encoding.proofs.grammar.KeptLemmas.{kept_in-append}
@@ -21,6 +20,7 @@ use Rattle.data_encoding.proofs.grammar.SoundLemmas.{AreSound-none, bytes-AreSou
 use Rattle.data_encoding.proofs.lists.ListLemmas.{AllFail, map-filter}
 use Rattle.data_encoding.proofs.lists.RunLemmas.{few_runs, runs-join, runs-map}
 use Rattle.data_encoding.proofs.judgement.RuleLemmas.{IsRuled}
+use Rattle.data_encoding.proofs.grammar.LengthLemmas.{widths}
 
 -- the same bytes, this many positions further on
 abbrev pub moved : ℕ → List Positioned → List Positioned
@@ -35,53 +35,27 @@ positioned-moved : (count start : ℕ) (part : List ℕ)
 positioned-moved count start [] = refl
 positioned-moved count start (byte ∷ part) =
     let next : count + start + 1 ≡ count + (start + 1) = omega arith in
-    ap (λ ks. record { position = count + start; byte = byte } ∷ ks)
-    (ap (λ n. positioned_from n part) next ∙ positioned-moved count (start + 1) part)
+    rw (next, positioned-moved count (start + 1) part)
 
 position_of-moved : (count : ℕ) (ks : List Positioned) (index : ℕ) → index < length ks
     → position_of (moved count ks) index ≡ count + position_of ks index
 position_of-moved count [] index h = absurd (omega (arith, h))
 position_of-moved count (k ∷ ks) zero h = refl
-position_of-moved count (k ∷ ks) (suc index) h =
-    position_of-moved count ks index (omega (arith, h))
+position_of-moved count (k ∷ ks) (suc index) h = position_of-moved count ks index (omega (arith, h))
 
 further-or_else : (count : ℕ) (o p : Option DecodeError)
     → or_else (further count o) (further count p) ≡ further count (or_else o p)
-further-or_else count None p = refl
-further-or_else count (Some error) p = refl
+further-or_else count o p = grind arith
 
-is_some-further : (count : ℕ) (o : Option DecodeError) → is_some (further count o) ≡ is_some o
-is_some-further count None = refl
-is_some-further count (Some error) = refl
-
--- What stands behind whole groups is as valid as alone.
-
--- its bits and the greatest valid count, and the part of a group and the whole groups
-abbrev IsBehind : ℕ → ℕ → ℕ → Type 0
-IsBehind width m n =
-    (width * (m + n) % 8 ≡ width * n % 8)
+-- What stands behind whole groups is as valid as alone: its bits and the greatest valid count, and
+-- the part of a group and the whole groups.
+is_behind : (width : ℕ) → IsWidth width → (m n : ℕ) → m % group_symbols width ≡ 0
+    → (width * (m + n) % 8 ≡ width * n % 8)
     × (greatest_valid_count width (m + n) ≡ m + greatest_valid_count width n)
     × ((m + n) % group_symbols width ≡ n % group_symbols width)
     × ((m + n) / group_symbols width * group_symbols width
     ≡ m + n / group_symbols width * group_symbols width)
-
-is_behind : (width : ℕ) → IsWidth width → (m n : ℕ) → m % group_symbols width ≡ 0
-    → IsBehind width m n
-is_behind =
-    by_width (λ w. (m n : ℕ) → m % group_symbols w ≡ 0 → IsBehind w m n)
-    (λ m n h. (omega arith, omega arith, omega arith, omega arith))
-    (λ m n h. (omega arith, omega arith, omega arith, omega arith))
-    (λ m n h. (omega arith, omega arith, omega arith, omega arith))
-    (λ m n h. (omega arith, omega arith, omega arith, omega arith))
-    (λ m n h. (omega arith, omega arith, omega arith, omega arith))
-    (λ m n h. (omega arith, omega arith, omega arith, omega arith))
-
-further_if : (count position : ℕ) (valid : Bool)
-    → cond (not valid) (Some (record { position = count + position; kind = LengthFault })) None
-    ≡ further count
-    (cond (not valid) (Some (record { position = position; kind = LengthFault })) None)
-further_if count position true = refl
-further_if count position false = refl
+is_behind width is m n h = grind (arith, nat_tests, widths width is)
 
 module _ (base : Base) (width : IsWidth base.width) where
   abbrev size : ℕ
@@ -93,71 +67,42 @@ module _ (base : Base) (width : IsWidth base.width) where
       let is = is_behind base.width width m n h in
       λ i. cond (is_padded base) (is.2 i == 0) (nat_lt (is.0 i) base.width)
 
-  greatest_behind : (m n : ℕ) → m % size ≡ 0
-      → greatest_valid_length base (m + n) ≡ m + greatest_valid_length base n
-  greatest_behind m n h = by (is_padded base) where
-    by : (b : Bool)
-        → cond b ((m + n) / size * size) (greatest_valid_count base.width (m + n))
-        ≡ m + cond b (n / size * size) (greatest_valid_count base.width n)
-    by true = (is_behind base.width width m n h).3
-    by false = (is_behind base.width width m n h).1
-
   pub length_fault-behind : (m n : ℕ) → (ignores_some base ≡ false → m % size ≡ 0)
       → length_fault base (m + n) ≡ further m (length_fault base n)
-  length_fault-behind m n whole = by (ignores_some base) refl where
-    by : (b : Bool) → ignores_some base ≡ b
-        → cond (not b && not (is_valid_length base (m + n)))
-        (Some (record { position = greatest_valid_length base (m + n); kind = LengthFault })) None
-        ≡ further m (cond (not b && not (is_valid_length base n))
-        (Some (record { position = greatest_valid_length base n; kind = LengthFault })) None)
-    by true is = refl
-    by false is =
-        let valid = valid_behind m n (whole is) in
-        let greatest = greatest_behind m n (whole is) in
-        (λ i. cond (not (valid i))
-        (Some (record { position = greatest i; kind = LengthFault })) None)
-        ∙ further_if m (greatest_valid_length base n) (is_valid_length base n)
+  length_fault-behind m n whole =
+      let is = λ (none : ignores_some base ≡ false). is_behind base.width width m n (whole none) in
+      grind (arith, is)
 
   -- the kept bytes of a part that stands further on
   pub kept_in-moved : (count start : ℕ) (part : List ℕ)
       → kept_in base (count + start) part ≡ moved count (kept_in base start part)
   kept_in-moved count start part =
-      let further_on : Positioned → Positioned =
-      λ k. record { position = count + k.position; byte = k.byte } in
       let keeps : Positioned → Bool = λ k. not (is_ignored (meaning base k.byte)) in
-      ap (filter keeps) (positioned-moved count start part)
-      ∙ sym (map-filter further_on keeps (positioned_from start part))
+      rw (positioned-moved count start part)
+      (sym (map-filter _ keeps (positioned_from start part)))
 
   abbrev pub AreFew : List (List Positioned) → Type 0
-  AreFew gs =
-      AllByRecursion (λ (g : List Positioned). (0 < length g) × (length g ≤ size)) gs
+  AreFew gs = AllByRecursion (λ (g : List Positioned). (0 < length g) × (length g ≤ size)) gs
 
   fault_after-moved : (count : ℕ) (ended : Bool) (group : List Positioned) → 0 < length group
       → length group ≤ size
       → fault_after ended base (moved count group) ≡ further count (fault_after ended base group)
-  fault_after-moved count true group some few =
-      ap (λ n. Some (record { position = n; kind = PaddingFault }))
-      (position_of-moved count group 0 some)
+  fault_after-moved count true group some few = rw (position_of-moved count group 0 some)
   fault_after-moved count false group some few =
-      ap (λ l. located (moved count group) (group_fault base l)) (bytes-moved count group)
-      ∙ located-further group (moved count group) count (group_fault base (bytes_in group))
-      (group_fault-inside base width group some few) (position_of-moved count group)
+      rw (bytes-moved count group)
+      (located-further group (moved count group) count (group_fault base (bytes_in group))
+      (group_fault-inside base width group some few) (position_of-moved count group))
 
   pub final-moved : (count : ℕ) (group : List Positioned)
       → is_final base (moved count group) ≡ is_final base group
-  final-moved count group =
-      ap (λ l. not base.concatenates && list_any is_padding (map (meaning base) l))
-      (bytes-moved count group)
+  final-moved count group = rw (bytes-moved count group)
 
   pub first-moved : (count : ℕ) (ended : Bool) (gs : List (List Positioned)) → AreFew gs
       → first_after ended base (map (moved count) gs) ≡ further count (first_after ended base gs)
   first-moved count ended [] few = refl
   first-moved count ended (g ∷ gs) few =
-      (λ i. or_else (fault_after-moved count ended g few.0.0 few.0.1 i)
-      (first_after (final-moved count g i) base (map (moved count) gs)))
-      ∙ ap (or_else (further count (fault_after ended base g)))
-      (first-moved count (is_final base g) gs few.1)
-      ∙ further-or_else count (fault_after ended base g) (first_after (is_final base g) base gs)
+      rw (fault_after-moved count ended g few.0.0 few.0.1, final-moved count g)
+      (rw (first-moved count (is_final base g) gs few.1) (further-or_else count _ _))
 
   abbrev pub bytes_before : Bool → List (List Positioned) → List ℕ
   bytes_before ended gs = flat_map (bytes_of_group base) (sound_after ended base gs)
@@ -166,24 +111,17 @@ module _ (base : Base) (width : IsWidth base.width) where
       → bytes_before ended (map (moved count) gs) ≡ bytes_before ended gs
   sound-moved count ended [] few = refl
   sound-moved count ended (g ∷ gs) few =
-      let faulty : is_some (fault_after ended base (moved count g))
-      ≡ is_some (fault_after ended base g) =
-      ap is_some (fault_after-moved count ended g few.0.0 few.0.1)
-      ∙ is_some-further count (fault_after ended base g) in
-      let here = ap (λ l. symbol_bytes base (map (meaning base) l)) (bytes-moved count g) in
-      (λ i. flat_map (bytes_of_group base) (cond (faulty i) []
-      (moved count g ∷ sound_after (final-moved count g i) base (map (moved count) gs))))
-      ∙ by (is_some (fault_after ended base g)) here
-      (sound-moved count (is_final base g) gs few.1) where
-        by : (b : Bool) → bytes_of_group base (moved count g) ≡ bytes_of_group base g
+      rw (fault_after-moved count ended g few.0.0 few.0.1, final-moved count g)
+      (by (fault_after ended base g) (sound-moved count (is_final base g) gs few.1)) where
+        by : (o : Option DecodeError)
             → bytes_before (is_final base g) (map (moved count) gs)
             ≡ bytes_before (is_final base g) gs
-            → flat_map (bytes_of_group base) (cond b []
+            → flat_map (bytes_of_group base) (cond (is_some (further count o)) []
             (moved count g ∷ sound_after (is_final base g) base (map (moved count) gs)))
-            ≡ flat_map (bytes_of_group base) (cond b []
+            ≡ flat_map (bytes_of_group base) (cond (is_some o) []
             (g ∷ sound_after (is_final base g) base gs))
-        by true here others = refl
-        by false here others = λ i. here i ++ others i
+        by (Some error) others = refl
+        by None others = rw (bytes-moved count g, others)
 
   not_ended : (begun : Bool) (gs : List (List Positioned)) → begun ≡ false
       → AllFail (is_final base) gs → ends_after base begun gs ≡ false
@@ -200,21 +138,16 @@ module _ (base : Base) (width : IsWidth base.width) (text after : List ℕ)
   others = map (moved count) (groups base after)
 
   few : AreFew base width (groups base after)
-  few =
-      few_runs (group_symbols base.width) (kept base after) (group_symbols-pos base.width width)
+  few = few_runs (group_symbols base.width) (kept base after) (group_symbols-pos base.width width)
 
   groups_joined : groups base (text ++ after) ≡ groups base text ++ others
   groups_joined =
       let pos = group_symbols-pos base.width width in
+      let size = group_symbols base.width in
       let part : kept_in base (0 + count) after ≡ moved count (kept base after) =
       ap (λ n. kept_in base n after) (omega arith) ∙ kept_in-moved base width count 0 after in
-      ap (runs (group_symbols base.width)) (kept_in-append base 0 text after)
-      ∙ runs-join (group_symbols base.width) (kept base text) _ pos whole
-      ∙ ap (λ ks. groups base text ++ runs (group_symbols base.width) ks) part
-      ∙ ap (λ gs. groups base text ++ gs)
-      (runs-map (group_symbols base.width)
-      (λ (k : Positioned). record { position = count + k.position; byte = k.byte })
-      (kept base after) pos)
+      rw (kept_in-append base 0 text after, runs-join size (kept base text) _ pos whole)
+      (rw (part, runs-map size _ (kept base after) pos))
 
   module _ (ended : Bool) (sound : AreSound base false (groups base text) ended) where
     -- its fault, as far on as the first text is long
@@ -224,28 +157,23 @@ module _ (base : Base) (width : IsWidth base.width) (text after : List ℕ)
     fault-after_whole =
         let lengths : length_fault base (length (text ++ after))
         ≡ further count (length_fault base (length after)) =
-        ap (length_fault base) (length-append text after)
-        ∙ length_fault-behind base width count (length after)
-        (λ none. ap (λ n. n % group_symbols base.width) (sym (length-kept_plain base text none))
-        ∙ whole) in
+        rw (length-append text after) (length_fault-behind base width count (length after)
+        (λ none. rw (← (length-kept_plain base text none)) whole)) in
         let firsts : first_fault base (groups base (text ++ after))
         ≡ further count (first_after ended base (groups base after)) =
-        ap (first_fault base) groups_joined
-        ∙ first-AreSound base false ended (groups base text) others sound
-        ∙ first-moved base width count ended (groups base after) few in
-        (λ i. or_else (lengths i) (firsts i))
-        ∙ further-or_else count (length_fault base (length after))
-        (first_after ended base (groups base after))
+        rw (groups_joined, first-AreSound base false ended (groups base text) others sound)
+        (first-moved base width count ended (groups base after) few) in
+        rw (lengths, firsts)
+        (further-or_else count (length_fault base (length after))
+        (first_after ended base (groups base after)))
 
     -- and its bytes
     pub bytes-after_whole : sound_bytes base (text ++ after)
         ≡ flat_map (bytes_of_group base) (groups base text)
         ++ bytes_before base width ended (groups base after)
     bytes-after_whole =
-        ap (λ gs. flat_map (bytes_of_group base) (sound_after false base gs)) groups_joined
-        ∙ bytes-AreSound base false ended (groups base text) others sound
-        ∙ ap (λ l. flat_map (bytes_of_group base) (groups base text) ++ l)
-        (sound-moved base width count ended (groups base after) few)
+        rw (groups_joined, bytes-AreSound base false ended (groups base text) others sound)
+        (rw (sound-moved base width count ended (groups base after) few))
 
 module _ (base : Base) (ruled : IsRuled base) (text after bytes : List ℕ)
     (follows : MayBeFollowed base text) (means : Means base text bytes) where
@@ -260,17 +188,14 @@ module _ (base : Base) (ruled : IsRuled base) (text after bytes : List ℕ)
   sound =
       let none = neither_fault (length_fault base (length text))
       (first_fault base (groups base text)) (no_fault-Means base is_width text bytes means) in
-      subst (AreSound base false (groups base text))
-      (not_ended base is_width false (groups base text) refl whole.1)
-      (AreSound-none base false (groups base text) none.1)
+      rw (not_ended base is_width false (groups base text) refl whole.1)
+      at (AreSound-none base false (groups base text) none.1)
 
   pub fault-join : fault_of base (text ++ after) ≡ further (length text) (fault_of base after)
   fault-join = fault-after_whole base is_width text after whole.0 false sound
 
   pub sound_bytes-join : sound_bytes base (text ++ after) ≡ bytes ++ sound_bytes base after
   sound_bytes-join =
-      bytes-after_whole base is_width text after whole.0 false sound
-      ∙ ap (λ l. l ++ sound_bytes base after)
-      (ap (flat_map (bytes_of_group base))
-      (sym (sound-all base false false (groups base text) sound))
-      ∙ sound_bytes-Means base is_width text bytes means)
+      rw (bytes-after_whole base is_width text after whole.0 false sound)
+      (rw (← (sound-all base false false (groups base text) sound))
+      (rw (sound_bytes-Means base is_width text bytes means)))

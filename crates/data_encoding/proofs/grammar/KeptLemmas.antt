@@ -1,9 +1,9 @@
 -- The bytes of a text that are not ignored, part by part, and where they stand.
-use Rattle.std.proofs.Common.{◌≡◌, ℕ, ◌+◌, ◌-◌, ◌<◌, ◌≤◌, Bool, not, List, [], ◌∷◌, ◌++◌, length, take, drop, reverse, refl, sym, ap, ◌∙◌, arith, take-append-drop, length-take-le}
+use Rattle.std.proofs.Common.{◌≡◌, ℕ, ◌+◌, ◌-◌, ◌<◌, ◌≤◌, Bool, not, List, [], ◌∷◌, ◌++◌, length, take, drop, reverse, refl, ◌∙◌, arith, take-append-drop, length-take-le}
 use Rattle.std.proofs.lemmas.List.{length-drop, length-reverse, reverse-append, drop-drop, drop_all}
 use Rattle.std.proofs.lemmas.List.Elements.{filter-append, All-filter, All-from_recursion, All-get_or}
 use Rattle.std.proofs.Math.Seq.{take-add}
-use Rattle.std.specs.List.{AllByRecursion, filter}
+use Rattle.std.specs.List.{AllByRecursion}
 use Rattle.data_encoding.specs.Base.{Base, meaning, is_ignored}
 use Rattle.data_encoding.specs.Grammar.{Positioned, positioned_from, kept, kept_in, kept_from}
 use Rattle.data_encoding.specs.Fault.{position_of}
@@ -19,8 +19,8 @@ module _ (base : Base) where
       → kept_in base start (xs ++ ys) ≡ kept_in base start xs ++ kept_in base (start + length xs) ys
   kept_in-append start xs ys =
       let keeps : Positioned → Bool = λ k. not (is_ignored (meaning base k.byte)) in
-      ap (filter keeps) (positioned_from-append start xs ys)
-      ∙ filter-append keeps (positioned_from start xs) (positioned_from (start + length xs) ys)
+      rw (positioned_from-append start xs ys)
+      (filter-append keeps (positioned_from start xs) (positioned_from (start + length xs) ys))
 
   module _ (read : ℕ) (text : List ℕ) (within : read ≤ length text) where
     at_read : 0 + length (take read text) ≡ read
@@ -28,9 +28,7 @@ module _ (base : Base) where
 
     pub kept-split : kept base text ≡ kept base (take read text) ++ kept_from base read text
     kept-split =
-        ap (kept base) (sym (take-append-drop read text))
-        ∙ kept_in-append 0 (take read text) (drop read text)
-        ∙ ap (λ n. kept base (take read text) ++ kept_in base n (drop read text)) at_read
+        rw (take-append-drop, at_read) at (kept_in-append 0 (take read text) (drop read text))
 
     module _ (stop : ℕ) (after : read ≤ stop) (inside : stop ≤ length text) where
       sum : read + (stop - read) ≡ stop
@@ -44,10 +42,8 @@ module _ (base : Base) where
       pub kept-more : kept base (take stop text)
           ≡ kept base (take read text) ++ kept_in base read (between read stop text)
       kept-more =
-          ap (λ n. kept base (take n text)) (sym sum)
-          ∙ ap (kept base) (take-add read (stop - read) text)
-          ∙ kept_in-append 0 (take read text) (between read stop text)
-          ∙ ap (λ n. kept base (take read text) ++ kept_in base n (between read stop text)) at_read
+          rw (← (take-add read (stop - read) text), sum, at_read)
+          at (kept_in-append 0 (take read text) (between read stop text))
 
       pub kept_from-more : kept_from base read text
           ≡ kept_in base read (between read stop text) ++ kept_from base stop text
@@ -55,27 +51,20 @@ module _ (base : Base) where
           let place : read + length (between read stop text) ≡ stop =
           omega (arith, length-between) in
           let rest : drop (stop - read) (drop read text) ≡ drop stop text =
-          drop-drop (stop - read) read text ∙ ap (λ n. drop n text) sum in
-          ap (kept_in base read) (sym (take-append-drop (stop - read) (drop read text)))
-          ∙ kept_in-append read (between read stop text) (drop (stop - read) (drop read text))
-          ∙ (λ i. kept_in base read (between read stop text) ++ kept_in base (place i) (rest i))
+          rw sum at (drop-drop (stop - read) read text) in
+          rw (take-append-drop, place, rest)
+          at (kept_in-append read (between read stop text) (drop (stop - read) (drop read text)))
 
   -- nothing is left after all of a text
   pub nothing-left : (text : List ℕ) → kept_from base (length text) text ≡ []
-  nothing-left text =
-      ap (kept_in base (length text)) (drop_all (length text) text (omega arith))
+  nothing-left text = rw (drop_all (length text) text (omega arith))
 
 -- the position after the last of some is that of these and any before them
-after_first-append : (xs ys : List Positioned) → 0 < length xs
-    → position_after_first (xs ++ ys) ≡ position_after_first xs
-after_first-append [] ys h = absurd (omega (arith, h))
-after_first-append (x ∷ xs) ys h = refl
-
 pub position_after-append : (xs ys : List Positioned) → 0 < length ys
     → position_after (xs ++ ys) ≡ position_after ys
 position_after-append xs ys h =
-    ap position_after_first (reverse-append xs ys)
-    ∙ after_first-append (reverse ys) (reverse xs) (omega (arith, length-reverse ys, h))
+    let some : 0 < length (reverse ys) = omega (arith, length-reverse ys) in
+    rw (reverse-append xs ys) (grind arith)
 
 pub position_after-positioned : (start : ℕ) (part : List ℕ) → 0 < length part
     → position_after (positioned_from start part) ≡ start + length part

@@ -1,14 +1,15 @@
 -- A text means something exactly where it has no fault, and then one list of bytes.
-use Rattle.std.proofs.Common.{◌≡◌, ℕ, ◌+◌, ◌*◌, ◌/◌, ◌%◌, ◌<◌, ◌≤◌, Bool, true, false, List, [], ◌∷◌, ◌++◌, length, Some, None, IsOkAnd, refl, sym, ap, ◌∙◌, subst, arith, length-append, map}
-use Rattle.std.proofs.Math.Nat.{mul-mod_left, mul-le-mul_right, mul-le-mul_left, add_comm, zero-mul, suc-mul, le-div_iff_mul-le}
+use Rattle.std.proofs.Common.{◌≡◌, ℕ, ◌*◌, ◌<◌, ◌≤◌, Bool, true, false, List, [], ◌∷◌, length, Some, None, IsOkAnd, refl, sym, ap, arith, length-append, map}
+use Rattle.std.proofs.Math.Nat.{mul-mod_left, mul-le-mul_right, mul-le-mul_left}
 use Rattle.std.specs.Prelude.{flat_map}
 use Rattle.std.specs.List.{AllByRecursion}
+use Rattle.std.proofs.lemmas.Nat.{le-div}
 use Rattle.data_encoding.specs.declared.encoding.Character.{Character}
 use Rattle.data_encoding.specs.declared.error.DecodeError.{DecodeError}
 use Rattle.data_encoding.specs.Base.{Base, is_padded, group_symbols, group_bytes, IsWidth}
 use Rattle.data_encoding.specs.Grammar.{Positioned, kept, groups, GroupMeans, GroupsMean, Means, PlainMeans, is_final, meanings_in}
-use Rattle.data_encoding.specs.Lengths.{decoded_len, is_valid_count, is_valid_length, length_fault, most_bytes}
-use Rattle.data_encoding.specs.Fault.{bytes_of_group, fault_after, fault_of, first_fault, or_else, sound_bytes, located}
+use Rattle.data_encoding.specs.Lengths.{decoded_len, is_valid_length, length_fault, most_bytes}
+use Rattle.data_encoding.specs.Fault.{bytes_of_group, fault_of, first_fault, sound_bytes, located}
 use Rattle.data_encoding.specs.Decoding.{AreSound}
 use Rattle.data_encoding.proofs.digits.WidthLemmas.{group_bits, group_symbols-pos}
 use Rattle.data_encoding.proofs.lists.RunLemmas.{few_runs, flat_map-runs}
@@ -16,7 +17,7 @@ use Rattle.data_encoding.proofs.grammar.UnpaddedGroupLemmas.{PlainMeans-count, P
 use Rattle.data_encoding.proofs.grammar.UnpaddedGrammarLemmas.{unpadded-Means}
 use Rattle.data_encoding.proofs.grammar.GroupLemmas.{GroupMeans-length, GroupMeans-sound, GroupMeans-no_fault, GroupMeans-bytes}
 use Rattle.data_encoding.proofs.grammar.PositionLemmas.{length-kept, length-kept_plain, length-meanings}
-use Rattle.data_encoding.proofs.grammar.LengthLemmas.{is_valid_length-by, length_fault-none, whole-length}
+use Rattle.data_encoding.proofs.grammar.LengthLemmas.{length_fault-none, whole-length}
 use Rattle.data_encoding.proofs.grammar.SoundLemmas.{AreSound-none, ends_after, fault_after-none, neither_fault, first-none, sound-all}
 
 -- none follows one that ended
@@ -26,13 +27,9 @@ none_follow base ended [] h = refl
 none_follow base ended (g ∷ gs) h = let never = fault_after-none base true g h.0 in cc
 
 module _ (base : Base) (width : IsWidth base.width) where
-  abbrev AreFew : List (List Positioned) → Type 0
-  AreFew gs =
-      AllByRecursion (λ (g : List Positioned).
-      (0 < length g) × (length g ≤ group_symbols base.width)) gs
-
   -- groups without a fault mean their bytes joined
-  GroupsMean-sound : (begun ended : Bool) (gs : List (List Positioned)) → AreFew gs
+  GroupsMean-sound : (begun ended : Bool) (gs : List (List Positioned))
+      → AllByRecursion (λ g. (0 < length g) × (length g ≤ group_symbols base.width)) gs
       → AreSound base begun gs ended
       → GroupsMean base (map (meanings_in base) gs) (flat_map (bytes_of_group base) gs)
   GroupsMean-sound begun ended [] few h = refl
@@ -43,47 +40,26 @@ module _ (base : Base) (width : IsWidth base.width) where
     GroupMeans-sound base width (meanings_in base g)
         (omega (arith, few.0.0, length-meanings base g))
         (omega (arith, few.0.1, length-meanings base g)) (fault_after-none base begun g h.0).1,
-    (λ final. ap (map (meanings_in base))
-        (none_follow base ended gs (subst (λ b. AreSound base b gs ended) final h.1))),
+    (λ final. ap (map (meanings_in base)) (none_follow base ended gs (rw final at h.1))),
     GroupsMean-sound (is_final base g) ended gs few.1 h.1,
   )
 
-  -- and groups that mean something have none
+  -- and groups that mean something have none, and mean no other bytes
   sound-GroupsMean : (begun : Bool) (gs : List (List Positioned)) (bytes : List ℕ)
       → (begun ≡ true → map (meanings_in base) gs ≡ [])
       → GroupsMean base (map (meanings_in base) gs) bytes
       → AreSound base begun gs (ends_after base begun gs)
-  sound-GroupsMean begun [] bytes last h = refl
-  sound-GroupsMean begun (g ∷ gs) bytes last h =
-      (here begun last, sound-GroupsMean (is_final base g) gs h.1 h.4 h.5) where
-        here : (b : Bool) → (b ≡ true → map (meanings_in base) (g ∷ gs) ≡ [])
-            → fault_after b base g ≡ None
-        here true none = let never = none refl in cc
-        here false none =
-            ap (located g) (GroupMeans-no_fault base width (meanings_in base g) h.0 h.3)
-
-  bytes-GroupsMean : (gs : List (List Positioned)) (bytes : List ℕ)
-      → GroupsMean base (map (meanings_in base) gs) bytes
-      → flat_map (bytes_of_group base) gs ≡ bytes
-  bytes-GroupsMean [] bytes h = sym h
-  bytes-GroupsMean (g ∷ gs) bytes h =
-      (λ i. GroupMeans-bytes base width (meanings_in base g) h.0 h.3 i
-      ++ bytes-GroupsMean gs h.1 h.5 i)
-      ∙ sym h.2
+      × (flat_map (bytes_of_group base) gs ≡ bytes)
+  sound-GroupsMean begun [] bytes last h = (refl, sym h)
+  sound-GroupsMean true (g ∷ gs) bytes last h = let never = last refl in absurd cc
+  sound-GroupsMean false (g ∷ gs) bytes last h =
+      let others = sound-GroupsMean (is_final base g) gs h.1 h.4 h.5 in (
+        (ap (located g) (GroupMeans-no_fault base width (meanings_in base g) h.0 h.3), others.0),
+        cc (GroupMeans-bytes base width (meanings_in base g) h.0 h.3, others.1),
+      )
 
   -- Where there is padding, they are whole, and each means at most the bytes of a whole group.
   module _ (padded : is_padded base ≡ true) where
-    whole-GroupsMean : (gs : List (List Positioned)) (bytes : List ℕ)
-        → GroupsMean base (map (meanings_in base) gs) bytes
-        → length (flat_map (λ g. g) gs) ≡ length gs * group_symbols base.width
-    whole-GroupsMean [] bytes h = sym (zero-mul (group_symbols base.width))
-    whole-GroupsMean (g ∷ gs) bytes h =
-        length-append g (flat_map (λ x. x) gs)
-        ∙ (λ i. (sym (length-meanings base g) ∙ h.3.is_whole padded) i
-        + whole-GroupsMean gs h.1 h.5 i)
-        ∙ add_comm (group_symbols base.width) (length gs * group_symbols base.width)
-        ∙ sym (suc-mul (length gs) (group_symbols base.width))
-
     most-GroupMeans : (g : List Character) (bytes : List ℕ) → GroupMeans base g bytes
         → length bytes ≤ group_bytes base.width
     most-GroupMeans g bytes means =
@@ -93,19 +69,16 @@ module _ (base : Base) (width : IsWidth base.width) where
         let bits = mul-le-mul_left base.width few in
         omega (arith, count, bits, group_bits base.width width)
 
-    most-GroupsMean : (gs : List (List Positioned)) (bytes : List ℕ)
+    sizes-GroupsMean : (gs : List (List Positioned)) (bytes : List ℕ)
         → GroupsMean base (map (meanings_in base) gs) bytes
-        → length bytes ≤ length gs * group_bytes base.width
-    most-GroupsMean [] bytes h = omega (arith, ap length h)
-    most-GroupsMean (g ∷ gs) bytes h =
-        omega (
-          arith,
-          ap length h.2,
-          length-append h.0 h.1,
-          most-GroupMeans (meanings_in base g) h.0 h.3,
-          most-GroupsMean gs h.1 h.5,
-          suc-mul (length gs) (group_bytes base.width),
-        )
+        → (length (flat_map (λ g. g) gs) ≡ length gs * group_symbols base.width)
+        × (length bytes ≤ length gs * group_bytes base.width)
+    sizes-GroupsMean [] bytes h = (omega arith, omega (arith, ap length h))
+    sizes-GroupsMean (g ∷ gs) bytes h =
+        let others = sizes-GroupsMean gs h.1 h.5 in
+        let most = most-GroupMeans (meanings_in base g) h.0 h.3 in
+        let whole = rw length-meanings at (h.3.is_whole padded) in
+        rw (h.2, length-append g, length-append h.0) (omega arith)
 
   module _ (text : List ℕ) where
     -- a text with no fault means its bytes
@@ -129,9 +102,9 @@ module _ (base : Base) (width : IsWidth base.width) where
       pub length-groups : is_padded base ≡ true
           → length (kept base text) ≡ length (groups base text) * group_symbols base.width
       length-groups padded =
-          ap length (sym (flat_map-runs (group_symbols base.width) (kept base text)
-          (group_symbols-pos base.width width)))
-          ∙ whole-GroupsMean padded (groups base text) bytes means
+          rw (flat_map-runs (group_symbols base.width) (kept base text)
+          (group_symbols-pos base.width width))
+          at (sizes-GroupsMean padded (groups base text) bytes means).0
 
       pub no_length_fault-Means : length_fault base (length text) ≡ None
       no_length_fault-Means =
@@ -140,24 +113,21 @@ module _ (base : Base) (width : IsWidth base.width) where
             by : (b : Bool) → is_padded base ≡ b → length (kept base text) ≡ length text
                 → is_valid_length base (length text) ≡ true
             by true is same =
-                whole-length base width (length text)
-                (ap (λ n. n % group_symbols base.width) (sym same ∙ length-groups is)
-                ∙ mul-mod_left (length (groups base text)) (group_symbols base.width))
+                whole-length base width (length text) (rw (← same, length-groups is)
+                (mul-mod_left (length (groups base text)) (group_symbols base.width)))
             by false is same =
-                is_valid_length-by base (length text) false is
-                ∙ ap (is_valid_count base.width)
-                (sym (length-meanings base (kept base text) ∙ same))
-                ∙ PlainMeans-valid base width meant bytes (plain is)
+                rw is (rw (length-meanings base (kept base text), same)
+                at (PlainMeans-valid base width meant bytes (plain is)))
 
       sound : AreSound base false (groups base text) (ends_after base false (groups base text))
+          × (flat_map (bytes_of_group base) (groups base text) ≡ bytes)
       sound = sound-GroupsMean false (groups base text) bytes (λ h. cc) means
 
       -- a text that means something has no fault
       pub no_fault-Means : fault_of base text ≡ None
       no_fault-Means =
           let gs = groups base text in
-          ap (λ o. or_else o (first_fault base gs)) no_length_fault-Means
-          ∙ first-none base false (ends_after base false gs) gs sound
+          rw no_length_fault-Means (first-none base false (ends_after base false gs) gs sound.0)
 
       -- nor has one with a fault any meaning
       pub faulty-Means : (error : DecodeError) → fault_of base text ≡ Some error → ⊥
@@ -167,9 +137,7 @@ module _ (base : Base) (width : IsWidth base.width) where
       pub sound_bytes-Means : sound_bytes base text ≡ bytes
       sound_bytes-Means =
           let gs = groups base text in
-          ap (flat_map (bytes_of_group base))
-          (sound-all base false (ends_after base false gs) gs sound)
-          ∙ bytes-GroupsMean gs bytes means
+          rw (sound-all base false (ends_after base false gs) gs sound.0) sound.1
 
       -- a text means at most as many bytes as its length allows
       pub length-Means : length bytes ≤ most_bytes base (length text)
@@ -177,13 +145,11 @@ module _ (base : Base) (width : IsWidth base.width) where
         by : (b : Bool) → is_padded base ≡ b → length bytes ≤ most_bytes base (length text)
         by true is =
             let count = length (groups base text) in
-            let fits : count * group_symbols base.width ≤ length text =
-            omega (arith, length-groups is, length-kept base text) in
-            let few : count ≤ length text / group_symbols base.width =
-            (le-div_iff_mul-le {k = group_symbols base.width} {x = count} {y = length text}
-            (group_symbols-pos base.width width)).1 fits in
+            let few = le-div count (length text) (group_symbols base.width)
+            (group_symbols-pos base.width width)
+            (omega (arith, length-groups is, length-kept base text)) in
             let most = mul-le-mul_right (group_bytes base.width) few in
-            rw is (omega (arith, most-GroupsMean is (groups base text) bytes means, most))
+            rw is (omega (arith, (sizes-GroupsMean is (groups base text) bytes means).1, most))
         by false is =
             let count = PlainMeans-count base width meant bytes (plain is) in
             let bits : base.width * length meant ≤ base.width * length text =
@@ -193,5 +159,4 @@ module _ (base : Base) (width : IsWidth base.width) where
 
       -- the length of a text that means something has no fault, and allows as many bytes
       pub decoded_len-Means : IsOkAnd (decoded_len base (length text)) (λ most. length bytes ≤ most)
-      decoded_len-Means =
-          rw no_length_fault-Means length-Means
+      decoded_len-Means = rw no_length_fault-Means length-Means

@@ -18,28 +18,26 @@ bytes-kept_in base start part =
     map-filter byte_of keeps (positioned_from start part)
     ∙ ap (filter keeps) (bytes-positioned_from start part)
 
-module _ (base : Base) where
-  module _ (width : IsWidth base.width) where
-    pub runs-alike : (ks js : List Positioned) → meanings_in base ks ≡ meanings_in base js
-        → map (meanings_in base) (runs (group_symbols base.width) ks)
-        ≡ map (meanings_in base) (runs (group_symbols base.width) js)
-    runs-alike ks js alike =
-        let size = group_symbols base.width in
-        let some = group_symbols-pos base.width width in
-        sym (runs-meanings base size ks some) ∙ ap (runs size) alike
-        ∙ runs-meanings base size js some
+module _ (base : Base) (width : IsWidth base.width) where
+  pub runs-alike : (ks js : List Positioned) → meanings_in base ks ≡ meanings_in base js
+      → map (meanings_in base) (runs (group_symbols base.width) ks)
+      ≡ map (meanings_in base) (runs (group_symbols base.width) js)
+  runs-alike ks js alike =
+      let size = group_symbols base.width in
+      let some = group_symbols-pos base.width width in
+      sym (runs-meanings base size ks some) ∙ ap (runs size) alike
+      ∙ runs-meanings base size js some
 
-    -- texts whose kept bytes mean the same mean the same
-    pub Means-alike : (text other bytes : List ℕ)
-        → meanings_in base (kept base text) ≡ meanings_in base (kept base other)
-        → Means base text bytes → Means base other bytes
-    Means-alike text other bytes alike =
-        subst (λ gs. GroupsMean base gs bytes)
-        (runs-alike (kept base text) (kept base other) alike)
+  -- texts whose kept bytes mean the same mean the same
+  pub Means-alike : (text other bytes : List ℕ)
+      → meanings_in base (kept base text) ≡ meanings_in base (kept base other)
+      → Means base text bytes → Means base other bytes
+  Means-alike text other bytes alike =
+      subst (λ gs. GroupsMean base gs bytes)
+      (runs-alike (kept base text) (kept base other) alike)
 
-    -- and so do texts of the same kept bytes
-    pub Means-same : (text other bytes : List ℕ)
-        → bytes_in (kept base text) ≡ bytes_in (kept base other) → Means base text bytes
-        → Means base other bytes
-    Means-same text other bytes same =
-        Means-alike text other bytes (ap (map (meaning base)) same)
+  -- and so do texts of the same kept bytes
+  pub Means-same : (text other bytes : List ℕ)
+      → bytes_in (kept base text) ≡ bytes_in (kept base other) → Means base text bytes
+      → Means base other bytes
+  Means-same text other bytes same = Means-alike text other bytes (ap (map (meaning base)) same)

@@ -1,17 +1,16 @@
 -- Texts whose bytes mean the same one by one mean the same, and have the same fault.
-use Rattle.std.proofs.Common.{◌≡◌, ℕ, ◌+◌, ◌&&◌, Bool, false, not, cond, List, [], ◌∷◌, length, map, Option, Some, None, get_or, refl, sym, ap, ◌∙◌}
+use Rattle.std.proofs.Common.{◌≡◌, ℕ, ◌+◌, Bool, false, not, List, [], ◌∷◌, length, map, Option, Some, None, get_or, refl, sym, ap, ◌∙◌}
 use Rattle.std.proofs.lemmas.List.{length-map}
 use Rattle.std.proofs.Math.ListN.{get_or-map}
-use Rattle.std.specs.List.{enumerate_from, filter, list_any}
+use Rattle.std.specs.List.{enumerate_from}
 use Rattle.data_encoding.specs.declared.decode.group.GroupFault.{GroupFault}
 use Rattle.data_encoding.specs.declared.encoding.Character.{Character}
 use Rattle.data_encoding.specs.declared.error.DecodeKind.{DecodeKind}
 use Rattle.data_encoding.specs.declared.error.DecodeKind.TheVariants.{Padding as PaddingFault}
-use Rattle.data_encoding.specs.Base.{Base, IsWidth, meaning, is_ignored, is_padding, group_symbols}
+use Rattle.data_encoding.specs.Base.{Base, IsWidth, meaning, is_ignored, group_symbols}
 use Rattle.data_encoding.specs.Bits.{runs}
-use Rattle.data_encoding.specs.Grammar.{Positioned, Means, bytes_in, groups, is_final, kept, kept_in, meanings_in, positioned_from}
-use Rattle.data_encoding.specs.Fault.{character_fault, fault_after, fault_at, fault_of, first_after, group_fault, located, or_else}
-use Rattle.data_encoding.specs.Lengths.{length_fault}
+use Rattle.data_encoding.specs.Grammar.{Positioned, Means, groups, is_final, kept, kept_in, meanings_in, positioned_from}
+use Rattle.data_encoding.specs.Fault.{fault_after, fault_at, fault_of, first_after, located}
 use Rattle.data_encoding.proofs.digits.WidthLemmas.{group_symbols-pos}
 use Rattle.data_encoding.proofs.digits.WordLemmas.{map-twice}
 use Rattle.data_encoding.proofs.grammar.SameBytesLemmas.{Means-alike}
@@ -43,25 +42,21 @@ module _ (base : Base) where
   abbrev seen_in : List Positioned → List (ℕ × Character)
   seen_in ks = map seen ks
 
-  positions-seen : (ks js : List Positioned) → seen_in ks ≡ seen_in js
-      → map (λ k. k.position) ks ≡ map (λ k. k.position) js
-  positions-seen ks js same =
-      let first : ℕ × Character → ℕ = λ p. p.0 in
-      sym (map-twice first seen ks) ∙ ap (map first) same ∙ map-twice first seen js
+  of-seen : {X : Type 0} (f : ℕ × Character → X) (ks js : List Positioned)
+      → seen_in ks ≡ seen_in js → map (λ k. f (seen k)) ks ≡ map (λ k. f (seen k)) js
+  of-seen f ks js same = sym (map-twice f seen ks) ∙ ap (map f) same ∙ map-twice f seen js
 
   meanings-seen : (ks js : List Positioned) → seen_in ks ≡ seen_in js
       → meanings_in base ks ≡ meanings_in base js
   meanings-seen ks js same =
-      let second : ℕ × Character → Character = λ p. p.1 in
       let byte_of : Positioned → ℕ = λ k. k.byte in
-      map-twice (meaning base) byte_of ks ∙ sym (map-twice second seen ks) ∙ ap (map second) same
-      ∙ map-twice second seen js ∙ sym (map-twice (meaning base) byte_of js)
+      rw (map-twice (meaning base) byte_of ks, map-twice (meaning base) byte_of js)
+      (of-seen (λ p. p.1) ks js same)
 
   seen-positioned : (start : ℕ) (text : List ℕ)
       → seen_in (positioned_from start text) ≡ enumerate_from start (map (meaning base) text)
   seen-positioned start [] = refl
-  seen-positioned start (byte ∷ text) =
-      ap (λ l. (start, meaning base byte) ∷ l) (seen-positioned (start + 1) text)
+  seen-positioned start (byte ∷ text) = rw (seen-positioned (start + 1) text)
 
   -- bytes that mean the same are kept at the same positions
   kept_in-seen : (start : ℕ) (text other : List ℕ)
@@ -69,18 +64,14 @@ module _ (base : Base) where
       → seen_in (kept_in base start text) ≡ seen_in (kept_in base start other)
   kept_in-seen start text other same =
       let keeps : ℕ × Character → Bool = λ s. not (is_ignored s.1) in
-      map-filter seen keeps (positioned_from start text)
-      ∙ ap (filter keeps) (seen-positioned start text ∙ ap (enumerate_from start) same
-      ∙ sym (seen-positioned start other))
-      ∙ sym (map-filter seen keeps (positioned_from start other))
+      simp (map-filter seen keeps, seen-positioned, same)
 
   fault_after-seen : (ended : Bool) (ks js : List Positioned) → seen_in ks ≡ seen_in js
       → fault_after ended base ks ≡ fault_after ended base js
   fault_after-seen ended ks js same =
-      let stand = positions-seen ks js same in
-      λ i. cond ended (fault_at-alike ks js stand PaddingFault 0 i)
-      ((located-alike ks js stand (group_fault base (bytes_in ks))
-      ∙ ap (λ ms. located js (character_fault base ms)) (meanings-seen ks js same)) i)
+      let stand = of-seen (λ p. p.0) ks js same in
+      rw (fault_at-alike ks js stand PaddingFault 0, located-alike ks js stand _)
+      (rw (meanings-seen ks js same))
 
   -- the first faulty group has the same fault
   first_after-seen : (ended : Bool) (gs hs : List (List Positioned))
@@ -91,11 +82,8 @@ module _ (base : Base) where
   first_after-seen ended (ks ∷ gs) (js ∷ hs) same =
       let here : seen_in ks ≡ seen_in js = cc in
       let others : map seen_in gs ≡ map seen_in hs = cc in
-      (λ i. or_else (fault_after-seen ended ks js here i)
-      (first_after (not base.concatenates && list_any is_padding (meanings-seen ks js here i))
-      base gs))
-      ∙ ap (or_else (fault_after ended base js))
-      (first_after-seen (is_final base js) gs hs others)
+      rw (fault_after-seen ended ks js here, meanings-seen ks js here)
+      (rw (first_after-seen (is_final base js) gs hs others))
 
   module _ (width : IsWidth base.width) (text other : List ℕ)
       (same : map (meaning base) text ≡ map (meaning base) other) where
@@ -109,10 +97,8 @@ module _ (base : Base) where
 
     pub fault_of-translated : fault_of base text ≡ fault_of base other
     fault_of-translated =
-        let len : length text ≡ length other =
-        sym (length-map text (meaning base)) ∙ ap length same ∙ length-map other (meaning base) in
-        λ i. or_else (length_fault base (len i))
-        (first_after-seen false (groups base text) (groups base other) groups-seen i)
+        let len : length text ≡ length other = simp length-map at (ap length same) in
+        rw (len, first_after-seen false (groups base text) (groups base other) groups-seen)
 
     pub Means-translated : (bytes : List ℕ) → Means base text bytes → Means base other bytes
     Means-translated bytes =

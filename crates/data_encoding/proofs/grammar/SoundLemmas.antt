@@ -1,5 +1,5 @@
 -- Groups without a fault, one after the other.
-use Rattle.std.proofs.Common.{◌≡◌, ℕ, Bool, true, false, not, cond, ◌&&◌, List, [], ◌∷◌, ◌++◌, map, Option, Some, None, is_some, refl, sym, ap, ◌∙◌, subst}
+use Rattle.std.proofs.Common.{◌≡◌, ℕ, Bool, true, false, not, ◌&&◌, List, [], ◌∷◌, ◌++◌, map, Option, None, refl, arith}
 use Rattle.std.proofs.lemmas.List.{append-nil}
 use Rattle.std.proofs.lemmas.List.Concat.{flat_map-append}
 use Rattle.std.specs.Prelude.{flat_map}
@@ -13,7 +13,7 @@ use Rattle.data_encoding.specs.Base.{Base, is_padding}
 use Rattle.data_encoding.specs.Grammar.{Positioned, bytes_in, is_final}
 use Rattle.data_encoding.specs.Fault.{bytes_of_group, fault_after, first_after, group_fault, located, or_else, sound_after}
 use Rattle.data_encoding.specs.Decoding.{AreSound}
-use Rattle.data_encoding.proofs.lists.ListLemmas.{AllFail, list_any-none}
+use Rattle.data_encoding.proofs.lists.ListLemmas.{list_any-none}
 use Rattle.data_encoding.proofs.grammar.GroupLemmas.{symbols_alone}
 
 -- whether one ended after them, sound or not
@@ -26,30 +26,25 @@ pub fault_after-none : (base : Base) (begun : Bool) (group : List Positioned)
     → fault_after begun base group ≡ None
     → (begun ≡ false) × (group_fault base (bytes_in group) ≡ None)
 fault_after-none base true group h = cc
-fault_after-none base false group h = (refl, none (group_fault base (bytes_in group)) h) where
-  none : (o : Option GroupFault) → located group o ≡ None → o ≡ None
-  none None e = refl
-  none (Some fault) e = cc
+fault_after-none base false group h =
+    let none : (o : Option GroupFault) → located group o ≡ None → o ≡ None = λ o e. grind arith in
+    (refl, none (group_fault base (bytes_in group)) h)
 
 -- symbols alone end nothing
 pub symbols-not_final : (base : Base) (group : List Character) (values : List ℕ)
     → group ≡ map (λ value. Symbol value) values
     → (not base.concatenates && list_any is_padding group) ≡ false
 symbols-not_final base group values h =
-    ap (λ b. not base.concatenates && b)
-    (list_any-none is_padding group (subst (AllFail is_padding) (sym h) (symbols_alone values)))
-    ∙ and-false (not base.concatenates)
+    rw (h, list_any-none is_padding _ (symbols_alone values)) (and-false (not base.concatenates))
 
 pub neither_fault : (o p : Option DecodeError) → or_else o p ≡ None → (o ≡ None) × (p ≡ None)
-neither_fault None p h = (refl, h)
-neither_fault (Some error) p h = cc
+neither_fault o p h = grind arith
 
 module _ (base : Base) where
   pub AreSound-append : (begun middle ended : Bool) (groups others : List (List Positioned))
       → AreSound base begun groups middle → AreSound base middle others ended
       → AreSound base begun (groups ++ others) ended
-  AreSound-append begun middle ended [] others h k =
-      subst (λ b. AreSound base b others ended) (sym h) k
+  AreSound-append begun middle ended [] others h k = rw h k
   AreSound-append begun middle ended (group ∷ groups) others h k =
       (h.0, AreSound-append (is_final base group) middle ended groups others h.1 k)
 
@@ -57,19 +52,16 @@ module _ (base : Base) where
   pub first-AreSound : (begun ended : Bool) (groups others : List (List Positioned))
       → AreSound base begun groups ended
       → first_after begun base (groups ++ others) ≡ first_after ended base others
-  first-AreSound begun ended [] others h = ap (λ b. first_after b base others) h
+  first-AreSound begun ended [] others h = rw h
   first-AreSound begun ended (group ∷ groups) others h =
-      ap (λ o. or_else o (first_after (is_final base group) base (groups ++ others))) h.0
-      ∙ first-AreSound (is_final base group) ended groups others h.1
+      rw h.0 (first-AreSound (is_final base group) ended groups others h.1)
 
   pub sound-AreSound : (begun ended : Bool) (groups others : List (List Positioned))
       → AreSound base begun groups ended
       → sound_after begun base (groups ++ others) ≡ groups ++ sound_after ended base others
-  sound-AreSound begun ended [] others h = ap (λ b. sound_after b base others) h
+  sound-AreSound begun ended [] others h = rw h
   sound-AreSound begun ended (group ∷ groups) others h =
-      ap (λ o. cond (is_some o) []
-      (group ∷ sound_after (is_final base group) base (groups ++ others))) h.0
-      ∙ ap (λ l. group ∷ l) (sound-AreSound (is_final base group) ended groups others h.1)
+      rw (h.0, sound-AreSound (is_final base group) ended groups others h.1)
 
   -- and their bytes follow
   pub bytes-AreSound : (begun ended : Bool) (groups others : List (List Positioned))
@@ -78,20 +70,16 @@ module _ (base : Base) where
       ≡ flat_map (bytes_of_group base) groups
       ++ flat_map (bytes_of_group base) (sound_after ended base others)
   bytes-AreSound begun ended groups others h =
-      ap (flat_map (bytes_of_group base)) (sound-AreSound begun ended groups others h)
-      ∙ flat_map-append (bytes_of_group base) groups (sound_after ended base others)
+      rw (sound-AreSound begun ended groups others h)
+      (flat_map-append (bytes_of_group base) groups (sound_after ended base others))
 
   pub first-none : (begun ended : Bool) (groups : List (List Positioned))
       → AreSound base begun groups ended → first_after begun base groups ≡ None
-  first-none begun ended groups h =
-      ap (first_after begun base) (sym (append-nil groups))
-      ∙ first-AreSound begun ended groups [] h
+  first-none begun ended groups h = simp append-nil at (first-AreSound begun ended groups [] h)
 
   pub sound-all : (begun ended : Bool) (groups : List (List Positioned))
       → AreSound base begun groups ended → sound_after begun base groups ≡ groups
-  sound-all begun ended groups h =
-      ap (sound_after begun base) (sym (append-nil groups))
-      ∙ sound-AreSound begun ended groups [] h ∙ append-nil groups
+  sound-all begun ended groups h = simp append-nil at (sound-AreSound begun ended groups [] h)
 
   -- groups are sound where none has a fault
   pub AreSound-none : (begun : Bool) (groups : List (List Positioned))
@@ -99,6 +87,5 @@ module _ (base : Base) where
       → AreSound base begun groups (ends_after base begun groups)
   AreSound-none begun [] h = refl
   AreSound-none begun (group ∷ groups) h =
-      let both = neither_fault (fault_after begun base group)
-      (first_after (is_final base group) base groups) h in
+      let both = neither_fault (fault_after begun base group) _ h in
       (both.0, AreSound-none (is_final base group) groups both.1)

@@ -1,7 +1,6 @@
 -- What a text means is bytes, and how many, where there is no padding and no ignored byte.
-use Rattle.std.proofs.Common.{◌≡◌, ℕ, ◌+◌, ◌*◌, ◌/◌, false, ◌<◌, List, [], ◌∷◌, length, All, Option, Some, None, is_some, refl, sym, ap, ◌∙◌, subst, arith, map}
+use Rattle.std.proofs.Common.{◌≡◌, ℕ, ◌+◌, ◌*◌, false, ◌<◌, List, [], ◌∷◌, length, All, Option, Some, None, is_some, refl, sym, ap, arith, map}
 use Rattle.std.proofs.lemmas.List.Elements.{All-append, All-from_recursion}
-use Rattle.std.proofs.lemmas.Bool.{false≢true}
 use Rattle.std.specs.List.{AllByRecursion}
 use Rattle.data_encoding.specs.declared.encoding.Character.{Character}
 use Rattle.data_encoding.specs.declared.encoding.Character.TheVariants.{Ignored}
@@ -9,14 +8,13 @@ use Rattle.data_encoding.specs.Base.{Base, IsWidth, Wrapping, ignores_some, is_i
 use Rattle.data_encoding.specs.Grammar.{GroupsMean, Means, groups, kept, meanings_in}
 use Rattle.data_encoding.specs.Lengths.{most_bytes}
 use Rattle.data_encoding.specs.Text.{text_of}
-use Rattle.data_encoding.proofs.digits.WidthLemmas.{by_width}
-use Rattle.data_encoding.proofs.grammar.LengthLemmas.{most_bytes-by}
+use Rattle.data_encoding.proofs.grammar.LengthLemmas.{most_bytes-by, widths}
 use Rattle.data_encoding.proofs.grammar.PositionLemmas.{length-kept_plain, never_ignored, length-meanings}
 use Rattle.data_encoding.proofs.grammar.UnpaddedGrammarLemmas.{unpadded-Means}
 use Rattle.data_encoding.proofs.grammar.UnpaddedGroupLemmas.{PlainMeans-count}
 use Rattle.data_encoding.proofs.lists.RunLemmas.{run_count}
 use Rattle.data_encoding.proofs.judgement.RuleLemmas.{IsRuled, IsRuledWrapping}
-use Rattle.data_encoding.proofs.text.PaddedTextLemmas.{length-unpadded, text_of-unwrapped}
+use Rattle.data_encoding.proofs.text.PaddedTextLemmas.{length-unpadded}
 
 -- where no byte is ignored, there are no lines
 pub no_lines-plain : (base : Base) → IsRuled base → ignores_some base ≡ false
@@ -26,8 +24,7 @@ no_lines-plain base ruled none = by base.wrapping ruled.wrapping where
       → AllByRecursion (λ byte. (byte < 128) × (meaning base byte ≡ Ignored)) bytes
       → 0 < length bytes → ⊥
   ignored_by [] all some = absurd (omega (arith, some))
-  ignored_by (byte ∷ bytes) all some =
-      false≢true (sym (never_ignored base none byte) ∙ ap is_ignored all.0.1)
+  ignored_by (byte ∷ bytes) all some = cc (never_ignored base none byte, ap is_ignored all.0.1)
 
   by : (o : Option Wrapping) → IsRuledWrapping base o → o ≡ None
   by None h = refl
@@ -36,12 +33,7 @@ no_lines-plain base ruled none = by base.wrapping ruled.wrapping where
 -- symbols have the bits of their bytes, and fewer than a symbol's
 symbols_of : (width : ℕ) → IsWidth width → (symbols bytes rest : ℕ)
     → width * symbols ≡ 8 * bytes + rest → rest < width → run_count width (8 * bytes) ≡ symbols
-symbols_of =
-    by_width
-    (λ w. (symbols bytes rest : ℕ) → w * symbols ≡ 8 * bytes + rest → rest < w
-    → run_count w (8 * bytes) ≡ symbols)
-    (λ m n r h k. omega arith) (λ m n r h k. omega arith) (λ m n r h k. omega arith)
-    (λ m n r h k. omega arith) (λ m n r h k. omega arith) (λ m n r h k. omega arith)
+symbols_of width is symbols bytes rest count short = grind (arith, widths width is)
 
 -- texts of as many bytes are as long
 pub length-plain_text_of : (base : Base) → IsRuled base → base.padding ≡ None
@@ -53,10 +45,9 @@ length-plain_text_of base ruled unpadded none text bytes others means same =
     let count = symbols_of base.width ruled.is_width (length meant) (length bytes)
     (length plain.rest) (PlainMeans-count base ruled.is_width meant bytes plain)
     plain.rest_is_short in
-    sym (length-meanings base (kept base text) ∙ length-kept_plain base text none) ∙ sym count
-    ∙ ap (λ n. run_count base.width (8 * n)) (sym same)
-    ∙ sym (ap length (text_of-unwrapped base others (no_lines-plain base ruled none))
-    ∙ length-unpadded base others ruled.is_width (ap is_some unpadded))
+    rw (no_lines-plain base ruled none)
+    (rw (length-unpadded base others ruled.is_width (ap is_some unpadded), same, count)
+    (rw length-meanings (sym (length-kept_plain base text none))))
 
 pub most-Means : (base : Base) → IsWidth base.width → base.padding ≡ None
     → ignores_some base ≡ false → (text bytes : List ℕ) → Means base text bytes
@@ -65,20 +56,16 @@ most-Means base width unpadded none text bytes means =
     let meant = meanings_in base (kept base text) in
     let plain = (unpadded-Means base width (ap is_some unpadded) text bytes).0 means in
     let count = PlainMeans-count base width meant bytes plain in
-    let all : base.width * length meant ≡ base.width * length text =
-    ap (λ n. base.width * n)
-    (length-meanings base (kept base text) ∙ length-kept_plain base text none) in
-    let most : length bytes ≡ base.width * length text / 8 =
-    omega (arith, count, all, plain.rest_is_short, width.few) in
-    most ∙ sym (most_bytes-by base (length text) false (ap is_some unpadded))
+    let len : length meant ≡ length text = rw (length-meanings, length-kept_plain base text none) in
+    let all : base.width * length meant ≡ base.width * length text = rw len in
+    rw (most_bytes-by base (length text) false (ap is_some unpadded))
+    (omega (arith, count, all, plain.rest_is_short, width.few))
 
 each-bytes : (base : Base) (gs : List (List Character)) (bytes : List ℕ)
     → GroupsMean base gs bytes → All (λ byte. byte < 256) bytes
-each-bytes base [] bytes none =
-    subst (All (λ byte. byte < 256)) (sym none) (All-from_recursion (λ byte. byte < 256) [] tt)
+each-bytes base [] bytes none = rw none (All-from_recursion (λ byte. byte < 256) [] tt)
 each-bytes base (group ∷ gs) bytes means =
-    subst (All (λ byte. byte < 256)) (sym means.2)
-    (All-append (λ byte. byte < 256) means.0 means.1 means.3.means.are_bytes
+    rw means.2 (All-append (λ byte. byte < 256) means.0 means.1 means.3.means.are_bytes
     (each-bytes base gs means.1 means.5))
 
 pub are_bytes-Means : (base : Base) (text bytes : List ℕ) → Means base text bytes

@@ -1,25 +1,22 @@
 -- Symbols of one group: the bytes that they mean, and their fault.
-use Rattle.std.proofs.Common.{◌≡◌, ℕ, ◌+◌, ◌*◌, ◌/◌, ◌%◌, ◌<◌, ◌==◌, Bool, true, false, not, cond, ◌&&◌, List, [], ◌∷◌, ◌++◌, length, map, take, drop, Option, Some, None, refl, sym, ap, ◌∙◌, arith, length-append, take-append-drop, length-take-le}
-use Rattle.std.proofs.lemmas.Bool.{false≢true}
+use Rattle.std.proofs.Common.{◌≡◌, ℕ, ◌+◌, ◌*◌, ◌/◌, ◌%◌, ◌<◌, ◌==◌, true, false, not, List, [], ◌∷◌, ◌++◌, length, map, take, None, refl, sym, ap, ◌∙◌, arith, length-append, take-append-drop, length-take-le}
 use Rattle.std.proofs.lemmas.Bool.Decides.{nat_tests}
 use Rattle.std.proofs.lemmas.List.{length-map, length-drop, take_at, drop_at}
-use Rattle.std.proofs.lemmas.Nat.{div-add-mod'}
 use Rattle.std.specs.Prelude.{flat_map}
 use Rattle.std.specs.List.{AllByRecursion, list_any, filter_map, position}
 use Rattle.std.proofs.lemmas.List.Elements.{All-from_recursion, recursion_from_All}
-use Rattle.data_encoding.specs.declared.decode.group.GroupFault.{GroupFault}
 use Rattle.data_encoding.specs.declared.encoding.BitOrder.{BitOrder}
 use Rattle.data_encoding.specs.declared.encoding.Character.{Character}
-use Rattle.data_encoding.specs.declared.encoding.Character.TheVariants.{Symbol, Padding, Ignored, Invalid}
+use Rattle.data_encoding.specs.declared.encoding.Character.TheVariants.{Symbol}
 use Rattle.data_encoding.specs.Base.{Base, is_symbol, value_of, IsWidth}
-use Rattle.data_encoding.specs.Bits.{bits_of, number_of, bits_of_bytes, runs}
+use Rattle.data_encoding.specs.Bits.{bits_of, number_of, bits_of_bytes}
 use Rattle.data_encoding.specs.Grammar.{PlainMeans}
 use Rattle.data_encoding.specs.Lengths.{is_valid_count}
-use Rattle.data_encoding.specs.Fault.{symbol_bits, trailing_bits, symbol_bytes, plain_fault, symbols_fault, trailing_fault, fault_at_first}
+use Rattle.data_encoding.specs.Fault.{symbol_bits, trailing_bits, symbol_bytes, plain_fault, symbols_fault, trailing_fault}
 use Rattle.data_encoding.proofs.digits.BitLemmas.{AreBits, AreBits-take, AreBits-flat_map, AreBits-bits_of, length-bits_of, length-pieces, number_of-bits_of}
 use Rattle.data_encoding.proofs.digits.ValueLemmas.{AreValuesOf-runs}
 use Rattle.data_encoding.proofs.lists.EachLemmas.{all_replicate, all_weaker}
-use Rattle.data_encoding.proofs.lists.ListLemmas.{AllFail, cond-none, position-none, AllFail-position, list_any-none, AllFail-list_any, zeros}
+use Rattle.data_encoding.proofs.lists.ListLemmas.{AllFail, position-none, AllFail-position, list_any-none, AllFail-list_any, zeros}
 use Rattle.data_encoding.proofs.lists.RunLemmas.{runs-flat_map}
 
 numbers_back : (order : BitOrder) (bytes : List ℕ) → AllByRecursion (λ byte. byte < 256) bytes
@@ -27,14 +24,6 @@ numbers_back : (order : BitOrder) (bytes : List ℕ) → AllByRecursion (λ byte
 numbers_back order [] h = refl
 numbers_back order (byte ∷ bytes) h =
     (λ i. number_of-bits_of order 8 byte (omega (arith, h.0)) i ∷ numbers_back order bytes h.1 i)
-
--- the bits of bytes, as bytes again
-bytes-bits : (order : BitOrder) (bytes : List ℕ) → AllByRecursion (λ byte. byte < 256) bytes
-    → map (number_of order) (runs 8 (bits_of_bytes order bytes)) ≡ bytes
-bytes-bits order bytes h =
-    ap (map (number_of order))
-    (runs-flat_map 8 (bits_of order 8) bytes (omega arith) (length-bits_of order 8))
-    ∙ numbers_back order bytes h
 
 pub length-bits_of_bytes : (order : BitOrder) (bytes : List ℕ)
     → length (bits_of_bytes order bytes) ≡ 8 * length bytes
@@ -44,16 +33,6 @@ pub length-bits_of_values : (order : BitOrder) (width : ℕ) (values : List ℕ)
     → length (flat_map (bits_of order width) values) ≡ width * length values
 length-bits_of_values order width values =
     length-pieces width (bits_of order width) values (length-bits_of order width)
-
--- symbols have the values that were found
-values-symbols : (meanings : List Character) → AllFail (λ m. not (is_symbol m)) meanings
-    → meanings ≡ map (λ value. Symbol value) (filter_map value_of meanings)
-values-symbols [] h = refl
-values-symbols (Symbol value ∷ meanings) h =
-    ap (λ l. Symbol value ∷ l) (values-symbols meanings h.1)
-values-symbols (Padding ∷ meanings) h = absurd (false≢true (sym h.0))
-values-symbols (Ignored ∷ meanings) h = absurd (false≢true (sym h.0))
-values-symbols (Invalid ∷ meanings) h = absurd (false≢true (sym h.0))
 
 symbols-values : (values : List ℕ)
     → filter_map value_of (map (λ value. Symbol value) values) ≡ values
@@ -65,36 +44,16 @@ symbols_pass : (values : List ℕ)
 symbols_pass [] = tt
 symbols_pass (value ∷ values) = (refl, symbols_pass values)
 
+-- symbols have the values that were found
+values-symbols : (meanings : List Character) → AllFail (λ m. not (is_symbol m)) meanings
+    → meanings ≡ map (λ value. Symbol value) (filter_map value_of meanings)
+values-symbols [] h = refl
+values-symbols (m ∷ meanings) h = grind (arith, values-symbols meanings h.1)
+
 pub are_symbols : (meanings : List Character) → position (λ m. not (is_symbol m)) meanings ≡ None
     → meanings ≡ map (λ value. Symbol value) (filter_map value_of meanings)
 are_symbols meanings h =
     values-symbols meanings (AllFail-position (λ m. not (is_symbol m)) meanings h)
-
-valid_and_sound : {A : Type 0} (valid : Bool) (sound : Option A) (fault : A)
-    → cond valid sound (Some fault) ≡ None → (valid ≡ true) × (sound ≡ None)
-valid_and_sound true sound fault h = (refl, h)
-valid_and_sound false sound fault h = cc
-
-none_found : (o : Option ℕ) (otherwise : Option GroupFault)
-    → fault_at_first o otherwise ≡ None → (o ≡ None) × (otherwise ≡ None)
-none_found None otherwise h = (refl, h)
-none_found (Some index) otherwise h = cc
-
-both_false : (a b : Bool) → a && b ≡ false → a ≡ true → b ≡ false
-both_false true b h e = h
-both_false false b h e = cc
-
-short_rest : (bits : List ℕ) (width count : ℕ) → length bits ≡ width * count
-    → is_valid_count width count ≡ true → length (drop (length bits / 8 * 8) bits) < width
-short_rest bits width count h valid =
-    let short : width * count % 8 < width = grind (arith, nat_tests) in
-    let same : length bits % 8 ≡ width * count % 8 = ap (λ n. n % 8) h in
-    omega (arith, length-drop (length bits / 8 * 8) bits, div-add-mod' (length bits) 8)
-
-quiet : {A : Type 0} (checks any : Bool) (fault : A) → (checks ≡ true → any ≡ false)
-    → cond (checks && any) (Some fault) None ≡ None
-quiet true any fault h = ap (λ b. cond b (Some fault) None) (h refl)
-quiet false any fault h = refl
 
 -- a group of a valid number has the fault of its symbols
 pub plain_fault-valid : (base : Base) (group : List Character)
@@ -102,48 +61,39 @@ pub plain_fault-valid : (base : Base) (group : List Character)
     → plain_fault base group ≡ symbols_fault base group
 plain_fault-valid base group h = rw h
 
--- bits that are bytes and a short rest
-record AreSplit (bits front rest : List ℕ) : Type 0 where
-  is_front : take (length bits / 8 * 8) bits ≡ front
-  is_rest : drop (length bits / 8 * 8) bits ≡ rest
-
 module _ (base : Base) (width : IsWidth base.width) (group : List Character) where
   -- a group with no fault means its bytes
   pub PlainMeans-sound : plain_fault base group ≡ None
       → PlainMeans base group (symbol_bytes base group)
   PlainMeans-sound h =
-      let valid = valid_and_sound (is_valid_count base.width (length group))
-      (symbols_fault base group) _ h in
-      let none = none_found (position (λ m. not (is_symbol m)) group) (trailing_fault base group)
-      valid.1 in
       let values = filter_map value_of group in
       let bits = symbol_bits base group in
       let whole = length bits / 8 * 8 in
       let rest = trailing_bits base group in
-      let zero_rest = cond-none
-      (base.checks_trailing_bits && list_any (λ bit. not (bit == 0)) rest) _ None none.1 in
+      let judged : (base.width * length group % 8 < base.width)
+      × (position (λ m. not (is_symbol m)) group ≡ None)
+      × (base.checks_trailing_bits ≡ true → list_any (λ bit. not (bit == 0)) rest ≡ false) =
+      grind (arith, nat_tests) in
       let are_bits : AreBits bits = AreBits-flat_map (bits_of base.order base.width) values
       (AreBits-bits_of base.order base.width) in
       let front_len : length (take whole bits) ≡ whole = length-take-le whole bits (omega arith) in
       let bytes = AreValuesOf-runs (length bits / 8) base.order 8 (take whole bits) (omega arith)
       (AreBits-take whole bits are_bits) (omega (arith, front_len)) in
-      let symbols = are_symbols group none.0 in
+      let symbols = are_symbols group judged.1 in
+      let count : length group ≡ length values = simp length-map at (ap length symbols) in
       let bits_len : length bits ≡ base.width * length group =
-      length-bits_of_values base.order base.width values
-      ∙ ap (λ n. base.width * n)
-      (sym (length-map values (λ value. Symbol value)) ∙ ap length (sym symbols)) in
+      rw count (length-bits_of_values base.order base.width values) in
       record {
         values = values;
         rest = rest;
         are_symbols = symbols;
-        same_bits = sym (take-append-drop whole bits) ∙ ap (λ l. l ++ rest) (sym bytes.same_bits);
-        rest_is_short = short_rest bits base.width (length group) bits_len valid.0;
+        same_bits = sym (take-append-drop whole bits) ∙ rw bytes.same_bits;
+        rest_is_short = omega (arith, length-drop whole bits, judged.0, bits_len);
         rest_is_zero =
             λ e. zeros rest
             (all_weaker (λ bit. not (bit == 0) ≡ false) (λ bit. bit ≡ 0)
             (λ bit h. grind (arith, nat_tests)) rest
-            (AllFail-list_any (λ bit. not (bit == 0)) rest
-            (both_false base.checks_trailing_bits _ zero_rest.0 e)));
+            (AllFail-list_any (λ bit. not (bit == 0)) rest (judged.2 e)));
         are_bytes = All-from_recursion (λ byte. byte < 256) (symbol_bytes base group) bytes.below;
       }
 
@@ -154,30 +104,25 @@ module _ (base : Base) (width : IsWidth base.width) (group : List Character) whe
         ∙ ap (flat_map (bits_of base.order base.width)) (symbols-values means.values)
         ∙ means.same_bits
 
-    split : AreSplit (symbol_bits base group) (bits_of_bytes base.order bytes) means.rest
+    -- they are bytes and a short rest
+    split : (take (length (symbol_bits base group) / 8 * 8) (symbol_bits base group)
+        ≡ bits_of_bytes base.order bytes)
+        × (trailing_bits base group ≡ means.rest)
     split =
         let front = bits_of_bytes base.order bytes in
-        let bytes_len = length-bits_of_bytes base.order bytes in
-        let len = ap length bits_are ∙ length-append front means.rest in
+        let len = simp length-append at (ap length bits_are) in
         let whole : length (symbol_bits base group) / 8 * 8 ≡ length front =
-        omega (arith, len, bytes_len, means.rest_is_short, width.few) in
-        record {
-          is_front = (λ i. take (whole i) (bits_are i))
-              ∙ take_at front means.rest (length front) refl;
-          is_rest = (λ i. drop (whole i) (bits_are i))
-              ∙ drop_at front means.rest (length front) refl;
-        }
+        omega (arith, length-bits_of_bytes base.order bytes) in (
+          rw (whole, bits_are) (take_at front means.rest (length front) refl),
+          rw (whole, bits_are) (drop_at front means.rest (length front) refl),
+        )
 
     -- symbols have the bits of their bytes, and those that are left
     pub PlainMeans-count : base.width * length group ≡ 8 * length bytes + length means.rest
     PlainMeans-count =
-        let many : length means.values ≡ length group =
-        sym (length-map means.values (λ value. Symbol value)) ∙ ap length (sym means.are_symbols) in
-        ap (λ n. base.width * n) (sym many)
-        ∙ sym (length-bits_of_values base.order base.width means.values)
-        ∙ ap length means.same_bits
-        ∙ length-append (bits_of_bytes base.order bytes) means.rest
-        ∙ ap (λ n. n + length means.rest) (length-bits_of_bytes base.order bytes)
+        rw (simp length-map at (ap length means.are_symbols))
+        (simp (length-append, length-bits_of_values, length-bits_of_bytes)
+        at (ap length means.same_bits))
 
     pub PlainMeans-valid : is_valid_count base.width (length group) ≡ true
     PlainMeans-valid =
@@ -187,24 +132,21 @@ module _ (base : Base) (width : IsWidth base.width) (group : List Character) whe
 
     pub PlainMeans-bytes : symbol_bytes base group ≡ bytes
     PlainMeans-bytes =
-        ap (λ l. map (number_of base.order) (runs 8 l)) split.is_front
-        ∙ bytes-bits base.order bytes
-        (recursion_from_All (λ byte. byte < 256) bytes means.are_bytes)
+        rw split.0
+        (rw (runs-flat_map 8 _ bytes (omega arith) (length-bits_of base.order 8))
+        (numbers_back base.order bytes (recursion_from_All _ bytes means.are_bytes)))
 
     no_trailing : trailing_fault base group ≡ None
     no_trailing =
-        quiet base.checks_trailing_bits
-        (list_any (λ bit. not (bit == 0)) (trailing_bits base group)) _
-        (λ e. let zero_rest = split.is_rest ∙ means.rest_is_zero e in
-        ap (list_any (λ bit. not (bit == 0))) zero_rest
-        ∙ list_any-none (λ bit. not (bit == 0)) _
-        (all_replicate (λ bit. not (bit == 0) ≡ false) (length means.rest) 0 refl))
+        let none : base.checks_trailing_bits ≡ true
+        → list_any (λ bit. not (bit == 0)) (trailing_bits base group) ≡ false =
+        λ e. rw (split.1, means.rest_is_zero e) (list_any-none (λ bit. not (bit == 0)) _
+        (all_replicate (λ bit. not (bit == 0) ≡ false) (length means.rest) 0 refl)) in
+        grind (arith, none)
 
     -- what means something has no fault
     pub PlainMeans-no_fault : plain_fault base group ≡ None
     PlainMeans-no_fault =
-        plain_fault-valid base group PlainMeans-valid
-        ∙ ap (λ o. fault_at_first o (trailing_fault base group))
-        (ap (position (λ m. not (is_symbol m))) means.are_symbols
-        ∙ position-none (λ m. not (is_symbol m)) _ (symbols_pass means.values))
-        ∙ no_trailing
+        let found : position (λ m. not (is_symbol m)) group ≡ None =
+        rw means.are_symbols (position-none (λ m. not (is_symbol m)) _ (symbols_pass means.values))
+        in rw (PlainMeans-valid, found) no_trailing

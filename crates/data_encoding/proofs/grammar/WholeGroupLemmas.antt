@@ -1,5 +1,5 @@
 -- Whole groups of symbols alone.
-use Rattle.std.proofs.Common.{◌≡◌, ℕ, zero, suc, ◌+◌, ◌*◌, ◌/◌, true, false, not, List, [], ◌∷◌, length, map, take, drop, None, refl, sym, ap, ◌∙◌, subst, arith, take-append-drop, length-take-le}
+use Rattle.std.proofs.Common.{◌≡◌, ℕ, zero, suc, ◌+◌, ◌*◌, ◌/◌, true, false, not, List, [], ◌∷◌, length, map, take, drop, None, refl, sym, ap, ◌∙◌, arith, take-append-drop, length-take-le}
 use Rattle.std.proofs.Math.Nat.{zero-mul, suc-mul}
 use Rattle.std.proofs.lemmas.List.{length-map, length-drop, drop_all, nil_from_length}
 use Rattle.std.proofs.lemmas.List.Folds.{flat_map-map}
@@ -7,19 +7,19 @@ use Rattle.std.specs.Prelude.{flat_map}
 use Rattle.std.specs.List.{filter_map, position}
 use Rattle.std.proofs.Math.Bool.{and-false}
 use Rattle.data_encoding.specs.declared.encoding.Character.{Character}
-use Rattle.data_encoding.specs.declared.encoding.Character.TheVariants.{Symbol, Padding, Ignored, Invalid}
+use Rattle.data_encoding.specs.declared.encoding.Character.TheVariants.{Symbol}
 use Rattle.data_encoding.specs.Base.{Base, meaning, is_symbol, is_ignored, group_symbols, group_bytes, value_of, IsWidth}
 use Rattle.data_encoding.specs.Bits.{runs}
 use Rattle.data_encoding.specs.Grammar.{Positioned, bytes_in, is_final, kept_in, meanings_in, positioned_from}
 use Rattle.data_encoding.specs.Lengths.{is_valid_count}
-use Rattle.data_encoding.specs.Fault.{bytes_of_group, fault_at_first, group_fault, located, plain_fault, symbol_bits, symbol_bytes, trailing_bits, trailing_fault}
+use Rattle.data_encoding.specs.Fault.{bytes_of_group, group_fault, located, plain_fault, symbol_bits, symbol_bytes, trailing_bits}
 use Rattle.data_encoding.specs.Decoding.{AreSound, run_bytes}
 use Rattle.data_encoding.proofs.digits.WidthLemmas.{group_bits, group_symbols-pos}
-use Rattle.data_encoding.proofs.lists.EachLemmas.{all_parts, all_weaker}
+use Rattle.data_encoding.proofs.lists.EachLemmas.{all_parts}
 use Rattle.data_encoding.proofs.lists.EndLemmas.{AllSo}
-use Rattle.data_encoding.proofs.lists.ListLemmas.{AllFail, position-none, filter-all}
-use Rattle.data_encoding.proofs.lists.RunLemmas.{runs-nil, runs-append}
-use Rattle.data_encoding.proofs.grammar.UnpaddedGroupLemmas.{plain_fault-valid, are_symbols, length-bits_of_values, PlainMeans-sound}
+use Rattle.data_encoding.proofs.lists.ListLemmas.{AllFail, position-none}
+use Rattle.data_encoding.proofs.lists.RunLemmas.{runs-nil, runs-first}
+use Rattle.data_encoding.proofs.grammar.UnpaddedGroupLemmas.{are_symbols, length-bits_of_values, PlainMeans-sound}
 use Rattle.data_encoding.proofs.grammar.GroupLemmas.{whole-valid, GroupMeans-no_fault, GroupMeans-symbols}
 use Rattle.data_encoding.proofs.grammar.PositionLemmas.{bytes-positioned_from, length-meanings, runs-meanings}
 use Rattle.data_encoding.proofs.grammar.SoundLemmas.{symbols-not_final}
@@ -47,23 +47,18 @@ module _ (base : Base) (width : IsWidth base.width) (group : List Positioned)
   meanings : meant ≡ map (λ value. Symbol value) values
   meanings = are_symbols meant none
 
-  none_trail : trailing_fault base meant ≡ None
-  none_trail =
+  plain : plain_fault base meant ≡ None
+  plain =
       let many : length values ≡ group_symbols base.width =
-      sym (length-map values (λ value. Symbol value)) ∙ ap length (sym meanings) ∙ meant_len in
+      omega (arith, simp length-map at (ap length meanings), meant_len) in
       let bits : length (symbol_bits base meant) ≡ 8 * group_bytes base.width =
-      length-bits_of_values base.order base.width values
-      ∙ ap (λ n. base.width * n) many ∙ group_bits base.width width in
+      rw (length-bits_of_values base.order base.width values, many) (group_bits base.width width) in
       let rest : trailing_bits base meant ≡ [] =
       drop_all (length (symbol_bits base meant) / 8 * 8) (symbol_bits base meant)
       (omega (arith, bits)) in
-      rw (rest, and-false base.checks_trailing_bits)
-
-  plain : plain_fault base meant ≡ None
-  plain =
-      plain_fault-valid base meant
-      (ap (is_valid_count base.width) meant_len ∙ whole-valid base.width width)
-      ∙ ap (λ o. fault_at_first o (trailing_fault base meant)) none ∙ none_trail
+      let valid : is_valid_count base.width (length meant) ≡ true =
+      rw meant_len (whole-valid base.width width) in
+      rw (valid, none, rest, and-false base.checks_trailing_bits)
 
   -- a whole group of symbols has no fault, and may be followed
   pub group_fault-symbols : group_fault base (bytes_in group) ≡ None
@@ -77,10 +72,7 @@ module _ (base : Base) (width : IsWidth base.width) (group : List Positioned)
   is_final-symbols = symbols-not_final base meant values meanings
 
 symbol_kept : (m : Character) → is_symbol m ≡ true → not (is_ignored m) ≡ true
-symbol_kept (Symbol value) h = refl
-symbol_kept Padding h = cc
-symbol_kept Ignored h = cc
-symbol_kept Invalid h = cc
+symbol_kept m h = grind arith
 
 pub symbols-positioned : (base : Base) (start : ℕ) (part : List ℕ)
     → AllSo (λ byte. is_symbol (meaning base byte)) part
@@ -92,13 +84,9 @@ symbols-positioned base start (byte ∷ part) h = (h.0, symbols-positioned base 
 pub kept_in-symbols : (base : Base) (start : ℕ) (part : List ℕ)
     → AllSo (λ byte. is_symbol (meaning base byte)) part
     → kept_in base start part ≡ positioned_from start part
-kept_in-symbols base start part h =
-    filter-all (λ (k : Positioned). not (is_ignored (meaning base k.byte)))
-    (positioned_from start part)
-    (all_weaker (λ k. is_symbol (meaning base k.byte) ≡ true)
-    (λ k. not (is_ignored (meaning base k.byte)) ≡ true)
-    (λ k h. symbol_kept (meaning base k.byte) h) (positioned_from start part)
-    (symbols-positioned base start part h))
+kept_in-symbols base start [] h = refl
+kept_in-symbols base start (byte ∷ part) h =
+    rw (symbol_kept (meaning base byte) h.0, kept_in-symbols base (start + 1) part h.1)
 
 -- whole groups of symbols are sound
 pub AreSound-symbols : (base : Base) → IsWidth base.width → (count : ℕ) (ks : List Positioned)
@@ -107,10 +95,7 @@ pub AreSound-symbols : (base : Base) → IsWidth base.width → (count : ℕ) (k
     → AreSound base false (runs (group_symbols base.width) ks) false
 AreSound-symbols base width zero ks len symbols =
     let none = nil_from_length ks (len ∙ zero-mul (group_symbols base.width)) in
-    subst (λ gs. AreSound base false gs false)
-    (sym (ap (runs (group_symbols base.width)) none
-    ∙ runs-nil {X = Positioned} (group_symbols base.width) (group_symbols-pos base.width width)))
-    refl
+    rw (none, runs-nil {X = Positioned} _ (group_symbols-pos base.width width))
 AreSound-symbols base width (suc count) ks len symbols =
     let size = group_symbols base.width in
     let front = take size ks in
@@ -119,14 +104,11 @@ AreSound-symbols base width (suc count) ks len symbols =
     let front_len : length front ≡ size = length-take-le size ks (omega (arith, more)) in
     let back_len : length back ≡ count * size = length-drop size ks ∙ omega (arith, more) in
     let parts = all_parts (λ (k : Positioned). is_symbol (meaning base k.byte) ≡ true) front back
-    (subst (AllSo (λ k. is_symbol (meaning base k.byte))) (sym (take-append-drop size ks))
-    symbols) in
-    subst (λ gs. AreSound base false gs false)
-    (sym (runs-append size front back (group_symbols-pos base.width width) front_len)
-    ∙ ap (runs size) (take-append-drop size ks)) (
+    (rw take-append-drop symbols) in
+    let pos = group_symbols-pos base.width width in
+    rw (runs-first size ks pos (omega (arith, more, pos))) (
       ap (located front) (group_fault-symbols base width front front_len parts.0),
-      subst (λ b. AreSound base b (runs size back) false)
-          (sym (is_final-symbols base width front front_len parts.0))
+      rw (is_final-symbols base width front front_len parts.0)
           (AreSound-symbols base width count back back_len parts.1),
     )
 

@@ -14,13 +14,7 @@ use Rattle.data_encoding.proofs.text.TextMeaningLemmas.{Means-text_of}
 never_both : (xs ys : List ℕ) → IsBefore xs ys → IsBefore ys xs → ⊥
 never_both xs [] h k = h
 never_both [] (y ∷ ys) h k = k
-never_both (x ∷ xs) (y ∷ ys) h k =
-    ⊎_elim
-    (λ (less : x < y). ⊎_elim (λ (more : y < x). omega (arith, less, more))
-    (λ (same : (y ≡ x) × IsBefore ys xs). omega (arith, less, same.0)) k)
-    (λ (here : (x ≡ y) × IsBefore xs ys). ⊎_elim (λ (more : y < x). omega (arith, here.0, more))
-    (λ (same : (y ≡ x) × IsBefore ys xs). never_both xs ys here.1 same.1) k)
-    h
+never_both (x ∷ xs) (y ∷ ys) h k = grind (arith, never_both xs ys)
 
 -- one of two lists comes before the other, or they are equal
 one_of_three : (xs ys : List ℕ) → IsBefore xs ys ⊎ ((xs ≡ ys) ⊎ IsBefore ys xs)

@@ -33,13 +33,11 @@ pairs-ascend (x ∷ xs) h =
     (All-from_recursion (λ y. x < y) xs (above x xs parts.0)) (pairs-ascend xs parts.1)
 
 is_most : (order : BitOrder) → (order_flag order == 8) ≡ true → order ≡ MostSignificantFirst
-is_most MostSignificantFirst h = refl
-is_most LeastSignificantFirst h = cc
+is_most order h = grind arith
 
 -- what shows that a base is ordered
 abbrev is_ascending : Base → Bool
-is_ascending base =
-    (order_flag base.order == 8) && ascends base.symbols && is_none base.padding
+is_ascending base = (order_flag base.order == 8) && ascends base.symbols && is_none base.padding
 
 is_ordered : (base : Base) → is_ascending base ≡ true → IsOrdered base
 is_ordered base h =
@@ -49,13 +47,11 @@ is_ordered base h =
     record {
       most_significant_first = is_most base.order first.0;
       ascending = pairs-ascend base.symbols first.1;
-      padding_first =
-          λ character padded. absurd (false≢true (sym (ap is_none padded) ∙ both.1));
+      padding_first = λ character padded. absurd (false≢true (sym (ap is_none padded) ∙ both.1));
     }
 
 pub six-ordered : All (Yields IsOrdered) ordered_fields
-six-ordered =
-    yields_all IsOrdered is_ascending (λ base ruled. is_ordered base) ordered_fields refl
+six-ordered = yields_all IsOrdered is_ascending (λ base ruled. is_ordered base) ordered_fields refl
 
 -- a symbol that is not below the next
 abbrev Descends : ℕ → Base → Type 0
@@ -94,29 +90,15 @@ least_first fields h base is ordered =
 
 pub ten-not : All (Yields (λ base. IsOrdered base → ⊥)) unordered_fields
 ten-not =
-    let first = descends 25 base32_fields (refl, refl) in
-    let second = descends 25 base32_nopad_fields (refl, refl) in
-    let third = descends 25 base32_nopad_nocase_fields (refl, refl) in
-    let fourth = descends 25 base32_nopad_visual_fields (refl, refl) in
-    let fifth = padded_later base32hex_fields (refl, refl, refl) in
-    let sixth = least_first base32_dnscurve_fields refl in
-    let seventh = descends 51 base64_fields (refl, refl) in
-    let eighth = descends 51 base64_nopad_fields (refl, refl) in
-    let ninth = descends 51 base64url_fields (refl, refl) in
-    let tenth = descends 51 base64url_nopad_fields (refl, refl) in
-    All-from_recursion (Yields (λ base. IsOrdered base → ⊥)) unordered_fields (
-      first,
-      (
-        second,
-        (
-          third,
-          (
-            fourth,
-            (
-              fifth,
-              (sixth, (seventh, (eighth, (ninth, (tenth, tt))))),
-            ),
-          ),
-        ),
-      ),
-    )
+    let one = descends 25 base32_fields (refl, refl) in
+    let two = descends 25 base32_nopad_fields (refl, refl) in
+    let three = descends 25 base32_nopad_nocase_fields (refl, refl) in
+    let four = descends 25 base32_nopad_visual_fields (refl, refl) in
+    let five = padded_later base32hex_fields (refl, refl, refl) in
+    let six = least_first base32_dnscurve_fields refl in
+    let seven = descends 51 base64_fields (refl, refl) in
+    let eight = descends 51 base64_nopad_fields (refl, refl) in
+    let nine = descends 51 base64url_fields (refl, refl) in
+    let ten = descends 51 base64url_nopad_fields (refl, refl) in
+    All-from_recursion (Yields (λ base. IsOrdered base → ⊥)) unordered_fields
+    (one, (two, (three, (four, (five, (six, (seven, (eight, (nine, (ten, tt))))))))))

@@ -5,7 +5,7 @@ use Rattle.std.proofs.lemmas.Bool.{cases_lt}
 use Rattle.std.proofs.lemmas.List.{length-reverse, reverse-append, length-drop}
 use Rattle.std.specs.List.{AllByRecursion}
 use Rattle.data_encoding.specs.declared.encoding.BitOrder.TheVariants.{MostSignificantFirst}
-use Rattle.data_encoding.specs.Bits.{low_bits, number_of_low_bits, bits_of, number_of, bits_of_bytes}
+use Rattle.data_encoding.specs.Bits.{low_bits, bits_of, number_of, bits_of_bytes}
 use Rattle.data_encoding.specs.Order.{IsBefore}
 use Rattle.data_encoding.proofs.digits.BitLemmas.{AreBits, length-bits_of, number_of-below}
 use Rattle.data_encoding.proofs.digits.WordLemmas.{number-append, number-zeros, reverse-zeros}
@@ -52,25 +52,19 @@ front-short (suc n) (x ∷ xs) h =
 
 pub front_number-below : (n : ℕ) (xs : List ℕ) → AreBits xs → front_number n xs < 2 ^ n
 front_number-below n xs h =
-    subst (λ k. front_number n xs < 2 ^ k) (length-front n xs)
-    (number_of-below MostSignificantFirst (front n xs) (AreBits-front n xs h))
+    rw length-front at (number_of-below MostSignificantFirst (front n xs) (AreBits-front n xs h))
 
 -- no bits
 front_number-nil : (n : ℕ) → front_number n [] ≡ 0
-front_number-nil n =
-    ap (λ l. number_of_low_bits (reverse l)) (front-nil n)
-    ∙ ap number_of_low_bits (reverse-zeros n) ∙ number-zeros n
+front_number-nil n = rw (front-nil n, reverse-zeros n) (number-zeros n)
 
 -- a bit more
 front_number-cons : (n x : ℕ) (xs : List ℕ)
     → front_number (suc n) (x ∷ xs) ≡ front_number n xs + 2 ^ n * x
 front_number-cons n x xs =
     let bits = front n xs in
-    let alone : x + 2 * 0 ≡ x = omega arith in
-    ap number_of_low_bits (reverse-append (x ∷ []) bits)
-    ∙ number-append (reverse bits) (x ∷ [])
-    ∙ (λ i. number_of_low_bits (reverse bits)
-    + 2 ^ (length-reverse bits ∙ length-front n xs) i * alone i)
+    rw (reverse-append (x ∷ []) bits, number-append (reverse bits) (x ∷ []))
+    (rw (length-reverse bits, length-front n xs) (omega arith))
 
 -- The first of two lists comes before the second: by their first difference, or as a front of it
 -- that lacks at least so many.
@@ -88,10 +82,7 @@ before-behind n (x ∷ same) xs ys h = inr (refl, before-behind n same xs ys h)
 bits_of-last : (count x : ℕ) (xs : List ℕ)
     → bits_of MostSignificantFirst (suc count) x ++ xs
     ≡ bits_of MostSignificantFirst count (x / 2) ++ (x % 2 ∷ xs)
-bits_of-last count x xs =
-    let bits = low_bits count (x / 2) in
-    ap (λ l. l ++ xs) (reverse-append (x % 2 ∷ []) bits)
-    ∙ append_assoc (reverse bits) (x % 2 ∷ []) xs
+bits_of-last count x xs = rw (reverse-append (x % 2 ∷ []) (low_bits count (x / 2)), append_assoc)
 
 -- the bits of a lesser number, whatever follows
 before-bits : (n count x y : ℕ) (xs ys : List ℕ) → x < y → y < 2 ^ count
@@ -100,22 +91,15 @@ before-bits : (n count x y : ℕ) (xs ys : List ℕ) → x < y → y < 2 ^ count
 before-bits n zero x y xs ys h k = absurd (omega (arith, h, k))
 before-bits n (suc count) x y xs ys h k =
     let below : y < 2 * 2 ^ count = subst (λ m. y < m) (pow-succ' 2 count) k in
-    let goal : IsBeforeBy n (bits_of MostSignificantFirst count (x / 2) ++ (x % 2 ∷ xs))
-    (bits_of MostSignificantFirst count (y / 2) ++ (y % 2 ∷ ys)) =
-    ⊎_elim
+    rw (bits_of-last count x xs, bits_of-last count y ys)
+    (⊎_elim
     (λ (less : x / 2 < y / 2).
     before-bits n count (x / 2) (y / 2) (x % 2 ∷ xs) (y % 2 ∷ ys) less (omega (arith, below)))
     (λ (more : y / 2 ≤ x / 2).
     let same : y / 2 ≡ x / 2 = omega (arith, h, more) in
-    subst (λ half. IsBeforeBy n (bits_of MostSignificantFirst count (x / 2) ++ (x % 2 ∷ xs))
-    (bits_of MostSignificantFirst count half ++ (y % 2 ∷ ys))) (sym same)
-    (before-behind n (bits_of MostSignificantFirst count (x / 2)) (x % 2 ∷ xs) (y % 2 ∷ ys)
+    rw same (before-behind n (bits_of MostSignificantFirst count (x / 2)) (x % 2 ∷ xs) (y % 2 ∷ ys)
     (inl (omega (arith, h, same)))))
-    (cases_lt (x / 2) (y / 2)) in
-    subst (λ l. IsBeforeBy n l (bits_of MostSignificantFirst (suc count) y ++ ys))
-    (sym (bits_of-last count x xs))
-    (subst (λ l. IsBeforeBy n (bits_of MostSignificantFirst count (x / 2) ++ (x % 2 ∷ xs)) l)
-    (sym (bits_of-last count y ys)) goal)
+    (cases_lt (x / 2) (y / 2)))
 
 -- bytes in order have bits in order
 pub before-bytes : (bytes others : List ℕ) → AllByRecursion (λ byte. byte < 256) others
@@ -125,19 +109,14 @@ pub before-bytes : (bytes others : List ℕ) → AllByRecursion (λ byte. byte <
 before-bytes [] [] all h = absurd h
 before-bytes (x ∷ xs) [] all h = absurd h
 before-bytes [] (y ∷ ys) all h =
-    omega (
-      arith,
-      length-append (bits_of MostSignificantFirst 8 y) (bits_of_bytes MostSignificantFirst ys),
-      length-bits_of MostSignificantFirst 8 y,
-    )
+    omega (arith, length-append {A = ℕ}, length-bits_of MostSignificantFirst 8 y)
 before-bytes (x ∷ xs) (y ∷ ys) all h =
     let bits = bits_of_bytes MostSignificantFirst xs in
     let more = bits_of_bytes MostSignificantFirst ys in
     ⊎_elim
     (λ (less : x < y). before-bits 8 8 x y bits more less all.0)
     (λ (same : (x ≡ y) × IsBefore xs ys).
-    subst (λ z. IsBeforeBy 8 (bits_of MostSignificantFirst 8 x ++ bits)
-    (bits_of MostSignificantFirst 8 z ++ more)) same.0
+    rw (← same.0)
     (before-behind 8 (bits_of MostSignificantFirst 8 x) bits more
     (before-bytes xs ys all.1 same.1)))
     h

@@ -1,5 +1,5 @@
 -- Data whose texts are not in order.
-use Rattle.std.proofs.Common.{◌≡◌, ℕ, zero, suc, ◌+◌, ◌-◌, ◌*◌, ◌/◌, ◌%◌, ◌^◌, ◌<◌, ◌≤◌, List, [], ◌∷◌, ◌++◌, length, take, drop, replicate, reverse, All, Option, Some, None, refl, sym, ap, ◌∙◌, subst, arith, inl, inr, ◌⊎◌, ⊎_elim, get_or}
+use Rattle.std.proofs.Common.{◌≡◌, ℕ, zero, suc, ◌+◌, ◌-◌, ◌*◌, ◌/◌, ◌%◌, ◌^◌, ◌<◌, ◌≤◌, List, [], ◌∷◌, ◌++◌, length, take, drop, replicate, reverse, All, Option, Some, None, refl, sym, ap, ◌∙◌, subst, arith, inl, inr, ◌⊎◌, ⊎_elim}
 use Rattle.std.proofs.Math.Nat.{mul-lt-mul_of_pos_right}
 use Rattle.std.proofs.lemmas.Bool.{cases_lt}
 use Rattle.std.proofs.lemmas.Nat.{div-mul-add, pow_pos, pow-add}
@@ -7,7 +7,7 @@ use Rattle.std.proofs.lemmas.List.{append-nil, take_at, get_or_default, reverse-
 use Rattle.std.proofs.lemmas.List.Elements.{All-from_recursion, All-from_get_or}
 use Rattle.data_encoding.specs.declared.encoding.BitOrder.{BitOrder}
 use Rattle.data_encoding.specs.declared.encoding.BitOrder.TheVariants.{MostSignificantFirst, LeastSignificantFirst}
-use Rattle.data_encoding.specs.Base.{Base, IsWidth, meaning, symbol, value_of, group_symbols}
+use Rattle.data_encoding.specs.Base.{Base, IsWidth, symbol, group_symbols}
 use Rattle.data_encoding.specs.Bits.{low_bits, bits_of, number_of, bits_of_bytes, missing}
 use Rattle.data_encoding.specs.Order.{IsBefore, IsOrdered, KeepsOrder, BreaksOrder, IsBroken}
 use Rattle.data_encoding.specs.Text.{with_padding, plain_text, text_of}
@@ -147,35 +147,27 @@ module _ (base : Base) (ruled : IsRuled base) (unwrapped : base.wrapping ≡ Non
         in_order = inl less;
         not_in_order =
             λ before. not-descending [] (symbol base value) (symbol base next) one.0 two.0 descends
-            (subst (λ l. IsBefore l (symbol base next ∷ two.0))
-            (one.1 ∙ ap (λ v. symbol base v ∷ one.0) is)
-            (subst (IsBefore (text_of base (byte ∷ []))) (two.1
-            ∙ ap (λ v. symbol base v ∷ two.0) is_next) before));
+            (rw (one.1, two.1, is, is_next) at before);
       }
 
   symbols-differ : (a b : ℕ) → a < b → b < 2 ^ base.width → symbol base a ≡ symbol base b → ⊥
   symbols-differ a b h k same =
       let one = (ruled.own a (omega (arith, h, k, ruled.count))).1 in
       let two = (ruled.own b (omega (arith, k, ruled.count))).1 in
-      let equal : Some a ≡ Some b =
-      ap value_of (sym one ∙ ap (meaning base) same ∙ two) in
       let value : a ≡ b = cc in
-      absurd (omega (arith, h, value))
+      omega arith
 
   breaks-least : base.order ≡ LeastSignificantFirst
       → BreaksOrder base (0 ∷ []) (1 ∷ []) ⊎ BreaksOrder base (1 ∷ []) (2 ^ base.width ∷ [])
   breaks-least is =
       let rows = first-least base.width ruled.is_width in
-      let first : (byte value : ℕ) → first_value base.width LeastSignificantFirst byte ≡ value
-      → first_value base.width base.order byte ≡ value =
-      λ byte value e. ap (λ o. first_value base.width o byte) is ∙ e in
       ⊎_elim
       (λ (less : symbol base 1 < symbol base 0).
-      inl (breaks 0 1 0 1 (first 0 0 rows.0) (first 1 1 rows.1) (omega arith) (omega arith) less))
+      inl (breaks 0 1 0 1 (rw is rows.0) (rw is rows.1) (omega arith) (omega arith) less))
       (λ (more : symbol base 0 ≤ symbol base 1).
       let differ : symbol base 0 ≡ symbol base 1 → ⊥ =
       symbols-differ 0 1 (omega arith) rows.4 in
-      inr (breaks 1 (2 ^ base.width) 1 0 (first 1 1 rows.1) (first (2 ^ base.width) 0 rows.2) rows.4
+      inr (breaks 1 (2 ^ base.width) 1 0 (rw is rows.1) (rw is rows.2) rows.4
       rows.3 (omega (arith, more, differ))))
       (cases_lt (symbol base 1) (symbol base 0))
 
@@ -188,8 +180,7 @@ module _ (base : Base) (ruled : IsRuled base) (unwrapped : base.wrapping ≡ Non
       let whole : above + base.width ≡ 8 = omega (arith, ruled.is_width.few) in
       let first : (v : ℕ) → v < 2 ^ base.width
       → first_value base.width base.order (v * 2 ^ above) ≡ v =
-      λ v h. ap (λ o. first_value base.width o (v * 2 ^ above)) is
-      ∙ first-most base.width above v whole h in
+      λ v h. rw is (first-most base.width above v whole h) in
       let in_order = shifted-in_order above value in
       breaks (value * 2 ^ above) ((value + 1) * 2 ^ above) value (value + 1)
       (first value (omega (arith, within))) (first (value + 1) within) in_order
@@ -201,9 +192,7 @@ module _ (base : Base) (ruled : IsRuled base) (unwrapped : base.wrapping ≡ Non
   breaks-padding is character padded later =
       let written : (bytes : List ℕ)
       → text_of base bytes ≡ padded_by base character base.width bytes =
-      λ bytes. text_of-unwrapped base bytes unwrapped
-      ∙ (λ i. with_padding (padded i) (group_symbols base.width)
-      (text_by base base.width (is i) (bits_of_bytes (is i) bytes))) in
+      λ bytes. rw (unwrapped, padded, is) in
       let rule = (subst (λ o. IsRuledPadding base o) padded ruled.padding).2 in
       record {
         are_bytes = one_byte 0 (omega arith);
@@ -213,9 +202,7 @@ module _ (base : Base) (ruled : IsRuled base) (unwrapped : base.wrapping ≡ Non
         not_in_order =
             λ before. padding-not_before base character later base.width ruled.is_width
             (test_apart (8 % base.width) 0 rule)
-            (subst (λ l. IsBefore l (padded_by base character base.width (0 ∷ 0 ∷ [])))
-            (written (0 ∷ []))
-            (subst (IsBefore (text_of base (0 ∷ []))) (written (0 ∷ 0 ∷ [])) before));
+            (rw (written (0 ∷ []), written (0 ∷ 0 ∷ [])) at before);
       }
 
   pub IsBroken-ruled : IsBroken base
@@ -250,9 +237,8 @@ module _ (base : Base) (ruled : IsRuled base) (unwrapped : base.wrapping ≡ Non
     all-above : (a b : ℕ) → a < b → b < 2 ^ base.width → symbol base a < symbol base b
     all-above a zero h k = absurd (omega (arith, h))
     all-above a (suc b) h k =
-        let next : symbol base b < symbol base (suc b) =
-        subst (λ n. symbol base b < symbol base n) (let e : b + 1 ≡ suc b = omega arith in e)
-        (next-above b (omega (arith, k))) in
+        let one : b + 1 ≡ suc b = omega arith in
+        let next = rw one at (next-above b (omega (arith, k))) in
         ⊎_elim
         (λ (less : a < b). let below = all-above a b less (omega (arith, k)) in
         omega (arith, below, next))
@@ -271,8 +257,6 @@ module _ (base : Base) (ruled : IsRuled base) (unwrapped : base.wrapping ≡ Non
         λ same.
         let zero_is = (ruled.own 0 (omega (arith, pow_pos base.width, ruled.count))).1 in
         let padding_is = (subst (λ o. IsRuledPadding base o) padded ruled.padding).1 in
-        let equal : Some 0 ≡ None =
-        ap value_of (sym zero_is ∙ ap (meaning base) same ∙ padding_is) in
         cc in
         omega (arith, never, differ)
 
@@ -284,12 +268,9 @@ module _ (base : Base) (ruled : IsRuled base) (unwrapped : base.wrapping ≡ Non
           most_significant_first = most-first base.order refl;
           ascending =
               λ i j d less inside.
-              let here : get_or base.symbols i d ≡ symbol base i =
-              get_or_default base.symbols i d 0 (omega (arith, less, inside)) in
-              let there : get_or base.symbols j d ≡ symbol base j =
-              get_or_default base.symbols j d 0 inside in
-              let above = all-above i j less (within j inside) in
-              omega (arith, here, there, above);
+              rw (get_or_default base.symbols i d 0 (omega (arith, less, inside)))
+              (rw (get_or_default base.symbols j d 0 inside)
+              (all-above i j less (within j inside)));
           padding_first =
               λ character padded.
               let below = padding-below character padded in

@@ -1,5 +1,5 @@
 -- An ordered base keeps the order of data.
-use Rattle.std.proofs.Common.{◌≡◌, ℕ, zero, suc, ◌-◌, ◌%◌, ◌^◌, ◌<◌, ◌≤◌, List, [], ◌∷◌, ◌++◌, length, map, take, drop, replicate, All, Option, Some, None, refl, sym, ap, ◌∙◌, subst, arith, inl, inr, ⊎_elim, take-append-drop, length-take-le}
+use Rattle.std.proofs.Common.{◌≡◌, ℕ, zero, suc, ◌-◌, ◌%◌, ◌^◌, ◌<◌, ◌≤◌, List, [], ◌∷◌, ◌++◌, length, take, drop, replicate, All, Option, Some, None, refl, ap, ◌∙◌, arith, inl, inr, ⊎_elim, take-append-drop, length-take-le}
 use Rattle.std.proofs.Math.Nat.{mod-eq_of_lt, mod_self}
 use Rattle.std.proofs.lemmas.Bool.{cases_lt}
 use Rattle.std.proofs.lemmas.List.{append-nil, drop_all, length-drop}
@@ -9,12 +9,11 @@ use Rattle.data_encoding.specs.declared.encoding.BitOrder.TheVariants.{MostSigni
 use Rattle.data_encoding.specs.Base.{Base, symbol, group_symbols}
 use Rattle.data_encoding.specs.Bits.{bits_of, number_of, bits_of_bytes, missing, runs}
 use Rattle.data_encoding.specs.Order.{IsBefore, IsOrdered, KeepsOrder}
-use Rattle.data_encoding.specs.Text.{filled_with, with_padding, padded_text, text_of}
+use Rattle.data_encoding.specs.Text.{filled_with, with_padding}
 use Rattle.data_encoding.proofs.digits.BitLemmas.{AreBits, AreBits-bits_of, AreBits-drop, AreBits-flat_map}
 use Rattle.data_encoding.proofs.lists.RunLemmas.{runs-append, runs-nil, runs-short}
 use Rattle.data_encoding.proofs.order.FrontLemmas.{front, front_number, front-long, front-short, front_number-below, length-front, front-compared, before-bytes, IsBeforeBy, IsRestBefore}
 use Rattle.data_encoding.proofs.judgement.RuleLemmas.{IsRuled}
-use Rattle.data_encoding.proofs.text.PaddedTextLemmas.{text_of-unwrapped}
 use Rattle.data_encoding.proofs.text.PlainTextLemmas.{filled-join, filled-whole, missing-some, text_by}
 
 module _ (base : Base) (width : ℕ) (order : BitOrder) (some : 0 < width) where
@@ -22,9 +21,7 @@ module _ (base : Base) (width : ℕ) (order : BitOrder) (some : 0 < width) where
   shown_run run = symbol base (number_of order run)
 
   text_by-nil : text_by base width order [] ≡ []
-  text_by-nil =
-      ap (λ l. map shown_run (runs width l)) (filled-whole 0 width [] (mod-eq_of_lt some))
-      ∙ ap (map shown_run) (runs-nil {X = ℕ} width some)
+  text_by-nil = rw (filled-whole 0 width [] (mod-eq_of_lt some), runs-nil {X = ℕ} width some)
 
   -- the first symbol, and the text of the bits behind its own
   pub text_by-first : (bits : List ℕ) → 0 < length bits
@@ -38,26 +35,21 @@ module _ (base : Base) (width : ℕ) (order : BitOrder) (some : 0 < width) where
       missing-some width (length bits) some (omega (arith, small, more))
       ∙ ap (λ r. width - r) small in
       let all : filled_with 0 width bits ≡ front width bits =
-      ap (λ n. bits ++ replicate n 0) lack
-      ∙ sym (front-short width bits (omega (arith, short))) in
+      rw (lack, front-short width bits (omega (arith, short))) in
       let one : runs width (front width bits) ≡ front width bits ∷ [] =
       runs-short width (front width bits) (omega (arith, length-front width bits, some))
       (omega (arith, length-front width bits)) in
       let none : drop width bits ≡ [] = drop_all width bits (omega (arith, short)) in
-      ap (λ l. map shown_run (runs width l)) all ∙ ap (map shown_run) one
-      ∙ ap (λ l. shown_run (front width bits) ∷ l)
-      (sym (ap (text_by base width order) none ∙ text_by-nil)))
+      rw (none, text_by-nil, all, one))
       (λ (long : width ≤ length bits).
       let first = take width bits in
       let rest = drop width bits in
       let len : length first ≡ width = length-take-le width bits long in
       let parts : filled_with 0 width bits ≡ first ++ filled_with 0 width rest =
-      ap (filled_with 0 width) (sym (take-append-drop width bits))
-      ∙ filled-join 0 width first rest some (ap (λ n. n % width) len ∙ mod_self width) in
-      ap (λ l. map shown_run (runs width l)) parts
-      ∙ ap (map shown_run) (runs-append width first (filled_with 0 width rest) some len)
-      ∙ ap (λ l. shown_run l ∷ text_by base width order rest)
-      (sym (front-long width bits long)))
+      rw take-append-drop
+      at (filled-join 0 width first rest some (rw len (mod_self width))) in
+      rw (parts, runs-append width first (filled_with 0 width rest) some len)
+      (rw (front-long width bits long)))
       (cases_lt (length bits) width)
 
 -- Symbols of some bits each, that ascend; and what may stand behind a text, before each symbol.
@@ -75,13 +67,8 @@ module _ (base : Base) (width : ℕ) (some : 0 < width) (few : width < 8)
   before-some : (xs ys other : List ℕ) → AreBits ys → xs ≡ [] → 0 < length ys
       → IsBefore (shown xs ++ end) (shown ys ++ other)
   before-some xs ys other are none more =
-      let nothing : shown xs ++ end ≡ end =
-      ap (λ l. shown l ++ end) none
-      ∙ ap (λ l. l ++ end) (text_by-nil base width MostSignificantFirst some) in
-      let first : shown ys ++ other ≡ first_symbol ys ∷ (shown (drop width ys) ++ other) =
-      ap (λ l. l ++ other) (text_by-first base width MostSignificantFirst some ys more) in
-      subst (λ l. IsBefore l (shown ys ++ other)) (sym nothing)
-      (subst (IsBefore end) (sym first)
+      rw (none, text_by-nil base width MostSignificantFirst some)
+      (rw (text_by-first base width MostSignificantFirst some ys more)
       (low (front_number width ys) (front_number-below width ys are)
       (shown (drop width ys) ++ other)))
 
@@ -97,13 +84,9 @@ module _ (base : Base) (width : ℕ) (some : 0 < width) (few : width < 8)
       let two = y ∷ ys in
       let len : length (drop width one) ≤ n =
       omega (arith, length-drop width one, some, bound) in
-      let first : shown one ++ end ≡ first_symbol one ∷ (shown (drop width one) ++ end) =
-      ap (λ l. l ++ end) (text_by-first base width MostSignificantFirst some one (omega arith)) in
-      let second : shown two ++ other ≡ first_symbol two ∷ (shown (drop width two) ++ other) =
-      ap (λ l. l ++ other) (text_by-first base width MostSignificantFirst some two (omega arith)) in
-      let goal : IsBefore (first_symbol one ∷ (shown (drop width one) ++ end))
-      (first_symbol two ∷ (shown (drop width two) ++ other)) =
-      ⊎_elim
+      rw (text_by-first base width MostSignificantFirst some one (omega arith))
+      (rw (text_by-first base width MostSignificantFirst some two (omega arith))
+      (⊎_elim
       (λ (less : front_number width one < front_number width two).
       inl (ascends (front_number width one) (front_number width two) less
       (front_number-below width two k)))
@@ -120,9 +103,7 @@ module _ (base : Base) (width : ℕ) (some : 0 < width) (few : width < 8)
             (AreBits-drop width two k) rest)
             same.1,
       ))
-      (front-compared 8 width one two few h k before) in
-      subst (λ l. IsBefore l (shown two ++ other)) (sym first)
-      (subst (IsBefore (first_symbol one ∷ (shown (drop width one) ++ end))) (sym second) goal)
+      (front-compared 8 width one two few h k before)))
 
   pub before-texts : (bytes others other : List ℕ) → All (λ byte. byte < 256) others
       → IsBefore bytes others
@@ -153,11 +134,7 @@ module _ (base : Base) where
 
   pub KeepsOrder-ordered : IsRuled base → base.wrapping ≡ None → IsOrdered base → KeepsOrder base
   KeepsOrder-ordered ruled unwrapped ordered bytes others all all_others before =
-      subst (λ l. IsBefore l (text_of base others)) (sym (text_of-unwrapped base bytes unwrapped))
-      (subst (IsBefore (padded_text base bytes)) (sym (text_of-unwrapped base others unwrapped))
-      (subst (λ order. IsBefore (with_padding base.padding size (text_in order bytes))
-      (with_padding base.padding size (text_in order others)))
-      (sym ordered.most_significant_first) (by_padding base.padding refl))) where
+      rw (unwrapped, ordered.most_significant_first) (by_padding base.padding refl) where
         ascends : (a b : ℕ) → a < b → b < 2 ^ base.width → symbol base a < symbol base b
         ascends a b h k = ordered.ascending a b 0 h (omega (arith, k, ruled.count))
 
@@ -173,12 +150,7 @@ module _ (base : Base) where
         by_padding : (o : Option ℕ) → base.padding ≡ o
             → IsBefore (with_padding o size (text_in MostSignificantFirst bytes))
             (with_padding o size (text_in MostSignificantFirst others))
-        by_padding None none =
-            subst (λ l. IsBefore l (text_in MostSignificantFirst others))
-            (append-nil (text_in MostSignificantFirst bytes))
-            (subst (IsBefore (text_in MostSignificantFirst bytes ++ []))
-            (append-nil (text_in MostSignificantFirst others))
-            (texts [] (λ value h rest. tt) []))
+        by_padding None none = simp append-nil at (texts [] (λ value h rest. tt) [])
         by_padding (Some character) is =
             let low : (value : ℕ) → value < 2 ^ base.width → character < symbol base value =
             λ value h. ordered.padding_first character is value 0

@@ -1,14 +1,16 @@
 -- Blocks of data, which are whole groups or whole lines: how long their texts are.
-use Rattle.std.proofs.Common.{◌≡◌, ℕ, ◌+◌, ◌*◌, ◌/◌, ◌%◌, ◌<◌, ◌≤◌, Some, None, List, length, sym, ap, ◌∙◌, subst, arith}
+use Rattle.std.proofs.Common.{◌≡◌, ℕ, ◌+◌, ◌*◌, ◌/◌, ◌%◌, ◌<◌, ◌≤◌, Some, None, List, length, ap, arith}
 use Rattle.std.proofs.Math.Nat.{div-mul-le_self, mul-pos, mul-le-mul_left, mul-mod_left}
 use Rattle.std.proofs.lemmas.Nat.{le-div}
+use Rattle.std.proofs.lemmas.Bool.Decides.{nat_tests}
 use Rattle.data_encoding.specs.Base.{Base, IsWidth, Wrapping, group_bytes, group_symbols}
 use Rattle.data_encoding.specs.Lengths.{IsBlockLength, align_by, alignment}
 use Rattle.data_encoding.specs.Text.{text_of}
-use Rattle.data_encoding.proofs.digits.WidthLemmas.{by_width, group_bytes-few, group_bytes-pos, group_symbols-few}
+use Rattle.data_encoding.proofs.digits.WidthLemmas.{group_bytes-few, group_bytes-pos, group_symbols-few}
 use Rattle.data_encoding.proofs.judgement.RuleLemmas.{IsRuled}
 use Rattle.data_encoding.proofs.text.LineLemmas.{alignment-is, alignment-some, are, column-is, groups, padded-fits, short-lines}
 use Rattle.data_encoding.proofs.text.PaddedTextLemmas.{text_of-unwrapped}
+use Rattle.data_encoding.proofs.grammar.LengthLemmas.{widths}
 
 -- lines of whole groups that are below 256: their characters, and their bytes
 abbrev FewColumns : ℕ → Type 0
@@ -17,13 +19,7 @@ FewColumns width =
     → (column ≤ 254) × (column * width / 8 ≤ 189)
 
 pub few-columns : (width : ℕ) → IsWidth width → FewColumns width
-few-columns =
-    by_width FewColumns (λ column short whole. (omega arith, omega arith))
-    (λ column short whole. (omega arith, omega arith))
-    (λ column short whole. (omega arith, omega arith))
-    (λ column short whole. (omega arith, omega arith))
-    (λ column short whole. (omega arith, omega arith))
-    (λ column short whole. (omega arith, omega arith))
+few-columns width is column short whole = grind (arith, nat_tests, widths width is)
 
 module _ (base : Base) (ruled : IsRuled base) where
   -- a group
@@ -31,16 +27,12 @@ module _ (base : Base) (ruled : IsRuled base) where
   IsBlockLength-group none =
       let is : alignment base ≡ group_bytes base.width = ap (λ o. align_by o base.width) none in
       record {
-        some = subst (λ n. 0 < n) (sym is) (group_bytes-pos base.width ruled.is_width);
-        no_shorter =
-            subst (λ n. n ≤ group_symbols base.width) (sym is)
-            (group_bytes-few base.width ruled.is_width);
+        some = rw is (group_bytes-pos base.width ruled.is_width);
+        no_shorter = rw is (group_bytes-few base.width ruled.is_width);
         few = omega (arith, group_symbols-few base.width ruled.is_width);
         fits = λ count bytes few.
-            subst (λ l. length l ≤ count * group_symbols base.width)
-            (sym (text_of-unwrapped base bytes none))
-            (padded-fits base ruled.is_width bytes count
-            (subst (λ n. length bytes ≤ count * n) is few));
+            rw (text_of-unwrapped base bytes none)
+            (padded-fits base ruled.is_width bytes count (rw is at few));
       }
 
   -- a line with its separator
@@ -51,19 +43,13 @@ module _ (base : Base) (ruled : IsRuled base) where
       record {
         some = alignment-some base ruled lines some;
         no_shorter =
-            omega (
-              arith,
-              alignment-is base ruled lines some,
-              column-is base ruled lines some,
-              mul-le-mul_left (groups base ruled lines some)
-                  (group_bytes-few base.width ruled.is_width),
-            );
+            let fewer = mul-le-mul_left (groups base ruled lines some)
+            (group_bytes-few base.width ruled.is_width) in
+            omega (arith, alignment-is base ruled lines some, column-is base ruled lines some);
         few =
-            omega (
-              arith,
-              (few-columns base.width ruled.is_width lines.column rules.short rules.whole).0,
-              rules.ends_short,
-            );
+            let short = few-columns base.width ruled.is_width lines.column rules.short
+            rules.whole in
+            omega arith;
         fits = λ count bytes few. short-lines base ruled lines some count bytes few;
       }
 
@@ -75,12 +61,7 @@ module _ (base : Base) (len : ℕ) (is : IsBlockLength base len) (room size : �
 
   pub piece-few : room / len * size ≤ room
   piece-few =
-      omega (
-        arith,
-        size-same,
-        mul-le-mul_left (room / len) is.no_shorter,
-        div-mul-le_self room len,
-      )
+      omega (arith, size-same, mul-le-mul_left (room / len) is.no_shorter, div-mul-le_self room len)
 
   pub piece-some : 510 ≤ room → 0 < room / len * size
   piece-some most =
@@ -89,13 +70,9 @@ module _ (base : Base) (len : ℕ) (is : IsBlockLength base len) (room size : �
       omega (arith, size-same, mul-pos one is.some)
 
   pub piece-whole : room / len * size % alignment base ≡ 0
-  piece-whole = ap (λ n. n % alignment base) size-same ∙ mul-mod_left (room / len) (alignment base)
+  piece-whole = rw size-same (mul-mod_left (room / len) (alignment base))
 
   pub piece-fits : (bytes : List ℕ) → length bytes ≤ room / len * size
       → length (text_of base bytes) ≤ room
   piece-fits bytes few =
-      omega (
-        arith,
-        is.fits (room / len) bytes (subst (λ n. length bytes ≤ n) size-same few),
-        div-mul-le_self room len,
-      )
+      omega (arith, is.fits (room / len) bytes (rw size-same at few), div-mul-le_self room len)

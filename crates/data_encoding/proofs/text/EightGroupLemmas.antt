@@ -22,8 +22,7 @@ use Rattle.data_encoding.proofs.text.PlainTextLemmas.{plain_text-join, plain_tex
 map-pieces : {X Y Z : Type 0} (f : Y → Z) (g : X → List Y) (xs : List X)
     → map f (flat_map g xs) ≡ flat_map (λ x. map f (g x)) xs
 map-pieces f g [] = refl
-map-pieces f g (x ∷ xs) =
-    map-append f (g x) (flat_map g xs) ∙ ap (λ l. map f (g x) ++ l) (map-pieces f g xs)
+map-pieces f g (x ∷ xs) = simp (map-append, map-pieces f g xs)
 
 module _ (base : Base) (order : BitOrder) (width bytes count : ℕ) (symbols : List ℕ)
     (group : IsGroup width bytes count) (writes : Writes base symbols width order) where
@@ -67,8 +66,7 @@ module _ (base : Base) (order : BitOrder) (width bytes count : ℕ) (symbols : L
       ≡ plain_text base (take (bytes * n) (drop (bytes * start) input))
   groups_text input zero start h =
       let none : bytes * 0 ≡ 0 = omega arith in
-      sym (ap (λ m. plain_text base (take m (drop (bytes * start) input))) none
-      ∙ plain_text-nil base writes.holds.is_width.some)
+      rw none (sym (plain_text-nil base writes.holds.is_width.some))
   groups_text input (suc n) start h =
       let rest = drop (bytes * start) input in
       let front = take bytes rest in

@@ -1,12 +1,11 @@
 -- Texts of the same data in two encodings that differ in their symbols alone.
-use Rattle.std.proofs.Common.{◌≡◌, ℕ, ◌^◌, ◌<◌, List, [], ◌∷◌, ◌++◌, length, map, replicate, Option, Some, None, is_some, unwrap_or, refl, sym, ap, ◌∙◌, subst}
+use Rattle.std.proofs.Common.{◌≡◌, ℕ, ◌^◌, ◌<◌, List, [], ◌∷◌, ◌++◌, length, map, Option, Some, None, is_some, refl, sym, subst}
 use Rattle.std.proofs.lemmas.List.{length-map, map-append}
 use Rattle.std.specs.Prelude.{flat_map}
 use Rattle.std.specs.List.{AllByRecursion}
 use Rattle.data_encoding.specs.declared.encoding.Character.TheVariants.{Ignored, Padding}
 use Rattle.data_encoding.specs.Base.{Base, Wrapping, meaning, symbol, group_symbols}
 use Rattle.data_encoding.specs.Bits.{bits_of_bytes, missing, number_of, runs}
-use Rattle.data_encoding.specs.Layout.{own_character}
 use Rattle.data_encoding.specs.SameMeaning.{DifferInSymbols, exchanged}
 use Rattle.data_encoding.specs.Text.{filled_with, in_lines, padded_text, plain_text, text_of, with_padding}
 use Rattle.data_encoding.proofs.digits.WordLemmas.{map-twice}
@@ -22,33 +21,23 @@ module _ (base other : Base) (ruled : IsRuled base) (differ : DifferInSymbols ba
   symbols-exchanged : (ns : List ℕ) → AllByRecursion (λ n. n < 2 ^ base.width) ns
       → map exchange (map (symbol base) ns) ≡ map (symbol other) ns
   symbols-exchanged [] h = refl
-  symbols-exchanged (n ∷ ns) h =
-      let here : exchange (symbol base n) ≡ symbol other n =
-      ap (λ m. unwrap_or (own_character other m) (symbol base n)) (own_meaning base ruled n h.0) in
-      (λ i. here i ∷ symbols-exchanged ns h.1 i)
+  symbols-exchanged (n ∷ ns) h = rw (own_meaning base ruled n h.0, symbols-exchanged ns h.1)
 
   plain-exchanged : (bytes : List ℕ)
       → plain_text other bytes ≡ map exchange (plain_text base bytes)
   plain-exchanged bytes =
       let filled = filled_with 0 base.width (bits_of_bytes base.order bytes) in
-      sym (λ i. map (λ run. symbol other (number_of (differ.order i) run))
-      (runs (differ.width i)
-      (filled_with 0 (differ.width i) (bits_of_bytes (differ.order i) bytes))))
-      ∙ sym (map-twice (symbol other) (number_of base.order) (runs base.width filled))
-      ∙ sym (symbols-exchanged (values base ruled bytes) (are_values base ruled bytes).below)
-      ∙ ap (map exchange) (sym (text_is base ruled bytes))
+      rw (text_is base ruled bytes, ← differ.width, ← differ.order)
+      (rw (symbols-exchanged (values base ruled bytes) (are_values base ruled bytes).below)
+      (sym (map-twice (symbol other) (number_of base.order) (runs base.width filled))))
 
   filled-exchanged : (character another size : ℕ) (text : List ℕ)
       → exchange character ≡ another
       → filled_with another size (map exchange text)
       ≡ map exchange (filled_with character size text)
   filled-exchanged character another size text same =
-      let fills : ℕ → List ℕ = λ n. map exchange text ++ replicate (missing size n) another in
-      let lack = missing size (length text) in
-      ap fills (length-map text exchange)
-      ∙ ap (λ l. map exchange text ++ l)
-      (sym (map-replicate exchange another lack character same))
-      ∙ sym (map-append exchange text (replicate lack character))
+      rw (length-map text exchange, map-append)
+      (rw (map-replicate exchange another (missing size (length text)) character same))
 
   padding-exchanged : (o p : Option ℕ) → base.padding ≡ o → other.padding ≡ p
       → is_some o ≡ is_some p → (size : ℕ) (text : List ℕ)
@@ -60,25 +49,20 @@ module _ (base other : Base) (ruled : IsRuled base) (differ : DifferInSymbols ba
       let own : meaning base character ≡ Padding =
       (subst (λ o. IsRuledPadding base o) is ruled.padding).1 in
       filled-exchanged character another size text
-      (ap (λ m. unwrap_or (own_character other m) character) own
-      ∙ ap (λ o. unwrap_or o character) also)
+      (rw (own, also))
 
   padded-exchanged : (bytes : List ℕ)
       → padded_text other bytes ≡ map exchange (padded_text base bytes)
   padded-exchanged bytes =
-      (λ i. with_padding other.padding (group_symbols (sym differ.width i))
-      (plain-exchanged bytes i))
-      ∙ padding-exchanged base.padding other.padding refl refl differ.padded
-      (group_symbols base.width) (plain_text base bytes)
+      rw (plain-exchanged bytes, ← differ.width)
+      (padding-exchanged base.padding other.padding refl refl differ.padded
+      (group_symbols base.width) (plain_text base bytes))
 
   ignored-exchanged : (part : List ℕ)
       → AllByRecursion (λ byte. (byte < 128) × (meaning base byte ≡ Ignored)) part
       → map exchange part ≡ part
   ignored-exchanged [] h = refl
-  ignored-exchanged (byte ∷ part) h =
-      let here : exchange byte ≡ byte =
-      ap (λ m. unwrap_or (own_character other m) byte) h.0.1 in
-      (λ i. here i ∷ ignored-exchanged part h.1 i)
+  ignored-exchanged (byte ∷ part) h = rw (h.0.1, ignored-exchanged part h.1)
 
   module _ (lines : Wrapping) (are : AreLines base lines) where
     each_line : (parts : List (List ℕ))
@@ -86,24 +70,18 @@ module _ (base other : Base) (ruled : IsRuled base) (differ : DifferInSymbols ba
         ≡ map exchange (flat_map (λ line. line ++ lines.separator) parts)
     each_line [] = refl
     each_line (part ∷ parts) =
-        (λ i. (map exchange part ++ sym (ignored-exchanged lines.separator are.ignored) i)
-        ++ each_line parts i)
-        ∙ ap (λ l. l ++ map exchange (flat_map (λ line. line ++ lines.separator) parts))
-        (sym (map-append exchange part lines.separator))
-        ∙ sym (map-append exchange (part ++ lines.separator)
-        (flat_map (λ line. line ++ lines.separator) parts))
+        simp (map-append, ignored-exchanged lines.separator are.ignored, each_line parts)
 
   lines-exchanged : (o : Option Wrapping) → IsRuledWrapping base o → (text : List ℕ)
       → in_lines o (map exchange text) ≡ map exchange (in_lines o text)
   lines-exchanged None are text = refl
   lines-exchanged (Some lines) are text =
-      ap (flat_map (λ line. line ++ lines.separator))
-      (runs-map lines.column exchange text are.some)
-      ∙ each_line lines are (runs lines.column text)
+      rw (runs-map lines.column exchange text are.some)
+      (each_line lines are (runs lines.column text))
 
   -- the law
   pub text_of-exchanged : (bytes : List ℕ)
       → text_of other bytes ≡ map exchange (text_of base bytes)
   text_of-exchanged bytes =
-      (λ i. in_lines (sym differ.wrapping i) (padded-exchanged bytes i))
-      ∙ lines-exchanged base.wrapping ruled.wrapping (padded_text base bytes)
+      rw (← differ.wrapping, padded-exchanged bytes)
+      (lines-exchanged base.wrapping ruled.wrapping (padded_text base bytes))

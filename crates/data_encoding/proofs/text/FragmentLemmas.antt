@@ -1,5 +1,5 @@
 -- Data that is encoded piece by piece: blocks as they fill, and the rest at the end.
-use Rattle.std.proofs.Common.{[], refl, append-nil, ◌≡◌, ℕ, ◌+◌, ◌%◌, ◌<◌, List, ◌++◌, length, sym, ap, ◌∙◌, append_assoc, length-append}
+use Rattle.std.proofs.Common.{[], refl, append-nil, ◌≡◌, ℕ, ◌+◌, ◌%◌, ◌<◌, List, ◌++◌, length, append_assoc, length-append}
 use Rattle.std.proofs.Math.Nat.{mod-add-mod, mod-eq_of_lt, mod_self, zero-add}
 use Rattle.data_encoding.specs.Base.{Base}
 use Rattle.data_encoding.specs.Fragments.{HasEncoded}
@@ -11,9 +11,7 @@ use Rattle.data_encoding.proofs.text.TextJoinLemmas.{text_of-join}
 
 -- two lengths of whole blocks together
 whole-both : (m n size : ℕ) → m % size ≡ 0 → n % size ≡ 0 → (m + n) % size ≡ 0
-whole-both m n size one other =
-    sym (mod-add-mod m size n) ∙ ap (λ k. (k + n) % size) one ∙ ap (λ k. k % size) (zero-add n) ∙
-    other
+whole-both m n size one other = rw (← (mod-add-mod m size n), one, zero-add) other
 
 -- nothing was handed over yet
 pub HasEncoded-nothing : (base : Base) → IsRuled base → (text : List ℕ) → 0 < alignment base
@@ -23,7 +21,7 @@ HasEncoded-nothing base ruled text some = record {
   are_bytes = refl;
   is_aligned = mod-eq_of_lt some;
   is_short = some;
-  is_written = sym (ap (λ l. text ++ l) (text_of-nil base ruled) ∙ append-nil text);
+  is_written = rw (text_of-nil base ruled, append-nil);
 }
 
 module _ (base : Base) (ruled : IsRuled base) (before bytes text held : List ℕ)
@@ -38,39 +36,25 @@ module _ (base : Base) (ruled : IsRuled base) (before bytes text held : List ℕ
   HasEncoded-blocks input first rest block blocks left half whole cut parted filled full aligned
       short one other =
       let parts = block ++ blocks in
-      let joined : held ++ input ≡ parts ++ left =
-      ap (λ l. held ++ l) (cut ∙ ap (λ l. first ++ l) parted)
-      ∙ sym (append_assoc held first (blocks ++ left))
-      ∙ ap (λ l. l ++ (blocks ++ left)) (sym filled)
-      ∙ sym (append_assoc block blocks left) in
       let block_whole : length block % alignment base ≡ 0 =
-      ap (λ n. n % alignment base) full ∙ mod_self (alignment base) in
+      rw full (mod_self (alignment base)) in
       let texts : text_of base parts ≡ text_of base block ++ text_of base blocks =
       text_of-join base ruled block blocks block_whole in
+      let all = text_of-join base ruled has.encoded parts has.is_aligned in
       record {
         encoded = has.encoded ++ parts;
-        are_bytes = ap (λ l. l ++ input) has.are_bytes ∙ append_assoc has.encoded held input
-            ∙ ap (λ l. has.encoded ++ l) joined ∙ sym (append_assoc has.encoded parts left);
-        is_aligned = ap (λ n. n % alignment base) (length-append has.encoded parts)
-            ∙ whole-both (length has.encoded) (length parts) (alignment base) has.is_aligned
-            (ap (λ n. n % alignment base) (length-append block blocks)
-            ∙ whole-both (length block) (length blocks) (alignment base) block_whole aligned);
+        are_bytes = simp (has.are_bytes, cut, parted, filled, append_assoc);
+        is_aligned = rw (length-append has.encoded parts)
+            (whole-both (length has.encoded) (length parts) (alignment base) has.is_aligned
+            (rw (length-append block blocks)
+            (whole-both (length block) (length blocks) (alignment base) block_whole aligned)));
         is_short = short;
-        is_written = other ∙ ap (λ l. l ++ text_of base blocks) one
-            ∙ append_assoc text (text_of base block) (text_of base blocks)
-            ∙ ap (λ l. text ++ l) (sym texts)
-            ∙ ap (λ l. l ++ text_of base parts) has.is_written
-            ∙ append_assoc before (text_of base has.encoded) (text_of base parts)
-            ∙ ap (λ l. before ++ l)
-            (sym (text_of-join base ruled has.encoded parts has.is_aligned));
+        is_written = simp (other, one, has.is_written, all, texts, append_assoc);
       }
 
   -- what is held is encoded at the end
   pub text_of-fragments : (whole : List ℕ) → whole ≡ text ++ text_of base held
       → whole ≡ before ++ text_of base bytes
   text_of-fragments whole written =
-      written ∙ ap (λ l. l ++ text_of base held) has.is_written
-      ∙ append_assoc before (text_of base has.encoded) (text_of base held)
-      ∙ ap (λ l. before ++ l)
-      (sym (text_of-join base ruled has.encoded held has.is_aligned)
-      ∙ ap (text_of base) (sym has.are_bytes))
+      let all = text_of-join base ruled has.encoded held has.is_aligned in
+      simp (written, has.is_written, has.are_bytes, all, append_assoc)

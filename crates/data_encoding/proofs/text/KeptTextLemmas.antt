@@ -1,5 +1,5 @@
 -- The bytes of a text that are not ignored are its symbols and its padding.
-use Rattle.std.proofs.Common.{◌≡◌, ℕ, ◌<◌, append-nil, Bool, true, false, not, cond, List, [], ◌∷◌, ◌++◌, length, replicate, Option, Some, None, refl, sym, ap, ◌∙◌}
+use Rattle.std.proofs.Common.{◌≡◌, ℕ, ◌<◌, append-nil, Bool, true, false, not, List, [], ◌∷◌, ◌++◌, length, replicate, Option, Some, None, refl, ap, ◌∙◌}
 use Rattle.std.proofs.lemmas.List.Elements.{filter-append}
 use Rattle.std.specs.Prelude.{flat_map}
 use Rattle.std.specs.List.{filter}
@@ -18,8 +18,7 @@ use Rattle.data_encoding.proofs.text.SymbolMeaningLemmas.{none_ignored-plain_tex
 module _ {X : Type 0} (test : X → Bool) where
   filter-none : (xs : List X) → AllFail test xs → filter test xs ≡ []
   filter-none [] h = refl
-  filter-none (x ∷ xs) h =
-      ap (λ b. cond b (x ∷ filter test xs) (filter test xs)) h.0 ∙ filter-none xs h.1
+  filter-none (x ∷ xs) h = rw h.0 (filter-none xs h.1)
 
   -- what is put after each part, and left out
   filter-ended : (end : List X) → filter test end ≡ [] → (parts : List (List X))
@@ -27,11 +26,7 @@ module _ {X : Type 0} (test : X → Bool) where
       ≡ filter test (flat_map (λ part. part) parts)
   filter-ended end none [] = refl
   filter-ended end none (part ∷ parts) =
-      filter-append test (part ++ end) (flat_map (λ p. p ++ end) parts)
-      ∙ (λ i. alone i ++ filter-ended end none parts i)
-      ∙ sym (filter-append test part (flat_map (λ p. p) parts)) where
-        alone : filter test (part ++ end) ≡ filter test part
-        alone = filter-append test part end ∙ ap (λ l. filter test part ++ l) none ∙ append-nil _
+      simp (filter-append, none, append-nil, filter-ended end none parts)
 
 module _ (base : Base) (ruled : IsRuled base) where
   abbrev keeps : ℕ → Bool
@@ -75,5 +70,5 @@ module _ (base : Base) (ruled : IsRuled base) where
   pub bytes-kept_text : (bytes : List ℕ)
       → bytes_in (kept base (text_of base bytes)) ≡ padded_text base bytes
   bytes-kept_text bytes =
-      bytes-kept_in base 0 (text_of base bytes) ∙ kept-in_lines (padded_text base bytes)
-      ∙ filter-kept (padded_text base bytes) (none_ignored bytes)
+      rw (bytes-kept_in base 0 (text_of base bytes), kept-in_lines (padded_text base bytes))
+      (filter-kept (padded_text base bytes) (none_ignored bytes))

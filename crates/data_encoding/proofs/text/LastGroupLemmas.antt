@@ -1,5 +1,5 @@
 -- A group of symbols, and of padding behind them.
-use Rattle.std.proofs.Common.{◌≡◌, ℕ, ◌*◌, ◌<◌, ◌≤◌, true, List, [], ◌∷◌, ◌++◌, length, map, replicate, refl, sym, ap, ◌∙◌, subst, arith}
+use Rattle.std.proofs.Common.{◌≡◌, ℕ, ◌<◌, ◌≤◌, true, List, [], ◌∷◌, ◌++◌, length, map, replicate, refl, sym, ◌∙◌, arith}
 use Rattle.std.proofs.lemmas.Bool.{false≢true}
 use Rattle.std.proofs.lemmas.List.{length-map, map-append}
 use Rattle.std.specs.List.{AllByRecursion}
@@ -16,9 +16,8 @@ use Rattle.data_encoding.proofs.text.PaddedTextLemmas.{length-filled_with}
 pub length-filled_once : (character size : ℕ) (text : List ℕ) → 0 < length text
     → length text ≤ size → length (filled_with character size text) ≡ size
 length-filled_once character size text some few =
-    length-filled_with character size text
-    ∙ filled_count size (length text) (omega (arith, some, few))
-    ∙ ap (λ n. size * n) (run_count-short size (length text) some few) ∙ omega arith
+    rw (length-filled_with character size text, filled_count size (length text) (omega arith))
+    (rw (run_count-short size (length text) some few) (omega arith))
 
 module _ (base : Base) where
   -- bytes that each mean padding
@@ -43,10 +42,9 @@ module _ (base : Base) where
   GroupMeans-fillers text fillers bytes padded means some whole all = record {
     symbols = map (meaning base) text;
     padding = length fillers;
-    is_group = map-append (meaning base) text fillers
-        ∙ ap (λ l. map (meaning base) text ++ l) (padding_of fillers all);
-    is_whole = λ _. length-map (text ++ fillers) (meaning base) ∙ whole;
+    is_group = rw (map-append, padding_of fillers all);
+    is_whole = λ _. rw length-map whole;
     is_plain = λ unpadded. absurd (false≢true (sym unpadded ∙ padded));
-    is_begun = subst (λ n. 0 < n) (sym (length-map text (meaning base))) some;
+    is_begun = rw length-map some;
     means = means;
   }

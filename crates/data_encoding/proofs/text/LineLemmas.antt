@@ -1,6 +1,6 @@
 -- Texts in lines: their lengths, and one line after the other.
 use Rattle.std.proofs.Common.{◌≡◌, ◌≢◌, ℕ, zero, suc, ◌+◌, ◌*◌, ◌/◌, ◌<◌, ◌≤◌, Bool, true, false, Option, Some, None, IsSome, is_some, List, [], ◌++◌, length, refl, sym, ap, ◌∙◌, subst, arith, append-nil}
-use Rattle.std.proofs.Math.Nat.{le-mul_of_pos_right, mul-add, mul-le-mul_left, mul-le-mul_right, mul_assoc, zero-mul}
+use Rattle.std.proofs.Math.Nat.{le-mul_of_pos_right, mul-le-mul_left, mul-le-mul_right}
 use Rattle.std.proofs.lemmas.Bool.{false≢true}
 use Rattle.std.proofs.lemmas.List.{nil_from_length}
 use Rattle.std.proofs.lemmas.Nat.{mul-le}
@@ -8,9 +8,9 @@ use Rattle.std.specs.List.{AllByRecursion}
 use Rattle.data_encoding.specs.Base.{Base, IsWidth, Wrapping, group_bytes, group_symbols, is_padded, meaning}
 use Rattle.data_encoding.specs.declared.encoding.Character.TheVariants.{Ignored}
 use Rattle.data_encoding.specs.Encoding.{EncodingTables, KeepsRules, KeepsWrapping, base_of_tables, wrapping_by}
-use Rattle.data_encoding.specs.Lengths.{align_by, alignment}
+use Rattle.data_encoding.specs.Lengths.{alignment}
 use Rattle.data_encoding.specs.Text.{in_lines, padded_text, text_of}
-use Rattle.data_encoding.proofs.digits.WidthLemmas.{group_bytes-few, group_bytes-pos, group_symbols-few, group_symbols-pos}
+use Rattle.data_encoding.proofs.digits.WidthLemmas.{group_bytes-pos, group_symbols-few, group_symbols-pos}
 use Rattle.data_encoding.proofs.lists.EachLemmas.{all_weaker}
 use Rattle.data_encoding.proofs.lists.RunLemmas.{all_ended, ended-short, length-ended, run_count, run_count-few, run_count-some, run_count-whole, runs-reach}
 use Rattle.data_encoding.proofs.judgement.RuleLemmas.{AreLines, IsRuled, IsRuledWrapping}
@@ -36,34 +36,23 @@ module _ (base : Base) (width : IsWidth base.width) (bytes : List ℕ) where
         let count = run_count base.width (8 * length bytes) in
         let same = ap (λ n. n * group_symbols base.width)
         (groups-same base.width width (length bytes)) in
-        omega (
-          arith,
-          length-unpadded base bytes width is,
-          runs-reach (group_symbols base.width) count (group_symbols-pos base.width width),
-          same,
-        )
+        let reach = runs-reach _ count (group_symbols-pos base.width width) in
+        omega (arith, length-unpadded base bytes width is)
 
   -- nor than any number of whole groups that holds the data
   pub padded-fits : (count : ℕ) → length bytes ≤ count * group_bytes base.width
       → length (padded_text base bytes) ≤ count * group_symbols base.width
   padded-fits count few =
-      omega (
-        arith,
-        padded-few,
-        mul-le-mul_right (group_symbols base.width)
-            (run_count-few (group_bytes base.width) (length bytes) count
-            (group_bytes-pos base.width width) few),
-      )
+      let groups = run_count-few (group_bytes base.width) (length bytes) count
+      (group_bytes-pos base.width width) few in
+      omega (arith, padded-few, mul-le-mul_right (group_symbols base.width) groups)
 
   -- and some where there are some data
   padded-some : 0 < length bytes → 0 < length (padded_text base bytes)
   padded-some some =
-      omega (
-        arith,
-        symbols-first base bytes width (run_count base.width (8 * length bytes))
-            (length (padded_text base bytes)) refl refl,
-        run_count-some base.width (8 * length bytes) width.some (omega (arith, some)),
-      )
+      let count = run_count base.width (8 * length bytes) in
+      let first = symbols-first base bytes width count _ refl refl in
+      omega (arith, run_count-some base.width (8 * length bytes) width.some (omega arith))
 
   -- at most a whole group of each byte
   padded-each : length (padded_text base bytes) ≤ length bytes * group_symbols base.width
@@ -73,11 +62,8 @@ module _ (base : Base) (width : IsWidth base.width) (bytes : List ℕ) where
 
   padded-most : length (padded_text base bytes) ≤ 8 * length bytes
   padded-most =
-      omega (
-        arith,
-        padded-each,
-        mul-le-mul_left (length bytes) (group_symbols-few base.width width),
-      )
+      let most = mul-le-mul_left (length bytes) (group_symbols-few base.width width) in
+      omega (arith, padded-each)
 
 module _ (base : Base) (ruled : IsRuled base) (lines : Wrapping) (some : base.wrapping ≡ Some lines)
   where
@@ -92,47 +78,23 @@ module _ (base : Base) (ruled : IsRuled base) (lines : Wrapping) (some : base.wr
     column-is = whole-parts lines.column (group_symbols base.width) are.whole
 
     pub alignment-is : alignment base ≡ groups * group_bytes base.width
-    alignment-is =
-        ap (λ o. align_by o base.width) some
-        ∙ line-groups lines.column base.width ruled.is_width are.whole
+    alignment-is = rw some (line-groups lines.column base.width ruled.is_width are.whole)
 
     groups-some : 0 < groups
-    groups-some = by groups column-is where
-      by : (n : ℕ) → lines.column ≡ n * group_symbols base.width → 0 < n
-      by zero e = absurd (omega (arith, are.some, e, zero-mul (group_symbols base.width)))
-      by (suc n) e = omega arith
+    groups-some = grind (arith, column-is, are.some)
 
     pub alignment-some : 0 < alignment base
     alignment-some =
-        omega (
-          arith,
-          alignment-is,
-          groups-some,
-          le-mul_of_pos_right groups (group_bytes-pos base.width ruled.is_width),
-        )
-
-    pub alignment-few : alignment base < 256
-    alignment-few =
-        omega (
-          arith,
-          alignment-is,
-          column-is,
-          are.short,
-          mul-le groups (group_bytes base.width) groups (group_symbols base.width) (omega arith)
-              (group_bytes-few base.width ruled.is_width),
-        )
-
-    text-lines : (bytes : List ℕ)
-        → text_of base bytes ≡ in_lines (Some lines) (padded_text base bytes)
-    text-lines bytes = ap (λ o. in_lines o (padded_text base bytes)) some
+        let bytes = le-mul_of_pos_right groups (group_bytes-pos base.width ruled.is_width) in
+        omega (arith, alignment-is, groups-some)
 
     -- a separator for each line
     pub length-lines : (bytes : List ℕ) → length (text_of base bytes)
         ≡ length (padded_text base bytes)
         + run_count lines.column (length (padded_text base bytes)) * length lines.separator
     length-lines bytes =
-        ap length (text-lines bytes)
-        ∙ length-ended lines.column lines.separator (padded_text base bytes) are.some
+        rw some
+        (length-ended lines.column lines.separator (padded_text base bytes) are.some)
 
     lines-few : (bytes : List ℕ)
         → run_count lines.column (length (padded_text base bytes)) ≤ length bytes
@@ -140,41 +102,24 @@ module _ (base : Base) (ruled : IsRuled base) (lines : Wrapping) (some : base.wr
         let size = group_symbols base.width in
         let long : size ≤ lines.column =
         omega (arith, column-is, mul-le 1 size groups size groups-some (omega arith)) in
+        let most = mul-le-mul_left (length bytes) long in
         run_count-few lines.column (length (padded_text base bytes)) (length bytes) are.some
-        (omega (
-          arith,
-          padded-each base ruled.is_width bytes,
-          mul-le-mul_left (length bytes) long,
-        ))
+        (omega (arith, padded-each base ruled.is_width bytes))
 
     lines-most : (bytes : List ℕ) → length (text_of base bytes) ≤ 263 * length bytes
     lines-most bytes =
-        omega (
-          arith,
-          length-lines bytes,
-          padded-most base ruled.is_width bytes,
-          are.ends_short,
-          mul-le (run_count lines.column (length (padded_text base bytes)))
-              (length lines.separator) (length bytes) 255 (lines-few bytes)
-              (omega (arith, are.ends_short)),
-        )
+        let ends = mul-le (run_count lines.column (length (padded_text base bytes)))
+        (length lines.separator) (length bytes) 255 (lines-few bytes)
+        (omega (arith, are.ends_short)) in
+        omega (arith, length-lines bytes, padded-most base ruled.is_width bytes)
 
     -- data of at most so many lines
     module _ (count : ℕ) (bytes : List ℕ) (few : length bytes ≤ count * alignment base) where
       pub padded-lines : length (padded_text base bytes) ≤ count * lines.column
       padded-lines =
-          omega (
-            arith,
-            padded-fits base ruled.is_width bytes (count * groups)
-                (omega (
-                  arith,
-                  few,
-                  ap (λ n. count * n) alignment-is,
-                  mul_assoc count groups (group_bytes base.width),
-                )),
-            ap (λ n. count * n) column-is,
-            mul_assoc count groups (group_symbols base.width),
-          )
+          let all = padded-fits base ruled.is_width bytes (count * groups)
+          (omega (arith, few, ap (λ n. count * n) alignment-is)) in
+          omega (arith, ap (λ n. count * n) column-is)
 
       pub short-lines : length (text_of base bytes)
           ≤ count * (lines.column + length lines.separator)
@@ -183,38 +128,26 @@ module _ (base : Base) (ruled : IsRuled base) (lines : Wrapping) (some : base.wr
           let all : run_count lines.column (length (padded_text base bytes)) ≤ count =
           run_count-few lines.column (length (padded_text base bytes)) count are.some
           padded-lines in
-          omega (
-            arith,
-            length-lines bytes,
-            padded-lines,
-            mul-le-mul_right ends all,
-            mul-add count lines.column ends,
-          )
+          omega (arith, length-lines bytes, padded-lines, mul-le-mul_right ends all)
 
     pub whole-lines : (count : ℕ) (bytes : List ℕ) → length bytes ≡ count * alignment base
         → length (text_of base bytes) ≡ count * (lines.column + length lines.separator)
     whole-lines count bytes e =
         let ends = length lines.separator in
+        let all = length-padded_groups base ruled.is_width bytes (count * groups)
+        (omega (arith, e, ap (λ n. count * n) alignment-is)) in
         let long : length (padded_text base bytes) ≡ count * lines.column =
-        length-padded_groups base ruled.is_width bytes (count * groups)
-        (e ∙ ap (λ n. count * n) alignment-is
-        ∙ sym (mul_assoc count groups (group_bytes base.width)))
-        ∙ mul_assoc count groups (group_symbols base.width)
-        ∙ ap (λ n. count * n) (sym column-is) in
-        length-lines bytes
-        ∙ (λ i. long i + run_count lines.column (long i) * ends)
-        ∙ ap (λ n. count * lines.column + n * ends)
-        (run_count-whole lines.column count are.some)
-        ∙ sym (mul-add count lines.column ends)
+        omega (arith, ap (λ n. count * n) column-is) in
+        rw (length-lines bytes, long, run_count-whole lines.column count are.some) (omega arith)
 
     -- data of at most a line
     one-line : (bytes : List ℕ) → length bytes ≤ alignment base → 0 < length bytes
         → text_of base bytes ≡ padded_text base bytes ++ lines.separator
     one-line bytes few any =
-        text-lines bytes
-        ∙ ended-short lines.column lines.separator (padded_text base bytes)
+        rw some
+        (ended-short lines.column lines.separator (padded_text base bytes)
         (padded-some base ruled.is_width bytes any)
-        (omega (arith, padded-lines 1 bytes (omega (arith, few))))
+        (omega (arith, padded-lines 1 bytes (omega (arith, few)))))
 
 -- a separator of 255 behind each line of eight symbols, of one byte, is the most
 pub text-most : (base : Base) → IsRuled base → (bytes : List ℕ)
@@ -222,11 +155,7 @@ pub text-most : (base : Base) → IsRuled base → (bytes : List ℕ)
 text-most base ruled bytes = by base.wrapping refl where
   by : (o : Option Wrapping) → base.wrapping ≡ o → length (text_of base bytes) ≤ 263 * length bytes
   by None is =
-      omega (
-        arith,
-        ap length (text_of-unwrapped base bytes is),
-        padded-most base ruled.is_width bytes,
-      )
+      rw (text_of-unwrapped base bytes is) (omega (arith, padded-most base ruled.is_width bytes))
   by (Some lines) is = lines-most base ruled lines is bytes
 
 pub text_of-nil : (base : Base) → IsRuled base → text_of base [] ≡ []
@@ -241,7 +170,7 @@ pub text_of-line : (base : Base) → IsRuled base → (bytes : List ℕ) → 0 <
 text_of-line base ruled bytes any few = by base.wrapping refl where
   by : (o : Option Wrapping) → base.wrapping ≡ o
       → text_of base bytes ≡ padded_text base bytes ++ separator_by o
-  by None is = text_of-unwrapped base bytes is ∙ sym (append-nil (padded_text base bytes))
+  by None is = rw append-nil (text_of-unwrapped base bytes is)
   by (Some lines) is = one-line base ruled lines is bytes few any
 
 -- a text is ASCII with its separators too
@@ -263,31 +192,24 @@ ascii-text_of base ruled bytes ascii = by base.wrapping ruled.wrapping where
 module _ (e : EncodingTables) (rules : KeepsRules e) (seen : Base)
     (is : base_of_tables e ≡ seen) where
   pub IsRuled-seen : IsRuled seen
-  IsRuled-seen = subst IsRuled is (IsRuled-tables e rules)
+  IsRuled-seen = rw is at (IsRuled-tables e rules)
 
   pub separator-seen : separator_by seen.wrapping ≡ e.separator
-  separator-seen =
-      ap (λ b. separator_by b.wrapping) (sym is)
-      ∙ by e.column e.separator rules.wrapping where
-        by : (column : ℕ) (separator : List ℕ) → KeepsWrapping column separator e.width e.values
-            → separator_by (wrapping_by column separator) ≡ separator
-        by zero separator keeps = sym keeps
-        by (suc n) separator keeps = refl
+  separator-seen = rw (← is) (by e.column e.separator rules.wrapping) where
+    by : (column : ℕ) (separator : List ℕ) → KeepsWrapping column separator e.width e.values
+        → separator_by (wrapping_by column separator) ≡ separator
+    by zero separator keeps = sym keeps
+    by (suc n) separator keeps = refl
 
   pub wrapping-seen : e.column ≢ 0 → seen.wrapping
       ≡ Some (record { column = e.column; separator = e.separator })
-  wrapping-seen h = ap (λ b. b.wrapping) (sym is) ∙ by e.column h where
-    by : (column : ℕ) → column ≢ 0 → wrapping_by column e.separator
-        ≡ Some (record { column = column; separator = e.separator })
-    by zero k = absurd (k refl)
-    by (suc n) k = refl
+  wrapping-seen h = rw (← is) (grind (arith, h))
 
   pub has-lines : e.column ≢ 0 → IsSome seen.wrapping
   has-lines h = ap is_some (wrapping-seen h)
 
   pub unwrapped-seen : e.column ≡ 0 → seen.wrapping ≡ None
-  unwrapped-seen h =
-      ap (λ b. b.wrapping) (sym is) ∙ ap (λ n. wrapping_by n e.separator) h
+  unwrapped-seen h = rw (← is, h)
 
   pub ascii-seen : (bytes : List ℕ) → AllByRecursion (λ byte. byte < 128) (text_of seen bytes)
   ascii-seen bytes =

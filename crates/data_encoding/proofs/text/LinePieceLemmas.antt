@@ -1,5 +1,5 @@
 -- Texts in lines, made by pieces: line by line, and by blocks of lines.
-use Rattle.std.proofs.Common.{◌≡◌, ℕ, ◌+◌, ◌*◌, ◌/◌, ◌%◌, ◌<◌, ◌≤◌, Some, IsSome, List, ◌++◌, length, sym, ap, ◌∙◌, subst, arith, length-append}
+use Rattle.std.proofs.Common.{◌≡◌, ℕ, ◌+◌, ◌*◌, ◌/◌, ◌<◌, ◌≤◌, Some, IsSome, List, ◌++◌, length, ap, arith, length-append}
 use Rattle.std.proofs.Math.Nat.{div-le_self, le-mul_of_pos_right, mul-mod_left, mul_assoc}
 use Rattle.std.proofs.lemmas.Nat.{le-div}
 use Rattle.std.proofs.lemmas.List.Concat.{flat_map-append}
@@ -8,7 +8,7 @@ use Rattle.data_encoding.specs.Base.{Base, Wrapping}
 use Rattle.data_encoding.specs.Bits.{runs}
 use Rattle.data_encoding.specs.Encoding.{EncodingTables, KeepsRules, base_of_tables}
 use Rattle.data_encoding.specs.Lengths.{alignment}
-use Rattle.data_encoding.specs.Text.{in_lines, padded_text, text_of}
+use Rattle.data_encoding.specs.Text.{padded_text, text_of}
 use Rattle.data_encoding.proofs.judgement.RuleLemmas.{AreLines, IsRuled}
 use Rattle.data_encoding.proofs.lists.PartLemmas.{groups-within}
 use Rattle.data_encoding.proofs.lists.PieceLemmas.{IsByPieces}
@@ -25,20 +25,15 @@ IsByPieces-lines column separator some =
       nil = ap (flat_map (λ line. line ++ separator)) (runs-nil column some);
       join =
           λ xs ys whole.
-          ap (flat_map (λ line. line ++ separator)) (runs-join column xs ys some whole)
-          ∙ flat_map-append (λ line. line ++ separator) _ _;
+          rw (runs-join column xs ys some whole)
+          (flat_map-append (λ line. line ++ separator) _ _);
       whole =
           λ xs e.
-          ap length (ended-short column separator xs (omega (arith, e, some)) (omega (arith, e)))
-          ∙ length-append xs separator ∙ ap (λ n. n + length separator) e;
+          rw (ended-short column separator xs (omega (arith, e, some)) (omega (arith, e)), ← e)
+          (length-append xs separator);
       short =
           λ xs any few.
-          omega (
-            arith,
-            ap length (ended-short column separator xs any few),
-            length-append xs separator,
-            few,
-          );
+          rw (ended-short column separator xs any few, length-append xs separator) (omega arith);
     }
 
 IsByPieces-blocks : (base : Base) → IsRuled base → (lines : Wrapping)
@@ -55,9 +50,8 @@ IsByPieces-blocks base ruled lines wrapped count some =
           λ xs ys whole.
           let blocks = length xs / (count * size) in
           text_of-join base ruled xs ys
-          (ap (λ n. n % size)
-          (whole-parts (length xs) (count * size) whole ∙ sym (mul_assoc blocks count size))
-          ∙ mul-mod_left (blocks * count) size);
+          (rw (whole-parts (length xs) (count * size) whole, ← (mul_assoc blocks count size))
+          (mul-mod_left (blocks * count) size));
       whole = λ xs e. whole-lines base ruled lines wrapped count xs e;
       short = λ xs any few. short-lines base ruled lines wrapped count xs few;
     }
@@ -84,35 +78,26 @@ module _ {e : EncodingTables} {seen : Base} (rules : KeepsRules e) (is : base_of
   text-few = text-most seen ruled
 
   pub line-few : {ends : ℕ} → ends ≡ length e.separator → e.column + ends ≤ 510
-  line-few ends-is =
-      let columns : e.column < 256 = lines-are.short in
-      let few : length e.separator < 256 = lines-are.ends_short in
-      omega (arith, columns, few, ends-is)
+  line-few ends-is = omega (arith, lines-are.short, lines-are.ends_short)
 
   pub text-wrapped : (input : List ℕ) {separator padded : List ℕ}
       → separator ≡ e.separator → padded ≡ padded_text seen input
       → text_of seen input ≡ flat_map (λ line. line ++ separator) (runs e.column padded)
   text-wrapped input {separator} {padded} separator-is padded-is =
-      ap (λ o. in_lines o (padded_text seen input)) wrapped
-      ∙ (λ i. flat_map (λ line. line ++ sym separator-is i) (runs e.column (sym padded-is i)))
+      rw (wrapped, separator-is, padded-is)
 
   pub IsByPieces-text : {count size ends : ℕ} → 0 < count → size ≡ alignment seen
       → ends ≡ length e.separator
       → IsByPieces (text_of seen) (count * size) (count * (e.column + ends))
   IsByPieces-text {count} {size} {ends} any size-is ends-is =
-      subst (λ n. IsByPieces (text_of seen) (count * n) (count * (e.column + ends))) (sym size-is)
-      (subst (λ n. IsByPieces (text_of seen) (count * alignment seen) (count * (e.column + n)))
-      (sym ends-is)
-      (IsByPieces-blocks seen ruled lines wrapped count any))
+      rw (size-is, ends-is) (IsByPieces-blocks seen ruled lines wrapped count any)
 
   pub IsByPieces-line : {size ends : ℕ} → size ≡ alignment seen → ends ≡ length e.separator
       → IsByPieces (text_of seen) size (e.column + ends)
   IsByPieces-line {size} {ends} size-is ends-is =
       let one : (n : ℕ) → 1 * n ≡ n = λ n. omega arith in
-      let some : 0 < 1 = omega arith in
-      subst (λ n. IsByPieces (text_of seen) n (e.column + ends)) (one size)
-      (subst (λ n. IsByPieces (text_of seen) (1 * size) n) (one (e.column + ends))
-      (IsByPieces-text some size-is ends-is))
+      rw (one size, one (e.column + ends))
+      at (IsByPieces-text {count = 1} (omega arith) size-is ends-is)
 
   -- as many lines as there is room for
   module _ (room : ℕ) where
@@ -120,8 +105,7 @@ module _ {e : EncodingTables} {seen : Base} (rules : KeepsRules e) (is : base_of
     lines-few = div-le_self room e.column
 
     pub lines-some : 256 ≤ room → 0 < room / e.column
-    lines-some enough =
-        le-div 1 room e.column columns-some (omega (arith, lines-are.short, enough))
+    lines-some enough = le-div 1 room e.column columns-some (omega (arith, lines-are.short, enough))
 
     pub lines-fit : {size : ℕ} (bytes : List ℕ) → size ≡ alignment seen
         → length bytes ≤ room / e.column * size → length (padded_text seen bytes) ≤ room

@@ -1,5 +1,5 @@
 -- The text of data with padding.
-use Rattle.std.proofs.Common.{◌≡◌, ℕ, ◌+◌, ◌-◌, ◌*◌, ◌<◌, ◌≤◌, true, false, Option, Some, None, IfSome, cond, is_some, List, ◌++◌, length, take, drop, replicate, refl, sym, ap, ◌∙◌, arith, length-append}
+use Rattle.std.proofs.Common.{◌≡◌, ℕ, ◌+◌, ◌-◌, ◌*◌, ◌<◌, ◌≤◌, true, false, Option, Some, None, IfSome, cond, is_some, List, ◌++◌, length, take, drop, replicate, sym, ap, ◌∙◌, arith, length-append}
 use Rattle.std.proofs.Math.Nat.{mul_comm}
 use Rattle.std.proofs.lemmas.List.{length-replicate}
 use Rattle.std.specs.List.{AllByRecursion}
@@ -7,29 +7,24 @@ use borrow.Rule.Slice.PartMut.{put_mid}
 use Rattle.data_encoding.specs.Encoding.{EncodingTables, base_of_tables, KeepsRules}
 use Rattle.data_encoding.specs.Base.{Base, symbol, is_padded, group_bytes, group_symbols, IsWidth}
 use Rattle.data_encoding.specs.Bits.{missing}
-use Rattle.data_encoding.specs.Text.{filled_with, in_lines, padded_text, plain_text, text_of, with_padding}
-use Rattle.data_encoding.proofs.digits.WidthLemmas.{by_width, group_symbols-pos}
+use Rattle.data_encoding.specs.Text.{filled_with, padded_text, plain_text, text_of, with_padding}
+use Rattle.data_encoding.proofs.digits.WidthLemmas.{group_symbols-pos}
 use Rattle.data_encoding.proofs.lists.EachLemmas.{all_joined, all_replicate}
 use Rattle.data_encoding.proofs.lists.PartLemmas.{length-rest}
 use Rattle.data_encoding.proofs.lists.RunLemmas.{run_count}
 use Rattle.data_encoding.proofs.tables.TableLemmas.{IsWidth-seen}
 use Rattle.data_encoding.proofs.lists.WriteLemmas.{drop-put_mid_at}
 use Rattle.data_encoding.proofs.text.PlainTextLemmas.{filled_count, ascii-plain_text, length-plain_text}
+use Rattle.data_encoding.proofs.grammar.LengthLemmas.{widths}
 
 -- the symbols of data are as many groups as its bytes
 pub groups-same : (width : ℕ) → IsWidth width → (n : ℕ)
     → run_count (group_symbols width) (run_count width (8 * n)) ≡ run_count (group_bytes width) n
-groups-same =
-    by_width (λ w. (n : ℕ)
-    → run_count (group_symbols w) (run_count w (8 * n)) ≡ run_count (group_bytes w) n)
-    (λ n. omega arith) (λ n. omega arith) (λ n. omega arith) (λ n. omega arith)
-    (λ n. omega arith) (λ n. omega arith)
+groups-same width is n = grind (arith, widths width is)
 
 pub length-filled_with : (filler size : ℕ) (xs : List ℕ)
     → length (filled_with filler size xs) ≡ length xs + missing size (length xs)
-length-filled_with filler size xs =
-    length-append xs (replicate (missing size (length xs)) filler)
-    ∙ ap (λ n. length xs + n) (length-replicate (missing size (length xs)) filler)
+length-filled_with filler size xs = simp (length-append, length-replicate)
 
 -- padding is what is missing
 length-with_padding : (o : Option ℕ) (size : ℕ) (xs : List ℕ)
@@ -41,40 +36,29 @@ length-with_padding (Some character) size xs = length-filled_with character size
 -- where there are no lines
 pub text_of-unwrapped : (base : Base) (bytes : List ℕ) → base.wrapping ≡ None
     → text_of base bytes ≡ padded_text base bytes
-text_of-unwrapped base bytes none = ap (λ o. in_lines o (padded_text base bytes)) none
+text_of-unwrapped base bytes none = rw none
 
 module _ (base : Base) (bytes : List ℕ) (width : IsWidth base.width) where
   pub padded_text-unpadded : is_padded base ≡ false
       → padded_text base bytes ≡ plain_text base bytes
-  padded_text-unpadded none = by_padding base.padding none where
-    by_padding : (o : Option ℕ) → is_some o ≡ false
-        → with_padding o (group_symbols base.width) (plain_text base bytes)
-        ≡ plain_text base bytes
-    by_padding None h = refl
-    by_padding (Some character) h = cc
+  padded_text-unpadded none = let no : base.padding ≡ None = grind arith in rw no
 
   pub length-unpadded : is_padded base ≡ false
       → length (padded_text base bytes) ≡ run_count base.width (8 * length bytes)
-  length-unpadded none =
-      ap length (padded_text-unpadded none) ∙ length-plain_text base bytes width.some
+  length-unpadded none = rw (padded_text-unpadded none) (length-plain_text base bytes width.some)
 
   filled : (character : ℕ) → base.padding ≡ Some character → padded_text base bytes
       ≡ filled_with character (group_symbols base.width) (plain_text base bytes)
-  filled character some =
-      ap (λ o. with_padding o (group_symbols base.width) (plain_text base bytes)) some
+  filled character some = rw some
 
   -- the symbols and the padding are one after the other
   module _ (count size : ℕ) (is : count ≡ run_count base.width (8 * length bytes))
       (whole : size ≡ length (padded_text base bytes)) where
     pub symbols-first : count ≤ size
     symbols-first =
-        omega (
-          arith,
-          is,
-          whole,
-          length-plain_text base bytes width.some,
-          length-with_padding base.padding (group_symbols base.width) (plain_text base bytes),
-        )
+        let all = length-with_padding base.padding (group_symbols base.width)
+        (plain_text base bytes) in
+        omega (arith, length-plain_text base bytes width.some)
 
     pub padded_text-some : (character : ℕ) → base.padding ≡ Some character
         → padded_text base bytes ≡ plain_text base bytes ++ replicate (size - count) character
@@ -92,12 +76,10 @@ module _ (base : Base) (bytes : List ℕ) (width : IsWidth base.width) where
   length-padded some =
       let size = group_symbols base.width in
       let text = plain_text base bytes in
-      length-with_padding base.padding size text
-      ∙ ap (λ b. length text + cond b (missing size (length text)) 0) some
-      ∙ filled_count size (length text) (group_symbols-pos base.width width)
-      ∙ ap (λ n. size * run_count size n) (length-plain_text base bytes width.some)
-      ∙ ap (λ n. size * n) (groups-same base.width width (length bytes))
-      ∙ mul_comm size (run_count (group_bytes base.width) (length bytes))
+      rw (length-with_padding base.padding size text, some)
+      (rw (filled_count size (length text) (group_symbols-pos base.width width))
+      (rw (length-plain_text base bytes width.some, groups-same base.width width (length bytes))
+      (mul_comm size (run_count (group_bytes base.width) (length bytes)))))
 
 -- a text of ASCII symbols and ASCII padding is ASCII
 pub ascii-padded_text : (base : Base) (bytes : List ℕ) → ((value : ℕ) → symbol base value < 128)

@@ -1,7 +1,7 @@
 -- A loop over whole groups: where they are read and written, and that the text so far is written.
-use Rattle.std.proofs.Common.{◌≡◌, ℕ, ◌+◌, ◌-◌, ◌*◌, ◌/◌, ◌%◌, ◌<◌, ◌≤◌, List, ◌++◌, length, take, drop, refl, sym, ap, ◌∙◌, subst, arith, length-take-le}
+use Rattle.std.proofs.Common.{◌≡◌, ℕ, ◌+◌, ◌-◌, ◌*◌, ◌/◌, ◌<◌, ◌≤◌, List, length, take, drop, refl, sym, ap, ◌∙◌, subst, arith, length-take-le}
 use Rattle.std.proofs.Math.Seq.{take-add}
-use Rattle.std.proofs.Math.Nat.{mul-pos, mul_left_comm, mul-mod_right, zero-mul}
+use Rattle.std.proofs.Math.Nat.{mul-pos, mul-mod_right, zero-mul}
 use Rattle.std.proofs.lemmas.List.{take_all}
 use Rattle.std.proofs.lemmas.Slice.{take-put_mid}
 use borrow.Rule.Slice.PartMut.{put_mid}
@@ -20,9 +20,7 @@ IsWhole-turn {groups} {bytes} {symbols} {n} {w} e p q some group =
     let some = subst (λ k. 0 < k) (sym e) some in
     record {
       is_width = one.is_width;
-      same_bits =
-          mul_left_comm w groups symbols ∙ ap (λ k. groups * k) one.same_bits
-          ∙ mul_left_comm groups 8 bytes;
+      same_bits = omega (arith, ap (λ k. groups * k) one.same_bits);
       some_bytes = mul-pos some one.some_bytes;
       some_symbols = mul-pos some one.some_symbols;
     }
@@ -32,15 +30,13 @@ module _ {width bytes symbols : ℕ} (whole : IsWhole width bytes symbols) (n si
     (e : size ≡ (8 * n + (width - 1)) / width) (within : i * bytes ≤ n) where
   pub groups_fit : i * symbols ≤ size
   groups_fit =
-      subst (λ k. i * symbols ≤ k) (sym e)
-      (room-rest 8 width bytes symbols (width - 1) (sym whole.same_bits) whole.is_width.some n i
-      within)
+      rw e (room-rest 8 width bytes symbols (width - 1) (sym whole.same_bits) whole.is_width.some
+      n i within)
 
   pub rest_fits : size - i * symbols ≡ (8 * (n - i * bytes) + (width - 1)) / width
   rest_fits =
-      ap (λ k. k - i * symbols) e
-      ∙ size-rest 8 width bytes symbols (width - 1) (sym whole.same_bits) whole.is_width.some n i
-      within
+      rw e (size-rest 8 width bytes symbols (width - 1) (sym whole.same_bits) whole.is_width.some
+      n i within)
 
 module _ {width bytes symbols : ℕ} (whole : IsWhole width bytes symbols) where
   -- there is room for what the next groups give, of n bytes all but those that are only loaded
@@ -56,10 +52,7 @@ module _ {width bytes symbols : ℕ} (whole : IsWhole width bytes symbols) where
     some_width = subst (λ w. 0 < w) (sym is) whole.is_width.some
 
     pub written-none : take (0 * symbols) output ≡ plain_text base (take (0 * bytes) input)
-    written-none =
-        ap (λ n. take n output) (zero-mul symbols)
-        ∙ sym (ap (λ n. plain_text base (take n input)) (zero-mul bytes)
-        ∙ plain_text-nil base some_width)
+    written-none = rw (zero-mul symbols, zero-mul bytes) (sym (plain_text-nil base some_width))
 
     module _ (shown : List ℕ) (i : ℕ)
         (so_far : take (i * symbols) output ≡ plain_text base (take (i * bytes) input)) where
@@ -69,15 +62,13 @@ module _ {width bytes symbols : ℕ} (whole : IsWhole width bytes symbols) where
           → take (i * symbols + length shown) (put_mid (i * symbols) size output shown)
           ≡ plain_text base (take (i * bytes + more) input)
       joined more size within room is_text =
-          let whole_symbols : 8 * (i * bytes) % width ≡ 0 =
-          ap (λ n. n % width) (mul_left_comm 8 i bytes ∙ ap (λ n. i * n) (sym whole.same_bits)
-          ∙ mul_left_comm i width symbols)
-          ∙ mul-mod_right width (i * symbols) in
-          take-put_mid (i * symbols) size output shown (i * symbols + length shown) refl room
-          ∙ (λ k. so_far k ++ is_text k)
-          ∙ sym (plain_text-join base (take (i * bytes) input) (take more (drop (i * bytes) input))
-          some_width ((λ k. 8 * length-take-le (i * bytes) input within k % is k) ∙ whole_symbols))
-          ∙ ap (plain_text base) (sym (take-add (i * bytes) more input))
+          let same : 8 * (i * bytes) ≡ width * (i * symbols) =
+          omega (arith, ap (λ n. i * n) whole.same_bits) in
+          rw (take-put_mid (i * symbols) size output shown (i * symbols + length shown) refl room)
+          (rw (so_far, is_text, take-add (i * bytes) more input)
+          (sym (plain_text-join base (take (i * bytes) input) (take more (drop (i * bytes) input))
+          some_width
+          (rw (length-take-le (i * bytes) input within, is, same) (mul-mod_right width _)))))
 
       -- one more, which is written in its place
       pub written-next : i * bytes + bytes ≤ length input → i * symbols + symbols ≤ length output
@@ -90,10 +81,7 @@ module _ {width bytes symbols : ℕ} (whole : IsWhole width bytes symbols) where
       written-next within room long is_text =
           let end : (i + 1) * symbols ≡ i * symbols + length shown =
           omega (arith, one-more i symbols, long, length-part (i * symbols) symbols output room) in
-          (λ k. take (end k)
-          (put_mid (i * symbols) (i * symbols + symbols - i * symbols) output shown))
-          ∙ joined bytes _ (omega (arith, within)) (omega (arith, room)) is_text
-          ∙ ap (λ n. plain_text base (take n input)) (sym (one-more i bytes))
+          rw (end, one-more i bytes) (joined bytes _ (omega arith) (omega arith) is_text)
 
       -- the text of what is left completes the text of the groups
       pub written-rest : i * bytes ≤ length input → i * symbols ≤ length output

@@ -1,14 +1,14 @@
 -- The symbols of data, in parts.
-use Rattle.std.proofs.Common.{◌≡◌, ℕ, ◌+◌, ◌-◌, ◌*◌, ◌/◌, ◌%◌, ◌<◌, ◌≤◌, List, [], ◌∷◌, ◌++◌, length, map, replicate, sym, ap, ◌∙◌, arith, ⊎_elim, length-append, append_assoc}
+use Rattle.std.proofs.Common.{◌≡◌, ℕ, ◌+◌, ◌-◌, ◌*◌, ◌/◌, ◌%◌, ◌<◌, ◌≤◌, List, [], ◌∷◌, ◌++◌, length, map, ap, ◌∙◌, arith, ⊎_elim, length-append, append_assoc}
 use Rattle.std.proofs.lemmas.List.{length-map, map-append, append-nil, length-replicate, nil_from_length}
 use Rattle.std.proofs.lemmas.List.Concat.{flat_map-append}
 use Rattle.std.proofs.lemmas.Bool.{cases_lt}
 use Rattle.std.proofs.lemmas.Nat.{div-add-mod', mod_below}
-use Rattle.std.proofs.Math.Nat.{add-mod, mul_comm, mod-mod, mod-eq_of_lt, mod_self, div-eq_of_lt-le, div-eq_of_lt}
+use Rattle.std.proofs.Math.Nat.{add-mod, mul_comm, mod-mod, mod-eq_of_lt, mod_self, div-eq_of_lt-le, div-eq_of_lt, zero-add}
 use Rattle.std.specs.List.{AllByRecursion}
 use Rattle.data_encoding.specs.declared.encoding.BitOrder.{BitOrder}
 use Rattle.data_encoding.specs.Base.{Base, symbol}
-use Rattle.data_encoding.specs.Bits.{bits_of, number_of, bits_of_bytes, missing, runs}
+use Rattle.data_encoding.specs.Bits.{number_of, bits_of_bytes, missing, runs}
 use Rattle.data_encoding.specs.Text.{filled_with, plain_text}
 use Rattle.data_encoding.proofs.grammar.UnpaddedGroupLemmas.{length-bits_of_bytes}
 use Rattle.data_encoding.proofs.lists.RunLemmas.{run_count, run_count-whole, length-runs, runs-join}
@@ -16,18 +16,14 @@ use Rattle.data_encoding.proofs.lists.RunLemmas.{run_count, run_count-whole, len
 missing-join : (size a b : ℕ) → 0 < size → a % size ≡ 0 → missing size (a + b) ≡ missing size b
 missing-join size a b h e =
     let same : (a + b) % size ≡ b % size =
-    add-mod a b size ∙ ap (λ k. (k + b % size) % size) e
-    ∙ ap (λ k. k % size) (omega arith) ∙ mod-mod b size in
-    ap (λ k. (size - k) % size) same
+    rw (add-mod a b size, e, zero-add) (mod-mod b size) in
+    rw same
 
 pub missing-none : (size n : ℕ) → n % size ≡ 0 → missing size n ≡ 0
-missing-none size n e =
-    ap (λ k. (size - k) % size) e
-    ∙ (let whole : size - 0 ≡ size = omega arith in ap (λ k. k % size) whole) ∙ mod_self size
+missing-none size n e = grind (arith, mod_self size)
 
 pub missing-some : (size n : ℕ) → 0 < size → 0 < n % size → missing size n ≡ size - n % size
-missing-some size n h e =
-    mod-eq_of_lt (let below = mod_below n size h in omega arith)
+missing-some size n h e = mod-eq_of_lt (let below = mod_below n size h in omega arith)
 
 -- with what is missing, a list is as long as its runs
 pub filled_count : (size n : ℕ) → 0 < size → n + missing size n ≡ size * run_count size n
@@ -49,8 +45,8 @@ filled_count size n h =
 pub run_count-missing : (size n : ℕ) → 0 < size
     → run_count size (n + missing size n) ≡ run_count size n
 run_count-missing size n h =
-    ap (run_count size) (filled_count size n h ∙ mul_comm size (run_count size n))
-    ∙ run_count-whole size (run_count size n) h
+    rw (filled_count size n h, mul_comm size (run_count size n))
+    (run_count-whole size (run_count size n) h)
 
 -- each run of bits as a symbol
 abbrev pub text_by : Base → ℕ → BitOrder → List ℕ → List ℕ
@@ -60,14 +56,11 @@ text_by base width order bits =
 pub filled-join : (filler size : ℕ) (xs ys : List ℕ) → 0 < size → length xs % size ≡ 0
     → filled_with filler size (xs ++ ys) ≡ xs ++ filled_with filler size ys
 filled-join filler size xs ys h e =
-    ap (λ n. (xs ++ ys) ++ replicate n filler)
-    (ap (missing size) (length-append xs ys) ∙ missing-join size (length xs) (length ys) h e)
-    ∙ append_assoc xs ys (replicate (missing size (length ys)) filler)
+    rw (length-append xs ys, missing-join size (length xs) (length ys) h e, append_assoc)
 
 pub filled-whole : (filler size : ℕ) (xs : List ℕ) → length xs % size ≡ 0
     → filled_with filler size xs ≡ xs
-filled-whole filler size xs e =
-    ap (λ n. xs ++ replicate n filler) (missing-none size (length xs) e) ∙ append-nil xs
+filled-whole filler size xs e = rw (missing-none size (length xs) e) (append-nil xs)
 
 -- data of whole symbols, and then other data
 pub plain_text-join : (base : Base) (bytes others : List ℕ) → 0 < base.width
@@ -76,30 +69,17 @@ pub plain_text-join : (base : Base) (bytes others : List ℕ) → 0 < base.width
 plain_text-join base bytes others h e =
     let bits = bits_of_bytes base.order bytes in
     let more = bits_of_bytes base.order others in
-    let whole : length bits % base.width ≡ 0 =
-    ap (λ n. n % base.width) (length-bits_of_bytes base.order bytes) ∙ e in
-    let show = map (λ run. symbol base (number_of base.order run)) in
-    ap (λ l. show (runs base.width (filled_with 0 base.width l)))
-    (flat_map-append (bits_of base.order 8) bytes others)
-    ∙ ap (λ l. show (runs base.width l)) (filled-join 0 base.width bits more h whole)
-    ∙ ap show (runs-join base.width bits (filled_with 0 base.width more) h whole)
-    ∙ map-append (λ run. symbol base (number_of base.order run)) (runs base.width bits)
-    (runs base.width (filled_with 0 base.width more))
-    ∙ ap (λ l. show (runs base.width l) ++ plain_text base others)
-    (sym (filled-whole 0 base.width bits whole))
+    let whole : length bits % base.width ≡ 0 = rw (length-bits_of_bytes base.order bytes) e in
+    rw (flat_map-append, filled-join 0 base.width bits more h whole)
+    (rw (runs-join base.width bits (filled_with 0 base.width more) h whole, map-append)
+    (rw (filled-whole 0 base.width bits whole)))
 
 pub length-plain_text : (base : Base) (bytes : List ℕ) → 0 < base.width
     → length (plain_text base bytes) ≡ run_count base.width (8 * length bytes)
 length-plain_text base bytes h =
-    let bits = bits_of_bytes base.order bytes in
-    length-map (runs base.width (filled_with 0 base.width bits))
-    (λ run. symbol base (number_of base.order run))
-    ∙ length-runs base.width (filled_with 0 base.width bits)
-    ∙ ap (run_count base.width)
-    (length-append bits (replicate (missing base.width (length bits)) 0)
-    ∙ ap (λ n. length bits + n) (length-replicate (missing base.width (length bits)) 0))
-    ∙ run_count-missing base.width (length bits) h
-    ∙ ap (run_count base.width) (length-bits_of_bytes base.order bytes)
+    rw (length-map, length-runs)
+    (simp (length-append, length-replicate, length-bits_of_bytes)
+    (run_count-missing base.width (8 * length bytes) h))
 
 pub plain_text-nil : (base : Base) → 0 < base.width → plain_text base [] ≡ []
 plain_text-nil base h =

@@ -1,5 +1,5 @@
 -- The symbols of bytes mean the bytes.
-use Rattle.std.proofs.Common.{◌≡◌, ℕ, ◌-◌, ◌%◌, ◌^◌, ◌<◌, List, [], ◌∷◌, length, map, replicate, refl, sym, ap, ◌∙◌, subst, arith}
+use Rattle.std.proofs.Common.{◌≡◌, ℕ, ◌-◌, ◌%◌, ◌^◌, ◌<◌, List, [], ◌∷◌, length, map, replicate, refl, sym, ap, ◌∙◌, arith}
 use Rattle.std.proofs.lemmas.List.{length-replicate}
 use Rattle.std.proofs.lemmas.Nat.{mod_below}
 use Rattle.std.specs.Prelude.{All}
@@ -34,8 +34,7 @@ module _ (base : Base) (ruled : IsRuled base) where
   none_ignored : (values : List ℕ) → AllByRecursion (λ value. value < 2 ^ base.width) values
       → AllFail (λ byte. is_ignored (meaning base byte)) (map (symbol base) values)
   none_ignored [] h = tt
-  none_ignored (value ∷ values) h =
-      (ap is_ignored (own_meaning value h.0), none_ignored values h.1)
+  none_ignored (value ∷ values) h = (ap is_ignored (own_meaning value h.0), none_ignored values h.1)
 
   module _ (bytes : List ℕ) where
     abbrev pub octets : List ℕ
@@ -67,22 +66,19 @@ module _ (base : Base) (ruled : IsRuled base) where
     -- no byte of the text is ignored
     pub none_ignored-plain_text : AllFail (λ byte. is_ignored (meaning base byte))
         (plain_text base bytes)
-    none_ignored-plain_text =
-        subst (AllFail (λ byte. is_ignored (meaning base byte))) (sym text_is)
-        (none_ignored values are_values.below)
+    none_ignored-plain_text = rw text_is (none_ignored values are_values.below)
 
     pub PlainMeans-plain_text : All (λ byte. byte < 256) bytes
         → PlainMeans base (map (meaning base) (plain_text base bytes)) bytes
     PlainMeans-plain_text below =
-        let rest_len = length-replicate lack 0 in record {
+        let rest_len = length-replicate {A = ℕ} lack 0 in record {
           values = values;
           rest = replicate lack 0;
-          are_symbols =
-              ap (map (meaning base)) text_is ∙ own_meanings values are_values.below;
+          are_symbols = rw text_is (own_meanings values are_values.below);
           same_bits = are_values.same_bits;
           rest_is_short =
-              subst (λ n. n < base.width) (sym rest_len)
+              rw rest_len
               (mod_below (base.width - length octets % base.width) base.width width.some);
-          rest_is_zero = λ e. ap (λ n. replicate n 0) (sym rest_len);
+          rest_is_zero = λ e. rw rest_len;
           are_bytes = below;
         }

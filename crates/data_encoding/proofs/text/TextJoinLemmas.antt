@@ -1,9 +1,8 @@
 -- The texts of data that are joined at whole groups or at whole lines.
 use Rattle.std.proofs.Common.{◌≡◌, ℕ, ◌-◌, ◌*◌, ◌/◌, ◌%◌, ◌<◌, Option, Some, None, List, ◌++◌, length, refl, sym, ap, ◌∙◌, arith}
-use Rattle.std.proofs.Math.Nat.{mul-div_right, mul-mod_left, mul-mod_right, mul_assoc, mul_comm, mul_left_comm}
+use Rattle.std.proofs.Math.Nat.{mul-mod_left, mul-mod_right}
 use Rattle.std.proofs.lemmas.List.Concat.{flat_map-append}
 use Rattle.std.proofs.lemmas.Nat.{div-add-mod'}
-use Rattle.std.specs.Prelude.{flat_map}
 use Rattle.data_encoding.specs.Base.{Base, IsWidth, Wrapping, group_bytes, group_symbols}
 use Rattle.data_encoding.specs.Lengths.{align_by, alignment}
 use Rattle.data_encoding.specs.Text.{in_lines, padded_text, plain_text, text_of, with_padding}
@@ -26,9 +25,7 @@ with_padding-join : (o : Option ℕ) (size : ℕ) (xs ys : List ℕ) → 0 < siz
     → with_padding o size (xs ++ ys) ≡ with_padding o size xs ++ with_padding o size ys
 with_padding-join None size xs ys h e = refl
 with_padding-join (Some character) size xs ys h e =
-    filled-join character size xs ys h e
-    ∙ ap (λ l. l ++ with_padding (Some character) size ys)
-    (sym (filled-whole character size xs e))
+    rw (filled-whole character size xs e) (filled-join character size xs ys h e)
 
 module _ (base : Base) (width : IsWidth base.width) (bytes : List ℕ) (q : ℕ)
     (groups : length bytes ≡ q * group_bytes base.width) where
@@ -46,45 +43,39 @@ module _ (base : Base) (width : IsWidth base.width) (bytes : List ℕ) (q : ℕ)
       bits-whole (omega (arith, width.some))
 
   plain_groups : length (plain_text base bytes) % group_symbols base.width ≡ 0
-  plain_groups =
-      ap (λ n. n % group_symbols base.width) length-plain_groups
-      ∙ mul-mod_left q (group_symbols base.width)
+  plain_groups = rw length-plain_groups (mul-mod_left q (group_symbols base.width))
 
   -- whole groups of bytes are as many whole groups of symbols
   pub length-padded_groups : length (padded_text base bytes) ≡ q * group_symbols base.width
   length-padded_groups =
-      ap length (with_padding-whole base.padding (group_symbols base.width) (plain_text base bytes)
-      plain_groups)
-      ∙ length-plain_groups
+      rw (with_padding-whole base.padding (group_symbols base.width) (plain_text base bytes)
+      plain_groups) length-plain_groups
 
   -- and nothing depends on what comes before
   padded_text-join : (others : List ℕ)
       → padded_text base (bytes ++ others) ≡ padded_text base bytes ++ padded_text base others
   padded_text-join others =
-      ap (with_padding base.padding (group_symbols base.width))
-      (plain_text-join base bytes others width.some
-      (ap (λ n. n % base.width) bits-whole
-      ∙ mul-mod_right base.width (q * group_symbols base.width)))
-      ∙ with_padding-join base.padding (group_symbols base.width) (plain_text base bytes)
-      (plain_text base others) (group_symbols-pos base.width width) plain_groups
+      rw (plain_text-join base bytes others width.some
+      (rw bits-whole (mul-mod_right base.width (q * group_symbols base.width))))
+      (with_padding-join base.padding (group_symbols base.width) (plain_text base bytes)
+      (plain_text base others) (group_symbols-pos base.width width) plain_groups)
 
 -- the bytes of a line are as many groups as its symbols
 pub line-groups : (column width : ℕ) → IsWidth width → column % group_symbols width ≡ 0
     → column * width / 8 ≡ column / group_symbols width * group_bytes width
 line-groups column width is whole =
-    let count = column / group_symbols width in
-    let bits : column * width ≡ 8 * (count * group_bytes width) =
-    mul_comm column width ∙ ap (λ n. width * n) (whole-parts column (group_symbols width) whole)
-    ∙ mul_left_comm width count (group_symbols width)
-    ∙ ap (λ n. count * n) (group_bits width is) ∙ mul_left_comm count 8 (group_bytes width) in
-    ap (λ n. n / 8) bits ∙ mul-div_right (count * group_bytes width) (omega arith)
+    omega (
+      arith,
+      ap (λ n. width * n) (whole-parts column (group_symbols width) whole),
+      ap (λ n. column / group_symbols width * n) (group_bits width is),
+    )
 
 in_lines-join : (lines : Wrapping) (xs ys : List ℕ) → 0 < lines.column
     → length xs % lines.column ≡ 0
     → in_lines (Some lines) (xs ++ ys) ≡ in_lines (Some lines) xs ++ in_lines (Some lines) ys
 in_lines-join lines xs ys some whole =
-    ap (flat_map (λ line. line ++ lines.separator)) (runs-join lines.column xs ys some whole)
-    ∙ flat_map-append (λ line. line ++ lines.separator) _ _
+    rw (runs-join lines.column xs ys some whole)
+    (flat_map-append (λ line. line ++ lines.separator) _ _)
 
 module _ (base : Base) (ruled : IsRuled base) (bytes others : List ℕ) where
   by_wrapping : (o : Option Wrapping) → IsRuledWrapping base o
@@ -101,17 +92,20 @@ module _ (base : Base) (ruled : IsRuled base) (bytes others : List ℕ) where
       let count = length bytes / line in
       let in_line = lines.column / symbols in
       let groups : length bytes ≡ count * in_line * size =
-      whole-parts (length bytes) line whole
-      ∙ ap (λ n. count * n) (line-groups lines.column base.width ruled.is_width rule.whole)
-      ∙ sym (mul_assoc count in_line size) in
+      omega (
+        arith,
+        whole-parts (length bytes) line whole,
+        ap (λ n. count * n) (line-groups lines.column base.width ruled.is_width rule.whole),
+      ) in
       let long : length (padded_text base bytes) ≡ count * lines.column =
-      length-padded_groups base ruled.is_width bytes (count * in_line) groups
-      ∙ mul_assoc count in_line symbols
-      ∙ ap (λ n. count * n) (sym (whole-parts lines.column symbols rule.whole)) in
-      ap (in_lines (Some lines))
-      (padded_text-join base ruled.is_width bytes (count * in_line) groups others)
-      ∙ in_lines-join lines (padded_text base bytes) (padded_text base others) rule.some
-      (ap (λ n. n % lines.column) long ∙ mul-mod_left count lines.column)
+      omega (
+        arith,
+        length-padded_groups base ruled.is_width bytes (count * in_line) groups,
+        ap (λ n. count * n) (whole-parts lines.column symbols rule.whole),
+      ) in
+      rw (padded_text-join base ruled.is_width bytes (count * in_line) groups others)
+      (in_lines-join lines (padded_text base bytes) (padded_text base others) rule.some
+      (rw long (mul-mod_left count lines.column)))
 
   -- texts may be joined where the data of the first are whole lines, or whole groups without lines
   pub text_of-join : length bytes % alignment base ≡ 0

@@ -1,5 +1,5 @@
 -- The text of bytes means the bytes.
-use Rattle.std.proofs.Common.{◌≡◌, ℕ, ◌*◌, ◌%◌, ◌<◌, ◌≤◌, true, List, [], ◌++◌, length, take, drop, replicate, Option, Some, None, is_some, refl, sym, ap, ◌∙◌, subst, arith, ⊎_elim, take-append-drop, length-take-le, map}
+use Rattle.std.proofs.Common.{◌≡◌, ℕ, ◌*◌, ◌%◌, ◌<◌, ◌≤◌, true, List, [], ◌++◌, length, take, drop, replicate, Option, Some, None, is_some, refl, sym, ap, ◌∙◌, arith, ⊎_elim, take-append-drop, length-take-le, map}
 use Rattle.std.proofs.Math.Nat.{mod-eq_of_lt, mod_self}
 use Rattle.std.proofs.lemmas.Bool.{cases_lt, false≢true}
 use Rattle.std.proofs.lemmas.List.{append-nil, length-map, map-append}
@@ -8,7 +8,7 @@ use Rattle.std.specs.Prelude.{All}
 use Rattle.data_encoding.specs.declared.encoding.Character.TheVariants.{Padding}
 use Rattle.data_encoding.specs.Base.{Base, IsWidth, meaning, is_padded, group_bytes, group_symbols}
 use Rattle.data_encoding.specs.Bits.{missing, runs}
-use Rattle.data_encoding.specs.Grammar.{GroupsMean, Means, PlainMeans, bytes_in, kept}
+use Rattle.data_encoding.specs.Grammar.{GroupsMean, Means, bytes_in, kept}
 use Rattle.data_encoding.specs.Text.{filled_with, plain_text, text_of, with_padding}
 use Rattle.data_encoding.proofs.digits.WidthLemmas.{by_width, group_bytes-pos, group_symbols-pos}
 use Rattle.data_encoding.proofs.grammar.GroupLemmas.{GroupMeans-symbols}
@@ -21,6 +21,8 @@ use Rattle.data_encoding.proofs.text.LastGroupLemmas.{AreFillers-replicate, Grou
 use Rattle.data_encoding.proofs.text.KeptTextLemmas.{bytes-kept_text}
 use Rattle.data_encoding.proofs.text.SymbolMeaningLemmas.{PlainMeans-plain_text}
 use Rattle.data_encoding.proofs.text.PlainTextLemmas.{filled-join, filled-whole, length-plain_text, plain_text-join, plain_text-nil}
+use Rattle.data_encoding.proofs.grammar.LengthLemmas.{widths}
+use Rattle.data_encoding.specs.declared.encoding.Character.{Character}
 
 -- a whole group of symbols of a whole group; one group of no more
 whole_bits : (width : ℕ) → IsWidth width → 8 * group_bytes width % width ≡ 0
@@ -33,10 +35,7 @@ whole_symbols =
 
 pub few_symbols : (width : ℕ) → IsWidth width → (n : ℕ) → n ≤ group_bytes width
     → run_count width (8 * n) ≤ group_symbols width
-few_symbols =
-    by_width (λ w. (n : ℕ) → n ≤ group_bytes w → run_count w (8 * n) ≤ group_symbols w)
-    (λ n h. omega (arith, h)) (λ n h. omega (arith, h)) (λ n h. omega (arith, h))
-    (λ n h. omega (arith, h)) (λ n h. omega (arith, h)) (λ n h. omega (arith, h))
+few_symbols width is n few = grind (arith, widths width is)
 
 module _ (base : Base) (ruled : IsRuled base) where
   width : IsWidth base.width
@@ -57,10 +56,9 @@ module _ (base : Base) (ruled : IsRuled base) where
     none_meant =
         let positive = group_symbols-pos base.width width in
         let empty : filled [] ≡ [] =
-        ap (filled_with character size) (plain_text-nil base width.some)
-        ∙ filled-whole character size [] (mod-eq_of_lt positive) in
-        subst (λ gs. GroupsMean base gs [])
-        (sym (ap (λ l. runs size (map (meaning base) l)) empty ∙ runs-nil size positive)) refl
+        rw (plain_text-nil base width.some)
+        (filled-whole character size [] (mod-eq_of_lt positive)) in
+        rw (empty, runs-nil {X = Character} size positive)
 
     -- the last group
     last_meant : (bytes : List ℕ) → All (λ byte. byte < 256) bytes → 0 < length bytes
@@ -77,9 +75,8 @@ module _ (base : Base) (ruled : IsRuled base) where
         (omega (arith, len, within)))
         (AreFillers-replicate base count character means_padding) in
         let whole = means.is_whole padded in
-        subst (λ gs. GroupsMean base gs bytes)
-        (sym (runs-short size (map (meaning base) (filled bytes))
-        (omega (arith, whole, group_symbols-pos base.width width)) (omega (arith, whole))))
+        rw (runs-short size (map (meaning base) (filled bytes))
+        (omega (arith, whole, group_symbols-pos base.width width)) (omega (arith, whole)))
         (bytes, [], sym (append-nil bytes), means, (λ final. refl), refl)
 
     -- a whole group, and those of the others
@@ -95,26 +92,22 @@ module _ (base : Base) (ruled : IsRuled base) where
         let symbols = PlainMeans-plain_text base ruled front
         (All-take (λ byte. byte < 256) count bytes below) in
         let text_len : length text ≡ size =
-        length-plain_text base front width.some ∙ ap (λ n. run_count base.width (8 * n)) front_len
-        ∙ whole_symbols base.width width in
+        rw (length-plain_text base front width.some, front_len) (whole_symbols base.width width) in
         let many = length-map text (meaning base) ∙ text_len in
         let means = GroupMeans-symbols base (map (meaning base) text) front
         (omega (arith, many, group_symbols-pos base.width width)) (λ padded. many) symbols in
         let joined : plain_text base bytes ≡ text ++ plain_text base rest =
-        ap (plain_text base) (sym (take-append-drop count bytes))
-        ∙ plain_text-join base front rest width.some
-        (ap (λ n. 8 * n % base.width) front_len ∙ whole_bits base.width width) in
-        let parts : map (meaning base) (filled bytes)
-        ≡ map (meaning base) text ++ map (meaning base) (filled rest) =
-        ap (λ l. map (meaning base) (filled_with character size l)) joined
-        ∙ ap (map (meaning base))
-        (filled-join character size text (plain_text base rest)
-        (group_symbols-pos base.width width) (ap (λ n. n % size) text_len ∙ mod_self size))
-        ∙ map-append (meaning base) text (filled rest) in
-        subst (λ gs. GroupsMean base gs bytes)
-        (sym (ap (runs size) parts
-        ∙ runs-append size (map (meaning base) text) (map (meaning base) (filled rest))
-        (group_symbols-pos base.width width) many)) (
+        rw take-append-drop at (plain_text-join base front rest width.some
+        (rw front_len (whole_bits base.width width))) in
+        let filled_join = filled-join character size text (plain_text base rest)
+        (group_symbols-pos base.width width) (rw text_len (mod_self size)) in
+        rw (
+          joined,
+          filled_join,
+          map-append,
+          runs-append size (map (meaning base) text) (map (meaning base) (filled rest))
+              (group_symbols-pos base.width width) many,
+        ) (
           front,
           rest,
           sym (take-append-drop count bytes),
@@ -149,13 +142,9 @@ module _ (base : Base) (ruled : IsRuled base) where
             → Means base (text_of base bytes) bytes
         by None is h same =
             (unpadded-Means base width (ap is_some is) (text_of base bytes) bytes).1
-            (subst (λ l. PlainMeans base (map (meaning base) l) bytes) (sym same)
-            (PlainMeans-plain_text base ruled bytes below))
+            (rw same (PlainMeans-plain_text base ruled bytes below))
         by (Some character) is h same =
-            let text = filled_with character (group_symbols base.width) (plain_text base bytes) in
-            let size = group_symbols base.width in
-            let kept_bytes = kept base (text_of base bytes) in
-            subst (λ gs. GroupsMean base gs bytes)
-            (ap (λ l. runs size (map (meaning base) l)) (sym same)
-            ∙ runs-meanings base size kept_bytes (group_symbols-pos base.width width))
+            let cut = runs-meanings base (group_symbols base.width) (kept base (text_of base bytes))
+            (group_symbols-pos base.width width) in
+            rw (← cut, same)
             (groups_meant (ap is_some is) character h.1 bytes below)

@@ -1,5 +1,5 @@
 -- Texts that are written in calls.
-use Rattle.std.proofs.Common.{◌≡◌, ℕ, ◌%◌, ◌≤◌, Result, Ok, Err, IsOk, OnOk, List, [], ◌∷◌, ◌++◌, length, take, drop, refl, sym, ap, ◌∙◌, subst, arith, append_assoc, take-append-drop, length-take-le}
+use Rattle.std.proofs.Common.{◌≡◌, ℕ, ◌%◌, ◌≤◌, Result, Ok, Err, IsOk, OnOk, List, [], ◌∷◌, ◌++◌, length, take, drop, refl, ap, subst, arith, append_assoc, take-append-drop, length-take-le}
 use Rattle.std.proofs.Output.{has_written_append, writes_in_calls_append, writes_in_calls_nil, writes_in_calls_single}
 use Rattle.std.proofs.lemmas.List.{length-drop, nil_from_length}
 use Rattle.std.specs.Fmt.{HasWritten, IsPlainFormatter, WritesInCalls}
@@ -17,9 +17,9 @@ text_of-split : (base : Base) → IsRuled base → (input : List ℕ) (n : ℕ) 
     → n % alignment base ≡ 0
     → text_of base input ≡ text_of base (take n input) ++ text_of base (drop n input)
 text_of-split base ruled input n within whole =
-    ap (text_of base) (sym (take-append-drop n input))
-    ∙ text_of-join base ruled (take n input) (drop n input)
-    (ap (λ k. k % alignment base) (length-take-le n input within) ∙ whole)
+    rw take-append-drop
+    at (text_of-join base ruled (take n input) (drop n input)
+    (rw (length-take-le n input within) whole))
 
 module _ {W : Type 0} (gives : W → List ℕ → W → Type 0) where
   call-more : (first now next : W) (done more : List ℕ) → WritesInCalls gives first done now
@@ -32,9 +32,7 @@ module _ {W : Type 0} (gives : W → List ℕ → W → Type 0) where
   pub written-nothing : (base : Base) → IsRuled base → (input : List ℕ) → length input ≡ 0
       → (now : W) → WritesInCalls gives now (text_of base input) now
   written-nothing base ruled input none now =
-      subst (λ l. WritesInCalls gives now l now)
-      (sym (ap (text_of base) (nil_from_length input none) ∙ text_of-nil base ruled))
-      (writes_in_calls_nil gives now)
+      rw (nil_from_length input none, text_of-nil base ruled) (writes_in_calls_nil gives now)
 
   -- What is written and the text of the rest are the text of all.
   pub record IsWrittenBefore (base : Base) (input rest : List ℕ) (first now : W) : Type 0 where
@@ -61,16 +59,14 @@ module _ {W : Type 0} (gives : W → List ℕ → W → Type 0) where
   written-next base ruled input rest first now before n within whole piece others piece-is
       others-is next call =
       let split : text_of base rest ≡ text_of base piece ++ text_of base others =
-      text_of-split base ruled rest n within whole
-      ∙ (λ i. text_of base (sym piece-is i) ++ text_of base (sym others-is i)) in
+      rw (piece-is, others-is) (text_of-split base ruled rest n within whole) in
       record {
         done = before.done ++ text_of base piece;
         calls = call-more first now next before.done (text_of base piece) before.calls call;
         whole =
-            append_assoc before.done (text_of base piece) (text_of base others)
-            ∙ ap (λ l. before.done ++ l) (sym split) ∙ before.whole;
-        within =
-            omega (arith, ap length others-is, length-drop n rest, before.within);
+            rw (append_assoc before.done (text_of base piece) (text_of base others), ← split)
+            before.whole;
+        within = omega (arith, ap length others-is, length-drop n rest, before.within);
       }
 
   pub written-all : (base : Base) (input rest : List ℕ) (first now last : W)
