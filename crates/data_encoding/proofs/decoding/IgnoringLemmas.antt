@@ -24,28 +24,16 @@ abbrev strict : Character → Character
 strict m = cond (is_ignored m) Invalid m
 
 strict_symbol : (m : Character) → is_symbol (strict m) ≡ is_symbol m
-strict_symbol (Symbol value) = refl
-strict_symbol Padding = refl
-strict_symbol Ignored = refl
-strict_symbol Invalid = refl
+strict_symbol m = grind arith
 
 strict_value : (m : Character) → value_of (strict m) ≡ value_of m
-strict_value (Symbol value) = refl
-strict_value Padding = refl
-strict_value Ignored = refl
-strict_value Invalid = refl
+strict_value m = grind arith
 
 strict_padding : (m : Character) → is_padding (strict m) ≡ is_padding m
-strict_padding (Symbol value) = refl
-strict_padding Padding = refl
-strict_padding Ignored = refl
-strict_padding Invalid = refl
+strict_padding m = grind arith
 
 strict_kept : (m : Character) → is_ignored (strict m) ≡ false
-strict_kept (Symbol value) = refl
-strict_kept Padding = refl
-strict_kept Ignored = refl
-strict_kept Invalid = refl
+strict_kept m = grind arith
 
 strict_at : (meanings : List Character) (byte : ℕ)
     → get_or (map strict meanings) byte Invalid ≡ strict (get_or meanings byte Invalid)
@@ -82,33 +70,16 @@ module _ (base : Base) where
       list_any-none is_ignored (map strict base.meanings) (none_strict base.meanings)
 
   fault-strict : (ms : List Character) → symbols_fault base (map strict ms) ≡ symbols_fault base ms
-  fault-strict ms =
-      let place = symbols-strict ms in
-      let len = length-map ms strict in
-      let bits : List ℕ → List ℕ = flat_map (bits_of base.order base.width) in
-      λ i. fault_at_first (cond (nat_lt (place i) (len i)) (Some (place i)) None)
-      (cond (base.checks_trailing_bits && list_any (λ bit. not (bit == 0))
-      (drop (length (bits (values-strict ms i)) / 8 * 8) (bits (values-strict ms i))))
-      (faulty_at TrailingFault (len i - 1)) None)
+  fault-strict ms = simp (symbols-strict, values-strict, length-map)
 
   padded-strict : (ms : List Character) (count : ℕ)
       → padded_fault_at base (map strict ms) count ≡ padded_fault_at base ms count
-  padded-strict ms count =
-      let few = ap (symbols_fault base) (take-map strict count ms) ∙ fault-strict (take count ms) in
-      λ i. cond (nat_lt (length-map ms strict i) (group_symbols base.width))
-      (faulty_at LengthFault 0)
-      (cond (count == 0 || not (is_valid_count base.width count)) (faulty_at PaddingFault count)
-      (few i))
+  padded-strict ms count = simp (take-map, symbols-strict, values-strict, length-map)
 
   characters-strict : (ms : List Character)
       → character_fault base (map strict ms) ≡ character_fault base ms
   characters-strict ms =
-      let len = length-map ms strict in
-      let padded = padded-strict ms (count_before_padding (map strict ms))
-      ∙ ap (padded_fault_at base ms) (paddings-strict ms) in
-      λ i. cond (is_padded base) (padded i)
-      (cond (is_valid_count base.width (len i)) (fault-strict ms i)
-      (faulty_at LengthFault (greatest_valid_count base.width (len i))))
+      rw (paddings-strict ms) (simp (take-map, symbols-strict, values-strict, length-map))
 
   -- a group has the same fault
   pub group_fault-strict : (bytes : List ℕ)
