@@ -1,7 +1,7 @@
 -- Texts of one group, and what they mean.
 use Rattle.std.proofs.Common.{◌≡◌, ℕ, ◌<◌, ◌≤◌, List, [], ◌∷◌, ◌++◌, length, map, replicate, false, true, Option, Some, None, is_some, refl, sym, ap, ◌∙◌, subst, arith, append-nil}
 use Rattle.std.specs.Prelude.{All}
-use Rattle.data_encoding.specs.declared.encoding.Character.TheVariants.{Symbol}
+use Rattle.data_encoding.specs.declared.encoding.Character.TheVariants.{Symbol, Padding}
 use Rattle.data_encoding.specs.Base.{Base, IsWidth, meaning, is_ignored, is_padded, group_symbols}
 use Rattle.data_encoding.specs.Bits.{missing, runs}
 use Rattle.data_encoding.specs.Grammar.{GroupMeans, GroupsMean, Means, PlainMeans, bytes_in, kept}
@@ -10,7 +10,7 @@ use Rattle.data_encoding.proofs.digits.WidthLemmas.{group_bytes-pos, group_symbo
 use Rattle.data_encoding.proofs.grammar.PositionLemmas.{runs-meanings}
 use Rattle.data_encoding.proofs.grammar.SameBytesLemmas.{Means-same, bytes-kept_in}
 use Rattle.data_encoding.proofs.grammar.UnpaddedGrammarLemmas.{unpadded-Means}
-use Rattle.data_encoding.proofs.lists.EachLemmas.{all_joined}
+use Rattle.data_encoding.proofs.lists.EachLemmas.{all_joined, all_weaker}
 use Rattle.data_encoding.proofs.lists.ListLemmas.{AllFail}
 use Rattle.data_encoding.proofs.lists.RunLemmas.{run_count-some, runs-short}
 use Rattle.data_encoding.proofs.judgement.RuleLemmas.{IsRuled, IsRuledPadding}
@@ -29,13 +29,6 @@ symbols_kept base (byte ∷ text) (value ∷ values) h =
     let here : meaning base byte ≡ Symbol value = cc in
     let others : map (meaning base) text ≡ map (λ value. Symbol value) values = cc in
     (ap is_ignored here, symbols_kept base text values others)
-
--- nor is padding
-fillers_kept : (base : Base) (fillers : List ℕ) → AreFillers base fillers
-    → AllFail (λ byte. is_ignored (meaning base byte)) fillers
-fillers_kept base [] all = tt
-fillers_kept base (filler ∷ fillers) all =
-    (ap is_ignored all.0, fillers_kept base fillers all.1)
 
 module _ (base : Base) (ruled : IsRuled base) where
   width : IsWidth base.width
@@ -73,7 +66,8 @@ module _ (base : Base) (ruled : IsRuled base) where
         let filled = text ++ fillers in
         let keeps : keeps_all filled =
         all_joined (λ byte. is_ignored (meaning base byte) ≡ false) text fillers symbols
-        (fillers_kept base fillers all) in
+        (all_weaker (λ byte. meaning base byte ≡ Padding)
+        (λ byte. is_ignored (meaning base byte) ≡ false) (λ byte is. ap is_ignored is) fillers all) in
         let group : GroupMeans base (map (meaning base) filled) bytes =
         GroupMeans-fillers base text fillers bytes padded means some whole all in
         let many = group.is_whole padded in

@@ -36,21 +36,12 @@ record HasOneForm (base : Base) : Type 0 where
   pub alone : (is_padded base && base.concatenates) ≡ false
   pub keeps : ignores_some base ≡ false
 
-not_true : (b : Bool) → not b ≡ true → b ≡ false
-not_true true h = cc
-not_true false h = refl
-
 parts_of : (base : Base) → has_one_own_form base ≡ true → HasOneForm base
-parts_of base h =
-    let alone = not (is_padded base && base.concatenates) in
-    let keeps = not (ignores_some base) in
-    let first = and_parts (base.checks_trailing_bits && alone) keeps h in
-    let second = and_parts base.checks_trailing_bits alone first.0 in
-    record {
-      checks = second.0;
-      alone = not_true (is_padded base && base.concatenates) second.1;
-      keeps = not_true (ignores_some base) first.1;
-    }
+parts_of base h = record {
+  checks = grind (arith, h);
+  alone = grind (arith, h);
+  keeps = grind (arith, h);
+}
 
 module _ (base : Base) (ruled : IsRuled base) (one : HasOneForm base) where
   width : IsWidth base.width

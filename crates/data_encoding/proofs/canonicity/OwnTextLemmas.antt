@@ -1,9 +1,10 @@
 -- What the bytes of a text stand for is decided by what they mean.
 use Rattle.std.proofs.Common.{◌≡◌, ℕ, ◌+◌, ◌-◌, ◌%◌, ◌^◌, ◌<◌, ◌≤◌, ◌==◌, true, not, List, [], ◌∷◌, ◌++◌, length, map, replicate, Option, Some, None, unwrap_or, refl, sym, ap, ◌∙◌, subst, arith, ⊎_elim, length-append, zero, suc}
-use Rattle.std.proofs.lemmas.Bool.{cases_eq, cases_lt, ne_eqb}
+use Rattle.std.proofs.lemmas.Bool.{cases_lt}
+use Rattle.std.proofs.lemmas.Bool.Decides.{nat_tests}
 use Rattle.std.proofs.lemmas.Nat.{mod_below}
 use Rattle.std.proofs.lemmas.List.{get_or_past}
-use Rattle.std.proofs.Math.Nat.{add-mod, add-mod_left, mod-eq_of_lt, mul_comm, mul-mod_left}
+use Rattle.std.proofs.Math.Nat.{add-mod, mod-eq-sub-mod, mod-eq_of_lt, mul_comm, mul-mod_left}
 use Rattle.std.specs.Prelude.{flat_map}
 use Rattle.std.specs.List.{AllByRecursion}
 use Rattle.data_encoding.specs.declared.encoding.BitOrder.{BitOrder}
@@ -28,32 +29,19 @@ use Rattle.data_encoding.proofs.text.PlainTextLemmas.{missing-none}
 pub missing-is : (size count rest : ℕ) → rest < size → (count + rest) % size ≡ 0
     → rest ≡ missing size count
 missing-is size count rest short whole =
-    ⊎_elim {C = rest ≡ missing size count}
-    (λ (low : count % size + rest < size).
-    let none : count % size + rest ≡ 0 = sym (mod-eq_of_lt low) ∙ both in
-    let nothing : rest ≡ 0 = omega (arith, none) in
-    nothing ∙ sym (missing-none size count (omega (arith, none))))
-    (λ (high : size ≤ count % size + rest).
-    let over = count % size + rest - size in
-    let same : size + over ≡ count % size + rest = omega (arith, high) in
-    let few : count % size < size = mod_below count size (omega (arith, short)) in
-    let none : over ≡ 0 =
-    sym (mod-eq_of_lt (omega (arith, few, short, high)))
-    ∙ sym (add-mod_left size over) ∙ ap (λ n. n % size) same ∙ both in
-    let is : rest ≡ size - count % size = omega (arith, none, high) in
-    let below : size - count % size < size = omega (arith, is, short) in
-    is ∙ sym (mod-eq_of_lt below))
-    (cases_lt (count % size + rest) size) where
-      both : (count % size + rest) % size ≡ 0
-      both =
-          sym (add-mod count rest size ∙ ap (λ n. (count % size + n) % size) (mod-eq_of_lt short))
-          ∙ whole
+    let left = count % size in
+    let few : left < size = mod_below count size (omega (arith, short)) in
+    let both : (left + rest) % size ≡ 0 =
+    sym (add-mod count rest size ∙ ap (λ n. (left + n) % size) (mod-eq_of_lt short)) ∙ whole in
+    let low : left + rest < size → left + rest ≡ 0 = λ h. sym (mod-eq_of_lt h) ∙ both in
+    let high : size ≤ left + rest → left + rest - size ≡ 0 =
+    λ h. sym (mod-eq_of_lt (omega (arith, few, short, h))) ∙ sym (mod-eq-sub-mod h) ∙ both in
+    let none = missing-none size count in
+    let some : size - left < size → missing size count ≡ size - left = mod-eq_of_lt in
+    grind (arith, few, low, high, none, some)
 
 equal_by : (a b : ℕ) → (not (a == b) ≡ true → ⊥) → a ≡ b
-equal_by a b h =
-    ⊎_elim {C = a ≡ b} (λ (same : a ≡ b). same)
-    (λ (apart : a ≡ b → ⊥). absurd (h (ap not (ne_eqb a b apart))))
-    (cases_eq a b)
+equal_by a b h = grind (arith, nat_tests)
 
 -- numbers of symbols are what their bits say
 numbers_again : (order : BitOrder) (width : ℕ) (values : List ℕ)
@@ -74,10 +62,7 @@ module _ (base : Base) (ruled : IsRuled base) where
   -- a byte that means something is ASCII
   ascii : (byte : ℕ) → (meaning base byte ≡ Invalid → ⊥) → byte < 128
   ascii byte h =
-      ⊎_elim {C = byte < 128} (λ (low : byte < 128). low)
-      (λ (high : 128 ≤ byte).
-      absurd (h (get_or_past base.meanings byte Invalid (omega (arith, high, ruled.long)))))
-      (cases_lt byte 128)
+      let past = get_or_past base.meanings byte Invalid in grind (arith, past, ruled.long, h)
 
   -- the value of a symbol is below their number
   pub value_below : (byte value : ℕ) → meaning base byte ≡ Symbol value → value < 2 ^ base.width

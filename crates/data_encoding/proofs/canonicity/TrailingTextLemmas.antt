@@ -1,6 +1,7 @@
 -- A trailing bit that is not checked gives a second text.
 use Rattle.std.proofs.Common.{◌≡◌, ℕ, zero, suc, ◌+◌, ◌/◌, ◌%◌, ◌^◌, ◌<◌, ◌≤◌, ◌==◌, nat_lt, true, false, ◌||◌, List, [], ◌∷◌, ◌++◌, length, map, drop, get_or, replicate, Option, Some, None, refl, sym, ap, ◌∙◌, arith, append_assoc, length-append, unwrap_or}
-use Rattle.std.proofs.lemmas.Bool.{false≢true, ltb-true}
+use Rattle.std.proofs.lemmas.Bool.{false≢true}
+use Rattle.std.proofs.lemmas.Bool.Decides.{nat_tests}
 use Rattle.std.proofs.lemmas.List.{length-replicate}
 use Rattle.std.specs.Prelude.{flat_map}
 use Rattle.data_encoding.specs.declared.encoding.BitOrder.{BitOrder}
@@ -27,58 +28,36 @@ trailing_bits order width =
 
 -- What the last bit of the last symbol is, where eight bits are no whole symbols.
 record TrailsAt (order : BitOrder) (width : ℕ) : Type 0 where
-  same_bits : flat_map (bits_of order width) (values_with width (last_bit order width))
-      ≡ bits_of_bytes order (0 ∷ []) ++ trailing_bits order width
   short : length (trailing_bits order width) < width
   below : last_bit order width < 2 ^ width
   not_zero : 0 ≡ last_bit order width → ⊥
   few : 8 / width + 1 ≤ group_symbols width
 
-trails : (order : BitOrder) (width : ℕ)
-    → flat_map (bits_of order width) (values_with width (last_bit order width))
-    ≡ bits_of_bytes order (0 ∷ []) ++ trailing_bits order width
-    → nat_lt (length (trailing_bits order width)) width ≡ true
-    → nat_lt (last_bit order width) (2 ^ width) ≡ true → nat_lt 0 (last_bit order width) ≡ true
-    → nat_lt (8 / width) (group_symbols width) ≡ true → TrailsAt order width
-trails order width same short below some few =
-    let more = ltb-true 0 (last_bit order width) some in
-    let less = ltb-true (8 / width) (group_symbols width) few in
-    record {
-      same_bits = same;
-      short = ltb-true (length (trailing_bits order width)) width short;
-      below = ltb-true (last_bit order width) (2 ^ width) below;
-      not_zero = λ none. omega (arith, none, more);
-      few = omega (arith, less);
-    }
-
 trails_at : (order : BitOrder) (width : ℕ) → IsWidth width → (8 % width ≡ 0 → ⊥)
     → TrailsAt order width
 trails_at MostSignificantFirst =
-    partly (TrailsAt MostSignificantFirst)
-    (trails MostSignificantFirst 3 refl refl refl refl refl)
-    (trails MostSignificantFirst 5 refl refl refl refl refl)
-    (trails MostSignificantFirst 6 refl refl refl refl refl)
+    partly (TrailsAt MostSignificantFirst) (omega arith) (omega arith) (omega arith)
 trails_at LeastSignificantFirst =
-    partly (TrailsAt LeastSignificantFirst)
-    (trails LeastSignificantFirst 3 refl refl refl refl refl)
-    (trails LeastSignificantFirst 5 refl refl refl refl refl)
-    (trails LeastSignificantFirst 6 refl refl refl refl refl)
+    partly (TrailsAt LeastSignificantFirst) (omega arith) (omega arith) (omega arith)
 
 -- symbols of the value 0, and another
 abbrev symbols_with : ℕ → ℕ → ℕ → List ℕ
 symbols_with count first last = replicate count first ++ last ∷ []
 
--- the text of a byte 0
-abbrev IsZeroText : Base → BitOrder → ℕ → Type 0
-IsZeroText base order width =
-    text_by base width order (bits_of_bytes order (0 ∷ []))
-    ≡ symbols_with (8 / width) (symbol base 0) (symbol base 0)
+-- the bits of these values, and the text of a byte 0
+abbrev HasZeroText : Base → BitOrder → ℕ → Type 0
+HasZeroText base order width =
+    (flat_map (bits_of order width) (values_with width (last_bit order width))
+    ≡ bits_of_bytes order (0 ∷ []) ++ trailing_bits order width)
+    × (text_by base width order (bits_of_bytes order (0 ∷ []))
+    ≡ symbols_with (8 / width) (symbol base 0) (symbol base 0))
 
 zero_text : (base : Base) (order : BitOrder) (width : ℕ) → IsWidth width
-    → (8 % width ≡ 0 → ⊥) → IsZeroText base order width
-zero_text base MostSignificantFirst = partly (IsZeroText base MostSignificantFirst) refl refl refl
+    → (8 % width ≡ 0 → ⊥) → HasZeroText base order width
+zero_text base MostSignificantFirst =
+    partly (HasZeroText base MostSignificantFirst) (refl, refl) (refl, refl) (refl, refl)
 zero_text base LeastSignificantFirst =
-    partly (IsZeroText base LeastSignificantFirst) refl refl refl
+    partly (HasZeroText base LeastSignificantFirst) (refl, refl) (refl, refl) (refl, refl)
 
 at_count : (count first last : ℕ) (more : List ℕ)
     → get_or (replicate count first ++ last ∷ more) count 0 ≡ last
@@ -112,12 +91,13 @@ symbols_mean base (suc count) first last h k =
 
 module _ (base : Base) (ruled : IsRuled base) (unchecked : base.checks_trailing_bits ≡ false) where
   not_whole : 8 % base.width ≡ 0 → ⊥
-  not_whole whole =
-      false≢true (sym (ap (λ b. b || (8 % base.width == 0)) (sym unchecked) ∙ ruled.checked
-      ∙ unchecked) ∙ ap (λ n. n == 0) whole)
+  not_whole whole = let checked = ruled.checked in grind (arith, nat_tests, checked)
 
   facts : TrailsAt base.order base.width
   facts = trails_at base.order base.width ruled.is_width not_whole
+
+  computed : HasZeroText base base.order base.width
+  computed = zero_text base base.order base.width ruled.is_width not_whole
 
   abbrev last : ℕ
   last = last_bit base.order base.width
@@ -141,7 +121,7 @@ module _ (base : Base) (ruled : IsRuled base) (unchecked : base.checks_trailing_
     values = values_with base.width last;
     rest = trailing_bits base.order base.width;
     are_symbols = symbols_mean base (8 / base.width) 0 last zero_meaning last_meaning;
-    same_bits = facts.same_bits;
+    same_bits = computed.0;
     rest_is_short = facts.short;
     rest_is_zero = λ checks. absurd (false≢true (sym unchecked ∙ checks));
     are_bytes = zero_byte;
@@ -150,10 +130,9 @@ module _ (base : Base) (ruled : IsRuled base) (unchecked : base.checks_trailing_
   differ : padded_text base (0 ∷ []) ≡ trailing_text base → ⊥
   differ same =
       let size = group_symbols base.width in
-      let zero_is = zero_text base base.order base.width ruled.is_width not_whole in
       let symbols = last_same base.padding size (8 / base.width) (symbol base 0) (symbol base 0)
       (symbol base last)
-      (ap (with_padding base.padding size) (sym zero_is) ∙ same) in
+      (ap (with_padding base.padding size) (sym computed.1) ∙ same) in
       let meanings : Symbol 0 ≡ Symbol last =
       sym zero_meaning ∙ ap (meaning base) symbols ∙ last_meaning in
       facts.not_zero (ap (λ m. unwrap_or (value_of m) 0) meanings)

@@ -36,12 +36,10 @@ last_replaced : (a b count : ℕ) (xs : List ℕ)
     ≡ xs ++ (replicate count a ++ b ∷ [])
 last_replaced a b count [] =
     let on : 0 + count ≡ count = omega arith in
-    ap (λ n. take n (replicate (suc count) a) ++ b ∷ []) on
-    ∙ ap (λ l. l ++ b ∷ []) (take-replicate count (suc count) a (omega arith))
+    rw (on, take-replicate count (suc count) a (omega arith))
 last_replaced a b count (x ∷ xs) =
     let on : length (x ∷ xs) + count ≡ suc (length xs + count) = omega arith in
-    ap (λ n. take n (x ∷ (xs ++ replicate (suc count) a)) ++ b ∷ []) on
-    ∙ ap (λ l. x ∷ l) (last_replaced a b count xs)
+    rw on (ap (λ l. x ∷ l) (last_replaced a b count xs))
 
 -- a run does not end in another
 last_same : (a b count : ℕ) → replicate (suc count) a ≡ replicate count a ++ b ∷ [] → a ≡ b
@@ -148,8 +146,7 @@ module _ (base : Base) (ruled : IsRuled base) where
 
     lack_is : lack ≡ suc count
     lack_is =
-        let lacks : 0 < lack =
-        subst (λ n. 0 < missing size n) (sym (length-plain_text base (0 ∷ []) width.some))
+        let lacks : 0 < lack = rw (length-plain_text base (0 ∷ []) width.some)
         (one_byte_lacks base.width width (padded-partly base ruled (ap is_some some))) in
         omega (arith, lacks)
 
@@ -183,8 +180,7 @@ module _ (base : Base) (ruled : IsRuled base) where
     second_text : text_ending_in base byte ≡ zero_text ++ fillers
     second_text =
         let all_but_one : size - 1 ≡ length zero_text + count = omega (arith, whole) in
-        (λ i. take (all_but_one i) (own_text i) ++ byte ∷ [])
-        ∙ last_replaced character byte count zero_text
+        rw (all_but_one, own_text) (last_replaced character byte count zero_text)
 
     second_means : meaning base byte ≡ Padding → Means base (text_ending_in base byte) (0 ∷ [])
     second_means is =

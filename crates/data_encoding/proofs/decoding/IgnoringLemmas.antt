@@ -13,7 +13,7 @@ use Rattle.data_encoding.specs.Lengths.{is_valid_count, greatest_valid_count}
 use Rattle.data_encoding.specs.Fault.{character_fault, count_before_padding, fault_at_first, faulty_at, group_fault, padded_fault_at, symbols_fault}
 use Rattle.data_encoding.specs.Partial.{ignoring_nothing}
 use Rattle.data_encoding.proofs.digits.WordLemmas.{map-twice}
-use Rattle.data_encoding.proofs.lists.EachLemmas.{all_joined}
+use Rattle.data_encoding.proofs.lists.EachLemmas.{all_joined, all_replicate}
 use Rattle.data_encoding.proofs.lists.EndLemmas.{AllSo, count_before_end, count_before_end-map}
 use Rattle.data_encoding.proofs.lists.ListLemmas.{AllFail, list_any-none}
 use Rattle.data_encoding.proofs.grammar.PositionLemmas.{length-meanings}
@@ -94,14 +94,10 @@ module _ (base : Base) where
 abbrev AreKept : List Character → Type 0
 AreKept meanings = AllSo (λ m. not (is_ignored m)) meanings
 
--- symbols and padding are kept
+-- symbols are kept
 symbols_kept : (values : List ℕ) → AreKept (map (λ value. Symbol value) values)
 symbols_kept [] = tt
 symbols_kept (value ∷ values) = (refl, symbols_kept values)
-
-padding_kept : (count : ℕ) → AreKept (replicate count Padding)
-padding_kept zero = tt
-padding_kept (suc count) = (refl, padding_kept count)
 
 bytes_kept : (base : Base) (ks : List Positioned)
     → AreKept (meanings_in base ks)
@@ -122,4 +118,4 @@ group-kept base width (k ∷ ks) few h =
     (subst AreKept (sym means.is_group)
     (all_joined (λ m. not (is_ignored m) ≡ true) means.symbols (replicate means.padding Padding)
     (subst AreKept (sym means.means.are_symbols) (symbols_kept means.means.values))
-    (padding_kept means.padding)))
+    (all_replicate (λ m. not (is_ignored m) ≡ true) means.padding Padding refl)))

@@ -6,6 +6,7 @@ use Rattle.std.proofs.lemmas.List.Concat.{flat_map-append}
 use Rattle.std.proofs.lemmas.List.Folds.{list_any-append}
 use Rattle.std.proofs.lemmas.Nat.{div-add-mod', pow-add, pow_pos}
 use Rattle.std.proofs.lemmas.Option.{get_or_from_slice_get}
+use Rattle.std.proofs.Math.Bool.{or-false, or_comm}
 use Rattle.std.proofs.Math.Nat.{div-lt_iff_lt-mul, mod-lt, mul-add, mul_comm}
 use Rattle.std.proofs.Math.Seq.{drop-append-add}
 use Rattle.std.specs.Prelude.{flat_map, slice_get}
@@ -17,7 +18,7 @@ use Rattle.data_encoding.specs.Bits.{bits_of, low_bits, number_of_low_bits}
 use Rattle.data_encoding.specs.Lengths.{is_valid_count}
 use Rattle.data_encoding.specs.Tables.{HoldsValues}
 use Rattle.data_encoding.specs.Fault.{trailing_bits}
-use Rattle.data_encoding.proofs.digits.BitLemmas.{length-low_bits, low_bits-add, low_bits-mod, number-low_bits}
+use Rattle.data_encoding.proofs.digits.BitLemmas.{length-bits_of, length-low_bits, low_bits-add, low_bits-mod, number-low_bits}
 use Rattle.data_encoding.proofs.grammar.UnpaddedGroupLemmas.{length-bits_of_values}
 use Rattle.data_encoding.proofs.digits.KernelLemmas.{values_in-table, entries_below}
 
@@ -33,42 +34,30 @@ module _ (base : Base) (values : List ℕ) (holds : HoldsValues base values) whe
       → prefix_len (λ m. not (not (is_symbol m))) (map (meaning base) group) ≡ index
   symbols_len [] index s = omega (arith, s.inside)
   symbols_len (byte ∷ group) zero s =
-      let rest = prefix_len (λ m. not (not (is_symbol m))) (map (meaning base) group) in
-      ap (λ b. cond (not (not b)) (1 + rest) 0)
-      (holds.others byte (s.are_bytes 0) (s.there (omega arith)))
+      rw (holds.others byte (s.are_bytes 0) (s.there (omega arith)))
   symbols_len (byte ∷ group) (suc index) s =
-      let rest = prefix_len (λ m. not (not (is_symbol m))) (map (meaning base) group) in
-      let others : rest ≡ index = symbols_len group index (record {
+      let others = symbols_len group index (record {
         are_bytes = λ k. s.are_bytes (suc k);
         before = λ k h. s.before (suc k) (omega (arith, h));
         inside = omega (arith, s.inside);
         there = λ h. s.there (omega (arith, h));
       }) in
-      ap (λ m. cond (not (not (is_symbol m))) (1 + rest) 0)
-      (holds.symbols byte (s.are_bytes 0) (s.before 0 (omega arith)))
-      ∙ ap (λ n. 1 + n) others ∙ omega arith
+      rw (holds.symbols byte (s.are_bytes 0) (s.before 0 (omega arith)), others) (omega arith)
 
   module _ (group : List ℕ) where
-    position_is : (index : ℕ) → StopsAfter group index
-        → position (λ m. not (is_symbol m)) (map (meaning base) group)
-        ≡ cond (nat_lt index (length group)) (Some index) None
-    position_is index s = λ i.
-        cond (nat_lt (symbols_len group index s i) (length-map group (meaning base) i))
-        (Some (symbols_len group index s i)) None
-
     -- where each byte is a symbol none is found
     pub no_symbol-none : StopsAfter group (length group)
         → position (λ m. not (is_symbol m)) (map (meaning base) group) ≡ None
     no_symbol-none s =
         let past : nat_lt (length group) (length group) ≡ false = grind (arith, nat_tests) in
-        position_is (length group) s ∙ ap (λ b. cond b (Some (length group)) None) past
+        rw (symbols_len group (length group) s, length-map group (meaning base), past)
 
     -- or else the first that is none
     pub no_symbol-some : (index : ℕ) → StopsAfter group index → index < length group
         → position (λ m. not (is_symbol m)) (map (meaning base) group) ≡ Some index
     no_symbol-some index s h =
         let here : nat_lt index (length group) ≡ true = grind (arith, nat_tests) in
-        position_is index s ∙ ap (λ b. cond b (Some index) None) here
+        rw (symbols_len group index s, length-map group (meaning base), here)
 
 -- whether some bit is not zero
 abbrev some_bit : List ℕ → Bool
@@ -85,23 +74,22 @@ some_bit-number (bit ∷ bits) =
 some_bit-reverse : (bits : List ℕ) → some_bit (reverse bits) ≡ some_bit bits
 some_bit-reverse [] = refl
 some_bit-reverse (bit ∷ bits) =
-    ap some_bit (reverse-append (bit ∷ []) bits)
-    ∙ list_any-append (λ bit. not (bit == 0)) (reverse bits) (bit ∷ [])
-    ∙ ap (λ b. b || (not (bit == 0) || false)) (some_bit-reverse bits)
-    ∙ turned (some_bit bits) (not (bit == 0)) where
-      turned : (a b : Bool) → (a || (b || false)) ≡ (b || a)
-      turned true true = refl
-      turned true false = refl
-      turned false true = refl
-      turned false false = refl
+    rw (
+      reverse-append (bit ∷ []) bits,
+      list_any-append (λ bit. not (bit == 0)) (reverse bits) (bit ∷ []),
+      some_bit-reverse bits,
+      or-false (not (bit == 0)),
+    )
+    (or_comm (some_bit bits) (not (bit == 0)))
 
 some_bit-low_bits : (count number : ℕ)
     → some_bit (low_bits count number) ≡ not (number % 2 ^ count == 0)
 some_bit-low_bits count number =
-    some_bit-number (low_bits count number)
-    ∙ ap (λ bits. not (number_of_low_bits bits == 0)) (sym (low_bits-mod count number))
-    ∙ ap (λ n. not (n == 0))
-    (number-low_bits count (number % 2 ^ count) (mod-lt number (pow_pos count)))
+    rw (
+      some_bit-number (low_bits count number),
+      ← low_bits-mod count number,
+      number-low_bits count (number % 2 ^ count) (mod-lt number (pow_pos count)),
+    )
 
 -- the last bits of a value: the low ones where the most significant come first, or the high ones
 last_most : (width few value : ℕ) → few ≤ width
@@ -116,9 +104,8 @@ last_most width few value h =
     ∙ ap reverse (low_bits-add few (width - few) value) ∙ reverse-append low high in
     let len : length (reverse high) ≡ width - few =
     length-reverse high ∙ length-low_bits (width - few) (value / 2 ^ few) in
-    ap (λ bits. some_bit (drop (width - few) bits)) parts
-    ∙ ap some_bit (drop_at (reverse high) (reverse low) (width - few) len)
-    ∙ some_bit-reverse low ∙ some_bit-low_bits few value
+    rw (parts, drop_at (reverse high) (reverse low) (width - few) len, some_bit-reverse low)
+    (some_bit-low_bits few value)
 
 last_least : (width few value : ℕ) → few ≤ width → value < 2 ^ width
     → some_bit (drop (width - few) (bits_of LeastSignificantFirst width value))
@@ -135,11 +122,12 @@ last_least width few value h below =
     let small : above < 2 ^ few =
     (div-lt_iff_lt-mul {k = 2 ^ (width - few)} {x = value} {y = 2 ^ few}
     (pow_pos (width - few))).1 (subst (λ n. value < n) power below) in
-    ap (λ bits. some_bit (drop (width - few) bits)) parts
-    ∙ ap some_bit
-    (drop_at low (low_bits few above) (width - few) (length-low_bits (width - few) value))
-    ∙ some_bit-number (low_bits few above)
-    ∙ ap (λ n. not (n == 0)) (number-low_bits few above small)
+    rw (
+      parts,
+      drop_at low (low_bits few above) (width - few) (length-low_bits (width - few) value),
+      some_bit-number (low_bits few above),
+      number-low_bits few above small,
+    )
 
 -- the bits of values after the last whole byte are the last of the last value
 abbrev left_over : BitOrder → ℕ → List ℕ → List ℕ
@@ -153,18 +141,18 @@ left_over-last : (order : BitOrder) (width few : ℕ) (front : List ℕ) (value 
     ≡ drop (width - few) (bits_of order width value)
 left_over-last order width few front value is h =
     let f = bits_of order width in
-    let bits : flat_map f (front ++ value ∷ []) ≡ flat_map f front ++ f value =
-    flat_map-append f front (value ∷ []) ∙ ap (λ l. flat_map f front ++ l) (append-nil (f value)) in
     let before : length (flat_map f front) ≡ width * length front =
     length-bits_of_values order width front in
-    let all : length (flat_map f (front ++ value ∷ [])) ≡ width * (length front + 1) =
-    length-bits_of_values order width (front ++ value ∷ [])
-    ∙ ap (λ n. width * n) (length-append front (value ∷ [])) in
-    let whole : length (flat_map f (front ++ value ∷ [])) / 8 * 8
+    let whole : (length (flat_map f front) + length (f value)) / 8 * 8
     ≡ length (flat_map f front) + (width - few) =
-    ap (λ n. n / 8 * 8) all
-    ∙ omega (arith, mul-add width (length front) 1, div-add-mod' (width * (length front + 1)) 8) in
-    (λ i. drop (whole i) (bits i)) ∙ drop-append-add (flat_map f front) (f value) (width - few)
+    omega (arith, before, length-bits_of order width value, is, h) in
+    rw (
+      flat_map-append f front (value ∷ []),
+      append-nil (f value),
+      length-append (flat_map f front) (f value),
+      whole,
+    )
+    (drop-append-add (flat_map f front) (f value) (width - few))
 
 -- the last of a list
 last_inside : (xs : List ℕ) (n x : ℕ) → Some x ≡ slice_get xs n → n < length xs
