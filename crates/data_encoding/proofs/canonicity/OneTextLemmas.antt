@@ -1,6 +1,6 @@
 -- Where there is no cause of a second text but a translated byte, the own form of a text that means
 -- data is the text of the data; and where there is no cause at all, the text is.
-use Rattle.std.proofs.Common.{◌≡◌, ◌↔◌, ℕ, ◌+◌, ◌*◌, ◌%◌, ◌<◌, ◌==◌, Bool, true, false, not, ◌&&◌, List, [], ◌∷◌, ◌++◌, length, map, replicate, Option, Some, None, is_some, unwrap_or, refl, sym, ap, ◌∙◌, subst, arith, zero, suc, nat_lt, take, drop, length-take-le, take-append-drop}
+use Rattle.std.proofs.Common.{◌≡◌, ◌↔◌, ℕ, ◌+◌, ◌*◌, ◌%◌, ◌<◌, ◌==◌, true, false, not, ◌&&◌, List, [], ◌∷◌, ◌++◌, length, map, replicate, Option, Some, None, is_some, unwrap_or, refl, sym, ap, ◌∙◌, subst, arith, zero, suc, nat_lt, take, drop, length-take-le, take-append-drop}
 use Rattle.std.proofs.lemmas.Bool.{and_parts, eqb-true}
 use Rattle.std.proofs.lemmas.List.{append-nil, length-map, map-append, nil_from_length}
 use Rattle.std.proofs.Math.Nat.{mod-eq_of_lt, mod_self, mul-mod_left, mul_comm}
@@ -52,10 +52,7 @@ module _ (base : Base) (ruled : IsRuled base) (one : HasOneForm base) where
   own_in ks = own_form base (bytes_in ks)
 
   own_in-append : (ks js : List Positioned) → own_in (ks ++ js) ≡ own_in ks ++ own_in js
-  own_in-append ks js =
-      let stands_for : ℕ → ℕ = λ byte. unwrap_or (own_character base (meaning base byte)) byte in
-      ap (own_form base) (map-append (λ (k : Positioned). k.byte) ks js)
-      ∙ map-append stands_for (bytes_in ks) (bytes_in js)
+  own_in-append ks js = simp map-append
 
   module _ (character : ℕ) (some : base.padding ≡ Some character) where
     abbrev size : ℕ
@@ -73,8 +70,7 @@ module _ (base : Base) (ruled : IsRuled base) (one : HasOneForm base) where
         → is_final base group ≡ true
     final group piece means some =
         let pads : nat_lt 0 means.padding ≡ true = grind (arith, nat_tests) in
-        ap (λ b. not b && list_any is_padding (meanings_in base group)) joins
-        ∙ GroupMeans-padding base (meanings_in base group) piece means ∙ pads
+        rw (joins, GroupMeans-padding base (meanings_in base group) piece means, pads)
 
     module _ (group : List Positioned) (piece : List ℕ)
         (means : GroupMeans base (meanings_in base group) piece) where
@@ -110,8 +106,7 @@ module _ (base : Base) (ruled : IsRuled base) (one : HasOneForm base) where
 
       symbols_are : own_form base front ≡ plain_text base piece
       symbols_are =
-          plain_is base ruled one.checks front piece
-          (subst (λ ms. PlainMeans base ms piece) (sym parts.0) means.means)
+          plain_is base ruled one.checks front piece (rw parts.0 means.means)
 
       count : length (plain_text base piece) ≡ length means.symbols
       count = sym (ap length symbols_are) ∙ length-map front stands_for ∙ front_len
@@ -127,12 +122,12 @@ module _ (base : Base) (ruled : IsRuled base) (one : HasOneForm base) where
       last : own_in group ≡ filled piece
       last =
           let total : (length (plain_text base piece) + means.padding) % size ≡ 0 =
-          ap (λ n. (n + means.padding) % size) count ∙ ap (λ n. n % size) whole
-          ∙ mod_self size in
-          let short : means.padding < size = omega (arith, whole, means.is_begun) in
-          group_is
-          ∙ ap (λ n. plain_text base piece ++ replicate n character)
-          (missing-is size (length (plain_text base piece)) (means.padding) short total)
+          rw (count, whole) (mod_self size) in
+          rw (
+            group_is,
+            missing-is size (length (plain_text base piece)) means.padding
+                (omega (arith, whole, means.is_begun)) total,
+          )
 
       -- and else that of bytes behind which others may stand
       first : means.padding ≡ 0 → (more : List ℕ)
@@ -150,19 +145,16 @@ module _ (base : Base) (ruled : IsRuled base) (one : HasOneForm base) where
             width.few,
           ) in
           let exact : 8 * length piece % base.width ≡ 0 =
-          ap (λ n. n % base.width) (bits ∙ mul_comm base.width size)
-          ∙ mul-mod_left size base.width in
-          ap (λ l. l ++ filled more)
-          (group_is ∙ ap (λ n. text ++ replicate n character) none ∙ append-nil text)
-          ∙ sym (filled-join character size text (plain_text base more)
+          rw (bits, mul_comm base.width size) (mul-mod_left size base.width) in
+          rw (group_is, none, append-nil text, plain_text-join base piece more width.some exact)
+          (sym (filled-join character size text (plain_text base more)
           (group_symbols-pos base.width width)
-          (ap (λ n. n % size) (count ∙ all) ∙ mod_self size))
-          ∙ ap (filled_with character size) (sym (plain_text-join base piece more width.some exact))
+          (ap (λ n. n % size) (count ∙ all) ∙ mod_self size)))
 
     filled_none : (bytes : List ℕ) → bytes ≡ [] → filled bytes ≡ []
     filled_none bytes none =
-        ap filled none ∙ ap (filled_with character size) (plain_text-nil base width.some)
-        ∙ filled-whole character size [] (mod-eq_of_lt (group_symbols-pos base.width width))
+        rw (none, plain_text-nil base width.some)
+        (filled-whole character size [] (mod-eq_of_lt (group_symbols-pos base.width width)))
 
     groups_are : (gs : List (List Positioned)) (bytes : List ℕ)
         → GroupsMean base (map (meanings_in base) gs) bytes
@@ -178,9 +170,13 @@ module _ (base : Base) (ruled : IsRuled base) (one : HasOneForm base) where
           by (suc padding) is =
               let ends = means.4 (final group means.0 means.3 (omega (arith, is))) in
               let none : means.1 ≡ [] = subst (λ l. GroupsMean base l means.1) ends means.5 in
-              (λ i. last group means.0 means.3 i ++ filled_none means.1 none i)
-              ∙ append-nil (filled means.0)
-              ∙ ap filled (sym (ap (λ l. means.0 ++ l) none ∙ append-nil means.0))
+              rw (
+                last group means.0 means.3,
+                none,
+                filled_none [] refl,
+                append-nil (filled means.0),
+                append-nil means.0,
+              )
 
   own_text : (text bytes : List ℕ) → Means base text bytes
       → own_form base text ≡ text_of base bytes

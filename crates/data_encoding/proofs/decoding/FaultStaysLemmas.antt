@@ -1,13 +1,13 @@
 -- Faults of whole groups, whatever follows.
-use Rattle.std.proofs.Common.{◌≡◌, ℕ, ◌+◌, ◌*◌, ◌/◌, ◌%◌, ◌≤◌, Bool, true, false, List, [], ◌++◌, length, Option, Some, None, refl, sym, ap, ◌∙◌, subst, arith, length-append}
+use Rattle.std.proofs.Common.{◌≡◌, ℕ, ◌+◌, ◌%◌, ◌≤◌, false, List, [], ◌++◌, length, Option, Some, None, refl, sym, ◌∙◌, arith, length-append}
 use Rattle.std.specs.List.{list_any}
 use Rattle.data_encoding.specs.declared.error.DecodeError.{DecodeError}
-use Rattle.data_encoding.specs.Base.{Base, IsWidth, group_bytes, group_symbols, ignores_some}
+use Rattle.data_encoding.specs.Base.{Base, IsWidth, group_symbols}
 use Rattle.data_encoding.specs.Fault.{fault_of, first_after, first_fault, or_else}
 use Rattle.data_encoding.specs.Grammar.{Positioned, groups, is_final, kept}
 use Rattle.data_encoding.specs.Laws.{further}
 use Rattle.data_encoding.specs.Lengths.{length_fault}
-use Rattle.data_encoding.specs.Pieces.{HasRead, held_fault, unfinished, whole_groups}
+use Rattle.data_encoding.specs.Pieces.{HasRead, unfinished, whole_groups}
 use Rattle.data_encoding.proofs.decoding.PieceLemmas.{HasRead-faulty, fault_of-read, or_none}
 use Rattle.data_encoding.proofs.digits.WidthLemmas.{group_symbols-pos}
 use Rattle.data_encoding.proofs.grammar.JoinFaultLemmas.{fault-after_whole}

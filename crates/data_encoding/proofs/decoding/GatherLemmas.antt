@@ -238,8 +238,9 @@ module _ (base : Base) (width : IsWidth base.width) (text : List ℕ) (read : �
   pub is-next : 0 < length group → IsNext base text read (read + span) nexts
   is-next some =
       let same : read + span - read ≡ span = omega arith in
-      let parts = rw same at (kept_from-more base read text within (read + span) (omega arith)
-      within-next) in
+      let total = ap length (rw same at (kept_from-more base read text within (read + span)
+      (omega arith) within-next))
+      ∙ length-append nexts (kept_from base (read + span) text) in
       record {
         is_part = record {
           after = omega arith;
@@ -254,14 +255,7 @@ module _ (base : Base) (width : IsWidth base.width) (text : List ℕ) (read : �
             ⊎ (kept_from base (read + span) text ≡ [])}
             (λ full. inl (length-next ∙ full))
             (λ all. inr (nil_from_length (kept_from base (read + span) text)
-            (omega (
-              arith,
-              ap length parts,
-              length-append nexts (kept_from base (read + span) text),
-              length-next,
-              length-left base text read,
-              all,
-            ))))
+            (omega (arith, total, length-next, length-left base text read, all))))
             is.last;
       } where
         ends_at : (xs : List ℕ) (n : ℕ) → n ≤ length xs

@@ -1,8 +1,8 @@
 -- The greatest valid length.
-use Rattle.std.proofs.Common.{◌≡◌, ℕ, ◌*◌, ◌/◌, ◌%◌, ◌<◌, ◌≤◌, ◌==◌, true, false, arith}
+use Rattle.std.proofs.Common.{◌≡◌, ℕ, ◌*◌, ◌/◌, ◌%◌, ◌<◌, ◌≤◌, true, false, arith}
 use Rattle.std.proofs.lemmas.Bool.Decides.{nat_tests}
-use Rattle.data_encoding.specs.Base.{Base, is_padded, group_symbols, IsWidth}
-use Rattle.data_encoding.specs.Lengths.{is_valid_count, greatest_valid_count, is_valid_length, greatest_valid_length}
+use Rattle.data_encoding.specs.Base.{Base, group_symbols, IsWidth}
+use Rattle.data_encoding.specs.Lengths.{greatest_valid_count, is_valid_length, greatest_valid_length}
 use Rattle.data_encoding.proofs.digits.WidthLemmas.{by_width}
 
 -- the greatest number of symbols that are whole groups

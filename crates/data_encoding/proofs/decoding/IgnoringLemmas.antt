@@ -1,16 +1,12 @@
 -- The base with each ignored byte invalid judges groups as the base does.
-use Rattle.std.proofs.Common.{◌≡◌, ℕ, zero, suc, ◌+◌, ◌-◌, ◌*◌, ◌/◌, ◌≤◌, ◌==◌, true, false, not, cond, ◌&&◌, ◌||◌, nat_lt, List, [], ◌∷◌, length, map, take, drop, replicate, get_or, None, Some, refl, sym, ap, ◌∙◌, subst, arith}
+use Rattle.std.proofs.Common.{◌≡◌, ℕ, zero, suc, ◌+◌, ◌≤◌, true, false, not, cond, List, [], ◌∷◌, length, map, replicate, get_or, None, refl, sym, ap, ◌∙◌, subst, arith}
 use Rattle.std.proofs.lemmas.List.{length-map, take-map}
-use Rattle.std.specs.Prelude.{flat_map}
-use Rattle.std.specs.List.{cons_option, filter_map, list_any, prefix_len}
+use Rattle.std.specs.List.{cons_option, filter_map, prefix_len}
 use Rattle.data_encoding.specs.declared.encoding.Character.{Character}
-use Rattle.data_encoding.specs.declared.encoding.Character.TheVariants.{Symbol, Padding, Ignored, Invalid}
-use Rattle.data_encoding.specs.declared.error.DecodeKind.TheVariants.{Length as LengthFault, Trailing as TrailingFault, Padding as PaddingFault}
-use Rattle.data_encoding.specs.Base.{Base, meaning, is_symbol, value_of, is_padding, is_ignored, is_padded, ignores_some, group_symbols, IsWidth}
-use Rattle.data_encoding.specs.Bits.{bits_of}
+use Rattle.data_encoding.specs.declared.encoding.Character.TheVariants.{Symbol, Padding, Invalid}
+use Rattle.data_encoding.specs.Base.{Base, meaning, is_symbol, value_of, is_padding, is_ignored, ignores_some, group_symbols, IsWidth}
 use Rattle.data_encoding.specs.Grammar.{Positioned, bytes_in, meanings_in}
-use Rattle.data_encoding.specs.Lengths.{is_valid_count, greatest_valid_count}
-use Rattle.data_encoding.specs.Fault.{character_fault, count_before_padding, fault_at_first, faulty_at, group_fault, padded_fault_at, symbols_fault}
+use Rattle.data_encoding.specs.Fault.{character_fault, count_before_padding, group_fault, padded_fault_at, symbols_fault}
 use Rattle.data_encoding.specs.Partial.{ignoring_nothing}
 use Rattle.data_encoding.proofs.digits.WordLemmas.{map-twice}
 use Rattle.data_encoding.proofs.lists.EachLemmas.{all_joined, all_replicate}

@@ -1,6 +1,6 @@
 -- A decoding that is resumed where it stopped: what is read of a text with a fault means bytes.
 use Rattle.std.proofs.Common.{◌≡◌, ℕ, zero, suc, ◌+◌, ◌<◌, ◌≤◌, ◌⊎◌, Bool, true, false, List, [], ◌++◌, length, set, take, drop, get_or, replicate, Option, Some, None, is_some, refl, sym, ap, ◌∙◌, subst, arith, length-append, ⊎_elim, inl, inr, map, append_assoc, take-append-drop, length-take-le}
-use Rattle.std.proofs.lemmas.Bool.{cases_lt, false≢true}
+use Rattle.std.proofs.lemmas.Bool.{cases_lt}
 use Rattle.std.proofs.lemmas.List.{length-replicate, length-set, take_all}
 use Rattle.data_encoding.specs.declared.decode.group.GroupFault.{GroupFault}
 use Rattle.data_encoding.specs.declared.error.DecodeError.{DecodeError}
@@ -95,15 +95,6 @@ stop_at {output} {partial} is front = record {
   front = front;
 }
 
--- more was read than so much
-record HasReadPast (base : Base) (text : List ℕ) (read : ℕ) : Type 0 where
-  stop : ℕ
-  written : ℕ
-  ended : Bool
-  output : List ℕ
-  so_far : HasDecodedTo base text stop written ended output
-  more : read < stop
-
 module _ (base : Base) (width : IsWidth base.width) (text : List ℕ)
     (no_length_fault : length_fault base (length text) ≡ None) (first : DecodeError)
     (fault : fault_of base text ≡ Some first) where
@@ -177,10 +168,12 @@ module _ (base : Base) (width : IsWidth base.width) (text : List ℕ)
           stop_at (last-none here kind (omega (arith, none)) output so_far.fits refl) (λ other. cc))
           (cases_lt 0 len)
 
-    -- the next group is faulty, or is read
-    step : Stops base text ⊎ HasReadPast base text read
-    step =
-        ⊎_elim {C = Stops base text ⊎ HasReadPast base text read}
+    -- the next group is faulty, or is read, and others are left
+    step : ((stop count : ℕ) (end : Bool) (new : List ℕ)
+        → HasDecodedTo base text stop count end new → read < stop → Stops base text)
+        → Stops base text
+    step others =
+        ⊎_elim {C = Stops base text}
         (λ (some : 0 < length next.group).
         by some (is-next base width text read so_far.within next.is some)
         (fault_after ended base group) refl)
@@ -195,22 +188,16 @@ module _ (base : Base) (width : IsWidth base.width) (text : List ℕ)
           group = next_bytes base text read next.span
 
           by : 0 < length next.group → IsNext base text read (read + next.span) group
-              → (o : Option DecodeError) → fault_after ended base group ≡ o
-              → Stops base text ⊎ HasReadPast base text read
+              → (o : Option DecodeError) → fault_after ended base group ≡ o → Stops base text
           by some is_next (Some error) faulty =
-              inl (at_group (read + next.span) group error is_next faulty)
+              at_group (read + next.span) group error is_next faulty
           by some is_next None sound =
               let bytes = bytes_of_group base group in
-              inr (record {
-                stop = read + next.span;
-                written = written + length bytes;
-                ended = is_final base group;
-                output = take written output ++ bytes;
-                so_far = after-group base width text (length bytes)
-                    (take written output ++ bytes) so_far is_next sound
-                    (omega (arith, behind_len bytes)) (behind_all bytes);
-                more = omega (arith, some, gathered-few next.is);
-              })
+              others (read + next.span) (written + length bytes) (is_final base group)
+              (take written output ++ bytes)
+              (after-group base width text (length bytes) (take written output ++ bytes) so_far
+              is_next sound (omega (arith, behind_len bytes)) (behind_all bytes))
+              (omega (arith, some, gathered-few next.is))
 
   -- an induction on a bound of the bytes that are left
   walk : (fuel read written : ℕ) (ended : Bool) (output : List ℕ)
@@ -218,11 +205,9 @@ module _ (base : Base) (width : IsWidth base.width) (text : List ℕ)
       → Stops base text
   walk zero read written ended output so_far left = absurd (omega (arith, so_far.within))
   walk (suc fuel) read written ended output so_far left =
-      ⊎_elim {C = Stops base text} (λ stops. stops)
-      (λ (past : HasReadPast base text read).
-      walk fuel past.stop past.written past.ended past.output past.so_far
-      (omega (arith, past.more, left)))
-      (step read written ended output so_far)
+      step read written ended output so_far
+      (λ stop count end new further more. walk fuel stop count end new further
+      (omega (arith, more, left)))
 
 -- what is read means bytes, is no more than the text, and has its bytes
 pub Means-partial : (base : Base) → IsWidth base.width → (text : List ℕ) (partial : DecodePartial)
@@ -247,30 +232,26 @@ module _ (base : Base) (ruled : IsRuled base) (piece next : List ℕ) where
   -- what was read, and what is left before what follows, are the whole
   whole : (read : ℕ) → take read piece ++ (drop read piece ++ next) ≡ piece ++ next
   whole read =
-      sym (append_assoc (take read piece) (drop read piece) next)
-      ∙ ap (λ l. l ++ next) (take-append-drop read piece)
-
-  resumed_at : (read : ℕ) (bytes : List ℕ) → read ≤ length piece
-      → MayBeFollowed base (take read piece) → Means base (take read piece) bytes
-      → Resumes base piece next read bytes
-  resumed_at read bytes within follows means =
-      let front = take read piece in
-      let rest = drop read piece ++ next in
-      record {
-        read_means = means;
-        rest_means = λ more then. subst (λ l. Means base l (bytes ++ more)) (whole read)
-            (Means-join base ruled front rest bytes more follows means then);
-        fault = ap (fault_of base) (sym (whole read))
-            ∙ fault-join base ruled front rest bytes follows means
-            ∙ ap (λ n. further n (fault_of base rest)) (length-take-le read piece within);
-        sound = ap (sound_bytes base) (sym (whole read))
-            ∙ sound_bytes-join base ruled front rest bytes follows means;
-      }
+      rw (← append_assoc (take read piece) (drop read piece) next, take-append-drop read piece)
 
   -- a decoding that stopped is resumed
   pub resumed : (partial : DecodePartial) → length_fault base (length piece) ≡ None
       → partial_of base piece ≡ Some partial → MayBeFollowed base (take partial.read piece)
       → Resumes base piece next partial.read (sound_bytes base (take partial.read piece))
   resumed partial valid is follows =
-      let read = Means-partial base ruled.is_width piece partial valid is in
-      resumed_at partial.read (sound_bytes base (take partial.read piece)) read.0 follows read.1
+      let means = Means-partial base ruled.is_width piece partial valid is in
+      let front = take partial.read piece in
+      let bytes = sound_bytes base front in
+      let rest = drop partial.read piece ++ next in
+      record {
+        read_means = means.1;
+        rest_means = λ more then. rw (← whole partial.read)
+            (Means-join base ruled front rest bytes more follows means.1 then);
+        fault = rw (
+          ← whole partial.read,
+          fault-join base ruled front rest bytes follows means.1,
+          length-take-le partial.read piece means.0,
+        );
+        sound = rw (← whole partial.read)
+            (sound_bytes-join base ruled front rest bytes follows means.1);
+      }

@@ -1,11 +1,10 @@
 -- How many bytes groups have, and the room that is left for others.
-use Rattle.std.proofs.Common.{◌≡◌, ℕ, suc, ◌+◌, ◌-◌, ◌*◌, ◌/◌, ◌%◌, ◌<◌, ◌≤◌, List, [], ◌∷◌, ◌++◌, length, take, Option, Some, None, ap, ◌∙◌, arith, length-append, length-take-le, ⊎_elim}
-use Rattle.std.proofs.Math.Nat.{mul-add, add-mul, mul_left_comm, mul-le-mul_left, mul-le-mul_right, le-div_iff_mul-le}
-use Rattle.std.proofs.lemmas.Bool.{cases_lt}
+use Rattle.std.proofs.Common.{◌≡◌, ℕ, ◌+◌, ◌-◌, ◌*◌, ◌/◌, ◌%◌, ◌<◌, ◌≤◌, List, [], ◌∷◌, ◌++◌, length, take, Option, ap, ◌∙◌, arith, length-append, length-take-le}
+use Rattle.std.proofs.Math.Nat.{mul-add, add-mul, mul-le-mul_left, mul-le-mul_right, le-div_iff_mul-le}
 use Rattle.std.proofs.lemmas.Nat.{div-add-mod'}
 use Rattle.std.proofs.lemmas.List.{length-map}
 use Rattle.std.specs.Prelude.{flat_map}
-use Rattle.std.specs.List.{filter_map, cons_option}
+use Rattle.std.specs.List.{filter_map}
 use Rattle.data_encoding.proofs.grammar.PositionLemmas.{length-meanings}
 use Rattle.data_encoding.specs.Base.{Base, value_of}
 use Rattle.data_encoding.specs.Bits.{number_of, runs}
@@ -38,16 +37,17 @@ length-bytes_of_group base group =
     let values = filter_map value_of meant in
     let bits = symbol_bits base meant in
     let front = take (length bits / 8 * 8) bits in
-    let front_len : length front ≡ length bits / 8 * 8 =
-    length-take-le (length bits / 8 * 8) bits (omega arith) in
-    let count : length (bytes_of_group base group) ≡ (length front + 7) / 8 =
-    length-map (runs 8 front) (number_of base.order) ∙ length-runs 8 front in
-    let all : length bits ≡ base.width * length values =
-    length-bits_of_values base.order base.width values in
     let few : base.width * length values ≤ base.width * length group =
     mul-le-mul_left base.width
     (omega (arith, length-filter_map value_of meant, length-meanings base group)) in
-    omega (arith, count, front_len, all, few)
+    omega (
+      arith,
+      length-map (runs 8 front) (number_of base.order),
+      length-runs 8 front,
+      length-take-le (length bits / 8 * 8) bits (omega arith),
+      length-bits_of_values base.order base.width values,
+      few,
+    )
 
 -- as many bits at most as symbols have
 pub length-bytes_of_groups : (base : Base) (groups : List (List Positioned))
@@ -55,15 +55,10 @@ pub length-bytes_of_groups : (base : Base) (groups : List (List Positioned))
     ≤ base.width * length (flat_map (λ group. group) groups)
 length-bytes_of_groups base [] = omega arith
 length-bytes_of_groups base (group ∷ groups) =
-    let bytes = length-append (bytes_of_group base group) (flat_map (bytes_of_group base) groups) in
-    let symbols : base.width * length (group ++ flat_map (λ g. g) groups)
-    ≡ base.width * length group + base.width * length (flat_map (λ g. g) groups) =
-    ap (λ n. base.width * n) (length-append group (flat_map (λ g. g) groups))
-    ∙ mul-add base.width (length group) (length (flat_map (λ g. g) groups)) in
     omega (
       arith,
-      bytes,
-      symbols,
+      length-append (bytes_of_group base group) (flat_map (bytes_of_group base) groups),
+      ap (λ n. base.width * n) (length-append group (flat_map (λ g. g) groups)),
       length-bytes_of_group base group,
       length-bytes_of_groups base groups,
     )

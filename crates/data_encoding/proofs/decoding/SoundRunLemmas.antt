@@ -1,12 +1,12 @@
 -- Whether the greatest front of valid length means something as it stands.
-use Rattle.std.proofs.Common.{◌≡◌, ℕ, ◌<◌, ◌≤◌, true, false, List, ◌∷◌, length, take, drop, Option, Some, None, is_none, refl, sym, ap, ◌∙◌, arith, length-take-le}
+use Rattle.std.proofs.Common.{◌≡◌, ℕ, ◌<◌, ◌≤◌, true, false, List, ◌∷◌, length, take, drop, Option, None, is_none, sym, ap, ◌∙◌, arith, length-take-le}
 use Rattle.std.proofs.lemmas.List.{take-map}
 use Rattle.data_encoding.specs.declared.error.DecodeError.{DecodeError}
 use Rattle.data_encoding.specs.Base.{Base, group_symbols, IsWidth}
 use Rattle.data_encoding.specs.Bits.{runs}
 use Rattle.data_encoding.specs.Grammar.{Positioned, positioned, is_final, bytes_in}
 use Rattle.data_encoding.specs.Lengths.{is_valid_length, greatest_valid_length, length_fault}
-use Rattle.data_encoding.specs.Fault.{group_fault, fault_of, or_else, first_after, fault_after, located}
+use Rattle.data_encoding.specs.Fault.{group_fault, fault_of, first_after, fault_after}
 use Rattle.data_encoding.specs.Partial.{ignoring_nothing, is_sound_run}
 use Rattle.data_encoding.proofs.digits.WidthLemmas.{group_symbols-pos}
 use Rattle.data_encoding.proofs.lists.RunLemmas.{runs-nil, runs-short, runs-first}

@@ -34,13 +34,11 @@ module _ (base : Base) (width : IsWidth base.width) where
   pub decoded_len-whole : (count : ℕ)
       → decoded_len base (count * size) ≡ Ok (count * group_bytes base.width)
   decoded_len-whole count =
+      let due : most_bytes base (count * size) ≡ count * group_bytes base.width =
+      grind (arith, lengths.padded count, lengths.plain count) in
       decoded_len-valid base (count * size)
       (whole-length base width (count * size) (mul-mod_left count size))
-      ∙ ap (λ n. Ok n) (by (is_padded base)) where
-        by : (b : Bool) → cond b (count * size / size * group_bytes base.width)
-            (base.width * (count * size) / 8) ≡ count * group_bytes base.width
-        by true = lengths.padded count
-        by false = lengths.plain count
+      ∙ ap (λ n. Ok n) due
 
   pub most_bytes-few : (len : ℕ) → most_bytes base len ≤ len
   most_bytes-few len = grind (arith, lengths.padded_most len, lengths.plain_most len)

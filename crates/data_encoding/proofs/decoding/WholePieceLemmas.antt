@@ -1,37 +1,33 @@
 -- A piece that means data and is whole groups, behind whole groups: it is read at once. So is one
 -- with a fault that no unfinished group has: it is that of the whole groups.
-use Rattle.std.proofs.Common.{◌≡◌, ℕ, ◌⊎◌, ◌+◌, ◌%◌, ◌<◌, ◌==◌, Bool, true, false, not, ◌||◌, List, [], ◌∷◌, ◌++◌, length, map, take, Option, Some, None, is_some, inl, inr, refl, sym, ap, ◌∙◌, subst, arith, length-append, ◌-◌, ◌*◌, ◌/◌, ◌&&◌, cond, nat_lt, ⊎_elim}
+use Rattle.std.proofs.Common.{◌≡◌, ℕ, ◌⊎◌, ◌+◌, ◌%◌, ◌<◌, ◌==◌, Bool, true, false, not, ◌||◌, List, [], ◌∷◌, ◌++◌, length, map, take, Option, Some, None, is_some, inl, inr, refl, sym, ap, ◌∙◌, arith, length-append, ◌-◌, ◌*◌, ◌/◌, ⊎_elim}
 use Rattle.std.proofs.lemmas.Bool.{false≢true}
 use Rattle.std.proofs.lemmas.List.{append-nil}
 use Rattle.std.proofs.lemmas.List.Folds.{list_any-append}
-use Rattle.std.specs.Prelude.{flat_map}
 use Rattle.std.specs.List.{list_any}
 use Rattle.data_encoding.specs.declared.error.DecodeError.{DecodeError}
 use Rattle.data_encoding.specs.declared.error.DecodePartial.{DecodePartial}
 use Rattle.data_encoding.specs.Base.{Base, IsWidth, group_symbols, ignores_some, is_padded}
-use Rattle.data_encoding.specs.Fault.{bytes_of_group, first_fault, sound_after, character_fault, fault_of, faulty_at, located, or_else}
-use Rattle.data_encoding.specs.Grammar.{Means, Positioned, groups, is_final, kept, kept_in, meanings_in}
+use Rattle.data_encoding.specs.Fault.{first_fault, fault_of}
+use Rattle.data_encoding.specs.Grammar.{Means, Positioned, groups, is_final, kept, meanings_in}
 use Rattle.data_encoding.specs.Laws.{further}
-use Rattle.data_encoding.specs.Lengths.{length_fault, greatest_valid_count, greatest_valid_length, is_valid_count, is_valid_length, most_bytes}
+use Rattle.data_encoding.specs.Lengths.{length_fault, is_valid_count, most_bytes}
 use Rattle.data_encoding.specs.Partial.{partial_of, is_length_fault}
 use Rattle.data_encoding.specs.Pieces.{HasRead, IsOfWholeGroup, unfinished, whole_bytes, whole_groups, held_fault}
 use Rattle.data_encoding.specs.Decoding.{AreSound}
 use Rattle.data_encoding.proofs.decoding.PieceLemmas.{more, sound, sound_bytes-read, unfinished-more, whole_groups-more, fault_of-read}
-use Rattle.data_encoding.proofs.decoding.StopLemmas.{fault-partial, kind_of}
-use Rattle.data_encoding.proofs.digits.WidthLemmas.{group_symbols-pos, by_width}
+use Rattle.data_encoding.proofs.decoding.StopLemmas.{fault-partial}
+use Rattle.data_encoding.proofs.digits.WidthLemmas.{group_symbols-pos}
 use Rattle.data_encoding.proofs.grammar.JoinFaultLemmas.{AreFew, final-moved, first-moved, kept_in-moved, moved, sound-moved}
 use Rattle.data_encoding.proofs.grammar.JoinLemmas.{whole-padded, whole-plain}
 use Rattle.data_encoding.proofs.grammar.MeaningLemmas.{no_fault-Means, sound_bytes-Means}
 use Rattle.data_encoding.proofs.grammar.PositionLemmas.{length-kept_plain, length-meanings}
 use Rattle.data_encoding.proofs.grammar.SoundLemmas.{bytes-AreSound, first-AreSound, neither_fault, sound-all}
 use Rattle.data_encoding.proofs.lists.RunLemmas.{few_runs}
-use Rattle.data_encoding.proofs.lists.WholeRunLemmas.{front_of, left, left-map, whole_runs, whole_runs-all, whole_runs-front, whole_runs-map, left_len}
+use Rattle.data_encoding.proofs.lists.WholeRunLemmas.{front_of, left-map, whole_runs-all, whole_runs-front, whole_runs-map, left_len}
 use Rattle.data_encoding.proofs.judgement.RuleLemmas.{IsRuled, IsRuledPadding}
 use Rattle.std.proofs.lemmas.Bool.Decides.{nat_tests}
-use Rattle.data_encoding.specs.declared.encoding.Character.{Character}
-use Rattle.data_encoding.specs.declared.error.DecodeKind.TheVariants.{Length as LengthFault}
 use Rattle.data_encoding.proofs.decoding.WholeLengthLemmas.{none_final-joined}
-use Rattle.data_encoding.proofs.grammar.LengthLemmas.{most_bytes-by}
 use Rattle.data_encoding.proofs.decoding.ResumeLemmas.{Means-partial}
 
 -- where so few symbols mean no byte, they are no valid number
