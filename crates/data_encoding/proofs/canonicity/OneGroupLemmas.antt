@@ -85,8 +85,7 @@ module _ (base : Base) (ruled : IsRuled base) where
           → Means base (with_padding o size text) bytes
       by None is h =
           (unpadded-Means base width (ap is_some is) text bytes).1
-          (subst (λ l. PlainMeans base (map (meaning base) l) bytes) (sym (all_kept text symbols))
-          means)
+          (rw (all_kept text symbols) means)
       by (Some character) is h =
           let count = missing size (length text) in
           Means-fillers (ap is_some is) (replicate count character)
@@ -98,20 +97,17 @@ module _ (base : Base) (ruled : IsRuled base) where
       → length (with_padding o (group_symbols base.width) text) ≤ 8
   length-group None text some few = omega (arith, few, group_symbols-few base.width width)
   length-group (Some character) text some few =
-      omega (
-        arith,
-        length-filled_once character size text some few,
-        group_symbols-few base.width width,
-      )
+      let filled = length-filled_once character size text some few in
+      omega (arith, filled, group_symbols-few base.width width)
 
   pub zero_some : 0 < length (plain_text base (0 ∷ []))
   zero_some =
-      subst (λ n. 0 < n) (sym (length-plain_text base (0 ∷ []) width.some))
+      rw (length-plain_text base (0 ∷ []) width.some)
       (run_count-some base.width 8 width.some (omega arith))
 
   pub zero_few : length (plain_text base (0 ∷ [])) ≤ group_symbols base.width
   zero_few =
-      subst (λ n. n ≤ size) (sym (length-plain_text base (0 ∷ []) width.some))
+      rw (length-plain_text base (0 ∷ []) width.some)
       (few_symbols base.width width 1 (group_bytes-pos base.width width))
 
   -- the text of a byte 0 is a group at most

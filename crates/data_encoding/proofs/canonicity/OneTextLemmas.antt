@@ -1,17 +1,16 @@
 -- Where there is no cause of a second text but a translated byte, the own form of a text that means
 -- data is the text of the data; and where there is no cause at all, the text is.
-use Rattle.std.proofs.Common.{◌≡◌, ◌↔◌, ℕ, ◌+◌, ◌*◌, ◌%◌, ◌<◌, ◌==◌, true, false, not, ◌&&◌, List, [], ◌∷◌, ◌++◌, length, map, replicate, Option, Some, None, is_some, unwrap_or, refl, sym, ap, ◌∙◌, subst, arith, zero, suc, nat_lt, take, drop, length-take-le, take-append-drop}
+use Rattle.std.proofs.Common.{◌≡◌, ◌↔◌, ℕ, ◌+◌, ◌*◌, ◌%◌, ◌<◌, ◌==◌, true, false, ◌&&◌, List, [], ◌∷◌, ◌++◌, length, map, replicate, Option, Some, None, is_some, unwrap_or, refl, sym, ap, ◌∙◌, subst, arith, zero, suc, nat_lt, take, drop, length-take-le, take-append-drop}
 use Rattle.std.proofs.lemmas.Bool.{and_parts, eqb-true}
 use Rattle.std.proofs.lemmas.List.{append-nil, length-map, map-append, nil_from_length}
 use Rattle.std.proofs.Math.Nat.{mod-eq_of_lt, mod_self, mul-mod_left, mul_comm}
 use Rattle.std.specs.Prelude.{flat_map}
-use Rattle.std.specs.List.{list_any}
 use Rattle.std.proofs.lemmas.Bool.Decides.{nat_tests}
 use Rattle.data_encoding.specs.declared.encoding.Character.TheVariants.{Padding}
-use Rattle.data_encoding.specs.Base.{Base, IsWidth, meaning, is_padded, is_padding, ignores_some, group_symbols}
+use Rattle.data_encoding.specs.Base.{Base, IsWidth, meaning, is_padded, ignores_some, group_symbols}
 use Rattle.data_encoding.specs.Bits.{runs}
 use Rattle.data_encoding.specs.Canonical.{has_one_text}
-use Rattle.data_encoding.specs.Grammar.{Positioned, GroupMeans, GroupsMean, Means, kept, positioned, is_final, PlainMeans, bytes_in, meanings_in}
+use Rattle.data_encoding.specs.Grammar.{Positioned, GroupMeans, GroupsMean, Means, kept, positioned, is_final, bytes_in, meanings_in}
 use Rattle.data_encoding.specs.Layout.{own_character, translated_bytes}
 use Rattle.data_encoding.specs.SameMeaning.{has_one_own_form, own_form}
 use Rattle.data_encoding.specs.Text.{filled_with, plain_text, text_of, with_padding}
@@ -123,11 +122,9 @@ module _ (base : Base) (ruled : IsRuled base) (one : HasOneForm base) where
       last =
           let total : (length (plain_text base piece) + means.padding) % size ≡ 0 =
           rw (count, whole) (mod_self size) in
-          rw (
-            group_is,
-            missing-is size (length (plain_text base piece)) means.padding
-                (omega (arith, whole, means.is_begun)) total,
-          )
+          let lack = missing-is size (length (plain_text base piece)) means.padding
+          (omega (arith, whole, means.is_begun)) total in
+          rw (group_is, lack)
 
       -- and else that of bytes behind which others may stand
       first : means.padding ≡ 0 → (more : List ℕ)
@@ -170,13 +167,8 @@ module _ (base : Base) (ruled : IsRuled base) (one : HasOneForm base) where
           by (suc padding) is =
               let ends = means.4 (final group means.0 means.3 (omega (arith, is))) in
               let none : means.1 ≡ [] = subst (λ l. GroupsMean base l means.1) ends means.5 in
-              rw (
-                last group means.0 means.3,
-                none,
-                filled_none [] refl,
-                append-nil (filled means.0),
-                append-nil means.0,
-              )
+              rw (last group means.0 means.3, none, filled_none [] refl, append-nil (filled means.0))
+              (ap filled (sym (append-nil means.0)))
 
   own_text : (text bytes : List ℕ) → Means base text bytes
       → own_form base text ≡ text_of base bytes

@@ -70,45 +70,26 @@ module _ (base : Base) (ruled : IsRuled base) where
       let low = ascii byte (λ none. cc) in
       omega (arith, value-small base ruled byte value low is, ruled.count)
 
-  values_below : (text values : List ℕ)
-      → map (meaning base) text ≡ map (λ value. Symbol value) values
-      → AllByRecursion (λ value. value < 2 ^ base.width) values
-  values_below [] [] h = tt
-  values_below [] (value ∷ values) h = cc
-  values_below (byte ∷ text) [] h = tt
-  values_below (byte ∷ text) (value ∷ values) h =
-      let here : meaning base byte ≡ Symbol value = cc in
-      let others : map (meaning base) text ≡ map (λ value. Symbol value) values = cc in
-      (value_below byte value here, values_below text values others)
-
-  -- what a symbol and padding stand for
-  symbol_is : (byte value : ℕ) → meaning base byte ≡ Symbol value
-      → own_byte_of byte ≡ symbol base value
-  symbol_is byte value is = ap (λ m. unwrap_or (own_character base m) byte) is
-
-  padding_is : (byte character : ℕ) → base.padding ≡ Some character
-      → meaning base byte ≡ Padding → own_byte_of byte ≡ character
-  padding_is byte character some is =
-      ap (λ m. unwrap_or (own_character base m) byte) is ∙ ap (λ o. unwrap_or o byte) some
-
+  -- symbols stand for those of their values, which are below their number
   symbols_are : (text values : List ℕ)
       → map (meaning base) text ≡ map (λ value. Symbol value) values
-      → own_form base text ≡ map (symbol base) values
-  symbols_are [] [] h = refl
+      → (own_form base text ≡ map (symbol base) values)
+      × AllByRecursion (λ value. value < 2 ^ base.width) values
+  symbols_are [] [] h = (refl, tt)
   symbols_are (byte ∷ text) (value ∷ values) h =
       let here : meaning base byte ≡ Symbol value = cc in
-      let others : map (meaning base) text ≡ map (λ value. Symbol value) values = cc in
-      (λ i. symbol_is byte value here i ∷ symbols_are text values others i)
+      let rest = symbols_are text values cc in
+      (rw (here, rest.0), (value_below byte value here, rest.1))
   symbols_are _ _ h = cc
 
+  -- and padding for the padding character
   pub paddings_are : (text : List ℕ) (count character : ℕ) → base.padding ≡ Some character
       → map (meaning base) text ≡ replicate count Padding
       → own_form base text ≡ replicate count character
   paddings_are [] zero character some h = refl
   paddings_are (byte ∷ text) (suc count) character some h =
       let here : meaning base byte ≡ Padding = cc in
-      let others : map (meaning base) text ≡ replicate count Padding = cc in
-      (λ i. padding_is byte character some here i ∷ paddings_are text count character some others i)
+      rw (here, some, paddings_are text count character some cc)
   paddings_are _ _ character some h = cc
 
   -- the own form of symbols that mean bytes is their text, where trailing bits are checked
@@ -129,9 +110,9 @@ module _ (base : Base) (ruled : IsRuled base) where
       let filled : bits ≡ filled_with 0 base.width octets =
       means.same_bits
       ∙ ap (λ l. octets ++ l) (means.rest_is_zero checks ∙ ap (λ n. replicate n 0) lack) in
-      let below = values_below text means.values means.are_symbols in
-      symbols_are text means.values means.are_symbols
-      ∙ ap (map (symbol base)) (sym (numbers_again base.order base.width means.values below))
+      let symbols = symbols_are text means.values means.are_symbols in
+      symbols.0
+      ∙ ap (map (symbol base)) (sym (numbers_again base.order base.width means.values symbols.1))
       ∙ map-twice (symbol base) (number_of base.order)
       (map (bits_of base.order base.width) means.values)
       ∙ ap show (sym (runs-flat_map base.width (bits_of base.order base.width) means.values

@@ -76,15 +76,8 @@ module _ (base : Base) (values : List ℕ) (width bytes symbols : ℕ) (order : 
       (λ j. rw (get_or-drop symbols xs j 0) (fits (symbols + j)))
       (λ j h. rw (get_or-drop symbols xs j 0)
       (low (symbols + j) (omega (arith, h, long, rest_len, more)))) in
-      rw (
-        take-map (slice_index values) symbols xs,
-        drop-map (slice_index values) symbols xs,
-        first,
-        others,
-        runs-first symbols (map (meaning base) xs) whole.some_symbols some,
-        take-map (meaning base) symbols xs,
-        drop-map (meaning base) symbols xs,
-      )
+      let runs_are = runs-first symbols (map (meaning base) xs) whole.some_symbols some in
+      rw (take-map, drop-map, first, others, runs_are, take-map, drop-map)
 
   -- eight groups of symbols are a run
   pub eight-run : (input old new : List ℕ) → length input ≡ 8 * symbols → length new ≡ 8 * bytes
@@ -98,17 +91,13 @@ module _ (base : Base) (values : List ℕ) (width bytes symbols : ℕ) (order : 
       ap group_symbols reads.width_is ∙ sym group.has_symbols in
       let count : group_bytes base.width ≡ bytes =
       ap group_bytes reads.width_is ∙ sym group.has_bytes in
+      let all = take_all (8 * bytes) new (omega (arith, exact)) in
       record {
         within = omega (arith, size, long);
         are_symbols = λ k h.
             ap is_symbol (reads.holds.symbols (slice_index input k) (fits k)
             (low k (omega (arith, h, size, long))));
-        bytes = rw (
-          size,
-          count,
-          take_all (8 * bytes) new (omega (arith, exact)),
-          take_all (8 * symbols) input (omega (arith, long)),
-        )
+        bytes = rw (size, count, all, take_all (8 * symbols) input (omega (arith, long)))
             (is ∙ words-run 8 input long fits low);
       }
 

@@ -165,22 +165,13 @@ module _ {base : Base} {size : ℕ} {part group : List ℕ} {span : ℕ}
 
   pub gathered-few : length group ≤ span
   gathered-few =
-      omega (
-        arith,
-        length-gathered,
-        length-kept base (take span part),
-        length-take-le span part is.within,
-      )
+      let most = length-kept base (take span part) in
+      omega (arith, length-gathered, most, length-take-le span part is.within)
 
   pub gathered-some : (index : ℕ) → index < length group → index < length (kept base part)
   gathered-some index inside =
-      omega (
-        arith,
-        inside,
-        length-gathered,
-        ap length (kept-split base span part is.within),
-        length-append (kept base (take span part)) (kept_from base span part),
-      )
+      rw (kept-split base span part is.within)
+      (simp length-append (omega (arith, inside, length-gathered)))
 
   -- nothing is, where no byte was gathered
   pub gathered-none : 0 < size → length group ≡ 0 → length (kept base part) ≡ 0
@@ -270,11 +261,8 @@ module _ (base : Base) (width : IsWidth base.width) (text : List ℕ) (read : �
             let kept_last : is_ignored (meaning base byte) ≡ false =
             ap (λ k. is_ignored (meaning base (get_or xs k 0))) place ∙ ends (omega arith) in
             let front_len : length front ≡ n = length-take-le n xs (omega (arith, few)) in
-            rw (
-              take-suc xs n 0 (omega (arith, few)),
-              kept_in-append base read front (byte ∷ []),
-              kept_last,
-            )
+            let split = take-suc xs n 0 (omega (arith, few)) in
+            rw (split, kept_in-append base read front (byte ∷ []), kept_last)
             (position_after-append (kept_in base read front)
             (record { position = read + length front; byte = byte } ∷ []) (omega arith)
             ∙ omega (arith, front_len))

@@ -64,10 +64,6 @@ module _ (base : Base) where
       → kept_from base read text ≡ []
   nothing-behind text read skip within front none =
       let width : read + skip - read ≡ skip = omega arith in
-      rw (
-        kept_from-more base read text within (read + skip) (omega arith)
-            (omega (arith, within, front.within, length-drop read text)),
-        width,
-        nothing-kept_in read (take skip (drop read text)) front.none,
-      )
-      none
+      let more = kept_from-more base read text within (read + skip) (omega arith)
+      (omega (arith, within, front.within, length-drop read text)) in
+      rw (more, width, nothing-kept_in read (take skip (drop read text)) front.none) none

@@ -1,17 +1,17 @@
 -- The base with each ignored byte invalid judges groups as the base does.
-use Rattle.std.proofs.Common.{◌≡◌, ℕ, zero, suc, ◌+◌, ◌≤◌, true, false, not, cond, List, [], ◌∷◌, length, map, replicate, get_or, None, refl, sym, ap, ◌∙◌, subst, arith}
+use Rattle.std.proofs.Common.{◌≡◌, ℕ, ◌+◌, ◌≤◌, true, false, not, cond, List, [], ◌∷◌, length, map, replicate, None, refl, sym, ap, ◌∙◌, subst, arith}
+use Rattle.std.proofs.Math.ListN.{get_or-map}
 use Rattle.std.proofs.lemmas.List.{length-map, take-map}
-use Rattle.std.specs.List.{cons_option, filter_map, prefix_len}
+use Rattle.std.specs.List.{cons_option, filter_map, list_any, prefix_len}
 use Rattle.data_encoding.specs.declared.encoding.Character.{Character}
 use Rattle.data_encoding.specs.declared.encoding.Character.TheVariants.{Symbol, Padding, Invalid}
 use Rattle.data_encoding.specs.Base.{Base, meaning, is_symbol, value_of, is_padding, is_ignored, ignores_some, group_symbols, IsWidth}
 use Rattle.data_encoding.specs.Grammar.{Positioned, bytes_in, meanings_in}
-use Rattle.data_encoding.specs.Fault.{character_fault, count_before_padding, group_fault, padded_fault_at, symbols_fault}
+use Rattle.data_encoding.specs.Fault.{character_fault, count_before_padding, group_fault}
 use Rattle.data_encoding.specs.Partial.{ignoring_nothing}
 use Rattle.data_encoding.proofs.digits.WordLemmas.{map-twice}
 use Rattle.data_encoding.proofs.lists.EachLemmas.{all_joined, all_replicate}
 use Rattle.data_encoding.proofs.lists.EndLemmas.{AllSo, count_before_end, count_before_end-map}
-use Rattle.data_encoding.proofs.lists.ListLemmas.{AllFail, list_any-none}
 use Rattle.data_encoding.proofs.grammar.PositionLemmas.{length-meanings}
 use Rattle.data_encoding.proofs.grammar.GroupLemmas.{GroupMeans-sound}
 
@@ -31,15 +31,9 @@ strict_padding m = grind arith
 strict_kept : (m : Character) → is_ignored (strict m) ≡ false
 strict_kept m = grind arith
 
-strict_at : (meanings : List Character) (byte : ℕ)
-    → get_or (map strict meanings) byte Invalid ≡ strict (get_or meanings byte Invalid)
-strict_at [] byte = refl
-strict_at (m ∷ meanings) zero = refl
-strict_at (m ∷ meanings) (suc byte) = strict_at meanings byte
-
-none_strict : (meanings : List Character) → AllFail is_ignored (map strict meanings)
-none_strict [] = tt
-none_strict (m ∷ meanings) = (strict_kept m, none_strict meanings)
+none_strict : (ms : List Character) → list_any is_ignored (map strict ms) ≡ false
+none_strict [] = refl
+none_strict (m ∷ ms) = rw (strict_kept m) (none_strict ms)
 
 -- what is found of strict meanings is what is found of the meanings
 symbols-strict : (ms : List Character)
@@ -62,15 +56,7 @@ paddings-strict ms =
 module _ (base : Base) where
   -- nothing is ignored
   pub ignores_none-strict : ignores_some (ignoring_nothing base) ≡ false
-  ignores_none-strict =
-      list_any-none is_ignored (map strict base.meanings) (none_strict base.meanings)
-
-  fault-strict : (ms : List Character) → symbols_fault base (map strict ms) ≡ symbols_fault base ms
-  fault-strict ms = simp (symbols-strict, values-strict, length-map)
-
-  padded-strict : (ms : List Character) (count : ℕ)
-      → padded_fault_at base (map strict ms) count ≡ padded_fault_at base ms count
-  padded-strict ms count = simp (take-map, symbols-strict, values-strict, length-map)
+  ignores_none-strict = none_strict base.meanings
 
   characters-strict : (ms : List Character)
       → character_fault base (map strict ms) ≡ character_fault base ms
@@ -82,7 +68,7 @@ module _ (base : Base) where
       → group_fault (ignoring_nothing base) bytes ≡ group_fault base bytes
   group_fault-strict bytes =
       ap (character_fault base)
-      (ap (λ means. map means bytes) (λ i byte. strict_at base.meanings byte i)
+      (ap (λ means. map means bytes) (λ i byte. get_or-map strict base.meanings byte Invalid i)
       ∙ sym (map-twice strict (meaning base) bytes))
       ∙ characters-strict (map (meaning base) bytes)
 

@@ -39,6 +39,15 @@ module _ (base : Base) where
   stays begun error (g ∷ gs) hs h =
       decides (fault_after begun base g) _ _ error g _ _ (stays (is_final base g) error gs hs) h
 
+  -- behind sound groups the bytes of others follow
+  pub bytes-behind : (begun ended : Bool) (gs hs : List (List Positioned))
+      → AreSound base begun gs ended
+      → flat_map (bytes_of_group base) (sound_after begun base (gs ++ hs))
+      ≡ flat_map (bytes_of_group base) (sound_after begun base gs)
+      ++ flat_map (bytes_of_group base) (sound_after ended base hs)
+  bytes-behind begun ended gs hs h =
+      rw (bytes-AreSound base begun ended gs hs h, sound-all base begun ended gs h)
+
   -- the bytes of a group alone, unless it has a fault
   bytes_unless : (b : Bool) (group : List Positioned)
       → flat_map (bytes_of_group base) (cond b [] (group ∷ []))
@@ -80,20 +89,13 @@ module _ (base : Base) (width : IsWidth base.width) where
     more = kept_in base (length text) piece
 
     -- whole groups more, and what is left behind them
-    joined : (whole_groups base (text ++ piece)
+    pub joined : (whole_groups base (text ++ piece)
         ≡ whole_groups base text ++ whole_runs size (unfinished base text ++ more))
         × (unfinished base (text ++ piece) ≡ left size (unfinished base text ++ more))
     joined =
         let start : 0 + length text ≡ length text = omega arith in
         rw (kept_in-append base 0 text piece, start)
         (whole_runs-join size pos (kept base text) more)
-
-    pub whole_groups-more : whole_groups base (text ++ piece)
-        ≡ whole_groups base text ++ whole_runs size (unfinished base text ++ more)
-    whole_groups-more = joined.0
-
-    pub unfinished-more : unfinished base (text ++ piece) ≡ left size (unfinished base text ++ more)
-    unfinished-more = joined.1
 
     -- what was decoded stays
     pub whole_bytes-grows : (bytes : List ℕ)
@@ -109,17 +111,12 @@ module _ (base : Base) (width : IsWidth base.width) where
           → (bytes : List ℕ) × (whole_bytes base (text ++ piece) ≡ whole_bytes base text ++ bytes)
       by (Some error) h = (
         [],
-        rw (whole_groups-more, (stays base false error gs hs h).1) (sym (append-nil _)),
+        rw (joined.0, (stays base false error gs hs h).1) (sym (append-nil _)),
       )
       by None h =
-          let ended = ends_after base false gs in
-          let fine = AreSound-none base false gs h in (
+          let ended = ends_after base false gs in (
             flat_map (bytes_of_group base) (sound_after ended base hs),
-            rw (
-              whole_groups-more,
-              bytes-AreSound base false ended gs hs fine,
-              sound-all base false ended gs fine,
-            ),
+            rw (joined.0, bytes-behind base false ended gs hs (AreSound-none base false gs h)),
           )
 
     module _ (len : ℕ) (held : List Positioned) (ended : Bool) where
@@ -133,11 +130,11 @@ module _ (base : Base) (width : IsWidth base.width) where
           (whole_runs size (unfinished base text ++ more)) (sym read.first) in (
             record {
               counted = omega (arith, read.counted, length-append text piece);
-              first = rw whole_groups-more (sym same.0);
+              first = rw joined.0 (sym same.0);
               holds = λ h. cc;
               ends = λ h. cc;
             },
-            rw (whole_groups-more, same.1),
+            rw (joined.0, same.1),
           )
 
       module _ (read : HasRead base text len None held ended) where
@@ -158,11 +155,11 @@ module _ (base : Base) (width : IsWidth base.width) where
         HasRead-held few =
             let short = whole_runs-short size pos (held ++ more) few in
             let same : whole_groups base (text ++ piece) ≡ whole_groups base text =
-            rw (whole_groups-more, with_held, short.0) (append-nil _) in (
+            rw (joined.0, with_held, short.0) (append-nil _) in (
               record {
                 counted = omega (arith, read.counted, length-append text piece);
                 first = rw same read.first;
-                holds = λ _. rw (unfinished-more, with_held, short.1);
+                holds = λ _. rw (joined.1, with_held, short.1);
                 ends = λ h. rw same (read.ends h);
               },
               rw same,
@@ -175,7 +172,7 @@ module _ (base : Base) (width : IsWidth base.width) where
           one = whole_runs-one size pos group whole
 
           groups_are : whole_groups base (text ++ piece) ≡ whole_groups base text ++ group ∷ []
-          groups_are = rw (whole_groups-more, with_held ∙ is, one.0)
+          groups_are = rw (joined.0, with_held ∙ is, one.0)
 
           pub HasRead-group : HasRead base (text ++ piece) (len + length piece)
               (fault_after ended base group) [] (is_final base group)
@@ -186,7 +183,7 @@ module _ (base : Base) (width : IsWidth base.width) where
                 counted = omega (arith, read.counted, length-append text piece);
                 first = rw (groups_are, first-AreSound base false ended gs (group ∷ []) sound)
                     (sym (or_none (fault_after ended base group)));
-                holds = λ _. rw (unfinished-more, with_held ∙ is, one.1);
+                holds = λ _. rw (joined.1, with_held ∙ is, one.1);
                 ends = λ none. rw groups_are (sym (any_final base false final (gs ++ group ∷ [])
                     (AreSound-append base false ended final gs (group ∷ []) sound (none, refl))));
               }
@@ -196,13 +193,9 @@ module _ (base : Base) (width : IsWidth base.width) where
               ≡ whole_bytes base text
               ++ cond (is_some (fault_after ended base group)) [] (bytes_of_group base group)
           whole_bytes-group =
-              let gs = whole_groups base text in
-              rw (
-                groups_are,
-                bytes-AreSound base false ended gs (group ∷ []) sound,
-                sound-all base false ended gs sound,
-                bytes_unless base (is_some (fault_after ended base group)) group,
-              )
+              rw (groups_are, bytes-behind base false ended (whole_groups base text) (group ∷ []) sound)
+              (ap (λ l. whole_bytes base text ++ l)
+              (bytes_unless base (is_some (fault_after ended base group)) group))
 
   -- At the end, what is held is a last group.
   at_end : (ended : Bool) (held : List Positioned) → length held < size
@@ -236,11 +229,7 @@ module _ (base : Base) (width : IsWidth base.width) where
         (rw (read.holds refl) (left_len size pos (kept base text))) in
         rw (runs-left size pos (kept base text), ← read.holds refl) (
           first-AreSound base false ended wholes (runs size held) fine ∙ last.0,
-          rw (
-            bytes-AreSound base false ended wholes (runs size held) fine,
-            sound-all base false ended wholes fine,
-            last.1,
-          ),
+          rw (bytes-behind base false ended wholes (runs size held) fine, last.1),
         )
 
     -- the fault of the text, from what was kept of it

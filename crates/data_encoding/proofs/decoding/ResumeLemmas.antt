@@ -1,5 +1,5 @@
 -- A decoding that is resumed where it stopped: what is read of a text with a fault means bytes.
-use Rattle.std.proofs.Common.{◌≡◌, ℕ, zero, suc, ◌+◌, ◌<◌, ◌≤◌, ◌⊎◌, Bool, true, false, List, [], ◌++◌, length, set, take, drop, get_or, replicate, Option, Some, None, is_some, refl, sym, ap, ◌∙◌, subst, arith, length-append, ⊎_elim, inl, inr, map, append_assoc, take-append-drop, length-take-le}
+use Rattle.std.proofs.Common.{◌≡◌, ℕ, zero, suc, ◌+◌, ◌<◌, ◌≤◌, ◌⊎◌, Bool, true, false, List, [], ◌++◌, length, set, take, drop, get_or, replicate, Option, Some, None, is_some, refl, ap, ◌∙◌, arith, length-append, ⊎_elim, inl, inr, map, append_assoc, take-append-drop, length-take-le}
 use Rattle.std.proofs.lemmas.Bool.{cases_lt}
 use Rattle.std.proofs.lemmas.List.{length-replicate, length-set, take_all}
 use Rattle.data_encoding.specs.declared.decode.group.GroupFault.{GroupFault}
@@ -112,11 +112,8 @@ module _ (base : Base) (width : IsWidth base.width) (text : List ℕ)
     -- what was written, and bytes behind it
     behind_len : (bytes : List ℕ) → written + length bytes ≡ length (take written output ++ bytes)
     behind_len bytes =
-        omega (
-          arith,
-          written_len base width text so_far,
-          length-append (take written output) bytes,
-        )
+        let len = written_len base width text so_far in
+        omega (arith, len, length-append (take written output) bytes)
 
     behind_all : (bytes : List ℕ)
         → take (written + length bytes) (take written output ++ bytes)
@@ -247,11 +244,9 @@ module _ (base : Base) (ruled : IsRuled base) (piece next : List ℕ) where
         read_means = means.1;
         rest_means = λ more then. rw (← whole partial.read)
             (Means-join base ruled front rest bytes more follows means.1 then);
-        fault = rw (
-          ← whole partial.read,
-          fault-join base ruled front rest bytes follows means.1,
-          length-take-le partial.read piece means.0,
-        );
+        fault = rw (← whole partial.read, fault-join base ruled front rest bytes follows means.1)
+            (ap (λ n. further n (fault_of base rest))
+            (length-take-le partial.read piece means.0));
         sound = rw (← whole partial.read)
             (sound_bytes-join base ruled front rest bytes follows means.1);
       }

@@ -49,25 +49,17 @@ module _ (base : Base) (width : IsWidth base.width) (bytes : List ℕ) where
   -- no bytes mean no bytes
   pub sound_run-none : len ≡ 0 → is_sound_run base bytes ≡ true
   sound_run-none none =
-      rw (
-        strict_fault,
-        none,
-        runs-nil {X = Positioned} size (group_symbols-pos base.width width),
-      )
+      let nil = runs-nil {X = Positioned} size (group_symbols-pos base.width width) in
+      rw (strict_fault, none, nil)
 
   module _ (some : 0 < len) where
     -- a group without a fault means something
     pub sound_run-group : len ≤ size → group_fault base front ≡ None
         → is_sound_run base bytes ≡ true
     sound_run-group few sound =
-        rw (
-          strict_fault,
-          runs-short size (positioned front) (omega (arith, front_len, some))
-              (omega (arith, front_len, few)),
-          bytes-positioned_from 0 front,
-          group_fault-strict base front,
-          sound,
-        )
+        let short = runs-short size (positioned front) (omega (arith, front_len, some))
+        (omega (arith, front_len, few)) in
+        rw (strict_fault, short, bytes-positioned_from 0 front, group_fault-strict base front, sound)
 
     -- and what means something begins with one
     pub sound_run-first : is_sound_run base bytes ≡ true

@@ -15,6 +15,7 @@ use Rattle.data_encoding.specs.Decoding.{IsLongest, IsRun, run_bytes}
 use Rattle.data_encoding.specs.Fault.{symbol_bytes}
 use Rattle.data_encoding.specs.Tables.{HoldsValues, IsGroup}
 use Rattle.data_encoding.proofs.digits.WidthLemmas.{group_symbols-pos}
+use Rattle.data_encoding.proofs.grammar.KeptLemmas.{between}
 use Rattle.data_encoding.proofs.lists.RunLemmas.{runs-nil, runs-join, runs-short}
 
 module _ (base : Base) (width : IsWidth base.width) where
@@ -72,14 +73,9 @@ module _ (base : Base) (width : IsWidth base.width) where
       let ns = map (meaning base) back in
       let whole : length ms % size ≡ 0 =
       ap (λ n. n % size) (length-map front (meaning base) ∙ front_len) ∙ mul-mod_left i size in
-      rw (
-        sum,
-        take-add (i * size) (m * size) part,
-        take_all (m * size) back (omega (arith, back_len)),
-        map-append (meaning base) front back,
-        runs-join size ms ns pos whole,
-        flat_map-append (symbol_bytes base) (runs size ms) (runs size ns),
-      )
+      let again = take_all (m * size) back (omega (arith, back_len)) in
+      rw (sum, take-add (i * size) (m * size) part, again, map-append (meaning base) front back)
+      (rw (runs-join size ms ns pos whole, flat_map-append (symbol_bytes base) (runs size ms) _))
 
   one : (group old piece : List ℕ) → length group ≡ size
       → ((k : ℕ) → k < length group → is_symbol (meaning base (slice_index group k)) ≡ true)
@@ -88,16 +84,12 @@ module _ (base : Base) (width : IsWidth base.width) where
   one group old piece len symbols piece_len is =
       let ms = map (meaning base) group in
       let ms_len : length ms ≡ size = length-map group (meaning base) ∙ len in
+      let all = take_all (1 * byte_count) piece (omega (arith, piece_len)) in
+      let short = runs-short size ms (omega (arith, ms_len, pos)) (omega (arith, ms_len)) in
       record {
         within = omega (arith, len);
         are_symbols = λ k h. symbols k (omega (arith, h, len));
-        bytes = rw (
-          take_all (1 * byte_count) piece (omega (arith, piece_len)),
-          take_all (1 * size) group (omega (arith, len)),
-          runs-short size ms (omega (arith, ms_len, pos)) (omega (arith, ms_len)),
-          append-nil (symbol_bytes base ms),
-        )
-            is;
+        bytes = rw (all, take_all (1 * size) group (omega (arith, len)), short, append-nil _) is;
       }
 
 -- the same, with the sizes of a group as they are called elsewhere
@@ -125,7 +117,7 @@ module _ (base : Base) (width : IsWidth base.width) (w bytes symbols : ℕ)
   pub run-next : (part old output before piece : List ℕ) (i m next k stop : ℕ) → next ≡ i + m
       → stop ≡ i * symbols + m * symbols → stop ≤ length part → i * bytes ≤ length output
       → length piece ≡ m * bytes → IsRun base part i old output
-      → IsRun base (take (stop - i * symbols) (drop (i * symbols) part)) m before piece
+      → IsRun base (between (i * symbols) stop part) m before piece
       → IsRun base part next old (put_mid (i * bytes) k output piece)
   run-next part old output before piece i m next k stop =
       rw (← same_bytes, ← same_symbols) (λ next_is stop_is within fits len first second.
@@ -150,15 +142,13 @@ module _ (base : Base) (width : IsWidth base.width) (w bytes symbols : ℕ)
       → stop ≡ i * symbols + symbols → stop ≤ length part → i * bytes ≤ length output
       → length piece ≡ bytes → HoldsValues base values → IsRun base part i old output
       → ((j : ℕ) → slice_index part j < 256)
-      → ((j : ℕ) → j < length (take (stop - i * symbols) (drop (i * symbols) part))
-      → slice_index values (slice_index (take (stop - i * symbols) (drop (i * symbols) part)) j) <
-      128)
-      → piece ≡ symbol_bytes base
-      (map (meaning base) (take (stop - i * symbols) (drop (i * symbols) part)))
+      → ((j : ℕ) → j < length (between (i * symbols) stop part)
+      → slice_index values (slice_index (between (i * symbols) stop part) j) < 128)
+      → piece ≡ symbol_bytes base (map (meaning base) (between (i * symbols) stop part))
       → IsRun base part (i + 1) old (put_mid (i * bytes) k output piece)
   group-next values part old output piece i k stop stop_is within fits len holds first bytes_fit
       entries is_bytes =
-      let sub = take (stop - i * symbols) (drop (i * symbols) part) in
+      let sub = between (i * symbols) stop part in
       let size : stop - i * symbols ≡ symbols = omega (arith, stop_is) in
       let sub_len : length sub ≡ symbols =
       length-take-le (stop - i * symbols) (drop (i * symbols) part)
@@ -166,22 +156,20 @@ module _ (base : Base) (width : IsWidth base.width) (w bytes symbols : ℕ)
       run-next part old output piece piece i 1 (i + 1) k stop refl (stop_is ∙ omega arith) within
       fits (omega (arith, len)) first
       (one base width sub piece piece (sub_len ∙ sym same_symbols)
-      (λ j h. ap is_symbol (holds.symbols (slice_index sub j)
-      (rw (
-        get_or-take (stop - i * symbols) (drop (i * symbols) part) j 0
-            (omega (arith, h, sub_len, size)),
-        get_or-drop (i * symbols) part j 0,
-      )
-      (bytes_fit (i * symbols + j)))
+      (λ j h.
+      let here = get_or-take (stop - i * symbols) (drop (i * symbols) part) j 0
+      (omega (arith, h, sub_len, size)) in
+      ap is_symbol (holds.symbols (slice_index sub j)
+      (rw (here, get_or-drop (i * symbols) part j 0) (bytes_fit (i * symbols + j)))
       (entries j h)))
       (len ∙ sym same_bytes) is_bytes)
 
   -- a group that is not one of symbols alone ends the longest run
   pub run-longest : (values part : List ℕ) (i stop : ℕ) → stop ≡ i * symbols + symbols
       → HoldsValues base values → ((j : ℕ) → slice_index part j < 256)
-      → (((j : ℕ) → j < length (take (stop - i * symbols) (drop (i * symbols) part))
-      → slice_index values (slice_index (take (stop - i * symbols) (drop (i * symbols) part)) j) <
-      128) → false ≡ true)
+      → (((j : ℕ) → j < length (between (i * symbols) stop part)
+      → slice_index values (slice_index (between (i * symbols) stop part) j) < 128)
+      → false ≡ true)
       → IsLongest base part i
   run-longest values part i stop stop_is holds bytes_fit stopped = λ before all.
       stopped
@@ -191,12 +179,9 @@ module _ (base : Base) (width : IsWidth base.width) (w bytes symbols : ℕ)
       let byte = slice_index part (i * symbols + j) in
       let is : is_symbol (meaning base byte) ≡ true = (rw same_symbols at all) j inside in
       let other = holds.others byte (bytes_fit (i * symbols + j)) in
-      rw (
-        get_or-take (stop - i * symbols) (drop (i * symbols) part) j 0
-            (omega (arith, inside, stop_is)),
-        get_or-drop (i * symbols) part j 0,
-      )
-      (grind (arith, is, other)))
+      let here = get_or-take (stop - i * symbols) (drop (i * symbols) part) j 0
+      (omega (arith, inside, stop_is)) in
+      rw (here, get_or-drop (i * symbols) part j 0) (grind (arith, is, other)))
 
   -- so does the last whole group
   pub run-all : (part : List ℕ) → IsLongest base part (length part / symbols)

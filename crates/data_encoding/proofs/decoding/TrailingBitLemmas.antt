@@ -5,7 +5,7 @@ use Rattle.std.proofs.lemmas.List.{length-map, length-reverse, reverse-append, m
 use Rattle.std.proofs.lemmas.List.Concat.{flat_map-append}
 use Rattle.std.proofs.lemmas.List.Folds.{list_any-append}
 use Rattle.std.proofs.lemmas.Nat.{pow-add, pow_pos}
-use Rattle.std.proofs.lemmas.Option.{get_or_from_slice_get}
+use Rattle.std.proofs.lemmas.Option.{get_or_from_slice_get, slice_get_within}
 use Rattle.std.proofs.Math.Bool.{or-false, or_comm}
 use Rattle.std.proofs.Math.Nat.{div-lt_iff_lt-mul, mod-lt, mul_comm}
 use Rattle.std.proofs.Math.Seq.{drop-append-add}
@@ -74,22 +74,14 @@ some_bit-number (bit ∷ bits) =
 some_bit-reverse : (bits : List ℕ) → some_bit (reverse bits) ≡ some_bit bits
 some_bit-reverse [] = refl
 some_bit-reverse (bit ∷ bits) =
-    rw (
-      reverse-append (bit ∷ []) bits,
-      list_any-append (λ bit. not (bit == 0)) (reverse bits) (bit ∷ []),
-      some_bit-reverse bits,
-      or-false (not (bit == 0)),
-    )
+    rw (reverse-append (bit ∷ []) bits, list_any-append, some_bit-reverse bits, or-false)
     (or_comm (some_bit bits) (not (bit == 0)))
 
 some_bit-low_bits : (count number : ℕ)
     → some_bit (low_bits count number) ≡ not (number % 2 ^ count == 0)
 some_bit-low_bits count number =
-    rw (
-      some_bit-number (low_bits count number),
-      ← low_bits-mod count number,
-      number-low_bits count (number % 2 ^ count) (mod-lt number (pow_pos count)),
-    )
+    rw (some_bit-number (low_bits count number), ← low_bits-mod count number)
+    (rw (number-low_bits count (number % 2 ^ count) (mod-lt number (pow_pos count))))
 
 -- the last bits of a value: the low ones where the most significant come first, or the high ones
 last_most : (width few value : ℕ) → few ≤ width
@@ -122,12 +114,10 @@ last_least width few value h below =
     let small : above < 2 ^ few =
     (div-lt_iff_lt-mul {k = 2 ^ (width - few)} {x = value} {y = 2 ^ few}
     (pow_pos (width - few))).1 (subst (λ n. value < n) power below) in
-    rw (
-      parts,
-      drop_at low (low_bits few above) (width - few) (length-low_bits (width - few) value),
-      some_bit-number (low_bits few above),
-      number-low_bits few above small,
-    )
+    let len = length-low_bits (width - few) value in
+    let last = low_bits few above in
+    rw (parts, drop_at low last (width - few) len, some_bit-number last)
+    (rw (number-low_bits few above small))
 
 -- the bits of values after the last whole byte are the last of the last value
 abbrev left_over : BitOrder → ℕ → List ℕ → List ℕ
@@ -146,25 +136,15 @@ left_over-last order width few front value is h =
     let whole : (length (flat_map f front) + length (f value)) / 8 * 8
     ≡ length (flat_map f front) + (width - few) =
     omega (arith, before, length-bits_of order width value, is, h) in
-    rw (
-      flat_map-append f front (value ∷ []),
-      append-nil (f value),
-      length-append (flat_map f front) (f value),
-      whole,
-    )
+    rw (flat_map-append f front (value ∷ []), append-nil (f value), length-append, whole)
     (drop-append-add (flat_map f front) (f value) (width - few))
 
 -- the last of a list
-last_inside : (xs : List ℕ) (n x : ℕ) → Some x ≡ slice_get xs n → n < length xs
-last_inside [] n x h = cc
-last_inside (y ∷ xs) zero x h = omega arith
-last_inside (y ∷ xs) (suc n) x h = omega (arith, last_inside xs n x h)
-
 split_last : (xs : List ℕ) (x : ℕ) → Some x ≡ slice_get xs (length xs - 1)
     → xs ≡ take (length xs - 1) xs ++ x ∷ []
 split_last xs x h =
     let last = length xs - 1 in
-    let inside = last_inside xs last x h in
+    let inside = slice_get_within xs last x (sym h) in
     sym (take_all (last + 1) xs (omega arith)) ∙ take_more xs last 0 inside
     ∙ ap (λ y. take last xs ++ y ∷ []) (get_or_from_slice_get xs last x 0 (sym h))
 
@@ -210,11 +190,11 @@ module _ (base : Base) (width : ℕ) (values group : List ℕ) (width_is : base.
       ≡ list_any (λ bit. not (bit == 0)) (trailing_bits base (map (meaning base) group))
   some_trailing-least order_is =
       let place = length group - 1 in
+      let byte_is = get_or_from_slice_get group place last 0 (sym ends.is_last) in
       let below : slice_index values last < 2 ^ width =
-      subst (λ byte. slice_index values byte < 2 ^ width)
-      (get_or_from_slice_get group place last 0 (sym ends.is_last))
+      rw (← byte_is)
       (entries_below base width values group ends.are_bytes ends.low width_is holds place
-      (last_inside group place last ends.is_last)) in
+      (slice_get_within group place last (sym ends.is_last))) in
       sym (ap some_bit (trailing_bits-last LeastSignificantFirst order_is)
       ∙ last_least width (width * length group % 8) (slice_index values last)
       (omega (arith, few_bits)) below)

@@ -1,9 +1,9 @@
 -- The lengths of whole groups.
-use Rattle.std.proofs.Common.{◌≡◌, ℕ, ◌*◌, ◌/◌, ◌≤◌, Bool, true, false, cond, not, ◌&&◌, ◌||◌, List, [], ◌∷◌, None, is_none, Ok, refl, sym, ap, ◌∙◌, arith}
+use Rattle.std.proofs.Common.{◌≡◌, ℕ, ◌*◌, ◌/◌, ◌≤◌, true, false, not, ◌&&◌, ◌||◌, List, [], ◌∷◌, None, is_none, Ok, refl, sym, ap, ◌∙◌, arith}
 use Rattle.std.proofs.Math.Nat.{mul-mod_left}
 use Rattle.std.specs.List.{list_any}
 use Rattle.std.proofs.Math.Bool.{or-true}
-use Rattle.data_encoding.specs.Base.{Base, IsWidth, group_bytes, group_symbols, is_padded, is_padding}
+use Rattle.data_encoding.specs.Base.{Base, IsWidth, group_bytes, group_symbols, is_padding}
 use Rattle.data_encoding.specs.Grammar.{Positioned, is_final, meanings_in}
 use Rattle.data_encoding.specs.Lengths.{decoded_len, most_bytes}
 use Rattle.data_encoding.proofs.digits.WidthLemmas.{by_width}

@@ -15,14 +15,14 @@ use Rattle.data_encoding.specs.Lengths.{length_fault, is_valid_count, most_bytes
 use Rattle.data_encoding.specs.Partial.{partial_of, is_length_fault}
 use Rattle.data_encoding.specs.Pieces.{HasRead, IsOfWholeGroup, unfinished, whole_bytes, whole_groups, held_fault}
 use Rattle.data_encoding.specs.Decoding.{AreSound}
-use Rattle.data_encoding.proofs.decoding.PieceLemmas.{more, sound, sound_bytes-read, unfinished-more, whole_groups-more, fault_of-read}
+use Rattle.data_encoding.proofs.decoding.PieceLemmas.{bytes-behind, more, sound, sound_bytes-read, joined, fault_of-read}
 use Rattle.data_encoding.proofs.decoding.StopLemmas.{fault-partial}
 use Rattle.data_encoding.proofs.digits.WidthLemmas.{group_symbols-pos}
 use Rattle.data_encoding.proofs.grammar.JoinFaultLemmas.{AreFew, final-moved, first-moved, kept_in-moved, moved, sound-moved}
 use Rattle.data_encoding.proofs.grammar.JoinLemmas.{whole-padded, whole-plain}
 use Rattle.data_encoding.proofs.grammar.MeaningLemmas.{no_fault-Means, sound_bytes-Means}
 use Rattle.data_encoding.proofs.grammar.PositionLemmas.{length-kept_plain, length-meanings}
-use Rattle.data_encoding.proofs.grammar.SoundLemmas.{bytes-AreSound, first-AreSound, neither_fault, sound-all}
+use Rattle.data_encoding.proofs.grammar.SoundLemmas.{first-AreSound, neither_fault}
 use Rattle.data_encoding.proofs.lists.RunLemmas.{few_runs}
 use Rattle.data_encoding.proofs.lists.WholeRunLemmas.{front_of, left-map, whole_runs-all, whole_runs-front, whole_runs-map, left_len}
 use Rattle.data_encoding.proofs.judgement.RuleLemmas.{IsRuled, IsRuledPadding}
@@ -101,7 +101,7 @@ module _ (base : Base) (width : IsWidth base.width) where
 
     groups_are : whole_groups base (text ++ piece) ≡ before ++ others
     groups_are =
-        rw (whole_groups-more base width text piece, behind)
+        rw ((joined base width text piece).0, behind)
         (ap (λ gs. before ++ gs) (whole_runs-map size pos
         (λ (k : Positioned). record { position = len + k.position; byte = k.byte })
         (kept base piece)))
@@ -116,30 +116,19 @@ module _ (base : Base) (width : IsWidth base.width) where
         ended
     HasRead-behind fault held ended alone = record {
       counted = omega (arith, read.counted, length-append text piece);
-      first =
-          rw (
-            alone.first,
-            groups_are,
-            first-AreSound base false false before others before_sound,
-          )
-          (sym (first-moved base width len false (whole_groups base piece) few));
+      first = rw (alone.first, groups_are)
+          (sym (first-AreSound base false false before others before_sound
+          ∙ first-moved base width len false (whole_groups base piece) few));
       holds = λ none.
-          rw (
-            alone.holds (none_further fault none),
-            unfinished-more base width text piece,
-            behind,
-          )
+          let is = alone.holds (none_further fault none) in
+          rw (is, (joined base width text piece).1, behind)
           (sym (left-map size pos
           (λ (k : Positioned). record { position = len + k.position; byte = k.byte })
           (kept base piece)));
       ends = λ none.
-          rw (
-            alone.ends (none_further fault none),
-            groups_are,
-            list_any-append (is_final base) before others,
-            ← read.ends refl,
-            any_final-moved len (whole_groups base piece),
-          );
+          let is = alone.ends (none_further fault none) in
+          rw (is, groups_are, list_any-append (is_final base) before others, ← read.ends refl)
+          (sym (any_final-moved len (whole_groups base piece)));
     } where
       none_further : (o : Option DecodeError) → further len o ≡ None → o ≡ None
       none_further o h = grind arith
@@ -148,12 +137,9 @@ module _ (base : Base) (width : IsWidth base.width) where
     whole_bytes-behind : whole_bytes base (text ++ piece)
         ≡ whole_bytes base text ++ whole_bytes base piece
     whole_bytes-behind =
-        rw (
-          groups_are,
-          bytes-AreSound base false false before others before_sound,
-          sound-all base false false before before_sound,
-          sound-moved base width len false (whole_groups base piece) few,
-        )
+        rw (groups_are, bytes-behind base false false before others before_sound)
+        (ap (λ l. whole_bytes base text ++ l)
+        (sound-moved base width len false (whole_groups base piece) few))
 
     -- where it means data and is whole groups
     pub ReadsSound-whole : (bytes : List ℕ) → Means base piece bytes
