@@ -1,8 +1,7 @@
 -- Padding where texts may be concatenated gives a second text.
-use Rattle.std.proofs.Common.{◌≡◌, ℕ, ◌*◌, ◌%◌, ◌<◌, ◌==◌, true, not, [], ◌∷◌, length, Option, Some, None, is_some, inl, refl, sym, ap, ◌∙◌, arith, length-append}
+use Rattle.std.proofs.Common.{◌≡◌, ℕ, ◌*◌, ◌%◌, ◌<◌, ◌==◌, true, not, [], ◌∷◌, length, Option, Some, None, is_some, inl, refl, sym, ap, ◌∙◌, arith, length-append, All}
 use Rattle.std.proofs.lemmas.Bool.{false≢true}
 use Rattle.std.proofs.lemmas.List.Elements.{All-from_recursion}
-use Rattle.std.specs.Prelude.{All}
 use Rattle.data_encoding.specs.Base.{Base, IsWidth, group_bytes, group_symbols, is_padded}
 use Rattle.data_encoding.specs.Canonical.{ConcatenatedIsSecond}
 use Rattle.data_encoding.specs.Text.{padded_text}

@@ -1,11 +1,10 @@
 -- What the bytes of a text stand for is decided by what they mean.
-use Rattle.std.proofs.Common.{◌≡◌, ℕ, ◌+◌, ◌-◌, ◌%◌, ◌^◌, ◌<◌, ◌≤◌, ◌==◌, true, not, List, [], ◌∷◌, ◌++◌, length, map, replicate, Option, Some, None, unwrap_or, refl, sym, ap, ◌∙◌, subst, arith, ⊎_elim, length-append, zero, suc}
+use Rattle.std.proofs.Common.{◌≡◌, ℕ, ◌+◌, ◌-◌, ◌%◌, ◌^◌, ◌<◌, ◌≤◌, true, List, [], ◌∷◌, ◌++◌, length, map, replicate, Option, Some, None, unwrap_or, refl, sym, ap, ◌∙◌, subst, arith, ⊎_elim, length-append, zero, suc, flat_map}
 use Rattle.std.proofs.lemmas.Bool.{cases_lt}
 use Rattle.std.proofs.lemmas.Bool.Decides.{nat_tests}
 use Rattle.std.proofs.lemmas.Nat.{mod_below}
 use Rattle.std.proofs.lemmas.List.{get_or_past}
 use Rattle.std.proofs.Math.Nat.{add-mod, mod-eq-sub-mod, mod-eq_of_lt, mul_comm, mul-mod_left}
-use Rattle.std.specs.Prelude.{flat_map}
 use Rattle.std.specs.List.{AllByRecursion}
 use Rattle.data_encoding.specs.declared.encoding.BitOrder.{BitOrder}
 use Rattle.data_encoding.specs.declared.encoding.Character.{Character}
@@ -39,9 +38,6 @@ missing-is size count rest short whole =
     let none = missing-none size count in
     let some : size - left < size → missing size count ≡ size - left = mod-eq_of_lt in
     grind (arith, few, low, high, none, some)
-
-equal_by : (a b : ℕ) → (not (a == b) ≡ true → ⊥) → a ≡ b
-equal_by a b h = grind (arith, nat_tests)
 
 -- numbers of symbols are what their bits say
 numbers_again : (order : BitOrder) (width : ℕ) (values : List ℕ)
@@ -146,8 +142,7 @@ module _ (base : Base) (ruled : IsRuled base) where
   module _ (alone : translated_bytes base ≡ []) where
     own_is : (byte : ℕ) (o : Option ℕ) → (is_translated base byte o ≡ true → ⊥)
         → unwrap_or o byte ≡ byte
-    own_is byte None h = refl
-    own_is byte (Some character) h = equal_by character byte h
+    own_is byte o h = grind (arith, nat_tests, h)
 
     itself : (byte : ℕ) → own_byte_of byte ≡ byte
     itself byte =

@@ -1,10 +1,9 @@
 -- A translated byte gives a second text.
-use Rattle.std.proofs.Common.{◌≡◌, ℕ, zero, suc, ◌+◌, ◌-◌, ◌*◌, ◌%◌, ◌<◌, ◌≤◌, List, [], ◌∷◌, ◌++◌, length, take, map, replicate, Option, Some, None, is_some, refl, sym, ap, ◌∙◌, subst, arith, append_assoc}
+use Rattle.std.proofs.Common.{◌≡◌, ℕ, zero, suc, ◌+◌, ◌-◌, ◌*◌, ◌%◌, ◌<◌, ◌≤◌, List, [], ◌∷◌, ◌++◌, length, take, map, replicate, Option, Some, None, is_some, refl, sym, ap, ◌∙◌, subst, arith, append_assoc, flat_map}
 use Rattle.std.proofs.Math.Nat.{mod_self}
 use Rattle.std.proofs.Math.Seq.{take-append-add}
 use Rattle.std.proofs.lemmas.List.{append-nil, length-append, length-replicate, take-replicate}
 use Rattle.std.proofs.lemmas.List.Elements.{All-from_recursion}
-use Rattle.std.specs.Prelude.{flat_map}
 use Rattle.data_encoding.specs.declared.encoding.Character.TheVariants.{Symbol, Padding}
 use Rattle.data_encoding.specs.Base.{Base, IsWidth, meaning, symbol, group_bytes, group_symbols}
 use Rattle.data_encoding.specs.Bits.{bits_of, missing, number_of, runs}

@@ -22,10 +22,8 @@ use Rattle.data_encoding.proofs.grammar.JoinLemmas.{Means-join}
 use Rattle.data_encoding.proofs.judgement.RuleLemmas.{IsRuled}
 
 -- the next kept bytes of a part: a group, or all
-record Gathers (base : Base) (size : ℕ) (part : List ℕ) : Type 0 where
-  group : List ℕ
-  span : ℕ
-  is : IsGathered base size part group span
+abbrev Gathers : Base → ℕ → List ℕ → Type 0
+Gathers base size part = (group : List ℕ) × (span : ℕ) × IsGathered base size part group span
 
 module _ (base : Base) (size : ℕ) (part : List ℕ) where
   -- from a position, whatever was gathered before it
@@ -34,22 +32,12 @@ module _ (base : Base) (size : ℕ) (part : List ℕ) where
       (count span : ℕ) (room : List ℕ) → HasGathered base part index count span room
       → count ≤ size → length room ≡ size → Gathers base size part
 
-  -- what was gathered is a group where that is whole, or nothing is left
-  ends : (index : ℕ) → index ≤ length part → (count span : ℕ) (room : List ℕ)
-      → HasGathered base part index count span room → count ≤ size
-      → (count ≡ size) ⊎ (index ≡ length part) → Gathers base size part
-  ends index within count span room so_far few last = record {
-    group = take count room;
-    span = span;
-    is = gathered so_far within few last;
-  }
-
   one_more : (index : ℕ) → index < length part → GathersFrom (index + 1) → GathersFrom index
   one_more index inside others count span room so_far few len =
       ⊎_elim {C = Gathers base size part}
       (λ (more : count < size). by more (is_ignored (meaning base (get_or part index 0))) refl)
       (λ (full : size ≤ count).
-      ends index (omega (arith, inside)) count span room so_far few (inl (omega arith)))
+      (take count room, span, gathered so_far (omega (arith, inside)) few (inl (omega arith))))
       (cases_lt count size) where
         by : count < size → (b : Bool) → is_ignored (meaning base (get_or part index 0)) ≡ b
             → Gathers base size part
@@ -63,7 +51,7 @@ module _ (base : Base) (size : ℕ) (part : List ℕ) where
 
   gather_from : (fuel index : ℕ) → index + fuel ≡ length part → GathersFrom index
   gather_from zero index at count span room so_far few len =
-      ends index (omega arith) count span room so_far few (inr (omega arith))
+      (take count room, span, gathered so_far (omega arith) few (inr (omega arith)))
   gather_from (suc fuel) index at count span room so_far few len =
       one_more index (omega arith) (gather_from fuel (index + 1) (omega arith)) count span room
       so_far few len
@@ -80,20 +68,10 @@ HasSoundFront base text partial =
     → sound_bytes base text ≡ sound_bytes base (take partial.read text)
 
 -- a decoding of the text stops somewhere
-record Stops (base : Base) (text : List ℕ) : Type 0 where
-  output : List ℕ
-  partial : DecodePartial
-  is : StopsAt base text output partial
-  front : HasSoundFront base text partial
-
-stop_at : {base : Base} {text output : List ℕ} {partial : DecodePartial}
-    → StopsAt base text output partial → HasSoundFront base text partial → Stops base text
-stop_at {output} {partial} is front = record {
-  output = output;
-  partial = partial;
-  is = is;
-  front = front;
-}
+abbrev Stops : Base → List ℕ → Type 0
+Stops base text =
+    (output : List ℕ) × (partial : DecodePartial) × StopsAt base text output partial
+    × HasSoundFront base text partial
 
 module _ (base : Base) (width : IsWidth base.width) (text : List ℕ)
     (no_length_fault : length_fault base (length text) ≡ None) (first : DecodeError)
@@ -141,28 +119,31 @@ module _ (base : Base) (width : IsWidth base.width) (text : List ℕ)
 
       run : is_length_fault error.kind ≡ true → 0 < len → (o : Option GroupFault)
           → group_fault base front ≡ o → (size < len) ⊎ (len ≤ size) → Stops base text
-      run kind some o is (inl long) =
-          stop_at
-          (last-unsound here kind some (λ few. absurd (omega (arith, long, few))) output so_far.fits
-          refl)
-          (λ other. cc)
+      run kind some o is (inl long) = (
+        _,
+        _,
+        last-unsound here kind some (λ few. absurd (omega (arith, long, few))) output so_far.fits
+            refl,
+        λ other. cc,
+      )
       run kind some (Some bad) is (inr few) =
-          stop_at (last-unsound here kind some (λ _. ap is_some is) output so_far.fits refl)
-          (λ other. cc)
+          (_, _, last-unsound here kind some (λ _. ap is_some is) output so_far.fits refl, λ other. cc)
       run kind some None is (inr few) =
-          let bytes = symbol_bytes base (map (meaning base) front) in
-          stop_at
-          (last-sound here kind some few is (length bytes) (take written output ++ bytes)
-          (omega (arith, behind_len bytes)) (behind_all bytes))
-          (λ other. cc)
+          let bytes = symbol_bytes base (map (meaning base) front) in (
+            _,
+            _,
+            last-sound here kind some few is (length bytes) (take written output ++ bytes)
+                (omega (arith, behind_len bytes)) (behind_all bytes),
+            λ other. cc,
+          )
 
       by : (b : Bool) → is_length_fault error.kind ≡ b → Stops base text
-      by false kind = stop_at (at-fault here kind) (λ _. sound-front here)
+      by false kind = (_, _, at-fault here kind, λ _. sound-front here)
       by true kind =
           ⊎_elim {C = Stops base text}
           (λ (some : 0 < len). run kind some (group_fault base front) refl (cases_lt size len))
           (λ (none : len ≤ 0).
-          stop_at (last-none here kind (omega (arith, none)) output so_far.fits refl) (λ other. cc))
+          (_, _, last-none here kind (omega (arith, none)) output so_far.fits refl, λ other. cc))
           (cases_lt 0 len)
 
     -- the next group is faulty, or is read, and others are left
@@ -171,30 +152,30 @@ module _ (base : Base) (width : IsWidth base.width) (text : List ℕ)
         → Stops base text
     step others =
         ⊎_elim {C = Stops base text}
-        (λ (some : 0 < length next.group).
-        by some (is-next base width text read so_far.within next.is some)
+        (λ (some : 0 < length next.0).
+        by some (is-next base width text read so_far.within next.2 some)
         (fault_after ended base group) refl)
-        (λ (none : length next.group ≤ 0).
+        (λ (none : length next.0 ≤ 0).
         let end = at-end base width text so_far no_length_fault
-        (none-next base width text read so_far.within next.is (omega (arith, none))) in cc)
-        (cases_lt 0 (length next.group)) where
+        (none-next base width text read so_far.within next.2 (omega (arith, none))) in cc)
+        (cases_lt 0 (length next.0)) where
           next : Gathers base size (drop read text)
           next = gather_all base size (drop read text)
 
           group : List Positioned
-          group = next_bytes base text read next.span
+          group = next_bytes base text read next.1
 
-          by : 0 < length next.group → IsNext base text read (read + next.span) group
+          by : 0 < length next.0 → IsNext base text read (read + next.1) group
               → (o : Option DecodeError) → fault_after ended base group ≡ o → Stops base text
           by some is_next (Some error) faulty =
-              at_group (read + next.span) group error is_next faulty
+              at_group (read + next.1) group error is_next faulty
           by some is_next None sound =
               let bytes = bytes_of_group base group in
-              others (read + next.span) (written + length bytes) (is_final base group)
+              others (read + next.1) (written + length bytes) (is_final base group)
               (take written output ++ bytes)
               (after-group base width text (length bytes) (take written output ++ bytes) so_far
               is_next sound (omega (arith, behind_len bytes)) (behind_all bytes))
-              (omega (arith, some, gathered-few next.is))
+              (omega (arith, some, gathered-few next.2))
 
   -- an induction on a bound of the bytes that are left
   walk : (fuel read written : ℕ) (ended : Bool) (output : List ℕ)
@@ -216,13 +197,13 @@ Means-partial base width text partial no_length_fault is =
     let stops = walk base width text no_length_fault partial.error
     (fault-partial base text partial is) (suc (length text)) 0 0 false [] (begin base width text [])
     (omega arith) in
-    let found = stops.is.is_partial in
-    let same : partial ≡ stops.partial = cc in
+    let found = stops.2.is_partial in
+    let same : partial ≡ stops.1 = cc in
     rw same (
-      omega (arith, stops.is.read_before, stops.is.within),
-      rw (sound_bytes-Means base width (take stops.partial.read text)
-          (take stops.partial.written stops.output) stops.is.means) stops.is.means,
-      stops.front,
+      omega (arith, stops.2.read_before, stops.2.within),
+      rw (sound_bytes-Means base width (take stops.1.read text)
+          (take stops.1.written stops.0) stops.2.means) stops.2.means,
+      stops.3,
     )
 
 module _ (base : Base) (ruled : IsRuled base) (piece next : List ℕ) where

@@ -1,8 +1,7 @@
 -- A piece that means data and is whole groups, behind whole groups: it is read at once. So is one
 -- with a fault that no unfinished group has: it is that of the whole groups.
-use Rattle.std.proofs.Common.{◌≡◌, ℕ, ◌⊎◌, ◌+◌, ◌%◌, ◌<◌, ◌==◌, Bool, true, false, not, ◌||◌, List, [], ◌∷◌, ◌++◌, length, map, take, Option, Some, None, is_some, inl, inr, refl, sym, ap, ◌∙◌, arith, length-append, ◌-◌, ◌*◌, ◌/◌, ⊎_elim}
+use Rattle.std.proofs.Common.{◌≡◌, ℕ, ◌⊎◌, ◌+◌, ◌%◌, ◌<◌, ◌==◌, Bool, true, false, not, ◌||◌, List, [], ◌∷◌, ◌++◌, length, map, take, Option, Some, None, is_some, inl, inr, refl, sym, ap, ◌∙◌, arith, length-append, ◌-◌, ◌*◌, ◌/◌, ⊎_elim, append-nil}
 use Rattle.std.proofs.lemmas.Bool.{false≢true}
-use Rattle.std.proofs.lemmas.List.{append-nil}
 use Rattle.std.proofs.lemmas.List.Folds.{list_any-append}
 use Rattle.std.specs.List.{list_any}
 use Rattle.data_encoding.specs.declared.error.DecodeError.{DecodeError}
