@@ -6,7 +6,7 @@ use Rattle.std.proofs.lemmas.List.{append-nil, length-map, map-append, nil_from_
 use Rattle.std.proofs.Math.Nat.{mod-eq_of_lt, mod_self, mul-mod_left, mul_comm}
 use Rattle.std.proofs.lemmas.Bool.Decides.{nat_tests}
 use Rattle.data_encoding.specs.declared.encoding.Character.TheVariants.{Padding}
-use Rattle.data_encoding.specs.Base.{Base, IsWidth, meaning, is_padded, ignores_some, group_symbols}
+use Rattle.data_encoding.specs.Base.{Base, IsWidth, group_bytes, meaning, is_padded, ignores_some, group_symbols}
 use Rattle.data_encoding.specs.Bits.{runs}
 use Rattle.data_encoding.specs.Canonical.{has_one_text}
 use Rattle.data_encoding.specs.Grammar.{Positioned, GroupMeans, GroupsMean, Means, kept, positioned, is_final, bytes_in, meanings_in}
@@ -131,15 +131,12 @@ module _ (base : Base) (ruled : IsRuled base) (one : HasOneForm base) where
       first none more =
           let text = plain_text base piece in
           let all : length means.symbols ≡ size = omega (arith, whole, none) in
+          let full : base.width * length means.symbols ≡ 8 * group_bytes base.width =
+          rw all (group_bits base.width width) in
           let bits : 8 * length piece ≡ base.width * size =
-          omega (
-            arith,
-            PlainMeans-count base width means.symbols piece means.means,
-            ap (λ n. base.width * n) all,
-            group_bits base.width width,
-            means.means.rest_is_short,
-            width.few,
-          ) in
+          let same = PlainMeans-count base width means.symbols piece means.means in
+          omega (arith, same, full, group_bits base.width width, means.means.rest_is_short, width.few)
+          in
           let exact : 8 * length piece % base.width ≡ 0 =
           rw (bits, mul_comm base.width size) (mul-mod_left size base.width) in
           rw (group_is, none, append-nil text, plain_text-join base piece more width.some exact)

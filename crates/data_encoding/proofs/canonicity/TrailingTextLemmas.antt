@@ -93,9 +93,7 @@ module _ (base : Base) (ruled : IsRuled base) (unchecked : base.checks_trailing_
   last_meaning = own_meaning base ruled last facts.below
 
   text_len : length text ≡ 8 / base.width + 1
-  text_len =
-      length-append (replicate (8 / base.width) (symbol base 0)) (symbol base last ∷ [])
-      ∙ ap (λ n. n + 1) (length-replicate (8 / base.width) (symbol base 0))
+  text_len = simp (length-append, length-replicate)
 
   means : PlainMeans base (map (meaning base) text) (0 ∷ [])
   means = record {

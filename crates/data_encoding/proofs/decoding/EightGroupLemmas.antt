@@ -1,7 +1,6 @@
 -- Eight groups of symbols that are decoded together.
 use Rattle.std.proofs.Common.{◌≡◌, ℕ, zero, suc, ◌+◌, ◌*◌, ◌/◌, ◌%◌, ◌^◌, ◌<◌, ◌≤◌, List, [], length, length-take-le, map, take, drop, slice_index, sym, ap, ◌∙◌, arith, flat_map}
 use Rattle.std.proofs.lemmas.List.{drop-map, get_or-drop, get_or-map, get_or-take, get_or_past, length-drop, length-map, length-take, nil_from_length, take-map, take_all}
-use Rattle.std.proofs.Math.Nat.{mod-eq_of_lt, mul-div_cancel_left}
 use Rattle.std.specs.List.{AllByRecursion, range_with_len}
 use Rattle.std.specs.Simd.{first_chunks}
 use Rattle.data_encoding.specs.declared.encoding.Character.{Character}
@@ -38,9 +37,7 @@ module _ (base : Base) (values : List ℕ) (width bytes symbols : ℕ) (order : 
       → word_bytes (word_of order width symbols (map (slice_index values) xs))
       ≡ symbol_bytes base (map (meaning base) xs)
   group-bytes xs len fits low =
-      let count : bytes ≡ width * length xs / 8 =
-      sym (ap (λ n. width * n / 8) len ∙ ap (λ n. n / 8) whole.same_bits
-      ∙ mul-div_cancel_left bytes (omega arith)) in
+      let count : bytes ≡ width * length xs / 8 = rw len (omega (arith, whole.same_bits)) in
       symbol_bytes-word base order width bytes symbols bytes values xs group
       (omega (arith, len)) count fits (λ j h. low j (omega (arith, h, len))) reads
 
@@ -102,9 +99,7 @@ module _ (base : Base) (values : List ℕ) (width bytes symbols : ℕ) (order : 
 
 -- the limit of values
 limit-is : (width : ℕ) → IsWidth width → 1 * 2 ^ width % 256 ≡ 2 ^ width
-limit-is width is =
-    ap (λ n. n % 256) (sym (let one : 2 ^ width ≡ 1 * 2 ^ width = omega arith in one))
-    ∙ mod-eq_of_lt (omega (arith, symbols-few width is))
+limit-is width is = omega (arith, symbols-few width is)
 
 -- what is found of eight groups: their words, and that each byte is a symbol
 pub words-found : {width number read count : ℕ} → IsWidth width → read ≡ width → number ≡ count

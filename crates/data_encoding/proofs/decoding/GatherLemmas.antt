@@ -52,8 +52,7 @@ module _ (base : Base) (part : List ℕ) (index : ℕ) (inside : index < length 
 
   pub next-ignored : is_ignored (meaning base here) ≡ true
       → kept base (take (index + 1) part) ≡ kept base (take index part)
-  next-ignored h =
-      next-is ∙ rw h (append-nil (kept base (take index part)))
+  next-ignored h = next-is ∙ rw h (append-nil (kept base (take index part)))
 
   module _ (count span : ℕ) (room : List ℕ)
       (so_far : HasGathered base part index count span room) where
@@ -61,16 +60,12 @@ module _ (base : Base) (part : List ℕ) (index : ℕ) (inside : index < length 
         → HasGathered base part (index + 1) (count + 1) (index + 1) (set room count here)
     gather-kept h fits =
         let before = kept base (take index part) in
+        let bytes = map-append (λ (k : Positioned). k.byte) before (found ∷ []) in
         let place : index + 1 - 1 ≡ index = omega arith in
         record {
           before = omega arith;
           same = refl;
-          bytes_are =
-              rw (
-                next-kept h,
-                map-append (λ (k : Positioned). k.byte) before (found ∷ []),
-                so_far.bytes_are,
-              )
+          bytes_are = rw (next-kept h, bytes, so_far.bytes_are)
               (sym (take_more_set room count here fits));
           count_is = rw (next-kept h, length-append before (found ∷ []), so_far.count_is);
           ends = λ _. rw place h;
@@ -78,14 +73,13 @@ module _ (base : Base) (part : List ℕ) (index : ℕ) (inside : index < length 
 
     pub gather-ignored : is_ignored (meaning base here) ≡ true
         → HasGathered base part (index + 1) count span room
-    gather-ignored h =
-        record {
-          before = omega (arith, so_far.before);
-          same = rw (next-ignored h) so_far.same;
-          bytes_are = rw (next-ignored h) so_far.bytes_are;
-          count_is = rw (next-ignored h) so_far.count_is;
-          ends = so_far.ends;
-        }
+    gather-ignored h = record {
+      before = omega (arith, so_far.before);
+      same = rw (next-ignored h) so_far.same;
+      bytes_are = rw (next-ignored h) so_far.bytes_are;
+      count_is = rw (next-ignored h) so_far.count_is;
+      ends = so_far.ends;
+    }
 
   -- the member of that index stands here
   pub position-here : is_ignored (meaning base here) ≡ false

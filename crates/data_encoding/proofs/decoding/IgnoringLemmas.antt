@@ -1,5 +1,5 @@
 -- The base with each ignored byte invalid judges groups as the base does.
-use Rattle.std.proofs.Common.{◌≡◌, ℕ, ◌+◌, ◌≤◌, true, false, not, cond, List, [], ◌∷◌, length, map, replicate, None, refl, sym, ap, ◌∙◌, subst, arith}
+use Rattle.std.proofs.Common.{◌≡◌, ℕ, ◌≤◌, true, false, not, cond, List, [], ◌∷◌, length, map, replicate, None, refl, sym, ap, ◌∙◌, subst, arith}
 use Rattle.std.proofs.Math.ListN.{get_or-map}
 use Rattle.std.proofs.lemmas.List.{length-map, take-map}
 use Rattle.std.specs.List.{cons_option, filter_map, list_any, prefix_len}
@@ -40,8 +40,7 @@ symbols-strict : (ms : List Character)
     → prefix_len (λ m. not (not (is_symbol m))) (map strict ms)
     ≡ prefix_len (λ m. not (not (is_symbol m))) ms
 symbols-strict [] = refl
-symbols-strict (m ∷ ms) =
-    λ i. cond (not (not (strict_symbol m i))) (1 + symbols-strict ms i) 0
+symbols-strict (m ∷ ms) = rw (strict_symbol m, symbols-strict ms)
 
 values-strict : (ms : List Character) → filter_map value_of (map strict ms) ≡ filter_map value_of ms
 values-strict [] = refl

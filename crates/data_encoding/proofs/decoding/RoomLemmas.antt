@@ -1,5 +1,5 @@
 -- How many bytes groups have, and the room that is left for others.
-use Rattle.std.proofs.Common.{◌≡◌, ℕ, ◌+◌, ◌-◌, ◌*◌, ◌/◌, ◌%◌, ◌<◌, ◌≤◌, List, [], ◌∷◌, length, take, Option, ap, arith, length-append, length-take-le, mul-add, add-mul, mul-le-mul_left, mul-le-mul_right, le-div_iff_mul-le, div-add-mod', flat_map, filter_map}
+use Rattle.std.proofs.Common.{◌≡◌, ℕ, ◌+◌, ◌-◌, ◌*◌, ◌/◌, ◌%◌, ◌<◌, ◌≤◌, List, [], ◌∷◌, length, take, Option, arith, length-append, length-take-le, mul-add, add-mul, mul-le-mul_left, mul-le-mul_right, le-div_iff_mul-le, div-add-mod', flat_map, filter_map}
 use Rattle.std.proofs.lemmas.List.{length-map}
 use Rattle.data_encoding.proofs.grammar.PositionLemmas.{length-meanings}
 use Rattle.data_encoding.specs.Base.{Base, value_of}
@@ -51,13 +51,8 @@ pub length-bytes_of_groups : (base : Base) (groups : List (List Positioned))
     ≤ base.width * length (flat_map (λ group. group) groups)
 length-bytes_of_groups base [] = omega arith
 length-bytes_of_groups base (group ∷ groups) =
-    omega (
-      arith,
-      length-append (bytes_of_group base group) (flat_map (bytes_of_group base) groups),
-      ap (λ n. base.width * n) (length-append group (flat_map (λ g. g) groups)),
-      length-bytes_of_group base group,
-      length-bytes_of_groups base groups,
-    )
+    simp length-append
+    (omega (arith, length-bytes_of_group base group, length-bytes_of_groups base groups))
 
 -- Of the symbols of a text some are read, and the bytes of no more written.
 module _ (width bytes symbols len read written : ℕ) (same : width * symbols ≡ 8 * bytes)

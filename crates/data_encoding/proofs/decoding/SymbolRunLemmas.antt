@@ -1,5 +1,5 @@
 -- Runs of whole groups of symbols, one after the other.
-use Rattle.std.proofs.Common.{◌≡◌, ℕ, ◌+◌, ◌-◌, ◌*◌, ◌/◌, ◌%◌, ◌<◌, ◌≤◌, true, false, List, ◌++◌, length, take, drop, get_or, slice_index, refl, sym, ap, ◌∙◌, subst, arith, length-take-le, ⊎_elim, map, take-add, flat_map}
+use Rattle.std.proofs.Common.{◌≡◌, ℕ, ◌+◌, ◌-◌, ◌*◌, ◌/◌, ◌%◌, ◌<◌, ◌≤◌, true, false, List, ◌++◌, length, take, drop, slice_index, refl, sym, ap, ◌∙◌, arith, length-take-le, ⊎_elim, map, take-add}
 use Rattle.std.proofs.Math.Nat.{add-mul, mul-mod_left, zero-mul}
 use Rattle.std.proofs.lemmas.Bool.{cases_lt}
 use Rattle.std.proofs.lemmas.List.{append-nil, get_or-take, get_or-drop, length-drop, length-take, take_all, take_at, length-map, map-append}
@@ -31,9 +31,7 @@ module _ (base : Base) (width : IsWidth base.width) where
   run-none part old new = record {
     within = omega (arith, zero-mul size);
     are_symbols = λ k h. absurd (omega (arith, h, zero-mul size));
-    bytes = ap (λ n. take n new) (zero-mul byte_count)
-        ∙ sym (ap (λ n. run_bytes base (take n part)) (zero-mul size)
-        ∙ ap (flat_map (symbol_bytes base)) (runs-nil {X = Character} size pos));
+    bytes = rw (zero-mul byte_count, zero-mul size, runs-nil {X = Character} size pos);
   }
 
   symbols-more : (part : List ℕ) (i m : ℕ)
@@ -47,11 +45,9 @@ module _ (base : Base) (width : IsWidth base.width) where
       (λ (past : i * size ≤ k).
       let j = k - i * size in
       let below : j < m * size = omega (arith, h, past, add-mul i m size) in
-      let back : i * size + j ≡ k = omega (arith, past) in
-      let same : slice_index (take (m * size) (drop (i * size) part)) j ≡ slice_index part k =
-      get_or-take (m * size) (drop (i * size) part) j 0 below ∙ get_or-drop (i * size) part j 0
-      ∙ ap (λ n. get_or part n 0) back in
-      subst (λ byte. is_symbol (meaning base byte) ≡ true) same (second j below))
+      let back : k ≡ i * size + j = omega (arith, past) in
+      let there = get_or-take (m * size) (drop (i * size) part) j 0 below in
+      rw (back, ← get_or-drop (i * size) part j 0, ← there) (second j below))
       (cases_lt k (i * size))
 
   bytes-more : (part : List ℕ) (i m : ℕ) → (i + m) * size ≤ length part

@@ -1,10 +1,9 @@
 -- The lengths of whole groups.
-use Rattle.std.proofs.Common.{◌≡◌, ℕ, ◌*◌, ◌/◌, ◌≤◌, true, false, not, ◌&&◌, ◌||◌, List, [], ◌∷◌, None, is_none, Ok, refl, sym, ap, ◌∙◌, arith}
+use Rattle.std.proofs.Common.{◌≡◌, ℕ, ◌*◌, ◌/◌, ◌≤◌, true, false, List, [], ◌∷◌, None, Ok, refl, ap, ◌∙◌, arith}
 use Rattle.std.proofs.Math.Nat.{mul-mod_left}
 use Rattle.std.specs.List.{list_any}
-use Rattle.std.proofs.Math.Bool.{or-true}
-use Rattle.data_encoding.specs.Base.{Base, IsWidth, group_bytes, group_symbols, is_padding}
-use Rattle.data_encoding.specs.Grammar.{Positioned, is_final, meanings_in}
+use Rattle.data_encoding.specs.Base.{Base, IsWidth, group_bytes, group_symbols}
+use Rattle.data_encoding.specs.Grammar.{Positioned, is_final}
 use Rattle.data_encoding.specs.Lengths.{decoded_len, most_bytes}
 use Rattle.data_encoding.proofs.digits.WidthLemmas.{by_width}
 use Rattle.data_encoding.proofs.grammar.LengthLemmas.{decoded_len-valid, whole-length}
@@ -47,12 +46,9 @@ module _ (base : Base) (width : IsWidth base.width) where
 pub none_final-joined : (base : Base) → base.concatenates ≡ true → (gs : List (List Positioned))
     → list_any (is_final base) gs ≡ false
 none_final-joined base joins [] = refl
-none_final-joined base joins (g ∷ gs) = λ i.
-    (not (joins i) && list_any is_padding (meanings_in base g))
-    || none_final-joined base joins gs i
+none_final-joined base joins (g ∷ gs) = rw (none_final-joined base joins gs, joins)
 
 -- and texts without padding may be
 pub joins-unpadded : (base : Base) → IsRuled base → base.padding ≡ None → base.concatenates ≡ true
 joins-unpadded base ruled unpadded =
-    sym ruled.concatenated ∙ ap (λ o. base.concatenates || is_none o) unpadded
-    ∙ or-true base.concatenates
+    let joined = ruled.concatenated in grind (arith, joined)
