@@ -1,9 +1,9 @@
 -- Texts of one group, and what they mean.
-use Rattle.std.proofs.Common.{◌≡◌, ℕ, ◌<◌, ◌≤◌, List, [], ◌∷◌, ◌++◌, length, map, replicate, false, true, Option, Some, None, is_some, refl, sym, ap, ◌∙◌, subst, arith, append-nil, All}
+use Rattle.std.proofs.Common.{◌≡◌, ℕ, ◌<◌, ◌≤◌, List, [], ◌∷◌, ◌++◌, length, map, replicate, false, true, Option, Some, None, is_some, refl, sym, ap, ◌∙◌, arith, append-nil, All}
 use Rattle.data_encoding.specs.declared.encoding.Character.TheVariants.{Symbol, Padding}
 use Rattle.data_encoding.specs.Base.{Base, IsWidth, meaning, is_ignored, is_padded, group_symbols}
-use Rattle.data_encoding.specs.Bits.{missing, runs}
-use Rattle.data_encoding.specs.Grammar.{GroupMeans, GroupsMean, Means, PlainMeans, bytes_in, kept}
+use Rattle.data_encoding.specs.Bits.{missing}
+use Rattle.data_encoding.specs.Grammar.{GroupMeans, Means, PlainMeans, bytes_in, kept}
 use Rattle.data_encoding.specs.Text.{padded_text, plain_text, text_of, with_padding}
 use Rattle.data_encoding.proofs.digits.WidthLemmas.{group_bytes-pos, group_symbols-few, group_symbols-pos}
 use Rattle.data_encoding.proofs.grammar.PositionLemmas.{runs-meanings}
@@ -26,8 +26,7 @@ symbols_kept base [] values h = tt
 symbols_kept base (byte ∷ text) [] h = cc
 symbols_kept base (byte ∷ text) (value ∷ values) h =
     let here : meaning base byte ≡ Symbol value = cc in
-    let others : map (meaning base) text ≡ map (λ value. Symbol value) values = cc in
-    (ap is_ignored here, symbols_kept base text values others)
+    (ap is_ignored here, symbols_kept base text values cc)
 
 module _ (base : Base) (ruled : IsRuled base) where
   width : IsWidth base.width
@@ -70,11 +69,10 @@ module _ (base : Base) (ruled : IsRuled base) where
         let group : GroupMeans base (map (meaning base) filled) bytes =
         GroupMeans-fillers base text fillers bytes padded means some whole all in
         let many = group.is_whole padded in
-        subst (λ gs. GroupsMean base gs bytes)
-        (sym (runs-short size (map (meaning base) filled) (omega (arith, many, some, few))
-        (omega (arith, many)))
-        ∙ ap (λ l. runs size (map (meaning base) l)) (sym (all_kept filled keeps))
-        ∙ runs-meanings base size (kept base filled) (group_symbols-pos base.width width))
+        let one = runs-short size (map (meaning base) filled) (omega (arith, many, some, few))
+        (omega (arith, many)) in
+        let pos = group_symbols-pos base.width width in
+        rw (← runs-meanings base size (kept base filled) pos, all_kept filled keeps, one)
         (bytes, [], sym (append-nil bytes), group, (λ final. refl), refl)
 
     -- with the padding character

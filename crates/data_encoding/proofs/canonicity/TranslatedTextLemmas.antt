@@ -102,9 +102,8 @@ module _ (base : Base) (ruled : IsRuled base) where
           rest_is_zero = λ e. refl;
           are_bytes = All-from_recursion (λ byte. byte < 256) bytes are_bytes.below;
         } in
-        subst (λ l. Means base l bytes) (whole-unpadded base.padding size text len)
-        (Means-group base ruled text bytes means (omega (arith, len, positive))
-        (omega (arith, len)))
+        rw (whole-unpadded base.padding size text len) at
+        (Means-group base ruled text bytes means (omega (arith, len, positive)) (omega (arith, len)))
 
   pub symbol-second : SymbolIsSecond base
   symbol-second byte value is apart = let few = group_symbols-few base.width width in (
@@ -164,7 +163,7 @@ module _ (base : Base) (ruled : IsRuled base) where
 
     second_means : meaning base byte ≡ Padding → Means base (text_ending_in base byte) (0 ∷ [])
     second_means is =
-        subst (λ l. Means base l (0 ∷ [])) (sym second_text)
+        rw second_text
         (Means-fillers base ruled zero_text (0 ∷ [])
         (PlainMeans-plain_text base ruled (0 ∷ []) zero_byte)
         (zero_some base ruled) (zero_few base ruled) (ap is_some some) fillers

@@ -19,38 +19,32 @@ use Rattle.data_encoding.proofs.grammar.GroupLemmas.{GroupMeans-sound}
 abbrev strict : Character → Character
 strict m = cond (is_ignored m) Invalid m
 
-strict_symbol : (m : Character) → is_symbol (strict m) ≡ is_symbol m
-strict_symbol m = grind arith
-
-strict_value : (m : Character) → value_of (strict m) ≡ value_of m
-strict_value m = grind arith
-
-strict_padding : (m : Character) → is_padding (strict m) ≡ is_padding m
-strict_padding m = grind arith
-
-strict_kept : (m : Character) → is_ignored (strict m) ≡ false
-strict_kept m = grind arith
+-- what it is, but for ignored ones, is not changed by that
+strict_as : (m : Character)
+    → (is_symbol (strict m) ≡ is_symbol m) × (value_of (strict m) ≡ value_of m)
+    × (is_padding (strict m) ≡ is_padding m) × (is_ignored (strict m) ≡ false)
+strict_as m = (grind arith, grind arith, grind arith, grind arith)
 
 none_strict : (ms : List Character) → list_any is_ignored (map strict ms) ≡ false
 none_strict [] = refl
-none_strict (m ∷ ms) = rw (strict_kept m) (none_strict ms)
+none_strict (m ∷ ms) = rw (strict_as m).3 (none_strict ms)
 
 -- what is found of strict meanings is what is found of the meanings
 symbols-strict : (ms : List Character)
     → prefix_len (λ m. not (not (is_symbol m))) (map strict ms)
     ≡ prefix_len (λ m. not (not (is_symbol m))) ms
 symbols-strict [] = refl
-symbols-strict (m ∷ ms) = rw (strict_symbol m, symbols-strict ms)
+symbols-strict (m ∷ ms) = rw ((strict_as m).0, symbols-strict ms)
 
 values-strict : (ms : List Character) → filter_map value_of (map strict ms) ≡ filter_map value_of ms
 values-strict [] = refl
-values-strict (m ∷ ms) = λ i. cons_option (strict_value m i) (values-strict ms i)
+values-strict (m ∷ ms) = λ i. cons_option ((strict_as m).1 i) (values-strict ms i)
 
 paddings-strict : (ms : List Character)
     → count_before_padding (map strict ms) ≡ count_before_padding ms
 paddings-strict ms =
     count_before_end-map is_padding strict ms
-    ∙ ap (λ test. count_before_end test ms) (λ i m. strict_padding m i)
+    ∙ ap (λ test. count_before_end test ms) (λ i m. (strict_as m).2 i)
 
 module _ (base : Base) where
   -- nothing is ignored

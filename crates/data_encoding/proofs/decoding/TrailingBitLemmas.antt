@@ -1,9 +1,11 @@
 -- The bytes of a group: the first that is no symbol, and the bits left over.
-use Rattle.std.proofs.Common.{◌≡◌, ℕ, zero, suc, ◌+◌, ◌-◌, ◌*◌, ◌/◌, ◌%◌, ◌^◌, ◌<◌, ◌≤◌, ◌==◌, Bool, true, false, not, ◌||◌, nat_lt, List, [], ◌∷◌, ◌++◌, length, map, take, drop, reverse, slice_index, Some, None, refl, sym, ap, ◌∙◌, subst, arith, length-append, pow-add, pow_pos, div-lt_iff_lt-mul, mod-lt, mul_comm, flat_map, slice_get}
+use Rattle.std.proofs.Common.{◌≡◌, ℕ, ◌+◌, ◌-◌, ◌*◌, ◌/◌, ◌%◌, ◌^◌, ◌<◌, ◌≤◌, ◌==◌, Bool, true, false, not, ◌||◌, nat_lt, List, [], ◌∷◌, ◌++◌, length, map, take, drop, reverse, slice_index, Some, None, refl, sym, ap, ◌∙◌, subst, arith, length-append, pow-add, pow_pos, div-lt_iff_lt-mul, mod-lt, mul_comm, flat_map, slice_get}
 use Rattle.std.proofs.lemmas.Bool.Decides.{nat_tests}
 use Rattle.std.proofs.lemmas.List.{length-map, length-reverse, reverse-append, map-append, append-nil, drop_at, take_more, take_all}
 use Rattle.std.proofs.lemmas.List.Concat.{flat_map-append}
 use Rattle.std.proofs.lemmas.List.Folds.{list_any-append}
+use Rattle.std.proofs.Math.ListN.{get_or-map}
+use Rattle.std.proofs.lemmas.List.Sums.{position_or_len_is}
 use Rattle.std.proofs.lemmas.Option.{get_or_from_slice_get, slice_get_within}
 use Rattle.std.proofs.Math.Bool.{or-false, or_comm}
 use Rattle.std.proofs.Math.Seq.{drop-append-add}
@@ -29,17 +31,15 @@ module _ (base : Base) (values : List ℕ) (holds : HoldsValues base values) whe
 
   symbols_len : (group : List ℕ) (index : ℕ) → StopsAfter group index
       → prefix_len (λ m. not (not (is_symbol m))) (map (meaning base) group) ≡ index
-  symbols_len [] index s = omega (arith, s.inside)
-  symbols_len (byte ∷ group) zero s =
-      rw (holds.others byte (s.are_bytes 0) (s.there (omega arith)))
-  symbols_len (byte ∷ group) (suc index) s =
-      let others = symbols_len group index (record {
-        are_bytes = λ k. s.are_bytes (suc k);
-        before = λ k h. s.before (suc k) (omega (arith, h));
-        inside = omega (arith, s.inside);
-        there = λ h. s.there (omega (arith, h));
-      }) in
-      rw (holds.symbols byte (s.are_bytes 0) (s.before 0 (omega arith)), others) (omega arith)
+  symbols_len group index s =
+      position_or_len_is (λ m. not (is_symbol m)) (map (meaning base) group) index (meaning base 0)
+      (rw (length-map group (meaning base)) s.inside)
+      (λ k less. rw (get_or-map (meaning base) group k 0)
+      (ap (λ m. not (is_symbol m))
+      (holds.symbols (slice_index group k) (s.are_bytes k) (s.before k less))))
+      (λ inside. rw (get_or-map (meaning base) group index 0)
+      (ap not (holds.others (slice_index group index) (s.are_bytes index)
+      (s.there (rw (length-map group (meaning base)) at inside)))))
 
   module _ (group : List ℕ) where
     -- where each byte is a symbol none is found
@@ -63,8 +63,7 @@ some_bit bits = list_any (λ bit. not (bit == 0)) bits
 some_bit-number : (bits : List ℕ) → some_bit bits ≡ not (number_of_low_bits bits == 0)
 some_bit-number [] = refl
 some_bit-number (bit ∷ bits) =
-    ap (λ b. not (bit == 0) || b) (some_bit-number bits)
-    ∙ either bit (number_of_low_bits bits) where
+    rw (some_bit-number bits) (either bit (number_of_low_bits bits)) where
       either : (bit rest : ℕ) → (not (bit == 0) || not (rest == 0)) ≡ not (bit + 2 * rest == 0)
       either bit rest = grind (arith, nat_tests)
 

@@ -84,6 +84,9 @@ module _ (base : Base) (width : IsWidth base.width) where
     abbrev before : List (List Positioned)
     before = whole_groups base text
 
+    abbrev further_on : Positioned → Positioned
+    further_on k = record { position = len + k.position; byte = k.byte }
+
     -- the whole groups of the piece, where they stand
     abbrev others : List (List Positioned)
     others = map (moved len) (whole_groups base piece)
@@ -101,9 +104,7 @@ module _ (base : Base) (width : IsWidth base.width) where
     groups_are : whole_groups base (text ++ piece) ≡ before ++ others
     groups_are =
         rw ((joined base width text piece).0, behind)
-        (ap (λ gs. before ++ gs) (whole_runs-map size pos
-        (λ (k : Positioned). record { position = len + k.position; byte = k.byte })
-        (kept base piece)))
+        (ap (λ gs. before ++ gs) (whole_runs-map size pos further_on (kept base piece)))
 
     before_sound : AreSound base false before false
     before_sound = sound base width text piece len [] false read
@@ -121,9 +122,7 @@ module _ (base : Base) (width : IsWidth base.width) where
       holds = λ none.
           let is = alone.holds (none_further fault none) in
           rw (is, (joined base width text piece).1, behind)
-          (sym (left-map size pos
-          (λ (k : Positioned). record { position = len + k.position; byte = k.byte })
-          (kept base piece)));
+          (sym (left-map size pos further_on (kept base piece)));
       ends = λ none.
           let is = alone.ends (none_further fault none) in
           rw (is, groups_are, list_any-append (is_final base) before others, ← read.ends refl)
