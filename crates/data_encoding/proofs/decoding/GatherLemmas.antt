@@ -167,10 +167,6 @@ module _ {base : Base} {size : ℕ} {part group : List ℕ} {span : ℕ}
       rw (kept-split base span part is.within)
       (simp length-append (omega (arith, inside, length-gathered)))
 
-  -- nothing is, where no byte was gathered
-  pub gathered-none : 0 < size → length group ≡ 0 → length (kept base part) ≡ 0
-  gathered-none some empty = omega (arith, is.last)
-
 -- the next bytes of a text, so far, with their positions
 abbrev pub next_bytes : Base → List ℕ → ℕ → ℕ → List Positioned
 next_bytes base text read span = kept_in base read (take span (drop read text))
@@ -216,8 +212,8 @@ module _ (base : Base) (width : IsWidth base.width) (text : List ℕ) (read : �
   -- nothing is left where none was found
   pub none-next : length group ≡ 0 → kept_from base read text ≡ []
   none-next empty =
-      nothing-kept base text read
-      (gathered-none is (group_symbols-pos base.width width) empty)
+      let some = group_symbols-pos base.width width in
+      nothing-kept base text read (omega (arith, is.last, empty, some))
 
   -- they are the next group
   pub is-next : 0 < length group → IsNext base text read (read + span) nexts

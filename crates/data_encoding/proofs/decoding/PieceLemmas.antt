@@ -86,9 +86,15 @@ module _ (base : Base) (width : IsWidth base.width) where
     abbrev pub more : List Positioned
     more = kept_in base (length text) piece
 
+    -- the whole groups before it, and those behind them
+    abbrev gs : List (List Positioned)
+    gs = whole_groups base text
+
+    abbrev hs : List (List Positioned)
+    hs = whole_runs size (unfinished base text ++ more)
+
     -- whole groups more, and what is left behind them
-    pub joined : (whole_groups base (text ++ piece)
-        ≡ whole_groups base text ++ whole_runs size (unfinished base text ++ more))
+    pub joined : (whole_groups base (text ++ piece) ≡ gs ++ hs)
         × (unfinished base (text ++ piece) ≡ left size (unfinished base text ++ more))
     joined =
         let start : 0 + length text ≡ length text = omega arith in
@@ -99,12 +105,6 @@ module _ (base : Base) (width : IsWidth base.width) where
     pub whole_bytes-grows : (bytes : List ℕ)
         × (whole_bytes base (text ++ piece) ≡ whole_bytes base text ++ bytes)
     whole_bytes-grows = by (first_fault base gs) refl where
-      gs : List (List Positioned)
-      gs = whole_groups base text
-
-      hs : List (List Positioned)
-      hs = whole_runs size (unfinished base text ++ more)
-
       by : (o : Option DecodeError) → first_fault base gs ≡ o
           → (bytes : List ℕ) × (whole_bytes base (text ++ piece) ≡ whole_bytes base text ++ bytes)
       by (Some error) h = (
@@ -124,8 +124,7 @@ module _ (base : Base) (width : IsWidth base.width) where
           → HasRead base (text ++ piece) (len + length piece) (Some error) other end
           × (whole_bytes base (text ++ piece) ≡ whole_bytes base text)
       HasRead-faulty error other end read =
-          let same = stays base false error (whole_groups base text)
-          (whole_runs size (unfinished base text ++ more)) (sym read.first) in (
+          let same = stays base false error gs hs (sym read.first) in (
             record {
               counted = omega (arith, read.counted, length-append text piece);
               first = rw joined.0 (sym same.0);
@@ -138,7 +137,6 @@ module _ (base : Base) (width : IsWidth base.width) where
       module _ (read : HasRead base text len None held ended) where
         pub sound : AreSound base false (whole_groups base text) ended
         sound =
-            let gs = whole_groups base text in
             let none = AreSound-none base false gs (sym read.first) in
             rw (read.ends refl ∙ any_final base false (ends_after base false gs) gs none) none
 
@@ -152,7 +150,7 @@ module _ (base : Base) (width : IsWidth base.width) where
             × (whole_bytes base (text ++ piece) ≡ whole_bytes base text)
         HasRead-held few =
             let short = whole_runs-short size pos (held ++ more) few in
-            let same : whole_groups base (text ++ piece) ≡ whole_groups base text =
+            let same : whole_groups base (text ++ piece) ≡ gs =
             rw (joined.0, with_held, short.0) (append-nil _) in (
               record {
                 counted = omega (arith, read.counted, length-append text piece);
@@ -169,13 +167,12 @@ module _ (base : Base) (width : IsWidth base.width) where
           one : (whole_runs size group ≡ group ∷ []) × (left size group ≡ [])
           one = whole_runs-one size pos group whole
 
-          groups_are : whole_groups base (text ++ piece) ≡ whole_groups base text ++ group ∷ []
+          groups_are : whole_groups base (text ++ piece) ≡ gs ++ group ∷ []
           groups_are = rw (joined.0, with_held ∙ is, one.0)
 
           pub HasRead-group : HasRead base (text ++ piece) (len + length piece)
               (fault_after ended base group) [] (is_final base group)
           HasRead-group =
-              let gs = whole_groups base text in
               let final = is_final base group in
               record {
                 counted = omega (arith, read.counted, length-append text piece);
@@ -191,7 +188,7 @@ module _ (base : Base) (width : IsWidth base.width) where
               ≡ whole_bytes base text
               ++ cond (is_some (fault_after ended base group)) [] (bytes_of_group base group)
           whole_bytes-group =
-              rw (groups_are, bytes-behind base false ended (whole_groups base text) (group ∷ []) sound)
+              rw (groups_are, bytes-behind base false ended gs (group ∷ []) sound)
               (ap (λ l. whole_bytes base text ++ l)
               (bytes_unless base (is_some (fault_after ended base group)) group))
 
