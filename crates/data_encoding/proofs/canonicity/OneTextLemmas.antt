@@ -9,6 +9,7 @@ use Rattle.data_encoding.specs.declared.encoding.Character.TheVariants.{Padding}
 use Rattle.data_encoding.specs.Base.{Base, IsWidth, group_bytes, meaning, is_padded, ignores_some, group_symbols}
 use Rattle.data_encoding.specs.Bits.{runs}
 use Rattle.data_encoding.specs.Canonical.{has_one_text}
+use Rattle.data_encoding.specs.Fault.{sound_bytes}
 use Rattle.data_encoding.specs.Grammar.{Positioned, GroupMeans, GroupsMean, Means, kept, positioned, is_final, bytes_in, meanings_in}
 use Rattle.data_encoding.specs.Layout.{own_character, translated_bytes}
 use Rattle.data_encoding.specs.SameMeaning.{has_one_own_form, own_form}
@@ -209,18 +210,17 @@ module _ (base : Base) (ruled : IsRuled base) where
       → (bytes ≡ others) ↔ (own_form base text ≡ own_form base other)
   own_forms h text other bytes others means more =
       let form = parts_of base h in
-      let own_means : (one its : List ℕ) → Means base one its
-      → Means base (own_form base one) its =
-      λ one its is. Means-translated base ruled.is_width one (own_form base one)
-      (own_form-meaning base ruled one) its is in (
+      let own_bytes : (one its : List ℕ) → Means base one its
+      → sound_bytes base (own_form base one) ≡ its =
+      λ one its is. sound_bytes-Means base ruled.is_width (own_form base one) its
+      (Means-translated base ruled.is_width one (own_form base one)
+      (own_form-meaning base ruled one) its is) in (
         (λ same.
             own_text base ruled form text bytes means ∙ ap (text_of base) same
             ∙ sym (own_text base ruled form other others more)),
         (λ same.
-            sym (sound_bytes-Means base ruled.is_width (own_form base other) bytes
-            (subst (λ l. Means base l bytes) same (own_means text bytes means)))
-            ∙ sound_bytes-Means base ruled.is_width (own_form base other) others
-            (own_means other others more)),
+            sym (own_bytes text bytes means) ∙ ap (sound_bytes base) same
+            ∙ own_bytes other others more),
       )
 
   -- and there are no lines
