@@ -84,7 +84,7 @@ module _ (base : Base) (ruled : IsRuled base) (unchecked : base.checks_trailing_
   count = 8 / base.width
 
   abbrev text : List ℕ
-  text = symbols_with (8 / base.width) (symbol base 0) (symbol base last)
+  text = symbols_with count (symbol base 0) (symbol base last)
 
   zero_meaning : meaning base (symbol base 0) ≡ Symbol 0
   zero_meaning = own_meaning base ruled 0 (omega (arith, facts.below))
@@ -92,7 +92,7 @@ module _ (base : Base) (ruled : IsRuled base) (unchecked : base.checks_trailing_
   last_meaning : meaning base (symbol base last) ≡ Symbol last
   last_meaning = own_meaning base ruled last facts.below
 
-  text_len : length text ≡ 8 / base.width + 1
+  text_len : length text ≡ count + 1
   text_len = simp (length-append, length-replicate)
 
   means : PlainMeans base (map (meaning base) text) (0 ∷ [])

@@ -19,7 +19,7 @@ use Rattle.data_encoding.proofs.grammar.GroupLemmas.{GroupMeans-sound}
 abbrev strict : Character → Character
 strict m = cond (is_ignored m) Invalid m
 
--- what it is, but for ignored ones, is not changed by that
+-- the strict meaning is what the meaning is, and is never ignored
 strict_as : (m : Character)
     → (is_symbol (strict m) ≡ is_symbol m) × (value_of (strict m) ≡ value_of m)
     × (is_padding (strict m) ≡ is_padding m) × (is_ignored (strict m) ≡ false)

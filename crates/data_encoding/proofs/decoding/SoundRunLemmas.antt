@@ -71,9 +71,7 @@ module _ (base : Base) (width : IsWidth base.width) (bytes : List ℕ) where
         let none : first_after false strict (group ∷ runs size (drop size (positioned front)))
         ≡ None =
         is_none-none _ (rw (strict_fault, first) at h) in
-        let sound = neither_fault (fault_after false strict group)
-        (first_after (is_final strict group) strict (runs size (drop size (positioned front))))
-        none in
+        let sound = neither_fault (fault_after false strict group) _ none in
         let same : bytes_in group ≡ take size front =
         sym (take-map (λ (k : Positioned). k.byte) size (positioned front))
         ∙ ap (take size) (bytes-positioned_from 0 front) in
