@@ -14,10 +14,8 @@ pub mod CutLemmas
 pub mod SoundRunLemmas
 pub mod LastRunLemmas
 pub mod StepLemmas
-pub mod ReadLemmas
 pub mod ResumeLemmas
 pub mod PieceLemmas
-pub mod WholeFaultLemmas
 pub mod WholePieceLemmas
 pub mod WholeLengthLemmas
 pub mod FinalGroupLemmas

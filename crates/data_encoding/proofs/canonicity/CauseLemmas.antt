@@ -22,8 +22,7 @@ none_in [] h = refl
 none_in (x ∷ l) h = absurd h.0
 
 unless_false : (b : Bool) → (b ≡ false → ⊥) → b ≡ true
-unless_false true h = refl
-unless_false false h = absurd (h refl)
+unless_false b h = grind arith
 
 module _ (base : Base) (ruled : IsRuled base) where
   module _ (one : IsCanonical base) where

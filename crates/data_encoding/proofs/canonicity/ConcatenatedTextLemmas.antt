@@ -1,8 +1,7 @@
 -- Padding where texts may be concatenated gives a second text.
-use Rattle.std.proofs.Common.{◌≡◌, ℕ, ◌*◌, ◌%◌, ◌<◌, ◌==◌, true, not, [], ◌∷◌, length, Option, Some, None, is_some, inl, refl, sym, ap, ◌∙◌, arith, length-append}
+use Rattle.std.proofs.Common.{◌≡◌, ℕ, ◌*◌, ◌%◌, ◌<◌, ◌==◌, true, not, [], ◌∷◌, length, Option, Some, None, is_some, inl, refl, sym, ap, ◌∙◌, arith, length-append, All}
 use Rattle.std.proofs.lemmas.Bool.{false≢true}
 use Rattle.std.proofs.lemmas.List.Elements.{All-from_recursion}
-use Rattle.std.specs.Prelude.{All}
 use Rattle.data_encoding.specs.Base.{Base, IsWidth, group_bytes, group_symbols, is_padded}
 use Rattle.data_encoding.specs.Canonical.{ConcatenatedIsSecond}
 use Rattle.data_encoding.specs.Text.{padded_text}
@@ -53,15 +52,10 @@ module _ (base : Base) (ruled : IsRuled base) where
       let two : length (padded_text base (0 ∷ 0 ∷ [])) ≡ 1 * group_symbols base.width =
       length-padded base (0 ∷ 0 ∷ []) width padded
       ∙ ap (λ n. n * group_symbols base.width) groups.1 in
+      let pos = group_symbols-pos base.width width in
       record {
         differ = λ same.
-            omega (
-              arith,
-              one,
-              two,
-              sym (length-append first first) ∙ ap length same,
-              group_symbols-pos base.width width,
-            );
+            omega (arith, one, two, sym (length-append first first) ∙ ap length same, pos);
         one_is_short = omega (arith, length-append first first, length-zero base ruled);
         other_is_short = omega (arith, two, group_symbols-few base.width width);
         one_means =

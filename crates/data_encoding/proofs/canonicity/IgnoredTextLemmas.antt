@@ -1,8 +1,8 @@
 -- An ignored byte gives a second text.
-use Rattle.std.proofs.Common.{not, cond, [], ◌∷◌, refl, sym, ap, ◌∙◌, subst, arith, map}
+use Rattle.std.proofs.Common.{not, cond, [], ◌∷◌, refl, sym, ap, ◌∙◌, arith}
 use Rattle.data_encoding.specs.Base.{Base, group_symbols}
 use Rattle.data_encoding.specs.Canonical.{IgnoredIsSecond}
-use Rattle.data_encoding.specs.Grammar.{GroupsMean, Means, Positioned, meanings_in}
+use Rattle.data_encoding.specs.Grammar.{Means, Positioned}
 use Rattle.data_encoding.proofs.digits.WidthLemmas.{group_symbols-pos}
 use Rattle.data_encoding.proofs.grammar.SameBytesLemmas.{bytes-kept_in, Means-same}
 use Rattle.data_encoding.proofs.lists.RunLemmas.{runs-nil}
@@ -12,9 +12,8 @@ module _ (base : Base) (ruled : IsRuled base) where
   -- nothing means nothing
   Means-nil : Means base [] []
   Means-nil =
-      subst (λ gs. GroupsMean base (map (meanings_in base) gs) [])
-      (sym (runs-nil {X = Positioned} (group_symbols base.width)
-      (group_symbols-pos base.width ruled.is_width))) refl
+      rw (runs-nil {X = Positioned} (group_symbols base.width)
+      (group_symbols-pos base.width ruled.is_width)) refl
 
   pub ignored-second : IgnoredIsSecond base
   ignored-second byte is = record {

@@ -1,16 +1,15 @@
 -- Texts of one group, and what they mean.
-use Rattle.std.proofs.Common.{◌≡◌, ℕ, ◌<◌, ◌≤◌, List, [], ◌∷◌, ◌++◌, length, map, replicate, false, true, Option, Some, None, is_some, refl, sym, ap, ◌∙◌, subst, arith, append-nil}
-use Rattle.std.specs.Prelude.{All}
-use Rattle.data_encoding.specs.declared.encoding.Character.TheVariants.{Symbol}
+use Rattle.std.proofs.Common.{◌≡◌, ℕ, ◌<◌, ◌≤◌, List, [], ◌∷◌, ◌++◌, length, map, replicate, false, true, Option, Some, None, is_some, refl, sym, ap, ◌∙◌, arith, append-nil, All}
+use Rattle.data_encoding.specs.declared.encoding.Character.TheVariants.{Symbol, Padding}
 use Rattle.data_encoding.specs.Base.{Base, IsWidth, meaning, is_ignored, is_padded, group_symbols}
-use Rattle.data_encoding.specs.Bits.{missing, runs}
-use Rattle.data_encoding.specs.Grammar.{GroupMeans, GroupsMean, Means, PlainMeans, bytes_in, kept}
+use Rattle.data_encoding.specs.Bits.{missing}
+use Rattle.data_encoding.specs.Grammar.{GroupMeans, Means, PlainMeans, bytes_in, kept}
 use Rattle.data_encoding.specs.Text.{padded_text, plain_text, text_of, with_padding}
 use Rattle.data_encoding.proofs.digits.WidthLemmas.{group_bytes-pos, group_symbols-few, group_symbols-pos}
 use Rattle.data_encoding.proofs.grammar.PositionLemmas.{runs-meanings}
 use Rattle.data_encoding.proofs.grammar.SameBytesLemmas.{Means-same, bytes-kept_in}
 use Rattle.data_encoding.proofs.grammar.UnpaddedGrammarLemmas.{unpadded-Means}
-use Rattle.data_encoding.proofs.lists.EachLemmas.{all_joined}
+use Rattle.data_encoding.proofs.lists.EachLemmas.{all_joined, all_weaker}
 use Rattle.data_encoding.proofs.lists.ListLemmas.{AllFail}
 use Rattle.data_encoding.proofs.lists.RunLemmas.{run_count-some, runs-short}
 use Rattle.data_encoding.proofs.judgement.RuleLemmas.{IsRuled, IsRuledPadding}
@@ -27,15 +26,7 @@ symbols_kept base [] values h = tt
 symbols_kept base (byte ∷ text) [] h = cc
 symbols_kept base (byte ∷ text) (value ∷ values) h =
     let here : meaning base byte ≡ Symbol value = cc in
-    let others : map (meaning base) text ≡ map (λ value. Symbol value) values = cc in
-    (ap is_ignored here, symbols_kept base text values others)
-
--- nor is padding
-fillers_kept : (base : Base) (fillers : List ℕ) → AreFillers base fillers
-    → AllFail (λ byte. is_ignored (meaning base byte)) fillers
-fillers_kept base [] all = tt
-fillers_kept base (filler ∷ fillers) all =
-    (ap is_ignored all.0, fillers_kept base fillers all.1)
+    (ap is_ignored here, symbols_kept base text values cc)
 
 module _ (base : Base) (ruled : IsRuled base) where
   width : IsWidth base.width
@@ -73,15 +64,15 @@ module _ (base : Base) (ruled : IsRuled base) where
         let filled = text ++ fillers in
         let keeps : keeps_all filled =
         all_joined (λ byte. is_ignored (meaning base byte) ≡ false) text fillers symbols
-        (fillers_kept base fillers all) in
+        (all_weaker (λ byte. meaning base byte ≡ Padding)
+        (λ byte. is_ignored (meaning base byte) ≡ false) (λ byte is. ap is_ignored is) fillers all) in
         let group : GroupMeans base (map (meaning base) filled) bytes =
         GroupMeans-fillers base text fillers bytes padded means some whole all in
         let many = group.is_whole padded in
-        subst (λ gs. GroupsMean base gs bytes)
-        (sym (runs-short size (map (meaning base) filled) (omega (arith, many, some, few))
-        (omega (arith, many)))
-        ∙ ap (λ l. runs size (map (meaning base) l)) (sym (all_kept filled keeps))
-        ∙ runs-meanings base size (kept base filled) (group_symbols-pos base.width width))
+        let one = runs-short size (map (meaning base) filled) (omega (arith, many, some, few))
+        (omega (arith, many)) in
+        let pos = group_symbols-pos base.width width in
+        rw (← runs-meanings base size (kept base filled) pos, all_kept filled keeps, one)
         (bytes, [], sym (append-nil bytes), group, (λ final. refl), refl)
 
     -- with the padding character
@@ -91,8 +82,7 @@ module _ (base : Base) (ruled : IsRuled base) where
           → Means base (with_padding o size text) bytes
       by None is h =
           (unpadded-Means base width (ap is_some is) text bytes).1
-          (subst (λ l. PlainMeans base (map (meaning base) l) bytes) (sym (all_kept text symbols))
-          means)
+          (rw (all_kept text symbols) means)
       by (Some character) is h =
           let count = missing size (length text) in
           Means-fillers (ap is_some is) (replicate count character)
@@ -104,20 +94,17 @@ module _ (base : Base) (ruled : IsRuled base) where
       → length (with_padding o (group_symbols base.width) text) ≤ 8
   length-group None text some few = omega (arith, few, group_symbols-few base.width width)
   length-group (Some character) text some few =
-      omega (
-        arith,
-        length-filled_once character size text some few,
-        group_symbols-few base.width width,
-      )
+      let filled = length-filled_once character size text some few in
+      omega (arith, filled, group_symbols-few base.width width)
 
   pub zero_some : 0 < length (plain_text base (0 ∷ []))
   zero_some =
-      subst (λ n. 0 < n) (sym (length-plain_text base (0 ∷ []) width.some))
+      rw (length-plain_text base (0 ∷ []) width.some)
       (run_count-some base.width 8 width.some (omega arith))
 
   pub zero_few : length (plain_text base (0 ∷ [])) ≤ group_symbols base.width
   zero_few =
-      subst (λ n. n ≤ size) (sym (length-plain_text base (0 ∷ []) width.some))
+      rw (length-plain_text base (0 ∷ []) width.some)
       (few_symbols base.width width 1 (group_bytes-pos base.width width))
 
   -- the text of a byte 0 is a group at most

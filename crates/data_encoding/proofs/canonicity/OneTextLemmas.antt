@@ -1,17 +1,16 @@
 -- Where there is no cause of a second text but a translated byte, the own form of a text that means
 -- data is the text of the data; and where there is no cause at all, the text is.
-use Rattle.std.proofs.Common.{◌≡◌, ◌↔◌, ℕ, ◌+◌, ◌*◌, ◌%◌, ◌<◌, ◌==◌, Bool, true, false, not, ◌&&◌, List, [], ◌∷◌, ◌++◌, length, map, replicate, Option, Some, None, is_some, unwrap_or, refl, sym, ap, ◌∙◌, subst, arith, zero, suc, nat_lt, take, drop, length-take-le, take-append-drop}
+use Rattle.std.proofs.Common.{◌≡◌, ◌↔◌, ℕ, ◌+◌, ◌*◌, ◌%◌, ◌<◌, ◌==◌, true, false, ◌&&◌, List, [], ◌∷◌, ◌++◌, length, map, replicate, Option, Some, None, is_some, unwrap_or, refl, sym, ap, ◌∙◌, subst, arith, zero, suc, nat_lt, take, drop, length-take-le, take-append-drop, flat_map}
 use Rattle.std.proofs.lemmas.Bool.{and_parts, eqb-true}
 use Rattle.std.proofs.lemmas.List.{append-nil, length-map, map-append, nil_from_length}
 use Rattle.std.proofs.Math.Nat.{mod-eq_of_lt, mod_self, mul-mod_left, mul_comm}
-use Rattle.std.specs.Prelude.{flat_map}
-use Rattle.std.specs.List.{list_any}
 use Rattle.std.proofs.lemmas.Bool.Decides.{nat_tests}
 use Rattle.data_encoding.specs.declared.encoding.Character.TheVariants.{Padding}
-use Rattle.data_encoding.specs.Base.{Base, IsWidth, meaning, is_padded, is_padding, ignores_some, group_symbols}
+use Rattle.data_encoding.specs.Base.{Base, IsWidth, group_bytes, meaning, is_padded, ignores_some, group_symbols}
 use Rattle.data_encoding.specs.Bits.{runs}
 use Rattle.data_encoding.specs.Canonical.{has_one_text}
-use Rattle.data_encoding.specs.Grammar.{Positioned, GroupMeans, GroupsMean, Means, kept, positioned, is_final, PlainMeans, bytes_in, meanings_in}
+use Rattle.data_encoding.specs.Fault.{sound_bytes}
+use Rattle.data_encoding.specs.Grammar.{Positioned, GroupMeans, GroupsMean, Means, kept, positioned, is_final, bytes_in, meanings_in}
 use Rattle.data_encoding.specs.Layout.{own_character, translated_bytes}
 use Rattle.data_encoding.specs.SameMeaning.{has_one_own_form, own_form}
 use Rattle.data_encoding.specs.Text.{filled_with, plain_text, text_of, with_padding}
@@ -36,21 +35,12 @@ record HasOneForm (base : Base) : Type 0 where
   pub alone : (is_padded base && base.concatenates) ≡ false
   pub keeps : ignores_some base ≡ false
 
-not_true : (b : Bool) → not b ≡ true → b ≡ false
-not_true true h = cc
-not_true false h = refl
-
 parts_of : (base : Base) → has_one_own_form base ≡ true → HasOneForm base
-parts_of base h =
-    let alone = not (is_padded base && base.concatenates) in
-    let keeps = not (ignores_some base) in
-    let first = and_parts (base.checks_trailing_bits && alone) keeps h in
-    let second = and_parts base.checks_trailing_bits alone first.0 in
-    record {
-      checks = second.0;
-      alone = not_true (is_padded base && base.concatenates) second.1;
-      keeps = not_true (ignores_some base) first.1;
-    }
+parts_of base h = record {
+  checks = grind (arith, h);
+  alone = grind (arith, h);
+  keeps = grind (arith, h);
+}
 
 module _ (base : Base) (ruled : IsRuled base) (one : HasOneForm base) where
   width : IsWidth base.width
@@ -61,10 +51,7 @@ module _ (base : Base) (ruled : IsRuled base) (one : HasOneForm base) where
   own_in ks = own_form base (bytes_in ks)
 
   own_in-append : (ks js : List Positioned) → own_in (ks ++ js) ≡ own_in ks ++ own_in js
-  own_in-append ks js =
-      let stands_for : ℕ → ℕ = λ byte. unwrap_or (own_character base (meaning base byte)) byte in
-      ap (own_form base) (map-append (λ (k : Positioned). k.byte) ks js)
-      ∙ map-append stands_for (bytes_in ks) (bytes_in js)
+  own_in-append ks js = simp map-append
 
   module _ (character : ℕ) (some : base.padding ≡ Some character) where
     abbrev size : ℕ
@@ -82,8 +69,7 @@ module _ (base : Base) (ruled : IsRuled base) (one : HasOneForm base) where
         → is_final base group ≡ true
     final group piece means some =
         let pads : nat_lt 0 means.padding ≡ true = grind (arith, nat_tests) in
-        ap (λ b. not b && list_any is_padding (meanings_in base group)) joins
-        ∙ GroupMeans-padding base (meanings_in base group) piece means ∙ pads
+        rw (joins, GroupMeans-padding base (meanings_in base group) piece means, pads)
 
     module _ (group : List Positioned) (piece : List ℕ)
         (means : GroupMeans base (meanings_in base group) piece) where
@@ -119,8 +105,7 @@ module _ (base : Base) (ruled : IsRuled base) (one : HasOneForm base) where
 
       symbols_are : own_form base front ≡ plain_text base piece
       symbols_are =
-          plain_is base ruled one.checks front piece
-          (subst (λ ms. PlainMeans base ms piece) (sym parts.0) means.means)
+          plain_is base ruled one.checks front piece (rw parts.0 means.means)
 
       count : length (plain_text base piece) ≡ length means.symbols
       count = sym (ap length symbols_are) ∙ length-map front stands_for ∙ front_len
@@ -136,12 +121,10 @@ module _ (base : Base) (ruled : IsRuled base) (one : HasOneForm base) where
       last : own_in group ≡ filled piece
       last =
           let total : (length (plain_text base piece) + means.padding) % size ≡ 0 =
-          ap (λ n. (n + means.padding) % size) count ∙ ap (λ n. n % size) whole
-          ∙ mod_self size in
-          let short : means.padding < size = omega (arith, whole, means.is_begun) in
-          group_is
-          ∙ ap (λ n. plain_text base piece ++ replicate n character)
-          (missing-is size (length (plain_text base piece)) (means.padding) short total)
+          rw (count, whole) (mod_self size) in
+          let lack = missing-is size (length (plain_text base piece)) means.padding
+          (omega (arith, whole, means.is_begun)) total in
+          rw (group_is, lack)
 
       -- and else that of bytes behind which others may stand
       first : means.padding ≡ 0 → (more : List ℕ)
@@ -149,29 +132,23 @@ module _ (base : Base) (ruled : IsRuled base) (one : HasOneForm base) where
       first none more =
           let text = plain_text base piece in
           let all : length means.symbols ≡ size = omega (arith, whole, none) in
+          let full : base.width * length means.symbols ≡ 8 * group_bytes base.width =
+          rw all (group_bits base.width width) in
           let bits : 8 * length piece ≡ base.width * size =
-          omega (
-            arith,
-            PlainMeans-count base width means.symbols piece means.means,
-            ap (λ n. base.width * n) all,
-            group_bits base.width width,
-            means.means.rest_is_short,
-            width.few,
-          ) in
+          let same = PlainMeans-count base width means.symbols piece means.means in
+          omega (arith, same, full, group_bits base.width width, means.means.rest_is_short, width.few)
+          in
           let exact : 8 * length piece % base.width ≡ 0 =
-          ap (λ n. n % base.width) (bits ∙ mul_comm base.width size)
-          ∙ mul-mod_left size base.width in
-          ap (λ l. l ++ filled more)
-          (group_is ∙ ap (λ n. text ++ replicate n character) none ∙ append-nil text)
-          ∙ sym (filled-join character size text (plain_text base more)
+          rw (bits, mul_comm base.width size) (mul-mod_left size base.width) in
+          rw (group_is, none, append-nil text, plain_text-join base piece more width.some exact)
+          (sym (filled-join character size text (plain_text base more)
           (group_symbols-pos base.width width)
-          (ap (λ n. n % size) (count ∙ all) ∙ mod_self size))
-          ∙ ap (filled_with character size) (sym (plain_text-join base piece more width.some exact))
+          (ap (λ n. n % size) (count ∙ all) ∙ mod_self size)))
 
     filled_none : (bytes : List ℕ) → bytes ≡ [] → filled bytes ≡ []
     filled_none bytes none =
-        ap filled none ∙ ap (filled_with character size) (plain_text-nil base width.some)
-        ∙ filled-whole character size [] (mod-eq_of_lt (group_symbols-pos base.width width))
+        rw (none, plain_text-nil base width.some)
+        (filled-whole character size [] (mod-eq_of_lt (group_symbols-pos base.width width)))
 
     groups_are : (gs : List (List Positioned)) (bytes : List ℕ)
         → GroupsMean base (map (meanings_in base) gs) bytes
@@ -187,9 +164,8 @@ module _ (base : Base) (ruled : IsRuled base) (one : HasOneForm base) where
           by (suc padding) is =
               let ends = means.4 (final group means.0 means.3 (omega (arith, is))) in
               let none : means.1 ≡ [] = subst (λ l. GroupsMean base l means.1) ends means.5 in
-              (λ i. last group means.0 means.3 i ++ filled_none means.1 none i)
-              ∙ append-nil (filled means.0)
-              ∙ ap filled (sym (ap (λ l. means.0 ++ l) none ∙ append-nil means.0))
+              rw (last group means.0 means.3, none, filled_none [] refl, append-nil (filled means.0))
+              (ap filled (sym (append-nil means.0)))
 
   own_text : (text bytes : List ℕ) → Means base text bytes
       → own_form base text ≡ text_of base bytes
@@ -234,18 +210,17 @@ module _ (base : Base) (ruled : IsRuled base) where
       → (bytes ≡ others) ↔ (own_form base text ≡ own_form base other)
   own_forms h text other bytes others means more =
       let form = parts_of base h in
-      let own_means : (one its : List ℕ) → Means base one its
-      → Means base (own_form base one) its =
-      λ one its is. Means-translated base ruled.is_width one (own_form base one)
-      (own_form-meaning base ruled one) its is in (
+      let own_bytes : (one its : List ℕ) → Means base one its
+      → sound_bytes base (own_form base one) ≡ its =
+      λ one its is. sound_bytes-Means base ruled.is_width (own_form base one) its
+      (Means-translated base ruled.is_width one (own_form base one)
+      (own_form-meaning base ruled one) its is) in (
         (λ same.
             own_text base ruled form text bytes means ∙ ap (text_of base) same
             ∙ sym (own_text base ruled form other others more)),
         (λ same.
-            sym (sound_bytes-Means base ruled.is_width (own_form base other) bytes
-            (subst (λ l. Means base l bytes) same (own_means text bytes means)))
-            ∙ sound_bytes-Means base ruled.is_width (own_form base other) others
-            (own_means other others more)),
+            sym (own_bytes text bytes means) ∙ ap (sound_bytes base) same
+            ∙ own_bytes other others more),
       )
 
   -- and there are no lines

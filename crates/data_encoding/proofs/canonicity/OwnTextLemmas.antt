@@ -1,10 +1,10 @@
 -- What the bytes of a text stand for is decided by what they mean.
-use Rattle.std.proofs.Common.{◌≡◌, ℕ, ◌+◌, ◌-◌, ◌%◌, ◌^◌, ◌<◌, ◌≤◌, ◌==◌, true, not, List, [], ◌∷◌, ◌++◌, length, map, replicate, Option, Some, None, unwrap_or, refl, sym, ap, ◌∙◌, subst, arith, ⊎_elim, length-append, zero, suc}
-use Rattle.std.proofs.lemmas.Bool.{cases_eq, cases_lt, ne_eqb}
+use Rattle.std.proofs.Common.{◌≡◌, ℕ, ◌+◌, ◌-◌, ◌%◌, ◌^◌, ◌<◌, ◌≤◌, true, List, [], ◌∷◌, ◌++◌, length, map, replicate, Option, Some, None, unwrap_or, refl, sym, ap, ◌∙◌, subst, arith, ⊎_elim, length-append, zero, suc, flat_map}
+use Rattle.std.proofs.lemmas.Bool.{cases_lt}
+use Rattle.std.proofs.lemmas.Bool.Decides.{nat_tests}
 use Rattle.std.proofs.lemmas.Nat.{mod_below}
 use Rattle.std.proofs.lemmas.List.{get_or_past}
-use Rattle.std.proofs.Math.Nat.{add-mod, add-mod_left, mod-eq_of_lt, mul_comm, mul-mod_left}
-use Rattle.std.specs.Prelude.{flat_map}
+use Rattle.std.proofs.Math.Nat.{add-mod, mod-eq-sub-mod, mod-eq_of_lt, mul_comm, mul-mod_left}
 use Rattle.std.specs.List.{AllByRecursion}
 use Rattle.data_encoding.specs.declared.encoding.BitOrder.{BitOrder}
 use Rattle.data_encoding.specs.declared.encoding.Character.{Character}
@@ -28,32 +28,16 @@ use Rattle.data_encoding.proofs.text.PlainTextLemmas.{missing-none}
 pub missing-is : (size count rest : ℕ) → rest < size → (count + rest) % size ≡ 0
     → rest ≡ missing size count
 missing-is size count rest short whole =
-    ⊎_elim {C = rest ≡ missing size count}
-    (λ (low : count % size + rest < size).
-    let none : count % size + rest ≡ 0 = sym (mod-eq_of_lt low) ∙ both in
-    let nothing : rest ≡ 0 = omega (arith, none) in
-    nothing ∙ sym (missing-none size count (omega (arith, none))))
-    (λ (high : size ≤ count % size + rest).
-    let over = count % size + rest - size in
-    let same : size + over ≡ count % size + rest = omega (arith, high) in
-    let few : count % size < size = mod_below count size (omega (arith, short)) in
-    let none : over ≡ 0 =
-    sym (mod-eq_of_lt (omega (arith, few, short, high)))
-    ∙ sym (add-mod_left size over) ∙ ap (λ n. n % size) same ∙ both in
-    let is : rest ≡ size - count % size = omega (arith, none, high) in
-    let below : size - count % size < size = omega (arith, is, short) in
-    is ∙ sym (mod-eq_of_lt below))
-    (cases_lt (count % size + rest) size) where
-      both : (count % size + rest) % size ≡ 0
-      both =
-          sym (add-mod count rest size ∙ ap (λ n. (count % size + n) % size) (mod-eq_of_lt short))
-          ∙ whole
-
-equal_by : (a b : ℕ) → (not (a == b) ≡ true → ⊥) → a ≡ b
-equal_by a b h =
-    ⊎_elim {C = a ≡ b} (λ (same : a ≡ b). same)
-    (λ (apart : a ≡ b → ⊥). absurd (h (ap not (ne_eqb a b apart))))
-    (cases_eq a b)
+    let left = count % size in
+    let few : left < size = mod_below count size (omega (arith, short)) in
+    let both : (left + rest) % size ≡ 0 =
+    sym (add-mod count rest size ∙ ap (λ n. (left + n) % size) (mod-eq_of_lt short)) ∙ whole in
+    let low : left + rest < size → left + rest ≡ 0 = λ h. sym (mod-eq_of_lt h) ∙ both in
+    let high : size ≤ left + rest → left + rest - size ≡ 0 =
+    λ h. sym (mod-eq_of_lt (omega (arith, few, short, h))) ∙ sym (mod-eq-sub-mod h) ∙ both in
+    let none = missing-none size count in
+    let some : size - left < size → missing size count ≡ size - left = mod-eq_of_lt in
+    grind (arith, few, low, high, none, some)
 
 -- numbers of symbols are what their bits say
 numbers_again : (order : BitOrder) (width : ℕ) (values : List ℕ)
@@ -74,10 +58,7 @@ module _ (base : Base) (ruled : IsRuled base) where
   -- a byte that means something is ASCII
   ascii : (byte : ℕ) → (meaning base byte ≡ Invalid → ⊥) → byte < 128
   ascii byte h =
-      ⊎_elim {C = byte < 128} (λ (low : byte < 128). low)
-      (λ (high : 128 ≤ byte).
-      absurd (h (get_or_past base.meanings byte Invalid (omega (arith, high, ruled.long)))))
-      (cases_lt byte 128)
+      let past = get_or_past base.meanings byte Invalid in grind (arith, past, ruled.long, h)
 
   -- the value of a symbol is below their number
   pub value_below : (byte value : ℕ) → meaning base byte ≡ Symbol value → value < 2 ^ base.width
@@ -85,45 +66,26 @@ module _ (base : Base) (ruled : IsRuled base) where
       let low = ascii byte (λ none. cc) in
       omega (arith, value-small base ruled byte value low is, ruled.count)
 
-  values_below : (text values : List ℕ)
-      → map (meaning base) text ≡ map (λ value. Symbol value) values
-      → AllByRecursion (λ value. value < 2 ^ base.width) values
-  values_below [] [] h = tt
-  values_below [] (value ∷ values) h = cc
-  values_below (byte ∷ text) [] h = tt
-  values_below (byte ∷ text) (value ∷ values) h =
-      let here : meaning base byte ≡ Symbol value = cc in
-      let others : map (meaning base) text ≡ map (λ value. Symbol value) values = cc in
-      (value_below byte value here, values_below text values others)
-
-  -- what a symbol and padding stand for
-  symbol_is : (byte value : ℕ) → meaning base byte ≡ Symbol value
-      → own_byte_of byte ≡ symbol base value
-  symbol_is byte value is = ap (λ m. unwrap_or (own_character base m) byte) is
-
-  padding_is : (byte character : ℕ) → base.padding ≡ Some character
-      → meaning base byte ≡ Padding → own_byte_of byte ≡ character
-  padding_is byte character some is =
-      ap (λ m. unwrap_or (own_character base m) byte) is ∙ ap (λ o. unwrap_or o byte) some
-
+  -- symbols stand for those of their values, which are below their number
   symbols_are : (text values : List ℕ)
       → map (meaning base) text ≡ map (λ value. Symbol value) values
-      → own_form base text ≡ map (symbol base) values
-  symbols_are [] [] h = refl
+      → (own_form base text ≡ map (symbol base) values)
+      × AllByRecursion (λ value. value < 2 ^ base.width) values
+  symbols_are [] [] h = (refl, tt)
   symbols_are (byte ∷ text) (value ∷ values) h =
       let here : meaning base byte ≡ Symbol value = cc in
-      let others : map (meaning base) text ≡ map (λ value. Symbol value) values = cc in
-      (λ i. symbol_is byte value here i ∷ symbols_are text values others i)
+      let rest = symbols_are text values cc in
+      (rw (here, rest.0), (value_below byte value here, rest.1))
   symbols_are _ _ h = cc
 
+  -- and padding for the padding character
   pub paddings_are : (text : List ℕ) (count character : ℕ) → base.padding ≡ Some character
       → map (meaning base) text ≡ replicate count Padding
       → own_form base text ≡ replicate count character
   paddings_are [] zero character some h = refl
   paddings_are (byte ∷ text) (suc count) character some h =
       let here : meaning base byte ≡ Padding = cc in
-      let others : map (meaning base) text ≡ replicate count Padding = cc in
-      (λ i. padding_is byte character some here i ∷ paddings_are text count character some others i)
+      rw (here, some, paddings_are text count character some cc)
   paddings_are _ _ character some h = cc
 
   -- the own form of symbols that mean bytes is their text, where trailing bits are checked
@@ -144,9 +106,9 @@ module _ (base : Base) (ruled : IsRuled base) where
       let filled : bits ≡ filled_with 0 base.width octets =
       means.same_bits
       ∙ ap (λ l. octets ++ l) (means.rest_is_zero checks ∙ ap (λ n. replicate n 0) lack) in
-      let below = values_below text means.values means.are_symbols in
-      symbols_are text means.values means.are_symbols
-      ∙ ap (map (symbol base)) (sym (numbers_again base.order base.width means.values below))
+      let symbols = symbols_are text means.values means.are_symbols in
+      symbols.0
+      ∙ ap (map (symbol base)) (sym (numbers_again base.order base.width means.values symbols.1))
       ∙ map-twice (symbol base) (number_of base.order)
       (map (bits_of base.order base.width) means.values)
       ∙ ap show (sym (runs-flat_map base.width (bits_of base.order base.width) means.values
@@ -180,8 +142,7 @@ module _ (base : Base) (ruled : IsRuled base) where
   module _ (alone : translated_bytes base ≡ []) where
     own_is : (byte : ℕ) (o : Option ℕ) → (is_translated base byte o ≡ true → ⊥)
         → unwrap_or o byte ≡ byte
-    own_is byte None h = refl
-    own_is byte (Some character) h = equal_by character byte h
+    own_is byte o h = grind (arith, nat_tests, h)
 
     itself : (byte : ℕ) → own_byte_of byte ≡ byte
     itself byte =

@@ -1,5 +1,5 @@
 -- What the texts of a canonical base tell: how long they are, and in which order they come.
-use Rattle.std.proofs.Common.{◌≡◌, ◌↔◌, ℕ, true, List, length, refl, sym, ap, ◌∙◌, subst}
+use Rattle.std.proofs.Common.{◌≡◌, ◌↔◌, ℕ, true, List, length, refl, sym, ap, ◌∙◌}
 use Rattle.data_encoding.specs.Base.{Base}
 use Rattle.data_encoding.specs.Canonical.{IsCanonical, has_one_text}
 use Rattle.data_encoding.specs.Compared.{CompareAlike}
@@ -31,10 +31,7 @@ module _ (base : Base) (ruled : IsRuled base) where
         → Means base text bytes → Means base other others
         → CompareAlike bytes others text other
     texts-alike ordered text other bytes others means other_means =
-        let own = own-Means text bytes means in
-        let other_own = own-Means other others other_means in
-        subst (λ l. CompareAlike bytes others l other) (sym own)
-        (subst (CompareAlike bytes others (text_of base bytes)) (sym other_own)
+        rw (own-Means text bytes means, own-Means other others other_means)
         (data-alike base ruled (no_lines-only base ruled (canonical-causes.1 one)) ordered bytes
         others (are_bytes-Means base text bytes means)
-        (are_bytes-Means base other others other_means)))
+        (are_bytes-Means base other others other_means))

@@ -1,19 +1,22 @@
 -- A trailing bit that is not checked gives a second text.
-use Rattle.std.proofs.Common.{◌≡◌, ℕ, zero, suc, ◌+◌, ◌/◌, ◌%◌, ◌^◌, ◌<◌, ◌≤◌, ◌==◌, nat_lt, true, false, ◌||◌, List, [], ◌∷◌, ◌++◌, length, map, drop, get_or, replicate, Option, Some, None, refl, sym, ap, ◌∙◌, arith, append_assoc, length-append, unwrap_or}
-use Rattle.std.proofs.lemmas.Bool.{false≢true, ltb-true}
+use Rattle.std.proofs.Common.{◌≡◌, ℕ, ◌+◌, ◌/◌, ◌%◌, ◌^◌, ◌<◌, ◌≤◌, false, List, [], ◌∷◌, ◌++◌, length, map, drop, replicate, Option, Some, None, refl, sym, ap, ◌∙◌, arith, length-append, unwrap_or, flat_map}
+use Rattle.std.proofs.lemmas.Bool.{false≢true}
+use Rattle.std.proofs.lemmas.Bool.Decides.{nat_tests}
 use Rattle.std.proofs.lemmas.List.{length-replicate}
-use Rattle.std.specs.Prelude.{flat_map}
 use Rattle.data_encoding.specs.declared.encoding.BitOrder.{BitOrder}
 use Rattle.data_encoding.specs.declared.encoding.BitOrder.TheVariants.{MostSignificantFirst, LeastSignificantFirst}
 use Rattle.data_encoding.specs.declared.encoding.Character.TheVariants.{Symbol}
 use Rattle.data_encoding.specs.Base.{Base, IsWidth, meaning, symbol, group_symbols, value_of}
-use Rattle.data_encoding.specs.Bits.{bits_of, bits_of_bytes, missing}
+use Rattle.data_encoding.specs.Bits.{bits_of, bits_of_bytes}
 use Rattle.data_encoding.specs.Canonical.{AreTwoTexts, last_bit, trailing_text}
 use Rattle.data_encoding.specs.Grammar.{PlainMeans}
 use Rattle.data_encoding.specs.Text.{padded_text, with_padding}
 use Rattle.data_encoding.proofs.canonicity.ConcatenatedTextLemmas.{partly, zero_byte}
 use Rattle.data_encoding.proofs.canonicity.OneGroupLemmas.{Means-group, Means-padded_text, length-group, length-zero}
 use Rattle.data_encoding.proofs.judgement.RuleLemmas.{IsRuled}
+use Rattle.data_encoding.proofs.lists.ListLemmas.{parts_same}
+use Rattle.data_encoding.proofs.lists.RepeatLemmas.{map-replicate}
+use Rattle.std.proofs.lemmas.List.{map-append}
 use Rattle.data_encoding.proofs.text.SymbolMeaningLemmas.{own_meaning}
 use Rattle.data_encoding.proofs.text.PlainTextLemmas.{text_by}
 
@@ -27,103 +30,61 @@ trailing_bits order width =
 
 -- What the last bit of the last symbol is, where eight bits are no whole symbols.
 record TrailsAt (order : BitOrder) (width : ℕ) : Type 0 where
-  same_bits : flat_map (bits_of order width) (values_with width (last_bit order width))
-      ≡ bits_of_bytes order (0 ∷ []) ++ trailing_bits order width
   short : length (trailing_bits order width) < width
   below : last_bit order width < 2 ^ width
   not_zero : 0 ≡ last_bit order width → ⊥
   few : 8 / width + 1 ≤ group_symbols width
 
-trails : (order : BitOrder) (width : ℕ)
-    → flat_map (bits_of order width) (values_with width (last_bit order width))
-    ≡ bits_of_bytes order (0 ∷ []) ++ trailing_bits order width
-    → nat_lt (length (trailing_bits order width)) width ≡ true
-    → nat_lt (last_bit order width) (2 ^ width) ≡ true → nat_lt 0 (last_bit order width) ≡ true
-    → nat_lt (8 / width) (group_symbols width) ≡ true → TrailsAt order width
-trails order width same short below some few =
-    let more = ltb-true 0 (last_bit order width) some in
-    let less = ltb-true (8 / width) (group_symbols width) few in
-    record {
-      same_bits = same;
-      short = ltb-true (length (trailing_bits order width)) width short;
-      below = ltb-true (last_bit order width) (2 ^ width) below;
-      not_zero = λ none. omega (arith, none, more);
-      few = omega (arith, less);
-    }
-
 trails_at : (order : BitOrder) (width : ℕ) → IsWidth width → (8 % width ≡ 0 → ⊥)
     → TrailsAt order width
 trails_at MostSignificantFirst =
-    partly (TrailsAt MostSignificantFirst)
-    (trails MostSignificantFirst 3 refl refl refl refl refl)
-    (trails MostSignificantFirst 5 refl refl refl refl refl)
-    (trails MostSignificantFirst 6 refl refl refl refl refl)
+    partly (TrailsAt MostSignificantFirst) (omega arith) (omega arith) (omega arith)
 trails_at LeastSignificantFirst =
-    partly (TrailsAt LeastSignificantFirst)
-    (trails LeastSignificantFirst 3 refl refl refl refl refl)
-    (trails LeastSignificantFirst 5 refl refl refl refl refl)
-    (trails LeastSignificantFirst 6 refl refl refl refl refl)
+    partly (TrailsAt LeastSignificantFirst) (omega arith) (omega arith) (omega arith)
 
 -- symbols of the value 0, and another
 abbrev symbols_with : ℕ → ℕ → ℕ → List ℕ
 symbols_with count first last = replicate count first ++ last ∷ []
 
--- the text of a byte 0
-abbrev IsZeroText : Base → BitOrder → ℕ → Type 0
-IsZeroText base order width =
-    text_by base width order (bits_of_bytes order (0 ∷ []))
-    ≡ symbols_with (8 / width) (symbol base 0) (symbol base 0)
+-- the bits of these values, and the text of a byte 0
+abbrev HasZeroText : Base → BitOrder → ℕ → Type 0
+HasZeroText base order width =
+    (flat_map (bits_of order width) (values_with width (last_bit order width))
+    ≡ bits_of_bytes order (0 ∷ []) ++ trailing_bits order width)
+    × (text_by base width order (bits_of_bytes order (0 ∷ []))
+    ≡ symbols_with (8 / width) (symbol base 0) (symbol base 0))
 
 zero_text : (base : Base) (order : BitOrder) (width : ℕ) → IsWidth width
-    → (8 % width ≡ 0 → ⊥) → IsZeroText base order width
-zero_text base MostSignificantFirst = partly (IsZeroText base MostSignificantFirst) refl refl refl
+    → (8 % width ≡ 0 → ⊥) → HasZeroText base order width
+zero_text base MostSignificantFirst =
+    partly (HasZeroText base MostSignificantFirst) (refl, refl) (refl, refl) (refl, refl)
 zero_text base LeastSignificantFirst =
-    partly (IsZeroText base LeastSignificantFirst) refl refl refl
+    partly (HasZeroText base LeastSignificantFirst) (refl, refl) (refl, refl) (refl, refl)
 
-at_count : (count first last : ℕ) (more : List ℕ)
-    → get_or (replicate count first ++ last ∷ more) count 0 ≡ last
-at_count zero first last more = refl
-at_count (suc count) first last more = at_count count first last more
-
-last_same : (o : Option ℕ) (size count first last other : ℕ)
-    → with_padding o size (symbols_with count first last)
-    ≡ with_padding o size (symbols_with count first other)
-    → last ≡ other
-last_same o size count first last other same =
-    sym (read o last) ∙ ap (λ l. get_or l count 0) same ∙ read o other where
-      read : (p : Option ℕ) (x : ℕ)
-          → get_or (with_padding p size (symbols_with count first x)) count 0 ≡ x
-      read None x = at_count count first x []
-      read (Some character) x =
-          ap (λ l. get_or l count 0)
-          (append_assoc (replicate count first) (x ∷ [])
-          (replicate (missing size (length (symbols_with count first x))) character))
-          ∙ at_count count first x
-          (replicate (missing size (length (symbols_with count first x))) character)
-
-symbols_mean : (base : Base) (count first last : ℕ)
-    → meaning base (symbol base first) ≡ Symbol first
-    → meaning base (symbol base last) ≡ Symbol last
-    → map (meaning base) (symbols_with count (symbol base first) (symbol base last))
-    ≡ map (λ value. Symbol value) (replicate count first ++ last ∷ [])
-symbols_mean base zero first last h k = ap (λ m. m ∷ []) k
-symbols_mean base (suc count) first last h k =
-    (λ i. h i ∷ symbols_mean base count first last h k i)
+-- texts as long as one another are the same if they are with padding
+unpadded : (o : Option ℕ) (size : ℕ) (xs ys : List ℕ) → length xs ≡ length ys
+    → with_padding o size xs ≡ with_padding o size ys → xs ≡ ys
+unpadded None size xs ys len same = same
+unpadded (Some character) size xs ys len same = (parts_same xs _ ys _ same len).0
 
 module _ (base : Base) (ruled : IsRuled base) (unchecked : base.checks_trailing_bits ≡ false) where
   not_whole : 8 % base.width ≡ 0 → ⊥
-  not_whole whole =
-      false≢true (sym (ap (λ b. b || (8 % base.width == 0)) (sym unchecked) ∙ ruled.checked
-      ∙ unchecked) ∙ ap (λ n. n == 0) whole)
+  not_whole whole = let checked = ruled.checked in grind (arith, nat_tests, checked)
 
   facts : TrailsAt base.order base.width
   facts = trails_at base.order base.width ruled.is_width not_whole
 
+  computed : HasZeroText base base.order base.width
+  computed = zero_text base base.order base.width ruled.is_width not_whole
+
   abbrev last : ℕ
   last = last_bit base.order base.width
 
+  abbrev count : ℕ
+  count = 8 / base.width
+
   abbrev text : List ℕ
-  text = symbols_with (8 / base.width) (symbol base 0) (symbol base last)
+  text = symbols_with count (symbol base 0) (symbol base last)
 
   zero_meaning : meaning base (symbol base 0) ≡ Symbol 0
   zero_meaning = own_meaning base ruled 0 (omega (arith, facts.below))
@@ -131,17 +92,21 @@ module _ (base : Base) (ruled : IsRuled base) (unchecked : base.checks_trailing_
   last_meaning : meaning base (symbol base last) ≡ Symbol last
   last_meaning = own_meaning base ruled last facts.below
 
-  text_len : length text ≡ 8 / base.width + 1
-  text_len =
-      length-append (replicate (8 / base.width) (symbol base 0)) (symbol base last ∷ [])
-      ∙ ap (λ n. n + 1) (length-replicate (8 / base.width) (symbol base 0))
+  text_len : length text ≡ count + 1
+  text_len = simp (length-append, length-replicate)
 
   means : PlainMeans base (map (meaning base) text) (0 ∷ [])
   means = record {
     values = values_with base.width last;
     rest = trailing_bits base.order base.width;
-    are_symbols = symbols_mean base (8 / base.width) 0 last zero_meaning last_meaning;
-    same_bits = facts.same_bits;
+    are_symbols =
+        map-append (meaning base) (replicate count (symbol base 0)) (symbol base last ∷ [])
+        ∙ (λ i. map-replicate (meaning base) (Symbol 0) count (symbol base 0) zero_meaning i
+        ++ last_meaning i ∷ [])
+        ∙ sym (map-append (λ v. Symbol v) (replicate count 0) (last ∷ [])
+        ∙ ap (λ ms. ms ++ Symbol last ∷ [])
+        (map-replicate (λ v. Symbol v) (Symbol 0) count 0 refl));
+    same_bits = computed.0;
     rest_is_short = facts.short;
     rest_is_zero = λ checks. absurd (false≢true (sym unchecked ∙ checks));
     are_bytes = zero_byte;
@@ -149,11 +114,12 @@ module _ (base : Base) (ruled : IsRuled base) (unchecked : base.checks_trailing_
 
   differ : padded_text base (0 ∷ []) ≡ trailing_text base → ⊥
   differ same =
-      let size = group_symbols base.width in
-      let zero_is = zero_text base base.order base.width ruled.is_width not_whole in
-      let symbols = last_same base.padding size (8 / base.width) (symbol base 0) (symbol base 0)
-      (symbol base last)
-      (ap (with_padding base.padding size) (sym zero_is) ∙ same) in
+      let zeros = replicate count (symbol base 0) in
+      let texts = unpadded base.padding (group_symbols base.width)
+      (zeros ++ symbol base 0 ∷ []) text (simp length-append)
+      (ap (with_padding base.padding (group_symbols base.width)) (sym computed.1) ∙ same) in
+      let ends = (parts_same zeros (symbol base 0 ∷ []) zeros (symbol base last ∷ []) texts refl).1 in
+      let symbols : symbol base 0 ≡ symbol base last = cc in
       let meanings : Symbol 0 ≡ Symbol last =
       sym zero_meaning ∙ ap (meaning base) symbols ∙ last_meaning in
       facts.not_zero (ap (λ m. unwrap_or (value_of m) 0) meanings)

@@ -1,5 +1,5 @@
 -- Whether a byte is translated.
-use Rattle.std.proofs.Common.{◌≡◌, ℕ, ◌<◌, ◌==◌, Bool, true, false, not, ◌&&◌, [], length, refl, sym, ap, ◌∙◌, subst, arith}
+use Rattle.std.proofs.Common.{◌≡◌, ℕ, ◌<◌, ◌==◌, Bool, true, false, not, ◌&&◌, [], length, sym, ap, ◌∙◌, subst, arith}
 use Rattle.std.specs.List.{AllByRecursion}
 use Rattle.data_encoding.specs.Base.{Base, is_padded, ignores_some}
 use Rattle.data_encoding.specs.Canonical.{has_one_text}
@@ -15,8 +15,7 @@ not_translated base none byte below is =
     (subst (AllByRecursion (λ _. ⊥)) (sym none) tt) (omega arith) (omega (arith, below)) is
 
 not_not : (b : Bool) → not (not b) ≡ b
-not_not true = refl
-not_not false = refl
+not_not b = grind arith
 
 -- where there is no other cause of a second text, the translated bytes decide
 pub has_one_text-by : (base : Base) (translates : Bool)

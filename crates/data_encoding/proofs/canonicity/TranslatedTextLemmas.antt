@@ -1,9 +1,9 @@
 -- A translated byte gives a second text.
-use Rattle.std.proofs.Common.{◌≡◌, ℕ, zero, suc, ◌+◌, ◌-◌, ◌*◌, ◌%◌, ◌<◌, ◌≤◌, List, [], ◌∷◌, ◌++◌, length, take, map, replicate, Option, Some, None, is_some, refl, sym, ap, ◌∙◌, subst, arith}
+use Rattle.std.proofs.Common.{◌≡◌, ℕ, zero, suc, ◌+◌, ◌-◌, ◌*◌, ◌%◌, ◌<◌, ◌≤◌, List, [], ◌∷◌, ◌++◌, length, take, map, replicate, Option, Some, None, is_some, refl, sym, ap, ◌∙◌, subst, arith, append_assoc, flat_map}
 use Rattle.std.proofs.Math.Nat.{mod_self}
+use Rattle.std.proofs.Math.Seq.{take-append-add}
 use Rattle.std.proofs.lemmas.List.{append-nil, length-append, length-replicate, take-replicate}
 use Rattle.std.proofs.lemmas.List.Elements.{All-from_recursion}
-use Rattle.std.specs.Prelude.{flat_map}
 use Rattle.data_encoding.specs.declared.encoding.Character.TheVariants.{Symbol, Padding}
 use Rattle.data_encoding.specs.Base.{Base, IsWidth, meaning, symbol, group_bytes, group_symbols}
 use Rattle.data_encoding.specs.Bits.{bits_of, missing, number_of, runs}
@@ -34,14 +34,10 @@ replicate_same (suc n) a b h same = cc
 last_replaced : (a b count : ℕ) (xs : List ℕ)
     → take (length xs + count) (xs ++ replicate (suc count) a) ++ b ∷ []
     ≡ xs ++ (replicate count a ++ b ∷ [])
-last_replaced a b count [] =
-    let on : 0 + count ≡ count = omega arith in
-    ap (λ n. take n (replicate (suc count) a) ++ b ∷ []) on
-    ∙ ap (λ l. l ++ b ∷ []) (take-replicate count (suc count) a (omega arith))
-last_replaced a b count (x ∷ xs) =
-    let on : length (x ∷ xs) + count ≡ suc (length xs + count) = omega arith in
-    ap (λ n. take n (x ∷ (xs ++ replicate (suc count) a)) ++ b ∷ []) on
-    ∙ ap (λ l. x ∷ l) (last_replaced a b count xs)
+last_replaced a b count xs =
+    rw (take-append-add xs (replicate (suc count) a) count)
+    (rw (take-replicate count (suc count) a (omega arith))
+    (append_assoc xs (replicate count a) (b ∷ [])))
 
 -- a run does not end in another
 last_same : (a b count : ℕ) → replicate (suc count) a ≡ replicate count a ++ b ∷ [] → a ≡ b
@@ -106,25 +102,18 @@ module _ (base : Base) (ruled : IsRuled base) where
           rest_is_zero = λ e. refl;
           are_bytes = All-from_recursion (λ byte. byte < 256) bytes are_bytes.below;
         } in
-        subst (λ l. Means base l bytes) (whole-unpadded base.padding size text len)
-        (Means-group base ruled text bytes means (omega (arith, len, positive))
-        (omega (arith, len)))
+        rw (whole-unpadded base.padding size text len) at
+        (Means-group base ruled text bytes means (omega (arith, len, positive)) (omega (arith, len)))
 
   pub symbol-second : SymbolIsSecond base
-  symbol-second byte value is apart = (
+  symbol-second byte value is apart = let few = group_symbols-few base.width width in (
     bytes value,
     record {
       differ = λ same.
           apart
           (replicate_same size (symbol base value) byte (group_symbols-pos base.width width) same);
-      one_is_short =
-          omega (
-            arith,
-            length-replicate size (symbol base value),
-            group_symbols-few base.width width,
-          );
-      other_is_short =
-          omega (arith, length-replicate size byte, group_symbols-few base.width width);
+      one_is_short = omega (arith, length-replicate size (symbol base value), few);
+      other_is_short = omega (arith, length-replicate size byte, few);
       one_means =
           group_means value (symbol base value)
           (own_meaning base ruled value (value_below base ruled byte value is));
@@ -148,8 +137,7 @@ module _ (base : Base) (ruled : IsRuled base) where
 
     lack_is : lack ≡ suc count
     lack_is =
-        let lacks : 0 < lack =
-        subst (λ n. 0 < missing size n) (sym (length-plain_text base (0 ∷ []) width.some))
+        let lacks : 0 < lack = rw (length-plain_text base (0 ∷ []) width.some)
         (one_byte_lacks base.width width (padded-partly base ruled (ap is_some some))) in
         omega (arith, lacks)
 
@@ -162,33 +150,20 @@ module _ (base : Base) (ruled : IsRuled base) where
     whole =
         let filled : length (zero_text ++ replicate lack character) ≡ size =
         length-filled_once character size zero_text (zero_some base ruled) (zero_few base ruled) in
-        omega (
-          arith,
-          filled,
-          length-append zero_text (replicate lack character),
-          length-replicate lack character,
-          lack_is,
-        )
+        omega (arith, filled, length-append {A = ℕ}, length-replicate lack character, lack_is)
 
     length-second : length (zero_text ++ fillers) ≡ size
     length-second =
-        omega (
-          arith,
-          whole,
-          length-append zero_text fillers,
-          length-append (replicate count character) (byte ∷ []),
-          length-replicate count character,
-        )
+        omega (arith, whole, length-append {A = ℕ}, length-replicate count character)
 
     second_text : text_ending_in base byte ≡ zero_text ++ fillers
     second_text =
         let all_but_one : size - 1 ≡ length zero_text + count = omega (arith, whole) in
-        (λ i. take (all_but_one i) (own_text i) ++ byte ∷ [])
-        ∙ last_replaced character byte count zero_text
+        rw (all_but_one, own_text) (last_replaced character byte count zero_text)
 
     second_means : meaning base byte ≡ Padding → Means base (text_ending_in base byte) (0 ∷ [])
     second_means is =
-        subst (λ l. Means base l (0 ∷ [])) (sym second_text)
+        rw second_text
         (Means-fillers base ruled zero_text (0 ∷ [])
         (PlainMeans-plain_text base ruled (0 ∷ []) zero_byte)
         (zero_some base ruled) (zero_few base ruled) (ap is_some some) fillers
@@ -204,12 +179,8 @@ module _ (base : Base) (ruled : IsRuled base) where
 
     length-text_ending_in : length (text_ending_in base byte) ≤ 8
     length-text_ending_in =
-        omega (
-          arith,
-          ap length second_text,
-          length-second,
-          group_symbols-few base.width width,
-        )
+        let few = group_symbols-few base.width width in
+        omega (arith, ap length second_text, length-second, few)
 
   pub padding-second : PaddingIsSecond base
   padding-second byte character is some apart = record {

@@ -1,21 +1,17 @@
 -- The base with each ignored byte invalid judges groups as the base does.
-use Rattle.std.proofs.Common.{◌≡◌, ℕ, zero, suc, ◌+◌, ◌-◌, ◌*◌, ◌/◌, ◌≤◌, ◌==◌, true, false, not, cond, ◌&&◌, ◌||◌, nat_lt, List, [], ◌∷◌, length, map, take, drop, replicate, get_or, None, Some, refl, sym, ap, ◌∙◌, subst, arith}
+use Rattle.std.proofs.Common.{◌≡◌, ℕ, ◌≤◌, true, false, not, cond, List, [], ◌∷◌, length, map, replicate, None, refl, sym, ap, ◌∙◌, subst, arith}
+use Rattle.std.proofs.Math.ListN.{get_or-map}
 use Rattle.std.proofs.lemmas.List.{length-map, take-map}
-use Rattle.std.specs.Prelude.{flat_map}
 use Rattle.std.specs.List.{cons_option, filter_map, list_any, prefix_len}
 use Rattle.data_encoding.specs.declared.encoding.Character.{Character}
-use Rattle.data_encoding.specs.declared.encoding.Character.TheVariants.{Symbol, Padding, Ignored, Invalid}
-use Rattle.data_encoding.specs.declared.error.DecodeKind.TheVariants.{Length as LengthFault, Trailing as TrailingFault, Padding as PaddingFault}
-use Rattle.data_encoding.specs.Base.{Base, meaning, is_symbol, value_of, is_padding, is_ignored, is_padded, ignores_some, group_symbols, IsWidth}
-use Rattle.data_encoding.specs.Bits.{bits_of}
+use Rattle.data_encoding.specs.declared.encoding.Character.TheVariants.{Symbol, Padding, Invalid}
+use Rattle.data_encoding.specs.Base.{Base, meaning, is_symbol, value_of, is_padding, is_ignored, ignores_some, group_symbols, IsWidth}
 use Rattle.data_encoding.specs.Grammar.{Positioned, bytes_in, meanings_in}
-use Rattle.data_encoding.specs.Lengths.{is_valid_count, greatest_valid_count}
-use Rattle.data_encoding.specs.Fault.{character_fault, count_before_padding, fault_at_first, faulty_at, group_fault, padded_fault_at, symbols_fault}
+use Rattle.data_encoding.specs.Fault.{character_fault, count_before_padding, group_fault}
 use Rattle.data_encoding.specs.Partial.{ignoring_nothing}
 use Rattle.data_encoding.proofs.digits.WordLemmas.{map-twice}
-use Rattle.data_encoding.proofs.lists.EachLemmas.{all_joined}
+use Rattle.data_encoding.proofs.lists.EachLemmas.{all_joined, all_replicate}
 use Rattle.data_encoding.proofs.lists.EndLemmas.{AllSo, count_before_end, count_before_end-map}
-use Rattle.data_encoding.proofs.lists.ListLemmas.{AllFail, list_any-none}
 use Rattle.data_encoding.proofs.grammar.PositionLemmas.{length-meanings}
 use Rattle.data_encoding.proofs.grammar.GroupLemmas.{GroupMeans-sound}
 
@@ -23,99 +19,49 @@ use Rattle.data_encoding.proofs.grammar.GroupLemmas.{GroupMeans-sound}
 abbrev strict : Character → Character
 strict m = cond (is_ignored m) Invalid m
 
-strict_symbol : (m : Character) → is_symbol (strict m) ≡ is_symbol m
-strict_symbol (Symbol value) = refl
-strict_symbol Padding = refl
-strict_symbol Ignored = refl
-strict_symbol Invalid = refl
+-- the strict meaning is what the meaning is, and is never ignored
+strict_as : (m : Character)
+    → (is_symbol (strict m) ≡ is_symbol m) × (value_of (strict m) ≡ value_of m)
+    × (is_padding (strict m) ≡ is_padding m) × (is_ignored (strict m) ≡ false)
+strict_as m = (grind arith, grind arith, grind arith, grind arith)
 
-strict_value : (m : Character) → value_of (strict m) ≡ value_of m
-strict_value (Symbol value) = refl
-strict_value Padding = refl
-strict_value Ignored = refl
-strict_value Invalid = refl
-
-strict_padding : (m : Character) → is_padding (strict m) ≡ is_padding m
-strict_padding (Symbol value) = refl
-strict_padding Padding = refl
-strict_padding Ignored = refl
-strict_padding Invalid = refl
-
-strict_kept : (m : Character) → is_ignored (strict m) ≡ false
-strict_kept (Symbol value) = refl
-strict_kept Padding = refl
-strict_kept Ignored = refl
-strict_kept Invalid = refl
-
-strict_at : (meanings : List Character) (byte : ℕ)
-    → get_or (map strict meanings) byte Invalid ≡ strict (get_or meanings byte Invalid)
-strict_at [] byte = refl
-strict_at (m ∷ meanings) zero = refl
-strict_at (m ∷ meanings) (suc byte) = strict_at meanings byte
-
-none_strict : (meanings : List Character) → AllFail is_ignored (map strict meanings)
-none_strict [] = tt
-none_strict (m ∷ meanings) = (strict_kept m, none_strict meanings)
+none_strict : (ms : List Character) → list_any is_ignored (map strict ms) ≡ false
+none_strict [] = refl
+none_strict (m ∷ ms) = rw (strict_as m).3 (none_strict ms)
 
 -- what is found of strict meanings is what is found of the meanings
 symbols-strict : (ms : List Character)
     → prefix_len (λ m. not (not (is_symbol m))) (map strict ms)
     ≡ prefix_len (λ m. not (not (is_symbol m))) ms
 symbols-strict [] = refl
-symbols-strict (m ∷ ms) =
-    λ i. cond (not (not (strict_symbol m i))) (1 + symbols-strict ms i) 0
+symbols-strict (m ∷ ms) = rw ((strict_as m).0, symbols-strict ms)
 
 values-strict : (ms : List Character) → filter_map value_of (map strict ms) ≡ filter_map value_of ms
 values-strict [] = refl
-values-strict (m ∷ ms) = λ i. cons_option (strict_value m i) (values-strict ms i)
+values-strict (m ∷ ms) = λ i. cons_option ((strict_as m).1 i) (values-strict ms i)
 
 paddings-strict : (ms : List Character)
     → count_before_padding (map strict ms) ≡ count_before_padding ms
 paddings-strict ms =
     count_before_end-map is_padding strict ms
-    ∙ ap (λ test. count_before_end test ms) (λ i m. strict_padding m i)
+    ∙ ap (λ test. count_before_end test ms) (λ i m. (strict_as m).2 i)
 
 module _ (base : Base) where
   -- nothing is ignored
   pub ignores_none-strict : ignores_some (ignoring_nothing base) ≡ false
-  ignores_none-strict =
-      list_any-none is_ignored (map strict base.meanings) (none_strict base.meanings)
-
-  fault-strict : (ms : List Character) → symbols_fault base (map strict ms) ≡ symbols_fault base ms
-  fault-strict ms =
-      let place = symbols-strict ms in
-      let len = length-map ms strict in
-      let bits : List ℕ → List ℕ = flat_map (bits_of base.order base.width) in
-      λ i. fault_at_first (cond (nat_lt (place i) (len i)) (Some (place i)) None)
-      (cond (base.checks_trailing_bits && list_any (λ bit. not (bit == 0))
-      (drop (length (bits (values-strict ms i)) / 8 * 8) (bits (values-strict ms i))))
-      (faulty_at TrailingFault (len i - 1)) None)
-
-  padded-strict : (ms : List Character) (count : ℕ)
-      → padded_fault_at base (map strict ms) count ≡ padded_fault_at base ms count
-  padded-strict ms count =
-      let few = ap (symbols_fault base) (take-map strict count ms) ∙ fault-strict (take count ms) in
-      λ i. cond (nat_lt (length-map ms strict i) (group_symbols base.width))
-      (faulty_at LengthFault 0)
-      (cond (count == 0 || not (is_valid_count base.width count)) (faulty_at PaddingFault count)
-      (few i))
+  ignores_none-strict = none_strict base.meanings
 
   characters-strict : (ms : List Character)
       → character_fault base (map strict ms) ≡ character_fault base ms
   characters-strict ms =
-      let len = length-map ms strict in
-      let padded = padded-strict ms (count_before_padding (map strict ms))
-      ∙ ap (padded_fault_at base ms) (paddings-strict ms) in
-      λ i. cond (is_padded base) (padded i)
-      (cond (is_valid_count base.width (len i)) (fault-strict ms i)
-      (faulty_at LengthFault (greatest_valid_count base.width (len i))))
+      rw (paddings-strict ms) (simp (take-map, symbols-strict, values-strict, length-map))
 
   -- a group has the same fault
   pub group_fault-strict : (bytes : List ℕ)
       → group_fault (ignoring_nothing base) bytes ≡ group_fault base bytes
   group_fault-strict bytes =
       ap (character_fault base)
-      (ap (λ means. map means bytes) (λ i byte. strict_at base.meanings byte i)
+      (ap (λ means. map means bytes) (λ i byte. get_or-map strict base.meanings byte Invalid i)
       ∙ sym (map-twice strict (meaning base) bytes))
       ∙ characters-strict (map (meaning base) bytes)
 
@@ -123,14 +69,10 @@ module _ (base : Base) where
 abbrev AreKept : List Character → Type 0
 AreKept meanings = AllSo (λ m. not (is_ignored m)) meanings
 
--- symbols and padding are kept
+-- symbols are kept
 symbols_kept : (values : List ℕ) → AreKept (map (λ value. Symbol value) values)
 symbols_kept [] = tt
 symbols_kept (value ∷ values) = (refl, symbols_kept values)
-
-padding_kept : (count : ℕ) → AreKept (replicate count Padding)
-padding_kept zero = tt
-padding_kept (suc count) = (refl, padding_kept count)
 
 bytes_kept : (base : Base) (ks : List Positioned)
     → AreKept (meanings_in base ks)
@@ -151,4 +93,4 @@ group-kept base width (k ∷ ks) few h =
     (subst AreKept (sym means.is_group)
     (all_joined (λ m. not (is_ignored m) ≡ true) means.symbols (replicate means.padding Padding)
     (subst AreKept (sym means.means.are_symbols) (symbols_kept means.means.values))
-    (padding_kept means.padding)))
+    (all_replicate (λ m. not (is_ignored m) ≡ true) means.padding Padding refl)))

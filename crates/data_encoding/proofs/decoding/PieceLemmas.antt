@@ -1,7 +1,6 @@
 -- A text that is decoded piece by piece: what is kept of it, after each piece and at the end.
-use Rattle.std.proofs.Common.{◌≡◌, ℕ, ◌+◌, ◌<◌, Bool, true, false, cond, ◌||◌, List, [], ◌∷◌, ◌++◌, length, Option, Some, None, is_some, refl, sym, ap, ◌∙◌, subst, arith, length-append}
-use Rattle.std.proofs.lemmas.List.{append-nil}
-use Rattle.std.specs.Prelude.{flat_map}
+use Rattle.std.proofs.Common.{◌≡◌, ℕ, ◌+◌, ◌<◌, Bool, true, false, cond, ◌||◌, List, [], ◌∷◌, ◌++◌, length, Option, Some, None, is_some, refl, sym, ap, ◌∙◌, arith, length-append, append-nil, flat_map}
+use Rattle.std.proofs.Math.Bool.{or-false}
 use Rattle.std.specs.List.{list_any}
 use Rattle.data_encoding.specs.declared.error.DecodeError.{DecodeError}
 use Rattle.data_encoding.specs.Base.{Base, IsWidth, group_symbols}
@@ -21,6 +20,13 @@ pub or_none : (o : Option DecodeError) → or_else o None ≡ o
 or_none None = refl
 or_none (Some error) = refl
 
+-- a fault decides, or else what follows
+decides : (o p q : Option DecodeError) (error : DecodeError) (g : List Positioned)
+    (gs hs : List (List Positioned)) → (p ≡ Some error → (q ≡ Some error) × (hs ≡ gs))
+    → or_else o p ≡ Some error
+    → (or_else o q ≡ Some error) × (cond (is_some o) [] (g ∷ hs) ≡ cond (is_some o) [] (g ∷ gs))
+decides o p q error g gs hs others h = grind arith
+
 module _ (base : Base) where
   -- a faulty group decides, whatever follows
   stays : (begun : Bool) (error : DecodeError) (gs hs : List (List Positioned))
@@ -29,18 +35,16 @@ module _ (base : Base) where
       × (sound_after begun base (gs ++ hs) ≡ sound_after begun base gs)
   stays begun error [] hs h = cc
   stays begun error (g ∷ gs) hs h =
-      by (fault_after begun base g) (stays (is_final base g) error gs hs) h where
-        by : (o : Option DecodeError)
-            → (first_after (is_final base g) base gs ≡ Some error
-            → (first_after (is_final base g) base (gs ++ hs) ≡ Some error)
-            × (sound_after (is_final base g) base (gs ++ hs)
-            ≡ sound_after (is_final base g) base gs))
-            → or_else o (first_after (is_final base g) base gs) ≡ Some error
-            → (or_else o (first_after (is_final base g) base (gs ++ hs)) ≡ Some error)
-            × (cond (is_some o) [] (g ∷ sound_after (is_final base g) base (gs ++ hs))
-            ≡ cond (is_some o) [] (g ∷ sound_after (is_final base g) base gs))
-        by None others h = let rest = others h in (rest.0, ap (λ l. g ∷ l) rest.1)
-        by (Some fault) others h = (h, refl)
+      decides (fault_after begun base g) _ _ error g _ _ (stays (is_final base g) error gs hs) h
+
+  -- behind sound groups the bytes of others follow
+  pub bytes-behind : (begun ended : Bool) (gs hs : List (List Positioned))
+      → AreSound base begun gs ended
+      → flat_map (bytes_of_group base) (sound_after begun base (gs ++ hs))
+      ≡ flat_map (bytes_of_group base) (sound_after begun base gs)
+      ++ flat_map (bytes_of_group base) (sound_after ended base hs)
+  bytes-behind begun ended gs hs h =
+      rw (bytes-AreSound base begun ended gs hs h, sound-all base begun ended gs h)
 
   -- the bytes of a group alone, unless it has a fault
   bytes_unless : (b : Bool) (group : List Positioned)
@@ -52,11 +56,9 @@ module _ (base : Base) where
   -- where none has a fault, none but the last can be final
   pub any_final : (begun ended : Bool) (gs : List (List Positioned)) → AreSound base begun gs ended
       → (begun || list_any (is_final base) gs) ≡ ended
-  any_final true ended [] h = h
-  any_final false ended [] h = h
+  any_final begun ended [] h = or-false begun ∙ h
   any_final begun ended (g ∷ gs) h =
-      ap (λ b. b || list_any (is_final base) (g ∷ gs)) (fault_after-none base begun g h.0).0
-      ∙ any_final (is_final base g) ended gs h.1
+      rw (fault_after-none base begun g h.0).0 (any_final (is_final base g) ended gs h.1)
 
 module _ (base : Base) (width : IsWidth base.width) where
   abbrev size : ℕ
@@ -77,57 +79,42 @@ module _ (base : Base) (width : IsWidth base.width) where
       }
 
   pub whole_bytes-nothing : whole_bytes base [] ≡ []
-  whole_bytes-nothing =
-      ap (λ gs. flat_map (bytes_of_group base) (sound_after false base gs))
-      (whole_runs-short {X = Positioned} size pos [] pos).0
+  whole_bytes-nothing = rw (whole_runs-short {X = Positioned} size pos [] pos).0
 
   module _ (text piece : List ℕ) where
     -- the bytes of the piece that are not ignored
     abbrev pub more : List Positioned
     more = kept_in base (length text) piece
 
-    kept_more : kept base (text ++ piece) ≡ kept base text ++ more
-    kept_more =
+    -- the whole groups before it, and those behind them
+    abbrev gs : List (List Positioned)
+    gs = whole_groups base text
+
+    abbrev hs : List (List Positioned)
+    hs = whole_runs size (unfinished base text ++ more)
+
+    -- whole groups more, and what is left behind them
+    pub joined : (whole_groups base (text ++ piece) ≡ gs ++ hs)
+        × (unfinished base (text ++ piece) ≡ left size (unfinished base text ++ more))
+    joined =
         let start : 0 + length text ≡ length text = omega arith in
-        kept_in-append base 0 text piece
-        ∙ ap (λ n. kept base text ++ kept_in base n piece) start
-
-    pub whole_groups-more : whole_groups base (text ++ piece)
-        ≡ whole_groups base text ++ whole_runs size (unfinished base text ++ more)
-    whole_groups-more =
-        ap (whole_runs size) kept_more ∙ (whole_runs-join size pos (kept base text) more).0
-
-    pub unfinished-more : unfinished base (text ++ piece) ≡ left size (unfinished base text ++ more)
-    unfinished-more =
-        ap (left size) kept_more ∙ (whole_runs-join size pos (kept base text) more).1
+        rw (kept_in-append base 0 text piece, start)
+        (whole_runs-join size pos (kept base text) more)
 
     -- what was decoded stays
     pub whole_bytes-grows : (bytes : List ℕ)
         × (whole_bytes base (text ++ piece) ≡ whole_bytes base text ++ bytes)
     whole_bytes-grows = by (first_fault base gs) refl where
-      gs : List (List Positioned)
-      gs = whole_groups base text
-
-      hs : List (List Positioned)
-      hs = whole_runs size (unfinished base text ++ more)
-
       by : (o : Option DecodeError) → first_fault base gs ≡ o
           → (bytes : List ℕ) × (whole_bytes base (text ++ piece) ≡ whole_bytes base text ++ bytes)
       by (Some error) h = (
         [],
-        ap (λ l. flat_map (bytes_of_group base) (sound_after false base l)) whole_groups-more
-            ∙ ap (flat_map (bytes_of_group base)) (stays base false error gs hs h).1
-            ∙ sym (append-nil (whole_bytes base text)),
+        rw (joined.0, (stays base false error gs hs h).1) (sym (append-nil _)),
       )
       by None h =
-          let ended = ends_after base false gs in
-          let fine = AreSound-none base false gs h in
-          let before = sound-all base false ended gs fine in (
+          let ended = ends_after base false gs in (
             flat_map (bytes_of_group base) (sound_after ended base hs),
-            ap (λ l. flat_map (bytes_of_group base) (sound_after false base l)) whole_groups-more
-                ∙ bytes-AreSound base false ended gs hs fine
-                ∙ ap (λ l. flat_map (bytes_of_group base) l
-                ++ flat_map (bytes_of_group base) (sound_after ended base hs)) (sym before),
+            rw (joined.0, bytes-behind base false ended gs hs (AreSound-none base false gs h)),
           )
 
     module _ (len : ℕ) (held : List Positioned) (ended : Bool) where
@@ -137,35 +124,25 @@ module _ (base : Base) (width : IsWidth base.width) where
           → HasRead base (text ++ piece) (len + length piece) (Some error) other end
           × (whole_bytes base (text ++ piece) ≡ whole_bytes base text)
       HasRead-faulty error other end read =
-          let hs = whole_runs size (unfinished base text ++ more) in
-          let same = stays base false error (whole_groups base text) hs (sym read.first) in (
+          let same = stays base false error gs hs (sym read.first) in (
             record {
               counted = omega (arith, read.counted, length-append text piece);
-              first = sym (ap (first_fault base) whole_groups-more ∙ same.0);
-              holds = λ h. absurd (some_none h);
-              ends = λ h. absurd (some_none h);
+              first = rw joined.0 (sym same.0);
+              holds = λ h. cc;
+              ends = λ h. cc;
             },
-            ap (λ gs. flat_map (bytes_of_group base) (sound_after false base gs)) whole_groups-more
-                ∙ ap (flat_map (bytes_of_group base)) same.1,
-          ) where
-            some_none : Some error ≡ None → ⊥
-            some_none h = cc
+            rw (joined.0, same.1),
+          )
 
       module _ (read : HasRead base text len None held ended) where
-        held_is : held ≡ unfinished base text
-        held_is = read.holds refl
-
         pub sound : AreSound base false (whole_groups base text) ended
         sound =
-            let gs = whole_groups base text in
             let none = AreSound-none base false gs (sym read.first) in
-            subst (AreSound base false gs)
-            (sym (any_final base false (ends_after base false gs) gs none) ∙ sym (read.ends refl))
-            none
+            rw (read.ends refl ∙ any_final base false (ends_after base false gs) gs none) none
 
         -- the bytes that were held, and those of the piece
         with_held : unfinished base text ++ more ≡ held ++ more
-        with_held = ap (λ l. l ++ more) (sym held_is)
+        with_held = ap (λ l. l ++ more) (sym (read.holds refl))
 
         -- a piece that completes no group is held
         pub HasRead-held : length (held ++ more) < size
@@ -173,20 +150,15 @@ module _ (base : Base) (width : IsWidth base.width) where
             × (whole_bytes base (text ++ piece) ≡ whole_bytes base text)
         HasRead-held few =
             let short = whole_runs-short size pos (held ++ more) few in
-            let same : whole_groups base (text ++ piece) ≡ whole_groups base text =
-            whole_groups-more
-            ∙ ap (λ l. whole_groups base text ++ whole_runs size l) with_held
-            ∙ ap (λ gs. whole_groups base text ++ gs) short.0
-            ∙ append-nil (whole_groups base text) in
-            let held_more : unfinished base (text ++ piece) ≡ held ++ more =
-            unfinished-more ∙ ap (left size) with_held ∙ short.1 in (
+            let same : whole_groups base (text ++ piece) ≡ gs =
+            rw (joined.0, with_held, short.0) (append-nil _) in (
               record {
                 counted = omega (arith, read.counted, length-append text piece);
-                first = read.first ∙ ap (first_fault base) (sym same);
-                holds = λ _. sym held_more;
-                ends = λ h. read.ends h ∙ ap (list_any (is_final base)) (sym same);
+                first = rw same read.first;
+                holds = λ _. rw (joined.1, with_held, short.1);
+                ends = λ h. rw same (read.ends h);
               },
-              ap (λ gs. flat_map (bytes_of_group base) (sound_after false base gs)) same,
+              rw same,
             )
 
         -- and one that completes a group has it judged, and its bytes decoded
@@ -195,29 +167,20 @@ module _ (base : Base) (width : IsWidth base.width) where
           one : (whole_runs size group ≡ group ∷ []) × (left size group ≡ [])
           one = whole_runs-one size pos group whole
 
-          groups_are : whole_groups base (text ++ piece) ≡ whole_groups base text ++ group ∷ []
-          groups_are =
-              whole_groups-more
-              ∙ ap (λ l. whole_groups base text ++ whole_runs size l) (with_held ∙ is)
-              ∙ ap (λ gs. whole_groups base text ++ gs) one.0
+          groups_are : whole_groups base (text ++ piece) ≡ gs ++ group ∷ []
+          groups_are = rw (joined.0, with_held ∙ is, one.0)
 
           pub HasRead-group : HasRead base (text ++ piece) (len + length piece)
               (fault_after ended base group) [] (is_final base group)
           HasRead-group =
-              let gs = whole_groups base text in
-              let first : first_fault base (whole_groups base (text ++ piece))
-              ≡ fault_after ended base group =
-              ap (first_fault base) groups_are
-              ∙ first-AreSound base false ended gs (group ∷ []) sound
-              ∙ or_none (fault_after ended base group) in
+              let final = is_final base group in
               record {
                 counted = omega (arith, read.counted, length-append text piece);
-                first = sym first;
-                holds = λ _. sym (unfinished-more ∙ ap (left size) (with_held ∙ is) ∙ one.1);
-                ends = λ none. sym (ap (list_any (is_final base)) groups_are
-                    ∙ any_final base false (is_final base group) (gs ++ group ∷ [])
-                    (AreSound-append base false ended (is_final base group) gs (group ∷ []) sound
-                    (none, refl)));
+                first = rw (groups_are, first-AreSound base false ended gs (group ∷ []) sound)
+                    (sym (or_none (fault_after ended base group)));
+                holds = λ _. rw (joined.1, with_held ∙ is, one.1);
+                ends = λ none. rw groups_are (sym (any_final base false final (gs ++ group ∷ [])
+                    (AreSound-append base false ended final gs (group ∷ []) sound (none, refl))));
               }
 
           -- unless it has a fault
@@ -225,79 +188,54 @@ module _ (base : Base) (width : IsWidth base.width) where
               ≡ whole_bytes base text
               ++ cond (is_some (fault_after ended base group)) [] (bytes_of_group base group)
           whole_bytes-group =
-              let gs = whole_groups base text in
-              let before = sound-all base false ended gs sound in
-              ap (λ l. flat_map (bytes_of_group base) (sound_after false base l)) groups_are
-              ∙ bytes-AreSound base false ended gs (group ∷ []) sound
-              ∙ (λ i. flat_map (bytes_of_group base) (sym before i)
-              ++ bytes_unless base (is_some (fault_after ended base group)) group i)
+              rw (groups_are, bytes-behind base false ended gs (group ∷ []) sound)
+              (ap (λ l. whole_bytes base text ++ l)
+              (bytes_unless base (is_some (fault_after ended base group)) group))
 
   -- At the end, what is held is a last group.
-
   at_end : (ended : Bool) (held : List Positioned) → length held < size
-      → first_after ended base (runs size held) ≡ held_fault ended base held
-  at_end ended [] short = ap (first_after ended base) (runs-nil {X = Positioned} size pos)
+      → (first_after ended base (runs size held) ≡ held_fault ended base held)
+      × (flat_map (bytes_of_group base) (sound_after ended base (runs size held))
+      ≡ cond (is_some (held_fault ended base held)) [] (bytes_of_group base held))
+  at_end ended [] short = rw (runs-nil {X = Positioned} size pos) (refl, refl)
   at_end ended (k ∷ ks) short =
-      ap (first_after ended base) (runs-short size (k ∷ ks) (omega arith) (omega (arith, short)))
-      ∙ or_none (fault_after ended base (k ∷ ks))
-
-  bytes_at_end : (ended : Bool) (held : List Positioned) → length held < size
-      → flat_map (bytes_of_group base) (sound_after ended base (runs size held))
-      ≡ cond (is_some (held_fault ended base held)) [] (bytes_of_group base held)
-  bytes_at_end ended [] short =
-      ap (λ gs. flat_map (bytes_of_group base) (sound_after ended base gs))
-      (runs-nil {X = Positioned} size pos)
-  bytes_at_end ended (k ∷ ks) short =
-      ap (λ gs. flat_map (bytes_of_group base) (sound_after ended base gs))
-      (runs-short size (k ∷ ks) (omega arith) (omega (arith, short)))
-      ∙ bytes_unless base (is_some (fault_after ended base (k ∷ ks))) (k ∷ ks)
+      rw (runs-short size (k ∷ ks) (omega arith) (omega (arith, short))) (
+        or_none (fault_after ended base (k ∷ ks)),
+        bytes_unless base (is_some (fault_after ended base (k ∷ ks))) (k ∷ ks),
+      )
 
   module _ (text : List ℕ) (len : ℕ) (held : List Positioned) (ended : Bool) where
     abbrev wholes : List (List Positioned)
     wholes = whole_groups base text
 
-    groups_are_all : groups base text ≡ wholes ++ runs size (unfinished base text)
-    groups_are_all = runs-left size pos (kept base text)
-
-    held_short : unfinished base text ≡ held → length held < size
-    held_short is = subst (λ l. length l < size) is (left_len size pos (kept base text))
-
-    first_read : (fault : Option DecodeError) → HasRead base text len fault held ended
-        → first_fault base (groups base text) ≡ or_else fault (held_fault ended base held)
-    first_read (Some error) read =
-        ap (first_fault base) groups_are_all
-        ∙ (stays base false error wholes (runs size (unfinished base text)) (sym read.first)).0
-    first_read None read =
-        let is : unfinished base text ≡ held = sym (read.holds refl) in
-        ap (first_fault base) groups_are_all
-        ∙ ap (λ l. first_fault base (wholes ++ runs size l)) is
-        ∙ first-AreSound base false ended wholes (runs size held)
-        (sound text [] len held ended read)
-        ∙ at_end ended held (held_short is)
+    -- the first fault, and the bytes before it
+    read_all : (fault : Option DecodeError) → HasRead base text len fault held ended
+        → (first_fault base (groups base text) ≡ or_else fault (held_fault ended base held))
+        × (sound_bytes base text ≡ whole_bytes base text
+        ++ cond (is_some (or_else fault (held_fault ended base held))) []
+        (bytes_of_group base held))
+    read_all (Some error) read =
+        let same = stays base false error wholes (runs size (unfinished base text))
+        (sym read.first) in
+        rw (runs-left size pos (kept base text)) (same.0, rw same.1 (sym (append-nil _)))
+    read_all None read =
+        let fine = sound text [] len held ended read in
+        let last = at_end ended held
+        (rw (read.holds refl) (left_len size pos (kept base text))) in
+        rw (runs-left size pos (kept base text), ← read.holds refl) (
+          first-AreSound base false ended wholes (runs size held) fine ∙ last.0,
+          rw (bytes-behind base false ended wholes (runs size held) fine, last.1),
+        )
 
     -- the fault of the text, from what was kept of it
     pub fault_of-read : (fault : Option DecodeError) → HasRead base text len fault held ended
         → fault_of base text
         ≡ or_else (length_fault base len) (or_else fault (held_fault ended base held))
-    fault_of-read fault read =
-        λ i. or_else (length_fault base (sym read.counted i)) (first_read fault read i)
+    fault_of-read fault read = rw (read.counted, (read_all fault read).0)
 
     -- and its bytes stand behind those of the others, where no group is faulty
     pub sound_bytes-read : (fault : Option DecodeError) → HasRead base text len fault held ended
         → sound_bytes base text ≡ whole_bytes base text
         ++ cond (is_some (or_else fault (held_fault ended base held))) []
         (bytes_of_group base held)
-    sound_bytes-read (Some error) read =
-        ap (λ gs. flat_map (bytes_of_group base) (sound_after false base gs)) groups_are_all
-        ∙ ap (flat_map (bytes_of_group base))
-        (stays base false error wholes (runs size (unfinished base text)) (sym read.first)).1
-        ∙ sym (append-nil (whole_bytes base text))
-    sound_bytes-read None read =
-        let is : unfinished base text ≡ held = sym (read.holds refl) in
-        let fine = sound text [] len held ended read in
-        let before = sound-all base false ended wholes fine in
-        ap (λ gs. flat_map (bytes_of_group base) (sound_after false base gs))
-        (groups_are_all ∙ ap (λ l. wholes ++ runs size l) is)
-        ∙ bytes-AreSound base false ended wholes (runs size held) fine
-        ∙ (λ i. flat_map (bytes_of_group base) (sym before i)
-        ++ bytes_at_end ended held (held_short is) i)
+    sound_bytes-read fault read = (read_all fault read).1

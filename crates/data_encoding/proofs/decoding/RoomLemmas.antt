@@ -1,16 +1,12 @@
 -- How many bytes groups have, and the room that is left for others.
-use Rattle.std.proofs.Common.{◌≡◌, ℕ, suc, ◌+◌, ◌-◌, ◌*◌, ◌/◌, ◌%◌, ◌<◌, ◌≤◌, List, [], ◌∷◌, ◌++◌, length, take, Option, Some, None, ap, ◌∙◌, arith, length-append, length-take-le, ⊎_elim}
-use Rattle.std.proofs.Math.Nat.{mul-add, add-mul, mul_left_comm, mul-le-mul_left, mul-le-mul_right, le-div_iff_mul-le}
-use Rattle.std.proofs.lemmas.Bool.{cases_lt}
-use Rattle.std.proofs.lemmas.Nat.{div-add-mod'}
+use Rattle.std.proofs.Common.{◌≡◌, ℕ, ◌+◌, ◌-◌, ◌*◌, ◌/◌, ◌%◌, ◌<◌, ◌≤◌, List, [], ◌∷◌, length, take, Option, arith, length-append, length-take-le, mul-add, add-mul, mul-le-mul_left, mul-le-mul_right, le-div_iff_mul-le, div-add-mod', flat_map, filter_map}
 use Rattle.std.proofs.lemmas.List.{length-map}
-use Rattle.std.specs.Prelude.{flat_map}
-use Rattle.std.specs.List.{filter_map, cons_option}
 use Rattle.data_encoding.proofs.grammar.PositionLemmas.{length-meanings}
 use Rattle.data_encoding.specs.Base.{Base, value_of}
 use Rattle.data_encoding.specs.Bits.{number_of, runs}
 use Rattle.data_encoding.specs.Grammar.{Positioned, meanings_in}
 use Rattle.data_encoding.specs.Fault.{symbol_bits, bytes_of_group}
+use Rattle.data_encoding.proofs.lists.PartLemmas.{regroup}
 use Rattle.data_encoding.proofs.lists.RunLemmas.{length-runs}
 use Rattle.data_encoding.proofs.grammar.UnpaddedGroupLemmas.{length-bits_of_values}
 
@@ -19,24 +15,16 @@ pub multiples : (size m n : ℕ) → m % size ≡ 0 → n % size ≡ 0 → m < n
 multiples size m n h k less =
     let whole_m : m ≡ m / size * size = omega (arith, div-add-mod' m size, h) in
     let whole_n : n ≡ n / size * size = omega (arith, div-add-mod' n size, k) in
-    ⊎_elim {C = m + size ≤ n}
-    (λ (more : m / size < n / size).
-    let next : (m / size + 1) * size ≤ n / size * size =
-    mul-le-mul_right size (omega (arith, more)) in
-    omega (arith, add-mul (m / size) 1 size, next, whole_m, whole_n))
-    (λ (few : n / size ≤ m / size).
-    let least : n / size * size ≤ m / size * size = mul-le-mul_right size few in
-    absurd (omega (arith, least, whole_m, whole_n, less)))
-    (cases_lt (m / size) (n / size))
+    let next : m / size < n / size → (m / size + 1) * size ≤ n / size * size =
+    λ more. mul-le-mul_right size (omega (arith, more)) in
+    let least : n / size ≤ m / size → n / size * size ≤ m / size * size =
+    mul-le-mul_right size in
+    grind (arith, add-mul (m / size) 1 size, next, least, whole_m, whole_n)
 
 length-filter_map : {X Y : Type 0} (f : X → Option Y) (xs : List X)
     → length (filter_map f xs) ≤ length xs
 length-filter_map f [] = omega arith
-length-filter_map {X = X} {Y = Y} f (x ∷ xs) = by (f x) (length-filter_map f xs) where
-  by : (o : Option Y) → length (filter_map f xs) ≤ length xs
-      → length (cons_option o (filter_map f xs)) ≤ suc (length xs)
-  by None h = omega (arith, h)
-  by (Some y) h = omega (arith, h)
+length-filter_map f (x ∷ xs) = let others = length-filter_map f xs in grind arith
 
 length-bytes_of_group : (base : Base) (group : List Positioned)
     → 8 * length (bytes_of_group base group) ≤ base.width * length group
@@ -45,16 +33,17 @@ length-bytes_of_group base group =
     let values = filter_map value_of meant in
     let bits = symbol_bits base meant in
     let front = take (length bits / 8 * 8) bits in
-    let front_len : length front ≡ length bits / 8 * 8 =
-    length-take-le (length bits / 8 * 8) bits (omega arith) in
-    let count : length (bytes_of_group base group) ≡ (length front + 7) / 8 =
-    length-map (runs 8 front) (number_of base.order) ∙ length-runs 8 front in
-    let all : length bits ≡ base.width * length values =
-    length-bits_of_values base.order base.width values in
     let few : base.width * length values ≤ base.width * length group =
     mul-le-mul_left base.width
     (omega (arith, length-filter_map value_of meant, length-meanings base group)) in
-    omega (arith, count, front_len, all, few)
+    omega (
+      arith,
+      length-map (runs 8 front) (number_of base.order),
+      length-runs 8 front,
+      length-take-le (length bits / 8 * 8) bits (omega arith),
+      length-bits_of_values base.order base.width values,
+      few,
+    )
 
 -- as many bits at most as symbols have
 pub length-bytes_of_groups : (base : Base) (groups : List (List Positioned))
@@ -62,26 +51,12 @@ pub length-bytes_of_groups : (base : Base) (groups : List (List Positioned))
     ≤ base.width * length (flat_map (λ group. group) groups)
 length-bytes_of_groups base [] = omega arith
 length-bytes_of_groups base (group ∷ groups) =
-    let bytes = length-append (bytes_of_group base group) (flat_map (bytes_of_group base) groups) in
-    let symbols : base.width * length (group ++ flat_map (λ g. g) groups)
-    ≡ base.width * length group + base.width * length (flat_map (λ g. g) groups) =
-    ap (λ n. base.width * n) (length-append group (flat_map (λ g. g) groups))
-    ∙ mul-add base.width (length group) (length (flat_map (λ g. g) groups)) in
-    omega (
-      arith,
-      bytes,
-      symbols,
-      length-bytes_of_group base group,
-      length-bytes_of_groups base groups,
-    )
+    simp length-append
+    (omega (arith, length-bytes_of_group base group, length-bytes_of_groups base groups))
 
 -- Of the symbols of a text some are read, and the bytes of no more written.
 module _ (width bytes symbols len read written : ℕ) (same : width * symbols ≡ 8 * bytes)
     (within : read ≤ len) where
-  regroup : (count : ℕ) → width * (count * symbols) ≡ 8 * (count * bytes)
-  regroup count =
-      mul_left_comm width count symbols ∙ ap (λ n. count * n) same ∙ mul_left_comm count 8 bytes
-
   -- there is room for as many bits as are left
   pub room-bits : 8 * written ≤ width * read → (more : ℕ) → more ≤ len - read
       → 8 * written + width * more ≤ width * len
@@ -93,7 +68,7 @@ module _ (width bytes symbols len read written : ℕ) (same : width * symbols �
   pub room-plain : 8 * written ≤ width * read → (count : ℕ) → count * symbols ≤ len - read
       → written + count * bytes ≤ width * len / 8
   room-plain h count few =
-      omega (arith, room-bits h (count * symbols) few, regroup count)
+      omega (arith, room-bits h (count * symbols) few, regroup width 8 symbols bytes 0 same (omega arith) count)
 
   -- and for as many whole groups, where whole ones were read
   pub room-whole : 0 < symbols → (q count : ℕ) → 8 * written ≤ width * (q * symbols)
@@ -104,4 +79,4 @@ module _ (width bytes symbols len read written : ℕ) (same : width * symbols �
       omega (arith, add-mul q count symbols, before, few, within) in
       let least : q + count ≤ len / symbols =
       (le-div_iff_mul-le {k = symbols} {x = q + count} {y = len} pos).1 fits in
-      omega (arith, regroup q, h, add-mul q count bytes, mul-le-mul_right bytes least)
+      omega (arith, regroup width 8 symbols bytes 0 same (omega arith) q, h, add-mul q count bytes, mul-le-mul_right bytes least)

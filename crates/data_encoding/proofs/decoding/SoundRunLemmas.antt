@@ -1,12 +1,12 @@
 -- Whether the greatest front of valid length means something as it stands.
-use Rattle.std.proofs.Common.{◌≡◌, ℕ, ◌<◌, ◌≤◌, true, false, List, ◌∷◌, length, take, drop, Option, Some, None, is_none, refl, sym, ap, ◌∙◌, arith, length-take-le}
+use Rattle.std.proofs.Common.{◌≡◌, ℕ, ◌<◌, ◌≤◌, true, false, List, ◌∷◌, length, take, drop, Option, None, is_none, sym, ap, ◌∙◌, arith, length-take-le}
 use Rattle.std.proofs.lemmas.List.{take-map}
 use Rattle.data_encoding.specs.declared.error.DecodeError.{DecodeError}
 use Rattle.data_encoding.specs.Base.{Base, group_symbols, IsWidth}
 use Rattle.data_encoding.specs.Bits.{runs}
 use Rattle.data_encoding.specs.Grammar.{Positioned, positioned, is_final, bytes_in}
 use Rattle.data_encoding.specs.Lengths.{is_valid_length, greatest_valid_length, length_fault}
-use Rattle.data_encoding.specs.Fault.{group_fault, fault_of, or_else, first_after, fault_after, located}
+use Rattle.data_encoding.specs.Fault.{group_fault, fault_of, first_after, fault_after}
 use Rattle.data_encoding.specs.Partial.{ignoring_nothing, is_sound_run}
 use Rattle.data_encoding.proofs.digits.WidthLemmas.{group_symbols-pos}
 use Rattle.data_encoding.proofs.lists.RunLemmas.{runs-nil, runs-short, runs-first}
@@ -17,8 +17,7 @@ use Rattle.data_encoding.proofs.decoding.GreatestLengthLemmas.{greatest-least, g
 use Rattle.data_encoding.proofs.decoding.IgnoringLemmas.{ignores_none-strict, group_fault-strict}
 
 is_none-none : (o : Option DecodeError) → is_none o ≡ true → o ≡ None
-is_none-none None h = refl
-is_none-none (Some error) h = cc
+is_none-none o h = grind arith
 
 module _ (base : Base) (width : IsWidth base.width) (bytes : List ℕ) where
   abbrev size : ℕ
@@ -45,30 +44,22 @@ module _ (base : Base) (width : IsWidth base.width) (bytes : List ℕ) where
       length_fault-none strict (length front)
       (λ none. ap (is_valid_length base) (sym (length-positioned_from 0 front) ∙ front_len)
       ∙ greatest-valid base width (length bytes)) in
-      λ i. or_else (valid i)
-      (first_after false strict
-      (runs size (filter-plain strict (ignores_none-strict base) (positioned front) i)))
+      rw (valid, filter-plain strict (ignores_none-strict base) (positioned front))
 
   -- no bytes mean no bytes
   pub sound_run-none : len ≡ 0 → is_sound_run base bytes ≡ true
   sound_run-none none =
-      ap is_none (strict_fault
-      ∙ ap (λ n. first_after false strict (runs size (positioned (take n bytes)))) none
-      ∙ ap (first_after false strict)
-      (runs-nil {X = Positioned} size (group_symbols-pos base.width width)))
+      let nil = runs-nil {X = Positioned} size (group_symbols-pos base.width width) in
+      rw (strict_fault, none, nil)
 
   module _ (some : 0 < len) where
     -- a group without a fault means something
     pub sound_run-group : len ≤ size → group_fault base front ≡ None
         → is_sound_run base bytes ≡ true
     sound_run-group few sound =
-        let group = positioned front in
-        ap is_none (strict_fault
-        ∙ ap (first_after false strict)
-        (runs-short size group (omega (arith, front_len, some)) (omega (arith, front_len, few)))
-        ∙ ap (λ o. or_else (located group o) None)
-        (ap (group_fault strict) (bytes-positioned_from 0 front) ∙ group_fault-strict base front
-        ∙ sound))
+        let short = runs-short size (positioned front) (omega (arith, front_len, some))
+        (omega (arith, front_len, few)) in
+        rw (strict_fault, short, bytes-positioned_from 0 front, group_fault-strict base front, sound)
 
     -- and what means something begins with one
     pub sound_run-first : is_sound_run base bytes ≡ true
@@ -79,11 +70,8 @@ module _ (base : Base) (width : IsWidth base.width) (bytes : List ℕ) where
         (omega (arith, front_len, some)) in
         let none : first_after false strict (group ∷ runs size (drop size (positioned front)))
         ≡ None =
-        ap (first_after false strict) (sym first) ∙ sym strict_fault
-        ∙ is_none-none (fault_of strict front) h in
-        let sound = neither_fault (fault_after false strict group)
-        (first_after (is_final strict group) strict (runs size (drop size (positioned front))))
-        none in
+        is_none-none _ (rw (strict_fault, first) at h) in
+        let sound = neither_fault (fault_after false strict group) _ none in
         let same : bytes_in group ≡ take size front =
         sym (take-map (λ (k : Positioned). k.byte) size (positioned front))
         ∙ ap (take size) (bytes-positioned_from 0 front) in

@@ -1,13 +1,11 @@
 -- Runs of whole groups of symbols, one after the other.
-use Rattle.std.proofs.Common.{◌≡◌, ℕ, ◌+◌, ◌-◌, ◌*◌, ◌/◌, ◌%◌, ◌<◌, ◌≤◌, true, false, List, ◌++◌, length, take, drop, get_or, slice_index, refl, sym, ap, ◌∙◌, subst, arith, length-take-le, ⊎_elim, map}
-use Rattle.std.proofs.Math.Seq.{take-add}
+use Rattle.std.proofs.Common.{◌≡◌, ℕ, ◌+◌, ◌-◌, ◌*◌, ◌/◌, ◌%◌, ◌<◌, ◌≤◌, true, false, List, ◌++◌, length, take, drop, slice_index, refl, sym, ap, ◌∙◌, arith, length-take-le, ⊎_elim, map, take-add}
 use Rattle.std.proofs.Math.Nat.{add-mul, mul-mod_left, zero-mul}
-use Rattle.std.proofs.lemmas.Bool.{cases_lt, false≢true}
+use Rattle.std.proofs.lemmas.Bool.{cases_lt}
 use Rattle.std.proofs.lemmas.List.{append-nil, get_or-take, get_or-drop, length-drop, length-take, take_all, take_at, length-map, map-append}
 use Rattle.std.proofs.lemmas.List.Concat.{flat_map-append}
 use Rattle.std.proofs.lemmas.Slice.{take-put_mid}
 use borrow.Rule.Slice.PartMut.{put_mid}
-use Rattle.std.specs.Prelude.{flat_map}
 use Rattle.data_encoding.specs.declared.encoding.Character.{Character}
 use Rattle.data_encoding.specs.Base.{Base, IsWidth, meaning, is_symbol, group_bytes, group_symbols}
 use Rattle.data_encoding.specs.Bits.{runs}
@@ -15,6 +13,7 @@ use Rattle.data_encoding.specs.Decoding.{IsLongest, IsRun, run_bytes}
 use Rattle.data_encoding.specs.Fault.{symbol_bytes}
 use Rattle.data_encoding.specs.Tables.{HoldsValues, IsGroup}
 use Rattle.data_encoding.proofs.digits.WidthLemmas.{group_symbols-pos}
+use Rattle.data_encoding.proofs.grammar.KeptLemmas.{between}
 use Rattle.data_encoding.proofs.lists.RunLemmas.{runs-nil, runs-join, runs-short}
 
 module _ (base : Base) (width : IsWidth base.width) where
@@ -32,19 +31,7 @@ module _ (base : Base) (width : IsWidth base.width) where
   run-none part old new = record {
     within = omega (arith, zero-mul size);
     are_symbols = λ k h. absurd (omega (arith, h, zero-mul size));
-    bytes = ap (λ n. take n new) (zero-mul byte_count)
-        ∙ sym (ap (λ n. run_bytes base (take n part)) (zero-mul size)
-        ∙ ap (flat_map (symbol_bytes base)) (runs-nil {X = Character} size pos));
-  }
-
-  kept : (part old output piece : List ℕ) (i k : ℕ) → IsRun base part i old output
-      → i * byte_count ≤ length output
-      → IsRun base part i old (put_mid (i * byte_count) k output piece)
-  kept part old output piece i k run fits = record {
-    within = run.within;
-    are_symbols = run.are_symbols;
-    bytes = take_at (take (i * byte_count) output) (piece ++ drop k (drop (i * byte_count) output))
-        (i * byte_count) (length-take-le (i * byte_count) output fits) ∙ run.bytes;
+    bytes = rw (zero-mul byte_count, zero-mul size, runs-nil {X = Character} size pos);
   }
 
   symbols-more : (part : List ℕ) (i m : ℕ)
@@ -58,11 +45,9 @@ module _ (base : Base) (width : IsWidth base.width) where
       (λ (past : i * size ≤ k).
       let j = k - i * size in
       let below : j < m * size = omega (arith, h, past, add-mul i m size) in
-      let back : i * size + j ≡ k = omega (arith, past) in
-      let same : slice_index (take (m * size) (drop (i * size) part)) j ≡ slice_index part k =
-      get_or-take (m * size) (drop (i * size) part) j 0 below ∙ get_or-drop (i * size) part j 0
-      ∙ ap (λ n. get_or part n 0) back in
-      subst (λ byte. is_symbol (meaning base byte) ≡ true) same (second j below))
+      let back : k ≡ i * size + j = omega (arith, past) in
+      let there = get_or-take (m * size) (drop (i * size) part) j 0 below in
+      rw (back, ← get_or-drop (i * size) part j 0, ← there) (second j below))
       (cases_lt k (i * size))
 
   bytes-more : (part : List ℕ) (i m : ℕ) → (i + m) * size ≤ length part
@@ -82,51 +67,23 @@ module _ (base : Base) (width : IsWidth base.width) where
       let ns = map (meaning base) back in
       let whole : length ms % size ≡ 0 =
       ap (λ n. n % size) (length-map front (meaning base) ∙ front_len) ∙ mul-mod_left i size in
-      let again : take (m * size) back ≡ back =
-      take_all (m * size) back (omega (arith, back_len)) in
-      ap (λ l. run_bytes base front ++ run_bytes base l) again
-      ∙ sym (flat_map-append (symbol_bytes base) (runs size ms) (runs size ns))
-      ∙ ap (flat_map (symbol_bytes base)) (sym (runs-join size ms ns pos whole)
-      ∙ ap (runs size) (sym (map-append (meaning base) front back)))
-      ∙ ap (run_bytes base) (sym (take-add (i * size) (m * size) part))
-      ∙ ap (λ n. run_bytes base (take n part)) (sym sum)
-
-  more : (part old output before piece : List ℕ) (i m k : ℕ) → (i + m) * size ≤ length part
-      → i * byte_count ≤ length output → length piece ≡ m * byte_count
-      → IsRun base part i old output
-      → IsRun base (take (m * size) (drop (i * size) part)) m before piece
-      → IsRun base part (i + m) old (put_mid (i * byte_count) k output piece)
-  more part old output before piece i m k within fits len first second =
-      let sum : (i + m) * byte_count ≡ i * byte_count + length piece =
-      add-mul i m byte_count ∙ ap (λ n. i * byte_count + n) (sym len) in
-      let all : take (m * byte_count) piece ≡ piece =
-      take_all (m * byte_count) piece (omega (arith, len)) in
-      record {
-        within = within;
-        are_symbols = symbols-more part i m first.are_symbols second.are_symbols;
-        bytes = ap (λ n. take n (put_mid (i * byte_count) k output piece)) sum
-            ∙ take-put_mid (i * byte_count) k output piece (i * byte_count + length piece) refl fits
-            ∙ (λ j. first.bytes j ++ (sym all ∙ second.bytes) j)
-            ∙ bytes-more part i m within;
-      }
+      let again = take_all (m * size) back (omega (arith, back_len)) in
+      rw (sum, take-add (i * size) (m * size) part, again, map-append (meaning base) front back)
+      (rw (runs-join size ms ns pos whole, flat_map-append (symbol_bytes base) (runs size ms) _))
 
   one : (group old piece : List ℕ) → length group ≡ size
       → ((k : ℕ) → k < length group → is_symbol (meaning base (slice_index group k)) ≡ true)
       → length piece ≡ byte_count → piece ≡ symbol_bytes base (map (meaning base) group)
       → IsRun base group 1 old piece
   one group old piece len symbols piece_len is =
-      let all : take (1 * size) group ≡ group =
-      take_all (1 * size) group (omega (arith, len)) in
       let ms = map (meaning base) group in
       let ms_len : length ms ≡ size = length-map group (meaning base) ∙ len in
+      let all = take_all (1 * byte_count) piece (omega (arith, piece_len)) in
+      let short = runs-short size ms (omega (arith, ms_len, pos)) (omega (arith, ms_len)) in
       record {
         within = omega (arith, len);
         are_symbols = λ k h. symbols k (omega (arith, h, len));
-        bytes = take_all (1 * byte_count) piece (omega (arith, piece_len)) ∙ is
-            ∙ sym (ap (run_bytes base) all
-            ∙ ap (flat_map (symbol_bytes base))
-            (runs-short size ms (omega (arith, ms_len, pos)) (omega (arith, ms_len)))
-            ∙ append-nil (symbol_bytes base ms));
+        bytes = rw (all, take_all (1 * size) group (omega (arith, len)), short, append-nil _) is;
       }
 
 -- the same, with the sizes of a group as they are called elsewhere
@@ -141,88 +98,72 @@ module _ (base : Base) (width : IsWidth base.width) (w bytes symbols : ℕ)
   -- what is written behind a run leaves it
   pub run-kept : (part old output piece : List ℕ) (i k : ℕ) → i * bytes ≤ length output
       → IsRun base part i old output → IsRun base part i old (put_mid (i * bytes) k output piece)
-  run-kept part old output piece i k fits run =
-      subst (λ n. i * n ≤ length output → IsRun base part i old (put_mid (i * n) k output piece))
-      same_bytes (kept base width part old output piece i k run) fits
-
-  -- more groups behind a run
-  run-more : (part old output before piece : List ℕ) (i m k : ℕ)
-      → (i + m) * symbols ≤ length part → i * bytes ≤ length output → length piece ≡ m * bytes
-      → IsRun base part i old output
-      → IsRun base (take (m * symbols) (drop (i * symbols) part)) m before piece
-      → IsRun base part (i + m) old (put_mid (i * bytes) k output piece)
-  run-more part old output before piece i m k =
-      subst (λ n. (i + m) * symbols ≤ length part → i * n ≤ length output → length piece ≡ m * n
-      → IsRun base part i old output
-      → IsRun base (take (m * symbols) (drop (i * symbols) part)) m before piece
-      → IsRun base part (i + m) old (put_mid (i * n) k output piece)) same_bytes
-      (subst (λ d. (i + m) * d ≤ length part → i * group_bytes base.width ≤ length output
-      → length piece ≡ m * group_bytes base.width → IsRun base part i old output
-      → IsRun base (take (m * d) (drop (i * d) part)) m before piece
-      → IsRun base part (i + m) old (put_mid (i * group_bytes base.width) k output piece))
-      same_symbols
-      (more base width part old output before piece i m k))
-
-  -- a group of symbols is a run
-  run-one : (part piece : List ℕ) → length part ≡ symbols
-      → ((k : ℕ) → k < length part → is_symbol (meaning base (slice_index part k)) ≡ true)
-      → length piece ≡ bytes → piece ≡ symbol_bytes base (map (meaning base) part)
-      → IsRun base part 1 piece piece
-  run-one part piece len are_symbols piece_len is_bytes =
-      one base width part piece piece (len ∙ sym same_symbols) are_symbols
-      (piece_len ∙ sym same_bytes) is_bytes
+  run-kept part old output piece i k =
+      rw (← same_bytes) (λ fits run. record {
+        within = run.within;
+        are_symbols = run.are_symbols;
+        bytes = let place = i * group_bytes base.width in
+            take_at (take place output) (piece ++ drop k (drop place output)) place
+            (length-take-le place output fits) ∙ run.bytes;
+      })
 
   -- a run of the next groups, which stand between two positions, behind a run
   pub run-next : (part old output before piece : List ℕ) (i m next k stop : ℕ) → next ≡ i + m
       → stop ≡ i * symbols + m * symbols → stop ≤ length part → i * bytes ≤ length output
       → length piece ≡ m * bytes → IsRun base part i old output
-      → IsRun base (take (stop - i * symbols) (drop (i * symbols) part)) m before piece
+      → IsRun base (between (i * symbols) stop part) m before piece
       → IsRun base part next old (put_mid (i * bytes) k output piece)
-  run-next part old output before piece i m next k stop next_is stop_is within fits len first
-      second =
-      let sum : (i + m) * symbols ≡ stop = add-mul i m symbols ∙ sym stop_is in
-      let size : stop - i * symbols ≡ m * symbols = omega (arith, stop_is) in
-      subst (λ n. IsRun base part n old (put_mid (i * bytes) k output piece)) (sym next_is)
-      (run-more part old output before piece i m k (omega (arith, sum, within)) fits len first
-      (subst (λ n. IsRun base (take n (drop (i * symbols) part)) m before piece) size second))
+  run-next part old output before piece i m next k stop =
+      rw (← same_bytes, ← same_symbols) (λ next_is stop_is within fits len first second.
+      let count = group_bytes base.width in
+      let size = group_symbols base.width in
+      let sum : (i + m) * count ≡ i * count + length piece =
+      add-mul i m count ∙ ap (λ n. i * count + n) (sym len) in
+      let part_len : stop - i * size ≡ m * size = omega (arith, stop_is) in
+      let others = rw part_len at second in
+      let whole : (i + m) * size ≤ length part = omega (arith, add-mul i m size, stop_is, within) in
+      rw next_is (record {
+        within = whole;
+        are_symbols = symbols-more base width part i m first.are_symbols others.are_symbols;
+        bytes = rw (sum, take-put_mid (i * count) k output piece (i * count + length piece) refl fits)
+            ((λ j. first.bytes j
+            ++ (sym (take_all (m * count) piece (omega (arith, len))) ∙ others.bytes) j)
+            ∙ bytes-more base width part i m whole);
+      }))
 
   -- a group of symbols behind a run
   pub group-next : (values part old output piece : List ℕ) (i k stop : ℕ)
       → stop ≡ i * symbols + symbols → stop ≤ length part → i * bytes ≤ length output
       → length piece ≡ bytes → HoldsValues base values → IsRun base part i old output
       → ((j : ℕ) → slice_index part j < 256)
-      → ((j : ℕ) → j < length (take (stop - i * symbols) (drop (i * symbols) part))
-      → slice_index values (slice_index (take (stop - i * symbols) (drop (i * symbols) part)) j) <
-      128)
-      → piece ≡ symbol_bytes base
-      (map (meaning base) (take (stop - i * symbols) (drop (i * symbols) part)))
+      → ((j : ℕ) → j < length (between (i * symbols) stop part)
+      → slice_index values (slice_index (between (i * symbols) stop part) j) < 128)
+      → piece ≡ symbol_bytes base (map (meaning base) (between (i * symbols) stop part))
       → IsRun base part (i + 1) old (put_mid (i * bytes) k output piece)
   group-next values part old output piece i k stop stop_is within fits len holds first bytes_fit
       entries is_bytes =
-      let sub = take (stop - i * symbols) (drop (i * symbols) part) in
+      let sub = between (i * symbols) stop part in
       let size : stop - i * symbols ≡ symbols = omega (arith, stop_is) in
       let sub_len : length sub ≡ symbols =
       length-take-le (stop - i * symbols) (drop (i * symbols) part)
       (omega (arith, length-drop (i * symbols) part, within)) ∙ size in
       run-next part old output piece piece i 1 (i + 1) k stop refl (stop_is ∙ omega arith) within
-      fits
-      (omega (arith, len)) first
-      (run-one sub piece sub_len
+      fits (omega (arith, len)) first
+      (one base width sub piece piece (sub_len ∙ sym same_symbols)
       (λ j h.
-      let is_byte : slice_index sub j < 256 =
-      subst (λ n. n < 256)
-      (sym (get_or-take (stop - i * symbols) (drop (i * symbols) part) j 0
-      (omega (arith, h, sub_len, size))
-      ∙ get_or-drop (i * symbols) part j 0)) (bytes_fit (i * symbols + j)) in
-      ap is_symbol (holds.symbols (slice_index sub j) is_byte (entries j h)))
-      len is_bytes)
+      let here = get_or-take (stop - i * symbols) (drop (i * symbols) part) j 0
+      (omega (arith, h, sub_len, size)) in
+      ap is_symbol (holds.symbols (slice_index sub j)
+      (rw (here, get_or-drop (i * symbols) part j 0) (bytes_fit (i * symbols + j)))
+      (entries j h)))
+      (len ∙ sym same_bytes) is_bytes)
 
   -- a group that is not one of symbols alone ends the longest run
   pub run-longest : (values part : List ℕ) (i stop : ℕ) → stop ≡ i * symbols + symbols
       → HoldsValues base values → ((j : ℕ) → slice_index part j < 256)
-      → (((j : ℕ) → j < length (take (stop - i * symbols) (drop (i * symbols) part))
-      → slice_index values (slice_index (take (stop - i * symbols) (drop (i * symbols) part)) j) <
-      128) → false ≡ true)
+      → (((j : ℕ) → j < length (between (i * symbols) stop part)
+      → slice_index values (slice_index (between (i * symbols) stop part) j) < 128)
+      → false ≡ true)
       → IsLongest base part i
   run-longest values part i stop stop_is holds bytes_fit stopped = λ before all.
       stopped
@@ -230,18 +171,11 @@ module _ (base : Base) (width : IsWidth base.width) (w bytes symbols : ℕ)
       let few = length-take (stop - i * symbols) (drop (i * symbols) part) in
       let inside : j < symbols = omega (arith, h, few, stop_is) in
       let byte = slice_index part (i * symbols + j) in
-      let same : slice_index (take (stop - i * symbols) (drop (i * symbols) part)) j ≡ byte =
-      get_or-take (stop - i * symbols) (drop (i * symbols) part) j 0
-      (omega (arith, inside, stop_is))
-      ∙ get_or-drop (i * symbols) part j 0 in
-      let is : is_symbol (meaning base byte) ≡ true =
-      subst (λ d. is_symbol (meaning base (slice_index part (i * d + j))) ≡ true) same_symbols
-      (all j (subst (λ d. j < d) (sym same_symbols) inside)) in
-      subst (λ b. slice_index values b < 128) (sym same)
-      (⊎_elim (λ (below : slice_index values byte < 128). below)
-      (λ (past : 128 ≤ slice_index values byte).
-      absurd (false≢true (sym (holds.others byte (bytes_fit (i * symbols + j)) past) ∙ is)))
-      (cases_lt (slice_index values byte) 128)))
+      let is : is_symbol (meaning base byte) ≡ true = (rw same_symbols at all) j inside in
+      let other = holds.others byte (bytes_fit (i * symbols + j)) in
+      let here = get_or-take (stop - i * symbols) (drop (i * symbols) part) j 0
+      (omega (arith, inside, stop_is)) in
+      rw (here, get_or-drop (i * symbols) part j 0) (grind (arith, is, other)))
 
   -- so does the last whole group
   pub run-all : (part : List ℕ) → IsLongest base part (length part / symbols)

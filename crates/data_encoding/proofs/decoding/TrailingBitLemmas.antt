@@ -1,14 +1,14 @@
 -- The bytes of a group: the first that is no symbol, and the bits left over.
-use Rattle.std.proofs.Common.{◌≡◌, ℕ, zero, suc, ◌+◌, ◌-◌, ◌*◌, ◌/◌, ◌%◌, ◌^◌, ◌<◌, ◌≤◌, ◌==◌, Bool, true, false, not, cond, ◌||◌, nat_lt, List, [], ◌∷◌, ◌++◌, length, map, take, drop, reverse, slice_index, Some, None, refl, sym, ap, ◌∙◌, subst, arith, length-append}
+use Rattle.std.proofs.Common.{◌≡◌, ℕ, ◌+◌, ◌-◌, ◌*◌, ◌/◌, ◌%◌, ◌^◌, ◌<◌, ◌≤◌, ◌==◌, Bool, true, false, not, ◌||◌, nat_lt, List, [], ◌∷◌, ◌++◌, length, map, take, drop, reverse, slice_index, Some, None, refl, sym, ap, ◌∙◌, subst, arith, length-append, pow-add, pow_pos, div-lt_iff_lt-mul, mod-lt, mul_comm, flat_map, slice_get}
 use Rattle.std.proofs.lemmas.Bool.Decides.{nat_tests}
 use Rattle.std.proofs.lemmas.List.{length-map, length-reverse, reverse-append, map-append, append-nil, drop_at, take_more, take_all}
 use Rattle.std.proofs.lemmas.List.Concat.{flat_map-append}
 use Rattle.std.proofs.lemmas.List.Folds.{list_any-append}
-use Rattle.std.proofs.lemmas.Nat.{div-add-mod', pow-add, pow_pos}
-use Rattle.std.proofs.lemmas.Option.{get_or_from_slice_get}
-use Rattle.std.proofs.Math.Nat.{div-lt_iff_lt-mul, mod-lt, mul-add, mul_comm}
+use Rattle.std.proofs.Math.ListN.{get_or-map}
+use Rattle.std.proofs.lemmas.List.Sums.{position_or_len_is}
+use Rattle.std.proofs.lemmas.Option.{get_or_from_slice_get, slice_get_within}
+use Rattle.std.proofs.Math.Bool.{or-false, or_comm}
 use Rattle.std.proofs.Math.Seq.{drop-append-add}
-use Rattle.std.specs.Prelude.{flat_map, slice_get}
 use Rattle.std.specs.List.{list_any, position, prefix_len}
 use Rattle.data_encoding.specs.declared.encoding.BitOrder.{BitOrder}
 use Rattle.data_encoding.specs.declared.encoding.BitOrder.TheVariants.{MostSignificantFirst, LeastSignificantFirst}
@@ -17,7 +17,7 @@ use Rattle.data_encoding.specs.Bits.{bits_of, low_bits, number_of_low_bits}
 use Rattle.data_encoding.specs.Lengths.{is_valid_count}
 use Rattle.data_encoding.specs.Tables.{HoldsValues}
 use Rattle.data_encoding.specs.Fault.{trailing_bits}
-use Rattle.data_encoding.proofs.digits.BitLemmas.{length-low_bits, low_bits-add, low_bits-mod, number-low_bits}
+use Rattle.data_encoding.proofs.digits.BitLemmas.{length-bits_of, length-low_bits, low_bits-add, low_bits-mod, number-low_bits}
 use Rattle.data_encoding.proofs.grammar.UnpaddedGroupLemmas.{length-bits_of_values}
 use Rattle.data_encoding.proofs.digits.KernelLemmas.{values_in-table, entries_below}
 
@@ -31,44 +31,30 @@ module _ (base : Base) (values : List ℕ) (holds : HoldsValues base values) whe
 
   symbols_len : (group : List ℕ) (index : ℕ) → StopsAfter group index
       → prefix_len (λ m. not (not (is_symbol m))) (map (meaning base) group) ≡ index
-  symbols_len [] index s = omega (arith, s.inside)
-  symbols_len (byte ∷ group) zero s =
-      let rest = prefix_len (λ m. not (not (is_symbol m))) (map (meaning base) group) in
-      ap (λ b. cond (not (not b)) (1 + rest) 0)
-      (holds.others byte (s.are_bytes 0) (s.there (omega arith)))
-  symbols_len (byte ∷ group) (suc index) s =
-      let rest = prefix_len (λ m. not (not (is_symbol m))) (map (meaning base) group) in
-      let others : rest ≡ index = symbols_len group index (record {
-        are_bytes = λ k. s.are_bytes (suc k);
-        before = λ k h. s.before (suc k) (omega (arith, h));
-        inside = omega (arith, s.inside);
-        there = λ h. s.there (omega (arith, h));
-      }) in
-      ap (λ m. cond (not (not (is_symbol m))) (1 + rest) 0)
-      (holds.symbols byte (s.are_bytes 0) (s.before 0 (omega arith)))
-      ∙ ap (λ n. 1 + n) others ∙ omega arith
+  symbols_len group index s =
+      position_or_len_is (λ m. not (is_symbol m)) (map (meaning base) group) index (meaning base 0)
+      (rw (length-map group (meaning base)) s.inside)
+      (λ k less. rw (get_or-map (meaning base) group k 0)
+      (ap (λ m. not (is_symbol m))
+      (holds.symbols (slice_index group k) (s.are_bytes k) (s.before k less))))
+      (λ inside. rw (get_or-map (meaning base) group index 0)
+      (ap not (holds.others (slice_index group index) (s.are_bytes index)
+      (s.there (rw (length-map group (meaning base)) at inside)))))
 
   module _ (group : List ℕ) where
-    position_is : (index : ℕ) → StopsAfter group index
-        → position (λ m. not (is_symbol m)) (map (meaning base) group)
-        ≡ cond (nat_lt index (length group)) (Some index) None
-    position_is index s = λ i.
-        cond (nat_lt (symbols_len group index s i) (length-map group (meaning base) i))
-        (Some (symbols_len group index s i)) None
-
     -- where each byte is a symbol none is found
     pub no_symbol-none : StopsAfter group (length group)
         → position (λ m. not (is_symbol m)) (map (meaning base) group) ≡ None
     no_symbol-none s =
         let past : nat_lt (length group) (length group) ≡ false = grind (arith, nat_tests) in
-        position_is (length group) s ∙ ap (λ b. cond b (Some (length group)) None) past
+        rw (symbols_len group (length group) s, length-map group (meaning base), past)
 
     -- or else the first that is none
     pub no_symbol-some : (index : ℕ) → StopsAfter group index → index < length group
         → position (λ m. not (is_symbol m)) (map (meaning base) group) ≡ Some index
     no_symbol-some index s h =
         let here : nat_lt index (length group) ≡ true = grind (arith, nat_tests) in
-        position_is index s ∙ ap (λ b. cond b (Some index) None) here
+        rw (symbols_len group index s, length-map group (meaning base), here)
 
 -- whether some bit is not zero
 abbrev some_bit : List ℕ → Bool
@@ -77,31 +63,21 @@ some_bit bits = list_any (λ bit. not (bit == 0)) bits
 some_bit-number : (bits : List ℕ) → some_bit bits ≡ not (number_of_low_bits bits == 0)
 some_bit-number [] = refl
 some_bit-number (bit ∷ bits) =
-    ap (λ b. not (bit == 0) || b) (some_bit-number bits)
-    ∙ either bit (number_of_low_bits bits) where
+    rw (some_bit-number bits) (either bit (number_of_low_bits bits)) where
       either : (bit rest : ℕ) → (not (bit == 0) || not (rest == 0)) ≡ not (bit + 2 * rest == 0)
       either bit rest = grind (arith, nat_tests)
 
 some_bit-reverse : (bits : List ℕ) → some_bit (reverse bits) ≡ some_bit bits
 some_bit-reverse [] = refl
 some_bit-reverse (bit ∷ bits) =
-    ap some_bit (reverse-append (bit ∷ []) bits)
-    ∙ list_any-append (λ bit. not (bit == 0)) (reverse bits) (bit ∷ [])
-    ∙ ap (λ b. b || (not (bit == 0) || false)) (some_bit-reverse bits)
-    ∙ turned (some_bit bits) (not (bit == 0)) where
-      turned : (a b : Bool) → (a || (b || false)) ≡ (b || a)
-      turned true true = refl
-      turned true false = refl
-      turned false true = refl
-      turned false false = refl
+    rw (reverse-append (bit ∷ []) bits, list_any-append, some_bit-reverse bits, or-false)
+    (or_comm (some_bit bits) (not (bit == 0)))
 
 some_bit-low_bits : (count number : ℕ)
     → some_bit (low_bits count number) ≡ not (number % 2 ^ count == 0)
 some_bit-low_bits count number =
-    some_bit-number (low_bits count number)
-    ∙ ap (λ bits. not (number_of_low_bits bits == 0)) (sym (low_bits-mod count number))
-    ∙ ap (λ n. not (n == 0))
-    (number-low_bits count (number % 2 ^ count) (mod-lt number (pow_pos count)))
+    rw (some_bit-number (low_bits count number), ← low_bits-mod count number)
+    (rw (number-low_bits count (number % 2 ^ count) (mod-lt number (pow_pos count))))
 
 -- the last bits of a value: the low ones where the most significant come first, or the high ones
 last_most : (width few value : ℕ) → few ≤ width
@@ -116,9 +92,8 @@ last_most width few value h =
     ∙ ap reverse (low_bits-add few (width - few) value) ∙ reverse-append low high in
     let len : length (reverse high) ≡ width - few =
     length-reverse high ∙ length-low_bits (width - few) (value / 2 ^ few) in
-    ap (λ bits. some_bit (drop (width - few) bits)) parts
-    ∙ ap some_bit (drop_at (reverse high) (reverse low) (width - few) len)
-    ∙ some_bit-reverse low ∙ some_bit-low_bits few value
+    rw (parts, drop_at (reverse high) (reverse low) (width - few) len, some_bit-reverse low)
+    (some_bit-low_bits few value)
 
 last_least : (width few value : ℕ) → few ≤ width → value < 2 ^ width
     → some_bit (drop (width - few) (bits_of LeastSignificantFirst width value))
@@ -135,11 +110,10 @@ last_least width few value h below =
     let small : above < 2 ^ few =
     (div-lt_iff_lt-mul {k = 2 ^ (width - few)} {x = value} {y = 2 ^ few}
     (pow_pos (width - few))).1 (subst (λ n. value < n) power below) in
-    ap (λ bits. some_bit (drop (width - few) bits)) parts
-    ∙ ap some_bit
-    (drop_at low (low_bits few above) (width - few) (length-low_bits (width - few) value))
-    ∙ some_bit-number (low_bits few above)
-    ∙ ap (λ n. not (n == 0)) (number-low_bits few above small)
+    let len = length-low_bits (width - few) value in
+    let last = low_bits few above in
+    rw (parts, drop_at low last (width - few) len, some_bit-number last)
+    (rw (number-low_bits few above small))
 
 -- the bits of values after the last whole byte are the last of the last value
 abbrev left_over : BitOrder → ℕ → List ℕ → List ℕ
@@ -153,30 +127,20 @@ left_over-last : (order : BitOrder) (width few : ℕ) (front : List ℕ) (value 
     ≡ drop (width - few) (bits_of order width value)
 left_over-last order width few front value is h =
     let f = bits_of order width in
-    let bits : flat_map f (front ++ value ∷ []) ≡ flat_map f front ++ f value =
-    flat_map-append f front (value ∷ []) ∙ ap (λ l. flat_map f front ++ l) (append-nil (f value)) in
     let before : length (flat_map f front) ≡ width * length front =
     length-bits_of_values order width front in
-    let all : length (flat_map f (front ++ value ∷ [])) ≡ width * (length front + 1) =
-    length-bits_of_values order width (front ++ value ∷ [])
-    ∙ ap (λ n. width * n) (length-append front (value ∷ [])) in
-    let whole : length (flat_map f (front ++ value ∷ [])) / 8 * 8
+    let whole : (length (flat_map f front) + length (f value)) / 8 * 8
     ≡ length (flat_map f front) + (width - few) =
-    ap (λ n. n / 8 * 8) all
-    ∙ omega (arith, mul-add width (length front) 1, div-add-mod' (width * (length front + 1)) 8) in
-    (λ i. drop (whole i) (bits i)) ∙ drop-append-add (flat_map f front) (f value) (width - few)
+    omega (arith, before, length-bits_of order width value, is, h) in
+    rw (flat_map-append f front (value ∷ []), append-nil (f value), length-append, whole)
+    (drop-append-add (flat_map f front) (f value) (width - few))
 
 -- the last of a list
-last_inside : (xs : List ℕ) (n x : ℕ) → Some x ≡ slice_get xs n → n < length xs
-last_inside [] n x h = cc
-last_inside (y ∷ xs) zero x h = omega arith
-last_inside (y ∷ xs) (suc n) x h = omega (arith, last_inside xs n x h)
-
 split_last : (xs : List ℕ) (x : ℕ) → Some x ≡ slice_get xs (length xs - 1)
     → xs ≡ take (length xs - 1) xs ++ x ∷ []
 split_last xs x h =
     let last = length xs - 1 in
-    let inside = last_inside xs last x h in
+    let inside = slice_get_within xs last x (sym h) in
     sym (take_all (last + 1) xs (omega arith)) ∙ take_more xs last 0 inside
     ∙ ap (λ y. take last xs ++ y ∷ []) (get_or_from_slice_get xs last x 0 (sym h))
 
@@ -222,11 +186,11 @@ module _ (base : Base) (width : ℕ) (values group : List ℕ) (width_is : base.
       ≡ list_any (λ bit. not (bit == 0)) (trailing_bits base (map (meaning base) group))
   some_trailing-least order_is =
       let place = length group - 1 in
+      let byte_is = get_or_from_slice_get group place last 0 (sym ends.is_last) in
       let below : slice_index values last < 2 ^ width =
-      subst (λ byte. slice_index values byte < 2 ^ width)
-      (get_or_from_slice_get group place last 0 (sym ends.is_last))
+      rw (← byte_is)
       (entries_below base width values group ends.are_bytes ends.low width_is holds place
-      (last_inside group place last ends.is_last)) in
+      (slice_get_within group place last (sym ends.is_last))) in
       sym (ap some_bit (trailing_bits-last LeastSignificantFirst order_is)
       ∙ last_least width (width * length group % 8) (slice_index values last)
       (omega (arith, few_bits)) below)

@@ -1,79 +1,54 @@
 -- The lengths of whole groups.
-use Rattle.std.proofs.Common.{◌≡◌, ℕ, ◌*◌, ◌/◌, ◌≤◌, Bool, true, false, cond, not, ◌&&◌, ◌||◌, List, [], ◌∷◌, None, is_none, Ok, refl, sym, ap, ◌∙◌, arith}
+use Rattle.std.proofs.Common.{◌≡◌, ℕ, ◌*◌, ◌/◌, ◌≤◌, true, false, List, [], ◌∷◌, None, Ok, refl, ap, ◌∙◌, arith}
 use Rattle.std.proofs.Math.Nat.{mul-mod_left}
 use Rattle.std.specs.List.{list_any}
-use Rattle.std.proofs.Math.Bool.{or-true}
-use Rattle.data_encoding.specs.Base.{Base, IsWidth, group_bytes, group_symbols, is_padded, is_padding}
-use Rattle.data_encoding.specs.Grammar.{Positioned, is_final, meanings_in}
+use Rattle.data_encoding.specs.Base.{Base, IsWidth, group_bytes, group_symbols}
+use Rattle.data_encoding.specs.Grammar.{Positioned, is_final}
 use Rattle.data_encoding.specs.Lengths.{decoded_len, most_bytes}
 use Rattle.data_encoding.proofs.digits.WidthLemmas.{by_width}
 use Rattle.data_encoding.proofs.grammar.LengthLemmas.{decoded_len-valid, whole-length}
 use Rattle.data_encoding.proofs.judgement.RuleLemmas.{IsRuled}
 
--- A number of whole groups.
+-- A number of whole groups, and no more bytes than symbols, in whole groups or not.
+record HasLengths (width : ℕ) : Type 0 where
+  padded : (count : ℕ)
+      → count * group_symbols width / group_symbols width * group_bytes width
+      ≡ count * group_bytes width
+  plain : (count : ℕ) → width * (count * group_symbols width) / 8 ≡ count * group_bytes width
+  padded_most : (len : ℕ) → len / group_symbols width * group_bytes width ≤ len
+  plain_most : (len : ℕ) → width * len / 8 ≤ len
 
-padded_bytes : (width : ℕ) → IsWidth width → (count : ℕ)
-    → count * group_symbols width / group_symbols width * group_bytes width
-    ≡ count * group_bytes width
-padded_bytes =
-    by_width
-    (λ w. (count : ℕ)
-    → count * group_symbols w / group_symbols w * group_bytes w ≡ count * group_bytes w)
-    (λ n. omega arith) (λ n. omega arith) (λ n. omega arith) (λ n. omega arith) (λ n. omega arith)
-    (λ n. omega arith)
-
-plain_bytes : (width : ℕ) → IsWidth width → (count : ℕ)
-    → width * (count * group_symbols width) / 8 ≡ count * group_bytes width
-plain_bytes =
-    by_width (λ w. (count : ℕ) → w * (count * group_symbols w) / 8 ≡ count * group_bytes w)
-    (λ n. omega arith) (λ n. omega arith) (λ n. omega arith) (λ n. omega arith) (λ n. omega arith)
-    (λ n. omega arith)
-
--- No more bytes than symbols.
-
-padded_most : (width : ℕ) → IsWidth width → (len : ℕ)
-    → len / group_symbols width * group_bytes width ≤ len
-padded_most =
-    by_width (λ w. (len : ℕ) → len / group_symbols w * group_bytes w ≤ len) (λ n. omega arith)
-    (λ n. omega arith) (λ n. omega arith) (λ n. omega arith) (λ n. omega arith) (λ n. omega arith)
-
-plain_most : (width : ℕ) → IsWidth width → (len : ℕ) → width * len / 8 ≤ len
-plain_most =
-    by_width (λ w. (len : ℕ) → w * len / 8 ≤ len) (λ n. omega arith)
-    (λ n. omega arith) (λ n. omega arith) (λ n. omega arith) (λ n. omega arith) (λ n. omega arith)
+has_lengths : (width : ℕ) → IsWidth width → HasLengths width
+has_lengths =
+    by_width HasLengths (omega arith) (omega arith) (omega arith) (omega arith) (omega arith)
+    (omega arith)
 
 module _ (base : Base) (width : IsWidth base.width) where
   abbrev size : ℕ
   size = group_symbols base.width
 
+  lengths : HasLengths base.width
+  lengths = has_lengths base.width width
+
   pub decoded_len-whole : (count : ℕ)
       → decoded_len base (count * size) ≡ Ok (count * group_bytes base.width)
   decoded_len-whole count =
+      let due : most_bytes base (count * size) ≡ count * group_bytes base.width =
+      grind (arith, lengths.padded count, lengths.plain count) in
       decoded_len-valid base (count * size)
       (whole-length base width (count * size) (mul-mod_left count size))
-      ∙ ap (λ n. Ok n) (by (is_padded base)) where
-        by : (b : Bool) → cond b (count * size / size * group_bytes base.width)
-            (base.width * (count * size) / 8) ≡ count * group_bytes base.width
-        by true = padded_bytes base.width width count
-        by false = plain_bytes base.width width count
+      ∙ ap (λ n. Ok n) due
 
   pub most_bytes-few : (len : ℕ) → most_bytes base len ≤ len
-  most_bytes-few len = by (is_padded base) where
-    by : (b : Bool)
-        → cond b (len / size * group_bytes base.width) (base.width * len / 8) ≤ len
-    by true = padded_most base.width width len
-    by false = plain_most base.width width len
+  most_bytes-few len = grind (arith, lengths.padded_most len, lengths.plain_most len)
 
 -- where texts may be concatenated, no group is final
 pub none_final-joined : (base : Base) → base.concatenates ≡ true → (gs : List (List Positioned))
     → list_any (is_final base) gs ≡ false
 none_final-joined base joins [] = refl
-none_final-joined base joins (g ∷ gs) = λ i.
-    (not (joins i) && list_any is_padding (meanings_in base g))
-    || none_final-joined base joins gs i
+none_final-joined base joins (g ∷ gs) = rw (none_final-joined base joins gs, joins)
 
 -- and texts without padding may be
 pub joins-unpadded : (base : Base) → IsRuled base → base.padding ≡ None → base.concatenates ≡ true
 joins-unpadded base ruled unpadded =
-    sym ruled.concatenated ∙ ap (λ o. base.concatenates || is_none o) unpadded
-    ∙ or-true base.concatenates
+    let joined = ruled.concatenated in grind (arith, joined)

@@ -1,35 +1,79 @@
--- A piece that means data and is whole groups, behind whole groups: it is read at once.
-use Rattle.std.proofs.Common.{◌≡◌, ℕ, ◌⊎◌, ◌+◌, ◌%◌, ◌<◌, ◌==◌, Bool, true, false, not, ◌||◌, List, [], ◌∷◌, ◌++◌, length, map, take, Option, Some, None, is_some, inl, inr, refl, sym, ap, ◌∙◌, subst, arith, length-append}
+-- A piece that means data and is whole groups, behind whole groups: it is read at once. So is one
+-- with a fault that no unfinished group has: it is that of the whole groups.
+use Rattle.std.proofs.Common.{◌≡◌, ℕ, ◌⊎◌, ◌+◌, ◌%◌, ◌<◌, ◌==◌, Bool, true, false, not, ◌||◌, List, [], ◌∷◌, ◌++◌, length, map, take, Option, Some, None, is_some, inl, inr, refl, sym, ap, ◌∙◌, arith, length-append, ◌-◌, ◌*◌, ◌/◌, ⊎_elim, append-nil}
 use Rattle.std.proofs.lemmas.Bool.{false≢true}
-use Rattle.std.proofs.lemmas.List.{append-nil}
 use Rattle.std.proofs.lemmas.List.Folds.{list_any-append}
-use Rattle.std.specs.Prelude.{flat_map}
 use Rattle.std.specs.List.{list_any}
 use Rattle.data_encoding.specs.declared.error.DecodeError.{DecodeError}
 use Rattle.data_encoding.specs.declared.error.DecodePartial.{DecodePartial}
 use Rattle.data_encoding.specs.Base.{Base, IsWidth, group_symbols, ignores_some, is_padded}
-use Rattle.data_encoding.specs.Fault.{bytes_of_group, first_fault, sound_after}
-use Rattle.data_encoding.specs.Grammar.{Means, Positioned, groups, is_final, kept, kept_in}
+use Rattle.data_encoding.specs.Fault.{first_fault, fault_of}
+use Rattle.data_encoding.specs.Grammar.{Means, Positioned, groups, is_final, kept, meanings_in}
 use Rattle.data_encoding.specs.Laws.{further}
-use Rattle.data_encoding.specs.Lengths.{length_fault}
-use Rattle.data_encoding.specs.Partial.{partial_of}
-use Rattle.data_encoding.specs.Pieces.{HasRead, IsOfWholeGroup, unfinished, whole_bytes, whole_groups}
+use Rattle.data_encoding.specs.Lengths.{length_fault, is_valid_count, most_bytes}
+use Rattle.data_encoding.specs.Partial.{partial_of, is_length_fault}
+use Rattle.data_encoding.specs.Pieces.{HasRead, IsOfWholeGroup, unfinished, whole_bytes, whole_groups, held_fault}
 use Rattle.data_encoding.specs.Decoding.{AreSound}
-use Rattle.data_encoding.proofs.decoding.PieceLemmas.{more, sound, sound_bytes-read, unfinished-more, whole_groups-more}
-use Rattle.data_encoding.proofs.decoding.ReadLemmas.{Means-partial}
+use Rattle.data_encoding.proofs.decoding.PieceLemmas.{bytes-behind, more, sound, sound_bytes-read, joined, fault_of-read}
 use Rattle.data_encoding.proofs.decoding.StopLemmas.{fault-partial}
-use Rattle.data_encoding.proofs.decoding.WholeFaultLemmas.{first-whole, no-length_fault}
 use Rattle.data_encoding.proofs.digits.WidthLemmas.{group_symbols-pos}
 use Rattle.data_encoding.proofs.grammar.JoinFaultLemmas.{AreFew, final-moved, first-moved, kept_in-moved, moved, sound-moved}
 use Rattle.data_encoding.proofs.grammar.JoinLemmas.{whole-padded, whole-plain}
 use Rattle.data_encoding.proofs.grammar.MeaningLemmas.{no_fault-Means, sound_bytes-Means}
-use Rattle.data_encoding.proofs.grammar.PositionLemmas.{length-kept_plain}
-use Rattle.data_encoding.proofs.grammar.SoundLemmas.{bytes-AreSound, first-AreSound, neither_fault, sound-all}
+use Rattle.data_encoding.proofs.grammar.PositionLemmas.{length-kept_plain, length-meanings}
+use Rattle.data_encoding.proofs.grammar.SoundLemmas.{first-AreSound, neither_fault}
 use Rattle.data_encoding.proofs.lists.RunLemmas.{few_runs}
-use Rattle.data_encoding.proofs.lists.WholeRunLemmas.{front_of, left, left-map, whole_runs, whole_runs-all, whole_runs-front, whole_runs-map}
+use Rattle.data_encoding.proofs.lists.WholeRunLemmas.{front_of, left-map, whole_runs-all, whole_runs-front, whole_runs-map, left_len}
 use Rattle.data_encoding.proofs.judgement.RuleLemmas.{IsRuled, IsRuledPadding}
+use Rattle.std.proofs.lemmas.Bool.Decides.{nat_tests}
+use Rattle.data_encoding.proofs.decoding.WholeLengthLemmas.{none_final-joined}
+use Rattle.data_encoding.proofs.decoding.ResumeLemmas.{Means-partial}
+
+-- where so few symbols mean no byte, they are no valid number
+few-invalid : (width size count : ℕ) → width * (size - 1) / 8 ≡ 0 → 0 < count → count < size
+    → is_valid_count width count ≡ false
+few-invalid width size count none some few = grind (arith, nat_tests)
 
 module _ (base : Base) (width : IsWidth base.width) where
+  abbrev size : ℕ
+  size = group_symbols base.width
+
+  pos : 0 < size
+  pos = group_symbols-pos base.width width
+
+  short-other : most_bytes base (size - 1) ≡ 0 → (held : List Positioned) → length held < size
+      → (error : DecodeError) → is_length_fault error.kind ≡ false
+      → held_fault false base held ≡ Some error → ⊥
+  short-other none [] few error other h = cc
+  short-other none (k ∷ ks) few error other h =
+      let len = length-meanings base (k ∷ ks) in
+      let invalid = few-invalid base.width size (length (meanings_in base (k ∷ ks))) in
+      grind (arith, nat_tests)
+
+  module _ (piece : List ℕ) (error : DecodeError) (fault : fault_of base piece ≡ Some error)
+      (is : IsOfWholeGroup base (length piece) error.kind) where
+    no-length_fault : length_fault base (length piece) ≡ None
+    no-length_fault = let other = is.not_length in grind (arith, other, fault)
+
+    first-whole : first_fault base (whole_groups base piece) ≡ Some error
+    first-whole =
+        let read = fault_of-read base width piece (length piece) (unfinished base piece) false
+        (first_fault base (whole_groups base piece)) (record {
+          counted = refl;
+          first = refl;
+          holds = λ _. refl;
+          ends = λ _. sym (none_final-joined base is.joins (whole_groups base piece));
+        }) in
+        let no_other : held_fault false base (unfinished base piece) ≡ Some error → ⊥ =
+        ⊎_elim {C = held_fault false base (unfinished base piece) ≡ Some error → ⊥}
+        (λ plain. rw (whole_runs-all size pos (kept base piece)
+        (ap (λ n. n % size) (length-kept_plain base piece plain.0) ∙ plain.1)).1
+        (λ h. cc))
+        (λ none. short-other none (unfinished base piece) (left_len size pos (kept base piece))
+        error is.not_length)
+        is.whole in
+        grind (arith, sym read ∙ fault, no-length_fault, no_other)
+
   any_final-moved : (count : ℕ) (gs : List (List Positioned))
       → list_any (is_final base) (map (moved count) gs) ≡ list_any (is_final base) gs
   any_final-moved count [] = refl
@@ -37,14 +81,11 @@ module _ (base : Base) (width : IsWidth base.width) where
       final-moved base width count g i || any_final-moved count gs i
 
   module _ (text piece : List ℕ) (len : ℕ) (read : HasRead base text len None [] false) where
-    abbrev size : ℕ
-    size = group_symbols base.width
-
-    pos : 0 < size
-    pos = group_symbols-pos base.width width
-
     abbrev before : List (List Positioned)
     before = whole_groups base text
+
+    abbrev further_on : Positioned → Positioned
+    further_on k = record { position = len + k.position; byte = k.byte }
 
     -- the whole groups of the piece, where they stand
     abbrev others : List (List Positioned)
@@ -52,22 +93,18 @@ module _ (base : Base) (width : IsWidth base.width) where
 
     few : AreFew base width (whole_groups base piece)
     few =
-        subst (AreFew base width) (sym (whole_runs-front size pos (kept base piece)))
+        rw (whole_runs-front size pos (kept base piece))
         (few_runs size (front_of size (kept base piece)) pos)
 
     behind : unfinished base text ++ more base width text piece ≡ moved len (kept base piece)
     behind =
         let start : length text ≡ len + 0 = omega (arith, read.counted) in
-        ap (λ l. l ++ more base width text piece) (sym (read.holds refl))
-        ∙ ap (λ n. kept_in base n piece) start ∙ kept_in-moved base width len 0 piece
+        rw (← read.holds refl, start) (kept_in-moved base width len 0 piece)
 
     groups_are : whole_groups base (text ++ piece) ≡ before ++ others
     groups_are =
-        whole_groups-more base width text piece
-        ∙ ap (λ l. before ++ whole_runs size l) behind
-        ∙ ap (λ gs. before ++ gs) (whole_runs-map size pos
-        (λ (k : Positioned). record { position = len + k.position; byte = k.byte })
-        (kept base piece))
+        rw ((joined base width text piece).0, behind)
+        (ap (λ gs. before ++ gs) (whole_runs-map size pos further_on (kept base piece)))
 
     before_sound : AreSound base false before false
     before_sound = sound base width text piece len [] false read
@@ -79,37 +116,28 @@ module _ (base : Base) (width : IsWidth base.width) where
         ended
     HasRead-behind fault held ended alone = record {
       counted = omega (arith, read.counted, length-append text piece);
-      first =
-          ap (further len) alone.first
-          ∙ sym (ap (first_fault base) groups_are
-          ∙ first-AreSound base false false before others before_sound
-          ∙ first-moved base width len false (whole_groups base piece) few);
+      first = rw (alone.first, groups_are)
+          (sym (first-AreSound base false false before others before_sound
+          ∙ first-moved base width len false (whole_groups base piece) few));
       holds = λ none.
-          ap (moved len) (alone.holds (none_further fault none))
-          ∙ sym (unfinished-more base width text piece ∙ ap (left size) behind
-          ∙ left-map size pos
-          (λ (k : Positioned). record { position = len + k.position; byte = k.byte })
-          (kept base piece));
+          let is = alone.holds (none_further fault none) in
+          rw (is, (joined base width text piece).1, behind)
+          (sym (left-map size pos further_on (kept base piece)));
       ends = λ none.
-          alone.ends (none_further fault none)
-          ∙ sym (any_final-moved len (whole_groups base piece))
-          ∙ ap (λ b. b || list_any (is_final base) others) (read.ends refl)
-          ∙ sym (ap (list_any (is_final base)) groups_are
-          ∙ list_any-append (is_final base) before others);
+          let is = alone.ends (none_further fault none) in
+          rw (is, groups_are, list_any-append (is_final base) before others, ← read.ends refl)
+          (sym (any_final-moved len (whole_groups base piece)));
     } where
       none_further : (o : Option DecodeError) → further len o ≡ None → o ≡ None
-      none_further None h = refl
-      none_further (Some error) h = cc
+      none_further o h = grind arith
 
     -- and its bytes are appended
     whole_bytes-behind : whole_bytes base (text ++ piece)
         ≡ whole_bytes base text ++ whole_bytes base piece
     whole_bytes-behind =
-        let same = sym (sound-all base false false before before_sound) in
-        ap (λ gs. flat_map (bytes_of_group base) (sound_after false base gs)) groups_are
-        ∙ bytes-AreSound base false false before others before_sound
-        ∙ (λ i. flat_map (bytes_of_group base) (same i)
-        ++ sound-moved base width len false (whole_groups base piece) few i)
+        rw (groups_are, bytes-behind base false false before others before_sound)
+        (ap (λ l. whole_bytes base text ++ l)
+        (sound-moved base width len false (whole_groups base piece) few))
 
     -- where it means data and is whole groups
     pub ReadsSound-whole : (bytes : List ℕ) → Means base piece bytes
@@ -123,15 +151,11 @@ module _ (base : Base) (width : IsWidth base.width) where
         (first_fault base (groups base piece)) (no_fault-Means base width piece bytes means) in (
           HasRead-behind None [] (list_any (is_final base) (groups base piece)) (record {
             counted = refl;
-            first = sym (ap (first_fault base) all.0 ∙ none.1);
+            first = rw all.0 (sym none.1);
             holds = λ _. sym all.1;
-            ends = λ _. ap (list_any (is_final base)) (sym all.0);
+            ends = λ _. rw all.0;
           }),
-          whole_bytes-behind
-              ∙ ap (λ gs. whole_bytes base text
-              ++ flat_map (bytes_of_group base) (sound_after false base gs)) all.0
-              ∙ ap (λ l. whole_bytes base text ++ l)
-              (sound_bytes-Means base width piece bytes means),
+          rw (whole_bytes-behind, all.0, sound_bytes-Means base width piece bytes means),
         )
 
     -- where it has the fault of a whole group
@@ -144,7 +168,7 @@ module _ (base : Base) (width : IsWidth base.width) where
         × (whole_bytes base (text ++ piece) ≡ whole_bytes base text ++ bytes)
     ReadsFaulty-whole bytes partial is of_whole means =
         let fault = fault-partial base piece partial is in
-        let first = first-whole base width piece partial.error fault of_whole in
+        let first = first-whole piece partial.error fault of_whole in
         let alone : HasRead base piece (length piece) (Some partial.error) [] false = record {
           counted = refl;
           first = sym first;
@@ -154,7 +178,7 @@ module _ (base : Base) (width : IsWidth base.width) where
         let all = sound_bytes-read base width piece (length piece) [] false (Some partial.error)
         alone in
         let read = Means-partial base width piece partial
-        (no-length_fault base width piece partial.error fault of_whole) is in (
+        (no-length_fault piece partial.error fault of_whole) is in (
           HasRead-behind (Some partial.error) [] false alone,
           whole_bytes-behind
               ∙ ap (λ l. whole_bytes base text ++ l)
