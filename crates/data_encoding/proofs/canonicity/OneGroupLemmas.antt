@@ -65,7 +65,8 @@ module _ (base : Base) (ruled : IsRuled base) where
         let keeps : keeps_all filled =
         all_joined (λ byte. is_ignored (meaning base byte) ≡ false) text fillers symbols
         (all_weaker (λ byte. meaning base byte ≡ Padding)
-        (λ byte. is_ignored (meaning base byte) ≡ false) (λ byte is. ap is_ignored is) fillers all) in
+        (λ byte. is_ignored (meaning base byte) ≡ false) (λ byte is. ap is_ignored is) fillers
+        all) in
         let group : GroupMeans base (map (meaning base) filled) bytes =
         GroupMeans-fillers base text fillers bytes padded means some whole all in
         let many = group.is_whole padded in

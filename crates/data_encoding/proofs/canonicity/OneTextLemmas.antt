@@ -136,8 +136,8 @@ module _ (base : Base) (ruled : IsRuled base) (one : HasOneForm base) where
           rw all (group_bits base.width width) in
           let bits : 8 * length piece ≡ base.width * size =
           let same = PlainMeans-count base width means.symbols piece means.means in
-          omega (arith, same, full, group_bits base.width width, means.means.rest_is_short, width.few)
-          in
+          let short = means.means.rest_is_short in
+          omega (arith, same, full, group_bits base.width width, short, width.few) in
           let exact : 8 * length piece % base.width ≡ 0 =
           rw (bits, mul_comm base.width size) (mul-mod_left size base.width) in
           rw (group_is, none, append-nil text, plain_text-join base piece more width.some exact)
@@ -164,8 +164,8 @@ module _ (base : Base) (ruled : IsRuled base) (one : HasOneForm base) where
           by (suc padding) is =
               let ends = means.4 (final group means.0 means.3 (omega (arith, is))) in
               let none : means.1 ≡ [] = subst (λ l. GroupsMean base l means.1) ends means.5 in
-              rw (last group means.0 means.3, none, filled_none [] refl, append-nil (filled means.0))
-              (ap filled (sym (append-nil means.0)))
+              rw (last group means.0 means.3, none, filled_none [] refl)
+              (append-nil (filled means.0) ∙ ap filled (sym (append-nil means.0)))
 
   own_text : (text bytes : List ℕ) → Means base text bytes
       → own_form base text ≡ text_of base bytes

@@ -118,7 +118,7 @@ module _ (base : Base) (ruled : IsRuled base) (unchecked : base.checks_trailing_
       let texts = unpadded base.padding (group_symbols base.width)
       (zeros ++ symbol base 0 ∷ []) text (simp length-append)
       (ap (with_padding base.padding (group_symbols base.width)) (sym computed.1) ∙ same) in
-      let ends = (parts_same zeros (symbol base 0 ∷ []) zeros (symbol base last ∷ []) texts refl).1 in
+      let ends = parts_same zeros (symbol base 0 ∷ []) zeros (symbol base last ∷ []) texts refl in
       let symbols : symbol base 0 ≡ symbol base last = cc in
       let meanings : Symbol 0 ≡ Symbol last =
       sym zero_meaning ∙ ap (meaning base) symbols ∙ last_meaning in

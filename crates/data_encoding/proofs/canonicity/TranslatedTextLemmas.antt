@@ -103,7 +103,8 @@ module _ (base : Base) (ruled : IsRuled base) where
           are_bytes = All-from_recursion (λ byte. byte < 256) bytes are_bytes.below;
         } in
         rw (whole-unpadded base.padding size text len) at
-        (Means-group base ruled text bytes means (omega (arith, len, positive)) (omega (arith, len)))
+        (Means-group base ruled text bytes means (omega (arith, len, positive))
+        (omega (arith, len)))
 
   pub symbol-second : SymbolIsSecond base
   symbol-second byte value is apart = let few = group_symbols-few base.width width in (

@@ -3,7 +3,7 @@ use Rattle.std.proofs.Common.{◌≡◌, ℕ, ◌+◌, ◌-◌, ◌<◌, ◌≤�
 use Rattle.std.proofs.lemmas.List.{get_or-drop, length-drop, length-map, nil_from_length}
 use Rattle.data_encoding.specs.Base.{Base, meaning, is_ignored}
 use Rattle.data_encoding.specs.Decoding.{IsGathered, IsIgnoredFront}
-use Rattle.data_encoding.specs.Grammar.{Positioned, kept, kept_in, kept_from}
+use Rattle.data_encoding.specs.Grammar.{Positioned, bytes_in, kept, kept_in, kept_from}
 use Rattle.data_encoding.proofs.grammar.KeptLemmas.{kept_from-more, kept_in-append}
 use Rattle.data_encoding.proofs.grammar.PositionLemmas.{length-by_bytes}
 use Rattle.data_encoding.proofs.grammar.SameBytesLemmas.{bytes-kept_in}
@@ -35,7 +35,7 @@ module _ (base : Base) where
   pub length-behind : (part : List ℕ) (skip : ℕ) → IsIgnoredFront base part skip
       → length (kept base part) ≡ length (kept base (drop skip part))
   length-behind part skip front =
-      length-by_bytes (kept base part) (map (λ (k : Positioned). k.byte) (kept base (drop skip part)))
+      length-by_bytes (kept base part) (bytes_in (kept base (drop skip part)))
       (rw (take-append-drop skip part) at
       (bytes-behind (take skip part) (drop skip part) front.none))
       ∙ length-map (kept base (drop skip part)) (λ (k : Positioned). k.byte)

@@ -119,23 +119,18 @@ module _ (base : Base) (width : IsWidth base.width) (text : List ℕ)
 
       run : is_length_fault error.kind ≡ true → 0 < len → (o : Option GroupFault)
           → group_fault base front ≡ o → (size < len) ⊎ (len ≤ size) → Stops base text
-      run kind some o is (inl long) = (
-        _,
-        _,
-        last-unsound here kind some (λ few. absurd (omega (arith, long, few))) output so_far.fits
-            refl,
-        λ other. cc,
-      )
+      run kind some o is (inl long) =
+          let at = last-unsound here kind some (λ few. absurd (omega (arith, long, few))) output
+          so_far.fits refl in
+          (_, _, at, λ other. cc)
       run kind some (Some bad) is (inr few) =
-          (_, _, last-unsound here kind some (λ _. ap is_some is) output so_far.fits refl, λ other. cc)
+          let at = last-unsound here kind some (λ _. ap is_some is) output so_far.fits refl in
+          (_, _, at, λ other. cc)
       run kind some None is (inr few) =
-          let bytes = symbol_bytes base (map (meaning base) front) in (
-            _,
-            _,
-            last-sound here kind some few is (length bytes) (take written output ++ bytes)
-                (omega (arith, behind_len bytes)) (behind_all bytes),
-            λ other. cc,
-          )
+          let bytes = symbol_bytes base (map (meaning base) front) in
+          let at = last-sound here kind some few is (length bytes) (take written output ++ bytes)
+          (omega (arith, behind_len bytes)) (behind_all bytes) in
+          (_, _, at, λ other. cc)
 
       by : (b : Bool) → is_length_fault error.kind ≡ b → Stops base text
       by false kind = (_, _, at-fault here kind, λ _. sound-front here)

@@ -57,6 +57,9 @@ length-bytes_of_groups base (group ∷ groups) =
 -- Of the symbols of a text some are read, and the bytes of no more written.
 module _ (width bytes symbols len read written : ℕ) (same : width * symbols ≡ 8 * bytes)
     (within : read ≤ len) where
+  regrouped : (count : ℕ) → width * (count * symbols) ≡ 8 * (count * bytes)
+  regrouped = regroup width 8 symbols bytes 0 same (omega arith)
+
   -- there is room for as many bits as are left
   pub room-bits : 8 * written ≤ width * read → (more : ℕ) → more ≤ len - read
       → 8 * written + width * more ≤ width * len
@@ -68,7 +71,7 @@ module _ (width bytes symbols len read written : ℕ) (same : width * symbols �
   pub room-plain : 8 * written ≤ width * read → (count : ℕ) → count * symbols ≤ len - read
       → written + count * bytes ≤ width * len / 8
   room-plain h count few =
-      omega (arith, room-bits h (count * symbols) few, regroup width 8 symbols bytes 0 same (omega arith) count)
+      omega (arith, room-bits h (count * symbols) few, regrouped count)
 
   -- and for as many whole groups, where whole ones were read
   pub room-whole : 0 < symbols → (q count : ℕ) → 8 * written ≤ width * (q * symbols)
@@ -79,4 +82,4 @@ module _ (width bytes symbols len read written : ℕ) (same : width * symbols �
       omega (arith, add-mul q count symbols, before, few, within) in
       let least : q + count ≤ len / symbols =
       (le-div_iff_mul-le {k = symbols} {x = q + count} {y = len} pos).1 fits in
-      omega (arith, regroup width 8 symbols bytes 0 same (omega arith) q, h, add-mul q count bytes, mul-le-mul_right bytes least)
+      omega (arith, regrouped q, h, add-mul q count bytes, mul-le-mul_right bytes least)

@@ -59,7 +59,8 @@ module _ (base : Base) (width : IsWidth base.width) (bytes : List ℕ) where
     sound_run-group few sound =
         let short = runs-short size (positioned front) (omega (arith, front_len, some))
         (omega (arith, front_len, few)) in
-        rw (strict_fault, short, bytes-positioned_from 0 front, group_fault-strict base front, sound)
+        let same = group_fault-strict base front in
+        rw (strict_fault, short, bytes-positioned_from 0 front, same, sound)
 
     -- and what means something begins with one
     pub sound_run-first : is_sound_run base bytes ≡ true

@@ -122,10 +122,11 @@ module _ (base : Base) (width : IsWidth base.width) (w bytes symbols : ℕ)
       let part_len : stop - i * size ≡ m * size = omega (arith, stop_is) in
       let others = rw part_len at second in
       let whole : (i + m) * size ≤ length part = omega (arith, add-mul i m size, stop_is, within) in
+      let written = take-put_mid (i * count) k output piece (i * count + length piece) refl fits in
       rw next_is (record {
         within = whole;
         are_symbols = symbols-more base width part i m first.are_symbols others.are_symbols;
-        bytes = rw (sum, take-put_mid (i * count) k output piece (i * count + length piece) refl fits)
+        bytes = rw (sum, written)
             ((λ j. first.bytes j
             ++ (sym (take_all (m * count) piece (omega (arith, len))) ∙ others.bytes) j)
             ∙ bytes-more base width part i m whole);
