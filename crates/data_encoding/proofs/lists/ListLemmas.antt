@@ -39,7 +39,7 @@ position-none test xs h =
     ap (λ b. cond b (Some place) None) past
 
 -- where a choice gives nothing, its test fails, and the other branch gives nothing
-pub cond-none : {A : Type 0} (b : Bool) (x : A) (o : Option A) → cond b (Some x) o ≡ None
+cond-none : {A : Type 0} (b : Bool) (x : A) (o : Option A) → cond b (Some x) o ≡ None
     → (b ≡ false) × (o ≡ None)
 cond-none true x o h = cc
 cond-none false x o h = (refl, h)

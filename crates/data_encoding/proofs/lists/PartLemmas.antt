@@ -69,7 +69,7 @@ pub one-more : (i size : ℕ) → (i + 1) * size ≡ i * size + size
 one-more i size = omega arith
 
 -- the groups of the next turn end before the last of them
-pub turns-before : (n groups size i : ℕ) → i < n / groups
+turns-before : (n groups size i : ℕ) → i < n / groups
     → i * groups * size + groups * size ≤ n * size
 turns-before n groups size i h =
     omega (arith, mul-le-mul_right size (group-before n groups i h))
