@@ -88,9 +88,8 @@ module _ (base : Base) (part : List ℕ) (index : ℕ) (inside : index < length 
       let before = kept base (take index part) in
       let rest = kept_from base (index + 1) part in
       rw (kept-split base (index + 1) part (omega (arith, inside)), next-kept h)
-      (ap (λ ks. position_of ks (length before)) (append_assoc before (found ∷ []) rest)
-      ∙ ap (λ (k : Positioned). k.position)
-      (get_or-append_seam before found rest (record { position = 0; byte = 0 })))
+      (rw (append_assoc before (found ∷ []) rest) (ap (λ (k : Positioned). k.position)
+      (get_or-append_seam before found rest (record { position = 0; byte = 0 }))))
 
   pub more-here : is_ignored (meaning base here) ≡ false
       → length (kept base (take (index + 1) part)) ≡ length (kept base (take index part)) + 1
@@ -141,10 +140,8 @@ gathered-plain base none size part =
 length-left : (base : Base) (text : List ℕ) (read : ℕ)
     → length (kept_from base read text) ≡ length (kept base (drop read text))
 length-left base text read =
-    length-by_bytes (kept_from base read text)
-    (bytes_in (kept base (drop read text)))
-    (bytes-kept_in base read (drop read text) ∙ sym (bytes-kept_in base 0 (drop read text)))
-    ∙ length-map (kept base (drop read text)) (λ (k : Positioned). k.byte)
+    simp length-map at (ap length
+    (bytes-kept_in base read (drop read text) ∙ sym (bytes-kept_in base 0 (drop read text))))
 
 pub nothing-kept : (base : Base) (text : List ℕ) (read : ℕ)
     → length (kept base (drop read text)) ≡ 0 → kept_from base read text ≡ []
@@ -219,9 +216,8 @@ module _ (base : Base) (width : IsWidth base.width) (text : List ℕ) (read : �
   pub is-next : 0 < length group → IsNext base text read (read + span) nexts
   is-next some =
       let same : read + span - read ≡ span = omega arith in
-      let total = ap length (rw same at (kept_from-more base read text within (read + span)
-      (omega arith) within-next))
-      ∙ length-append nexts (kept_from base (read + span) text) in
+      let total = simp length-append at (ap length (rw same at (kept_from-more base read text within
+      (read + span) (omega arith) within-next))) in
       record {
         is_part = record {
           after = omega arith;
@@ -248,8 +244,7 @@ module _ (base : Base) (width : IsWidth base.width) (text : List ℕ) (read : �
             let front = take n xs in
             let byte = get_or xs n 0 in
             let place : n ≡ suc n - 1 = omega arith in
-            let kept_last : is_ignored (meaning base byte) ≡ false =
-            ap (λ k. is_ignored (meaning base (get_or xs k 0))) place ∙ ends (omega arith) in
+            let kept_last : is_ignored (meaning base byte) ≡ false = rw place (ends (omega arith)) in
             let front_len : length front ≡ n = length-take-le n xs (omega (arith, few)) in
             let split = take-suc xs n 0 (omega (arith, few)) in
             rw (split, kept_in-append base read front (byte ∷ []), kept_last)

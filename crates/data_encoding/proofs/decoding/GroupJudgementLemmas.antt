@@ -40,14 +40,8 @@ count-before base values holds group are_bytes count within all stops =
     λ k. holds.paddings (slice_index group k) (are_bytes k) in
     sym (count_before_end-map is_padding (meaning base) group
     ∙ count_before_end-at pads group 0 count within
-    (λ k from inside. at k ∙ is_so (slice_index values (slice_index group k)) (all k from inside))
-    (λ some. at (count - 1)
-    ∙ is_not (slice_index values (slice_index group (count - 1))) (stops some))) where
-      is_so : (v : ℕ) → v ≡ 130 → (v == 130) ≡ true
-      is_so v h = grind (arith, nat_tests)
-
-      is_not : (v : ℕ) → v ≢ 130 → (v == 130) ≡ false
-      is_not v h = grind (arith, nat_tests)
+    (λ k from inside. at k ∙ rw (all k from inside))
+    (λ some. let other = stops some in at (count - 1) ∙ grind (arith, nat_tests)))
 
 -- the symbols of a group have few bits
 pub few-bits : {w bytes symbols width : ℕ} → IsGroup w bytes symbols → width ≡ w → (count : ℕ)
@@ -101,11 +95,7 @@ module _ (base : Base) (group : List ℕ) where
         → group_fault base group
         ≡ faulty_at LengthFault (length group - width * length group % 8 / width)
     fault-invalid width width_is known =
-        let invalid : is_valid_count base.width (length meant) ≡ false =
-        (λ i. is_valid_count (width_is i) (length_is i)) ∙ known in
-        plain-group
-        ∙ rw invalid
-        (λ i. faulty_at LengthFault (greatest_valid_count (width_is i) (length_is i)))
+        plain-group ∙ rw (length_is, width_is, known)
 
     pub length-invalid : 0 < length group → (width : ℕ) → base.width ≡ width → 0 < width
         → width ≤ width * length group % 8
@@ -124,13 +114,11 @@ module _ (base : Base) (group : List ℕ) where
     pub symbols-all : is_valid_count base.width (length group) ≡ true
         → HasSymbols base group (length group)
     symbols-all valid = record {
-      count_is = sym (ap (λ b. cond b (count_before_padding meant) (length group)) unpadded);
+      count_is = rw unpadded;
       within = omega arith;
       valid = valid;
-      fault_is = plain-group
-          ∙ plain_fault-valid base meant (ap (is_valid_count base.width) length_is ∙ valid)
-          ∙ ap (λ l. symbols_fault base (map (meaning base) l))
-          (sym (take_all (length group) group (omega arith)));
+      fault_is = rw (take_all (length group) group (omega arith)) (plain-group
+          ∙ plain_fault-valid base meant (ap (is_valid_count base.width) length_is ∙ valid));
     }
 
   module _ (padded : is_padded base ≡ true) where
@@ -141,9 +129,9 @@ module _ (base : Base) (group : List ℕ) where
     fault-short : length group < group_symbols base.width
         → group_fault base group ≡ faulty_at LengthFault 0
     fault-short short =
-        let less : nat_lt (length meant) (group_symbols base.width) ≡ true =
-        grind (arith, nat_tests, short, length_is) in
-        padded-group ∙ rw less
+        let less : nat_lt (length group) (group_symbols base.width) ≡ true =
+        grind (arith, nat_tests) in
+        rw (padded, length_is, less)
 
     pub group-short : 0 < length group → length group < group_symbols base.width
         → HasFault base false group (record { index = 0; kind = LengthFault })
@@ -171,15 +159,11 @@ module _ (base : Base) (group : List ℕ) where
       pub symbols-before : count ≤ length group → (count == 0) ≡ false
           → is_valid_count base.width count ≡ true → HasSymbols base group count
       symbols-before within begun valid =
-          let good : (count == 0 || not (is_valid_count base.width count)) ≡ false =
-          λ i. begun i || not (valid i) in
           record {
-            count_is = count_is
-                ∙ sym (ap (λ b. cond b (count_before_padding meant) (length group)) padded);
+            count_is = rw padded count_is;
             within = within;
             valid = valid;
-            fault_is = whole-group ∙ rw good
-                (ap (symbols_fault base) (take-map (meaning base) count group));
+            fault_is = whole-group ∙ rw (begun, valid, take-map);
           }
 
 -- a group of no valid length has the fault of its length
@@ -191,20 +175,15 @@ fault-length base width group some few invalid = by (is_padded base) refl where
       → group_fault base group ≡ faulty_at LengthFault (greatest_valid_length base (length group))
   by true is =
       let short = whole-less base width (length group) few invalid in
-      let none : greatest_valid_length base (length group) ≡ 0 =
-      greatest_valid_length-by base (length group) true is
-      ∙ ap (λ n. n * group_symbols base.width) (div-eq_of_lt short)
-      ∙ zero-mul (group_symbols base.width) in
-      fault-short base group is short ∙ ap (faulty_at LengthFault) (sym none)
+      rw (greatest_valid_length-by base (length group) true is, div-eq_of_lt short, zero-mul)
+      (fault-short base group is short)
   by false is =
-      let not_valid : is_valid_count base.width (length group) ≡ false =
-      sym (is_valid_length-by base (length group) false is) ∙ invalid in
-      fault-invalid base group is base.width refl not_valid
-      ∙ ap (faulty_at LengthFault)
-      (sym (greatest_valid_length-by base (length group) false is))
+      rw (greatest_valid_length-by base (length group) false is)
+      (fault-invalid base group is base.width refl
+      (sym (is_valid_length-by base (length group) false is) ∙ invalid))
 
 -- the tests of a part
-part_bytes : (group : List ℕ) → ((k : ℕ) → slice_index group k < 256) → (count k : ℕ)
+pub part_bytes : (group : List ℕ) → ((k : ℕ) → slice_index group k < 256) → (count k : ℕ)
     → slice_index (take count group) k < 256
 part_bytes group h zero k = omega arith
 part_bytes [] h (suc count) k = omega arith
@@ -260,9 +239,7 @@ module _ (base : Base) (values : List ℕ) (holds : HoldsValues base values) (gr
         → HasFault base false group (record { index = count - 1; kind = TrailingFault })
     trailing-fault checks some begun =
         HasFault-own (omega (arith, begun, few, has.within))
-        (fault-symbols
-        ∙ (λ i. cond (checks i && some i) (faulty_at TrailingFault (length judged - 1)) None)
-        ∙ ap (λ n. faulty_at TrailingFault (n - 1)) (length-map symbols (meaning base) ∙ few))
+        (fault-symbols ∙ rw (checks, some, length-map symbols (meaning base), few))
 
     abbrev all : List Character
     all = map (meaning base) group
@@ -273,8 +250,7 @@ module _ (base : Base) (values : List ℕ) (holds : HoldsValues base values) (gr
       by true is =
           rw (has.count_is, is) (end-passes is_padding all)
       by false is =
-          let whole : count ≡ length group = has.count_is ∙ rw is in
-          rw (drop_all count all (omega (arith, whole, length-map group (meaning base)))) tt
+          rw (has.count_is, is, drop_all (length group) all (omega (arith, length_is base group))) tt
 
     behind : all ≡ judged ++ replicate (length (drop count all)) PaddingCharacter
     behind =
@@ -287,13 +263,10 @@ module _ (base : Base) (values : List ℕ) (holds : HoldsValues base values) (gr
         let none : list_any is_padding judged ≡ false =
         ap (list_any is_padding) (are_symbols judged no_symbol)
         ∙ list_any-none is_padding _ (symbols_alone (filter_map value_of judged)) in
-        let left : padding ≡ length group - count =
-        length-drop count all ∙ ap (λ n. n - count) (length-map group (meaning base)) in
         let some : nat_lt 0 (length group - count) ≡ nat_lt count (length group) =
         grind (arith, nat_tests) in
         ap (list_any is_padding) behind
-        ∙ list_any-append is_padding judged (replicate padding PaddingCharacter)
-        ∙ (λ i. none i || any_padding padding i) ∙ ap (nat_lt 0) left ∙ some
+        ∙ rw (list_any-append, none, any_padding padding, length-drop, length-map, some)
 
     -- and where there are none, the group is sound
     pub group-sound : (base.checks_trailing_bits

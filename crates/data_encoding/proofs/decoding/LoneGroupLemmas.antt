@@ -55,38 +55,33 @@ module _ (base : Base) (width : IsWidth base.width) (group : List Positioned)
 
   one_group : groups base bytes ≡ alone ∷ []
   one_group =
-      ap (runs size)
-      (filter-all (λ (k : Positioned). not (is_ignored (meaning base k.byte))) alone
+      rw (filter-all (λ (k : Positioned). not (is_ignored (meaning base k.byte))) alone
       (each_kept 0 group plain))
-      ∙ runs-short size alone (omega (arith, count, alone_count, some))
-      (omega (arith, count, alone_count, few))
+      (runs-short size alone (omega (arith, count, alone_count, some))
+      (omega (arith, count, alone_count, few)))
 
   -- a group of no valid length has the fault of the length of the text
   length-group : is_valid_length base (length bytes) ≡ false
       → located alone (group_fault base bytes)
       ≡ Some (record { position = greatest_valid_length base (length bytes); kind = LengthFault })
   length-group invalid =
-      ap (located alone)
-      (fault-length base width bytes (omega (arith, some, count)) (omega (arith, few, count))
-      invalid)
-      ∙ ap (λ p. Some (record { position = p; kind = LengthFault }))
-      (position_of-positioned_from 0 bytes (greatest_valid_length base (length bytes))
-      (greatest-less base width (length bytes) invalid) ∙ omega arith)
+      let start : 0 + greatest_valid_length base (length bytes)
+      ≡ greatest_valid_length base (length bytes) = omega arith in
+      rw (fault-length base width bytes (omega (arith, some, count)) (omega (arith, few, count))
+      invalid, position_of-positioned_from 0 bytes (greatest_valid_length base (length bytes))
+      (greatest-less base width (length bytes) invalid), start)
 
   -- the text has the fault of the group
   fault_of-alone : fault_of base bytes ≡ located alone (group_fault base bytes)
   fault_of-alone =
-      ap (or_else (length_fault base (length bytes)))
-      (ap (first_fault base) one_group ∙ or_none (fault_after false base alone)
-      ∙ ap (λ l. located alone (group_fault base l)) (bytes-positioned_from 0 bytes))
-      ∙ by (length_fault base (length bytes)) refl where
+      rw (one_group, or_none, bytes-positioned_from)
+      (by (length_fault base (length bytes)) refl) where
         by : (o : Option DecodeError) → length_fault base (length bytes) ≡ o
             → or_else o (located alone (group_fault base bytes))
             ≡ located alone (group_fault base bytes)
         by None h = refl
         by (Some error) h =
-            let found = invalid_from (ignores_some base) (is_valid_length base (length bytes))
-            (record { position = greatest_valid_length base (length bytes); kind = LengthFault })
+            let found = invalid_from (ignores_some base) (is_valid_length base (length bytes)) _
             error h in
             sym (length-group found.0 ∙ found.1)
 
@@ -100,15 +95,12 @@ module _ (base : Base) (width : IsWidth base.width) (group : List Positioned)
 
   pub fault-alone : fault_after false base group ≡ fault_in group (fault_of base bytes)
   fault-alone =
-      located-alone (group_fault base bytes) (group_fault-inside base width group some few)
-      ∙ ap (fault_in group) (sym fault_of-alone)
+      rw fault_of-alone
+      (located-alone (group_fault base bytes) (group_fault-inside base width group some few))
 
   -- and its bytes
   pub bytes-alone : fault_of base bytes ≡ None → bytes_of_group base group ≡ sound_bytes base bytes
   bytes-alone none =
-      ap (λ l. symbol_bytes base (map (meaning base) l)) (sym (bytes-positioned_from 0 bytes))
-      ∙ sym (append-nil (bytes_of_group base alone))
-      ∙ sym (ap (λ gs. flat_map (bytes_of_group base) (sound_after false base gs)) one_group
-      ∙ ap (λ o. flat_map (bytes_of_group base) (cond (is_some o) [] (alone ∷ [])))
-      (ap (λ l. located alone (group_fault base l)) (bytes-positioned_from 0 bytes)
-      ∙ sym fault_of-alone ∙ none))
+      let sound = rw fault_of-alone at none in
+      rw (one_group, bytes-positioned_from 0 bytes, sound, append-nil,
+      bytes-positioned_from 0 bytes)

@@ -10,17 +10,6 @@ use Rattle.data_encoding.proofs.lists.PartLemmas.{regroup}
 use Rattle.data_encoding.proofs.lists.RunLemmas.{length-runs}
 use Rattle.data_encoding.proofs.grammar.UnpaddedGroupLemmas.{length-bits_of_values}
 
--- between two multiples there is a whole group or more
-pub multiples : (size m n : ℕ) → m % size ≡ 0 → n % size ≡ 0 → m < n → m + size ≤ n
-multiples size m n h k less =
-    let whole_m : m ≡ m / size * size = omega (arith, div-add-mod' m size, h) in
-    let whole_n : n ≡ n / size * size = omega (arith, div-add-mod' n size, k) in
-    let next : m / size < n / size → (m / size + 1) * size ≤ n / size * size =
-    λ more. mul-le-mul_right size (omega (arith, more)) in
-    let least : n / size ≤ m / size → n / size * size ≤ m / size * size =
-    mul-le-mul_right size in
-    grind (arith, add-mul (m / size) 1 size, next, least, whole_m, whole_n)
-
 length-filter_map : {X Y : Type 0} (f : X → Option Y) (xs : List X)
     → length (filter_map f xs) ≤ length xs
 length-filter_map f [] = omega arith

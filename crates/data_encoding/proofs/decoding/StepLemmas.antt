@@ -1,15 +1,15 @@
 -- A decoding under way: what a run, a group and the end do to it.
 use Rattle.std.proofs.Common.{◌≡◌, ℕ, ◌+◌, ◌-◌, ◌*◌, ◌/◌, ◌%◌, ◌<◌, ◌≤◌, Bool, true, false, not, nat_lt, ◌&&◌, ◌==◌, ◌⊎◌, List, [], ◌++◌, length, take, drop, Some, None, Ok, refl, sym, ap, ◌∙◌, subst, arith, length-take-le, ⊎_elim, map}
-use Rattle.std.proofs.Math.Nat.{mul-le-mul_left, mul-zero, zero-mod}
+use Rattle.std.proofs.Math.Nat.{mod_self, mul-le-mul_left}
 use Rattle.std.proofs.Math.Seq.{take-add}
-use Rattle.std.proofs.lemmas.Bool.{cases_lt, eqb-true}
+use Rattle.std.proofs.lemmas.Bool.{eqb-true}
 use Rattle.std.proofs.lemmas.Bool.Decides.{nat_tests}
 use Rattle.std.proofs.lemmas.List.{drop-drop, length-drop, take_rest, length-map}
 use Rattle.std.proofs.lemmas.Nat.{div-add-mod'}
 use Rattle.std.proofs.lemmas.Slice.{take-put_mid_below}
 use Rattle.std.specs.List.{list_any}
 use Rattle.std.proofs.Math.Bool.{and-false}
-use Rattle.data_encoding.proofs.decoding.WholeLengthLemmas.{most_bytes-few}
+use Rattle.data_encoding.proofs.decoding.WholeLengthLemmas.{most_bytes-few, whole_bytes}
 use Rattle.data_encoding.specs.declared.error.DecodeError.{DecodeError}
 use Rattle.data_encoding.specs.declared.error.DecodePartial.{DecodePartial}
 use Rattle.data_encoding.specs.declared.decode.group.GroupFault.{GroupFault}
@@ -27,7 +27,6 @@ use Rattle.data_encoding.proofs.lists.WriteLemmas.{length-rewritten, length-rewr
 use Rattle.data_encoding.proofs.decoding.GatherLemmas.{bytes-next, gathered-few, gathered-some, is-next, next_bytes, none-next, position-next}
 use Rattle.data_encoding.proofs.decoding.GreatestLengthLemmas.{greatest-least, greatest-valid}
 use Rattle.data_encoding.proofs.decoding.LastRunLemmas.{last-none, last-sound, last-unsound}
-use Rattle.data_encoding.proofs.decoding.RoomLemmas.{multiples}
 use Rattle.data_encoding.proofs.decoding.ProgressLemmas.{IsNext, after-group, after-run, at-end, room-group, room-run, same-output}
 use Rattle.data_encoding.proofs.decoding.StopLemmas.{IsAtFault, at-fault_front}
 use Rattle.data_encoding.proofs.grammar.KeptLemmas.{nothing-left}
@@ -148,16 +147,16 @@ module _ {base : Base} {text : List ℕ} {w bytes symbols read written : ℕ} {e
 
   -- a group of that many bytes has room, where it may have bytes
   room-group_of : (count : ℕ) → count ≤ length text - read
-      → (is_padded base ≡ true → count ≡ group_symbols base.width)
+      → (is_padded base ≡ true → count % group_symbols base.width ≡ 0)
       → base.width * count / 8 ≤ length output - written
   room-group_of count few whole = by (is_padded base) refl where
     by : (b : Bool) → is_padded base ≡ b → base.width * count / 8 ≤ length output - written
     by true padded =
-        let all = whole padded in
-        let bits : base.width * count ≡ 8 * group_bytes base.width =
-        ap (λ n. base.width * n) all ∙ group_bits base.width s.width in
-        let one : 1 * group_symbols base.width ≤ length text - read = omega (arith, all, few) in
-        omega (arith, bits, room-run base s.width text s.so_far 1 one)
+        let groups = count / group_symbols base.width in
+        let all : groups * group_symbols base.width ≡ count =
+        omega (arith, div-add-mod' count (group_symbols base.width), whole padded) in
+        let room = room-run base s.width text s.so_far groups (omega (arith, all, few)) in
+        rw (← all, whole_bytes base s.width groups) (omega (arith, room))
     by false unpadded =
         omega (arith, room-group base s.width text s.so_far count unpadded few)
 
@@ -171,26 +170,12 @@ module _ {base : Base} {text : List ℕ} {w bytes symbols read written : ℕ} {e
   -- it has room, where it is one group
   room-last : HasRoom base (drop read text) (length output - written)
   room-last few =
-      let rest = drop read text in
-      let front = valid_front base rest in
-      ⊎_elim
-      (λ (some : 0 < length front).
-      room-group_of (length front)
-      (omega (arith, front_len, greatest-least base s.width (length rest), length-drop read text))
-      (λ padded.
-      let exact : length front % group_symbols base.width ≡ 0 =
-      ap (λ n. n % group_symbols base.width) front_len
-      ∙ eqb-true (greatest_valid_length base (length rest) % group_symbols base.width) 0
-      (sym (is_valid_length-by base (greatest_valid_length base (length rest)) true padded)
-      ∙ greatest-valid base s.width (length rest)) in
-      let most = multiples (group_symbols base.width) 0 (length front)
-      (zero-mod (group_symbols base.width)) exact some in
-      omega (arith, most, few)))
-      (λ (none : length front ≤ 0).
-      let no_bits : base.width * length front ≡ 0 =
-      ap (λ n. base.width * n) (omega (arith, none)) ∙ mul-zero base.width in
-      omega (arith, no_bits))
-      (cases_lt 0 (length front))
+      let len = length (drop read text) in
+      room-group_of (length (valid_front base (drop read text)))
+      (omega (arith, front_len, greatest-least base s.width len, length-drop read text))
+      (λ padded. rw front_len (eqb-true (greatest_valid_length base len % _) 0
+      (sym (is_valid_length-by base (greatest_valid_length base len) true padded)
+      ∙ greatest-valid base s.width len)))
 
   module _ {group : List ℕ} {span : ℕ}
       (is : IsGathered base symbols (take (length text - read) (drop read text)) group span)
@@ -219,15 +204,9 @@ module _ {base : Base} {text : List ℕ} {w bytes symbols read written : ℕ} {e
       room-next_group whole =
           let few : length group ≤ length text - read =
           omega (arith, gathered-few found_here, found_here.within, length-drop read text) in
-          let room = room-group_of (length group) few (λ padded. whole padded ∙ s.symbols_is) in
-          let same = ap (λ n. n * length group) (sym s.w_is) in
-          omega (
-            arith,
-            room,
-            same,
-            ap length (take_rest output written),
-            length-drop written output,
-          )
+          let room = room-group_of (length group) few
+          (λ padded. rw (whole padded, s.symbols_is) (mod_self (group_symbols base.width))) in
+          rw (take_rest output written, ← s.w_is) (omega (arith, room, length-drop written output))
 
       -- A faulty group stops the decoding.
       module _ {fault : GroupFault} (has : HasFault base ended group fault) where
@@ -343,11 +322,8 @@ module _ {base : Base} {text : List ℕ} {w bytes symbols read written : ℕ} {o
         let whole : count * dec ≤ length text - read =
         omega (arith, div-add-mod' (length (drop start text)) dec, length-drop start text) in
         let fits : count * enc ≤ length (drop written output) =
-        omega (
-          arith,
-          room-run base s.width text s.so_far count whole,
-          length-drop written output,
-        ) in
+        omega (arith, room-run base s.width text s.so_far count whole, length-drop written output)
+        in
         rw (take_rest text start, take_rest output written, s.symbols_is, s.bytes_is) fits
 
     -- what a run does
@@ -364,13 +340,8 @@ module _ {base : Base} {text : List ℕ} {w bytes symbols read written : ℕ} {o
 
       room : count * group_bytes base.width ≤ length rest
       room =
-          omega (
-            arith,
-            room-run base s.width text s.so_far count (omega (arith, inside)),
-            rest_len,
-            ap length (take_rest output written),
-            length-drop written output,
-          )
+          let most = room-run base s.width text s.so_far count (omega (arith, inside)) in
+          rw (rest_len, take_rest output written) (omega (arith, most, length-drop written output))
 
       pub after_run : 0 < count
           → IsUnderWay base text w bytes symbols (read + skip + count * symbols)

@@ -87,9 +87,8 @@ last_most width few value h =
     let whole : few + (width - few) ≡ width = omega arith in
     let low = low_bits few value in
     let high = low_bits (width - few) (value / 2 ^ few) in
-    let parts : reverse (low_bits width value) ≡ reverse high ++ reverse low =
-    ap (λ n. reverse (low_bits n value)) (sym whole)
-    ∙ ap reverse (low_bits-add few (width - few) value) ∙ reverse-append low high in
+    let parts = rw (whole, reverse-append low high) at
+    (ap reverse (low_bits-add few (width - few) value)) in
     let len : length (reverse high) ≡ width - few =
     length-reverse high ∙ length-low_bits (width - few) (value / 2 ^ few) in
     rw (parts, drop_at (reverse high) (reverse low) (width - few) len, some_bit-reverse low)
@@ -102,14 +101,12 @@ last_least width few value h below =
     let whole : width - few + few ≡ width = omega arith in
     let low = low_bits (width - few) value in
     let above = value / 2 ^ (width - few) in
-    let parts : low_bits width value ≡ low ++ low_bits few above =
-    ap (λ n. low_bits n value) (sym whole) ∙ low_bits-add (width - few) few value in
-    let power : 2 ^ width ≡ 2 ^ few * 2 ^ (width - few) =
-    ap (λ n. 2 ^ n) (sym whole) ∙ pow-add 2 (width - few) few
-    ∙ mul_comm (2 ^ (width - few)) (2 ^ few) in
+    let parts = rw whole at (low_bits-add (width - few) few value) in
+    let power = rw (whole, mul_comm (2 ^ (width - few)) (2 ^ few)) at (pow-add 2 (width - few) few)
+    in
     let small : above < 2 ^ few =
     (div-lt_iff_lt-mul {k = 2 ^ (width - few)} {x = value} {y = 2 ^ few}
-    (pow_pos (width - few))).1 (subst (λ n. value < n) power below) in
+    (pow_pos (width - few))).1 (rw power at below) in
     let len = length-low_bits (width - few) value in
     let last = low_bits few above in
     rw (parts, drop_at low last (width - few) len, some_bit-number last)
@@ -164,11 +161,9 @@ module _ (base : Base) (width : ℕ) (values group : List ℕ) (width_is : base.
       let front = take (length group - 1) group in
       let split = split_last group last ends.is_last in
       let found = values_in-table base values group holds ends.are_bytes ends.low
-      ∙ ap (map (slice_index values)) split
-      ∙ map-append (slice_index values) front (last ∷ []) in
+      ∙ ap (map (slice_index values)) split ∙ map-append (slice_index values) front (last ∷ []) in
       let count : length group ≡ length (map (slice_index values) front) + 1 =
-      ap length split ∙ length-append front (last ∷ [])
-      ∙ ap (λ n. n + 1) (sym (length-map front (slice_index values))) in
+      ap length split ∙ rw (length-append, length-map) in
       (λ i. left_over (order_is i) (width_is i) (found i))
       ∙ left_over-last order width (width * length group % 8) (map (slice_index values) front)
       (slice_index values last) (ap (λ n. width * n % 8) count) (omega (arith, few_bits))
