@@ -106,11 +106,10 @@ pub gathered : {base : Base} {size : ℕ} {part : List ℕ} {index count span : 
     → (count ≡ size) ⊎ (index ≡ length part) → IsGathered base size part (take count room) span
 gathered {base} {size} {part} {index} {count} {room} so_far within few last =
     let len : length (take count room) ≡ count =
-    sym (length-by_bytes (kept base (take index part)) (take count room) so_far.bytes_are)
-    ∙ so_far.count_is in
+    rw (length-by_bytes (kept base (take index part)) (take count room) so_far.bytes_are) at
+    so_far.count_is in
     let all : index ≡ length part → length (kept base part) ≡ count =
-    λ end. ap (λ l. length (kept base l)) (sym (take_all index part (omega (arith, end))))
-    ∙ so_far.count_is in
+    λ end. rw (take_all index part (omega (arith, end))) at so_far.count_is in
     record {
       within = omega (arith, so_far.before, within);
       bytes_are = ap bytes_in so_far.same ∙ so_far.bytes_are;
@@ -125,12 +124,9 @@ pub gathered-plain : (base : Base) → ignores_some base ≡ false → (size : �
 gathered-plain base none size part =
     let bytes = take size part in
     let len = length-take size part in
-    let all : take (length bytes) part ≡ bytes = rw len (take_min size part) in
     record {
       within = omega (arith, len);
-      bytes_are =
-          ap bytes_in (filter-plain base none (positioned (take (length bytes) part)))
-          ∙ bytes-positioned_from 0 (take (length bytes) part) ∙ all;
+      bytes_are = rw (filter-plain base none, bytes-positioned_from, len) (take_min size part);
       ends = λ _. never_ignored base none (get_or part (length bytes - 1) 0);
       few = omega (arith, len);
       last = grind (arith, len, length-kept_plain base part none);
@@ -156,8 +152,7 @@ module _ {base : Base} {size : ℕ} {part group : List ℕ} {span : ℕ}
 
   pub gathered-few : length group ≤ span
   gathered-few =
-      let most = length-kept base (take span part) in
-      omega (arith, length-gathered, most, length-take-le span part is.within)
+      rw (length-gathered, length-take-le span part is.within) at (length-kept base (take span part))
 
   pub gathered-some : (index : ℕ) → index < length group → index < length (kept base part)
   gathered-some index inside =
@@ -195,16 +190,13 @@ module _ (base : Base) (width : IsWidth base.width) (text : List ℕ) (read : �
       let front = kept base part in
       let far : index < length front = omega (arith, length-gathered is, inside) in
       let start : read + 0 ≡ read = omega arith in
-      let there : nexts ≡ moved read front =
-      ap (λ n. kept_in base n part) (sym start) ∙ kept_in-moved base width read 0 part in
+      let there : nexts ≡ moved read front = rw start at (kept_in-moved base width read 0 part) in
       let moves : Positioned → Positioned =
       λ k. record { position = read + k.position; byte = k.byte } in
-      ap (λ ks. position_of ks index) there
-      ∙ ap (λ (k : Positioned). k.position) (get_or-map moves front index none none far
+      rw (there, kept-split base span (drop read text) is.within)
+      (ap (λ (k : Positioned). k.position) (get_or-map moves front index none none far
       ∙ ap moves (sym (get_or_append_left front (kept_from base span (drop read text)) none index
-      far)))
-      ∙ ap (λ ks. read + position_of ks index)
-      (sym (kept-split base span (drop read text) is.within))
+      far))))
 
   -- nothing is left where none was found
   pub none-next : length group ≡ 0 → kept_from base read text ≡ []

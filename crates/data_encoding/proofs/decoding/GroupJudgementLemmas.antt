@@ -61,8 +61,7 @@ pub HasFault-own : {base : Base} {group : List ℕ} {fault : GroupFault}
     → HasFault base false group fault
 HasFault-own {base} inside is = record {
   inside = inside;
-  is_fault = λ placed same.
-      ap (λ l. located placed (group_fault base l)) same ∙ ap (located placed) is;
+  is_fault = λ placed same. rw (same, is);
 }
 
 located-some : (placed : List Positioned) (o : Option GroupFault) (error : DecodeError)
@@ -74,10 +73,8 @@ located-some placed (Some fault) error h = refl
 pub HasFault-some : {base : Base} {group : List ℕ} {fault : GroupFault}
     → HasFault base false group fault → is_some (group_fault base group) ≡ true
 HasFault-some {base} {group} has =
-    let placed = positioned_from 0 group in
-    let same = bytes-positioned_from 0 group in
-    subst (λ l. is_some (group_fault base l) ≡ true) same
-    (located-some placed (group_fault base (bytes_in placed)) _ (has.is_fault placed same))
+    let fault = has.is_fault (positioned_from 0 group) (bytes-positioned_from 0 group) in
+    rw bytes-positioned_from at (located-some (positioned_from 0 group) _ _ fault)
 
 module _ (base : Base) (group : List ℕ) where
   abbrev meant : List Character
@@ -87,15 +84,12 @@ module _ (base : Base) (group : List ℕ) where
   length_is = length-map group (meaning base)
 
   module _ (unpadded : is_padded base ≡ false) where
-    plain-group : group_fault base group ≡ plain_fault base meant
-    plain-group = rw unpadded
-
     -- without padding a number of symbols may be invalid
     fault-invalid : (width : ℕ) → base.width ≡ width → is_valid_count width (length group) ≡ false
         → group_fault base group
         ≡ faulty_at LengthFault (length group - width * length group % 8 / width)
     fault-invalid width width_is known =
-        plain-group ∙ rw (length_is, width_is, known)
+        rw (unpadded, length_is, width_is, known)
 
     pub length-invalid : 0 < length group → (width : ℕ) → base.width ≡ width → 0 < width
         → width ≤ width * length group % 8
@@ -117,14 +111,11 @@ module _ (base : Base) (group : List ℕ) where
       count_is = rw unpadded;
       within = omega arith;
       valid = valid;
-      fault_is = rw (take_all (length group) group (omega arith)) (plain-group
-          ∙ plain_fault-valid base meant (ap (is_valid_count base.width) length_is ∙ valid));
+      fault_is = rw (unpadded, take_all (length group) group (omega arith))
+          (plain_fault-valid base meant (rw length_is valid));
     }
 
   module _ (padded : is_padded base ≡ true) where
-    padded-group : group_fault base group ≡ padded_fault_at base meant (count_before_padding meant)
-    padded-group = rw padded
-
     -- a padded group is whole
     fault-short : length group < group_symbols base.width
         → group_fault base group ≡ faulty_at LengthFault 0
@@ -146,7 +137,7 @@ module _ (base : Base) (group : List ℕ) where
           ≡ cond (count == 0 || not (is_valid_count base.width count))
           (faulty_at PaddingFault count) (symbols_fault base (take count meant))
       whole-group =
-          padded-group ∙ ap (padded_fault_at base meant) (sym count_is) ∙ rw full
+          rw (padded, ← count_is, full)
 
       pub padding-invalid : IsWidth base.width → 0 < length group → count ≤ length group
           → (count == 0 || not (is_valid_count base.width count)) ≡ true
@@ -210,8 +201,7 @@ module _ (base : Base) (values : List ℕ) (holds : HoldsValues base values) (gr
       → HasFault base false group (record { index = index; kind = SymbolFault })
   symbol-fault index inside before there =
       HasFault-own (omega (arith, inside, few, has.within))
-      (has.fault_is ∙ ap (λ o. fault_at_first o (trailing_fault base judged))
-      (no_symbol-some base values holds symbols index (record {
+      (has.fault_is ∙ rw (no_symbol-some base values holds symbols index (record {
         are_bytes = part_bytes group are_bytes count;
         before = before;
         inside = omega (arith, inside);
@@ -230,7 +220,7 @@ module _ (base : Base) (values : List ℕ) (holds : HoldsValues base values) (gr
         })
 
     fault-symbols : group_fault base group ≡ trailing_fault base judged
-    fault-symbols = has.fault_is ∙ ap (λ o. fault_at_first o (trailing_fault base judged)) no_symbol
+    fault-symbols = has.fault_is ∙ rw no_symbol
 
     -- or else the bits that are left over
     pub trailing-fault : base.checks_trailing_bits ≡ true
@@ -260,9 +250,8 @@ module _ (base : Base) (values : List ℕ) (holds : HoldsValues base values) (gr
     has_padding : list_any is_padding all ≡ nat_lt count (length group)
     has_padding =
         let padding = length (drop count all) in
-        let none : list_any is_padding judged ≡ false =
-        ap (list_any is_padding) (are_symbols judged no_symbol)
-        ∙ list_any-none is_padding _ (symbols_alone (filter_map value_of judged)) in
+        let none : list_any is_padding judged ≡ false = rw (are_symbols judged no_symbol)
+        (list_any-none is_padding _ (symbols_alone (filter_map value_of judged))) in
         let some : nat_lt 0 (length group - count) ≡ nat_lt count (length group) =
         grind (arith, nat_tests) in
         ap (list_any is_padding) behind
@@ -278,7 +267,6 @@ module _ (base : Base) (values : List ℕ) (holds : HoldsValues base values) (gr
       within = has.within;
       sound = fault-symbols ∙ rw quiet;
       final = has_padding;
-      bytes = take_at new rest (base.width * count / 8) len ∙ bytes
-          ∙ sym (ap (symbol_bytes base) behind
-          ∙ bytes_before_padding base judged (length (drop count all)));
+      bytes = rw (take_at new rest (base.width * count / 8) len, bytes, behind)
+          (sym (bytes_before_padding base judged (length (drop count all))));
     }

@@ -1,7 +1,7 @@
 -- Where a decoding stops at a last group that is too short.
-use Rattle.std.proofs.Common.{◌≡◌, ℕ, ◌+◌, ◌-◌, ◌<◌, ◌≤◌, Bool, true, false, not, cond, List, [], ◌∷◌, ◌++◌, length, take, drop, Some, None, is_some, refl, sym, ap, ◌∙◌, subst, arith, length-append, length-take-le, ⊎_elim, map}
+use Rattle.std.proofs.Common.{◌≡◌, ℕ, ◌+◌, ◌-◌, ◌<◌, ◌≤◌, ◌⊎◌, Bool, true, false, not, cond, List, [], ◌∷◌, ◌++◌, length, take, drop, Some, None, is_some, refl, sym, ap, ◌∙◌, subst, arith, length-append, length-take-le, ⊎_elim, inl, inr, map}
 use Rattle.std.proofs.lemmas.Bool.{cases_lt, false_from_ne_true, false≢true}
-use Rattle.std.proofs.lemmas.List.{append-nil, length-drop, take-take, take_all, take_at, length-map}
+use Rattle.std.proofs.lemmas.List.{append-nil, length-drop, length-take, take-take, take_all, take_at, length-map}
 use Rattle.std.proofs.lemmas.List.Concat.{flat_map-append}
 use Rattle.std.specs.Prelude.{flat_map}
 use Rattle.data_encoding.proofs.decoding.GroupJudgementLemmas.{fault-length}
@@ -47,10 +47,7 @@ module _ {base : Base} {text : List ℕ} {read written : ℕ} {output : List ℕ
   not_ended = by at.ended refl at.faulty where
     by : (b : Bool) → at.ended ≡ b → fault_after b base at.group ≡ Some error
         → (at.ended ≡ false) × (fault_after false base at.group ≡ Some error)
-    by true is h =
-        let other =
-        kind_of (record { position = position_of at.group 0; kind = PaddingFault }) error h refl in
-        absurd (false≢true (sym other ∙ kind))
+    by true is h = absurd (false≢true (sym (kind_of _ error h refl) ∙ kind))
     by false is h = (is, h)
 
   -- its length is not valid, and its fault is after the greatest valid number of its bytes
@@ -232,27 +229,18 @@ module _ {base : Base} {text : List ℕ} {read written : ℕ} {output : List ℕ
   last-unsound some bad new fits same =
       stops at new read written (read_by false unsound) (bounds at).0 (front_sound read refl) fits
       (front_bytes read refl ∙ sym same) where
+        by : (size < len) ⊎ (len ≤ size) → group_fault base (take size front) ≡ None → ⊥
+        by (inl long) first =
+            let most = greatest-least base at.width (length (drop read text)) in
+            let whole = rw (take-take size len (drop read text) (omega (arith, long))) at first in
+            absurd (omega (arith, few_members,
+            run_few size (omega (arith, long, most)) (omega arith) whole))
+        by (inr few) first =
+            let front_len = length-take len (drop read text) in
+            let none = rw (take_all size front (omega (arith, front_len, few))) at first in
+            false≢true (sym (ap is_some none) ∙ bad few)
+
         unsound : is_sound_run base (drop read text) ≡ false
         unsound =
-            false_from_ne_true (is_sound_run base (drop read text)) (λ is.
-            let first : group_fault base (take size front) ≡ None =
-            sound_run-first base at.width (drop read text) some is in
-            let most : len ≤ length (drop read text) =
-            greatest-least base at.width (length (drop read text)) in
-            ⊎_elim {C = ⊥}
-            (λ (long : size < len).
-            let whole : group_fault base (take size (drop read text)) ≡ None =
-            ap (group_fault base)
-            (sym (take-take size len (drop read text) (omega (arith, long)))) ∙ first in
-            absurd (omega (
-              arith,
-              run_few size (omega (arith, long, most)) (omega arith) whole,
-              few_members,
-            )))
-            (λ (few : len ≤ size).
-            let front_len : length front ≤ size =
-            omega (arith, length-take-le len (drop read text) most, few) in
-            let none : group_fault base front ≡ None =
-            ap (group_fault base) (sym (take_all size front front_len)) ∙ first in
-            false≢true (sym (ap is_some none) ∙ bad few))
-            (cases_lt size len))
+            false_from_ne_true (is_sound_run base (drop read text))
+            (λ is. by (cases_lt size len) (sound_run-first base at.width (drop read text) some is))

@@ -24,9 +24,7 @@ use Rattle.data_encoding.proofs.lists.RunLemmas.{runs-short}
 invalid_from : (ignores valid : Bool) (fault error : DecodeError)
     → cond (not ignores && not valid) (Some fault) None ≡ Some error
     → (valid ≡ false) × (Some fault ≡ Some error)
-invalid_from true valid fault error h = cc
-invalid_from false true fault error h = cc
-invalid_from false false fault error h = (refl, h)
+invalid_from ignores valid fault error h = (grind arith, grind arith)
 
 module _ (base : Base) (width : IsWidth base.width) (group : List Positioned)
     (plain : AllByRecursion (λ k. is_ignored (meaning base k.byte) ≡ false) group)

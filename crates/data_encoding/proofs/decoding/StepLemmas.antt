@@ -1,5 +1,5 @@
 -- A decoding under way: what a run, a group and the end do to it.
-use Rattle.std.proofs.Common.{◌≡◌, ℕ, ◌+◌, ◌-◌, ◌*◌, ◌/◌, ◌%◌, ◌<◌, ◌≤◌, Bool, true, false, not, nat_lt, ◌&&◌, ◌==◌, ◌⊎◌, List, [], ◌++◌, length, take, drop, Some, None, Ok, refl, sym, ap, ◌∙◌, subst, arith, length-take-le, ⊎_elim, map}
+use Rattle.std.proofs.Common.{◌≡◌, ℕ, ◌+◌, ◌-◌, ◌*◌, ◌/◌, ◌%◌, ◌<◌, ◌≤◌, Bool, true, false, not, nat_lt, ◌&&◌, ◌==◌, ◌⊎◌, List, [], ◌++◌, length, take, drop, Some, None, Ok, refl, sym, ap, ◌∙◌, subst, arith, length-take-le, ⊎_elim, inl, inr, map}
 use Rattle.std.proofs.Math.Nat.{mod_self, mul-le-mul_left}
 use Rattle.std.proofs.Math.Seq.{take-add}
 use Rattle.std.proofs.lemmas.Bool.{eqb-true}
@@ -71,20 +71,14 @@ same-partial partial read written error h k l =
 pub final-not : {own base : Base} (count len : ℕ) → own ≡ base
     → (own.concatenates ≡ true) ⊎ (len ≤ count)
     → (not base.concatenates && nat_lt count len) ≡ false
-final-not {base} count len same =
-    ⊎_elim
-    (λ joins. ap (λ v. not v && nat_lt count len)
-    (ap (λ (b : Base). b.concatenates) (sym same) ∙ joins))
-    (λ few.
-    let all : nat_lt count len ≡ false = grind (arith, nat_tests, few) in
-    ap (λ v. not base.concatenates && v) all ∙ and-false (not base.concatenates))
+final-not count len same how =
+    let joins = ap (λ (b : Base). b.concatenates) same in grind (arith, nat_tests, joins, how)
 
 -- and otherwise it is
 pub final-is : {own base : Base} (count len : ℕ) → own ≡ base → own.concatenates ≡ false
     → count < len → (not base.concatenates && nat_lt count len) ≡ true
 final-is count len same apart padded =
-    let short : nat_lt count len ≡ true = grind (arith, nat_tests, padded) in
-    λ i. not ((ap (λ (b : Base). b.concatenates) (sym same) ∙ apart) i) && short i
+    let joins = ap (λ (b : Base). b.concatenates) same in grind (arith, nat_tests, joins)
 
 module _ {base : Base} {text : List ℕ} {w bytes symbols read written : ℕ} {ended : Bool}
     {output : List ℕ} (s : IsUnderWay base text w bytes symbols read written ended output) where
@@ -103,7 +97,7 @@ module _ {base : Base} {text : List ℕ} {w bytes symbols read written : ℕ} {e
   pub decoded-all : length text ≤ read → IsDecoded base text written output
   decoded-all past =
       let all : length text ≡ read = omega (arith, past, s.so_far.within) in
-      decoded (subst (λ n. kept_from base n text ≡ []) all (nothing-left base text))
+      decoded (rw (← all) (nothing-left base text))
 
   pub written-few : written ≤ length text
   written-few = omega (arith, s.so_far.fits, s.size_is, most_bytes-few base s.width (length text))
@@ -225,10 +219,8 @@ module _ {base : Base} {text : List ℕ} {w bytes symbols read written : ℕ} {e
           stop = read + span;
           group = placed;
           next = next (omega (arith, has.inside));
-          faulty = has.is_fault placed same_bytes
-              ∙ ap (λ n. Some (record { position = n; kind = fault.kind }))
-              (position-next base s.width text read s.so_far.within found_here fault.index
-              has.inside);
+          faulty = rw (position-next base s.width text read s.so_far.within found_here fault.index
+              has.inside) at (has.is_fault placed same_bytes);
         }
 
         -- where no last run is found
@@ -250,21 +242,16 @@ module _ {base : Base} {text : List ℕ} {w bytes symbols read written : ℕ} {e
             → IsLastRun base (drop read text) more (drop written new)
             → StopsAt base text new
             (record { read = error.position; written = written + more; error = error })
-        stops-after new same kind more fits last =
-            ⊎_elim {C = StopsAt base text new
-            (record { read = error.position; written = written + more; error = error })}
-            (λ empty.
+        stops-after new same kind more fits (inl empty) =
             let none : written + more ≡ written = omega (arith, empty.1) in
-            rw none (last-none at kind (sym front_len ∙ empty.0) new (omega (arith, fits)) same))
-            (λ run.
+            rw none (last-none at kind (sym front_len ∙ empty.0) new (omega (arith, fits)) same)
+        stops-after new same kind more fits (inr run) =
             let count = base.width * run.2 / 8 in
             let bytes : written + more ≡ written + count = ap (λ n. written + n) run.4 in
-            subst (λ n. StopsAt base text new
-            (record { read = error.position; written = n; error = error })) (sym bytes)
+            rw bytes
             (last-sound at kind (omega (arith, front_len, run.0)) (omega (arith, front_len, run.1))
             run.3.sound count new (omega (arith, fits, bytes))
-            (take-add written count new ∙ (λ i. same i ++ run.3.bytes i))))
-            last
+            (take-add written count new ∙ (λ i. same i ++ run.3.bytes i)))
 
         -- whatever was written of it
         group-stops : (new : List ℕ) (partial : DecodePartial) → written ≤ length new
@@ -317,14 +304,11 @@ module _ {base : Base} {text : List ℕ} {w bytes symbols read written : ℕ} {o
         / symbols * bytes ≤ length (take (length output - written) (drop written output))
     room-next_run =
         let dec = group_symbols base.width in
-        let enc = group_bytes base.width in
         let count = length (drop start text) / dec in
         let whole : count * dec ≤ length text - read =
         omega (arith, div-add-mod' (length (drop start text)) dec, length-drop start text) in
-        let fits : count * enc ≤ length (drop written output) =
-        omega (arith, room-run base s.width text s.so_far count whole, length-drop written output)
-        in
-        rw (take_rest text start, take_rest output written, s.symbols_is, s.bytes_is) fits
+        rw (take_rest text start, take_rest output written, s.symbols_is, s.bytes_is)
+        (omega (arith, room-run base s.width text s.so_far count whole, length-drop written output))
 
     -- what a run does
     module _ {count : ℕ} {rest old : List ℕ}
@@ -362,7 +346,7 @@ module _ {base : Base} {text : List ℕ} {w bytes symbols read written : ℕ} {o
     decoded-behind past =
         let all : length text ≡ read + skip = omega (arith, past, start-within) in
         decoded s (nothing-behind base text read skip s.so_far.within front
-        (subst (λ n. kept_from base n text ≡ []) all (nothing-left base text)))
+        (rw (← all) (nothing-left base text)))
 
     -- what is gathered there is gathered from before them
     module _ {group : List ℕ} {span : ℕ}
@@ -412,18 +396,13 @@ module _ {base : Base} {text : List ℕ} {w bytes symbols read written : ℕ} {o
         let new = rewritten written output rest in
         let fits = length-rewritten written output rest s.so_far.fits in
         let same = same_bytes s is in
-        let judged = ap (λ b. not base.concatenates && b)
-        (ap (λ l. list_any is_padding (map (meaning base) l)) same ∙ has.final) ∙ is_final in
         further s (length-rewritten_same written output rest s.so_far.fits rest_len)
-        (rw (← place, ← judged) (after-group base s.width text (w * count / 8) new s.so_far
+        (rw (← place, ← is_final, ← has.final, ← same) (after-group base s.width text (w * count / 8) new s.so_far
         (next s is some)
-        (ap (λ l. located (placed s is) (group_fault base l)) same
-        ∙ ap (located (placed s is)) has.sound)
+        (rw (same, has.sound))
         (omega (arith, few, fits))
         (take-rewritten written output rest s.so_far.fits (w * count / 8)
-        ∙ ap (λ l. take written output ++ l)
-        (ap (λ n. take (n * count / 8) rest) (sym s.w_is) ∙ has.bytes
-        ∙ ap (λ l. symbol_bytes base (map (meaning base) l)) (sym same)))))
+        ∙ ap (λ l. take written output ++ l) (rw (← s.w_is, has.bytes, ← same)))))
 
 -- what is found is a group where it is not empty
 pub some-group : {base : Base} {size : ℕ} {part group : List ℕ} {span : ℕ} {empty : Bool}

@@ -68,8 +68,7 @@ other-group base group false is valid =
 kind-located : (group : List Positioned) (o : Option GroupFault) (error : DecodeError)
     → IsOther o → located group o ≡ Some error → is_length_fault error.kind ≡ false
 kind-located group None error other h = cc
-kind-located group (Some fault) error other h =
-    kind_of (record { position = position_of group fault.index; kind = fault.kind }) error h other
+kind-located group (Some fault) error other h = kind_of _ error h other
 
 -- So much of a text was decoded, and the next group is faulty.
 pub record IsAtFault (base : Base) (text : List ℕ) (read written : ℕ) (output : List ℕ)
@@ -202,8 +201,7 @@ module _ {base : Base} {text : List ℕ} {read written : ℕ} {output : List ℕ
   kind-valid valid = by at.ended at.faulty where
     by : (b : Bool) → fault_after b base at.group ≡ Some error
         → is_length_fault error.kind ≡ false
-    by true h =
-        kind_of (record { position = position_of at.group 0; kind = PaddingFault }) error h refl
+    by true h = kind_of _ error h refl
     by false h =
         kind-located at.group (group_fault base (bytes_in at.group)) error
         (other-group base (meanings_in base at.group) (is_padded base) refl

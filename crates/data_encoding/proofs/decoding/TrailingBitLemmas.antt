@@ -46,15 +46,14 @@ module _ (base : Base) (values : List ℕ) (holds : HoldsValues base values) whe
     pub no_symbol-none : StopsAfter group (length group)
         → position (λ m. not (is_symbol m)) (map (meaning base) group) ≡ None
     no_symbol-none s =
-        let past : nat_lt (length group) (length group) ≡ false = grind (arith, nat_tests) in
-        rw (symbols_len group (length group) s, length-map group (meaning base), past)
+        rw (symbols_len group (length group) s, length-map group (meaning base))
+        (grind (arith, nat_tests))
 
     -- or else the first that is none
     pub no_symbol-some : (index : ℕ) → StopsAfter group index → index < length group
         → position (λ m. not (is_symbol m)) (map (meaning base) group) ≡ Some index
     no_symbol-some index s h =
-        let here : nat_lt index (length group) ≡ true = grind (arith, nat_tests) in
-        rw (symbols_len group index s, length-map group (meaning base), here)
+        rw (symbols_len group index s, length-map group (meaning base)) (grind (arith, nat_tests))
 
 -- whether some bit is not zero
 abbrev some_bit : List ℕ → Bool
