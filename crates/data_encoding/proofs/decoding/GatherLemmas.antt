@@ -5,7 +5,7 @@ use Rattle.std.proofs.lemmas.List.{append-nil, get_or_append_left, get_or-map, l
 use Rattle.data_encoding.specs.Base.{Base, meaning, ignores_some, is_ignored, group_symbols, IsWidth}
 use Rattle.data_encoding.specs.Decoding.{IsGathered}
 use Rattle.data_encoding.specs.Fault.{position_of}
-use Rattle.data_encoding.specs.Grammar.{Positioned, positioned, kept, kept_in, kept_from, bytes_in}
+use Rattle.data_encoding.specs.Grammar.{Positioned, kept, kept_in, kept_from, bytes_in}
 use Rattle.data_encoding.specs.Partial.{position_after}
 use Rattle.data_encoding.proofs.digits.WidthLemmas.{group_symbols-pos}
 use Rattle.data_encoding.proofs.grammar.JoinFaultLemmas.{kept_in-moved, moved}

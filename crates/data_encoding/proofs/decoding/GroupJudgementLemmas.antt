@@ -1,5 +1,5 @@
 -- What a judgement of a group finds: its symbols, or its fault, or its bytes.
-use Rattle.std.proofs.Common.{◌≡◌, ℕ, zero, suc, ◌-◌, ◌*◌, ◌/◌, ◌%◌, ◌<◌, ◌≤◌, ◌==◌, ◌≢◌, nat_lt, Bool, true, false, not, cond, ◌&&◌, ◌||◌, List, [], ◌∷◌, ◌++◌, length, map, take, drop, replicate, slice_index, Option, None, Some, is_some, refl, sym, ap, ◌∙◌, subst, arith, length-take-le, take-append-drop}
+use Rattle.std.proofs.Common.{◌≡◌, ℕ, zero, suc, ◌-◌, ◌*◌, ◌/◌, ◌%◌, ◌<◌, ◌≤◌, ◌==◌, ◌≢◌, nat_lt, Bool, true, false, not, cond, ◌&&◌, ◌||◌, List, [], ◌∷◌, ◌++◌, length, map, take, drop, replicate, slice_index, Option, None, Some, is_some, refl, sym, ap, ◌∙◌, arith, length-take-le, take-append-drop}
 use Rattle.std.proofs.lemmas.Bool.Decides.{nat_tests}
 use Rattle.std.proofs.Math.Nat.{le-div_iff_mul-le, div-eq_of_lt, mul-le-mul_left, zero-mul}
 use Rattle.std.proofs.lemmas.Nat.{mul-le}
@@ -14,9 +14,9 @@ use Rattle.data_encoding.specs.declared.error.DecodeError.{DecodeError}
 use Rattle.data_encoding.specs.declared.error.DecodeKind.TheVariants.{Length as LengthFault, Symbol as SymbolFault, Trailing as TrailingFault, Padding as PaddingFault}
 use Rattle.data_encoding.specs.Base.{Base, IsWidth, meaning, is_padded, is_padding, is_symbol, group_symbols, value_of}
 use Rattle.data_encoding.specs.Decoding.{HasFault, HasSymbols, IsDecodedGroup}
-use Rattle.data_encoding.specs.Fault.{count_before_padding, fault_at_first, faulty_at, group_fault, located, padded_fault_at, plain_fault, symbol_bytes, symbols_fault, trailing_bits, trailing_fault}
-use Rattle.data_encoding.specs.Grammar.{Positioned, bytes_in, positioned_from}
-use Rattle.data_encoding.specs.Lengths.{is_valid_count, greatest_valid_count, greatest_valid_length, is_valid_length}
+use Rattle.data_encoding.specs.Fault.{count_before_padding, faulty_at, group_fault, located, symbol_bytes, symbols_fault, trailing_bits, trailing_fault}
+use Rattle.data_encoding.specs.Grammar.{Positioned, positioned_from}
+use Rattle.data_encoding.specs.Lengths.{is_valid_count, greatest_valid_length, is_valid_length}
 use Rattle.data_encoding.specs.Tables.{HoldsValues, IsGroup}
 use Rattle.data_encoding.proofs.digits.SizeLemmas.{IsSmall-group}
 use Rattle.data_encoding.proofs.grammar.PositionLemmas.{bytes-positioned_from}
@@ -66,8 +66,7 @@ HasFault-own {base} inside is = record {
 
 located-some : (placed : List Positioned) (o : Option GroupFault) (error : DecodeError)
     → located placed o ≡ Some error → is_some o ≡ true
-located-some placed None error h = cc
-located-some placed (Some fault) error h = refl
+located-some placed o error h = grind arith
 
 -- so its bytes have one
 pub HasFault-some : {base : Base} {group : List ℕ} {fault : GroupFault}

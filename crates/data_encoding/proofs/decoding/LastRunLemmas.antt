@@ -1,17 +1,15 @@
 -- Where a decoding stops at a last group that is too short.
-use Rattle.std.proofs.Common.{◌≡◌, ℕ, ◌+◌, ◌-◌, ◌<◌, ◌≤◌, ◌⊎◌, Bool, true, false, not, cond, List, [], ◌∷◌, ◌++◌, length, take, drop, Some, None, is_some, refl, sym, ap, ◌∙◌, subst, arith, length-append, length-take-le, ⊎_elim, inl, inr, map}
+use Rattle.std.proofs.Common.{◌≡◌, ℕ, ◌+◌, ◌-◌, ◌<◌, ◌≤◌, ◌⊎◌, Bool, true, false, not, cond, List, [], ◌∷◌, ◌++◌, length, take, drop, Some, None, is_some, refl, sym, ap, ◌∙◌, arith, length-append, length-take-le, ⊎_elim, inl, inr, map}
 use Rattle.std.proofs.lemmas.Bool.{cases_lt, false_from_ne_true, false≢true}
 use Rattle.std.proofs.lemmas.List.{append-nil, length-drop, length-take, take-take, take_all, take_at, length-map}
 use Rattle.std.proofs.lemmas.List.Concat.{flat_map-append}
-use Rattle.std.specs.Prelude.{flat_map}
 use Rattle.data_encoding.proofs.decoding.GroupJudgementLemmas.{fault-length}
 use Rattle.data_encoding.specs.declared.error.DecodeError.{DecodeError}
-use Rattle.data_encoding.specs.declared.error.DecodeKind.TheVariants.{Length as LengthFault, Padding as PaddingFault}
+use Rattle.data_encoding.specs.declared.error.DecodeKind.TheVariants.{Length as LengthFault}
 use Rattle.data_encoding.specs.Base.{Base, meaning, is_ignored, group_symbols}
-use Rattle.data_encoding.specs.Bits.{runs}
 use Rattle.data_encoding.specs.Grammar.{Positioned, positioned_from, kept, groups, is_final, kept_in, kept_from, bytes_in}
 use Rattle.data_encoding.specs.Lengths.{greatest_valid_length, length_fault, is_valid_length}
-use Rattle.data_encoding.specs.Fault.{bytes_of_group, fault_after, fault_at, fault_of, first_after, group_fault, located, or_else, position_of, sound_after, sound_bytes, symbol_bytes}
+use Rattle.data_encoding.specs.Fault.{fault_after, fault_at, fault_of, group_fault, position_of, sound_bytes, symbol_bytes}
 use Rattle.data_encoding.specs.Partial.{StopsAt, read_len, is_length_fault, is_sound_run}
 use Rattle.data_encoding.specs.Decoding.{AreSound}
 use Rattle.data_encoding.proofs.lists.ListLemmas.{filter-all, length-filter}

@@ -1,15 +1,13 @@
 -- The bytes of a group as a text of their own.
-use Rattle.std.proofs.Common.{◌≡◌, ℕ, ◌+◌, ◌<◌, ◌≤◌, Bool, true, false, not, cond, ◌&&◌, List, [], ◌∷◌, length, Option, Some, None, is_some, refl, sym, ap, ◌∙◌, arith, map}
+use Rattle.std.proofs.Common.{◌≡◌, ℕ, ◌+◌, ◌<◌, ◌≤◌, Bool, true, false, not, cond, ◌&&◌, List, [], ◌∷◌, length, Option, Some, None, refl, sym, ap, ◌∙◌, arith}
 use Rattle.std.proofs.lemmas.List.{append-nil, length-map}
-use Rattle.std.specs.Prelude.{flat_map}
 use Rattle.std.specs.List.{AllByRecursion}
 use Rattle.data_encoding.proofs.decoding.GroupJudgementLemmas.{fault-length}
 use Rattle.data_encoding.specs.declared.decode.group.GroupFault.{GroupFault}
 use Rattle.data_encoding.specs.declared.error.DecodeError.{DecodeError}
 use Rattle.data_encoding.specs.declared.error.DecodeKind.TheVariants.{Length as LengthFault}
 use Rattle.data_encoding.specs.Base.{Base, IsWidth, meaning, is_ignored, ignores_some, group_symbols}
-use Rattle.data_encoding.specs.Bits.{runs}
-use Rattle.data_encoding.specs.Fault.{bytes_of_group, fault_after, fault_at, fault_of, first_fault, group_fault, located, or_else, sound_after, sound_bytes, symbol_bytes}
+use Rattle.data_encoding.specs.Fault.{bytes_of_group, fault_after, fault_at, fault_of, group_fault, located, or_else, sound_bytes}
 use Rattle.data_encoding.specs.Grammar.{Positioned, groups, positioned, positioned_from, bytes_in}
 use Rattle.data_encoding.specs.Lengths.{greatest_valid_length, is_valid_length, length_fault}
 use Rattle.data_encoding.specs.Pieces.{fault_in}

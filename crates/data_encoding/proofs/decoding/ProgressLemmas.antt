@@ -9,9 +9,9 @@ use Rattle.std.proofs.lemmas.Nat.{div-add-mod'}
 use Rattle.std.specs.Prelude.{flat_map}
 use Rattle.data_encoding.specs.Base.{Base, meaning, is_symbol, is_padded, group_bytes, group_symbols, IsWidth}
 use Rattle.data_encoding.specs.Bits.{runs}
-use Rattle.data_encoding.specs.Grammar.{Positioned, positioned_from, kept, groups, is_final, Means, kept_in, kept_from, bytes_in, meanings_in}
+use Rattle.data_encoding.specs.Grammar.{Positioned, positioned_from, kept, groups, is_final, Means, kept_in, kept_from, meanings_in}
 use Rattle.data_encoding.specs.Lengths.{length_fault, most_bytes}
-use Rattle.data_encoding.specs.Fault.{fault_after, group_fault, bytes_of_group, fault_of, or_else, first_after, sound_after, sound_bytes}
+use Rattle.data_encoding.specs.Fault.{fault_after, bytes_of_group, fault_of, sound_bytes}
 use Rattle.data_encoding.specs.Partial.{position_after}
 use Rattle.data_encoding.specs.Decoding.{AreSound, HasDecodedTo, IsIgnoredFront, run_bytes}
 use Rattle.data_encoding.proofs.digits.WidthLemmas.{group_bits, group_symbols-pos}

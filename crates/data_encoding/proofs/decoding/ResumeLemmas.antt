@@ -1,5 +1,5 @@
 -- A decoding that is resumed where it stopped: what is read of a text with a fault means bytes.
-use Rattle.std.proofs.Common.{◌≡◌, ℕ, zero, suc, ◌+◌, ◌<◌, ◌≤◌, ◌⊎◌, Bool, true, false, List, [], ◌++◌, length, set, take, drop, get_or, replicate, Option, Some, None, is_some, refl, ap, ◌∙◌, arith, length-append, ⊎_elim, inl, inr, map, append_assoc, take-append-drop, length-take-le}
+use Rattle.std.proofs.Common.{◌≡◌, ℕ, zero, suc, ◌+◌, ◌<◌, ◌≤◌, ◌⊎◌, Bool, true, false, List, [], ◌++◌, length, set, take, drop, get_or, replicate, Option, Some, None, is_some, refl, ap, ◌∙◌, arith, length-append, inl, inr, map, append_assoc, take-append-drop, length-take-le}
 use Rattle.std.proofs.lemmas.Bool.{cases_lt}
 use Rattle.std.proofs.lemmas.List.{length-replicate, length-set, take_all}
 use Rattle.data_encoding.specs.declared.decode.group.GroupFault.{GroupFault}
@@ -32,27 +32,26 @@ module _ (base : Base) (size : ℕ) (part : List ℕ) where
       (count span : ℕ) (room : List ℕ) → HasGathered base part index count span room
       → count ≤ size → length room ≡ size → Gathers base size part
 
-  one_more : (index : ℕ) → index < length part → GathersFrom (index + 1) → GathersFrom index
-  one_more index inside others count span room so_far few len =
-      by (is_ignored (meaning base (get_or part index 0))) refl (cases_lt count size) where
-        by : (b : Bool) → is_ignored (meaning base (get_or part index 0)) ≡ b
-            → (count < size) ⊎ (size ≤ count) → Gathers base size part
-        by b is (inr full) =
-            (take count room, span, gathered so_far (omega (arith, inside)) few (inl (omega arith)))
-        by true is (inl more) =
-            others count span room (gather-ignored base part index inside count span room so_far is)
-            few len
-        by false is (inl more) =
-            others (count + 1) (index + 1) (set room count (get_or part index 0))
-            (gather-kept base part index inside count span room so_far is (omega arith))
-            (omega arith) (length-set room count (get_or part index 0) ∙ len)
-
   gather_from : (fuel index : ℕ) → index + fuel ≡ length part → GathersFrom index
   gather_from zero index at count span room so_far few len =
       (take count room, span, gathered so_far (omega arith) few (inr (omega arith)))
   gather_from (suc fuel) index at count span room so_far few len =
-      one_more index (omega arith) (gather_from fuel (index + 1) (omega arith)) count span room
-      so_far few len
+      by (is_ignored (meaning base (get_or part index 0))) refl (cases_lt count size)
+      (gather_from fuel (index + 1) (omega arith)) where
+        inside : index < length part
+        inside = omega arith
+
+        by : (b : Bool) → is_ignored (meaning base (get_or part index 0)) ≡ b
+            → (count < size) ⊎ (size ≤ count) → GathersFrom (index + 1) → Gathers base size part
+        by b is (inr full) others =
+            (take count room, span, gathered so_far (omega (arith, inside)) few (inl (omega arith)))
+        by true is (inl more) others =
+            others count span room (gather-ignored base part index inside count span room so_far is)
+            few len
+        by false is (inl more) others =
+            others (count + 1) (index + 1) (set room count (get_or part index 0))
+            (gather-kept base part index inside count span room so_far is (omega arith))
+            (omega arith) (length-set room count (get_or part index 0) ∙ len)
 
   gather_all : Gathers base size part
   gather_all =

@@ -4,7 +4,7 @@ use Rattle.std.proofs.lemmas.List.{take-map}
 use Rattle.data_encoding.specs.declared.error.DecodeError.{DecodeError}
 use Rattle.data_encoding.specs.Base.{Base, group_symbols, IsWidth}
 use Rattle.data_encoding.specs.Bits.{runs}
-use Rattle.data_encoding.specs.Grammar.{Positioned, positioned, is_final, bytes_in}
+use Rattle.data_encoding.specs.Grammar.{Positioned, positioned, bytes_in}
 use Rattle.data_encoding.specs.Lengths.{is_valid_length, greatest_valid_length, length_fault}
 use Rattle.data_encoding.specs.Fault.{group_fault, fault_of, first_after, fault_after}
 use Rattle.data_encoding.specs.Partial.{ignoring_nothing, is_sound_run}

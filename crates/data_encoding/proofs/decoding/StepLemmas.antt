@@ -1,5 +1,5 @@
 -- A decoding under way: what a run, a group and the end do to it.
-use Rattle.std.proofs.Common.{◌≡◌, ℕ, ◌+◌, ◌-◌, ◌*◌, ◌/◌, ◌%◌, ◌<◌, ◌≤◌, Bool, true, false, not, nat_lt, ◌&&◌, ◌==◌, ◌⊎◌, List, [], ◌++◌, length, take, drop, Some, None, Ok, refl, sym, ap, ◌∙◌, subst, arith, length-take-le, ⊎_elim, inl, inr, map}
+use Rattle.std.proofs.Common.{◌≡◌, ℕ, ◌+◌, ◌-◌, ◌*◌, ◌/◌, ◌%◌, ◌<◌, ◌≤◌, Bool, true, false, not, nat_lt, ◌&&◌, ◌==◌, ◌⊎◌, List, [], ◌++◌, length, take, drop, None, Ok, refl, sym, ap, ◌∙◌, subst, arith, length-take-le, ⊎_elim, inl, inr, map}
 use Rattle.std.proofs.Math.Nat.{mod_self, mul-le-mul_left}
 use Rattle.std.proofs.Math.Seq.{take-add}
 use Rattle.std.proofs.lemmas.Bool.{eqb-true}
@@ -7,20 +7,17 @@ use Rattle.std.proofs.lemmas.Bool.Decides.{nat_tests}
 use Rattle.std.proofs.lemmas.List.{drop-drop, length-drop, take_rest, length-map}
 use Rattle.std.proofs.lemmas.Nat.{div-add-mod'}
 use Rattle.std.proofs.lemmas.Slice.{take-put_mid_below}
-use Rattle.std.specs.List.{list_any}
-use Rattle.std.proofs.Math.Bool.{and-false}
 use Rattle.data_encoding.proofs.decoding.WholeLengthLemmas.{most_bytes-few, whole_bytes}
 use Rattle.data_encoding.specs.declared.error.DecodeError.{DecodeError}
 use Rattle.data_encoding.specs.declared.error.DecodePartial.{DecodePartial}
 use Rattle.data_encoding.specs.declared.decode.group.GroupFault.{GroupFault}
-use Rattle.data_encoding.specs.Base.{Base, IsWidth, group_bytes, group_symbols, is_padded, is_padding, meaning}
-use Rattle.data_encoding.specs.Decoding.{HasFault, HasNoLastRun, HasRoom, IsDecoded, IsDecodedGroup, IsGathered, IsLastRun, IsRun, IsStop, HasStopped, IsIgnoredFront, valid_front, HasDecodedTo}
-use Rattle.data_encoding.specs.Fault.{group_fault, located, position_of, symbol_bytes}
+use Rattle.data_encoding.specs.Base.{Base, IsWidth, group_bytes, group_symbols, is_padded, meaning}
+use Rattle.data_encoding.specs.Decoding.{HasFault, HasNoLastRun, HasRoom, IsDecoded, IsDecodedGroup, IsGathered, IsLastRun, IsRun, HasStopped, IsIgnoredFront, valid_front, HasDecodedTo}
+use Rattle.data_encoding.specs.Fault.{position_of}
 use Rattle.data_encoding.specs.Grammar.{Positioned, bytes_in, kept, kept_from}
 use Rattle.data_encoding.specs.Lengths.{decoded_len, greatest_valid_length, length_fault, most_bytes}
 use Rattle.data_encoding.specs.Tables.{IsGroup}
 use Rattle.data_encoding.specs.Partial.{StopsAt, is_length_fault}
-use Rattle.data_encoding.proofs.digits.WidthLemmas.{group_bits}
 use Rattle.data_encoding.proofs.grammar.LengthLemmas.{decoded_len-counted, is_valid_length-by}
 use Rattle.data_encoding.proofs.grammar.GroupLemmas.{GroupMeans-sound}
 use Rattle.data_encoding.proofs.lists.WriteLemmas.{length-rewritten, length-rewritten_same, rewritten, take-rewritten}
@@ -134,9 +131,7 @@ module _ {base : Base} {text : List ℕ} {w bytes symbols read written : ℕ} {e
       → {empty : Bool} → empty ≡ (length group == 0) → empty ≡ true
       → kept_from base start text ≡ []
   none-left start within {group} {span} is empty_is empty =
-      let found : IsGathered base (group_symbols base.width) (drop start text) group span =
-      rw (s.symbols_is, take_rest text start) at is in
-      none-next base s.width text start within found
+      none-next base s.width text start within (rw (s.symbols_is, take_rest text start) at is)
       (eqb-true (length group) 0 (sym empty_is ∙ empty))
 
   -- a group of that many bytes has room, where it may have bytes
@@ -254,23 +249,6 @@ module _ {base : Base} {text : List ℕ} {w bytes symbols read written : ℕ} {e
             (take-add written count new ∙ (λ i. same i ++ run.3.bytes i)))
 
         -- whatever was written of it
-        group-stops : (new : List ℕ) (partial : DecodePartial) → written ≤ length new
-            → take written new ≡ take written output
-            → IsStop base (drop read text) read written fault new partial
-            → StopsAt base text new partial
-        group-stops new partial fits same stop =
-            ⊎_elim {C = StopsAt base text new partial}
-            (λ how.
-            subst (StopsAt base text new)
-            (same-partial partial read written error how.0 how.1 stop.error_is)
-            (stops-here new fits same how.2))
-            (λ how.
-            subst (StopsAt base text new)
-            (same-partial partial error.position (written + how.2) error
-            (how.1 ∙ ap (λ (e : DecodeError). e.position) stop.error_is) how.3 stop.error_is)
-            (stops-after new same how.0 how.2 how.4 how.5))
-            stop.how
-
         pub group-stopped : (rest : List ℕ)
             → length rest ≡ length (take (length output - written) (drop written output))
             → HasStopped base text (rewritten written output rest)
@@ -284,9 +262,19 @@ module _ {base : Base} {text : List ℕ} {w bytes symbols read written : ℕ} {e
               room = λ _. subst (λ n. HasRoom base (drop read text) (n - written)) (sym same)
                   room-last;
               stops = λ new partial fits front stop.
-                  group-stops new partial fits
-                  (front ∙ take-put_mid_below written (length output - written) output rest written
-                  (omega arith) s.so_far.fits) stop;
+                  let kept = front ∙ take-put_mid_below written (length output - written) output
+                  rest written (omega arith) s.so_far.fits in
+                  ⊎_elim {C = StopsAt base text new partial}
+                  (λ how.
+                  subst (StopsAt base text new)
+                  (same-partial partial read written error how.0 how.1 stop.error_is)
+                  (stops-here new fits kept how.2))
+                  (λ how.
+                  subst (StopsAt base text new)
+                  (same-partial partial error.position (written + how.2) error
+                  (how.1 ∙ ap (λ (e : DecodeError). e.position) stop.error_is) how.3 stop.error_is)
+                  (stops-after new kept how.0 how.2 how.4 how.5))
+                  stop.how;
             }
 
 -- where no final group came before
@@ -317,7 +305,7 @@ module _ {base : Base} {text : List ℕ} {w bytes symbols read written : ℕ} {o
         (run : IsRun base (take (length text - (read + skip)) (drop (read + skip) text)) count old
         rest) where
       here : IsRun base (drop start text) count old rest
-      here = subst (λ l. IsRun base l count old rest) (take_rest text start) run
+      here = rw (take_rest text start) at run
 
       inside : count * group_symbols base.width ≤ length text - start
       inside = omega (arith, here.within, length-drop start text)
@@ -359,8 +347,7 @@ module _ {base : Base} {text : List ℕ} {w bytes symbols read written : ℕ} {o
       pub gathered-next : 0 < length group
           → IsGathered base symbols (take (length text - read) (drop read text)) group (skip + span)
       gathered-next some =
-          subst (λ l. IsGathered base symbols l group (skip + span)) (sym (take_rest text read))
-          (gathered-behind base symbols (drop read text) group skip span front found_behind
+          rw (take_rest text read) (gathered-behind base symbols (drop read text) group skip span front found_behind
           (omega (arith, some, gathered-few found_behind)))
 
       pub decoded-none : {empty : Bool} → empty ≡ (length group == 0) → empty ≡ true

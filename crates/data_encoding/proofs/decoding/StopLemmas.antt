@@ -1,8 +1,7 @@
 -- Where a decoding stops: at the first faulty group.
-use Rattle.std.proofs.Common.{◌≡◌, ℕ, ◌+◌, ◌-◌, ◌%◌, ◌<◌, ◌≤◌, ◌==◌, Bool, true, false, not, cond, ◌&&◌, ◌||◌, nat_lt, List, [], ◌∷◌, ◌++◌, length, take, drop, Option, Some, None, is_some, IsOkAnd, refl, sym, ap, ◌∙◌, subst, arith, length-take-le, ⊎_elim}
+use Rattle.std.proofs.Common.{◌≡◌, ℕ, ◌+◌, ◌-◌, ◌%◌, ◌<◌, ◌≤◌, ◌==◌, Bool, true, false, not, cond, ◌&&◌, ◌||◌, nat_lt, List, [], ◌∷◌, ◌++◌, length, take, Option, Some, None, IsOkAnd, refl, sym, ap, ◌∙◌, subst, arith, length-take-le, ⊎_elim}
 use Rattle.std.proofs.lemmas.List.{length-drop, append-nil}
 use Rattle.std.proofs.Math.Nat.{mod_self}
-use Rattle.std.specs.Prelude.{flat_map}
 use Rattle.std.specs.List.{list_any, position}
 use Rattle.data_encoding.proofs.grammar.JoinFaultLemmas.{valid_behind}
 use Rattle.data_encoding.specs.declared.encoding.Character.{Character}
@@ -12,10 +11,10 @@ use Rattle.data_encoding.specs.declared.error.DecodeKind.TheVariants.{Trailing a
 use Rattle.data_encoding.specs.declared.error.DecodePartial.{DecodePartial}
 use Rattle.data_encoding.specs.Base.{Base, is_symbol, is_padded, ignores_some, group_symbols, IsWidth}
 use Rattle.data_encoding.specs.Bits.{runs}
-use Rattle.data_encoding.specs.Grammar.{Positioned, positioned_from, kept, groups, is_final, Means, kept_from, bytes_in, meanings_in}
+use Rattle.data_encoding.specs.Grammar.{Positioned, kept, groups, kept_from, bytes_in, meanings_in}
 use Rattle.data_encoding.specs.Lengths.{is_valid_count, is_valid_length, length_fault, decoded_len}
-use Rattle.data_encoding.specs.Fault.{bytes_of_group, character_fault, count_before_padding, fault_after, fault_at_first, fault_of, faulty_at, first_after, group_fault, located, or_else, position_of, sound_after, sound_bytes, sound_groups, symbols_fault, trailing_bits}
-use Rattle.data_encoding.specs.Partial.{StopsAt, position_after, sound_len, read_len, is_length_fault, partial_at, partial_by, partial_of}
+use Rattle.data_encoding.specs.Fault.{character_fault, count_before_padding, fault_after, fault_at_first, fault_of, faulty_at, group_fault, located, position_of, sound_bytes, sound_groups, symbols_fault, trailing_bits}
+use Rattle.data_encoding.specs.Partial.{StopsAt, sound_len, read_len, is_length_fault, partial_at, partial_by, partial_of}
 use Rattle.data_encoding.specs.Decoding.{HasDecodedTo}
 use Rattle.data_encoding.proofs.digits.WidthLemmas.{group_symbols-pos}
 use Rattle.data_encoding.proofs.lists.RunLemmas.{runs-nil, runs-append, runs-join, runs-short, flat_map-runs}
@@ -256,9 +255,7 @@ most-partial base width text output partial stops =
     let bytes = take partial.written output in
     let read_len : length front ≡ partial.read =
     length-take-le partial.read text (omega (arith, stops.read_before, stops.within)) in
-    let here : Some (partial_at base text partial.error) ≡ Some partial =
-    ap (partial_by base text) (sym (fault-partial base text partial stops.is_partial))
-    ∙ stops.is_partial in
+    let here = rw (fault-partial base text partial stops.is_partial) at stops.is_partial in
     let same : partial_at base text partial.error ≡ partial = cc in
     let written_len : length bytes ≡ partial.written =
     rw (← sound_bytes-Means base width front bytes stops.means)

@@ -8,7 +8,6 @@ use Rattle.std.proofs.lemmas.Slice.{take-put_mid}
 use borrow.Rule.Slice.PartMut.{put_mid}
 use Rattle.data_encoding.specs.declared.encoding.Character.{Character}
 use Rattle.data_encoding.specs.Base.{Base, IsWidth, meaning, is_symbol, group_bytes, group_symbols}
-use Rattle.data_encoding.specs.Bits.{runs}
 use Rattle.data_encoding.specs.Decoding.{IsLongest, IsRun, run_bytes}
 use Rattle.data_encoding.specs.Fault.{symbol_bytes}
 use Rattle.data_encoding.specs.Tables.{HoldsValues, IsGroup}
