@@ -55,7 +55,8 @@ module _ (base : Base) (values : List ℕ) (width bytes symbols : ℕ) (order : 
       let front = take symbols xs in
       let rest = drop symbols xs in
       let enough : symbols ≤ length xs = omega (arith, long, more) in
-      let rest_len : length rest ≡ n * symbols = omega (arith, length-drop symbols xs, long, more) in
+      let rest_len : length rest ≡ n * symbols =
+      omega (arith, length-drop symbols xs, long, more) in
       let some : 0 < length (map (meaning base) xs) =
       omega (arith, length-map xs (meaning base), enough, whole.some_symbols) in
       let first = group-bytes front (length-take-le symbols xs enough)

@@ -152,7 +152,8 @@ module _ {base : Base} {size : ℕ} {part group : List ℕ} {span : ℕ}
 
   pub gathered-few : length group ≤ span
   gathered-few =
-      rw (length-gathered, length-take-le span part is.within) at (length-kept base (take span part))
+      rw (length-gathered, length-take-le span part is.within) at
+      (length-kept base (take span part))
 
   pub gathered-some : (index : ℕ) → index < length group → index < length (kept base part)
   gathered-some index inside =
@@ -236,7 +237,8 @@ module _ (base : Base) (width : IsWidth base.width) (text : List ℕ) (read : �
             let front = take n xs in
             let byte = get_or xs n 0 in
             let place : n ≡ suc n - 1 = omega arith in
-            let kept_last : is_ignored (meaning base byte) ≡ false = rw place (ends (omega arith)) in
+            let kept_last : is_ignored (meaning base byte) ≡ false =
+            rw place (ends (omega arith)) in
             let front_len : length front ≡ n = length-take-le n xs (omega (arith, few)) in
             let split = take-suc xs n 0 (omega (arith, few)) in
             rw (split, kept_in-append base read front (byte ∷ []), kept_last)

@@ -239,7 +239,8 @@ module _ (base : Base) (values : List ℕ) (holds : HoldsValues base values) (gr
       by true is =
           rw (has.count_is, is) (end-passes is_padding all)
       by false is =
-          rw (has.count_is, is, drop_all (length group) all (omega (arith, length_is base group))) tt
+          let few : length all ≤ length group = omega (arith, length_is base group) in
+          rw (has.count_is, is, drop_all (length group) all few) tt
 
     behind : all ≡ judged ++ replicate (length (drop count all)) PaddingCharacter
     behind =

@@ -120,9 +120,9 @@ module _ {base : Base} {text : List ℕ} {read written : ℕ} {output : List ℕ
       (positioned_from read run)
       (group-kept base at.width (positioned_from read run) (omega (arith, run_len, few)) here) in
       let same : read + count - read ≡ count = omega arith in
-      sym group_is
-      ∙ rw (kept_from-more base read text at.so_far.within (read + count) (omega arith)
-      (omega (arith, length-drop read text, many, at.so_far.within)), same, all)
+      let more = kept_from-more base read text at.so_far.within (read + count) (omega arith)
+      (omega (arith, length-drop read text, many, at.so_far.within)) in
+      sym group_is ∙ rw (more, same, all)
 
   -- and so no more than it has
   run_few : (count : ℕ) → count ≤ length (drop read text) → count ≤ size
@@ -194,7 +194,8 @@ module _ {base : Base} {text : List ℕ} {read written : ℕ} {output : List ℕ
     groups_more : groups base (take error.position text)
         ≡ groups base (take read text) ++ run ∷ []
     groups_more =
-        rw (kept_before, run_is) (runs-join size (kept base (take read text)) run (pos at) (whole at)
+        rw (kept_before, run_is)
+        (runs-join size (kept base (take read text)) run (pos at) (whole at)
         ∙ ap (λ l. groups base (take read text) ++ l)
         (runs-short size run (omega (arith, run_len, some)) (omega (arith, run_len, few))))
 
@@ -216,8 +217,8 @@ module _ {base : Base} {text : List ℕ} {read written : ℕ} {output : List ℕ
         (first-none base false (is_final base run) (groups base (take read text) ++ run ∷ [])
         all_sound))
         fits
-        (rw (groups_more, sound-all base false (is_final base run) (groups base (take read text)
-        ++ run ∷ []) all_sound, flat_map-append, ← at.so_far.writes, writes, append-nil, bytes_same))
+        (rw (groups_more, sound-all base false (is_final base run) _ all_sound)
+        (rw (flat_map-append, ← at.so_far.writes, writes, append-nil, bytes_same)))
 
   -- but none with a fault is
   pub last-unsound : 0 < len
@@ -231,8 +232,8 @@ module _ {base : Base} {text : List ℕ} {read written : ℕ} {output : List ℕ
         by (inl long) first =
             let most = greatest-least base at.width (length (drop read text)) in
             let whole = rw (take-take size len (drop read text) (omega (arith, long))) at first in
-            absurd (omega (arith, few_members,
-            run_few size (omega (arith, long, most)) (omega arith) whole))
+            let few = run_few size (omega (arith, long, most)) (omega arith) whole in
+            absurd (omega (arith, few_members, few))
         by (inr few) first =
             let front_len = length-take len (drop read text) in
             let none = rw (take_all size front (omega (arith, front_len, few))) at first in

@@ -61,11 +61,11 @@ module _ (base : Base) (width : IsWidth base.width) (group : List Positioned)
       → located alone (group_fault base bytes)
       ≡ Some (record { position = greatest_valid_length base (length bytes); kind = LengthFault })
   length-group invalid =
-      let start : 0 + greatest_valid_length base (length bytes)
-      ≡ greatest_valid_length base (length bytes) = omega arith in
+      let index = greatest_valid_length base (length bytes) in
+      let start : 0 + index ≡ index = omega arith in
       rw (fault-length base width bytes (omega (arith, some, count)) (omega (arith, few, count))
-      invalid, position_of-positioned_from 0 bytes (greatest_valid_length base (length bytes))
-      (greatest-less base width (length bytes) invalid), start)
+      invalid)
+      (rw (position_of-positioned_from 0 bytes index (greatest-less base width _ invalid), start))
 
   -- the text has the fault of the group
   fault_of-alone : fault_of base bytes ≡ located alone (group_fault base bytes)
@@ -98,5 +98,5 @@ module _ (base : Base) (width : IsWidth base.width) (group : List Positioned)
   pub bytes-alone : fault_of base bytes ≡ None → bytes_of_group base group ≡ sound_bytes base bytes
   bytes-alone none =
       let sound = rw fault_of-alone at none in
-      rw (one_group, bytes-positioned_from 0 bytes, sound, append-nil,
-      bytes-positioned_from 0 bytes)
+      let same = bytes-positioned_from 0 bytes in
+      rw (one_group, same, sound, append-nil, same)

@@ -91,11 +91,11 @@ module _ (base : Base) (width : IsWidth base.width) (text : List ℕ) where
     -- while something is left, whole groups were read
     pub whole-before : length (kept base (take read text)) % dec ≡ 0
     whole-before =
+        let left = simp length-append at (ap length
+        (kept_from-more base read text so_far.within stop next.after next.within)) in
         ⊎_elim {C = length (kept base (take read text)) % dec ≡ 0} (λ whole. whole)
         (λ all.
-        let left = kept_from-more base read text so_far.within stop next.after next.within in
-        absurd (omega (arith, next.some, ap length next.is_kept,
-        simp length-append at (ap length (sym left ∙ all.0)))))
+        absurd (omega (arith, next.some, left, ap length next.is_kept, ap length all.0)))
         so_far.whole
 
     parts : kept base (take stop text) ≡ kept base (take read text) ++ part
@@ -155,10 +155,10 @@ module _ (base : Base) (width : IsWidth base.width) (text : List ℕ) where
       let place : read + length (take skip (drop read text)) ≡ start =
       omega (arith, length-take-le skip (drop read text) front.within) in
       let parts : kept_in base read (between read (start + n) text) ≡ positioned_from start part =
-      rw (width_is, take-add skip n (drop read text), drop-drop skip read text,
-      kept_in-append base read (take skip (drop read text)) part,
-      nothing-kept_in base read (take skip (drop read text)) front.none, place)
-      (kept_in-symbols base start part all) in
+      rw (width_is, take-add skip n (drop read text), drop-drop skip read text)
+      (rw (kept_in-append base read (take skip (drop read text)) part)
+      (rw (nothing-kept_in base read (take skip (drop read text)) front.none, place)
+      (kept_in-symbols base start part all))) in
       let len : length (positioned_from start part) ≡ n =
       length-positioned_from start part ∙ part_len in
       advance so_far
@@ -216,7 +216,8 @@ module _ (base : Base) (width : IsWidth base.width) (text : List ℕ) where
     few_written : 8 * written ≤ base.width * length (kept base (take read text))
     few_written =
         let bits = length-bytes_of_groups base (groups base (take read text)) in
-        rw (← so_far.writes, written_len, flat_map-runs dec (kept base (take read text)) pos) at bits
+        rw (← so_far.writes, written_len, flat_map-runs dec (kept base (take read text)) pos) at
+        bits
 
     few_bits : 8 * written ≤ base.width * read
     few_bits = omega (arith, few_written, mul-le-mul_left base.width few_kept)

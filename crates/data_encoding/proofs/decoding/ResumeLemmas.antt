@@ -104,36 +104,36 @@ module _ (base : Base) (width : IsWidth base.width) (text : List ℕ)
     at_group stop group error next faulty =
         by (is_length_fault error.kind) refl (cases_lt 0 len) (cases_lt size len)
         (group_fault base front) refl where
-      here : IsAtFault base text read written output error
-      here = record {
-        width = width;
-        ended = ended;
-        so_far = so_far;
-        no_length_fault = no_length_fault;
-        stop = stop;
-        group = group;
-        next = next;
-        faulty = faulty;
-      }
+          here : IsAtFault base text read written output error
+          here = record {
+            width = width;
+            ended = ended;
+            so_far = so_far;
+            no_length_fault = no_length_fault;
+            stop = stop;
+            group = group;
+            next = next;
+            faulty = faulty;
+          }
 
-      by : (b : Bool) → is_length_fault error.kind ≡ b → (0 < len) ⊎ (len ≤ 0)
-          → (size < len) ⊎ (len ≤ size) → (o : Option GroupFault) → group_fault base front ≡ o
-          → Stops base text
-      by false kind some few o is = (_, _, at-fault here kind, λ _. sound-front here)
-      by true kind (inr none) few o is =
-          (_, _, last-none here kind (omega (arith, none)) output so_far.fits refl, λ other. cc)
-      by true kind (inl some) (inl long) o is =
-          let at = last-unsound here kind some (λ few. absurd (omega (arith, long, few))) output
-          so_far.fits refl in
-          (_, _, at, λ other. cc)
-      by true kind (inl some) (inr few) (Some bad) is =
-          let at = last-unsound here kind some (λ _. ap is_some is) output so_far.fits refl in
-          (_, _, at, λ other. cc)
-      by true kind (inl some) (inr few) None is =
-          let bytes = symbol_bytes base (map (meaning base) front) in
-          let at = last-sound here kind some few is (length bytes) (take written output ++ bytes)
-          (omega (arith, behind_len bytes)) (behind_all bytes) in
-          (_, _, at, λ other. cc)
+          by : (b : Bool) → is_length_fault error.kind ≡ b → (0 < len) ⊎ (len ≤ 0)
+              → (size < len) ⊎ (len ≤ size) → (o : Option GroupFault) → group_fault base front ≡ o
+              → Stops base text
+          by false kind some few o is = (_, _, at-fault here kind, λ _. sound-front here)
+          by true kind (inr none) few o is =
+              (_, _, last-none here kind (omega (arith, none)) output so_far.fits refl, λ other. cc)
+          by true kind (inl some) (inl long) o is =
+              let at = last-unsound here kind some (λ few. absurd (omega (arith, long, few))) output
+              so_far.fits refl in
+              (_, _, at, λ other. cc)
+          by true kind (inl some) (inr few) (Some bad) is =
+              let at = last-unsound here kind some (λ _. ap is_some is) output so_far.fits refl in
+              (_, _, at, λ other. cc)
+          by true kind (inl some) (inr few) None is =
+              let bytes = symbol_bytes base (map (meaning base) front) in
+              let at = last-sound here kind some few is (length bytes)
+              (take written output ++ bytes) (omega (arith, behind_len bytes)) (behind_all bytes) in
+              (_, _, at, λ other. cc)
 
     -- the next group is faulty, or is read, and others are left
     step : ((stop count : ℕ) (end : Bool) (new : List ℕ)

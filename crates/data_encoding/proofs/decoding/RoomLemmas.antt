@@ -24,9 +24,9 @@ length-bytes_of_group base group =
     let few : base.width * length values ≤ base.width * length group =
     mul-le-mul_left base.width
     (omega (arith, length-filter_map value_of meant, length-meanings base group)) in
-    rw length-map (omega (arith, length-runs 8 front, few,
-    length-take-le (length bits / 8 * 8) bits (omega arith),
-    length-bits_of_values base.order base.width values))
+    let all = length-bits_of_values base.order base.width values in
+    let most = length-take-le (length bits / 8 * 8) bits (omega arith) in
+    rw length-map (omega (arith, length-runs 8 front, few, all, most))
 
 -- as many bits at most as symbols have
 pub length-bytes_of_groups : (base : Base) (groups : List (List Positioned))

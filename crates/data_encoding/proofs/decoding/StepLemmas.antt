@@ -347,7 +347,8 @@ module _ {base : Base} {text : List ℕ} {w bytes symbols read written : ℕ} {o
       pub gathered-next : 0 < length group
           → IsGathered base symbols (take (length text - read) (drop read text)) group (skip + span)
       gathered-next some =
-          rw (take_rest text read) (gathered-behind base symbols (drop read text) group skip span front found_behind
+          rw (take_rest text read)
+          (gathered-behind base symbols (drop read text) group skip span front found_behind
           (omega (arith, some, gathered-few found_behind)))
 
       pub decoded-none : {empty : Bool} → empty ≡ (length group == 0) → empty ≡ true
@@ -384,8 +385,8 @@ module _ {base : Base} {text : List ℕ} {w bytes symbols read written : ℕ} {o
         let fits = length-rewritten written output rest s.so_far.fits in
         let same = same_bytes s is in
         further s (length-rewritten_same written output rest s.so_far.fits rest_len)
-        (rw (← place, ← is_final, ← has.final, ← same) (after-group base s.width text (w * count / 8) new s.so_far
-        (next s is some)
+        (rw (← place, ← is_final, ← has.final, ← same)
+        (after-group base s.width text (w * count / 8) new s.so_far (next s is some)
         (rw (same, has.sound))
         (omega (arith, few, fits))
         (take-rewritten written output rest s.so_far.fits (w * count / 8)

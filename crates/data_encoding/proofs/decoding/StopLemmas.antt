@@ -120,14 +120,14 @@ module _ {base : Base} {text : List ℕ} {read written : ℕ} {output : List ℕ
 
   pub fault_is : fault_of base text ≡ Some error
   fault_is =
-      rw (at.no_length_fault, groups_are, first-AreSound base false at.ended
-      (groups base (take read text)) (at.group ∷ others) at.so_far.sound, at.faulty)
+      rw (at.no_length_fault, groups_are)
+      (rw (first-AreSound base false at.ended _ (at.group ∷ others) at.so_far.sound, at.faulty))
 
   sound_are : sound_groups base (groups base text) ≡ groups base (take read text)
   sound_are =
-      rw (groups_are, sound-AreSound base false at.ended (groups base (take read text))
-      (at.group ∷ others) at.so_far.sound, at.faulty)
-      (append-nil (groups base (take read text)))
+      rw groups_are
+      (rw (sound-AreSound base false at.ended _ (at.group ∷ others) at.so_far.sound, at.faulty)
+      (append-nil (groups base (take read text))))
 
   pub sound-front : sound_bytes base text ≡ sound_bytes base (take read text)
   sound-front =

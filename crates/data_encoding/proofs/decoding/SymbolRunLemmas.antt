@@ -61,9 +61,10 @@ module _ (base : Base) (width : IsWidth base.width) where
       length-take-le (i * size) part (omega (arith, within, sum)) in
       let whole : length (map (meaning base) front) % size ≡ 0 =
       rw (length-map, front_len) (mul-mod_left i size) in
-      rw (sum, take-add (i * size) (m * size) part,
-      take_all (m * size) back (omega (arith, length-take (m * size) (drop (i * size) part))),
-      map-append, runs-join size (map (meaning base) front) _ pos whole, flat_map-append)
+      let few : length back ≤ m * size =
+      omega (arith, length-take (m * size) (drop (i * size) part)) in
+      rw (sum, take-add (i * size) (m * size) part, take_all (m * size) back few, map-append)
+      (rw (runs-join size (map (meaning base) front) _ pos whole, flat_map-append))
 
   one : (group old piece : List ℕ) → length group ≡ size
       → ((k : ℕ) → k < length group → is_symbol (meaning base (slice_index group k)) ≡ true)

@@ -135,8 +135,8 @@ module _ (base : Base) (width : IsWidth base.width) where
     whole_bytes-behind : whole_bytes base (text ++ piece)
         ≡ whole_bytes base text ++ whole_bytes base piece
     whole_bytes-behind =
-        rw (groups_are, bytes-behind base false false before others before_sound,
-        sound-moved base width len false (whole_groups base piece) few)
+        rw (groups_are, bytes-behind base false false before others before_sound)
+        (rw (sound-moved base width len false (whole_groups base piece) few))
 
     -- where it means data and is whole groups
     pub ReadsSound-whole : (bytes : List ℕ) → Means base piece bytes
@@ -179,8 +179,8 @@ module _ (base : Base) (width : IsWidth base.width) where
         let read = Means-partial base width piece partial
         (no-length_fault piece partial.error fault of_whole) is in (
           HasRead-behind (Some partial.error) [] false alone,
-          rw (whole_bytes-behind, ← sound_bytes-Means base width (take partial.read piece) bytes means,
-              ← read.2 of_whole.not_length, all, append-nil (whole_bytes base piece)),
+          rw (whole_bytes-behind, ← sound_bytes-Means base width _ bytes means)
+              (rw (← read.2 of_whole.not_length, all, append-nil (whole_bytes base piece))),
         )
 
 -- Where a text that means data is whole groups.
