@@ -85,8 +85,7 @@ module _ (base : Base) (ruled : IsRuled base) (text bytes : List ℕ) where
         → list_any (is_final base) (groups base text)
         ≡ (not b && not (length bytes % group_bytes base.width == 0))
     by true o joins is = none_final-joined base joins (groups base text)
-    by false None apart is =
-        absurd (false≢true (sym apart ∙ joins-unpadded base ruled is))
+    by false None apart is = absurd (false≢true (sym apart ∙ joins-unpadded base ruled is))
     by false (Some character) apart is =
         groups_end base ruled.is_width (ap is_some is) apart (groups base text) bytes means
 
@@ -97,11 +96,9 @@ module _ (base : Base) (ruled : IsRuled base) (text bytes : List ℕ) where
     by : (o : Option ℕ) → base.padding ≡ o
         → length (kept base text) % group_symbols base.width ≡ 0
     by None is =
-        let plain =
-        (unpadded-Means base ruled.is_width (ap is_some is) text bytes).0 means in
+        let plain = (unpadded-Means base ruled.is_width (ap is_some is) text bytes).0 means in
         rw (← length-meanings base (kept base text))
         ((has_sizes base.width ruled.is_width).whole _ _ _
         (PlainMeans-count base ruled.is_width (meanings_in base (kept base text)) bytes plain)
         plain.rest_is_short exact)
-    by (Some character) is =
-        whole-padded base ruled text [] bytes [] (ap is_some is) means
+    by (Some character) is = whole-padded base ruled text [] bytes [] (ap is_some is) means

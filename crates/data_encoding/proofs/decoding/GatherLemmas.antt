@@ -93,8 +93,7 @@ module _ (base : Base) (part : List ℕ) (index : ℕ) (inside : index < length 
 
   pub more-here : is_ignored (meaning base here) ≡ false
       → length (kept base (take (index + 1) part)) ≡ length (kept base (take index part)) + 1
-  more-here h =
-      ap length (next-kept h) ∙ length-append (kept base (take index part)) (found ∷ [])
+  more-here h = ap length (next-kept h) ∙ length-append (kept base (take index part)) (found ∷ [])
 
   pub none-here : is_ignored (meaning base here) ≡ true
       → length (kept base (take (index + 1) part)) ≡ length (kept base (take index part))

@@ -87,8 +87,7 @@ module _ (base : Base) (group : List ℕ) where
     fault-invalid : (width : ℕ) → base.width ≡ width → is_valid_count width (length group) ≡ false
         → group_fault base group
         ≡ faulty_at LengthFault (length group - width * length group % 8 / width)
-    fault-invalid width width_is known =
-        rw (unpadded, length_is, width_is, known)
+    fault-invalid width width_is known = rw (unpadded, length_is, width_is, known)
 
     pub length-invalid : 0 < length group → (width : ℕ) → base.width ≡ width → 0 < width
         → width ≤ width * length group % 8
@@ -135,8 +134,7 @@ module _ (base : Base) (group : List ℕ) where
       whole-group : group_fault base group
           ≡ cond (count == 0 || not (is_valid_count base.width count))
           (faulty_at PaddingFault count) (symbols_fault base (take count meant))
-      whole-group =
-          rw (padded, ← count_is, full)
+      whole-group = rw (padded, ← count_is, full)
 
       pub padding-invalid : IsWidth base.width → 0 < length group → count ≤ length group
           → (count == 0 || not (is_valid_count base.width count)) ≡ true
@@ -236,8 +234,7 @@ module _ (base : Base) (values : List ℕ) (holds : HoldsValues base values) (gr
     rest_pads : AllSo is_padding (drop count all)
     rest_pads = by (is_padded base) refl where
       by : (b : Bool) → is_padded base ≡ b → AllSo is_padding (drop count all)
-      by true is =
-          rw (has.count_is, is) (end-passes is_padding all)
+      by true is = rw (has.count_is, is) (end-passes is_padding all)
       by false is =
           let few : length all ≤ length group = omega (arith, length_is base group) in
           rw (has.count_is, is, drop_all (length group) all few) tt

@@ -38,6 +38,9 @@ module _ {base : Base} {text : List ℕ} {read written : ℕ} {output : List ℕ
   abbrev front : List ℕ
   front = take len (drop read text)
 
+  len_most : len ≤ length (drop read text)
+  len_most = greatest-least base at.width (length (drop read text))
+
   abbrev index : ℕ
   index = greatest_valid_length base (length at.group)
 
@@ -79,8 +82,7 @@ module _ {base : Base} {text : List ℕ} {read written : ℕ} {output : List ℕ
       let last : kept_from base at.stop text ≡ [] =
       ⊎_elim {C = kept_from base at.stop text ≡ []}
       (λ full. absurd (omega (arith, full, few_members))) (λ none. none) at.next.last in
-      rest_is at
-      ∙ ap (λ l. at.group ++ l) last ∙ append-nil at.group
+      rest_is at ∙ rw last (append-nil at.group)
 
   -- before its fault stand that many of its bytes
   kept_before : kept base (take error.position text)
@@ -135,8 +137,7 @@ module _ {base : Base} {text : List ℕ} {read written : ℕ} {output : List ℕ
 
   read_by : (sound : Bool) → is_sound_run base (drop read text) ≡ sound
       → read_len base text error ≡ cond sound error.position read
-  read_by sound is =
-      rw (kind, sound_len_is at, is)
+  read_by sound is = rw (kind, sound_len_is at, is)
 
   -- no group but those that were read before
   front_sound : (end : ℕ) → kept base (take end text) ≡ kept base (take read text)
@@ -170,10 +171,7 @@ module _ {base : Base} {text : List ℕ} {read written : ℕ} {output : List ℕ
     run = positioned_from read front
 
     run_len : length run ≡ len
-    run_len =
-        length-positioned_from read front
-        ∙ length-take-le len (drop read text)
-        (greatest-least base at.width (length (drop read text)))
+    run_len = length-positioned_from read front ∙ length-take-le len (drop read text) len_most
 
     bytes_same : bytes_in run ≡ front
     bytes_same = bytes-positioned_from read front
@@ -181,14 +179,12 @@ module _ {base : Base} {text : List ℕ} {read written : ℕ} {output : List ℕ
     -- they are those before the fault
     run_is : take index at.group ≡ run
     run_is =
-        let most : len ≤ length (drop read text) =
-        greatest-least base at.width (length (drop read text)) in
         let same_len : greatest_valid_length base len ≡ len =
         greatest-same base at.width len (greatest-valid base at.width (length (drop read text))) in
         let least : greatest_valid_length base len ≤ index =
-        greatest-more base at.width len (length at.group) (run_few len most few sound) in
+        greatest-more base at.width len (length at.group) (run_few len len_most few sound) in
         let here : index ≡ len = omega (arith, same_len, least, index_most) in
-        rw here (ap (take len) (run_kept len most few sound)
+        rw here (ap (take len) (run_kept len len_most few sound)
         ∙ take_at run (kept_from base (read + len) text) len run_len)
 
     groups_more : groups base (take error.position text)
@@ -230,9 +226,8 @@ module _ {base : Base} {text : List ℕ} {read written : ℕ} {output : List ℕ
       (front_bytes read refl ∙ sym same) where
         by : (size < len) ⊎ (len ≤ size) → group_fault base (take size front) ≡ None → ⊥
         by (inl long) first =
-            let most = greatest-least base at.width (length (drop read text)) in
             let whole = rw (take-take size len (drop read text) (omega (arith, long))) at first in
-            let few = run_few size (omega (arith, long, most)) (omega arith) whole in
+            let few = run_few size (omega (arith, long, len_most)) (omega arith) whole in
             absurd (omega (arith, few_members, few))
         by (inr few) first =
             let front_len = length-take len (drop read text) in

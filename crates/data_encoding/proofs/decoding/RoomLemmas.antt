@@ -53,8 +53,7 @@ module _ (width bytes symbols len read written : ℕ) (same : width * symbols �
 
   pub room-plain : 8 * written ≤ width * read → (count : ℕ) → count * symbols ≤ len - read
       → written + count * bytes ≤ width * len / 8
-  room-plain h count few =
-      omega (arith, room-bits h (count * symbols) few, regrouped count)
+  room-plain h count few = omega (arith, room-bits h (count * symbols) few, regrouped count)
 
   -- and for as many whole groups, where whole ones were read
   pub room-whole : 0 < symbols → (q count : ℕ) → 8 * written ≤ width * (q * symbols)

@@ -146,8 +146,7 @@ module _ {base : Base} {text : List ℕ} {w bytes symbols read written : ℕ} {e
         omega (arith, div-add-mod' count (group_symbols base.width), whole padded) in
         let room = room-run base s.width text s.so_far groups (omega (arith, all, few)) in
         rw (← all, whole_bytes base s.width groups) (omega (arith, room))
-    by false unpadded =
-        omega (arith, room-group base s.width text s.so_far count unpadded few)
+    by false unpadded = omega (arith, room-group base s.width text s.so_far count unpadded few)
 
   -- the greatest front of valid length has that length
   front_len : length (valid_front base (drop read text))
@@ -341,8 +340,7 @@ module _ {base : Base} {text : List ℕ} {w bytes symbols read written : ℕ} {o
         (is : IsGathered base symbols
         (take (length text - (read + skip)) (drop (read + skip) text)) group span) where
       found_behind : IsGathered base symbols (drop skip (drop read text)) group span
-      found_behind =
-          rw (take_rest text start, ← drop-drop skip read text) at is
+      found_behind = rw (take_rest text start, ← drop-drop skip read text) at is
 
       pub gathered-next : 0 < length group
           → IsGathered base symbols (take (length text - read) (drop read text)) group (skip + span)

@@ -61,8 +61,7 @@ other-group base group true is whole =
     let count = count_before_padding group in
     let bad = count == 0 || not (is_valid_count base.width count) in
     rw (is, whole) (other-padding base group bad count)
-other-group base group false is valid =
-    rw (is, valid) (other-symbols base group)
+other-group base group false is valid = rw (is, valid) (other-symbols base group)
 
 kind-located : (group : List Positioned) (o : Option GroupFault) (error : DecodeError)
     → IsOther o → located group o ≡ Some error → is_length_fault error.kind ≡ false
@@ -90,8 +89,7 @@ module _ {base : Base} {text : List ℕ} {read written : ℕ} {output : List ℕ
   pos = group_symbols-pos base.width at.width
 
   pub whole : length (kept base (take read text)) % size ≡ 0
-  whole =
-      whole-before base at.width text at.so_far at.next.is_part
+  whole = whole-before base at.width text at.so_far at.next.is_part
 
   pub rest_is : kept_from base read text ≡ at.group ++ kept_from base at.stop text
   rest_is =
@@ -134,8 +132,7 @@ module _ {base : Base} {text : List ℕ} {read written : ℕ} {output : List ℕ
       rw (sound_are, sound-all base false at.ended (groups base (take read text)) at.so_far.sound)
 
   pub sound_len_is : sound_len base text ≡ read
-  sound_len_is =
-      rw (sound_are, flat_map-runs size (kept base (take read text)) pos) at.so_far.ends
+  sound_len_is = rw (sound_are, flat_map-runs size (kept base (take read text)) pos) at.so_far.ends
 
   front_sound : fault_of base (take read text) ≡ None
   front_sound =

@@ -199,7 +199,6 @@ module _ (base : Base) (ruled : IsRuled base) (piece bytes : List ℕ) where
     by None is h (inl padded) = absurd (false≢true (sym (ap is_some is) ∙ padded))
     by None is h (inr (inl divides)) =
         whole-plain base ruled piece [] bytes [] (ap is_some is) divides means
-    by (Some character) is h (inl padded) =
-        whole-padded base ruled piece [] bytes [] padded means
+    by (Some character) is h (inl padded) = whole-padded base ruled piece [] bytes [] padded means
     by (Some character) is h (inr (inl divides)) =
         absurd (false≢true (sym (ap (λ n. not (n == 0)) divides) ∙ h.2))
