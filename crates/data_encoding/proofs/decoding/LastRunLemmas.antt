@@ -231,7 +231,8 @@ module _ {base : Base} {text : List ℕ} {read written : ℕ} {output : List ℕ
             absurd (omega (arith, few_members, few))
         by (inr few) first =
             let front_len = length-take len (drop read text) in
-            let none = rw (take_all size front (omega (arith, front_len, few))) at first in
+            let none : group_fault base front ≡ None =
+            rw (take_all size front (omega (arith, front_len, few))) at first in
             false≢true (sym (ap is_some none) ∙ bad few)
 
         unsound : is_sound_run base (drop read text) ≡ false
