@@ -21,25 +21,23 @@ module _ (base : Base) (start byte : ℕ) (part : List ℕ)
   here = record { position = start; byte = byte }
 
   -- of the others, none stands here
-  past : (index count : ℕ) → index < length rest → start + count ≡ position_of rest index
-      → 0 < count
-  past index count inside is =
+  past : (index : ℕ) → index < length rest → start ≡ position_of rest index → ⊥
+  past index inside is =
       let stands = kept_in-stands base (start + 1) (start + 1 + length part) part index
       (omega arith) inside in
-      omega (arith, stands.0, is)
+      absurd (omega (arith, stands.0, is))
 
   cut_by : (b : Bool) → not (is_ignored (meaning base byte)) ≡ b → (index count : ℕ)
       → index < length (cond b (here ∷ rest) rest)
       → start + count ≡ position_of (cond b (here ∷ rest) rest) index
       → kept_in base start (take count (byte ∷ part)) ≡ take index (cond b (here ∷ rest) rest)
-  cut_by false keeps index zero inside is =
-      absurd (omega (arith, past index zero inside is))
+  cut_by false keeps index zero inside is = absurd (past index inside (omega (arith, is)))
   cut_by false keeps index (suc count) inside is =
       rw keeps (others index count inside (omega (arith, is)))
   cut_by true keeps zero zero inside is = refl
   cut_by true keeps zero (suc count) inside is = absurd (omega (arith, is))
   cut_by true keeps (suc index) zero inside is =
-      let some = past index zero (omega (arith, inside)) is in absurd (omega (arith, some))
+      absurd (past index (omega (arith, inside)) (omega (arith, is)))
   cut_by true keeps (suc index) (suc count) inside is =
       rw keeps
       (ap (λ l. here ∷ l) (others index count (omega (arith, inside)) (omega (arith, is))))

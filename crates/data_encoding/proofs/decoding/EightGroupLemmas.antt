@@ -1,6 +1,6 @@
 -- Eight groups of symbols that are decoded together.
 use Rattle.std.proofs.Common.{◌≡◌, ℕ, zero, suc, ◌+◌, ◌*◌, ◌/◌, ◌%◌, ◌^◌, ◌<◌, ◌≤◌, List, [], length, length-take-le, map, take, drop, slice_index, sym, ap, ◌∙◌, arith, flat_map}
-use Rattle.std.proofs.lemmas.List.{drop-map, get_or-drop, get_or-map, get_or-take, get_or_past, length-drop, length-map, length-take, nil_from_length, take-map, take_all}
+use Rattle.std.proofs.lemmas.List.{drop-map, get_or-drop, get_or-map, get_or-take, length-drop, length-map, nil_from_length, take-map, take_all}
 use Rattle.std.specs.List.{AllByRecursion, range_with_len}
 use Rattle.std.specs.Simd.{first_chunks}
 use Rattle.data_encoding.specs.declared.encoding.Character.{Character}
@@ -14,6 +14,7 @@ use Rattle.data_encoding.specs.Words.{digit, word_of}
 use Rattle.data_encoding.proofs.digits.KernelLemmas.{symbol_bytes-word}
 use Rattle.data_encoding.proofs.digits.WidthLemmas.{symbols-few}
 use Rattle.data_encoding.proofs.lists.EachLemmas.{all-at, all_weaker}
+use Rattle.data_encoding.proofs.decoding.GroupJudgementLemmas.{part_bytes}
 use Rattle.data_encoding.proofs.lists.PartLemmas.{IsWhole, IsWhole-group}
 use Rattle.data_encoding.proofs.lists.RunLemmas.{runs-first, runs-nil}
 
@@ -41,13 +42,6 @@ module _ (base : Base) (values : List ℕ) (width bytes symbols : ℕ) (order : 
       symbol_bytes-word base order width bytes symbols bytes values xs group
       (omega (arith, len)) count fits (λ j h. low j (omega (arith, h, len))) reads
 
-  fits-front : (n : ℕ) (xs : List ℕ) → ((j : ℕ) → slice_index xs j < 256) → (j : ℕ)
-      → slice_index (take n xs) j < 256
-  fits-front n xs fits j =
-      let here = get_or-take n xs j 0 in
-      let past = get_or_past (take n xs) j 0 in
-      grind (arith, here, past, length-take n xs, fits j)
-
   words-run : (n : ℕ) (xs : List ℕ) → length xs ≡ n * symbols
       → ((j : ℕ) → slice_index xs j < 256)
       → ((j : ℕ) → j < length xs → slice_index values (slice_index xs j) < 128)
@@ -62,11 +56,11 @@ module _ (base : Base) (values : List ℕ) (width bytes symbols : ℕ) (order : 
       let rest = drop symbols xs in
       let enough : symbols ≤ length xs = omega (arith, long, more) in
       let rest_len : length rest ≡ n * symbols =
-      length-drop symbols xs ∙ omega (arith, long, more) in
+      omega (arith, length-drop symbols xs, long, more) in
       let some : 0 < length (map (meaning base) xs) =
       omega (arith, length-map xs (meaning base), enough, whole.some_symbols) in
       let first = group-bytes front (length-take-le symbols xs enough)
-      (fits-front symbols xs fits)
+      (part_bytes xs fits symbols)
       (λ j h. rw (get_or-take symbols xs j 0 h) (low j (omega (arith, h, enough)))) in
       let others = words-run n rest rest_len
       (λ j. rw (get_or-drop symbols xs j 0) (fits (symbols + j)))

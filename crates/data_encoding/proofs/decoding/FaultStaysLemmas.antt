@@ -38,8 +38,7 @@ module _ (base : Base) (width : IsWidth base.width) (text : List ℕ) where
         let more = (HasRead-faulty base width text after (length text) (unfinished base text)
         (list_any (is_final base) (whole_groups base text)) error [] false (rw h at kept_of)).0 in
         fault_of-read base width (text ++ after) (length text + length after) [] false (Some error)
-        more
-        ∙ rw (← length-append text after, valid)
+        more ∙ rw (← length-append text after, valid)
 
     -- where the text is whole groups, it has no other fault
     pub fault-stays : length (kept base text) % size ≡ 0 → fault_of base text ≡ Some error

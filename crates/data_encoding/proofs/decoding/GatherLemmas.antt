@@ -5,7 +5,7 @@ use Rattle.std.proofs.lemmas.List.{append-nil, get_or_append_left, get_or-map, l
 use Rattle.data_encoding.specs.Base.{Base, meaning, ignores_some, is_ignored, group_symbols, IsWidth}
 use Rattle.data_encoding.specs.Decoding.{IsGathered}
 use Rattle.data_encoding.specs.Fault.{position_of}
-use Rattle.data_encoding.specs.Grammar.{Positioned, positioned, kept, kept_in, kept_from, bytes_in}
+use Rattle.data_encoding.specs.Grammar.{Positioned, kept, kept_in, kept_from, bytes_in}
 use Rattle.data_encoding.specs.Partial.{position_after}
 use Rattle.data_encoding.proofs.digits.WidthLemmas.{group_symbols-pos}
 use Rattle.data_encoding.proofs.grammar.JoinFaultLemmas.{kept_in-moved, moved}
@@ -88,14 +88,12 @@ module _ (base : Base) (part : List ℕ) (index : ℕ) (inside : index < length 
       let before = kept base (take index part) in
       let rest = kept_from base (index + 1) part in
       rw (kept-split base (index + 1) part (omega (arith, inside)), next-kept h)
-      (ap (λ ks. position_of ks (length before)) (append_assoc before (found ∷ []) rest)
-      ∙ ap (λ (k : Positioned). k.position)
-      (get_or-append_seam before found rest (record { position = 0; byte = 0 })))
+      (rw (append_assoc before (found ∷ []) rest) (ap (λ (k : Positioned). k.position)
+      (get_or-append_seam before found rest (record { position = 0; byte = 0 }))))
 
   pub more-here : is_ignored (meaning base here) ≡ false
       → length (kept base (take (index + 1) part)) ≡ length (kept base (take index part)) + 1
-  more-here h =
-      ap length (next-kept h) ∙ length-append (kept base (take index part)) (found ∷ [])
+  more-here h = ap length (next-kept h) ∙ length-append (kept base (take index part)) (found ∷ [])
 
   pub none-here : is_ignored (meaning base here) ≡ true
       → length (kept base (take (index + 1) part)) ≡ length (kept base (take index part))
@@ -107,11 +105,10 @@ pub gathered : {base : Base} {size : ℕ} {part : List ℕ} {index count span : 
     → (count ≡ size) ⊎ (index ≡ length part) → IsGathered base size part (take count room) span
 gathered {base} {size} {part} {index} {count} {room} so_far within few last =
     let len : length (take count room) ≡ count =
-    sym (length-by_bytes (kept base (take index part)) (take count room) so_far.bytes_are)
-    ∙ so_far.count_is in
+    rw (length-by_bytes (kept base (take index part)) (take count room) so_far.bytes_are) at
+    so_far.count_is in
     let all : index ≡ length part → length (kept base part) ≡ count =
-    λ end. ap (λ l. length (kept base l)) (sym (take_all index part (omega (arith, end))))
-    ∙ so_far.count_is in
+    λ end. rw (take_all index part (omega (arith, end))) at so_far.count_is in
     record {
       within = omega (arith, so_far.before, within);
       bytes_are = ap bytes_in so_far.same ∙ so_far.bytes_are;
@@ -126,12 +123,9 @@ pub gathered-plain : (base : Base) → ignores_some base ≡ false → (size : �
 gathered-plain base none size part =
     let bytes = take size part in
     let len = length-take size part in
-    let all : take (length bytes) part ≡ bytes = rw len (take_min size part) in
     record {
       within = omega (arith, len);
-      bytes_are =
-          ap bytes_in (filter-plain base none (positioned (take (length bytes) part)))
-          ∙ bytes-positioned_from 0 (take (length bytes) part) ∙ all;
+      bytes_are = rw (filter-plain base none, bytes-positioned_from, len) (take_min size part);
       ends = λ _. never_ignored base none (get_or part (length bytes - 1) 0);
       few = omega (arith, len);
       last = grind (arith, len, length-kept_plain base part none);
@@ -141,10 +135,8 @@ gathered-plain base none size part =
 length-left : (base : Base) (text : List ℕ) (read : ℕ)
     → length (kept_from base read text) ≡ length (kept base (drop read text))
 length-left base text read =
-    length-by_bytes (kept_from base read text)
-    (bytes_in (kept base (drop read text)))
-    (bytes-kept_in base read (drop read text) ∙ sym (bytes-kept_in base 0 (drop read text)))
-    ∙ length-map (kept base (drop read text)) (λ (k : Positioned). k.byte)
+    simp length-map at (ap length
+    (bytes-kept_in base read (drop read text) ∙ sym (bytes-kept_in base 0 (drop read text))))
 
 pub nothing-kept : (base : Base) (text : List ℕ) (read : ℕ)
     → length (kept base (drop read text)) ≡ 0 → kept_from base read text ≡ []
@@ -159,8 +151,8 @@ module _ {base : Base} {size : ℕ} {part group : List ℕ} {span : ℕ}
 
   pub gathered-few : length group ≤ span
   gathered-few =
-      let most = length-kept base (take span part) in
-      omega (arith, length-gathered, most, length-take-le span part is.within)
+      rw (length-gathered, length-take-le span part is.within) at
+      (length-kept base (take span part))
 
   pub gathered-some : (index : ℕ) → index < length group → index < length (kept base part)
   gathered-some index inside =
@@ -198,16 +190,13 @@ module _ (base : Base) (width : IsWidth base.width) (text : List ℕ) (read : �
       let front = kept base part in
       let far : index < length front = omega (arith, length-gathered is, inside) in
       let start : read + 0 ≡ read = omega arith in
-      let there : nexts ≡ moved read front =
-      ap (λ n. kept_in base n part) (sym start) ∙ kept_in-moved base width read 0 part in
+      let there : nexts ≡ moved read front = rw start at (kept_in-moved base width read 0 part) in
       let moves : Positioned → Positioned =
       λ k. record { position = read + k.position; byte = k.byte } in
-      ap (λ ks. position_of ks index) there
-      ∙ ap (λ (k : Positioned). k.position) (get_or-map moves front index none none far
+      rw (there, kept-split base span (drop read text) is.within)
+      (ap (λ (k : Positioned). k.position) (get_or-map moves front index none none far
       ∙ ap moves (sym (get_or_append_left front (kept_from base span (drop read text)) none index
-      far)))
-      ∙ ap (λ ks. read + position_of ks index)
-      (sym (kept-split base span (drop read text) is.within))
+      far))))
 
   -- nothing is left where none was found
   pub none-next : length group ≡ 0 → kept_from base read text ≡ []
@@ -219,9 +208,8 @@ module _ (base : Base) (width : IsWidth base.width) (text : List ℕ) (read : �
   pub is-next : 0 < length group → IsNext base text read (read + span) nexts
   is-next some =
       let same : read + span - read ≡ span = omega arith in
-      let total = ap length (rw same at (kept_from-more base read text within (read + span)
-      (omega arith) within-next))
-      ∙ length-append nexts (kept_from base (read + span) text) in
+      let total = simp length-append at (ap length (rw same at (kept_from-more base read text within
+      (read + span) (omega arith) within-next))) in
       record {
         is_part = record {
           after = omega arith;
@@ -249,7 +237,7 @@ module _ (base : Base) (width : IsWidth base.width) (text : List ℕ) (read : �
             let byte = get_or xs n 0 in
             let place : n ≡ suc n - 1 = omega arith in
             let kept_last : is_ignored (meaning base byte) ≡ false =
-            ap (λ k. is_ignored (meaning base (get_or xs k 0))) place ∙ ends (omega arith) in
+            rw place (ends (omega arith)) in
             let front_len : length front ≡ n = length-take-le n xs (omega (arith, few)) in
             let split = take-suc xs n 0 (omega (arith, few)) in
             rw (split, kept_in-append base read front (byte ∷ []), kept_last)

@@ -38,13 +38,11 @@ module _ (base : Base) (width : IsWidth base.width) where
 
   -- it is valid
   pub greatest-valid : (n : ℕ) → is_valid_length base (greatest_valid_length base n) ≡ true
-  greatest-valid n =
-      grind (arith, nat_tests, greatest.whole_again n, greatest.count_again n)
+  greatest-valid n = grind (arith, nat_tests, greatest.whole_again n, greatest.count_again n)
 
   -- that of a valid length is the length
   pub greatest-same : (n : ℕ) → is_valid_length base n ≡ true → greatest_valid_length base n ≡ n
-  greatest-same n valid =
-      grind (arith, nat_tests, greatest.whole_same n, greatest.count_same n)
+  greatest-same n valid = grind (arith, nat_tests, greatest.whole_same n, greatest.count_same n)
 
   -- that of another is less
   pub greatest-less : (n : ℕ) → is_valid_length base n ≡ false → greatest_valid_length base n < n

@@ -1,5 +1,5 @@
 -- What a judgement of a group finds: its symbols, or its fault, or its bytes.
-use Rattle.std.proofs.Common.{◌≡◌, ℕ, zero, suc, ◌-◌, ◌*◌, ◌/◌, ◌%◌, ◌<◌, ◌≤◌, ◌==◌, ◌≢◌, nat_lt, Bool, true, false, not, cond, ◌&&◌, ◌||◌, List, [], ◌∷◌, ◌++◌, length, map, take, drop, replicate, slice_index, Option, None, Some, is_some, refl, sym, ap, ◌∙◌, subst, arith, length-take-le, take-append-drop}
+use Rattle.std.proofs.Common.{◌≡◌, ℕ, zero, suc, ◌-◌, ◌*◌, ◌/◌, ◌%◌, ◌<◌, ◌≤◌, ◌==◌, ◌≢◌, nat_lt, Bool, true, false, not, cond, ◌&&◌, ◌||◌, List, [], ◌∷◌, ◌++◌, length, map, take, drop, replicate, slice_index, Option, None, Some, is_some, refl, sym, ap, ◌∙◌, arith, length-take-le, take-append-drop}
 use Rattle.std.proofs.lemmas.Bool.Decides.{nat_tests}
 use Rattle.std.proofs.Math.Nat.{le-div_iff_mul-le, div-eq_of_lt, mul-le-mul_left, zero-mul}
 use Rattle.std.proofs.lemmas.Nat.{mul-le}
@@ -14,9 +14,9 @@ use Rattle.data_encoding.specs.declared.error.DecodeError.{DecodeError}
 use Rattle.data_encoding.specs.declared.error.DecodeKind.TheVariants.{Length as LengthFault, Symbol as SymbolFault, Trailing as TrailingFault, Padding as PaddingFault}
 use Rattle.data_encoding.specs.Base.{Base, IsWidth, meaning, is_padded, is_padding, is_symbol, group_symbols, value_of}
 use Rattle.data_encoding.specs.Decoding.{HasFault, HasSymbols, IsDecodedGroup}
-use Rattle.data_encoding.specs.Fault.{count_before_padding, fault_at_first, faulty_at, group_fault, located, padded_fault_at, plain_fault, symbol_bytes, symbols_fault, trailing_bits, trailing_fault}
-use Rattle.data_encoding.specs.Grammar.{Positioned, bytes_in, positioned_from}
-use Rattle.data_encoding.specs.Lengths.{is_valid_count, greatest_valid_count, greatest_valid_length, is_valid_length}
+use Rattle.data_encoding.specs.Fault.{count_before_padding, faulty_at, group_fault, located, symbol_bytes, symbols_fault, trailing_bits, trailing_fault}
+use Rattle.data_encoding.specs.Grammar.{Positioned, positioned_from}
+use Rattle.data_encoding.specs.Lengths.{is_valid_count, greatest_valid_length, is_valid_length}
 use Rattle.data_encoding.specs.Tables.{HoldsValues, IsGroup}
 use Rattle.data_encoding.proofs.digits.SizeLemmas.{IsSmall-group}
 use Rattle.data_encoding.proofs.grammar.PositionLemmas.{bytes-positioned_from}
@@ -40,14 +40,8 @@ count-before base values holds group are_bytes count within all stops =
     λ k. holds.paddings (slice_index group k) (are_bytes k) in
     sym (count_before_end-map is_padding (meaning base) group
     ∙ count_before_end-at pads group 0 count within
-    (λ k from inside. at k ∙ is_so (slice_index values (slice_index group k)) (all k from inside))
-    (λ some. at (count - 1)
-    ∙ is_not (slice_index values (slice_index group (count - 1))) (stops some))) where
-      is_so : (v : ℕ) → v ≡ 130 → (v == 130) ≡ true
-      is_so v h = grind (arith, nat_tests)
-
-      is_not : (v : ℕ) → v ≢ 130 → (v == 130) ≡ false
-      is_not v h = grind (arith, nat_tests)
+    (λ k from inside. at k ∙ rw (all k from inside))
+    (λ some. let other = stops some in at (count - 1) ∙ grind (arith, nat_tests)))
 
 -- the symbols of a group have few bits
 pub few-bits : {w bytes symbols width : ℕ} → IsGroup w bytes symbols → width ≡ w → (count : ℕ)
@@ -67,23 +61,19 @@ pub HasFault-own : {base : Base} {group : List ℕ} {fault : GroupFault}
     → HasFault base false group fault
 HasFault-own {base} inside is = record {
   inside = inside;
-  is_fault = λ placed same.
-      ap (λ l. located placed (group_fault base l)) same ∙ ap (located placed) is;
+  is_fault = λ placed same. rw (same, is);
 }
 
 located-some : (placed : List Positioned) (o : Option GroupFault) (error : DecodeError)
     → located placed o ≡ Some error → is_some o ≡ true
-located-some placed None error h = cc
-located-some placed (Some fault) error h = refl
+located-some placed o error h = grind arith
 
 -- so its bytes have one
 pub HasFault-some : {base : Base} {group : List ℕ} {fault : GroupFault}
     → HasFault base false group fault → is_some (group_fault base group) ≡ true
 HasFault-some {base} {group} has =
-    let placed = positioned_from 0 group in
-    let same = bytes-positioned_from 0 group in
-    subst (λ l. is_some (group_fault base l) ≡ true) same
-    (located-some placed (group_fault base (bytes_in placed)) _ (has.is_fault placed same))
+    let fault = has.is_fault (positioned_from 0 group) (bytes-positioned_from 0 group) in
+    rw bytes-positioned_from at (located-some (positioned_from 0 group) _ _ fault)
 
 module _ (base : Base) (group : List ℕ) where
   abbrev meant : List Character
@@ -93,19 +83,11 @@ module _ (base : Base) (group : List ℕ) where
   length_is = length-map group (meaning base)
 
   module _ (unpadded : is_padded base ≡ false) where
-    plain-group : group_fault base group ≡ plain_fault base meant
-    plain-group = rw unpadded
-
     -- without padding a number of symbols may be invalid
     fault-invalid : (width : ℕ) → base.width ≡ width → is_valid_count width (length group) ≡ false
         → group_fault base group
         ≡ faulty_at LengthFault (length group - width * length group % 8 / width)
-    fault-invalid width width_is known =
-        let invalid : is_valid_count base.width (length meant) ≡ false =
-        (λ i. is_valid_count (width_is i) (length_is i)) ∙ known in
-        plain-group
-        ∙ rw invalid
-        (λ i. faulty_at LengthFault (greatest_valid_count (width_is i) (length_is i)))
+    fault-invalid width width_is known = rw (unpadded, length_is, width_is, known)
 
     pub length-invalid : 0 < length group → (width : ℕ) → base.width ≡ width → 0 < width
         → width ≤ width * length group % 8
@@ -124,26 +106,21 @@ module _ (base : Base) (group : List ℕ) where
     pub symbols-all : is_valid_count base.width (length group) ≡ true
         → HasSymbols base group (length group)
     symbols-all valid = record {
-      count_is = sym (ap (λ b. cond b (count_before_padding meant) (length group)) unpadded);
+      count_is = rw unpadded;
       within = omega arith;
       valid = valid;
-      fault_is = plain-group
-          ∙ plain_fault-valid base meant (ap (is_valid_count base.width) length_is ∙ valid)
-          ∙ ap (λ l. symbols_fault base (map (meaning base) l))
-          (sym (take_all (length group) group (omega arith)));
+      fault_is = rw (unpadded, take_all (length group) group (omega arith))
+          (plain_fault-valid base meant (rw length_is valid));
     }
 
   module _ (padded : is_padded base ≡ true) where
-    padded-group : group_fault base group ≡ padded_fault_at base meant (count_before_padding meant)
-    padded-group = rw padded
-
     -- a padded group is whole
     fault-short : length group < group_symbols base.width
         → group_fault base group ≡ faulty_at LengthFault 0
     fault-short short =
-        let less : nat_lt (length meant) (group_symbols base.width) ≡ true =
-        grind (arith, nat_tests, short, length_is) in
-        padded-group ∙ rw less
+        let less : nat_lt (length group) (group_symbols base.width) ≡ true =
+        grind (arith, nat_tests) in
+        rw (padded, length_is, less)
 
     pub group-short : 0 < length group → length group < group_symbols base.width
         → HasFault base false group (record { index = 0; kind = LengthFault })
@@ -157,8 +134,7 @@ module _ (base : Base) (group : List ℕ) where
       whole-group : group_fault base group
           ≡ cond (count == 0 || not (is_valid_count base.width count))
           (faulty_at PaddingFault count) (symbols_fault base (take count meant))
-      whole-group =
-          padded-group ∙ ap (padded_fault_at base meant) (sym count_is) ∙ rw full
+      whole-group = rw (padded, ← count_is, full)
 
       pub padding-invalid : IsWidth base.width → 0 < length group → count ≤ length group
           → (count == 0 || not (is_valid_count base.width count)) ≡ true
@@ -171,15 +147,11 @@ module _ (base : Base) (group : List ℕ) where
       pub symbols-before : count ≤ length group → (count == 0) ≡ false
           → is_valid_count base.width count ≡ true → HasSymbols base group count
       symbols-before within begun valid =
-          let good : (count == 0 || not (is_valid_count base.width count)) ≡ false =
-          λ i. begun i || not (valid i) in
           record {
-            count_is = count_is
-                ∙ sym (ap (λ b. cond b (count_before_padding meant) (length group)) padded);
+            count_is = rw padded count_is;
             within = within;
             valid = valid;
-            fault_is = whole-group ∙ rw good
-                (ap (symbols_fault base) (take-map (meaning base) count group));
+            fault_is = whole-group ∙ rw (begun, valid, take-map);
           }
 
 -- a group of no valid length has the fault of its length
@@ -191,20 +163,15 @@ fault-length base width group some few invalid = by (is_padded base) refl where
       → group_fault base group ≡ faulty_at LengthFault (greatest_valid_length base (length group))
   by true is =
       let short = whole-less base width (length group) few invalid in
-      let none : greatest_valid_length base (length group) ≡ 0 =
-      greatest_valid_length-by base (length group) true is
-      ∙ ap (λ n. n * group_symbols base.width) (div-eq_of_lt short)
-      ∙ zero-mul (group_symbols base.width) in
-      fault-short base group is short ∙ ap (faulty_at LengthFault) (sym none)
+      rw (greatest_valid_length-by base (length group) true is, div-eq_of_lt short, zero-mul)
+      (fault-short base group is short)
   by false is =
-      let not_valid : is_valid_count base.width (length group) ≡ false =
-      sym (is_valid_length-by base (length group) false is) ∙ invalid in
-      fault-invalid base group is base.width refl not_valid
-      ∙ ap (faulty_at LengthFault)
-      (sym (greatest_valid_length-by base (length group) false is))
+      rw (greatest_valid_length-by base (length group) false is)
+      (fault-invalid base group is base.width refl
+      (sym (is_valid_length-by base (length group) false is) ∙ invalid))
 
 -- the tests of a part
-part_bytes : (group : List ℕ) → ((k : ℕ) → slice_index group k < 256) → (count k : ℕ)
+pub part_bytes : (group : List ℕ) → ((k : ℕ) → slice_index group k < 256) → (count k : ℕ)
     → slice_index (take count group) k < 256
 part_bytes group h zero k = omega arith
 part_bytes [] h (suc count) k = omega arith
@@ -231,8 +198,7 @@ module _ (base : Base) (values : List ℕ) (holds : HoldsValues base values) (gr
       → HasFault base false group (record { index = index; kind = SymbolFault })
   symbol-fault index inside before there =
       HasFault-own (omega (arith, inside, few, has.within))
-      (has.fault_is ∙ ap (λ o. fault_at_first o (trailing_fault base judged))
-      (no_symbol-some base values holds symbols index (record {
+      (has.fault_is ∙ rw (no_symbol-some base values holds symbols index (record {
         are_bytes = part_bytes group are_bytes count;
         before = before;
         inside = omega (arith, inside);
@@ -251,7 +217,7 @@ module _ (base : Base) (values : List ℕ) (holds : HoldsValues base values) (gr
         })
 
     fault-symbols : group_fault base group ≡ trailing_fault base judged
-    fault-symbols = has.fault_is ∙ ap (λ o. fault_at_first o (trailing_fault base judged)) no_symbol
+    fault-symbols = has.fault_is ∙ rw no_symbol
 
     -- or else the bits that are left over
     pub trailing-fault : base.checks_trailing_bits ≡ true
@@ -260,9 +226,7 @@ module _ (base : Base) (values : List ℕ) (holds : HoldsValues base values) (gr
         → HasFault base false group (record { index = count - 1; kind = TrailingFault })
     trailing-fault checks some begun =
         HasFault-own (omega (arith, begun, few, has.within))
-        (fault-symbols
-        ∙ (λ i. cond (checks i && some i) (faulty_at TrailingFault (length judged - 1)) None)
-        ∙ ap (λ n. faulty_at TrailingFault (n - 1)) (length-map symbols (meaning base) ∙ few))
+        (fault-symbols ∙ rw (checks, some, length-map symbols (meaning base), few))
 
     abbrev all : List Character
     all = map (meaning base) group
@@ -270,11 +234,10 @@ module _ (base : Base) (values : List ℕ) (holds : HoldsValues base values) (gr
     rest_pads : AllSo is_padding (drop count all)
     rest_pads = by (is_padded base) refl where
       by : (b : Bool) → is_padded base ≡ b → AllSo is_padding (drop count all)
-      by true is =
-          rw (has.count_is, is) (end-passes is_padding all)
+      by true is = rw (has.count_is, is) (end-passes is_padding all)
       by false is =
-          let whole : count ≡ length group = has.count_is ∙ rw is in
-          rw (drop_all count all (omega (arith, whole, length-map group (meaning base)))) tt
+          let few : length all ≤ length group = omega (arith, length_is base group) in
+          rw (has.count_is, is, drop_all (length group) all few) tt
 
     behind : all ≡ judged ++ replicate (length (drop count all)) PaddingCharacter
     behind =
@@ -284,16 +247,12 @@ module _ (base : Base) (values : List ℕ) (holds : HoldsValues base values) (gr
     has_padding : list_any is_padding all ≡ nat_lt count (length group)
     has_padding =
         let padding = length (drop count all) in
-        let none : list_any is_padding judged ≡ false =
-        ap (list_any is_padding) (are_symbols judged no_symbol)
-        ∙ list_any-none is_padding _ (symbols_alone (filter_map value_of judged)) in
-        let left : padding ≡ length group - count =
-        length-drop count all ∙ ap (λ n. n - count) (length-map group (meaning base)) in
+        let none : list_any is_padding judged ≡ false = rw (are_symbols judged no_symbol)
+        (list_any-none is_padding _ (symbols_alone (filter_map value_of judged))) in
         let some : nat_lt 0 (length group - count) ≡ nat_lt count (length group) =
         grind (arith, nat_tests) in
         ap (list_any is_padding) behind
-        ∙ list_any-append is_padding judged (replicate padding PaddingCharacter)
-        ∙ (λ i. none i || any_padding padding i) ∙ ap (nat_lt 0) left ∙ some
+        ∙ rw (list_any-append, none, any_padding padding, length-drop, length-map, some)
 
     -- and where there are none, the group is sound
     pub group-sound : (base.checks_trailing_bits
@@ -305,7 +264,6 @@ module _ (base : Base) (values : List ℕ) (holds : HoldsValues base values) (gr
       within = has.within;
       sound = fault-symbols ∙ rw quiet;
       final = has_padding;
-      bytes = take_at new rest (base.width * count / 8) len ∙ bytes
-          ∙ sym (ap (symbol_bytes base) behind
-          ∙ bytes_before_padding base judged (length (drop count all)));
+      bytes = rw (take_at new rest (base.width * count / 8) len, bytes, behind)
+          (sym (bytes_before_padding base judged (length (drop count all))));
     }

@@ -1,9 +1,9 @@
 -- Ignored bytes at the front of a part: what stands behind them is what the part has.
-use Rattle.std.proofs.Common.{◌≡◌, ℕ, ◌+◌, ◌-◌, ◌<◌, ◌≤◌, not, Bool, List, [], ◌++◌, length, map, take, drop, refl, sym, ap, ◌∙◌, arith, take-append-drop, take-add, filter}
+use Rattle.std.proofs.Common.{◌≡◌, ℕ, ◌+◌, ◌-◌, ◌<◌, ◌≤◌, List, [], ◌++◌, length, map, take, drop, refl, sym, ap, ◌∙◌, arith, take-append-drop, take-add}
 use Rattle.std.proofs.lemmas.List.{get_or-drop, length-drop, length-map, nil_from_length}
-use Rattle.data_encoding.specs.Base.{Base, meaning, is_ignored}
+use Rattle.data_encoding.specs.Base.{Base}
 use Rattle.data_encoding.specs.Decoding.{IsGathered, IsIgnoredFront}
-use Rattle.data_encoding.specs.Grammar.{Positioned, bytes_in, kept, kept_in, kept_from}
+use Rattle.data_encoding.specs.Grammar.{Positioned, kept, kept_in, kept_from}
 use Rattle.data_encoding.proofs.grammar.KeptLemmas.{kept_from-more, kept_in-append}
 use Rattle.data_encoding.proofs.grammar.PositionLemmas.{length-by_bytes}
 use Rattle.data_encoding.proofs.grammar.SameBytesLemmas.{bytes-kept_in}
@@ -12,17 +12,13 @@ pub no_front : (base : Base) (part : List ℕ) → IsIgnoredFront base part 0
 no_front base part = record { within = omega arith; none = refl }
 
 module _ (base : Base) where
-  abbrev keeps : ℕ → Bool
-  keeps byte = not (is_ignored (meaning base byte))
-
   -- none is kept of ignored bytes, wherever they stand
   pub nothing-kept_in : (read : ℕ) (bytes : List ℕ) → kept base bytes ≡ []
       → kept_in base read bytes ≡ []
   nothing-kept_in read bytes h =
-      let none : filter keeps bytes ≡ [] =
-      sym (bytes-kept_in base 0 bytes) ∙ ap (map (λ (k : Positioned). k.byte)) h in
+      let same = bytes-kept_in base read bytes ∙ sym (bytes-kept_in base 0 bytes) in
       nil_from_length (kept_in base read bytes)
-      (length-by_bytes (kept_in base read bytes) [] (bytes-kept_in base read bytes ∙ none))
+      (length-by_bytes (kept_in base read bytes) [] (rw h at same))
 
   -- the kept bytes are those behind the ignored ones
   bytes-behind : (front rest : List ℕ) → kept base front ≡ []
@@ -35,10 +31,8 @@ module _ (base : Base) where
   pub length-behind : (part : List ℕ) (skip : ℕ) → IsIgnoredFront base part skip
       → length (kept base part) ≡ length (kept base (drop skip part))
   length-behind part skip front =
-      length-by_bytes (kept base part) (bytes_in (kept base (drop skip part)))
-      (rw (take-append-drop skip part) at
-      (bytes-behind (take skip part) (drop skip part) front.none))
-      ∙ length-map (kept base (drop skip part)) (λ (k : Positioned). k.byte)
+      simp length-map at (ap length (rw (take-append-drop skip part) at
+      (bytes-behind (take skip part) (drop skip part) front.none)))
 
   -- what was gathered behind ignored bytes was gathered from before them
   pub gathered-behind : (size : ℕ) (part group : List ℕ) (skip span : ℕ)

@@ -89,8 +89,7 @@ group-kept base width (k ∷ ks) few h =
     let meant = meanings_in base (k ∷ ks) in
     let len = length-meanings base (k ∷ ks) in
     let means = GroupMeans-sound base width meant (omega arith) (omega (arith, few, len)) h in
-    bytes_kept base (k ∷ ks)
-    (subst AreKept (sym means.is_group)
+    bytes_kept base (k ∷ ks) (subst AreKept (sym means.is_group)
     (all_joined (λ m. not (is_ignored m) ≡ true) means.symbols (replicate means.padding Padding)
-    (subst AreKept (sym means.means.are_symbols) (symbols_kept means.means.values))
+    (rw means.means.are_symbols (symbols_kept means.means.values))
     (all_replicate (λ m. not (is_ignored m) ≡ true) means.padding Padding refl)))

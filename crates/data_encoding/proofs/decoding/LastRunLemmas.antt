@@ -1,17 +1,15 @@
 -- Where a decoding stops at a last group that is too short.
-use Rattle.std.proofs.Common.{◌≡◌, ℕ, ◌+◌, ◌-◌, ◌<◌, ◌≤◌, Bool, true, false, not, cond, List, [], ◌∷◌, ◌++◌, length, take, drop, Some, None, is_some, refl, sym, ap, ◌∙◌, subst, arith, length-append, length-take-le, ⊎_elim, map}
+use Rattle.std.proofs.Common.{◌≡◌, ℕ, ◌+◌, ◌-◌, ◌<◌, ◌≤◌, ◌⊎◌, Bool, true, false, not, cond, List, [], ◌∷◌, ◌++◌, length, take, drop, Some, None, is_some, refl, sym, ap, ◌∙◌, arith, length-append, length-take-le, ⊎_elim, inl, inr, map}
 use Rattle.std.proofs.lemmas.Bool.{cases_lt, false_from_ne_true, false≢true}
-use Rattle.std.proofs.lemmas.List.{append-nil, length-drop, take-take, take_all, take_at, length-map}
+use Rattle.std.proofs.lemmas.List.{append-nil, length-drop, length-take, take-take, take_all, take_at, length-map}
 use Rattle.std.proofs.lemmas.List.Concat.{flat_map-append}
-use Rattle.std.specs.Prelude.{flat_map}
 use Rattle.data_encoding.proofs.decoding.GroupJudgementLemmas.{fault-length}
 use Rattle.data_encoding.specs.declared.error.DecodeError.{DecodeError}
-use Rattle.data_encoding.specs.declared.error.DecodeKind.TheVariants.{Length as LengthFault, Padding as PaddingFault}
+use Rattle.data_encoding.specs.declared.error.DecodeKind.TheVariants.{Length as LengthFault}
 use Rattle.data_encoding.specs.Base.{Base, meaning, is_ignored, group_symbols}
-use Rattle.data_encoding.specs.Bits.{runs}
 use Rattle.data_encoding.specs.Grammar.{Positioned, positioned_from, kept, groups, is_final, kept_in, kept_from, bytes_in}
 use Rattle.data_encoding.specs.Lengths.{greatest_valid_length, length_fault, is_valid_length}
-use Rattle.data_encoding.specs.Fault.{bytes_of_group, fault_after, fault_at, fault_of, first_after, group_fault, located, or_else, position_of, sound_after, sound_bytes, symbol_bytes}
+use Rattle.data_encoding.specs.Fault.{fault_after, fault_at, fault_of, group_fault, position_of, sound_bytes, symbol_bytes}
 use Rattle.data_encoding.specs.Partial.{StopsAt, read_len, is_length_fault, is_sound_run}
 use Rattle.data_encoding.specs.Decoding.{AreSound}
 use Rattle.data_encoding.proofs.lists.ListLemmas.{filter-all, length-filter}
@@ -40,6 +38,9 @@ module _ {base : Base} {text : List ℕ} {read written : ℕ} {output : List ℕ
   abbrev front : List ℕ
   front = take len (drop read text)
 
+  len_most : len ≤ length (drop read text)
+  len_most = greatest-least base at.width (length (drop read text))
+
   abbrev index : ℕ
   index = greatest_valid_length base (length at.group)
 
@@ -47,10 +48,7 @@ module _ {base : Base} {text : List ℕ} {read written : ℕ} {output : List ℕ
   not_ended = by at.ended refl at.faulty where
     by : (b : Bool) → at.ended ≡ b → fault_after b base at.group ≡ Some error
         → (at.ended ≡ false) × (fault_after false base at.group ≡ Some error)
-    by true is h =
-        let other =
-        kind_of (record { position = position_of at.group 0; kind = PaddingFault }) error h refl in
-        absurd (false≢true (sym other ∙ kind))
+    by true is h = absurd (false≢true (sym (kind_of _ error h refl) ∙ kind))
     by false is h = (is, h)
 
   -- its length is not valid, and its fault is after the greatest valid number of its bytes
@@ -69,12 +67,10 @@ module _ {base : Base} {text : List ℕ} {read written : ℕ} {output : List ℕ
   position_is =
       let bytes = bytes_in at.group in
       let same = length-map at.group (λ (k : Positioned). k.byte) in
+      let fault = fault-length base at.width bytes (omega (arith, at.next.is_part.some, same))
+      (omega (arith, at.next.few, same)) (rw same invalid) in
       let here : fault_at LengthFault at.group index ≡ Some error =
-      sym (ap (located at.group) (fault-length base at.width bytes
-      (omega (arith, at.next.is_part.some, same)) (omega (arith, at.next.few, same))
-      (ap (is_valid_length base) same ∙ invalid))
-      ∙ ap (λ n. fault_at LengthFault at.group (greatest_valid_length base n)) same)
-      ∙ not_ended.1 in
+      rw (fault, same) at not_ended.1 in
       let first : DecodeError =
       record { position = position_of at.group index; kind = LengthFault } in
       let found : first ≡ error = cc in
@@ -86,28 +82,21 @@ module _ {base : Base} {text : List ℕ} {read written : ℕ} {output : List ℕ
       let last : kept_from base at.stop text ≡ [] =
       ⊎_elim {C = kept_from base at.stop text ≡ []}
       (λ full. absurd (omega (arith, full, few_members))) (λ none. none) at.next.last in
-      rest_is at
-      ∙ ap (λ l. at.group ++ l) last ∙ append-nil at.group
+      rest_is at ∙ rw last (append-nil at.group)
 
   -- before its fault stand that many of its bytes
   kept_before : kept base (take error.position text)
       ≡ kept base (take read text) ++ take index at.group
   kept_before =
-      kept-cut base read text at.so_far.within index error.position (bounds at).0
+      rw group_is at (kept-cut base read text at.so_far.within index error.position (bounds at).0
       (omega (arith, (bounds at).1, at.next.is_part.within))
-      (subst (λ g. index < length g) (sym group_is) index_inside)
-      (subst (λ g. error.position ≡ position_of g index) (sym group_is) position_is)
-      ∙ ap (λ g. kept base (take read text) ++ take index g) group_is
+      (rw group_is index_inside) (rw group_is position_is))
 
   few_kept : length at.group ≤ length (drop read text)
   few_kept =
-      omega (
-        arith,
-        ap length group_is,
-        length-filter (λ (k : Positioned). not (is_ignored (meaning base k.byte)))
-            (positioned_from read (drop read text)),
-        length-positioned_from read (drop read text),
-      )
+      rw (group_is, length-positioned_from) at
+      (length-filter (λ (k : Positioned). not (is_ignored (meaning base k.byte)))
+      (positioned_from read (drop read text)))
 
   index_most : index ≤ len
   index_most = greatest-more base at.width (length at.group) (length (drop read text)) few_kept
@@ -133,44 +122,33 @@ module _ {base : Base} {text : List ℕ} {read written : ℕ} {output : List ℕ
       (positioned_from read run)
       (group-kept base at.width (positioned_from read run) (omega (arith, run_len, few)) here) in
       let same : read + count - read ≡ count = omega arith in
-      sym group_is
-      ∙ kept_from-more base read text at.so_far.within (read + count) (omega arith)
-      (omega (arith, length-drop read text, many, at.so_far.within))
-      ∙ ap (λ n. kept_in base read (take n (drop read text)) ++ kept_from base (read + count) text)
-      same
-      ∙ ap (λ l. l ++ kept_from base (read + count) text) all
+      let more = kept_from-more base read text at.so_far.within (read + count) (omega arith)
+      (omega (arith, length-drop read text, many, at.so_far.within)) in
+      sym group_is ∙ rw (more, same, all)
 
   -- and so no more than it has
   run_few : (count : ℕ) → count ≤ length (drop read text) → count ≤ size
       → group_fault base (take count (drop read text)) ≡ None
       → count ≤ length at.group
   run_few count many few sound =
-      let run = take count (drop read text) in
-      omega (
-        arith,
-        ap length (run_kept count many few sound),
-        length-append (positioned_from read run) (kept_from base (read + count) text),
-        length-positioned_from read run,
-        length-take-le count (drop read text) many,
-      )
+      let parts = simp (length-append, length-positioned_from) at
+      (ap length (run_kept count many few sound)) in
+      omega (arith, parts, length-take-le count (drop read text) many)
 
   read_by : (sound : Bool) → is_sound_run base (drop read text) ≡ sound
       → read_len base text error ≡ cond sound error.position read
-  read_by sound is =
-      rw (kind, sound_len_is at, is)
+  read_by sound is = rw (kind, sound_len_is at, is)
 
   -- no group but those that were read before
-  front_sound : (end : ℕ) → groups base (take end text) ≡ groups base (take read text)
+  front_sound : (end : ℕ) → kept base (take end text) ≡ kept base (take read text)
       → fault_of base (take end text) ≡ None
   front_sound end same =
-      (λ i. or_else (no_length (take end text) i) (first_after false base (same i)))
-      ∙ first-none base false at.ended (groups base (take read text)) at.so_far.sound
+      rw (no_length (take end text), same)
+      (first-none base false at.ended (groups base (take read text)) at.so_far.sound)
 
-  front_bytes : (end : ℕ) → groups base (take end text) ≡ groups base (take read text)
+  front_bytes : (end : ℕ) → kept base (take end text) ≡ kept base (take read text)
       → sound_bytes base (take end text) ≡ take written output
-  front_bytes end same =
-      ap (λ gs. flat_map (bytes_of_group base) (sound_after false base gs)) same
-      ∙ sound_bytes-front base at.width text at.so_far
+  front_bytes end same = rw same (sound_bytes-front base at.width text at.so_far)
 
   -- where no run is left before the fault, all up to it is read
   pub last-none : len ≡ 0 → (new : List ℕ) → written ≤ length new
@@ -179,10 +157,8 @@ module _ {base : Base} {text : List ℕ} {read written : ℕ} {output : List ℕ
       (record { read = error.position; written = written; error = error })
   last-none none new fits same =
       let first : index ≡ 0 = omega (arith, index_most, none) in
-      let front_same : groups base (take error.position text) ≡ groups base (take read text) =
-      ap (runs size) (kept_before
-      ∙ ap (λ n. kept base (take read text) ++ take n at.group) first
-      ∙ append-nil (kept base (take read text))) in
+      let front_same : kept base (take error.position text) ≡ kept base (take read text) =
+      kept_before ∙ rw first (append-nil (kept base (take read text))) in
       stops at new error.position written
       (read_by true (sound_run-none base at.width (drop read text) none)) (omega arith)
       (front_sound error.position front_same) fits
@@ -195,10 +171,7 @@ module _ {base : Base} {text : List ℕ} {read written : ℕ} {output : List ℕ
     run = positioned_from read front
 
     run_len : length run ≡ len
-    run_len =
-        length-positioned_from read front
-        ∙ length-take-le len (drop read text)
-        (greatest-least base at.width (length (drop read text)))
+    run_len = length-positioned_from read front ∙ length-take-le len (drop read text) len_most
 
     bytes_same : bytes_in run ≡ front
     bytes_same = bytes-positioned_from read front
@@ -206,34 +179,27 @@ module _ {base : Base} {text : List ℕ} {read written : ℕ} {output : List ℕ
     -- they are those before the fault
     run_is : take index at.group ≡ run
     run_is =
-        let most : len ≤ length (drop read text) =
-        greatest-least base at.width (length (drop read text)) in
         let same_len : greatest_valid_length base len ≡ len =
         greatest-same base at.width len (greatest-valid base at.width (length (drop read text))) in
         let least : greatest_valid_length base len ≤ index =
-        greatest-more base at.width len (length at.group) (run_few len most few sound) in
+        greatest-more base at.width len (length at.group) (run_few len len_most few sound) in
         let here : index ≡ len = omega (arith, same_len, least, index_most) in
-        ap (λ n. take n at.group) here ∙ ap (take len) (run_kept len most few sound)
-        ∙ take_at run (kept_from base (read + len) text) len run_len
+        rw here (ap (take len) (run_kept len len_most few sound)
+        ∙ take_at run (kept_from base (read + len) text) len run_len)
 
     groups_more : groups base (take error.position text)
         ≡ groups base (take read text) ++ run ∷ []
     groups_more =
-        ap (runs size) (kept_before ∙ ap (λ l. kept base (take read text) ++ l) run_is)
-        ∙ runs-join size (kept base (take read text)) run
-        (pos at) (whole at)
+        rw (kept_before, run_is)
+        (runs-join size (kept base (take read text)) run (pos at) (whole at)
         ∙ ap (λ l. groups base (take read text) ++ l)
-        (runs-short size run (omega (arith, run_len, some)) (omega (arith, run_len, few)))
+        (runs-short size run (omega (arith, run_len, some)) (omega (arith, run_len, few))))
 
     all_sound : AreSound base false (groups base (take read text) ++ run ∷ [])
         (is_final base run)
     all_sound =
         AreSound-append base false at.ended (is_final base run) (groups base (take read text))
-        (run ∷ []) at.so_far.sound (
-          ap (λ b. fault_after b base run) not_ended.0
-              ∙ ap (λ l. located run (group_fault base l)) bytes_same ∙ ap (located run) sound,
-          refl,
-        )
+        (run ∷ []) at.so_far.sound (rw (not_ended.0, bytes_same, sound), refl)
 
     pub last-sound : (count : ℕ) (new : List ℕ) → written + count ≤ length new
         → take (written + count) new
@@ -243,20 +209,12 @@ module _ {base : Base} {text : List ℕ} {read written : ℕ} {output : List ℕ
     last-sound count new fits writes =
         stops at new error.position (written + count)
         (read_by true (sound_run-group base at.width (drop read text) some few sound)) (omega arith)
-        ((λ i. or_else (no_length (take error.position text) i)
-        (first_after false base (groups_more i)))
-        ∙ first-none base false (is_final base run) (groups base (take read text) ++ run ∷ [])
-        all_sound)
+        (rw (no_length (take error.position text), groups_more)
+        (first-none base false (is_final base run) (groups base (take read text) ++ run ∷ [])
+        all_sound))
         fits
-        (ap (λ gs. flat_map (bytes_of_group base) (sound_after false base gs)) groups_more
-        ∙ ap (flat_map (bytes_of_group base))
-        (sound-all base false (is_final base run) (groups base (take read text) ++ run ∷ [])
-        all_sound)
-        ∙ flat_map-append (bytes_of_group base) (groups base (take read text)) (run ∷ [])
-        ∙ (λ i. sym at.so_far.writes i
-        ++ (append-nil (bytes_of_group base run)
-        ∙ ap (λ l. symbol_bytes base (map (meaning base) l)) bytes_same) i)
-        ∙ sym writes)
+        (rw (groups_more, sound-all base false (is_final base run) _ all_sound)
+        (rw (flat_map-append, ← at.so_far.writes, writes, append-nil, bytes_same)))
 
   -- but none with a fault is
   pub last-unsound : 0 < len
@@ -266,27 +224,18 @@ module _ {base : Base} {text : List ℕ} {read written : ℕ} {output : List ℕ
   last-unsound some bad new fits same =
       stops at new read written (read_by false unsound) (bounds at).0 (front_sound read refl) fits
       (front_bytes read refl ∙ sym same) where
+        by : (size < len) ⊎ (len ≤ size) → group_fault base (take size front) ≡ None → ⊥
+        by (inl long) first =
+            let whole = rw (take-take size len (drop read text) (omega (arith, long))) at first in
+            let few = run_few size (omega (arith, long, len_most)) (omega arith) whole in
+            absurd (omega (arith, few_members, few))
+        by (inr few) first =
+            let front_len = length-take len (drop read text) in
+            let none : group_fault base front ≡ None =
+            rw (take_all size front (omega (arith, front_len, few))) at first in
+            false≢true (sym (ap is_some none) ∙ bad few)
+
         unsound : is_sound_run base (drop read text) ≡ false
         unsound =
-            false_from_ne_true (is_sound_run base (drop read text)) (λ is.
-            let first : group_fault base (take size front) ≡ None =
-            sound_run-first base at.width (drop read text) some is in
-            let most : len ≤ length (drop read text) =
-            greatest-least base at.width (length (drop read text)) in
-            ⊎_elim {C = ⊥}
-            (λ (long : size < len).
-            let whole : group_fault base (take size (drop read text)) ≡ None =
-            ap (group_fault base)
-            (sym (take-take size len (drop read text) (omega (arith, long)))) ∙ first in
-            absurd (omega (
-              arith,
-              run_few size (omega (arith, long, most)) (omega arith) whole,
-              few_members,
-            )))
-            (λ (few : len ≤ size).
-            let front_len : length front ≤ size =
-            omega (arith, length-take-le len (drop read text) most, few) in
-            let none : group_fault base front ≡ None =
-            ap (group_fault base) (sym (take_all size front front_len)) ∙ first in
-            false≢true (sym (ap is_some none) ∙ bad few))
-            (cases_lt size len))
+            false_from_ne_true (is_sound_run base (drop read text))
+            (λ is. by (cases_lt size len) (sound_run-first base at.width (drop read text) some is))

@@ -1,15 +1,13 @@
 -- The bytes of a group as a text of their own.
-use Rattle.std.proofs.Common.{◌≡◌, ℕ, ◌+◌, ◌<◌, ◌≤◌, Bool, true, false, not, cond, ◌&&◌, List, [], ◌∷◌, length, Option, Some, None, is_some, refl, sym, ap, ◌∙◌, arith, map}
+use Rattle.std.proofs.Common.{◌≡◌, ℕ, ◌+◌, ◌<◌, ◌≤◌, Bool, true, false, not, cond, ◌&&◌, List, [], ◌∷◌, length, Option, Some, None, refl, sym, ap, ◌∙◌, arith}
 use Rattle.std.proofs.lemmas.List.{append-nil, length-map}
-use Rattle.std.specs.Prelude.{flat_map}
 use Rattle.std.specs.List.{AllByRecursion}
 use Rattle.data_encoding.proofs.decoding.GroupJudgementLemmas.{fault-length}
 use Rattle.data_encoding.specs.declared.decode.group.GroupFault.{GroupFault}
 use Rattle.data_encoding.specs.declared.error.DecodeError.{DecodeError}
 use Rattle.data_encoding.specs.declared.error.DecodeKind.TheVariants.{Length as LengthFault}
 use Rattle.data_encoding.specs.Base.{Base, IsWidth, meaning, is_ignored, ignores_some, group_symbols}
-use Rattle.data_encoding.specs.Bits.{runs}
-use Rattle.data_encoding.specs.Fault.{bytes_of_group, fault_after, fault_at, fault_of, first_fault, group_fault, located, or_else, sound_after, sound_bytes, symbol_bytes}
+use Rattle.data_encoding.specs.Fault.{bytes_of_group, fault_after, fault_at, fault_of, group_fault, located, or_else, sound_bytes}
 use Rattle.data_encoding.specs.Grammar.{Positioned, groups, positioned, positioned_from, bytes_in}
 use Rattle.data_encoding.specs.Lengths.{greatest_valid_length, is_valid_length, length_fault}
 use Rattle.data_encoding.specs.Pieces.{fault_in}
@@ -24,9 +22,7 @@ use Rattle.data_encoding.proofs.lists.RunLemmas.{runs-short}
 invalid_from : (ignores valid : Bool) (fault error : DecodeError)
     → cond (not ignores && not valid) (Some fault) None ≡ Some error
     → (valid ≡ false) × (Some fault ≡ Some error)
-invalid_from true valid fault error h = cc
-invalid_from false true fault error h = cc
-invalid_from false false fault error h = (refl, h)
+invalid_from ignores valid fault error h = (grind arith, grind arith)
 
 module _ (base : Base) (width : IsWidth base.width) (group : List Positioned)
     (plain : AllByRecursion (λ k. is_ignored (meaning base k.byte) ≡ false) group)
@@ -55,38 +51,33 @@ module _ (base : Base) (width : IsWidth base.width) (group : List Positioned)
 
   one_group : groups base bytes ≡ alone ∷ []
   one_group =
-      ap (runs size)
-      (filter-all (λ (k : Positioned). not (is_ignored (meaning base k.byte))) alone
+      rw (filter-all (λ (k : Positioned). not (is_ignored (meaning base k.byte))) alone
       (each_kept 0 group plain))
-      ∙ runs-short size alone (omega (arith, count, alone_count, some))
-      (omega (arith, count, alone_count, few))
+      (runs-short size alone (omega (arith, count, alone_count, some))
+      (omega (arith, count, alone_count, few)))
 
   -- a group of no valid length has the fault of the length of the text
   length-group : is_valid_length base (length bytes) ≡ false
       → located alone (group_fault base bytes)
       ≡ Some (record { position = greatest_valid_length base (length bytes); kind = LengthFault })
   length-group invalid =
-      ap (located alone)
-      (fault-length base width bytes (omega (arith, some, count)) (omega (arith, few, count))
+      let index = greatest_valid_length base (length bytes) in
+      let start : 0 + index ≡ index = omega arith in
+      rw (fault-length base width bytes (omega (arith, some, count)) (omega (arith, few, count))
       invalid)
-      ∙ ap (λ p. Some (record { position = p; kind = LengthFault }))
-      (position_of-positioned_from 0 bytes (greatest_valid_length base (length bytes))
-      (greatest-less base width (length bytes) invalid) ∙ omega arith)
+      (rw (position_of-positioned_from 0 bytes index (greatest-less base width _ invalid), start))
 
   -- the text has the fault of the group
   fault_of-alone : fault_of base bytes ≡ located alone (group_fault base bytes)
   fault_of-alone =
-      ap (or_else (length_fault base (length bytes)))
-      (ap (first_fault base) one_group ∙ or_none (fault_after false base alone)
-      ∙ ap (λ l. located alone (group_fault base l)) (bytes-positioned_from 0 bytes))
-      ∙ by (length_fault base (length bytes)) refl where
+      rw (one_group, or_none, bytes-positioned_from)
+      (by (length_fault base (length bytes)) refl) where
         by : (o : Option DecodeError) → length_fault base (length bytes) ≡ o
             → or_else o (located alone (group_fault base bytes))
             ≡ located alone (group_fault base bytes)
         by None h = refl
         by (Some error) h =
-            let found = invalid_from (ignores_some base) (is_valid_length base (length bytes))
-            (record { position = greatest_valid_length base (length bytes); kind = LengthFault })
+            let found = invalid_from (ignores_some base) (is_valid_length base (length bytes)) _
             error h in
             sym (length-group found.0 ∙ found.1)
 
@@ -100,15 +91,12 @@ module _ (base : Base) (width : IsWidth base.width) (group : List Positioned)
 
   pub fault-alone : fault_after false base group ≡ fault_in group (fault_of base bytes)
   fault-alone =
-      located-alone (group_fault base bytes) (group_fault-inside base width group some few)
-      ∙ ap (fault_in group) (sym fault_of-alone)
+      rw fault_of-alone
+      (located-alone (group_fault base bytes) (group_fault-inside base width group some few))
 
   -- and its bytes
   pub bytes-alone : fault_of base bytes ≡ None → bytes_of_group base group ≡ sound_bytes base bytes
   bytes-alone none =
-      ap (λ l. symbol_bytes base (map (meaning base) l)) (sym (bytes-positioned_from 0 bytes))
-      ∙ sym (append-nil (bytes_of_group base alone))
-      ∙ sym (ap (λ gs. flat_map (bytes_of_group base) (sound_after false base gs)) one_group
-      ∙ ap (λ o. flat_map (bytes_of_group base) (cond (is_some o) [] (alone ∷ [])))
-      (ap (λ l. located alone (group_fault base l)) (bytes-positioned_from 0 bytes)
-      ∙ sym fault_of-alone ∙ none))
+      let sound = rw fault_of-alone at none in
+      let same = bytes-positioned_from 0 bytes in
+      rw (one_group, same, sound, append-nil, same)

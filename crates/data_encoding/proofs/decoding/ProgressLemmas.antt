@@ -9,9 +9,9 @@ use Rattle.std.proofs.lemmas.Nat.{div-add-mod'}
 use Rattle.std.specs.Prelude.{flat_map}
 use Rattle.data_encoding.specs.Base.{Base, meaning, is_symbol, is_padded, group_bytes, group_symbols, IsWidth}
 use Rattle.data_encoding.specs.Bits.{runs}
-use Rattle.data_encoding.specs.Grammar.{Positioned, positioned_from, kept, groups, is_final, Means, kept_in, kept_from, bytes_in, meanings_in}
+use Rattle.data_encoding.specs.Grammar.{Positioned, positioned_from, kept, groups, is_final, Means, kept_in, kept_from, meanings_in}
 use Rattle.data_encoding.specs.Lengths.{length_fault, most_bytes}
-use Rattle.data_encoding.specs.Fault.{fault_after, group_fault, bytes_of_group, fault_of, or_else, first_after, sound_after, sound_bytes}
+use Rattle.data_encoding.specs.Fault.{fault_after, bytes_of_group, fault_of, sound_bytes}
 use Rattle.data_encoding.specs.Partial.{position_after}
 use Rattle.data_encoding.specs.Decoding.{AreSound, HasDecodedTo, IsIgnoredFront, run_bytes}
 use Rattle.data_encoding.proofs.digits.WidthLemmas.{group_bits, group_symbols-pos}
@@ -85,68 +85,47 @@ module _ (base : Base) (width : IsWidth base.width) (text : List ℕ) where
     writes = same ∙ so_far.writes;
   }
 
-  -- while something is left, whole groups were read
-  pub whole-before : {read written : ℕ} {begun : Bool} {old : List ℕ} {stop : ℕ}
-      {part : List Positioned}
-      → HasDecodedTo base text read written begun old → IsPart base text read stop part
-      → length (kept base (take read text)) % dec ≡ 0
-  whole-before {read} {stop} so_far next =
-      ⊎_elim {C = length (kept base (take read text)) % dec ≡ 0} (λ whole. whole)
-      (λ all.
-      let left = kept_from-more base read text so_far.within stop next.after next.within in
-      absurd (omega (
-        arith,
-        next.some,
-        ap length next.is_kept,
-        ap length (sym left ∙ all.0),
-        length-append (kept_in base read (between read stop text)) (kept_from base stop text),
-      )))
-      so_far.whole
+  module _ {read written stop : ℕ} {begun : Bool} {old : List ℕ} {part : List Positioned}
+      (so_far : HasDecodedTo base text read written begun old)
+      (next : IsPart base text read stop part) where
+    -- while something is left, whole groups were read
+    pub whole-before : length (kept base (take read text)) % dec ≡ 0
+    whole-before =
+        let left = simp length-append at (ap length
+        (kept_from-more base read text so_far.within stop next.after next.within)) in
+        ⊎_elim {C = length (kept base (take read text)) % dec ≡ 0} (λ whole. whole)
+        (λ all.
+        absurd (omega (arith, next.some, left, ap length next.is_kept, ap length all.0)))
+        so_far.whole
 
-  groups-more : {read written : ℕ} {begun : Bool} {old : List ℕ} {stop : ℕ} {part : List Positioned}
-      → HasDecodedTo base text read written begun old → IsPart base text read stop part
-      → groups base (take stop text) ≡ groups base (take read text) ++ runs dec part
-  groups-more {read} {stop} {part} so_far next =
-      ap (runs dec) (kept-more base read text so_far.within stop next.after next.within
-      ∙ ap (λ l. kept base (take read text) ++ l) (sym next.is_kept))
-      ∙ runs-join dec (kept base (take read text)) part pos
-      (whole-before so_far next)
+    parts : kept base (take stop text) ≡ kept base (take read text) ++ part
+    parts = rw next.is_kept (kept-more base read text so_far.within stop next.after next.within)
 
-  advance : {read written stop : ℕ} (count : ℕ) {begun : Bool} (ended : Bool)
-      {part : List Positioned} {old : List ℕ} (new : List ℕ)
-      → HasDecodedTo base text read written begun old
-      → IsPart base text read stop part
-      → AreSound base begun (runs dec part) ended
-      → (length part % dec ≡ 0) ⊎ ((kept_from base stop text ≡ []) × (is_padded base ≡ false))
-      → written + count ≤ length new
-      → take (written + count) new
-      ≡ take written old ++ flat_map (bytes_of_group base) (runs dec part)
-      → HasDecodedTo base text stop (written + count) ended new
-  advance {read} {stop} count {begun} ended {part} new so_far next sound last fits writes =
-      let more = groups-more so_far next in
-      let parts = kept-more base read text so_far.within stop next.after next.within
-      ∙ ap (λ l. kept base (take read text) ++ l) (sym next.is_kept) in
-      record {
-        within = next.within;
-        sound = subst (λ gs. AreSound base false gs ended) (sym more)
-            (AreSound-append base false begun ended (groups base (take read text)) (runs dec part)
-            so_far.sound sound);
-        whole = ⊎_elim {C = (length (kept base (take stop text)) % dec ≡ 0)
-            ⊎ ((kept_from base stop text ≡ []) × (is_padded base ≡ false))}
-            (λ whole. inl (ap (λ n. n % dec)
-            (ap length parts ∙ length-append (kept base (take read text)) part)
-            ∙ add-mod (length (kept base (take read text))) (length part) dec
-            ∙ (λ i. (whole-before so_far next i + whole i) % dec) ∙ zero-mod dec))
-            (λ all. inr all) last;
-        ends = ap position_after parts
-            ∙ position_after-append (kept base (take read text)) part next.some ∙ next.ends;
-        fits = fits;
-        writes = writes
-            ∙ ap (λ l. l ++ flat_map (bytes_of_group base) (runs dec part)) so_far.writes
-            ∙ sym (flat_map-append (bytes_of_group base) (groups base (take read text))
-            (runs dec part))
-            ∙ ap (flat_map (bytes_of_group base)) (sym more);
-      }
+    more : groups base (take stop text) ≡ groups base (take read text) ++ runs dec part
+    more = rw parts (runs-join dec (kept base (take read text)) part pos whole-before)
+
+    advance : (count : ℕ) (ended : Bool) (new : List ℕ)
+        → AreSound base begun (runs dec part) ended
+        → (length part % dec ≡ 0) ⊎ ((kept_from base stop text ≡ []) × (is_padded base ≡ false))
+        → written + count ≤ length new
+        → take (written + count) new
+        ≡ take written old ++ flat_map (bytes_of_group base) (runs dec part)
+        → HasDecodedTo base text stop (written + count) ended new
+    advance count ended new sound last fits writes = record {
+      within = next.within;
+      sound = rw more
+          (AreSound-append base false begun ended (groups base (take read text)) (runs dec part)
+          so_far.sound sound);
+      whole = ⊎_elim {C = (length (kept base (take stop text)) % dec ≡ 0)
+          ⊎ ((kept_from base stop text ≡ []) × (is_padded base ≡ false))}
+          (λ (all : length part % dec ≡ 0).
+          inl (rw (parts, length-append, add-mod, whole-before, all) (zero-mod dec)))
+          (λ all. inr all) last;
+      ends = rw parts
+          (position_after-append (kept base (take read text)) part next.some ∙ next.ends);
+      fits = fits;
+      writes = rw (more, flat_map-append, ← so_far.writes) writes;
+    }
 
   -- so many whole groups, of symbols alone, behind ignored bytes
   pub after-run : {read written skip : ℕ} (count : ℕ) {old : List ℕ} (new : List ℕ)
@@ -169,39 +148,34 @@ module _ (base : Base) (width : IsWidth base.width) (text : List ℕ) where
       let part_len : length part ≡ n =
       length-take-le n (drop start text) (omega (arith, length-drop start text, room)) in
       let some : 0 < n = omega (arith, mul-le-mul_right dec many, pos) in
-      let all : AllSo (λ byte. is_symbol (meaning base byte)) part =
-      all_at (λ byte. is_symbol (meaning base byte)) part
+      let all = all_at (λ byte. is_symbol (meaning base byte)) part
       (λ k less. let inside : k < n = omega (arith, less, part_len) in
-      ap (λ byte. is_symbol (meaning base byte)) (get_or-take n (drop start text) k 0 inside)
-      ∙ symbols k inside) in
+      rw (get_or-take n (drop start text) k 0 inside) (symbols k inside)) in
       let width_is : start + n - read ≡ skip + n = omega arith in
       let place : read + length (take skip (drop read text)) ≡ start =
       omega (arith, length-take-le skip (drop read text) front.within) in
-      let same : between read (start + n) text ≡ take skip (drop read text) ++ part =
-      ap (λ m. take m (drop read text)) width_is ∙ take-add skip n (drop read text)
-      ∙ ap (λ l. take skip (drop read text) ++ take n l) (drop-drop skip read text) in
       let parts : kept_in base read (between read (start + n) text) ≡ positioned_from start part =
-      ap (kept_in base read) same
-      ∙ kept_in-append base read (take skip (drop read text)) part
-      ∙ (λ i. nothing-kept_in base read (take skip (drop read text)) front.none i
-      ++ kept_in base (place i) part)
-      ∙ kept_in-symbols base start part all in
+      rw (width_is, take-add skip n (drop read text), drop-drop skip read text)
+      (rw (kept_in-append base read (take skip (drop read text)) part)
+      (rw (nothing-kept_in base read (take skip (drop read text)) front.none, place)
+      (kept_in-symbols base start part all))) in
       let len : length (positioned_from start part) ≡ n =
       length-positioned_from start part ∙ part_len in
-      advance (count * enc) false new so_far
+      advance so_far
       (record {
         after = omega arith;
         within = omega (arith, start_in, room);
         is_kept = sym parts;
         some = omega (arith, len, some);
-        ends = position_after-positioned start part (omega (arith, part_len, some))
-            ∙ ap (λ m. start + m) part_len;
+        ends = rw part_len at
+            (position_after-positioned start part (omega (arith, part_len, some)));
       })
+      (count * enc) false new
       (AreSound-symbols base width count (positioned_from start part) len
       (symbols-positioned base start part all))
-      (inl (ap (λ m. m % dec) len ∙ mul-mod_left count dec))
+      (inl (rw len (mul-mod_left count dec)))
       fits
-      (writes ∙ ap (λ l. take written old ++ l) (run_bytes-positioned base width start part))
+      (rw writes (ap (λ l. take written old ++ l) (run_bytes-positioned base width start part)))
 
   -- a group more
   pub after-group : {read written stop : ℕ} (count : ℕ) {begun : Bool} {group : List Positioned}
@@ -212,27 +186,23 @@ module _ (base : Base) (width : IsWidth base.width) (text : List ℕ) where
       → HasDecodedTo base text stop (written + count) (is_final base group) new
   after-group {written} {stop} count {begun} {group} {old} new so_far next sound fits writes =
       let one : runs dec group ≡ group ∷ [] = runs-short dec group next.is_part.some next.few in
-      let no_fault = (fault_after-none base begun group sound).1 in
-      advance count (is_final base group) new so_far next.is_part
-      (subst (λ gs. AreSound base begun gs (is_final base group)) (sym one) (sound, refl))
-      (by (is_padded base) refl no_fault)
+      advance so_far next.is_part count (is_final base group) new
+      (rw one (sound, refl))
+      (by (is_padded base) refl next.last)
       fits
-      (writes ∙ ap (λ l. take written old ++ l)
-      (sym (append-nil (bytes_of_group base group))
-      ∙ ap (flat_map (bytes_of_group base)) (sym one))) where
-        by : (b : Bool) → is_padded base ≡ b → group_fault base (bytes_in group) ≡ None
+      (rw (one, append-nil) writes) where
+        by : (b : Bool) → is_padded base ≡ b
+            → (length group ≡ dec) ⊎ (kept_from base stop text ≡ [])
             → (length group % dec ≡ 0)
             ⊎ ((kept_from base stop text ≡ []) × (is_padded base ≡ false))
-        by true is h =
+        by true is last =
             let len = length-meanings base group in
             let means = GroupMeans-sound base width (meanings_in base group)
-            (omega (arith, len, next.is_part.some)) (omega (arith, len, next.few)) h in
-            inl (ap (λ n. n % dec) (sym len ∙ means.is_whole is) ∙ mod_self dec)
-        by false is h =
-            ⊎_elim {C = (length group % dec ≡ 0)
-            ⊎ ((kept_from base stop text ≡ []) × (is_padded base ≡ false))}
-            (λ whole. inl (ap (λ n. n % dec) whole ∙ mod_self dec)) (λ none. inr (none, is))
-            next.last
+            (omega (arith, len, next.is_part.some)) (omega (arith, len, next.few))
+            (fault_after-none base begun group sound).1 in
+            inl (rw (← len, means.is_whole is) (mod_self dec))
+        by false is (inl whole) = inl (rw whole (mod_self dec))
+        by false is (inr none) = inr (none, is)
 
   module _ {read written : ℕ} {ended : Bool} {output : List ℕ}
       (so_far : HasDecodedTo base text read written ended output) where
@@ -240,21 +210,14 @@ module _ (base : Base) (width : IsWidth base.width) (text : List ℕ) where
     written_len = length-take-le written output so_far.fits
 
     few_kept : length (kept base (take read text)) ≤ read
-    few_kept = omega (
-      arith,
-      length-kept base (take read text),
-      length-take-le read text so_far.within,
-    )
+    few_kept =
+        omega (arith, length-kept base (take read text), length-take-le read text so_far.within)
 
     few_written : 8 * written ≤ base.width * length (kept base (take read text))
     few_written =
-        let same : length (flat_map (bytes_of_group base) (groups base (take read text)))
-        ≡ written =
-        ap length (sym so_far.writes) ∙ written_len in
-        let all : base.width * length (flat_map (λ g. g) (groups base (take read text)))
-        ≡ base.width * length (kept base (take read text)) =
-        ap (λ ks. base.width * length ks) (flat_map-runs dec (kept base (take read text)) pos) in
-        omega (arith, length-bytes_of_groups base (groups base (take read text)), same, all)
+        let bits = length-bytes_of_groups base (groups base (take read text)) in
+        rw (← so_far.writes, written_len, flat_map-runs dec (kept base (take read text)) pos) at
+        bits
 
     few_bits : 8 * written ≤ base.width * read
     few_bits = omega (arith, few_written, mul-le-mul_left base.width few_kept)
@@ -275,8 +238,7 @@ module _ (base : Base) (width : IsWidth base.width) (text : List ℕ) where
           let exact : many / dec * dec ≡ many = omega (arith, div-add-mod' many dec, whole) in
           rw is (room-whole base.width enc dec (length text) read written
           (group_bits base.width width) so_far.within pos (many / dec) count
-          (subst (λ n. 8 * written ≤ base.width * n) (sym exact) few_written)
-          (omega (arith, exact, few_kept)) h)
+          (rw exact few_written) (omega (arith, exact, few_kept)) h)
 
     -- and for the last of an unpadded text, perhaps shorter
     pub room-group : (count : ℕ) → is_padded base ≡ false → count ≤ length text - read
@@ -298,14 +260,10 @@ module _ (base : Base) (width : IsWidth base.width) (text : List ℕ) where
         → (fault_of base text ≡ None) × (sound_bytes base text ≡ take written output)
         × Means base text (take written output)
     at-end no_length_fault none_left =
-        let front : groups base text ≡ groups base (take read text) =
-        ap (runs dec) (kept-split base read text so_far.within
-        ∙ ap (λ l. kept base (take read text) ++ l) none_left
-        ∙ append-nil (kept base (take read text))) in
+        let front : kept base text ≡ kept base (take read text) =
+        kept-split base read text so_far.within ∙ rw none_left (append-nil _) in
         let fine : fault_of base text ≡ None =
-        (λ i. or_else (no_length_fault i) (first_after false base (front i)))
-        ∙ first-none base false ended (groups base (take read text)) so_far.sound in
-        let bytes : sound_bytes base text ≡ take written output =
-        ap (λ gs. flat_map (bytes_of_group base) (sound_after false base gs)) front
-        ∙ sound_bytes-front in
+        rw (no_length_fault, front)
+        (first-none base false ended (groups base (take read text)) so_far.sound) in
+        let bytes : sound_bytes base text ≡ take written output = rw front sound_bytes-front in
         (fine, bytes, subst (Means base text) bytes (Means-no_fault base width text fine))

@@ -1,5 +1,5 @@
 -- A decoding that is resumed where it stopped: what is read of a text with a fault means bytes.
-use Rattle.std.proofs.Common.{◌≡◌, ℕ, zero, suc, ◌+◌, ◌<◌, ◌≤◌, ◌⊎◌, Bool, true, false, List, [], ◌++◌, length, set, take, drop, get_or, replicate, Option, Some, None, is_some, refl, ap, ◌∙◌, arith, length-append, ⊎_elim, inl, inr, map, append_assoc, take-append-drop, length-take-le}
+use Rattle.std.proofs.Common.{◌≡◌, ℕ, zero, suc, ◌+◌, ◌<◌, ◌≤◌, ◌⊎◌, Bool, true, false, List, [], ◌++◌, length, set, take, drop, get_or, replicate, Option, Some, None, is_some, refl, ap, ◌∙◌, arith, length-append, inl, inr, map, append_assoc, take-append-drop, length-take-le}
 use Rattle.std.proofs.lemmas.Bool.{cases_lt}
 use Rattle.std.proofs.lemmas.List.{length-replicate, length-set, take_all}
 use Rattle.data_encoding.specs.declared.decode.group.GroupFault.{GroupFault}
@@ -32,29 +32,26 @@ module _ (base : Base) (size : ℕ) (part : List ℕ) where
       (count span : ℕ) (room : List ℕ) → HasGathered base part index count span room
       → count ≤ size → length room ≡ size → Gathers base size part
 
-  one_more : (index : ℕ) → index < length part → GathersFrom (index + 1) → GathersFrom index
-  one_more index inside others count span room so_far few len =
-      ⊎_elim {C = Gathers base size part}
-      (λ (more : count < size). by more (is_ignored (meaning base (get_or part index 0))) refl)
-      (λ (full : size ≤ count).
-      (take count room, span, gathered so_far (omega (arith, inside)) few (inl (omega arith))))
-      (cases_lt count size) where
-        by : count < size → (b : Bool) → is_ignored (meaning base (get_or part index 0)) ≡ b
-            → Gathers base size part
-        by more true is =
-            others count span room (gather-ignored base part index inside count span room so_far is)
-            few len
-        by more false is =
-            others (count + 1) (index + 1) (set room count (get_or part index 0))
-            (gather-kept base part index inside count span room so_far is (omega arith))
-            (omega arith) (length-set room count (get_or part index 0) ∙ len)
-
   gather_from : (fuel index : ℕ) → index + fuel ≡ length part → GathersFrom index
   gather_from zero index at count span room so_far few len =
       (take count room, span, gathered so_far (omega arith) few (inr (omega arith)))
   gather_from (suc fuel) index at count span room so_far few len =
-      one_more index (omega arith) (gather_from fuel (index + 1) (omega arith)) count span room
-      so_far few len
+      by (is_ignored (meaning base (get_or part index 0))) refl (cases_lt count size)
+      (gather_from fuel (index + 1) (omega arith)) where
+        inside : index < length part
+        inside = omega arith
+
+        by : (b : Bool) → is_ignored (meaning base (get_or part index 0)) ≡ b
+            → (count < size) ⊎ (size ≤ count) → GathersFrom (index + 1) → Gathers base size part
+        by b is (inr full) others =
+            (take count room, span, gathered so_far (omega (arith, inside)) few (inl (omega arith)))
+        by true is (inl more) others =
+            others count span room (gather-ignored base part index inside count span room so_far is)
+            few len
+        by false is (inl more) others =
+            others (count + 1) (index + 1) (set room count (get_or part index 0))
+            (gather-kept base part index inside count span room so_far is (omega arith))
+            (omega arith) (length-set room count (get_or part index 0) ∙ len)
 
   gather_all : Gathers base size part
   gather_all =
@@ -104,72 +101,67 @@ module _ (base : Base) (width : IsWidth base.width) (text : List ℕ)
     at_group : (stop : ℕ) (group : List Positioned) (error : DecodeError)
         → IsNext base text read stop group → fault_after ended base group ≡ Some error
         → Stops base text
-    at_group stop group error next faulty = by (is_length_fault error.kind) refl where
-      here : IsAtFault base text read written output error
-      here = record {
-        width = width;
-        ended = ended;
-        so_far = so_far;
-        no_length_fault = no_length_fault;
-        stop = stop;
-        group = group;
-        next = next;
-        faulty = faulty;
-      }
+    at_group stop group error next faulty =
+        by (is_length_fault error.kind) refl (cases_lt 0 len) (cases_lt size len)
+        (group_fault base front) refl where
+          here : IsAtFault base text read written output error
+          here = record {
+            width = width;
+            ended = ended;
+            so_far = so_far;
+            no_length_fault = no_length_fault;
+            stop = stop;
+            group = group;
+            next = next;
+            faulty = faulty;
+          }
 
-      run : is_length_fault error.kind ≡ true → 0 < len → (o : Option GroupFault)
-          → group_fault base front ≡ o → (size < len) ⊎ (len ≤ size) → Stops base text
-      run kind some o is (inl long) =
-          let at = last-unsound here kind some (λ few. absurd (omega (arith, long, few))) output
-          so_far.fits refl in
-          (_, _, at, λ other. cc)
-      run kind some (Some bad) is (inr few) =
-          let at = last-unsound here kind some (λ _. ap is_some is) output so_far.fits refl in
-          (_, _, at, λ other. cc)
-      run kind some None is (inr few) =
-          let bytes = symbol_bytes base (map (meaning base) front) in
-          let at = last-sound here kind some few is (length bytes) (take written output ++ bytes)
-          (omega (arith, behind_len bytes)) (behind_all bytes) in
-          (_, _, at, λ other. cc)
-
-      by : (b : Bool) → is_length_fault error.kind ≡ b → Stops base text
-      by false kind = (_, _, at-fault here kind, λ _. sound-front here)
-      by true kind =
-          ⊎_elim {C = Stops base text}
-          (λ (some : 0 < len). run kind some (group_fault base front) refl (cases_lt size len))
-          (λ (none : len ≤ 0).
-          (_, _, last-none here kind (omega (arith, none)) output so_far.fits refl, λ other. cc))
-          (cases_lt 0 len)
+          by : (b : Bool) → is_length_fault error.kind ≡ b → (0 < len) ⊎ (len ≤ 0)
+              → (size < len) ⊎ (len ≤ size) → (o : Option GroupFault) → group_fault base front ≡ o
+              → Stops base text
+          by false kind some few o is = (_, _, at-fault here kind, λ _. sound-front here)
+          by true kind (inr none) few o is =
+              (_, _, last-none here kind (omega (arith, none)) output so_far.fits refl, λ other. cc)
+          by true kind (inl some) (inl long) o is =
+              let at = last-unsound here kind some (λ few. absurd (omega (arith, long, few))) output
+              so_far.fits refl in
+              (_, _, at, λ other. cc)
+          by true kind (inl some) (inr few) (Some bad) is =
+              let at = last-unsound here kind some (λ _. ap is_some is) output so_far.fits refl in
+              (_, _, at, λ other. cc)
+          by true kind (inl some) (inr few) None is =
+              let bytes = symbol_bytes base (map (meaning base) front) in
+              let at = last-sound here kind some few is (length bytes)
+              (take written output ++ bytes) (omega (arith, behind_len bytes)) (behind_all bytes) in
+              (_, _, at, λ other. cc)
 
     -- the next group is faulty, or is read, and others are left
     step : ((stop count : ℕ) (end : Bool) (new : List ℕ)
         → HasDecodedTo base text stop count end new → read < stop → Stops base text)
         → Stops base text
     step others =
-        ⊎_elim {C = Stops base text}
-        (λ (some : 0 < length next.0).
-        by some (is-next base width text read so_far.within next.2 some)
-        (fault_after ended base group) refl)
-        (λ (none : length next.0 ≤ 0).
-        let end = at-end base width text so_far no_length_fault
-        (none-next base width text read so_far.within next.2 (omega (arith, none))) in cc)
-        (cases_lt 0 (length next.0)) where
+        by (cases_lt 0 (length next.0)) (fault_after ended base group) refl where
           next : Gathers base size (drop read text)
           next = gather_all base size (drop read text)
 
           group : List Positioned
           group = next_bytes base text read next.1
 
-          by : 0 < length next.0 → IsNext base text read (read + next.1) group
-              → (o : Option DecodeError) → fault_after ended base group ≡ o → Stops base text
-          by some is_next (Some error) faulty =
-              at_group (read + next.1) group error is_next faulty
-          by some is_next None sound =
+          by : (0 < length next.0) ⊎ (length next.0 ≤ 0) → (o : Option DecodeError)
+              → fault_after ended base group ≡ o → Stops base text
+          by (inr none) o is =
+              let end = at-end base width text so_far no_length_fault
+              (none-next base width text read so_far.within next.2 (omega (arith, none))) in cc
+          by (inl some) (Some error) faulty =
+              at_group (read + next.1) group error
+              (is-next base width text read so_far.within next.2 some) faulty
+          by (inl some) None sound =
               let bytes = bytes_of_group base group in
               others (read + next.1) (written + length bytes) (is_final base group)
               (take written output ++ bytes)
               (after-group base width text (length bytes) (take written output ++ bytes) so_far
-              is_next sound (omega (arith, behind_len bytes)) (behind_all bytes))
+              (is-next base width text read so_far.within next.2 some) sound
+              (omega (arith, behind_len bytes)) (behind_all bytes))
               (omega (arith, some, gathered-few next.2))
 
   -- an induction on a bound of the bytes that are left

@@ -1,25 +1,13 @@
 -- How many bytes groups have, and the room that is left for others.
-use Rattle.std.proofs.Common.{◌≡◌, ℕ, ◌+◌, ◌-◌, ◌*◌, ◌/◌, ◌%◌, ◌<◌, ◌≤◌, List, [], ◌∷◌, length, take, Option, arith, length-append, length-take-le, mul-add, add-mul, mul-le-mul_left, mul-le-mul_right, le-div_iff_mul-le, div-add-mod', flat_map, filter_map}
+use Rattle.std.proofs.Common.{◌≡◌, ℕ, ◌+◌, ◌-◌, ◌*◌, ◌/◌, ◌<◌, ◌≤◌, List, [], ◌∷◌, length, take, Option, arith, length-append, length-take-le, mul-add, add-mul, mul-le-mul_left, mul-le-mul_right, le-div_iff_mul-le, flat_map, filter_map}
 use Rattle.std.proofs.lemmas.List.{length-map}
 use Rattle.data_encoding.proofs.grammar.PositionLemmas.{length-meanings}
 use Rattle.data_encoding.specs.Base.{Base, value_of}
-use Rattle.data_encoding.specs.Bits.{number_of, runs}
 use Rattle.data_encoding.specs.Grammar.{Positioned, meanings_in}
 use Rattle.data_encoding.specs.Fault.{symbol_bits, bytes_of_group}
 use Rattle.data_encoding.proofs.lists.PartLemmas.{regroup}
 use Rattle.data_encoding.proofs.lists.RunLemmas.{length-runs}
 use Rattle.data_encoding.proofs.grammar.UnpaddedGroupLemmas.{length-bits_of_values}
-
--- between two multiples there is a whole group or more
-pub multiples : (size m n : ℕ) → m % size ≡ 0 → n % size ≡ 0 → m < n → m + size ≤ n
-multiples size m n h k less =
-    let whole_m : m ≡ m / size * size = omega (arith, div-add-mod' m size, h) in
-    let whole_n : n ≡ n / size * size = omega (arith, div-add-mod' n size, k) in
-    let next : m / size < n / size → (m / size + 1) * size ≤ n / size * size =
-    λ more. mul-le-mul_right size (omega (arith, more)) in
-    let least : n / size ≤ m / size → n / size * size ≤ m / size * size =
-    mul-le-mul_right size in
-    grind (arith, add-mul (m / size) 1 size, next, least, whole_m, whole_n)
 
 length-filter_map : {X Y : Type 0} (f : X → Option Y) (xs : List X)
     → length (filter_map f xs) ≤ length xs
@@ -36,14 +24,9 @@ length-bytes_of_group base group =
     let few : base.width * length values ≤ base.width * length group =
     mul-le-mul_left base.width
     (omega (arith, length-filter_map value_of meant, length-meanings base group)) in
-    omega (
-      arith,
-      length-map (runs 8 front) (number_of base.order),
-      length-runs 8 front,
-      length-take-le (length bits / 8 * 8) bits (omega arith),
-      length-bits_of_values base.order base.width values,
-      few,
-    )
+    let all = length-bits_of_values base.order base.width values in
+    let most = length-take-le (length bits / 8 * 8) bits (omega arith) in
+    rw length-map (omega (arith, length-runs 8 front, few, all, most))
 
 -- as many bits at most as symbols have
 pub length-bytes_of_groups : (base : Base) (groups : List (List Positioned))
@@ -70,8 +53,7 @@ module _ (width bytes symbols len read written : ℕ) (same : width * symbols �
 
   pub room-plain : 8 * written ≤ width * read → (count : ℕ) → count * symbols ≤ len - read
       → written + count * bytes ≤ width * len / 8
-  room-plain h count few =
-      omega (arith, room-bits h (count * symbols) few, regrouped count)
+  room-plain h count few = omega (arith, room-bits h (count * symbols) few, regrouped count)
 
   -- and for as many whole groups, where whole ones were read
   pub room-whole : 0 < symbols → (q count : ℕ) → 8 * written ≤ width * (q * symbols)

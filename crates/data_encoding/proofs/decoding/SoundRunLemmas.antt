@@ -4,7 +4,7 @@ use Rattle.std.proofs.lemmas.List.{take-map}
 use Rattle.data_encoding.specs.declared.error.DecodeError.{DecodeError}
 use Rattle.data_encoding.specs.Base.{Base, group_symbols, IsWidth}
 use Rattle.data_encoding.specs.Bits.{runs}
-use Rattle.data_encoding.specs.Grammar.{Positioned, positioned, is_final, bytes_in}
+use Rattle.data_encoding.specs.Grammar.{Positioned, positioned, bytes_in}
 use Rattle.data_encoding.specs.Lengths.{is_valid_length, greatest_valid_length, length_fault}
 use Rattle.data_encoding.specs.Fault.{group_fault, fault_of, first_after, fault_after}
 use Rattle.data_encoding.specs.Partial.{ignoring_nothing, is_sound_run}
@@ -73,8 +73,5 @@ module _ (base : Base) (width : IsWidth base.width) (bytes : List ℕ) where
         ≡ None =
         is_none-none _ (rw (strict_fault, first) at h) in
         let sound = neither_fault (fault_after false strict group) _ none in
-        let same : bytes_in group ≡ take size front =
-        sym (take-map (λ (k : Positioned). k.byte) size (positioned front))
-        ∙ ap (take size) (bytes-positioned_from 0 front) in
-        ap (group_fault base) (sym same) ∙ sym (group_fault-strict base (bytes_in group))
-        ∙ (fault_after-none strict false group sound.0).1
+        rw (← bytes-positioned_from 0 front, take-map, ← group_fault-strict base (bytes_in group))
+        (fault_after-none strict false group sound.0).1

@@ -1,33 +1,29 @@
 -- A decoding under way: what a run, a group and the end do to it.
-use Rattle.std.proofs.Common.{◌≡◌, ℕ, ◌+◌, ◌-◌, ◌*◌, ◌/◌, ◌%◌, ◌<◌, ◌≤◌, Bool, true, false, not, nat_lt, ◌&&◌, ◌==◌, ◌⊎◌, List, [], ◌++◌, length, take, drop, Some, None, Ok, refl, sym, ap, ◌∙◌, subst, arith, length-take-le, ⊎_elim, map}
-use Rattle.std.proofs.Math.Nat.{mul-le-mul_left, mul-zero, zero-mod}
+use Rattle.std.proofs.Common.{◌≡◌, ℕ, ◌+◌, ◌-◌, ◌*◌, ◌/◌, ◌%◌, ◌<◌, ◌≤◌, Bool, true, false, not, nat_lt, ◌&&◌, ◌==◌, ◌⊎◌, List, [], ◌++◌, length, take, drop, None, Ok, refl, sym, ap, ◌∙◌, subst, arith, length-take-le, ⊎_elim, inl, inr, map}
+use Rattle.std.proofs.Math.Nat.{mod_self, mul-le-mul_left}
 use Rattle.std.proofs.Math.Seq.{take-add}
-use Rattle.std.proofs.lemmas.Bool.{cases_lt, eqb-true}
+use Rattle.std.proofs.lemmas.Bool.{eqb-true}
 use Rattle.std.proofs.lemmas.Bool.Decides.{nat_tests}
 use Rattle.std.proofs.lemmas.List.{drop-drop, length-drop, take_rest, length-map}
 use Rattle.std.proofs.lemmas.Nat.{div-add-mod'}
 use Rattle.std.proofs.lemmas.Slice.{take-put_mid_below}
-use Rattle.std.specs.List.{list_any}
-use Rattle.std.proofs.Math.Bool.{and-false}
-use Rattle.data_encoding.proofs.decoding.WholeLengthLemmas.{most_bytes-few}
+use Rattle.data_encoding.proofs.decoding.WholeLengthLemmas.{most_bytes-few, whole_bytes}
 use Rattle.data_encoding.specs.declared.error.DecodeError.{DecodeError}
 use Rattle.data_encoding.specs.declared.error.DecodePartial.{DecodePartial}
 use Rattle.data_encoding.specs.declared.decode.group.GroupFault.{GroupFault}
-use Rattle.data_encoding.specs.Base.{Base, IsWidth, group_bytes, group_symbols, is_padded, is_padding, meaning}
-use Rattle.data_encoding.specs.Decoding.{HasFault, HasNoLastRun, HasRoom, IsDecoded, IsDecodedGroup, IsGathered, IsLastRun, IsRun, IsStop, HasStopped, IsIgnoredFront, valid_front, HasDecodedTo}
-use Rattle.data_encoding.specs.Fault.{group_fault, located, position_of, symbol_bytes}
+use Rattle.data_encoding.specs.Base.{Base, IsWidth, group_bytes, group_symbols, is_padded, meaning}
+use Rattle.data_encoding.specs.Decoding.{HasFault, HasNoLastRun, HasRoom, IsDecoded, IsDecodedGroup, IsGathered, IsLastRun, IsRun, HasStopped, IsIgnoredFront, valid_front, HasDecodedTo}
+use Rattle.data_encoding.specs.Fault.{position_of}
 use Rattle.data_encoding.specs.Grammar.{Positioned, bytes_in, kept, kept_from}
 use Rattle.data_encoding.specs.Lengths.{decoded_len, greatest_valid_length, length_fault, most_bytes}
 use Rattle.data_encoding.specs.Tables.{IsGroup}
 use Rattle.data_encoding.specs.Partial.{StopsAt, is_length_fault}
-use Rattle.data_encoding.proofs.digits.WidthLemmas.{group_bits}
 use Rattle.data_encoding.proofs.grammar.LengthLemmas.{decoded_len-counted, is_valid_length-by}
 use Rattle.data_encoding.proofs.grammar.GroupLemmas.{GroupMeans-sound}
 use Rattle.data_encoding.proofs.lists.WriteLemmas.{length-rewritten, length-rewritten_same, rewritten, take-rewritten}
 use Rattle.data_encoding.proofs.decoding.GatherLemmas.{bytes-next, gathered-few, gathered-some, is-next, next_bytes, none-next, position-next}
 use Rattle.data_encoding.proofs.decoding.GreatestLengthLemmas.{greatest-least, greatest-valid}
 use Rattle.data_encoding.proofs.decoding.LastRunLemmas.{last-none, last-sound, last-unsound}
-use Rattle.data_encoding.proofs.decoding.RoomLemmas.{multiples}
 use Rattle.data_encoding.proofs.decoding.ProgressLemmas.{IsNext, after-group, after-run, at-end, room-group, room-run, same-output}
 use Rattle.data_encoding.proofs.decoding.StopLemmas.{IsAtFault, at-fault_front}
 use Rattle.data_encoding.proofs.grammar.KeptLemmas.{nothing-left}
@@ -72,20 +68,14 @@ same-partial partial read written error h k l =
 pub final-not : {own base : Base} (count len : ℕ) → own ≡ base
     → (own.concatenates ≡ true) ⊎ (len ≤ count)
     → (not base.concatenates && nat_lt count len) ≡ false
-final-not {base} count len same =
-    ⊎_elim
-    (λ joins. ap (λ v. not v && nat_lt count len)
-    (ap (λ (b : Base). b.concatenates) (sym same) ∙ joins))
-    (λ few.
-    let all : nat_lt count len ≡ false = grind (arith, nat_tests, few) in
-    ap (λ v. not base.concatenates && v) all ∙ and-false (not base.concatenates))
+final-not count len same how =
+    let joins = ap (λ (b : Base). b.concatenates) same in grind (arith, nat_tests, joins, how)
 
 -- and otherwise it is
 pub final-is : {own base : Base} (count len : ℕ) → own ≡ base → own.concatenates ≡ false
     → count < len → (not base.concatenates && nat_lt count len) ≡ true
 final-is count len same apart padded =
-    let short : nat_lt count len ≡ true = grind (arith, nat_tests, padded) in
-    λ i. not ((ap (λ (b : Base). b.concatenates) (sym same) ∙ apart) i) && short i
+    let joins = ap (λ (b : Base). b.concatenates) same in grind (arith, nat_tests, joins)
 
 module _ {base : Base} {text : List ℕ} {w bytes symbols read written : ℕ} {ended : Bool}
     {output : List ℕ} (s : IsUnderWay base text w bytes symbols read written ended output) where
@@ -104,7 +94,7 @@ module _ {base : Base} {text : List ℕ} {w bytes symbols read written : ℕ} {e
   pub decoded-all : length text ≤ read → IsDecoded base text written output
   decoded-all past =
       let all : length text ≡ read = omega (arith, past, s.so_far.within) in
-      decoded (subst (λ n. kept_from base n text ≡ []) all (nothing-left base text))
+      decoded (rw (← all) (nothing-left base text))
 
   pub written-few : written ≤ length text
   written-few = omega (arith, s.so_far.fits, s.size_is, most_bytes-few base s.width (length text))
@@ -141,25 +131,22 @@ module _ {base : Base} {text : List ℕ} {w bytes symbols read written : ℕ} {e
       → {empty : Bool} → empty ≡ (length group == 0) → empty ≡ true
       → kept_from base start text ≡ []
   none-left start within {group} {span} is empty_is empty =
-      let found : IsGathered base (group_symbols base.width) (drop start text) group span =
-      rw (s.symbols_is, take_rest text start) at is in
-      none-next base s.width text start within found
+      none-next base s.width text start within (rw (s.symbols_is, take_rest text start) at is)
       (eqb-true (length group) 0 (sym empty_is ∙ empty))
 
   -- a group of that many bytes has room, where it may have bytes
   room-group_of : (count : ℕ) → count ≤ length text - read
-      → (is_padded base ≡ true → count ≡ group_symbols base.width)
+      → (is_padded base ≡ true → count % group_symbols base.width ≡ 0)
       → base.width * count / 8 ≤ length output - written
   room-group_of count few whole = by (is_padded base) refl where
     by : (b : Bool) → is_padded base ≡ b → base.width * count / 8 ≤ length output - written
     by true padded =
-        let all = whole padded in
-        let bits : base.width * count ≡ 8 * group_bytes base.width =
-        ap (λ n. base.width * n) all ∙ group_bits base.width s.width in
-        let one : 1 * group_symbols base.width ≤ length text - read = omega (arith, all, few) in
-        omega (arith, bits, room-run base s.width text s.so_far 1 one)
-    by false unpadded =
-        omega (arith, room-group base s.width text s.so_far count unpadded few)
+        let groups = count / group_symbols base.width in
+        let all : groups * group_symbols base.width ≡ count =
+        omega (arith, div-add-mod' count (group_symbols base.width), whole padded) in
+        let room = room-run base s.width text s.so_far groups (omega (arith, all, few)) in
+        rw (← all, whole_bytes base s.width groups) (omega (arith, room))
+    by false unpadded = omega (arith, room-group base s.width text s.so_far count unpadded few)
 
   -- the greatest front of valid length has that length
   front_len : length (valid_front base (drop read text))
@@ -171,26 +158,12 @@ module _ {base : Base} {text : List ℕ} {w bytes symbols read written : ℕ} {e
   -- it has room, where it is one group
   room-last : HasRoom base (drop read text) (length output - written)
   room-last few =
-      let rest = drop read text in
-      let front = valid_front base rest in
-      ⊎_elim
-      (λ (some : 0 < length front).
-      room-group_of (length front)
-      (omega (arith, front_len, greatest-least base s.width (length rest), length-drop read text))
-      (λ padded.
-      let exact : length front % group_symbols base.width ≡ 0 =
-      ap (λ n. n % group_symbols base.width) front_len
-      ∙ eqb-true (greatest_valid_length base (length rest) % group_symbols base.width) 0
-      (sym (is_valid_length-by base (greatest_valid_length base (length rest)) true padded)
-      ∙ greatest-valid base s.width (length rest)) in
-      let most = multiples (group_symbols base.width) 0 (length front)
-      (zero-mod (group_symbols base.width)) exact some in
-      omega (arith, most, few)))
-      (λ (none : length front ≤ 0).
-      let no_bits : base.width * length front ≡ 0 =
-      ap (λ n. base.width * n) (omega (arith, none)) ∙ mul-zero base.width in
-      omega (arith, no_bits))
-      (cases_lt 0 (length front))
+      let len = length (drop read text) in
+      room-group_of (length (valid_front base (drop read text)))
+      (omega (arith, front_len, greatest-least base s.width len, length-drop read text))
+      (λ padded. rw front_len (eqb-true (greatest_valid_length base len % _) 0
+      (sym (is_valid_length-by base (greatest_valid_length base len) true padded)
+      ∙ greatest-valid base s.width len)))
 
   module _ {group : List ℕ} {span : ℕ}
       (is : IsGathered base symbols (take (length text - read) (drop read text)) group span)
@@ -219,15 +192,9 @@ module _ {base : Base} {text : List ℕ} {w bytes symbols read written : ℕ} {e
       room-next_group whole =
           let few : length group ≤ length text - read =
           omega (arith, gathered-few found_here, found_here.within, length-drop read text) in
-          let room = room-group_of (length group) few (λ padded. whole padded ∙ s.symbols_is) in
-          let same = ap (λ n. n * length group) (sym s.w_is) in
-          omega (
-            arith,
-            room,
-            same,
-            ap length (take_rest output written),
-            length-drop written output,
-          )
+          let room = room-group_of (length group) few
+          (λ padded. rw (whole padded, s.symbols_is) (mod_self (group_symbols base.width))) in
+          rw (take_rest output written, ← s.w_is) (omega (arith, room, length-drop written output))
 
       -- A faulty group stops the decoding.
       module _ {fault : GroupFault} (has : HasFault base ended group fault) where
@@ -246,10 +213,8 @@ module _ {base : Base} {text : List ℕ} {w bytes symbols read written : ℕ} {e
           stop = read + span;
           group = placed;
           next = next (omega (arith, has.inside));
-          faulty = has.is_fault placed same_bytes
-              ∙ ap (λ n. Some (record { position = n; kind = fault.kind }))
-              (position-next base s.width text read s.so_far.within found_here fault.index
-              has.inside);
+          faulty = rw (position-next base s.width text read s.so_far.within found_here fault.index
+              has.inside) at (has.is_fault placed same_bytes);
         }
 
         -- where no last run is found
@@ -271,40 +236,18 @@ module _ {base : Base} {text : List ℕ} {w bytes symbols read written : ℕ} {e
             → IsLastRun base (drop read text) more (drop written new)
             → StopsAt base text new
             (record { read = error.position; written = written + more; error = error })
-        stops-after new same kind more fits last =
-            ⊎_elim {C = StopsAt base text new
-            (record { read = error.position; written = written + more; error = error })}
-            (λ empty.
+        stops-after new same kind more fits (inl empty) =
             let none : written + more ≡ written = omega (arith, empty.1) in
-            rw none (last-none at kind (sym front_len ∙ empty.0) new (omega (arith, fits)) same))
-            (λ run.
+            rw none (last-none at kind (sym front_len ∙ empty.0) new (omega (arith, fits)) same)
+        stops-after new same kind more fits (inr run) =
             let count = base.width * run.2 / 8 in
             let bytes : written + more ≡ written + count = ap (λ n. written + n) run.4 in
-            subst (λ n. StopsAt base text new
-            (record { read = error.position; written = n; error = error })) (sym bytes)
+            rw bytes
             (last-sound at kind (omega (arith, front_len, run.0)) (omega (arith, front_len, run.1))
             run.3.sound count new (omega (arith, fits, bytes))
-            (take-add written count new ∙ (λ i. same i ++ run.3.bytes i))))
-            last
+            (take-add written count new ∙ (λ i. same i ++ run.3.bytes i)))
 
         -- whatever was written of it
-        group-stops : (new : List ℕ) (partial : DecodePartial) → written ≤ length new
-            → take written new ≡ take written output
-            → IsStop base (drop read text) read written fault new partial
-            → StopsAt base text new partial
-        group-stops new partial fits same stop =
-            ⊎_elim {C = StopsAt base text new partial}
-            (λ how.
-            subst (StopsAt base text new)
-            (same-partial partial read written error how.0 how.1 stop.error_is)
-            (stops-here new fits same how.2))
-            (λ how.
-            subst (StopsAt base text new)
-            (same-partial partial error.position (written + how.2) error
-            (how.1 ∙ ap (λ (e : DecodeError). e.position) stop.error_is) how.3 stop.error_is)
-            (stops-after new same how.0 how.2 how.4 how.5))
-            stop.how
-
         pub group-stopped : (rest : List ℕ)
             → length rest ≡ length (take (length output - written) (drop written output))
             → HasStopped base text (rewritten written output rest)
@@ -318,9 +261,19 @@ module _ {base : Base} {text : List ℕ} {w bytes symbols read written : ℕ} {e
               room = λ _. subst (λ n. HasRoom base (drop read text) (n - written)) (sym same)
                   room-last;
               stops = λ new partial fits front stop.
-                  group-stops new partial fits
-                  (front ∙ take-put_mid_below written (length output - written) output rest written
-                  (omega arith) s.so_far.fits) stop;
+                  let kept = front ∙ take-put_mid_below written (length output - written) output
+                  rest written (omega arith) s.so_far.fits in
+                  ⊎_elim {C = StopsAt base text new partial}
+                  (λ how.
+                  subst (StopsAt base text new)
+                  (same-partial partial read written error how.0 how.1 stop.error_is)
+                  (stops-here new fits kept how.2))
+                  (λ how.
+                  subst (StopsAt base text new)
+                  (same-partial partial error.position (written + how.2) error
+                  (how.1 ∙ ap (λ (e : DecodeError). e.position) stop.error_is) how.3 stop.error_is)
+                  (stops-after new kept how.0 how.2 how.4 how.5))
+                  stop.how;
             }
 
 -- where no final group came before
@@ -338,17 +291,11 @@ module _ {base : Base} {text : List ℕ} {w bytes symbols read written : ℕ} {o
         / symbols * bytes ≤ length (take (length output - written) (drop written output))
     room-next_run =
         let dec = group_symbols base.width in
-        let enc = group_bytes base.width in
         let count = length (drop start text) / dec in
         let whole : count * dec ≤ length text - read =
         omega (arith, div-add-mod' (length (drop start text)) dec, length-drop start text) in
-        let fits : count * enc ≤ length (drop written output) =
-        omega (
-          arith,
-          room-run base s.width text s.so_far count whole,
-          length-drop written output,
-        ) in
-        rw (take_rest text start, take_rest output written, s.symbols_is, s.bytes_is) fits
+        rw (take_rest text start, take_rest output written, s.symbols_is, s.bytes_is)
+        (omega (arith, room-run base s.width text s.so_far count whole, length-drop written output))
 
     -- what a run does
     module _ {count : ℕ} {rest old : List ℕ}
@@ -357,20 +304,15 @@ module _ {base : Base} {text : List ℕ} {w bytes symbols read written : ℕ} {o
         (run : IsRun base (take (length text - (read + skip)) (drop (read + skip) text)) count old
         rest) where
       here : IsRun base (drop start text) count old rest
-      here = subst (λ l. IsRun base l count old rest) (take_rest text start) run
+      here = rw (take_rest text start) at run
 
       inside : count * group_symbols base.width ≤ length text - start
       inside = omega (arith, here.within, length-drop start text)
 
       room : count * group_bytes base.width ≤ length rest
       room =
-          omega (
-            arith,
-            room-run base s.width text s.so_far count (omega (arith, inside)),
-            rest_len,
-            ap length (take_rest output written),
-            length-drop written output,
-          )
+          let most = room-run base s.width text s.so_far count (omega (arith, inside)) in
+          rw (rest_len, take_rest output written) (omega (arith, most, length-drop written output))
 
       pub after_run : 0 < count
           → IsUnderWay base text w bytes symbols (read + skip + count * symbols)
@@ -391,20 +333,19 @@ module _ {base : Base} {text : List ℕ} {w bytes symbols read written : ℕ} {o
     decoded-behind past =
         let all : length text ≡ read + skip = omega (arith, past, start-within) in
         decoded s (nothing-behind base text read skip s.so_far.within front
-        (subst (λ n. kept_from base n text ≡ []) all (nothing-left base text)))
+        (rw (← all) (nothing-left base text)))
 
     -- what is gathered there is gathered from before them
     module _ {group : List ℕ} {span : ℕ}
         (is : IsGathered base symbols
         (take (length text - (read + skip)) (drop (read + skip) text)) group span) where
       found_behind : IsGathered base symbols (drop skip (drop read text)) group span
-      found_behind =
-          rw (take_rest text start, ← drop-drop skip read text) at is
+      found_behind = rw (take_rest text start, ← drop-drop skip read text) at is
 
       pub gathered-next : 0 < length group
           → IsGathered base symbols (take (length text - read) (drop read text)) group (skip + span)
       gathered-next some =
-          subst (λ l. IsGathered base symbols l group (skip + span)) (sym (take_rest text read))
+          rw (take_rest text read)
           (gathered-behind base symbols (drop read text) group skip span front found_behind
           (omega (arith, some, gathered-few found_behind)))
 
@@ -441,18 +382,13 @@ module _ {base : Base} {text : List ℕ} {w bytes symbols read written : ℕ} {o
         let new = rewritten written output rest in
         let fits = length-rewritten written output rest s.so_far.fits in
         let same = same_bytes s is in
-        let judged = ap (λ b. not base.concatenates && b)
-        (ap (λ l. list_any is_padding (map (meaning base) l)) same ∙ has.final) ∙ is_final in
         further s (length-rewritten_same written output rest s.so_far.fits rest_len)
-        (rw (← place, ← judged) (after-group base s.width text (w * count / 8) new s.so_far
-        (next s is some)
-        (ap (λ l. located (placed s is) (group_fault base l)) same
-        ∙ ap (located (placed s is)) has.sound)
+        (rw (← place, ← is_final, ← has.final, ← same)
+        (after-group base s.width text (w * count / 8) new s.so_far (next s is some)
+        (rw (same, has.sound))
         (omega (arith, few, fits))
         (take-rewritten written output rest s.so_far.fits (w * count / 8)
-        ∙ ap (λ l. take written output ++ l)
-        (ap (λ n. take (n * count / 8) rest) (sym s.w_is) ∙ has.bytes
-        ∙ ap (λ l. symbol_bytes base (map (meaning base) l)) (sym same)))))
+        ∙ ap (λ l. take written output ++ l) (rw (← s.w_is, has.bytes, ← same)))))
 
 -- what is found is a group where it is not empty
 pub some-group : {base : Base} {size : ℕ} {part group : List ℕ} {span : ℕ} {empty : Bool}

@@ -1,8 +1,7 @@
 -- Where a decoding stops: at the first faulty group.
-use Rattle.std.proofs.Common.{◌≡◌, ℕ, ◌+◌, ◌-◌, ◌%◌, ◌<◌, ◌≤◌, ◌==◌, Bool, true, false, not, cond, ◌&&◌, ◌||◌, nat_lt, List, [], ◌∷◌, ◌++◌, length, take, drop, Option, Some, None, is_some, IsOkAnd, refl, sym, ap, ◌∙◌, subst, arith, length-take-le, ⊎_elim}
+use Rattle.std.proofs.Common.{◌≡◌, ℕ, ◌+◌, ◌-◌, ◌%◌, ◌<◌, ◌≤◌, ◌==◌, Bool, true, false, not, cond, ◌&&◌, ◌||◌, nat_lt, List, [], ◌∷◌, ◌++◌, length, take, Option, Some, None, IsOkAnd, refl, sym, ap, ◌∙◌, subst, arith, length-take-le, ⊎_elim}
 use Rattle.std.proofs.lemmas.List.{length-drop, append-nil}
 use Rattle.std.proofs.Math.Nat.{mod_self}
-use Rattle.std.specs.Prelude.{flat_map}
 use Rattle.std.specs.List.{list_any, position}
 use Rattle.data_encoding.proofs.grammar.JoinFaultLemmas.{valid_behind}
 use Rattle.data_encoding.specs.declared.encoding.Character.{Character}
@@ -12,10 +11,10 @@ use Rattle.data_encoding.specs.declared.error.DecodeKind.TheVariants.{Trailing a
 use Rattle.data_encoding.specs.declared.error.DecodePartial.{DecodePartial}
 use Rattle.data_encoding.specs.Base.{Base, is_symbol, is_padded, ignores_some, group_symbols, IsWidth}
 use Rattle.data_encoding.specs.Bits.{runs}
-use Rattle.data_encoding.specs.Grammar.{Positioned, positioned_from, kept, groups, is_final, Means, kept_from, bytes_in, meanings_in}
+use Rattle.data_encoding.specs.Grammar.{Positioned, kept, groups, kept_from, bytes_in, meanings_in}
 use Rattle.data_encoding.specs.Lengths.{is_valid_count, is_valid_length, length_fault, decoded_len}
-use Rattle.data_encoding.specs.Fault.{bytes_of_group, character_fault, count_before_padding, fault_after, fault_at_first, fault_of, faulty_at, first_after, group_fault, located, or_else, position_of, sound_after, sound_bytes, sound_groups, symbols_fault, trailing_bits}
-use Rattle.data_encoding.specs.Partial.{StopsAt, position_after, sound_len, read_len, is_length_fault, partial_at, partial_by, partial_of}
+use Rattle.data_encoding.specs.Fault.{character_fault, count_before_padding, fault_after, fault_at_first, fault_of, faulty_at, group_fault, located, position_of, sound_bytes, sound_groups, symbols_fault, trailing_bits}
+use Rattle.data_encoding.specs.Partial.{StopsAt, sound_len, read_len, is_length_fault, partial_at, partial_by, partial_of}
 use Rattle.data_encoding.specs.Decoding.{HasDecodedTo}
 use Rattle.data_encoding.proofs.digits.WidthLemmas.{group_symbols-pos}
 use Rattle.data_encoding.proofs.lists.RunLemmas.{runs-nil, runs-append, runs-join, runs-short, flat_map-runs}
@@ -62,14 +61,12 @@ other-group base group true is whole =
     let count = count_before_padding group in
     let bad = count == 0 || not (is_valid_count base.width count) in
     rw (is, whole) (other-padding base group bad count)
-other-group base group false is valid =
-    rw (is, valid) (other-symbols base group)
+other-group base group false is valid = rw (is, valid) (other-symbols base group)
 
 kind-located : (group : List Positioned) (o : Option GroupFault) (error : DecodeError)
     → IsOther o → located group o ≡ Some error → is_length_fault error.kind ≡ false
 kind-located group None error other h = cc
-kind-located group (Some fault) error other h =
-    kind_of (record { position = position_of group fault.index; kind = fault.kind }) error h other
+kind-located group (Some fault) error other h = kind_of _ error h other
 
 -- So much of a text was decoded, and the next group is faulty.
 pub record IsAtFault (base : Base) (text : List ℕ) (read written : ℕ) (output : List ℕ)
@@ -92,8 +89,7 @@ module _ {base : Base} {text : List ℕ} {read written : ℕ} {output : List ℕ
   pos = group_symbols-pos base.width at.width
 
   pub whole : length (kept base (take read text)) % size ≡ 0
-  whole =
-      whole-before base at.width text at.so_far at.next.is_part
+  whole = whole-before base at.width text at.so_far at.next.is_part
 
   pub rest_is : kept_from base read text ≡ at.group ++ kept_from base at.stop text
   rest_is =
@@ -108,56 +104,42 @@ module _ {base : Base} {text : List ℕ} {read written : ℕ} {output : List ℕ
   groups_left =
       ⊎_elim {C = runs size (at.group ++ kept_from base at.stop text) ≡ at.group ∷ others}
       (λ len. runs-append size at.group (kept_from base at.stop text) pos len)
-      (λ none.
-      ap (λ l. runs size (at.group ++ l)) none ∙ ap (runs size) (append-nil at.group)
-      ∙ runs-short size at.group at.next.is_part.some at.next.few
-      ∙ ap (λ gs. at.group ∷ gs)
-      (sym (runs-nil {X = Positioned} size pos) ∙ ap (runs size) (sym none)))
+      (λ (none : kept_from base at.stop text ≡ []).
+      rw (none, append-nil at.group, runs-nil {X = Positioned} size pos)
+      (runs-short size at.group at.next.is_part.some at.next.few))
       at.next.last
 
   groups_are : groups base text ≡ groups base (take read text) ++ at.group ∷ others
   groups_are =
-      ap (runs size) (kept-split base read text at.so_far.within
-      ∙ ap (λ l. kept base (take read text) ++ l) rest_is)
-      ∙ runs-join size (kept base (take read text)) (at.group ++ kept_from base at.stop text) pos
+      rw (kept-split base read text at.so_far.within, rest_is)
+      (runs-join size (kept base (take read text)) (at.group ++ kept_from base at.stop text) pos
       whole
-      ∙ ap (λ l. groups base (take read text) ++ l) groups_left
+      ∙ ap (λ l. groups base (take read text) ++ l) groups_left)
 
   pub fault_is : fault_of base text ≡ Some error
   fault_is =
-      (λ i. or_else (at.no_length_fault i) (first_after false base (groups_are i)))
-      ∙ first-AreSound base false at.ended (groups base (take read text)) (at.group ∷ others)
-      at.so_far.sound
-      ∙ ap (λ o. or_else o (first_after (is_final base at.group) base others)) at.faulty
+      rw (at.no_length_fault, groups_are)
+      (rw (first-AreSound base false at.ended _ (at.group ∷ others) at.so_far.sound, at.faulty))
 
   sound_are : sound_groups base (groups base text) ≡ groups base (take read text)
   sound_are =
-      ap (sound_after false base) groups_are
-      ∙ sound-AreSound base false at.ended (groups base (take read text)) (at.group ∷ others)
-      at.so_far.sound
-      ∙ ap (λ o. groups base (take read text) ++ cond (is_some o) []
-      (at.group ∷ sound_after (is_final base at.group) base others)) at.faulty
-      ∙ append-nil (groups base (take read text))
+      rw groups_are
+      (rw (sound-AreSound base false at.ended _ (at.group ∷ others) at.so_far.sound, at.faulty)
+      (append-nil (groups base (take read text))))
 
   pub sound-front : sound_bytes base text ≡ sound_bytes base (take read text)
   sound-front =
-      ap (flat_map (bytes_of_group base))
-      (sound_are ∙ sym (sound-all base false at.ended (groups base (take read text))
-      at.so_far.sound))
+      rw (sound_are, sound-all base false at.ended (groups base (take read text)) at.so_far.sound)
 
   pub sound_len_is : sound_len base text ≡ read
-  sound_len_is =
-      ap (λ gs. position_after (flat_map (λ g. g) gs)) sound_are
-      ∙ ap position_after (flat_map-runs size (kept base (take read text)) pos) ∙ at.so_far.ends
+  sound_len_is = rw (sound_are, flat_map-runs size (kept base (take read text)) pos) at.so_far.ends
 
   front_sound : fault_of base (take read text) ≡ None
   front_sound =
-      let valid : length_fault base (length (take read text)) ≡ None =
-      length_fault-none base (length (take read text))
+      let valid = length_fault-none base (length (take read text))
       (λ none. whole-length base at.width (length (take read text))
-      (ap (λ n. n % size) (sym (length-kept_plain base (take read text) none)) ∙ whole)) in
-      ap (λ o. or_else o (first_after false base (groups base (take read text)))) valid
-      ∙ first-none base false at.ended (groups base (take read text)) at.so_far.sound
+      (rw (length-kept_plain base (take read text) none) at whole)) in
+      rw valid (first-none base false at.ended (groups base (take read text)) at.so_far.sound)
 
   fault_inside : (index : ℕ) × (index < length at.group)
       × (error.position ≡ position_of at.group index)
@@ -176,15 +158,13 @@ module _ {base : Base} {text : List ℕ} {read written : ℕ} {output : List ℕ
 
   pub bounds : (read ≤ error.position) × (error.position < at.stop)
   bounds =
-      let part = between read at.stop text in
       let part_len = length-between base read text at.so_far.within at.stop at.next.is_part.after
       at.next.is_part.within in
-      let stands = subst (λ g. fault_inside.0 < length g
+      rw fault_inside.2 (subst (λ g. fault_inside.0 < length g
       → (read ≤ position_of g fault_inside.0) × (position_of g fault_inside.0 < at.stop))
       (sym at.next.is_part.is_kept)
-      (kept_in-stands base read at.stop part fault_inside.0
-      (omega (arith, part_len, at.next.is_part.after))) fault_inside.1 in
-      subst (λ n. (read ≤ n) × (n < at.stop)) (sym fault_inside.2) stands
+      (kept_in-stands base read at.stop (between read at.stop text) fault_inside.0
+      (omega (arith, part_len, at.next.is_part.after))) fault_inside.1)
 
   -- a decoding stops there, having read so far and written the bytes of that
   pub stops : (new : List ℕ) (end count : ℕ) → read_len base text error ≡ end
@@ -192,19 +172,9 @@ module _ {base : Base} {text : List ℕ} {read written : ℕ} {output : List ℕ
       → sound_bytes base (take end text) ≡ take count new
       → StopsAt base text new (record { read = end; written = count; error = error })
   stops new end count read_is before sound fits bytes =
-      let written_is : length (sound_bytes base (take end text)) ≡ count =
-      ap length bytes ∙ length-take-le count new fits in
       record {
-        is_partial =
-            ap (partial_by base text) fault_is
-            ∙ (λ i. Some (record {
-              read = read_is i;
-              written = length (sound_bytes base (take (read_is i) text));
-              error = error;
-            }))
-            ∙ ap (λ k. Some (record { read = end; written = k; error = error })) written_is;
-        means = subst (Means base (take end text)) bytes
-            (Means-no_fault base at.width (take end text) sound);
+        is_partial = rw (fault_is, read_is, bytes, length-take-le count new fits);
+        means = rw (← bytes) (Means-no_fault base at.width (take end text) sound);
         read_before = before;
         within = omega (arith, bounds.1, at.next.is_part.within);
       }
@@ -227,8 +197,7 @@ module _ {base : Base} {text : List ℕ} {read written : ℕ} {output : List ℕ
   kind-valid valid = by at.ended at.faulty where
     by : (b : Bool) → fault_after b base at.group ≡ Some error
         → is_length_fault error.kind ≡ false
-    by true h =
-        kind_of (record { position = position_of at.group 0; kind = PaddingFault }) error h refl
+    by true h = kind_of _ error h refl
     by false h =
         kind-located at.group (group_fault base (bytes_in at.group)) error
         (other-group base (meanings_in base at.group) (is_padded base) refl
@@ -238,44 +207,30 @@ module _ {base : Base} {text : List ℕ} {read written : ℕ} {output : List ℕ
   module _ (none : ignores_some base ≡ false) where
     read_whole : read % size ≡ 0
     read_whole =
-        ap (λ n. n % size)
-        (sym (length-kept_plain base (take read text) none
-        ∙ length-take-le read text at.so_far.within))
-        ∙ whole
+        rw (length-kept_plain base (take read text) none, length-take-le read text at.so_far.within)
+        at whole
 
     group_len : length at.group ≡ at.stop - read
     group_len =
-        ap length at.next.is_part.is_kept
-        ∙ ap length (filter-plain base none (positioned_from read (between read at.stop text)))
-        ∙ length-positioned_from read (between read at.stop text)
-        ∙ length-between base read text at.so_far.within at.stop at.next.is_part.after
-        at.next.is_part.within
+        rw (at.next.is_part.is_kept, filter-plain base none, length-positioned_from)
+        (length-between base read text at.so_far.within at.stop at.next.is_part.after
+        at.next.is_part.within)
 
     last_stop : kept_from base at.stop text ≡ [] → read + length at.group ≡ length text
     last_stop empty =
-        let left : length (drop at.stop text) ≡ 0 =
-        sym (length-positioned_from at.stop (drop at.stop text))
-        ∙ ap length
-        (sym (filter-plain base none (positioned_from at.stop (drop at.stop text))) ∙ empty) in
-        omega (
-          arith,
-          length-drop at.stop text,
-          left,
-          group_len,
-          at.next.is_part.after,
-          at.next.is_part.within,
-        )
+        let left = rw (filter-plain base none, length-positioned_from, length-drop) at
+        (ap length empty) in
+        omega (arith, left, group_len, at.next.is_part.after, at.next.is_part.within)
 
     -- where nothing is ignored, that is no fault of a length
     pub kind-next : is_length_fault error.kind ≡ false
     kind-next =
         kind-valid (⊎_elim {C = is_valid_length base (length at.group) ≡ true}
         (λ len.
-        whole-length base at.width (length at.group) (ap (λ n. n % size) len ∙ mod_self size))
+        whole-length base at.width (length at.group) (rw len (mod_self size)))
         (λ empty.
-        sym (valid_behind base at.width read (length at.group) read_whole)
-        ∙ ap (is_valid_length base) (last_stop empty)
-        ∙ length_fault-valid base (length text) at.no_length_fault none)
+        rw (← valid_behind base at.width read (length at.group) read_whole, last_stop empty)
+        (length_fault-valid base (length text) at.no_length_fault none))
         at.next.last)
 
 -- what has a fault means nothing
@@ -297,14 +252,10 @@ most-partial base width text output partial stops =
     let bytes = take partial.written output in
     let read_len : length front ≡ partial.read =
     length-take-le partial.read text (omega (arith, stops.read_before, stops.within)) in
-    let here : Some (partial_at base text partial.error) ≡ Some partial =
-    ap (partial_by base text) (sym (fault-partial base text partial stops.is_partial))
-    ∙ stops.is_partial in
+    let here = rw (fault-partial base text partial stops.is_partial) at stops.is_partial in
     let same : partial_at base text partial.error ≡ partial = cc in
     let written_len : length bytes ≡ partial.written =
-    ap length (sym (sound_bytes-Means base width front bytes stops.means))
-    ∙ subst (λ (p : DecodePartial). length (sound_bytes base (take p.read text)) ≡ p.written) same
-    refl in
-    subst (λ n. IsOkAnd (decoded_len base n) (λ most. partial.written ≤ most)) read_len
-    (subst (λ n. IsOkAnd (decoded_len base (length front)) (λ most. n ≤ most)) written_len
-    (decoded_len-Means base width front bytes stops.means))
+    rw (← sound_bytes-Means base width front bytes stops.means)
+    (subst (λ (p : DecodePartial). length (sound_bytes base (take p.read text)) ≡ p.written) same
+    refl) in
+    rw (read_len, written_len) at (decoded_len-Means base width front bytes stops.means)

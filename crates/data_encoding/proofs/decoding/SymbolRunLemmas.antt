@@ -8,7 +8,6 @@ use Rattle.std.proofs.lemmas.Slice.{take-put_mid}
 use borrow.Rule.Slice.PartMut.{put_mid}
 use Rattle.data_encoding.specs.declared.encoding.Character.{Character}
 use Rattle.data_encoding.specs.Base.{Base, IsWidth, meaning, is_symbol, group_bytes, group_symbols}
-use Rattle.data_encoding.specs.Bits.{runs}
 use Rattle.data_encoding.specs.Decoding.{IsLongest, IsRun, run_bytes}
 use Rattle.data_encoding.specs.Fault.{symbol_bytes}
 use Rattle.data_encoding.specs.Tables.{HoldsValues, IsGroup}
@@ -60,16 +59,12 @@ module _ (base : Base) (width : IsWidth base.width) where
       let sum : (i + m) * size ≡ i * size + m * size = add-mul i m size in
       let front_len : length front ≡ i * size =
       length-take-le (i * size) part (omega (arith, within, sum)) in
-      let back_len : length back ≡ m * size =
-      length-take-le (m * size) (drop (i * size) part)
-      (omega (arith, within, sum, length-drop (i * size) part)) in
-      let ms = map (meaning base) front in
-      let ns = map (meaning base) back in
-      let whole : length ms % size ≡ 0 =
-      ap (λ n. n % size) (length-map front (meaning base) ∙ front_len) ∙ mul-mod_left i size in
-      let again = take_all (m * size) back (omega (arith, back_len)) in
-      rw (sum, take-add (i * size) (m * size) part, again, map-append (meaning base) front back)
-      (rw (runs-join size ms ns pos whole, flat_map-append (symbol_bytes base) (runs size ms) _))
+      let whole : length (map (meaning base) front) % size ≡ 0 =
+      rw (length-map, front_len) (mul-mod_left i size) in
+      let few : length back ≤ m * size =
+      omega (arith, length-take (m * size) (drop (i * size) part)) in
+      rw (sum, take-add (i * size) (m * size) part, take_all (m * size) back few, map-append)
+      (rw (runs-join size (map (meaning base) front) _ pos whole, flat_map-append))
 
   one : (group old piece : List ℕ) → length group ≡ size
       → ((k : ℕ) → k < length group → is_symbol (meaning base (slice_index group k)) ≡ true)

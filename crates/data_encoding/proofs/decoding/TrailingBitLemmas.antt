@@ -1,5 +1,5 @@
 -- The bytes of a group: the first that is no symbol, and the bits left over.
-use Rattle.std.proofs.Common.{◌≡◌, ℕ, ◌+◌, ◌-◌, ◌*◌, ◌/◌, ◌%◌, ◌^◌, ◌<◌, ◌≤◌, ◌==◌, Bool, true, false, not, ◌||◌, nat_lt, List, [], ◌∷◌, ◌++◌, length, map, take, drop, reverse, slice_index, Some, None, refl, sym, ap, ◌∙◌, subst, arith, length-append, pow-add, pow_pos, div-lt_iff_lt-mul, mod-lt, mul_comm, flat_map, slice_get}
+use Rattle.std.proofs.Common.{◌≡◌, ℕ, ◌+◌, ◌-◌, ◌*◌, ◌/◌, ◌%◌, ◌^◌, ◌<◌, ◌≤◌, ◌==◌, Bool, true, not, ◌||◌, List, [], ◌∷◌, ◌++◌, length, map, take, drop, reverse, slice_index, Some, None, refl, sym, ap, ◌∙◌, arith, length-append, pow-add, pow_pos, div-lt_iff_lt-mul, mod-lt, mul_comm, flat_map, slice_get}
 use Rattle.std.proofs.lemmas.Bool.Decides.{nat_tests}
 use Rattle.std.proofs.lemmas.List.{length-map, length-reverse, reverse-append, map-append, append-nil, drop_at, take_more, take_all}
 use Rattle.std.proofs.lemmas.List.Concat.{flat_map-append}
@@ -46,15 +46,14 @@ module _ (base : Base) (values : List ℕ) (holds : HoldsValues base values) whe
     pub no_symbol-none : StopsAfter group (length group)
         → position (λ m. not (is_symbol m)) (map (meaning base) group) ≡ None
     no_symbol-none s =
-        let past : nat_lt (length group) (length group) ≡ false = grind (arith, nat_tests) in
-        rw (symbols_len group (length group) s, length-map group (meaning base), past)
+        rw (symbols_len group (length group) s, length-map group (meaning base))
+        (grind (arith, nat_tests))
 
     -- or else the first that is none
     pub no_symbol-some : (index : ℕ) → StopsAfter group index → index < length group
         → position (λ m. not (is_symbol m)) (map (meaning base) group) ≡ Some index
     no_symbol-some index s h =
-        let here : nat_lt index (length group) ≡ true = grind (arith, nat_tests) in
-        rw (symbols_len group index s, length-map group (meaning base), here)
+        rw (symbols_len group index s, length-map group (meaning base)) (grind (arith, nat_tests))
 
 -- whether some bit is not zero
 abbrev some_bit : List ℕ → Bool
@@ -87,9 +86,8 @@ last_most width few value h =
     let whole : few + (width - few) ≡ width = omega arith in
     let low = low_bits few value in
     let high = low_bits (width - few) (value / 2 ^ few) in
-    let parts : reverse (low_bits width value) ≡ reverse high ++ reverse low =
-    ap (λ n. reverse (low_bits n value)) (sym whole)
-    ∙ ap reverse (low_bits-add few (width - few) value) ∙ reverse-append low high in
+    let parts = rw (whole, reverse-append low high) at
+    (ap reverse (low_bits-add few (width - few) value)) in
     let len : length (reverse high) ≡ width - few =
     length-reverse high ∙ length-low_bits (width - few) (value / 2 ^ few) in
     rw (parts, drop_at (reverse high) (reverse low) (width - few) len, some_bit-reverse low)
@@ -102,14 +100,12 @@ last_least width few value h below =
     let whole : width - few + few ≡ width = omega arith in
     let low = low_bits (width - few) value in
     let above = value / 2 ^ (width - few) in
-    let parts : low_bits width value ≡ low ++ low_bits few above =
-    ap (λ n. low_bits n value) (sym whole) ∙ low_bits-add (width - few) few value in
-    let power : 2 ^ width ≡ 2 ^ few * 2 ^ (width - few) =
-    ap (λ n. 2 ^ n) (sym whole) ∙ pow-add 2 (width - few) few
-    ∙ mul_comm (2 ^ (width - few)) (2 ^ few) in
+    let parts = rw whole at (low_bits-add (width - few) few value) in
+    let power = rw (whole, mul_comm (2 ^ (width - few)) (2 ^ few)) at (pow-add 2 (width - few) few)
+    in
     let small : above < 2 ^ few =
     (div-lt_iff_lt-mul {k = 2 ^ (width - few)} {x = value} {y = 2 ^ few}
-    (pow_pos (width - few))).1 (subst (λ n. value < n) power below) in
+    (pow_pos (width - few))).1 (rw power at below) in
     let len = length-low_bits (width - few) value in
     let last = low_bits few above in
     rw (parts, drop_at low last (width - few) len, some_bit-number last)
@@ -164,11 +160,9 @@ module _ (base : Base) (width : ℕ) (values group : List ℕ) (width_is : base.
       let front = take (length group - 1) group in
       let split = split_last group last ends.is_last in
       let found = values_in-table base values group holds ends.are_bytes ends.low
-      ∙ ap (map (slice_index values)) split
-      ∙ map-append (slice_index values) front (last ∷ []) in
+      ∙ ap (map (slice_index values)) split ∙ map-append (slice_index values) front (last ∷ []) in
       let count : length group ≡ length (map (slice_index values) front) + 1 =
-      ap length split ∙ length-append front (last ∷ [])
-      ∙ ap (λ n. n + 1) (sym (length-map front (slice_index values))) in
+      ap length split ∙ rw (length-append, length-map) in
       (λ i. left_over (order_is i) (width_is i) (found i))
       ∙ left_over-last order width (width * length group % 8) (map (slice_index values) front)
       (slice_index values last) (ap (λ n. width * n % 8) count) (omega (arith, few_bits))

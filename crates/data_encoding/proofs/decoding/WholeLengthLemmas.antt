@@ -39,6 +39,9 @@ module _ (base : Base) (width : IsWidth base.width) where
       (whole-length base width (count * size) (mul-mod_left count size))
       ∙ ap (λ n. Ok n) due
 
+  pub whole_bytes : (count : ℕ) → base.width * (count * size) / 8 ≡ count * group_bytes base.width
+  whole_bytes = lengths.plain
+
   pub most_bytes-few : (len : ℕ) → most_bytes base len ≤ len
   most_bytes-few len = grind (arith, lengths.padded_most len, lengths.plain_most len)
 

@@ -136,8 +136,7 @@ module _ (base : Base) (width : IsWidth base.width) where
         ≡ whole_bytes base text ++ whole_bytes base piece
     whole_bytes-behind =
         rw (groups_are, bytes-behind base false false before others before_sound)
-        (ap (λ l. whole_bytes base text ++ l)
-        (sound-moved base width len false (whole_groups base piece) few))
+        (rw (sound-moved base width len false (whole_groups base piece) few))
 
     -- where it means data and is whole groups
     pub ReadsSound-whole : (bytes : List ℕ) → Means base piece bytes
@@ -180,11 +179,8 @@ module _ (base : Base) (width : IsWidth base.width) where
         let read = Means-partial base width piece partial
         (no-length_fault piece partial.error fault of_whole) is in (
           HasRead-behind (Some partial.error) [] false alone,
-          whole_bytes-behind
-              ∙ ap (λ l. whole_bytes base text ++ l)
-              (sym (append-nil (whole_bytes base piece)) ∙ sym all
-              ∙ read.2 of_whole.not_length
-              ∙ sound_bytes-Means base width (take partial.read piece) bytes means),
+          rw (whole_bytes-behind, ← sound_bytes-Means base width _ bytes means)
+              (rw (← read.2 of_whole.not_length, all, append-nil (whole_bytes base piece))),
         )
 
 -- Where a text that means data is whole groups.
@@ -199,12 +195,10 @@ module _ (base : Base) (ruled : IsRuled base) (piece bytes : List ℕ) where
   kept-whole means = by base.padding refl ruled.padding where
     by : (o : Option ℕ) → base.padding ≡ o → IsRuledPadding base o → IsWholeBy
         → length (kept base piece) % group_symbols base.width ≡ 0
-    by o is h (inr (inr plain)) =
-        ap (λ n. n % group_symbols base.width) (length-kept_plain base piece plain.0) ∙ plain.1
+    by o is h (inr (inr plain)) = rw (length-kept_plain base piece plain.0) plain.1
     by None is h (inl padded) = absurd (false≢true (sym (ap is_some is) ∙ padded))
     by None is h (inr (inl divides)) =
         whole-plain base ruled piece [] bytes [] (ap is_some is) divides means
-    by (Some character) is h (inl padded) =
-        whole-padded base ruled piece [] bytes [] padded means
+    by (Some character) is h (inl padded) = whole-padded base ruled piece [] bytes [] padded means
     by (Some character) is h (inr (inl divides)) =
         absurd (false≢true (sym (ap (λ n. not (n == 0)) divides) ∙ h.2))
