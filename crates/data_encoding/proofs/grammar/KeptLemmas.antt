@@ -1,5 +1,5 @@
 -- The bytes of a text that are not ignored, part by part, and where they stand.
-use Rattle.std.proofs.Common.{◌≡◌, ℕ, ◌+◌, ◌-◌, ◌<◌, ◌≤◌, Bool, not, List, [], ◌∷◌, ◌++◌, length, take, drop, reverse, refl, ◌∙◌, arith, take-append-drop, length-take-le}
+use Rattle.std.proofs.Common.{◌≡◌, ℕ, ◌+◌, ◌-◌, ◌<◌, ◌≤◌, Bool, not, List, [], ◌∷◌, ◌++◌, length, take, drop, refl, ◌∙◌, arith, take-append-drop, length-take-le}
 use Rattle.std.proofs.lemmas.List.{length-drop, length-reverse, reverse-append, drop-drop, drop_all}
 use Rattle.std.proofs.lemmas.List.Elements.{filter-append, All-filter, All-from_recursion, All-get_or}
 use Rattle.std.proofs.Math.Seq.{take-add}
@@ -7,7 +7,7 @@ use Rattle.std.specs.List.{AllByRecursion}
 use Rattle.data_encoding.specs.Base.{Base, meaning, is_ignored}
 use Rattle.data_encoding.specs.Grammar.{Positioned, positioned_from, kept, kept_in, kept_from}
 use Rattle.data_encoding.specs.Fault.{position_of}
-use Rattle.data_encoding.specs.Partial.{position_after, position_after_first}
+use Rattle.data_encoding.specs.Partial.{position_after}
 use Rattle.data_encoding.proofs.grammar.PositionLemmas.{positioned_from-append}
 
 -- the part of a text between two positions
@@ -63,8 +63,7 @@ module _ (base : Base) where
 pub position_after-append : (xs ys : List Positioned) → 0 < length ys
     → position_after (xs ++ ys) ≡ position_after ys
 position_after-append xs ys h =
-    let some : 0 < length (reverse ys) = omega (arith, length-reverse ys) in
-    rw (reverse-append xs ys) (grind arith)
+    rw (reverse-append xs ys) (grind (arith, length-reverse ys))
 
 pub position_after-positioned : (start : ℕ) (part : List ℕ) → 0 < length part
     → position_after (positioned_from start part) ≡ start + length part

@@ -1,5 +1,5 @@
 -- Whole groups of symbols alone.
-use Rattle.std.proofs.Common.{◌≡◌, ℕ, zero, suc, ◌+◌, ◌*◌, ◌/◌, true, false, not, List, [], ◌∷◌, length, map, take, drop, None, refl, sym, ap, ◌∙◌, arith, take-append-drop, length-take-le}
+use Rattle.std.proofs.Common.{◌≡◌, ℕ, zero, suc, ◌+◌, ◌*◌, true, false, not, List, [], ◌∷◌, length, map, take, drop, None, refl, sym, ap, ◌∙◌, arith, take-append-drop, length-take-le}
 use Rattle.std.proofs.Math.Nat.{zero-mul, suc-mul}
 use Rattle.std.proofs.lemmas.List.{length-map, length-drop, drop_all, nil_from_length}
 use Rattle.std.proofs.lemmas.List.Folds.{flat_map-map}
@@ -50,12 +50,11 @@ module _ (base : Base) (width : IsWidth base.width) (group : List Positioned)
   plain : plain_fault base meant ≡ None
   plain =
       let many : length values ≡ group_symbols base.width =
-      omega (arith, simp length-map at (ap length meanings), meant_len) in
+      simp length-map at (ap length (sym meanings)) ∙ len in
       let bits : length (symbol_bits base meant) ≡ 8 * group_bytes base.width =
       rw (length-bits_of_values base.order base.width values, many) (group_bits base.width width) in
       let rest : trailing_bits base meant ≡ [] =
-      drop_all (length (symbol_bits base meant) / 8 * 8) (symbol_bits base meant)
-      (omega (arith, bits)) in
+      drop_all _ (symbol_bits base meant) (omega arith) in
       let valid : is_valid_count base.width (length meant) ≡ true =
       rw meant_len (whole-valid base.width width) in
       rw (valid, none, rest, and-false base.checks_trailing_bits)

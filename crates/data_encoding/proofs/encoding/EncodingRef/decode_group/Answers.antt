@@ -1,8 +1,8 @@
-use Rattle.std.proofs.Common.{◌≡◌, ◌*◌, ◌/◌, ◌<◌, ◌≤◌, ◌==◌, ◌&&◌, false, not, length, map, take, drop, refl, sym, ap, ◌∙◌, arith, length-take-le}
+use Rattle.std.proofs.Common.{◌≡◌, ◌*◌, ◌/◌, ◌<◌, ◌≤◌, ◌==◌, ◌&&◌, false, not, length, map, take, drop, refl, sym, ◌∙◌, arith, length-take-le}
 use Rattle.std.proofs.Math.Nat.{lt_of_not-le}
 use Rattle.std.proofs.lemmas.Bool.{false≢true}
 use Rattle.std.specs.List.{list_any}
-use Rattle.data_encoding.specs.Base.{Base, meaning}
+use Rattle.data_encoding.specs.Base.{meaning}
 use Rattle.data_encoding.specs.Fault.{trailing_bits}
 use Rattle.data_encoding.proofs.decoding.GroupJudgementLemmas.{few-bits, group-sound, room-symbols, symbol-fault, trailing-fault}
 use Rattle.data_encoding.proofs.digits.WidthLemmas.{group_symbols-few}
@@ -28,8 +28,7 @@ decode_symbols-requires-clause-exact g c =
     let few = c.in-Ok.ensures.symbols.within in
     length-take-le (c.WIDTH.result * count / 8) c.args.output.now
     (room-symbols c.WIDTH.ensures few (c.requires.room c.in-Ok.ensures.whole))
-    ∙ ap (λ n. c.WIDTH.result * n / 8) (sym (length-take-le count group few))
-    ∙ ap (λ w. w * length (take count group) / 8) c.WIDTH.ensures
+    ∙ cc (length-take-le count group few)
 
 pub returns-then-index-count-clause-fault : goal.returns-then-index-count-clause-fault
 returns-then-index-count-clause-fault g c =
@@ -88,7 +87,7 @@ returns-then-has_trailing-clause-fault g c =
     (trailing-fault seen c.self.inside.fields.now.values holds group
     (λ k. (c.type_inv.group k).fits) count
     c.in-Ok.ensures.symbols (c.if-not-decode_symbols.ensures.symbols.0 refl)
-    (ap (λ (b : Base). b.checks_trailing_bits) (sym c.self.view_is) ∙ c.if-self.true)
+    (rw (← c.self.view_is) c.if-self.true)
     (sym (c.if-has_trailing.ensures.any seen
     (Reads-seen _ c.self.invariant seen c.self.view_is g.G.GroupSize.WIDTH c.args.order
     c.requires.width c.requires.order)))
@@ -103,16 +102,12 @@ returns-clause-sound g c =
     let judged = map (meaning seen) symbols in
     let reads = Reads-seen _ c.self.invariant seen c.self.view_is g.G.GroupSize.WIDTH
     c.args.order c.requires.width c.requires.order in
-    let checks = ap (λ (b : Base). b.checks_trailing_bits) (sym c.self.view_is) in
     let quiet : (seen.checks_trailing_bits
     && list_any (λ bit. not (bit == 0)) (trailing_bits seen judged)) ≡ false =
     elim c.else-self.branch [
-      | else-self-via-then-self+else-has_trailing w ↦
-          (λ i. (checks ∙ w.if-self.true) i
-          && sym (w.if-has_trailing.ensures.any seen reads) i)
-      | else-self-via-else-self w ↦
-          ap (λ b. b && list_any (λ bit. not (bit == 0)) (trailing_bits seen judged))
-          (checks ∙ w.if-self.false)
+      | else-self-via-then-self+else-has_trailing w ↦ grind
+          (arith, c.self.view_is, w.if-self.true, w.if-has_trailing.ensures.any seen reads)
+      | else-self-via-else-self w ↦ grind (arith, c.self.view_is, w.if-self.false)
     ] in
     group-sound seen c.self.inside.fields.now.values reads.holds group
     (λ k. (c.type_inv.group k).fits) count
@@ -122,7 +117,7 @@ returns-clause-sound g c =
     ∙ length-take-le (c.WIDTH.result * count / 8) c.args.output.now
     (room-symbols c.WIDTH.ensures c.in-Ok.ensures.symbols.within
     (c.requires.room c.in-Ok.ensures.whole))
-    ∙ ap (λ w. w * count / 8) (c.WIDTH.ensures ∙ sym c.requires.width))
+    ∙ cc)
     (c.if-not-decode_symbols.ensures.bytes seen reads refl)
 
 pub overflow_mul-room : goal.overflow_mul-room

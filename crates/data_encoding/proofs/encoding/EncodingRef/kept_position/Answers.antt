@@ -1,4 +1,4 @@
-use Rattle.std.proofs.Common.{◌≡◌, ◌+◌, ◌<◌, ◌==◌, true, false, length, take, get_or, sym, ap, ◌∙◌, subst, arith}
+use Rattle.std.proofs.Common.{◌≡◌, ◌+◌, ◌<◌, false, length, take, get_or, sym, ap, ◌∙◌, arith}
 use Rattle.std.proofs.lemmas.Bool.Decides.{nat_tests}
 use Rattle.std.proofs.lemmas.List.{take_all}
 use Rattle.data_encoding.specs.Base.{ignores_some}
@@ -17,16 +17,12 @@ returns-then-left-eq0-clause-found c h =
     let at = c.loop-position.position in
     let byte = get_or part at 0 in
     let holds = HoldsValues-seen _ c.self.invariant seen c.self.view_is in
-    let other : (get_or c.self.inside.fields.now.values byte 0 == 129) ≡ false =
-    grind (arith, nat_tests, c.if-self-part.true) in
-    let small : byte < 256 = omega (arith, (c.type_inv.part at).fits) in
+    let ignored = holds.ignoreds byte (omega (arith, (c.type_inv.part at).fits)) in
     let so_far : length (kept seen (take at part)) + c.loop-position.left ≡ c.args.index =
     c.loop-position.invariant in
-    let same : length (kept seen (take at part)) ≡ c.args.index =
-    omega (arith, so_far, c.if-left-eq0.true) in
-    subst (λ n. at ≡ position_of (kept seen part) n) same
-    (sym (position-here seen part at c.loop-position-test.true
-    (holds.ignoreds byte small ∙ other)))
+    let same : length (kept seen (take at part)) ≡ c.args.index = omega arith in
+    rw (← same) (sym (position-here seen part at c.loop-position-test.true
+    (grind (arith, nat_tests, ignored, c.if-self-part.true))))
 
 pub loop-position-preserved : goal.loop-position-preserved
 loop-position-preserved c =
@@ -35,22 +31,18 @@ loop-position-preserved c =
     let at = c.loop-position.position in
     let byte = get_or part at 0 in
     let holds = HoldsValues-seen _ c.self.invariant seen c.self.view_is in
-    let small : byte < 256 = omega (arith, (c.type_inv.part at).fits) in
+    let ignored = holds.ignoreds byte (omega (arith, (c.type_inv.part at).fits)) in
     let so_far : length (kept seen (take at part)) + c.loop-position.left ≡ c.args.index =
     c.loop-position.invariant in
     elim c.if-self-part.branch [
       | then-self-part+else-left-eq0 w ↦
-          let other : (get_or c.self.inside.fields.now.values byte 0 == 129) ≡ false =
-          grind (arith, nat_tests, w.if-self-part.true) in
           let more = more-here seen part at c.loop-position-test.true
-          (holds.ignoreds byte small ∙ other) in
-          omega (arith, so_far, more, w.left-is, w.if-left-eq0.false)
+          (grind (arith, nat_tests, ignored, w.if-self-part.true)) in
+          omega (arith, w.left-is, w.if-left-eq0.false)
       | else-self-part w ↦
-          let same : (get_or c.self.inside.fields.now.values byte 0 == 129) ≡ true =
-          grind (arith, nat_tests, w.if-self-part.false) in
           let none = none-here seen part at c.loop-position-test.true
-          (holds.ignoreds byte small ∙ same) in
-          omega (arith, so_far, none, w.left-is)
+          (grind (arith, nat_tests, ignored, w.if-self-part.false)) in
+          omega (arith, w.left-is)
     ]
 
 pub returns-clause-found : goal.returns-clause-found
