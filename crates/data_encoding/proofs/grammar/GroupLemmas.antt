@@ -59,8 +59,7 @@ pub group_fault-inside : (base : Base) → IsWidth base.width → (group : List 
 group_fault-inside base width group some few =
     let len = length-meanings base group in
     subst (λ n. IsInside n (group_fault base (bytes_in group))) len
-    (inside-characters base width (meanings_in base group) (omega (arith, len, some))
-    (omega (arith, len, few)))
+    (inside-characters base width (meanings_in base group) (omega arith) (omega arith))
 
 pub located-inside : (group : List Positioned) (o : Option GroupFault) (error : DecodeError)
     → IsInside (length group) o → located group o ≡ Some error

@@ -140,5 +140,5 @@ module _ (base : Base) (ruled : IsRuled base) where
         let pos = group_symbols-pos base.width width in
         rw (joined, runs-join size (kept base text) rest pos whole.0)
         (GroupsMean-append (groups base text) (runs size rest) bytes more whole.1 first
-        (subst (λ gs. GroupsMean base gs more)
-        (runs-alike base width (kept base after) rest (ap (map (meaning base)) same)) second))
+        (rw (runs-alike base width (kept base after) rest (ap (map (meaning base)) same))
+        at second))

@@ -36,8 +36,7 @@ module _ (base : Base) where
 
       pub length-between : length (between read stop text) ≡ stop - read
       length-between =
-          length-take-le (stop - read) (drop read text)
-          (omega (arith, length-drop read text, inside))
+          length-take-le (stop - read) (drop read text) (omega (arith, length-drop read text))
 
       pub kept-more : kept base (take stop text)
           ≡ kept base (take read text) ++ kept_in base read (between read stop text)
@@ -50,9 +49,7 @@ module _ (base : Base) where
       kept_from-more =
           let place : read + length (between read stop text) ≡ stop =
           omega (arith, length-between) in
-          let rest : drop (stop - read) (drop read text) ≡ drop stop text =
-          rw sum at (drop-drop (stop - read) read text) in
-          rw (take-append-drop, place, rest)
+          rw (take-append-drop, place, drop-drop, sum)
           at (kept_in-append read (between read stop text) (drop (stop - read) (drop read text)))
 
   -- nothing is left after all of a text
@@ -82,10 +79,8 @@ StandsIn start stop k = (start ≤ k.position) × (k.position < stop)
 each_stands : (start stop n : ℕ) (part : List ℕ) → start ≤ n → n + length part ≤ stop
     → AllByRecursion (StandsIn start stop) (positioned_from n part)
 each_stands start stop n [] low high = tt
-each_stands start stop n (byte ∷ part) low high = (
-  (low, omega (arith, high)),
-  each_stands start stop (n + 1) part (omega (arith, low)) (omega (arith, high)),
-)
+each_stands start stop n (byte ∷ part) low high =
+    ((low, omega arith), each_stands start stop (n + 1) part (omega arith) (omega arith))
 
 pub kept_in-stands : (base : Base) (start stop : ℕ) (part : List ℕ) (index : ℕ)
     → start + length part ≤ stop → index < length (kept_in base start part)

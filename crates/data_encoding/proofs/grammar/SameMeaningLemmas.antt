@@ -25,10 +25,8 @@ module _ (ks js : List Positioned)
         → fault_at kind ks index ≡ fault_at kind js index
     fault_at-alike kind index =
         let first : Positioned = record { position = 0; byte = 0 } in
-        ap (λ n. Some (record { position = n; kind = kind }))
-        (sym (get_or-map (λ (k : Positioned). k.position) ks index first)
-        ∙ ap (λ l. get_or l index 0) stand
-        ∙ get_or-map (λ (k : Positioned). k.position) js index first)
+        let place : Positioned → ℕ = λ k. k.position in
+        cc (get_or-map place ks index first, get_or-map place js index first)
 
     located-alike : (o : Option GroupFault) → located ks o ≡ located js o
     located-alike None = refl
@@ -91,9 +89,11 @@ module _ (base : Base) where
     groups-seen =
         let size = group_symbols base.width in
         let some = group_symbols-pos base.width width in
-        sym (runs-map size seen (kept base text) some)
-        ∙ ap (runs size) (kept_in-seen 0 text other same)
-        ∙ runs-map size seen (kept base other) some
+        cc (
+          runs-map size seen (kept base text) some,
+          runs-map size seen (kept base other) some,
+          kept_in-seen 0 text other same,
+        )
 
     pub fault_of-translated : fault_of base text ≡ fault_of base other
     fault_of-translated =

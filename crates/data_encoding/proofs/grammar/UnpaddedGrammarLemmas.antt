@@ -40,21 +40,14 @@ module _ (base : Base) (width : IsWidth base.width) where
   PlainMeans-append group others bytes more whole all first second =
       let none = nil_from_length first.rest
       (omega (arith, PlainMeans-count base width group bytes first)) in
+      let exact = rw (none, append-nil) at first.same_bits in
       record {
         values = first.values ++ second.values;
         rest = second.rest;
         are_symbols =
             rw (first.are_symbols, second.are_symbols)
             (sym (map-append (λ value. Symbol value) first.values second.values));
-        same_bits =
-            simp (
-              flat_map-append,
-              first.same_bits,
-              none,
-              append-nil,
-              second.same_bits,
-              append_assoc,
-            );
+        same_bits = simp (flat_map-append, exact, second.same_bits, append_assoc);
         rest_is_short = second.rest_is_short;
         rest_is_zero = second.rest_is_zero;
         are_bytes = All-append (λ byte. byte < 256) bytes more first.are_bytes second.are_bytes;

@@ -10,15 +10,12 @@ use Rattle.data_encoding.proofs.encoding.EncodingRef.count_symbols.Goals.{then-c
 pub returns-then-trailing-width-clause-fault : goal.returns-then-trailing-width-clause-fault
 returns-then-trailing-width-clause-fault g c =
     rw c.faulty.ensures
-    (length-invalid c.args.self.now c.args.group.now
-    (cc) c.requires.some c.WIDTH-width.result (cc)
-    (omega (arith, g.G.GroupSize.is_group.is_width.some, c.WIDTH-width.ensures))
-    c.if-trailing-width.true)
+    (length-invalid c.args.self.now c.args.group.now (cc) c.requires.some c.WIDTH-width.result (cc)
+    (omega (arith, g.G.GroupSize.is_group.is_width.some)) c.if-trailing-width.true)
 
 pub returns-then-not-is_padded-clause-symbols : goal.returns-then-not-is_padded-clause-symbols
 returns-then-not-is_padded-clause-symbols g c =
-    let group = c.args.group.now in
-    symbols-all c.args.self.now group (cc) (grind (arith, nat_tests))
+    symbols-all c.args.self.now c.args.group.now (cc) (grind (arith, nat_tests))
 
 pub returns-then-group-SYMBOLS-clause-fault : goal.returns-then-group-SYMBOLS-clause-fault
 returns-then-group-SYMBOLS-clause-fault g c =
@@ -34,28 +31,24 @@ returns-then-count-eq0-clause-fault g c =
     let count = c.before_padding-count.result in
     let symbols : c.SYMBOLS.result ≡ group_symbols seen.width =
     cc g.G.GroupSize.is_group.has_symbols in
-    let bad : (count == 0 || not (is_valid_count c.WIDTH-width.result count)) ≡ true =
-    elim c.then-count-eq0.branch [
-      | then-count-eq0-via-then-count-eq0 w ↦ grind (arith, nat_tests, w.if-count-eq0.true)
-      | then-count-eq0-via-else-count-eq0+then-width-count w ↦ grind
-          (arith, nat_tests, w.if-width-count.true)
-    ] in
     rw c.faulty-then-count-eq0.ensures
     (padding-invalid seen group (cc) (omega arith) count
     (c.before_padding-count.ensures.count seen
     (HoldsValues-seen _ c.self.invariant seen c.self.view_is))
     (IsWidth-seen _ c.self.invariant seen c.self.view_is) c.requires.some
     c.before_padding-count.ensures.within
-    (cc bad))
+    (elim c.then-count-eq0.branch [
+      | then-count-eq0-via-then-count-eq0 w ↦ grind (arith, nat_tests, w.if-count-eq0.true)
+      | then-count-eq0-via-else-count-eq0+then-width-count w ↦ grind
+          (arith, nat_tests, w.if-width-count.true)
+    ]))
 
 pub returns-clause-symbols : goal.returns-clause-symbols
 returns-clause-symbols g c =
     let seen = c.args.self.now in
-    let group = c.args.group.now in
-    let count = c.before_padding-count.result in
     let symbols : c.SYMBOLS.result ≡ group_symbols seen.width =
     cc g.G.GroupSize.is_group.has_symbols in
-    symbols-before seen group (cc) (omega arith) count
+    symbols-before seen c.args.group.now (cc) (omega arith) c.before_padding-count.result
     (c.before_padding-count.ensures.count seen
     (HoldsValues-seen _ c.self.invariant seen c.self.view_is))
     c.before_padding-count.ensures.within (grind (arith, nat_tests)) (grind (arith, nat_tests))

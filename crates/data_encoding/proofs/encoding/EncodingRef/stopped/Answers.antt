@@ -17,9 +17,7 @@ is_length kind h = grind arith
 
 pub overflow_add-position : goal.overflow_add-position
 overflow_add-position c =
-    let within = c.kept_position.ensures.within in
-    let whole = ap length (take_rest c.args.input.now c.args.stop.read) in
-    let left = length-drop c.args.stop.read c.args.input.now in
+    let left = length-rest c.args.stop.read c.args.input.now in
     record { fits = omega arith }
 
 -- the position that is reported
@@ -33,19 +31,18 @@ found c =
 length_is : (c : Then-matches) → is_length_fault c.args.stop.kind ≡ true
 length_is c =
     elim c.match-matches.branch [
-      | in-Length w ↦ ap is_length_fault w.in-Length.is
-      | in_default w ↦ absurd (false≢true (sym w.matches-is ∙ c.if-matches.true))
+      | in-Length w ↦ cc w.in-Length.is
+      | in_default w ↦ cc
     ]
 
 pub returns-else-matches-clause-stop : goal.returns-else-matches-clause-stop
 returns-else-matches-clause-stop c = record {
-  error_is = ap (λ n. record { position = c.args.stop.read + n; kind = c.args.stop.kind })
-      (found (goal.at.returns-else-matches-clause-stop c).After-kept_position);
+  error_is = rw (found (goal.at.returns-else-matches-clause-stop c).After-kept_position);
   how = inl (
     refl,
     refl,
     λ length_is. elim c.match-matches.branch [
-      | in-Length w ↦ absurd (false≢true (sym c.if-matches.false ∙ w.matches-is))
+      | in-Length w ↦ absurd cc
       | in_default w ↦ absurd (w.in_default.not-Length (is_length c.args.stop.kind length_is))
     ],
   );
@@ -60,29 +57,25 @@ returns-in-Some-clause-stop c =
     let count = c.in-Some.count in
     let last = c.decode_front.new.output in
     let run = c.in-Some.ensures.run in
-    let left = c.decode_front.auto.output ∙ ap length (take_rest output written)
-    ∙ length-drop written output in
-    let new_len : length (put_mid written (length output - written) output last)
-    ≡ length output =
-    length-put_mid written (length output - written) output last
-    (omega (arith, c.requires.fits)) left in
+    let left = c.decode_front.auto.output ∙ length-rest written output in
+    let new_len = length-put_mid written (length output - written) output last (omega arith) left
+    in
     record {
-      error_is = ap (λ n. record { position = c.args.stop.read + n; kind = c.args.stop.kind })
-          (found (goal.at.returns-in-Some-clause-stop c).After-kept_position);
+      error_is = rw (found (goal.at.returns-in-Some-clause-stop c).After-kept_position);
       how = inr (
         length_is (goal.at.returns-in-Some-clause-stop c).Then-matches,
         refl,
         count,
         refl,
-        omega (arith, run.0, new_len, left, c.requires.fits),
+        omega arith,
         rw (drop-put_mid_at written output last c.requires.fits) (rw take_rest at run.1),
       );
     }
 
 pub returns-in_default-decode_front-clause-stop : goal.returns-in_default-decode_front-clause-stop
 returns-in_default-decode_front-clause-stop c = record {
-  error_is = ap (λ n. record { position = c.args.stop.read + n; kind = c.args.stop.kind })
-      (found (goal.at.returns-in_default-decode_front-clause-stop c).After-kept_position);
+  error_is =
+      rw (found (goal.at.returns-in_default-decode_front-clause-stop c).After-kept_position);
   how = inl (refl, refl, λ _. rw take_rest at (c.in_default-decode_front.ensures.none refl));
 }
 
