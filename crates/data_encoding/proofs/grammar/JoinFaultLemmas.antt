@@ -76,9 +76,7 @@ module _ (base : Base) (width : IsWidth base.width) where
   pub kept_in-moved : (count start : ℕ) (part : List ℕ)
       → kept_in base (count + start) part ≡ moved count (kept_in base start part)
   kept_in-moved count start part =
-      let keeps : Positioned → Bool = λ k. not (is_ignored (meaning base k.byte)) in
-      rw (positioned-moved count start part)
-      (sym (map-filter _ keeps (positioned_from start part)))
+      rw (positioned-moved count start part) (sym (map-filter _ _ (positioned_from start part)))
 
   abbrev pub AreFew : List (List Positioned) → Type 0
   AreFew gs = AllByRecursion (λ (g : List Positioned). (0 < length g) × (length g ≤ size)) gs

@@ -82,10 +82,9 @@ module _ (base : Base) (ruled : IsRuled base) where
     none_kept : All (λ byte. pads byte ≡ false) text
         → AllFail is_padding (meanings_in base (kept base text))
     none_kept h =
-        let keeps : ℕ → Bool = λ byte. not (is_ignored (meaning base byte)) in
         recursion_from_All (λ m. is_padding m ≡ false) (meanings_in base (kept base text))
         (All-map (λ m. is_padding m ≡ false) (meaning base) (bytes_in (kept base text))
-        (rw (bytes-kept_in base 0 text) (All-filter keeps (λ byte. pads byte ≡ false) text h)))
+        (rw (bytes-kept_in base 0 text) (All-filter _ (λ byte. pads byte ≡ false) text h)))
 
     none_final-kept : AllFail is_padding (meanings_in base (kept base text))
         → AllFail (is_final base) (groups base text)

@@ -18,9 +18,7 @@ module _ (base : Base) where
   pub kept_in-append : (start : ℕ) (xs ys : List ℕ)
       → kept_in base start (xs ++ ys) ≡ kept_in base start xs ++ kept_in base (start + length xs) ys
   kept_in-append start xs ys =
-      let keeps : Positioned → Bool = λ k. not (is_ignored (meaning base k.byte)) in
-      rw (positioned_from-append start xs ys)
-      (filter-append keeps (positioned_from start xs) (positioned_from (start + length xs) ys))
+      rw (positioned_from-append start xs ys) (filter-append _ (positioned_from start xs) _)
 
   module _ (read : ℕ) (text : List ℕ) (within : read ≤ length text) where
     at_read : 0 + length (take read text) ≡ read
@@ -87,9 +85,6 @@ pub kept_in-stands : (base : Base) (start stop : ℕ) (part : List ℕ) (index :
     → (start ≤ position_of (kept_in base start part) index)
     × (position_of (kept_in base start part) index < stop)
 kept_in-stands base start stop part index h inside =
-    let keeps : Positioned → Bool = λ k. not (is_ignored (meaning base k.byte)) in
-    All-get_or (StandsIn start stop) (kept_in base start part) index
-    (record { position = 0; byte = 0 }) inside
-    (All-filter keeps (StandsIn start stop) (positioned_from start part)
-    (All-from_recursion (StandsIn start stop) (positioned_from start part)
+    All-get_or (StandsIn start stop) _ index _ inside
+    (All-filter _ (StandsIn start stop) _ (All-from_recursion (StandsIn start stop) _
     (each_stands start stop start part (omega arith) h)))
