@@ -74,11 +74,10 @@ module _ (base : Base) (width : IsWidth base.width) (group : List Character) whe
       × (position (λ m. not (is_symbol m)) group ≡ None)
       × (base.checks_trailing_bits ≡ true → list_any (λ bit. not (bit == 0)) rest ≡ false) =
       grind (arith, nat_tests) in
-      let are_bits : AreBits bits = AreBits-flat_map (bits_of base.order base.width) values
+      let are_bits = AreBits-flat_map (bits_of base.order base.width) values
       (AreBits-bits_of base.order base.width) in
-      let front_len : length (take whole bits) ≡ whole = length-take-le whole bits (omega arith) in
       let bytes = AreValuesOf-runs (length bits / 8) base.order 8 (take whole bits) (omega arith)
-      (AreBits-take whole bits are_bits) (omega (arith, front_len)) in
+      (AreBits-take whole bits are_bits) (omega (arith, length-take-le whole bits (omega arith))) in
       let symbols = are_symbols group judged.1 in
       let count : length group ≡ length values = simp length-map at (ap length symbols) in
       let bits_len : length bits ≡ base.width * length group =

@@ -70,9 +70,6 @@ module _ (base : Base) (width : IsWidth base.width) (group : List Positioned)
   pub is_final-symbols : is_final base group ≡ false
   is_final-symbols = symbols-not_final base meant values meanings
 
-symbol_kept : (m : Character) → is_symbol m ≡ true → not (is_ignored m) ≡ true
-symbol_kept m h = grind arith
-
 pub symbols-positioned : (base : Base) (start : ℕ) (part : List ℕ)
     → AllSo (λ byte. is_symbol (meaning base byte)) part
     → AllSo (λ k. is_symbol (meaning base k.byte)) (positioned_from start part)
@@ -85,7 +82,7 @@ pub kept_in-symbols : (base : Base) (start : ℕ) (part : List ℕ)
     → kept_in base start part ≡ positioned_from start part
 kept_in-symbols base start [] h = refl
 kept_in-symbols base start (byte ∷ part) h =
-    rw (symbol_kept (meaning base byte) h.0, kept_in-symbols base (start + 1) part h.1)
+    grind (arith, h.0, kept_in-symbols base (start + 1) part h.1)
 
 -- whole groups of symbols are sound
 pub AreSound-symbols : (base : Base) → IsWidth base.width → (count : ℕ) (ks : List Positioned)

@@ -20,7 +20,6 @@ loop-index-preserved g c =
     let rest = c.args.rest.now in
     let index = c.loop-index.index in
     let byte = get_or rest index 0 in
-    let inside : index < length rest = c.loop-index-test.true in
     let most = c.loop-index.invariant.0 in
     let few = (IsSmall-group g.G.GroupSize.is_group).few_symbols in
     let small : byte < 256 = omega (arith, (c.type_inv.rest index).fits) in
@@ -30,16 +29,16 @@ loop-index-preserved g c =
           in (
             omega (arith, w.count-is),
             λ base holds. rw (w.room-is, w.count-is, w.span-is)
-                (gather-kept base rest index inside c.loop-index.count c.loop-index.span
-                c.loop-index.room (c.loop-index.invariant.1 base holds)
+                (gather-kept base rest index c.loop-index-test.true c.loop-index.count
+                c.loop-index.span c.loop-index.room (c.loop-index.invariant.1 base holds)
                 (grind (arith, nat_tests, holds.ignoreds byte small, w.if-values-byte.true))
                 (omega arith)),
           )
       | else-values-byte w ↦ (
         omega (arith, w.count-is),
         λ base holds. rw (w.room-is, w.count-is, w.span-is)
-            (gather-ignored base rest index inside c.loop-index.count c.loop-index.span
-            c.loop-index.room (c.loop-index.invariant.1 base holds)
+            (gather-ignored base rest index c.loop-index-test.true c.loop-index.count
+            c.loop-index.span c.loop-index.room (c.loop-index.invariant.1 base holds)
             (grind (arith, nat_tests, holds.ignoreds byte small, w.if-values-byte.false))),
       )
     ]
