@@ -1,5 +1,5 @@
 -- Texts one after the other.
-use Rattle.std.proofs.Common.{◌≡◌, ℕ, ◌⊎◌, flat_map, ◌+◌, ◌%◌, Bool, true, false, not, ◌&&◌, List, [], ◌∷◌, ◌++◌, length, Option, is_some, inl, inr, sym, ap, ◌∙◌, subst, arith, append_assoc, map}
+use Rattle.std.proofs.Common.{◌≡◌, ℕ, ◌⊎◌, flat_map, ◌+◌, ◌%◌, Bool, true, false, not, ◌&&◌, List, [], ◌∷◌, ◌++◌, length, Option, is_some, inl, inr, sym, ap, ◌∙◌, arith, append_assoc, map}
 use Rattle.std.proofs.Math.Nat.{mul-mod_left}
 use Rattle.std.proofs.lemmas.List.Elements.{All-filter, All-map, recursion_from_All}
 use Rattle.std.specs.Prelude.{All}
@@ -8,7 +8,7 @@ use Rattle.std.proofs.Math.Bool.{and-false}
 use Rattle.std.proofs.lemmas.Bool.Decides.{nat_tests}
 use Rattle.data_encoding.proofs.grammar.PositionLemmas.{length-meanings, meanings-append}
 use Rattle.data_encoding.specs.declared.encoding.Character.{Character}
-use Rattle.data_encoding.specs.Base.{Base, IsWidth, meaning, is_ignored, is_padded, is_padding, group_symbols}
+use Rattle.data_encoding.specs.Base.{Base, IsWidth, meaning, is_padded, is_padding, group_symbols}
 use Rattle.data_encoding.specs.Bits.{runs}
 use Rattle.data_encoding.specs.Grammar.{Positioned, kept, groups, PlainMeans, GroupsMean, Means, is_final, kept_in, bytes_in, meanings_in}
 use Rattle.data_encoding.specs.Laws.{MayBeFollowed}

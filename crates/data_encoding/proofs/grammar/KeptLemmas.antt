@@ -1,10 +1,10 @@
 -- The bytes of a text that are not ignored, part by part, and where they stand.
-use Rattle.std.proofs.Common.{◌≡◌, ℕ, ◌+◌, ◌-◌, ◌<◌, ◌≤◌, Bool, not, List, [], ◌∷◌, ◌++◌, length, take, drop, refl, ◌∙◌, arith, take-append-drop, length-take-le}
+use Rattle.std.proofs.Common.{◌≡◌, ℕ, ◌+◌, ◌-◌, ◌<◌, ◌≤◌, List, [], ◌∷◌, ◌++◌, length, take, drop, refl, ◌∙◌, arith, take-append-drop, length-take-le}
 use Rattle.std.proofs.lemmas.List.{length-drop, length-reverse, reverse-append, drop-drop, drop_all}
 use Rattle.std.proofs.lemmas.List.Elements.{filter-append, All-filter, All-from_recursion, All-get_or}
 use Rattle.std.proofs.Math.Seq.{take-add}
 use Rattle.std.specs.List.{AllByRecursion}
-use Rattle.data_encoding.specs.Base.{Base, meaning, is_ignored}
+use Rattle.data_encoding.specs.Base.{Base}
 use Rattle.data_encoding.specs.Grammar.{Positioned, positioned_from, kept, kept_in, kept_from}
 use Rattle.data_encoding.specs.Fault.{position_of}
 use Rattle.data_encoding.specs.Partial.{position_after}

@@ -8,7 +8,7 @@ use Rattle.std.specs.List.{filter_map, position}
 use Rattle.std.proofs.Math.Bool.{and-false}
 use Rattle.data_encoding.specs.declared.encoding.Character.{Character}
 use Rattle.data_encoding.specs.declared.encoding.Character.TheVariants.{Symbol}
-use Rattle.data_encoding.specs.Base.{Base, meaning, is_symbol, is_ignored, group_symbols, group_bytes, value_of, IsWidth}
+use Rattle.data_encoding.specs.Base.{Base, meaning, is_symbol, group_symbols, group_bytes, value_of, IsWidth}
 use Rattle.data_encoding.specs.Bits.{runs}
 use Rattle.data_encoding.specs.Grammar.{Positioned, bytes_in, is_final, kept_in, meanings_in, positioned_from}
 use Rattle.data_encoding.specs.Lengths.{is_valid_count}

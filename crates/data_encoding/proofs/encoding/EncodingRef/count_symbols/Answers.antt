@@ -1,7 +1,6 @@
-use Rattle.std.proofs.Common.{◌≡◌, ◌==◌, ◌||◌, true, not, arith}
+use Rattle.std.proofs.Common.{◌≡◌, arith}
 use Rattle.std.proofs.lemmas.Bool.Decides.{nat_tests}
 use Rattle.data_encoding.specs.Base.{group_symbols}
-use Rattle.data_encoding.specs.Lengths.{is_valid_count}
 use Rattle.data_encoding.proofs.decoding.GroupJudgementLemmas.{few-bits, group-short, length-invalid, padding-invalid, symbols-all, symbols-before}
 use Rattle.data_encoding.proofs.tables.TableLemmas.{HoldsValues-seen, IsWidth-seen}
 use Rattle.data_encoding.proofs.encoding.EncodingRef.count_symbols.Goals as goal

@@ -1,9 +1,6 @@
-use Rattle.std.proofs.Common.{◌≡◌, ◌*◌, ◌/◌, ◌<◌, ◌≤◌, ◌==◌, ◌&&◌, false, not, length, map, take, drop, refl, sym, ◌∙◌, arith, length-take-le}
+use Rattle.std.proofs.Common.{◌*◌, ◌/◌, ◌<◌, ◌≤◌, length, take, drop, refl, sym, ◌∙◌, arith, length-take-le}
 use Rattle.std.proofs.Math.Nat.{lt_of_not-le}
 use Rattle.std.proofs.lemmas.Bool.{false≢true}
-use Rattle.std.specs.List.{list_any}
-use Rattle.data_encoding.specs.Base.{meaning}
-use Rattle.data_encoding.specs.Fault.{trailing_bits}
 use Rattle.data_encoding.proofs.decoding.GroupJudgementLemmas.{few-bits, group-sound, room-symbols, symbol-fault, trailing-fault}
 use Rattle.data_encoding.proofs.digits.WidthLemmas.{group_symbols-few}
 use Rattle.data_encoding.proofs.tables.TableLemmas.{HoldsValues-seen, Reads-seen}

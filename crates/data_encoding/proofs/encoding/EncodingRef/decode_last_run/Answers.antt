@@ -1,7 +1,6 @@
-use Rattle.std.proofs.Common.{◌≡◌, ℕ, List, ◌*◌, ◌/◌, ◌≤◌, true, is_some, length, take, sym, ap, ◌∙◌, subst, arith, length-take-le, inr}
+use Rattle.std.proofs.Common.{◌≡◌, ℕ, List, ◌≤◌, length, take, sym, ap, ◌∙◌, arith, length-take-le, inr}
 use Rattle.data_encoding.specs.Base.{Base, group_symbols}
-use Rattle.data_encoding.specs.Decoding.{IsDecodedGroup, valid_front}
-use Rattle.data_encoding.specs.Fault.{group_fault}
+use Rattle.data_encoding.specs.Decoding.{valid_front}
 use Rattle.data_encoding.specs.Lengths.{greatest_valid_length}
 use Rattle.data_encoding.proofs.decoding.GroupJudgementLemmas.{HasFault-some, few-bits, room-symbols}
 use Rattle.data_encoding.proofs.encoding.EncodingRef.decode_last_run.Goals as goal

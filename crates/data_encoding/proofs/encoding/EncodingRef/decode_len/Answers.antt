@@ -1,6 +1,6 @@
-use Rattle.std.proofs.Common.{◌≡◌, ◌*◌, ◌/◌, ◌≤◌, true, false, length, Ok, IsOkAnd, sym, ap, ◌∙◌, subst}
+use Rattle.std.proofs.Common.{◌≡◌, true, false, sym, ◌∙◌}
 use Rattle.data_encoding.specs.Base.{ignores_some}
-use Rattle.data_encoding.specs.Lengths.{decoded_len, is_valid_length, most_bytes}
+use Rattle.data_encoding.specs.Lengths.{is_valid_length}
 use Rattle.data_encoding.proofs.grammar.LengthLemmas.{decoded_len-invalid, decoded_len-valid, most_bytes-valid}
 use Rattle.data_encoding.proofs.grammar.MeaningLemmas.{decoded_len-Means, length-Means}
 use Rattle.data_encoding.proofs.tables.TableLemmas.{IsWidth-seen}

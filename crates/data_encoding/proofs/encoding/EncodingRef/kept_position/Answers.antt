@@ -1,8 +1,7 @@
-use Rattle.std.proofs.Common.{◌≡◌, ◌+◌, ◌<◌, false, length, take, get_or, sym, ap, ◌∙◌, arith}
+use Rattle.std.proofs.Common.{◌≡◌, ◌<◌, false, length, take, get_or, sym, ◌∙◌, arith}
 use Rattle.std.proofs.lemmas.Bool.Decides.{nat_tests}
 use Rattle.std.proofs.lemmas.List.{take_all}
 use Rattle.data_encoding.specs.Base.{ignores_some}
-use Rattle.data_encoding.specs.Fault.{position_of}
 use Rattle.data_encoding.specs.Grammar.{kept, positioned}
 use Rattle.data_encoding.proofs.decoding.GatherLemmas.{more-here, none-here, position-here}
 use Rattle.data_encoding.proofs.grammar.PositionLemmas.{filter-plain, length-kept, position_of-positioned_from}

@@ -1,7 +1,6 @@
-use Rattle.std.proofs.Common.{◌≡◌, length, take, false, sym, ap, ◌∙◌, subst, arith}
+use Rattle.std.proofs.Common.{◌≡◌, take, false, sym, ◌∙◌, arith}
 use Rattle.std.proofs.lemmas.List.{take_all}
 use Rattle.data_encoding.specs.Base.{ignores_some}
-use Rattle.data_encoding.specs.Decoding.{IsGathered}
 use Rattle.data_encoding.proofs.decoding.GatherLemmas.{gathered-plain}
 use Rattle.data_encoding.proofs.digits.SizeLemmas.{IsSmall-group}
 use Rattle.data_encoding.proofs.tables.TableLemmas.{HoldsValues-seen}

@@ -1,7 +1,5 @@
-use Rattle.std.proofs.Common.{◌≡◌, ◌+◌, ◌-◌, true, length, drop, refl, sym, ap, ◌∙◌, arith, inl, inr}
-use Rattle.std.proofs.lemmas.Bool.{false≢true}
+use Rattle.std.proofs.Common.{◌≡◌, ◌-◌, true, length, drop, refl, ◌∙◌, arith, inl, inr}
 use Rattle.std.proofs.lemmas.List.{length-drop, take_rest}
-use borrow.Rule.Slice.PartMut.{put_mid}
 use Rattle.data_encoding.specs.declared.error.DecodeKind.{DecodeKind}
 use Rattle.data_encoding.specs.declared.error.DecodeKind.TheVariants.{Length}
 use Rattle.data_encoding.specs.Fault.{position_of}
