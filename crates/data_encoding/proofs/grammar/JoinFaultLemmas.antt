@@ -69,7 +69,8 @@ module _ (base : Base) (width : IsWidth base.width) where
   pub length_fault-behind : (m n : ℕ) → (ignores_some base ≡ false → m % size ≡ 0)
       → length_fault base (m + n) ≡ further m (length_fault base n)
   length_fault-behind m n whole =
-      grind (arith, whole, is_behind base.width width m n)
+      let is = λ (none : ignores_some base ≡ false). is_behind base.width width m n (whole none) in
+      grind (arith, is)
 
   -- the kept bytes of a part that stands further on
   pub kept_in-moved : (count start : ℕ) (part : List ℕ)
