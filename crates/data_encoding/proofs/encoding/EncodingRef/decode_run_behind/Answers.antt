@@ -1,39 +1,29 @@
-use Rattle.std.proofs.Common.{ℕ, false, ◌+◌, ◌*◌, refl, ap, arith, length-drop}
-use Rattle.data_encoding.proofs.decoding.StepLemmas.{IsUnderWay, after_none, after_run, room-next_run, under_way, written-few}
+use Rattle.std.proofs.Common.{ℕ, ◌+◌, ◌*◌, refl, ap, arith, length-drop}
+use Rattle.data_encoding.proofs.decoding.StepLemmas.{after_none, after_run, room-next_run, under_way, written-few}
 use Rattle.data_encoding.proofs.digits.SizeLemmas.{IsGroup-same}
 use Rattle.data_encoding.proofs.lists.PartLemmas.{length-rest}
-use Rattle.data_encoding.proofs.lists.WriteLemmas.{rewritten}
-use Rattle.data_encoding.proofs.encoding.EncodingRef.decode_run_behind.Given.{Over}
 use Rattle.data_encoding.proofs.encoding.EncodingRef.decode_run_behind.Goals as goal
-use Rattle.data_encoding.proofs.encoding.EncodingRef.decode_run_behind.Goals.{After-BYTES}
 
 pub decode_run-count-requires-clause-room : goal.decode_run-count-requires-clause-room
 decode_run-count-requires-clause-room g c =
     room-next_run (under_way g.G.GroupSize.is_group c.requires.reads.width_is c.requires.exact
     c.requires.so_far) c.requires.front
 
--- the decoding behind the run
-after : (g : Over) (c : After-BYTES g)
-    → IsUnderWay c.args.self.now c.args.input.now g.G.GroupSize.WIDTH c.BYTES.result
-    c.SYMBOLS.result
-    (c.args.at.read + c.args.at.ignored + c.decode_run-count.result * c.SYMBOLS.result)
-    (c.args.at.written + c.decode_run-count.result * c.BYTES.result) false
-    (rewritten c.args.at.written c.args.output.now c.decode_run-count.new.output)
-after g c =
-    let group = IsGroup-same refl c.BYTES.ensures c.SYMBOLS.ensures g.G.GroupSize.is_group in
-    after_run (under_way group c.requires.reads.width_is c.requires.exact c.requires.so_far)
-    c.requires.front c.decode_run-count.auto.output
-    (c.decode_run-count.ensures.run c.args.self.now c.requires.reads) (omega arith)
-
 pub overflow_mul-result-2 : goal.overflow_mul-result-2
 overflow_mul-result-2 g c =
-    let few = written-few (after g (goal.at.overflow_mul-result-2 g c).After-BYTES) in
-    record { fits = omega (arith, few) }
+    let group = IsGroup-same refl c.BYTES.ensures c.SYMBOLS.ensures g.G.GroupSize.is_group in
+    let now = after_run (under_way group c.requires.reads.width_is c.requires.exact
+    c.requires.so_far) c.requires.front c.decode_run-count.auto.output
+    (c.decode_run-count.ensures.run c.args.self.now c.requires.reads) (omega arith) in
+    record { fits = omega (arith, written-few now, c.requires.limit) }
 
 pub overflow_add-result-2 : goal.overflow_add-result-2
 overflow_add-result-2 g c =
-    let few = written-few (after g (goal.at.overflow_add-result-2 g c).After-BYTES) in
-    record { fits = omega (arith, few) }
+    let group = IsGroup-same refl c.BYTES.ensures c.SYMBOLS.ensures g.G.GroupSize.is_group in
+    let now = after_run (under_way group c.requires.reads.width_is c.requires.exact
+    c.requires.so_far) c.requires.front c.decode_run-count.auto.output
+    (c.decode_run-count.ensures.run c.args.self.now c.requires.reads) (omega arith) in
+    record { fits = omega (arith, written-few now, c.requires.limit) }
 
 pub returns-then-count-eq0-clause-so_far : goal.returns-then-count-eq0-clause-so_far
 returns-then-count-eq0-clause-so_far g c =
@@ -41,7 +31,11 @@ returns-then-count-eq0-clause-so_far g c =
     c.requires.so_far) _ c.decode_run-count.auto.output).so_far
 
 pub returns-clause-so_far : goal.returns-clause-so_far
-returns-clause-so_far g c = (after g (goal.at.returns-clause-so_far g c).After-BYTES).so_far
+returns-clause-so_far g c =
+    let group = IsGroup-same refl c.BYTES.ensures c.SYMBOLS.ensures g.G.GroupSize.is_group in
+    (after_run (under_way group c.requires.reads.width_is c.requires.exact
+    c.requires.so_far) c.requires.front c.decode_run-count.auto.output
+    (c.decode_run-count.ensures.run c.args.self.now c.requires.reads) (omega arith)).so_far
 
 pub overflow_mul-result : goal.overflow_mul-result
 overflow_mul-result g c =
