@@ -1,7 +1,5 @@
 -- A group of any base: where its fault is, and that it means something exactly where it has none.
-use Rattle.std.proofs.Common.{◌≡◌, ℕ, zero, suc, ◌+◌, ◌*◌, ◌/◌, ◌%◌, ◌<◌, ◌≤◌, ◌==◌, nat_lt, Bool, true, false, not, cond, ◌||◌, List, [], ◌∷◌, ◌++◌, length, map, take, drop, replicate, Option, Some, None, refl, sym, ap, ◌∙◌, subst, arith, length-append, take-append-drop, length-take-le}
-use Rattle.std.proofs.Math.Nat.{lt_of_not-le}
-use Rattle.std.proofs.lemmas.Bool.{false≢true}
+use Rattle.std.proofs.Common.{◌≡◌, ℕ, zero, suc, ◌+◌, ◌*◌, ◌%◌, ◌<◌, ◌≤◌, ◌==◌, nat_lt, Bool, true, false, not, cond, ◌||◌, List, [], ◌∷◌, ◌++◌, length, map, take, drop, replicate, Option, Some, None, refl, sym, ap, ◌∙◌, subst, arith, length-append, take-append-drop, length-take-le}
 use Rattle.std.proofs.lemmas.Bool.Decides.{nat_tests}
 use Rattle.std.proofs.lemmas.List.{length-replicate, take_at, append-nil}
 use Rattle.std.proofs.lemmas.List.Elements.{filter_map-append}
@@ -44,20 +42,13 @@ module _ (base : Base) (width : IsWidth base.width) (group : List Character)
       → count ≤ length group → (count == 0 || not (is_valid_count base.width count)) ≡ true
       → count < length group
   inside-padding whole count most h =
-      lt_of_not-le
-      (λ (all : length group ≤ count).
-      let same : count ≡ group_symbols base.width = grind (arith, nat_tests) in
-      let valid = rw (← same) at (whole-valid base.width width) in
-      grind (arith, nat_tests, valid, some, all, h))
+      grind (arith, nat_tests, whole-valid base.width width, some, few)
 
   inside-characters : IsInside (length group) (character_fault base group)
   inside-characters =
       let count = count_before_padding group in
-      let bits = base.width * length group % 8 in
-      let plain : base.width ≤ bits → 0 < bits / base.width =
-      λ over. le-div 1 bits base.width width.some (omega arith) in
-      let front : 0 < count → length (take count group) ≡ count =
-      λ begun. length-take-le count group (omega arith) in
+      let plain = le-div 1 (base.width * length group % 8) base.width width.some in
+      let front = length-take-le count group in
       let fewer = inside-symbols base (take count group) in
       grind (arith, nat_tests, inside-symbols base group some, fewer, plain, front, inside-padding)
 
@@ -68,8 +59,7 @@ pub group_fault-inside : (base : Base) → IsWidth base.width → (group : List 
 group_fault-inside base width group some few =
     let len = length-meanings base group in
     subst (λ n. IsInside n (group_fault base (bytes_in group))) len
-    (inside-characters base width (meanings_in base group) (omega (arith, len, some))
-    (omega (arith, len, few)))
+    (inside-characters base width (meanings_in base group) (omega arith) (omega arith))
 
 pub located-inside : (group : List Positioned) (o : Option GroupFault) (error : DecodeError)
     → IsInside (length group) o → located group o ≡ Some error
@@ -154,8 +144,7 @@ module _ (base : Base) (group : List Character) (bytes : List ℕ)
         omega (arith, means.is_whole padded)
 
     symbols_fail : AllFail is_padding means.symbols
-    symbols_fail =
-        subst (AllFail is_padding) (sym means.means.are_symbols) (symbols_alone means.means.values)
+    symbols_fail = rw means.means.are_symbols (symbols_alone means.means.values)
 
     pub GroupMeans-padding : list_any is_padding group ≡ nat_lt 0 means.padding
     GroupMeans-padding =
@@ -172,8 +161,8 @@ module _ (base : Base) (width : IsWidth base.width) (group : List Character) whe
         ≡ None
         → GroupMeans base group (symbol_bytes base group)
     by false is h =
-        GroupMeans-symbols base group (symbol_bytes base group) some
-        (λ padded. absurd (false≢true (sym is ∙ padded))) (PlainMeans-sound base width group h)
+        GroupMeans-symbols base group (symbol_bytes base group) some (λ padded. cc)
+        (PlainMeans-sound base width group h)
     by true is h =
         let count = count_before_padding group in
         let symbols = take count group in
@@ -190,7 +179,7 @@ module _ (base : Base) (width : IsWidth base.width) (group : List Character) whe
           padding = length (drop count group);
           is_group = padding-behind group;
           is_whole = λ padded. omega arith;
-          is_plain = λ unpadded. absurd (false≢true (sym unpadded ∙ is));
+          is_plain = λ unpadded. cc;
           is_begun = omega arith;
           means = rw same (PlainMeans-sound base width symbols sound);
         }
@@ -198,9 +187,8 @@ module _ (base : Base) (width : IsWidth base.width) (group : List Character) whe
   module _ (bytes : List ℕ) (means : GroupMeans base group bytes) where
     pub GroupMeans-bytes : symbol_bytes base group ≡ bytes
     GroupMeans-bytes =
-        ap (symbol_bytes base) means.is_group
-        ∙ bytes_before_padding base means.symbols means.padding
-        ∙ PlainMeans-bytes base width means.symbols bytes means.means
+        rw (means.is_group, bytes_before_padding base means.symbols means.padding)
+        (PlainMeans-bytes base width means.symbols bytes means.means)
 
     count_is : count_before_padding group ≡ length means.symbols
     count_is =
@@ -219,8 +207,7 @@ module _ (base : Base) (width : IsWidth base.width) (group : List Character) whe
           PlainMeans-no_fault base width group bytes (GroupMeans-plain base group bytes is means)
       by true is =
           let valid = PlainMeans-valid base width means.symbols bytes means.means in
-          let sound = rw valid at (PlainMeans-no_fault base width _ bytes means.means) in
-          let whole = means.is_whole is in
+          let sound = PlainMeans-no_fault base width _ bytes means.means in
           let front : take (length means.symbols) group ≡ means.symbols =
           rw means.is_group (take_at _ _ _ refl) in
-          rw (count_is, front) (grind (arith, nat_tests, valid, sound, whole))
+          rw (count_is, front) (grind (arith, nat_tests, valid, sound, means.is_whole))

@@ -1,10 +1,10 @@
 -- The fault of a text behind one that means bytes.
-use Rattle.std.proofs.Common.{◌≡◌, ℕ, zero, suc, ◌+◌, ◌*◌, ◌/◌, ◌%◌, ◌<◌, ◌≤◌, ◌==◌, nat_lt, Bool, true, false, not, cond, List, [], ◌∷◌, ◌++◌, map, length, Option, Some, None, is_some, refl, sym, ap, ◌∙◌, arith, length-append}
+use Rattle.std.proofs.Common.{◌≡◌, ℕ, zero, suc, ◌+◌, ◌*◌, ◌/◌, ◌%◌, ◌<◌, ◌≤◌, Bool, true, false, List, [], ◌∷◌, ◌++◌, map, length, Option, refl, sym, ap, ◌∙◌, arith, length-append}
 use Rattle.std.specs.Prelude.{flat_map}
 use Rattle.std.specs.List.{AllByRecursion}
 use Rattle.std.proofs.lemmas.Bool.Decides.{nat_tests}
 use Rattle.data_encoding.specs.declared.error.DecodeError.{DecodeError}
-use Rattle.data_encoding.specs.Base.{Base, IsWidth, meaning, is_ignored, is_padded, ignores_some, group_symbols}
+use Rattle.data_encoding.specs.Base.{Base, IsWidth, ignores_some, group_symbols}
 use Rattle.data_encoding.specs.Grammar.{Positioned, kept, groups, is_final, Means, kept_in, bytes_in, positioned_from}
 use Rattle.data_encoding.specs.Lengths.{greatest_valid_count, is_valid_length, length_fault}
 use Rattle.data_encoding.specs.Fault.{bytes_of_group, fault_after, fault_of, first_after, first_fault, or_else, position_of, sound_after, sound_bytes, group_fault}
@@ -64,8 +64,7 @@ module _ (base : Base) (width : IsWidth base.width) where
   pub valid_behind : (m n : ℕ) → m % size ≡ 0
       → is_valid_length base (m + n) ≡ is_valid_length base n
   valid_behind m n h =
-      let is = is_behind base.width width m n h in
-      λ i. cond (is_padded base) (is.2 i == 0) (nat_lt (is.0 i) base.width)
+      grind (arith, is_behind base.width width m n h)
 
   pub length_fault-behind : (m n : ℕ) → (ignores_some base ≡ false → m % size ≡ 0)
       → length_fault base (m + n) ≡ further m (length_fault base n)
@@ -77,9 +76,7 @@ module _ (base : Base) (width : IsWidth base.width) where
   pub kept_in-moved : (count start : ℕ) (part : List ℕ)
       → kept_in base (count + start) part ≡ moved count (kept_in base start part)
   kept_in-moved count start part =
-      let keeps : Positioned → Bool = λ k. not (is_ignored (meaning base k.byte)) in
-      rw (positioned-moved count start part)
-      (sym (map-filter _ keeps (positioned_from start part)))
+      rw (positioned-moved count start part) (sym (map-filter _ _ (positioned_from start part)))
 
   abbrev pub AreFew : List (List Positioned) → Type 0
   AreFew gs = AllByRecursion (λ (g : List Positioned). (0 < length g) × (length g ≤ size)) gs
@@ -111,17 +108,9 @@ module _ (base : Base) (width : IsWidth base.width) where
       → bytes_before ended (map (moved count) gs) ≡ bytes_before ended gs
   sound-moved count ended [] few = refl
   sound-moved count ended (g ∷ gs) few =
+      let others = sound-moved count (is_final base g) gs few.1 in
       rw (fault_after-moved count ended g few.0.0 few.0.1, final-moved count g)
-      (by (fault_after ended base g) (sound-moved count (is_final base g) gs few.1)) where
-        by : (o : Option DecodeError)
-            → bytes_before (is_final base g) (map (moved count) gs)
-            ≡ bytes_before (is_final base g) gs
-            → flat_map (bytes_of_group base) (cond (is_some (further count o)) []
-            (moved count g ∷ sound_after (is_final base g) base (map (moved count) gs)))
-            ≡ flat_map (bytes_of_group base) (cond (is_some o) []
-            (g ∷ sound_after (is_final base g) base gs))
-        by (Some error) others = refl
-        by None others = rw (bytes-moved count g, others)
+      (grind (arith, bytes-moved count g, others))
 
   not_ended : (begun : Bool) (gs : List (List Positioned)) → begun ≡ false
       → AllFail (is_final base) gs → ends_after base begun gs ≡ false
@@ -155,17 +144,16 @@ module _ (base : Base) (width : IsWidth base.width) (text after : List ℕ)
         ≡ further count (or_else (length_fault base (length after))
         (first_after ended base (groups base after)))
     fault-after_whole =
-        let lengths : length_fault base (length (text ++ after))
-        ≡ further count (length_fault base (length after)) =
-        rw (length-append text after) (length_fault-behind base width count (length after)
-        (λ none. rw (← (length-kept_plain base text none)) whole)) in
-        let firsts : first_fault base (groups base (text ++ after))
-        ≡ further count (first_after ended base (groups base after)) =
-        rw (groups_joined, first-AreSound base false ended (groups base text) others sound)
-        (first-moved base width count ended (groups base after) few) in
-        rw (lengths, firsts)
-        (further-or_else count (length_fault base (length after))
-        (first_after ended base (groups base after)))
+        let lengths = length_fault-behind base width count (length after)
+        (λ none. rw (← (length-kept_plain base text none)) whole) in
+        rw (
+          length-append text after,
+          lengths,
+          groups_joined,
+          first-AreSound base false ended (groups base text) others sound,
+          first-moved base width count ended (groups base after) few,
+        )
+        (further-or_else count _ _)
 
     -- and its bytes
     pub bytes-after_whole : sound_bytes base (text ++ after)

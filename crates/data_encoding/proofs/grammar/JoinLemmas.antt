@@ -1,7 +1,6 @@
 -- Texts one after the other.
-use Rattle.std.proofs.Common.{◌≡◌, ℕ, ◌⊎◌, flat_map, ◌+◌, ◌*◌, ◌%◌, ◌<◌, Bool, true, false, not, ◌&&◌, List, [], ◌∷◌, ◌++◌, length, Option, is_some, inl, inr, sym, ap, ◌∙◌, subst, arith, append_assoc, ⊎_elim, map}
+use Rattle.std.proofs.Common.{◌≡◌, ℕ, ◌⊎◌, flat_map, ◌+◌, ◌%◌, Bool, true, false, not, ◌&&◌, List, [], ◌∷◌, ◌++◌, length, Option, is_some, inl, inr, sym, ap, ◌∙◌, arith, append_assoc, map}
 use Rattle.std.proofs.Math.Nat.{mul-mod_left}
-use Rattle.std.proofs.lemmas.Bool.{false≢true}
 use Rattle.std.proofs.lemmas.List.Elements.{All-filter, All-map, recursion_from_All}
 use Rattle.std.specs.Prelude.{All}
 use Rattle.std.specs.List.{list_any}
@@ -9,7 +8,7 @@ use Rattle.std.proofs.Math.Bool.{and-false}
 use Rattle.std.proofs.lemmas.Bool.Decides.{nat_tests}
 use Rattle.data_encoding.proofs.grammar.PositionLemmas.{length-meanings, meanings-append}
 use Rattle.data_encoding.specs.declared.encoding.Character.{Character}
-use Rattle.data_encoding.specs.Base.{Base, IsWidth, meaning, is_ignored, is_padded, is_padding, group_symbols}
+use Rattle.data_encoding.specs.Base.{Base, IsWidth, meaning, is_padded, is_padding, group_symbols}
 use Rattle.data_encoding.specs.Bits.{runs}
 use Rattle.data_encoding.specs.Grammar.{Positioned, kept, groups, PlainMeans, GroupsMean, Means, is_final, kept_in, bytes_in, meanings_in}
 use Rattle.data_encoding.specs.Laws.{MayBeFollowed}
@@ -25,12 +24,6 @@ use Rattle.data_encoding.proofs.lists.ListLemmas.{AllFail, list_any-none}
 use Rattle.data_encoding.proofs.lists.RunLemmas.{flat_map-runs, runs-join}
 use Rattle.data_encoding.proofs.judgement.RuleLemmas.{IsRuled, IsRuledPadding}
 use Rattle.data_encoding.proofs.grammar.LengthLemmas.{widths}
-
--- where eight bits are whole symbols, symbols of bytes are whole groups
-whole_symbols : (width : ℕ) → IsWidth width → (symbols bytes rest : ℕ) → 8 % width ≡ 0
-    → width * symbols ≡ 8 * bytes + rest → rest < width → symbols % group_symbols width ≡ 0
-whole_symbols width is symbols bytes rest divides count short =
-    grind (arith, nat_tests, widths width is)
 
 module _ (base : Base) (ruled : IsRuled base) where
   width : IsWidth base.width
@@ -53,7 +46,7 @@ module _ (base : Base) (ruled : IsRuled base) where
     first.1 ++ more,
     ap (λ l. l ++ more) first.2 ∙ append_assoc first.0 first.1 more,
     first.3,
-    (λ final. absurd (false≢true (sym none.0 ∙ final))),
+    (λ final. cc none.0),
     GroupsMean-append gs hs first.1 more none.1 first.5 second,
   )
 
@@ -89,10 +82,9 @@ module _ (base : Base) (ruled : IsRuled base) where
     none_kept : All (λ byte. pads byte ≡ false) text
         → AllFail is_padding (meanings_in base (kept base text))
     none_kept h =
-        let keeps : ℕ → Bool = λ byte. not (is_ignored (meaning base byte)) in
         recursion_from_All (λ m. is_padding m ≡ false) (meanings_in base (kept base text))
         (All-map (λ m. is_padding m ≡ false) (meaning base) (bytes_in (kept base text))
-        (rw (bytes-kept_in base 0 text) (All-filter keeps (λ byte. pads byte ≡ false) text h)))
+        (rw (bytes-kept_in base 0 text) (All-filter _ (λ byte. pads byte ≡ false) text h)))
 
     none_final-kept : AllFail is_padding (meanings_in base (kept base text))
         → AllFail (is_final base) (groups base text)
@@ -102,9 +94,8 @@ module _ (base : Base) (ruled : IsRuled base) where
 
     none_final : (base.concatenates ≡ true) ⊎ All (λ byte. pads byte ≡ false) text
         → AllFail (is_final base) (groups base text)
-    none_final h =
-        ⊎_elim (λ joins. never_final joins (groups base text))
-        (λ unpadded. none_final-kept (none_kept unpadded)) h
+    none_final (inl joins) = never_final joins (groups base text)
+    none_final (inr unpadded) = none_final-kept (none_kept unpadded)
 
     abbrev meant : List Character
     meant = meanings_in base (kept base text)
@@ -124,8 +115,7 @@ module _ (base : Base) (ruled : IsRuled base) where
         let symbols = plain unpadded means in
         let count = PlainMeans-count base width meant bytes symbols in
         rw (← (length-meanings base (kept base text)))
-        (whole_symbols base.width width (length meant) (length bytes) (length symbols.rest) divides
-        count symbols.rest_is_short)
+        (grind (arith, nat_tests, widths base.width width, count, symbols.rest_is_short))
 
     -- where eight bits are whole symbols there is no padding
     divided : (o : Option ℕ) → IsRuledPadding base o → 8 % base.width ≡ 0 → is_some o ≡ false
@@ -149,5 +139,5 @@ module _ (base : Base) (ruled : IsRuled base) where
         let pos = group_symbols-pos base.width width in
         rw (joined, runs-join size (kept base text) rest pos whole.0)
         (GroupsMean-append (groups base text) (runs size rest) bytes more whole.1 first
-        (subst (λ gs. GroupsMean base gs more)
-        (runs-alike base width (kept base after) rest (ap (map (meaning base)) same)) second))
+        (rw (runs-alike base width (kept base after) rest (ap (map (meaning base)) same))
+        at second))

@@ -1,13 +1,13 @@
 -- The bytes of a text that are not ignored, part by part, and where they stand.
-use Rattle.std.proofs.Common.{◌≡◌, ℕ, ◌+◌, ◌-◌, ◌<◌, ◌≤◌, Bool, not, List, [], ◌∷◌, ◌++◌, length, take, drop, reverse, refl, ◌∙◌, arith, take-append-drop, length-take-le}
+use Rattle.std.proofs.Common.{◌≡◌, ℕ, ◌+◌, ◌-◌, ◌<◌, ◌≤◌, List, [], ◌∷◌, ◌++◌, length, take, drop, refl, ◌∙◌, arith, take-append-drop, length-take-le}
 use Rattle.std.proofs.lemmas.List.{length-drop, length-reverse, reverse-append, drop-drop, drop_all}
 use Rattle.std.proofs.lemmas.List.Elements.{filter-append, All-filter, All-from_recursion, All-get_or}
 use Rattle.std.proofs.Math.Seq.{take-add}
 use Rattle.std.specs.List.{AllByRecursion}
-use Rattle.data_encoding.specs.Base.{Base, meaning, is_ignored}
+use Rattle.data_encoding.specs.Base.{Base}
 use Rattle.data_encoding.specs.Grammar.{Positioned, positioned_from, kept, kept_in, kept_from}
 use Rattle.data_encoding.specs.Fault.{position_of}
-use Rattle.data_encoding.specs.Partial.{position_after, position_after_first}
+use Rattle.data_encoding.specs.Partial.{position_after}
 use Rattle.data_encoding.proofs.grammar.PositionLemmas.{positioned_from-append}
 
 -- the part of a text between two positions
@@ -18,9 +18,7 @@ module _ (base : Base) where
   pub kept_in-append : (start : ℕ) (xs ys : List ℕ)
       → kept_in base start (xs ++ ys) ≡ kept_in base start xs ++ kept_in base (start + length xs) ys
   kept_in-append start xs ys =
-      let keeps : Positioned → Bool = λ k. not (is_ignored (meaning base k.byte)) in
-      rw (positioned_from-append start xs ys)
-      (filter-append keeps (positioned_from start xs) (positioned_from (start + length xs) ys))
+      rw (positioned_from-append start xs ys) (filter-append _ (positioned_from start xs) _)
 
   module _ (read : ℕ) (text : List ℕ) (within : read ≤ length text) where
     at_read : 0 + length (take read text) ≡ read
@@ -36,8 +34,7 @@ module _ (base : Base) where
 
       pub length-between : length (between read stop text) ≡ stop - read
       length-between =
-          length-take-le (stop - read) (drop read text)
-          (omega (arith, length-drop read text, inside))
+          length-take-le (stop - read) (drop read text) (omega (arith, length-drop read text))
 
       pub kept-more : kept base (take stop text)
           ≡ kept base (take read text) ++ kept_in base read (between read stop text)
@@ -50,9 +47,7 @@ module _ (base : Base) where
       kept_from-more =
           let place : read + length (between read stop text) ≡ stop =
           omega (arith, length-between) in
-          let rest : drop (stop - read) (drop read text) ≡ drop stop text =
-          rw sum at (drop-drop (stop - read) read text) in
-          rw (take-append-drop, place, rest)
+          rw (take-append-drop, place, drop-drop, sum)
           at (kept_in-append read (between read stop text) (drop (stop - read) (drop read text)))
 
   -- nothing is left after all of a text
@@ -63,8 +58,7 @@ module _ (base : Base) where
 pub position_after-append : (xs ys : List Positioned) → 0 < length ys
     → position_after (xs ++ ys) ≡ position_after ys
 position_after-append xs ys h =
-    let some : 0 < length (reverse ys) = omega (arith, length-reverse ys) in
-    rw (reverse-append xs ys) (grind arith)
+    rw (reverse-append xs ys) (grind (arith, length-reverse ys))
 
 pub position_after-positioned : (start : ℕ) (part : List ℕ) → 0 < length part
     → position_after (positioned_from start part) ≡ start + length part
@@ -83,19 +77,14 @@ StandsIn start stop k = (start ≤ k.position) × (k.position < stop)
 each_stands : (start stop n : ℕ) (part : List ℕ) → start ≤ n → n + length part ≤ stop
     → AllByRecursion (StandsIn start stop) (positioned_from n part)
 each_stands start stop n [] low high = tt
-each_stands start stop n (byte ∷ part) low high = (
-  (low, omega (arith, high)),
-  each_stands start stop (n + 1) part (omega (arith, low)) (omega (arith, high)),
-)
+each_stands start stop n (byte ∷ part) low high =
+    ((low, omega arith), each_stands start stop (n + 1) part (omega arith) (omega arith))
 
 pub kept_in-stands : (base : Base) (start stop : ℕ) (part : List ℕ) (index : ℕ)
     → start + length part ≤ stop → index < length (kept_in base start part)
     → (start ≤ position_of (kept_in base start part) index)
     × (position_of (kept_in base start part) index < stop)
 kept_in-stands base start stop part index h inside =
-    let keeps : Positioned → Bool = λ k. not (is_ignored (meaning base k.byte)) in
-    All-get_or (StandsIn start stop) (kept_in base start part) index
-    (record { position = 0; byte = 0 }) inside
-    (All-filter keeps (StandsIn start stop) (positioned_from start part)
-    (All-from_recursion (StandsIn start stop) (positioned_from start part)
+    All-get_or (StandsIn start stop) _ index _ inside
+    (All-filter _ (StandsIn start stop) _ (All-from_recursion (StandsIn start stop) _
     (each_stands start stop start part (omega arith) h)))

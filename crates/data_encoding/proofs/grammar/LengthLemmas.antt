@@ -64,9 +64,7 @@ pub valid-whole : (base : Base) (len : ℕ) → 0 < len → is_valid_length base
     → cond (is_padded base) (nat_lt len (group_symbols base.width) ≡ false)
     (is_valid_count base.width len ≡ true)
 valid-whole base len some valid =
-    let never : len < group_symbols base.width → len % group_symbols base.width ≡ 0 → ⊥ =
-    λ less exact. omega (arith, mod-eq_of_lt less) in
-    grind (arith, nat_tests, never)
+    grind (arith, nat_tests, mod-eq_of_lt)
 
 -- The bits of symbols are whole bytes exactly where their groups are whole.
 pub whole_bits : (width : ℕ) → IsWidth width → (len : ℕ)

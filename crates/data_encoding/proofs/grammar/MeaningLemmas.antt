@@ -38,8 +38,8 @@ module _ (base : Base) (width : IsWidth base.width) where
     flat_map (bytes_of_group base) gs,
     refl,
     GroupMeans-sound base width (meanings_in base g)
-        (omega (arith, few.0.0, length-meanings base g))
-        (omega (arith, few.0.1, length-meanings base g)) (fault_after-none base begun g h.0).1,
+        (omega (arith, length-meanings base g)) (omega (arith, length-meanings base g))
+        (fault_after-none base begun g h.0).1,
     (λ final. ap (map (meanings_in base)) (none_follow base ended gs (rw final at h.1))),
     GroupsMean-sound (is_final base g) ended gs few.1 h.1,
   )
@@ -66,14 +66,13 @@ module _ (base : Base) (width : IsWidth base.width) where
         let count = PlainMeans-count base width means.symbols bytes means.means in
         let few : length means.symbols ≤ group_symbols base.width =
         omega (arith, GroupMeans-length base g bytes means padded) in
-        let bits = mul-le-mul_left base.width few in
-        omega (arith, count, bits, group_bits base.width width)
+        omega (arith, count, mul-le-mul_left base.width few, group_bits base.width width)
 
     sizes-GroupsMean : (gs : List (List Positioned)) (bytes : List ℕ)
         → GroupsMean base (map (meanings_in base) gs) bytes
         → (length (flat_map (λ g. g) gs) ≡ length gs * group_symbols base.width)
         × (length bytes ≤ length gs * group_bytes base.width)
-    sizes-GroupsMean [] bytes h = (omega arith, omega (arith, ap length h))
+    sizes-GroupsMean [] bytes h = rw h (omega arith)
     sizes-GroupsMean (g ∷ gs) bytes h =
         let others = sizes-GroupsMean gs h.1 h.5 in
         let most = most-GroupMeans (meanings_in base g) h.0 h.3 in

@@ -1,5 +1,5 @@
 -- What a text means is decided by what its bytes that are not ignored mean, wherever they stand.
-use Rattle.std.proofs.Common.{◌≡◌, ℕ, Bool, not, List, map, sym, ap, ◌∙◌, subst}
+use Rattle.std.proofs.Common.{◌≡◌, ℕ, Bool, not, List, map, ap, ◌∙◌, subst}
 use Rattle.std.specs.List.{filter}
 use Rattle.data_encoding.specs.Base.{Base, IsWidth, meaning, is_ignored, group_symbols}
 use Rattle.data_encoding.specs.Bits.{runs}
@@ -23,10 +23,8 @@ module _ (base : Base) (width : IsWidth base.width) where
       → map (meanings_in base) (runs (group_symbols base.width) ks)
       ≡ map (meanings_in base) (runs (group_symbols base.width) js)
   runs-alike ks js alike =
-      let size = group_symbols base.width in
       let some = group_symbols-pos base.width width in
-      sym (runs-meanings base size ks some) ∙ ap (runs size) alike
-      ∙ runs-meanings base size js some
+      rw (← (runs-meanings base _ ks some), ← (runs-meanings base _ js some), alike)
 
   -- texts whose kept bytes mean the same mean the same
   pub Means-alike : (text other bytes : List ℕ)

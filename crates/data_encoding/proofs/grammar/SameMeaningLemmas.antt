@@ -1,5 +1,5 @@
 -- Texts whose bytes mean the same one by one mean the same, and have the same fault.
-use Rattle.std.proofs.Common.{◌≡◌, ℕ, ◌+◌, Bool, false, not, List, [], ◌∷◌, length, map, Option, Some, None, get_or, refl, sym, ap, ◌∙◌}
+use Rattle.std.proofs.Common.{◌≡◌, ℕ, ◌+◌, Bool, false, not, List, [], ◌∷◌, length, map, Option, Some, None, refl, sym, ap, ◌∙◌}
 use Rattle.std.proofs.lemmas.List.{length-map}
 use Rattle.std.proofs.Math.ListN.{get_or-map}
 use Rattle.std.specs.List.{enumerate_from}
@@ -8,7 +8,6 @@ use Rattle.data_encoding.specs.declared.encoding.Character.{Character}
 use Rattle.data_encoding.specs.declared.error.DecodeKind.{DecodeKind}
 use Rattle.data_encoding.specs.declared.error.DecodeKind.TheVariants.{Padding as PaddingFault}
 use Rattle.data_encoding.specs.Base.{Base, IsWidth, meaning, is_ignored, group_symbols}
-use Rattle.data_encoding.specs.Bits.{runs}
 use Rattle.data_encoding.specs.Grammar.{Positioned, Means, groups, is_final, kept, kept_in, meanings_in, positioned_from}
 use Rattle.data_encoding.specs.Fault.{fault_after, fault_at, fault_of, first_after, located}
 use Rattle.data_encoding.proofs.digits.WidthLemmas.{group_symbols-pos}
@@ -25,10 +24,8 @@ module _ (ks js : List Positioned)
         → fault_at kind ks index ≡ fault_at kind js index
     fault_at-alike kind index =
         let first : Positioned = record { position = 0; byte = 0 } in
-        ap (λ n. Some (record { position = n; kind = kind }))
-        (sym (get_or-map (λ (k : Positioned). k.position) ks index first)
-        ∙ ap (λ l. get_or l index 0) stand
-        ∙ get_or-map (λ (k : Positioned). k.position) js index first)
+        let place : Positioned → ℕ = λ k. k.position in
+        cc (get_or-map place ks index first, get_or-map place js index first)
 
     located-alike : (o : Option GroupFault) → located ks o ≡ located js o
     located-alike None = refl
@@ -91,9 +88,11 @@ module _ (base : Base) where
     groups-seen =
         let size = group_symbols base.width in
         let some = group_symbols-pos base.width width in
-        sym (runs-map size seen (kept base text) some)
-        ∙ ap (runs size) (kept_in-seen 0 text other same)
-        ∙ runs-map size seen (kept base other) some
+        cc (
+          runs-map size seen (kept base text) some,
+          runs-map size seen (kept base other) some,
+          kept_in-seen 0 text other same,
+        )
 
     pub fault_of-translated : fault_of base text ≡ fault_of base other
     fault_of-translated =

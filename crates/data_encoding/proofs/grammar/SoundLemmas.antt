@@ -1,17 +1,16 @@
 -- Groups without a fault, one after the other.
-use Rattle.std.proofs.Common.{◌≡◌, ℕ, Bool, true, false, not, ◌&&◌, List, [], ◌∷◌, ◌++◌, map, Option, None, refl, arith}
+use Rattle.std.proofs.Common.{◌≡◌, ℕ, Bool, false, not, ◌&&◌, List, [], ◌∷◌, ◌++◌, map, Option, None, refl, arith}
 use Rattle.std.proofs.lemmas.List.{append-nil}
 use Rattle.std.proofs.lemmas.List.Concat.{flat_map-append}
 use Rattle.std.specs.Prelude.{flat_map}
 use Rattle.std.specs.List.{list_any}
 use Rattle.std.proofs.Math.Bool.{and-false}
 use Rattle.data_encoding.specs.declared.error.DecodeError.{DecodeError}
-use Rattle.data_encoding.specs.declared.decode.group.GroupFault.{GroupFault}
 use Rattle.data_encoding.specs.declared.encoding.Character.{Character}
 use Rattle.data_encoding.specs.declared.encoding.Character.TheVariants.{Symbol}
 use Rattle.data_encoding.specs.Base.{Base, is_padding}
 use Rattle.data_encoding.specs.Grammar.{Positioned, bytes_in, is_final}
-use Rattle.data_encoding.specs.Fault.{bytes_of_group, fault_after, first_after, group_fault, located, or_else, sound_after}
+use Rattle.data_encoding.specs.Fault.{bytes_of_group, fault_after, first_after, group_fault, or_else, sound_after}
 use Rattle.data_encoding.specs.Decoding.{AreSound}
 use Rattle.data_encoding.proofs.lists.ListLemmas.{list_any-none}
 use Rattle.data_encoding.proofs.grammar.GroupLemmas.{symbols_alone}
@@ -25,10 +24,7 @@ ends_after base begun (group ∷ others) = ends_after base (is_final base group)
 pub fault_after-none : (base : Base) (begun : Bool) (group : List Positioned)
     → fault_after begun base group ≡ None
     → (begun ≡ false) × (group_fault base (bytes_in group) ≡ None)
-fault_after-none base true group h = cc
-fault_after-none base false group h =
-    let none : (o : Option GroupFault) → located group o ≡ None → o ≡ None = λ o e. grind arith in
-    (refl, none (group_fault base (bytes_in group)) h)
+fault_after-none base begun group h = (grind arith, grind arith)
 
 -- symbols alone end nothing
 pub symbols-not_final : (base : Base) (group : List Character) (values : List ℕ)

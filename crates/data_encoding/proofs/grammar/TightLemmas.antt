@@ -1,7 +1,6 @@
 -- What a text means is bytes, and how many, where there is no padding and no ignored byte.
-use Rattle.std.proofs.Common.{◌≡◌, ℕ, ◌+◌, ◌*◌, false, ◌<◌, List, [], ◌∷◌, length, All, Option, Some, None, is_some, refl, sym, ap, arith, map}
+use Rattle.std.proofs.Common.{◌≡◌, ℕ, ◌*◌, false, ◌<◌, List, [], ◌∷◌, length, All, Option, Some, None, is_some, refl, sym, ap, arith, map, slice_index}
 use Rattle.std.proofs.lemmas.List.Elements.{All-append, All-from_recursion}
-use Rattle.std.specs.List.{AllByRecursion}
 use Rattle.data_encoding.specs.declared.encoding.Character.{Character}
 use Rattle.data_encoding.specs.declared.encoding.Character.TheVariants.{Ignored}
 use Rattle.data_encoding.specs.Base.{Base, IsWidth, Wrapping, ignores_some, is_ignored, meaning}
@@ -12,6 +11,7 @@ use Rattle.data_encoding.proofs.grammar.LengthLemmas.{most_bytes-by, widths}
 use Rattle.data_encoding.proofs.grammar.PositionLemmas.{length-kept_plain, never_ignored, length-meanings}
 use Rattle.data_encoding.proofs.grammar.UnpaddedGrammarLemmas.{unpadded-Means}
 use Rattle.data_encoding.proofs.grammar.UnpaddedGroupLemmas.{PlainMeans-count}
+use Rattle.data_encoding.proofs.lists.EachLemmas.{all-at}
 use Rattle.data_encoding.proofs.lists.RunLemmas.{run_count}
 use Rattle.data_encoding.proofs.judgement.RuleLemmas.{IsRuled, IsRuledWrapping}
 use Rattle.data_encoding.proofs.text.PaddedTextLemmas.{length-unpadded}
@@ -20,20 +20,12 @@ use Rattle.data_encoding.proofs.text.PaddedTextLemmas.{length-unpadded}
 pub no_lines-plain : (base : Base) → IsRuled base → ignores_some base ≡ false
     → base.wrapping ≡ None
 no_lines-plain base ruled none = by base.wrapping ruled.wrapping where
-  ignored_by : (bytes : List ℕ)
-      → AllByRecursion (λ byte. (byte < 128) × (meaning base byte ≡ Ignored)) bytes
-      → 0 < length bytes → ⊥
-  ignored_by [] all some = absurd (omega (arith, some))
-  ignored_by (byte ∷ bytes) all some = cc (never_ignored base none byte, ap is_ignored all.0.1)
-
   by : (o : Option Wrapping) → IsRuledWrapping base o → o ≡ None
   by None h = refl
-  by (Some lines) h = absurd (ignored_by lines.separator h.ignored h.ended)
-
--- symbols have the bits of their bytes, and fewer than a symbol's
-symbols_of : (width : ℕ) → IsWidth width → (symbols bytes rest : ℕ)
-    → width * symbols ≡ 8 * bytes + rest → rest < width → run_count width (8 * bytes) ≡ symbols
-symbols_of width is symbols bytes rest count short = grind (arith, widths width is)
+  by (Some lines) h =
+      let first = all-at (λ byte. (byte < 128) × (meaning base byte ≡ Ignored)) lines.separator
+      h.ignored 0 h.ended in
+      cc (never_ignored base none (slice_index lines.separator 0), ap is_ignored first.1)
 
 -- texts of as many bytes are as long
 pub length-plain_text_of : (base : Base) → IsRuled base → base.padding ≡ None
@@ -42,9 +34,9 @@ pub length-plain_text_of : (base : Base) → IsRuled base → base.padding ≡ N
 length-plain_text_of base ruled unpadded none text bytes others means same =
     let meant = meanings_in base (kept base text) in
     let plain = (unpadded-Means base ruled.is_width (ap is_some unpadded) text bytes).0 means in
-    let count = symbols_of base.width ruled.is_width (length meant) (length bytes)
-    (length plain.rest) (PlainMeans-count base ruled.is_width meant bytes plain)
-    plain.rest_is_short in
+    let bits = PlainMeans-count base ruled.is_width meant bytes plain in
+    let count : run_count base.width (8 * length bytes) ≡ length meant =
+    grind (arith, widths base.width ruled.is_width, bits, plain.rest_is_short) in
     rw (no_lines-plain base ruled none)
     (rw (length-unpadded base others ruled.is_width (ap is_some unpadded), same, count)
     (rw length-meanings (sym (length-kept_plain base text none))))
@@ -56,10 +48,9 @@ most-Means base width unpadded none text bytes means =
     let meant = meanings_in base (kept base text) in
     let plain = (unpadded-Means base width (ap is_some unpadded) text bytes).0 means in
     let count = PlainMeans-count base width meant bytes plain in
-    let len : length meant ≡ length text = rw (length-meanings, length-kept_plain base text none) in
-    let all : base.width * length meant ≡ base.width * length text = rw len in
     rw (most_bytes-by base (length text) false (ap is_some unpadded))
-    (omega (arith, count, all, plain.rest_is_short, width.few))
+    (rw (← (length-kept_plain base text none), ← (length-meanings base (kept base text)))
+    (omega (arith, count)))
 
 each-bytes : (base : Base) (gs : List (List Character)) (bytes : List ℕ)
     → GroupsMean base gs bytes → All (λ byte. byte < 256) bytes

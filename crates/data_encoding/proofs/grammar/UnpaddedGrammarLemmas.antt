@@ -1,6 +1,6 @@
 -- The groups of an unpadded text mean what its symbols mean.
-use Rattle.std.proofs.Common.{◌≡◌, ◌↔◌, ℕ, ◌*◌, ◌<◌, ◌≤◌, false, List, [], ◌∷◌, ◌++◌, length, take, drop, refl, sym, ap, ◌∙◌, arith, ⊎_elim, append_assoc, take-append-drop, length-take-le}
-use Rattle.std.proofs.lemmas.Bool.{cases_lt, false≢true}
+use Rattle.std.proofs.Common.{◌≡◌, ◌↔◌, ℕ, ◌*◌, ◌<◌, ◌≤◌, false, List, [], ◌∷◌, ◌++◌, length, take, drop, refl, sym, ap, arith, ⊎_elim, append_assoc, take-append-drop, length-take-le}
+use Rattle.std.proofs.lemmas.Bool.{cases_lt}
 use Rattle.std.proofs.lemmas.List.{length-map, map-append, append-nil, nil_from_length, take-map, drop-map}
 use Rattle.std.proofs.lemmas.List.Concat.{flat_map-append}
 use Rattle.std.proofs.lemmas.List.Elements.{All-append, All-take, All-drop}
@@ -38,11 +38,9 @@ module _ (base : Base) (width : IsWidth base.width) where
       → base.width * length group ≡ 8 * whole → PlainMeans base group bytes
       → PlainMeans base others more → PlainMeans base (group ++ others) (bytes ++ more)
   PlainMeans-append group others bytes more whole all first second =
-      let count = PlainMeans-count base width group bytes first in
-      let none : first.rest ≡ [] =
-      nil_from_length first.rest (omega (arith, count, all, first.rest_is_short, width.few)) in
-      let exact : bits first.values ≡ bits_of_bytes base.order bytes =
-      rw (first.same_bits, none) (append-nil _) in
+      let none = nil_from_length first.rest
+      (omega (arith, PlainMeans-count base width group bytes first)) in
+      let exact = rw (none, append-nil) at first.same_bits in
       record {
         values = first.values ++ second.values;
         rest = second.rest;
@@ -63,21 +61,18 @@ module _ (base : Base) (width : IsWidth base.width) where
   PlainMeans-split ks bytes long means =
       let byte_count = group_bytes base.width in
       let count = PlainMeans-count base width ks bytes means in
-      let full : base.width * size ≡ 8 * byte_count = group_bits base.width width in
-      let enough : byte_count ≤ length bytes =
-      omega (arith, mul-le-mul_left base.width long) in
+      let full = group_bits base.width width in
+      let enough = mul-le-mul_left base.width long in
       let v = take size means.values in
       let vs = drop size means.values in
       let v_len : length v ≡ size =
       length-take-le size means.values
       (omega (arith, simp length-map at (ap length means.are_symbols))) in
-      let front = take byte_count bytes in
-      let back = drop byte_count bytes in
-      let same = parts_same (bits v) (bits vs) (bits_of_bytes base.order front)
-      (bits_of_bytes base.order back ++ means.rest)
+      let same = parts_same (bits v) (bits vs) (bits_of_bytes base.order (take byte_count bytes))
+      (bits_of_bytes base.order (drop byte_count bytes) ++ means.rest)
       (simp (← append_assoc, ← flat_map-append, take-append-drop) means.same_bits)
       (rw (length-bits_of_values, v_len, length-bits_of_bytes)
-      (rw (length-take-le byte_count bytes enough) full)) in (
+      (rw (length-take-le byte_count bytes (omega arith)) full)) in (
         record {
           values = v;
           rest = [];
@@ -107,10 +102,8 @@ module _ (base : Base) (width : IsWidth base.width) where
       bytes,
       more,
       refl,
-      GroupMeans-symbols base group bytes some
-          (λ padded. absurd (false≢true (sym unpadded ∙ padded))) means,
-      (λ final. absurd (false≢true (sym (symbols-not_final base group means.values
-          means.are_symbols) ∙ final))),
+      GroupMeans-symbols base group bytes some (λ padded. cc) means,
+      (λ final. cc (symbols-not_final base group means.values means.are_symbols)),
       behind,
     )
 

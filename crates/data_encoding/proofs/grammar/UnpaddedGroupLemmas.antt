@@ -13,7 +13,7 @@ use Rattle.data_encoding.specs.Bits.{bits_of, number_of, bits_of_bytes}
 use Rattle.data_encoding.specs.Grammar.{PlainMeans}
 use Rattle.data_encoding.specs.Lengths.{is_valid_count}
 use Rattle.data_encoding.specs.Fault.{symbol_bits, trailing_bits, symbol_bytes, plain_fault, symbols_fault, trailing_fault}
-use Rattle.data_encoding.proofs.digits.BitLemmas.{AreBits, AreBits-take, AreBits-flat_map, AreBits-bits_of, length-bits_of, length-pieces, number_of-bits_of}
+use Rattle.data_encoding.proofs.digits.BitLemmas.{AreBits-take, AreBits-flat_map, AreBits-bits_of, length-bits_of, length-pieces, number_of-bits_of}
 use Rattle.data_encoding.proofs.digits.ValueLemmas.{AreValuesOf-runs}
 use Rattle.data_encoding.proofs.lists.EachLemmas.{all_replicate, all_weaker}
 use Rattle.data_encoding.proofs.lists.ListLemmas.{AllFail, position-none, AllFail-position, list_any-none, AllFail-list_any, zeros}
@@ -74,11 +74,10 @@ module _ (base : Base) (width : IsWidth base.width) (group : List Character) whe
       × (position (λ m. not (is_symbol m)) group ≡ None)
       × (base.checks_trailing_bits ≡ true → list_any (λ bit. not (bit == 0)) rest ≡ false) =
       grind (arith, nat_tests) in
-      let are_bits : AreBits bits = AreBits-flat_map (bits_of base.order base.width) values
+      let are_bits = AreBits-flat_map (bits_of base.order base.width) values
       (AreBits-bits_of base.order base.width) in
-      let front_len : length (take whole bits) ≡ whole = length-take-le whole bits (omega arith) in
       let bytes = AreValuesOf-runs (length bits / 8) base.order 8 (take whole bits) (omega arith)
-      (AreBits-take whole bits are_bits) (omega (arith, front_len)) in
+      (AreBits-take whole bits are_bits) (omega (arith, length-take-le whole bits (omega arith))) in
       let symbols = are_symbols group judged.1 in
       let count : length group ≡ length values = simp length-map at (ap length symbols) in
       let bits_len : length bits ≡ base.width * length group =
@@ -90,8 +89,7 @@ module _ (base : Base) (width : IsWidth base.width) (group : List Character) whe
         same_bits = sym (take-append-drop whole bits) ∙ rw bytes.same_bits;
         rest_is_short = omega (arith, length-drop whole bits, judged.0, bits_len);
         rest_is_zero =
-            λ e. zeros rest
-            (all_weaker (λ bit. not (bit == 0) ≡ false) (λ bit. bit ≡ 0)
+            λ e. zeros rest (all_weaker (λ bit. not (bit == 0) ≡ false) (λ bit. bit ≡ 0)
             (λ bit h. grind (arith, nat_tests)) rest
             (AllFail-list_any (λ bit. not (bit == 0)) rest (judged.2 e)));
         are_bytes = All-from_recursion (λ byte. byte < 256) (symbol_bytes base group) bytes.below;
@@ -99,10 +97,7 @@ module _ (base : Base) (width : IsWidth base.width) (group : List Character) whe
 
   module _ (bytes : List ℕ) (means : PlainMeans base group bytes) where
     bits_are : symbol_bits base group ≡ bits_of_bytes base.order bytes ++ means.rest
-    bits_are =
-        ap (symbol_bits base) means.are_symbols
-        ∙ ap (flat_map (bits_of base.order base.width)) (symbols-values means.values)
-        ∙ means.same_bits
+    bits_are = rw (means.are_symbols, symbols-values means.values) means.same_bits
 
     -- they are bytes and a short rest
     split : (take (length (symbol_bits base group) / 8 * 8) (symbol_bits base group)
@@ -126,9 +121,7 @@ module _ (base : Base) (width : IsWidth base.width) (group : List Character) whe
 
     pub PlainMeans-valid : is_valid_count base.width (length group) ≡ true
     PlainMeans-valid =
-        let over : base.width * length group % 8 ≡ length means.rest =
-        omega (arith, PlainMeans-count, means.rest_is_short, width.few) in
-        grind (arith, nat_tests, over, means.rest_is_short)
+        grind (arith, nat_tests, PlainMeans-count, means.rest_is_short, width.few)
 
     pub PlainMeans-bytes : symbol_bytes base group ≡ bytes
     PlainMeans-bytes =
@@ -138,11 +131,9 @@ module _ (base : Base) (width : IsWidth base.width) (group : List Character) whe
 
     no_trailing : trailing_fault base group ≡ None
     no_trailing =
-        let none : base.checks_trailing_bits ≡ true
-        → list_any (λ bit. not (bit == 0)) (trailing_bits base group) ≡ false =
-        λ e. rw (split.1, means.rest_is_zero e) (list_any-none (λ bit. not (bit == 0)) _
-        (all_replicate (λ bit. not (bit == 0) ≡ false) (length means.rest) 0 refl)) in
-        grind (arith, none)
+        let zero_bits = list_any-none (λ bit. not (bit == 0)) _
+        (all_replicate (λ bit. not (bit == 0) ≡ false) (length means.rest) 0 refl) in
+        grind (arith, split.1, means.rest_is_zero, zero_bits)
 
     -- what means something has no fault
     pub PlainMeans-no_fault : plain_fault base group ≡ None

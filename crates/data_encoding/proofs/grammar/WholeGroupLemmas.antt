@@ -1,5 +1,5 @@
 -- Whole groups of symbols alone.
-use Rattle.std.proofs.Common.{◌≡◌, ℕ, zero, suc, ◌+◌, ◌*◌, ◌/◌, true, false, not, List, [], ◌∷◌, length, map, take, drop, None, refl, sym, ap, ◌∙◌, arith, take-append-drop, length-take-le}
+use Rattle.std.proofs.Common.{◌≡◌, ℕ, zero, suc, ◌+◌, ◌*◌, true, false, not, List, [], ◌∷◌, length, map, take, drop, None, refl, sym, ap, ◌∙◌, arith, take-append-drop, length-take-le}
 use Rattle.std.proofs.Math.Nat.{zero-mul, suc-mul}
 use Rattle.std.proofs.lemmas.List.{length-map, length-drop, drop_all, nil_from_length}
 use Rattle.std.proofs.lemmas.List.Folds.{flat_map-map}
@@ -8,7 +8,7 @@ use Rattle.std.specs.List.{filter_map, position}
 use Rattle.std.proofs.Math.Bool.{and-false}
 use Rattle.data_encoding.specs.declared.encoding.Character.{Character}
 use Rattle.data_encoding.specs.declared.encoding.Character.TheVariants.{Symbol}
-use Rattle.data_encoding.specs.Base.{Base, meaning, is_symbol, is_ignored, group_symbols, group_bytes, value_of, IsWidth}
+use Rattle.data_encoding.specs.Base.{Base, meaning, is_symbol, group_symbols, group_bytes, value_of, IsWidth}
 use Rattle.data_encoding.specs.Bits.{runs}
 use Rattle.data_encoding.specs.Grammar.{Positioned, bytes_in, is_final, kept_in, meanings_in, positioned_from}
 use Rattle.data_encoding.specs.Lengths.{is_valid_count}
@@ -50,12 +50,11 @@ module _ (base : Base) (width : IsWidth base.width) (group : List Positioned)
   plain : plain_fault base meant ≡ None
   plain =
       let many : length values ≡ group_symbols base.width =
-      omega (arith, simp length-map at (ap length meanings), meant_len) in
+      simp length-map at (ap length (sym meanings)) ∙ len in
       let bits : length (symbol_bits base meant) ≡ 8 * group_bytes base.width =
       rw (length-bits_of_values base.order base.width values, many) (group_bits base.width width) in
       let rest : trailing_bits base meant ≡ [] =
-      drop_all (length (symbol_bits base meant) / 8 * 8) (symbol_bits base meant)
-      (omega (arith, bits)) in
+      drop_all _ (symbol_bits base meant) (omega arith) in
       let valid : is_valid_count base.width (length meant) ≡ true =
       rw meant_len (whole-valid base.width width) in
       rw (valid, none, rest, and-false base.checks_trailing_bits)
@@ -71,9 +70,6 @@ module _ (base : Base) (width : IsWidth base.width) (group : List Positioned)
   pub is_final-symbols : is_final base group ≡ false
   is_final-symbols = symbols-not_final base meant values meanings
 
-symbol_kept : (m : Character) → is_symbol m ≡ true → not (is_ignored m) ≡ true
-symbol_kept m h = grind arith
-
 pub symbols-positioned : (base : Base) (start : ℕ) (part : List ℕ)
     → AllSo (λ byte. is_symbol (meaning base byte)) part
     → AllSo (λ k. is_symbol (meaning base k.byte)) (positioned_from start part)
@@ -86,7 +82,7 @@ pub kept_in-symbols : (base : Base) (start : ℕ) (part : List ℕ)
     → kept_in base start part ≡ positioned_from start part
 kept_in-symbols base start [] h = refl
 kept_in-symbols base start (byte ∷ part) h =
-    rw (symbol_kept (meaning base byte) h.0, kept_in-symbols base (start + 1) part h.1)
+    grind (arith, h.0, kept_in-symbols base (start + 1) part h.1)
 
 -- whole groups of symbols are sound
 pub AreSound-symbols : (base : Base) → IsWidth base.width → (count : ℕ) (ks : List Positioned)

@@ -1,4 +1,4 @@
-use Rattle.std.proofs.Common.{◌≡◌, ◌<◌, ◌==◌, true, false, length, get_or, ap, ◌∙◌, arith, inl, inr}
+use Rattle.std.proofs.Common.{◌<◌, length, get_or, ap, ◌∙◌, arith, inl, inr}
 use Rattle.std.proofs.lemmas.List.{length-set}
 use Rattle.std.proofs.lemmas.Bool.Decides.{nat_tests}
 use Rattle.data_encoding.proofs.digits.SizeLemmas.{IsSmall-group}
@@ -12,52 +12,35 @@ loop-index-init g c =
 
 pub bounds-room-count : goal.bounds-room-count
 bounds-room-count g c =
-    let most = c.loop-index.invariant.0 in
     let few = (IsSmall-group g.G.GroupSize.is_group).few_symbols in
-    let apart = c.if-count-most.false in
-    omega (arith, most, few, apart, c.SYMBOLS-most.ensures)
+    omega (arith, c.loop-index.invariant.0)
 
 pub loop-index-preserved : goal.loop-index-preserved
 loop-index-preserved g c =
     let rest = c.args.rest.now in
     let index = c.loop-index.index in
     let byte = get_or rest index 0 in
-    let inside : index < length rest = c.loop-index-test.true in
     let most = c.loop-index.invariant.0 in
-    let apart = c.if-count-most.false in
     let few = (IsSmall-group g.G.GroupSize.is_group).few_symbols in
     let small : byte < 256 = omega (arith, (c.type_inv.rest index).fits) in
     elim c.if-values-byte.branch [
       | then-values-byte w ↦
-          let other : (get_or c.args.values.now byte 0 == 129) ≡ false =
-          grind (arith, nat_tests, w.if-values-byte.true) in
           let room_len = ap length w.room-is ∙ length-set c.loop-index.room c.loop-index.count byte
-          in
-          let fits : c.loop-index.count < length c.loop-index.room =
-          omega (
-            arith,
-            most,
-            apart,
-            few,
-            c.SYMBOLS-most.ensures,
-            room_len,
-            c.if-values-byte.array_long,
-          ) in (
-            omega (arith, most, apart, c.SYMBOLS-most.ensures, w.count-is),
+          in (
+            omega (arith, w.count-is),
             λ base holds. rw (w.room-is, w.count-is, w.span-is)
-                (gather-kept base rest index inside c.loop-index.count c.loop-index.span
-                c.loop-index.room (c.loop-index.invariant.1 base holds)
-                (holds.ignoreds byte small ∙ other) fits),
+                (gather-kept base rest index c.loop-index-test.true c.loop-index.count
+                c.loop-index.span c.loop-index.room (c.loop-index.invariant.1 base holds)
+                (grind (arith, nat_tests, holds.ignoreds byte small, w.if-values-byte.true))
+                (omega arith)),
           )
-      | else-values-byte w ↦
-          let same : (get_or c.args.values.now byte 0 == 129) ≡ true =
-          grind (arith, nat_tests, w.if-values-byte.false) in (
-            omega (arith, most, w.count-is),
-            λ base holds. rw (w.room-is, w.count-is, w.span-is)
-                (gather-ignored base rest index inside c.loop-index.count c.loop-index.span
-                c.loop-index.room (c.loop-index.invariant.1 base holds)
-                (holds.ignoreds byte small ∙ same)),
-          )
+      | else-values-byte w ↦ (
+        omega (arith, w.count-is),
+        λ base holds. rw (w.room-is, w.count-is, w.span-is)
+            (gather-ignored base rest index c.loop-index-test.true c.loop-index.count
+            c.loop-index.span c.loop-index.room (c.loop-index.invariant.1 base holds)
+            (grind (arith, nat_tests, holds.ignoreds byte small, w.if-values-byte.false))),
+      )
     ]
 
 pub returns-after-loop-index-clause-first : goal.returns-after-loop-index-clause-first

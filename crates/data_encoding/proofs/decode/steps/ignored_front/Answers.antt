@@ -1,4 +1,4 @@
-use Rattle.std.proofs.Common.{◌≡◌, ◌<◌, ◌==◌, true, take, get_or, ap, ◌∙◌, arith}
+use Rattle.std.proofs.Common.{take, get_or, ap, ◌∙◌, arith}
 use Rattle.std.proofs.lemmas.Bool.Decides.{nat_tests}
 use Rattle.data_encoding.specs.Grammar.{kept}
 use Rattle.data_encoding.proofs.decoding.GatherLemmas.{next-ignored}
@@ -9,10 +9,9 @@ loop-index-preserved c base holds =
     let rest = c.args.rest.now in
     let index = c.loop-index.index in
     let byte = get_or rest index 0 in
-    let small : byte < 256 = omega (arith, (c.type_inv.rest index).fits) in
-    let same : (get_or c.args.values.now byte 0 == 129) ≡ true =
-    grind (arith, nat_tests, c.if-values-rest.false) in
-    next-ignored base rest index c.loop-index-test.true (holds.ignoreds byte small ∙ same)
+    let ignored = holds.ignoreds byte (omega (arith, (c.type_inv.rest index).fits)) in
+    next-ignored base rest index c.loop-index-test.true
+    (grind (arith, nat_tests, ignored, c.if-values-rest.false))
     ∙ c.loop-index.invariant base holds
 
 pub returns-then-values-rest-clause-front : goal.returns-then-values-rest-clause-front
@@ -26,7 +25,5 @@ returns-clause-front c base holds =
     let rest = c.args.rest.now in
     record {
       within = omega arith;
-      none = ap (λ n. kept base (take n rest))
-          (omega (arith, c.loop-index-test.false, c.loop-index.auto.index-end))
-          ∙ c.loop-index.invariant base holds;
+      none = ap (λ n. kept base (take n rest)) (omega arith) ∙ c.loop-index.invariant base holds;
     }

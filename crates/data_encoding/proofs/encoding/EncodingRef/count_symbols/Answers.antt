@@ -1,7 +1,6 @@
-use Rattle.std.proofs.Common.{◌≡◌, ◌<◌, ◌==◌, ◌||◌, true, false, not, length, sym, ap, ◌∙◌, subst, arith}
+use Rattle.std.proofs.Common.{◌≡◌, arith}
 use Rattle.std.proofs.lemmas.Bool.Decides.{nat_tests}
-use Rattle.data_encoding.specs.Base.{group_symbols, is_padded}
-use Rattle.data_encoding.specs.Lengths.{is_valid_count}
+use Rattle.data_encoding.specs.Base.{group_symbols}
 use Rattle.data_encoding.proofs.decoding.GroupJudgementLemmas.{few-bits, group-short, length-invalid, padding-invalid, symbols-all, symbols-before}
 use Rattle.data_encoding.proofs.tables.TableLemmas.{HoldsValues-seen, IsWidth-seen}
 use Rattle.data_encoding.proofs.encoding.EncodingRef.count_symbols.Goals as goal
@@ -10,75 +9,48 @@ use Rattle.data_encoding.proofs.encoding.EncodingRef.count_symbols.Goals.{then-c
 pub returns-then-trailing-width-clause-fault : goal.returns-then-trailing-width-clause-fault
 returns-then-trailing-width-clause-fault g c =
     rw c.faulty.ensures
-    (length-invalid c.args.self.now c.args.group.now
-    (ap is_padded (sym c.self.view_is) ∙ sym c.is_padded.ensures ∙ c.if-not-is_padded.true)
-    c.requires.some c.WIDTH-width.result
-    (c.requires.width ∙ sym c.WIDTH-width.ensures)
-    (omega (arith, g.G.GroupSize.is_group.is_width.some, c.WIDTH-width.ensures))
-    c.if-trailing-width.true)
+    (length-invalid c.args.self.now c.args.group.now (cc) c.requires.some c.WIDTH-width.result (cc)
+    (omega (arith, g.G.GroupSize.is_group.is_width.some)) c.if-trailing-width.true)
 
 pub returns-then-not-is_padded-clause-symbols : goal.returns-then-not-is_padded-clause-symbols
 returns-then-not-is_padded-clause-symbols g c =
-    let group = c.args.group.now in
-    let valid : is_valid_count c.WIDTH-width.result (length group) ≡ true = grind (arith, nat_tests)
-    in
-    symbols-all c.args.self.now group
-    (ap is_padded (sym c.self.view_is) ∙ sym c.is_padded.ensures ∙ c.if-not-is_padded.true)
-    (ap (λ w. is_valid_count w (length group)) (c.requires.width ∙ sym c.WIDTH-width.ensures)
-    ∙ valid)
+    symbols-all c.args.self.now c.args.group.now (cc) (grind (arith, nat_tests))
 
 pub returns-then-group-SYMBOLS-clause-fault : goal.returns-then-group-SYMBOLS-clause-fault
 returns-then-group-SYMBOLS-clause-fault g c =
-    let symbols = c.SYMBOLS.ensures ∙ g.G.GroupSize.is_group.has_symbols ∙ ap group_symbols
-    (sym c.requires.width) in
+    let symbols : c.SYMBOLS.result ≡ group_symbols c.args.self.now.width =
+    cc g.G.GroupSize.is_group.has_symbols in
     rw c.faulty-then-group-SYMBOLS.ensures
-    (group-short c.args.self.now c.args.group.now
-    (ap is_padded (sym c.self.view_is) ∙ sym c.is_padded.ensures ∙ c.if-not-is_padded.false)
-    c.requires.some
-    (subst (λ n. length c.args.group.now < n) symbols c.if-group-SYMBOLS.true))
+    (group-short c.args.self.now c.args.group.now (cc) c.requires.some (omega arith))
 
 pub returns-then-count-eq0-clause-fault : goal.returns-then-count-eq0-clause-fault
 returns-then-count-eq0-clause-fault g c =
     let seen = c.args.self.now in
     let group = c.args.group.now in
     let count = c.before_padding-count.result in
-    let size : length group ≡ g.G.GroupSize.SYMBOLS = omega (arith, c.SYMBOLS.ensures) in
-    let whole = size ∙ g.G.GroupSize.is_group.has_symbols ∙ ap group_symbols (sym c.requires.width)
-    in
-    let bad : (count == 0 || not (is_valid_count c.WIDTH-width.result count)) ≡ true =
-    elim c.then-count-eq0.branch [
-      | then-count-eq0-via-then-count-eq0 w ↦ grind (arith, nat_tests, w.if-count-eq0.true)
-      | then-count-eq0-via-else-count-eq0+then-width-count w ↦ grind
-          (arith, nat_tests, w.if-width-count.true)
-    ] in
+    let symbols : c.SYMBOLS.result ≡ group_symbols seen.width =
+    cc g.G.GroupSize.is_group.has_symbols in
     rw c.faulty-then-count-eq0.ensures
-    (padding-invalid seen group
-    (ap is_padded (sym c.self.view_is) ∙ sym c.is_padded.ensures ∙ c.if-not-is_padded.false) whole
-    count
+    (padding-invalid seen group (cc) (omega arith) count
     (c.before_padding-count.ensures.count seen
     (HoldsValues-seen _ c.self.invariant seen c.self.view_is))
     (IsWidth-seen _ c.self.invariant seen c.self.view_is) c.requires.some
     c.before_padding-count.ensures.within
-    (ap (λ w. count == 0 || not (is_valid_count w count))
-    (c.requires.width ∙ sym c.WIDTH-width.ensures) ∙ bad))
+    (elim c.then-count-eq0.branch [
+      | then-count-eq0-via-then-count-eq0 w ↦ grind (arith, nat_tests, w.if-count-eq0.true)
+      | then-count-eq0-via-else-count-eq0+then-width-count w ↦ grind
+          (arith, nat_tests, w.if-width-count.true)
+    ]))
 
 pub returns-clause-symbols : goal.returns-clause-symbols
 returns-clause-symbols g c =
     let seen = c.args.self.now in
-    let group = c.args.group.now in
-    let count = c.before_padding-count.result in
-    let size : length group ≡ g.G.GroupSize.SYMBOLS = omega (arith, c.SYMBOLS.ensures) in
-    let whole = size ∙ g.G.GroupSize.is_group.has_symbols ∙ ap group_symbols (sym c.requires.width)
-    in
-    let begun : (count == 0) ≡ false = grind (arith, nat_tests) in
-    let valid : is_valid_count c.WIDTH-width.result count ≡ true = grind (arith, nat_tests) in
-    symbols-before seen group
-    (ap is_padded (sym c.self.view_is) ∙ sym c.is_padded.ensures ∙ c.if-not-is_padded.false) whole
-    count
+    let symbols : c.SYMBOLS.result ≡ group_symbols seen.width =
+    cc g.G.GroupSize.is_group.has_symbols in
+    symbols-before seen c.args.group.now (cc) (omega arith) c.before_padding-count.result
     (c.before_padding-count.ensures.count seen
     (HoldsValues-seen _ c.self.invariant seen c.self.view_is))
-    c.before_padding-count.ensures.within begun
-    (ap (λ w. is_valid_count w count) (c.requires.width ∙ sym c.WIDTH-width.ensures) ∙ valid)
+    c.before_padding-count.ensures.within (grind (arith, nat_tests)) (grind (arith, nat_tests))
 
 pub overflow_mul-trailing : goal.overflow_mul-trailing
 overflow_mul-trailing g c =

@@ -1,9 +1,6 @@
-use Rattle.std.proofs.Common.{◌≡◌, ◌*◌, ◌/◌, ◌<◌, ◌≤◌, ◌==◌, ◌&&◌, false, not, length, map, take, drop, refl, sym, ap, ◌∙◌, arith, length-take-le}
+use Rattle.std.proofs.Common.{◌*◌, ◌/◌, ◌<◌, ◌≤◌, length, take, drop, refl, sym, ◌∙◌, arith, length-take-le}
 use Rattle.std.proofs.Math.Nat.{lt_of_not-le}
 use Rattle.std.proofs.lemmas.Bool.{false≢true}
-use Rattle.std.specs.List.{list_any}
-use Rattle.data_encoding.specs.Base.{Base, meaning}
-use Rattle.data_encoding.specs.Fault.{trailing_bits}
 use Rattle.data_encoding.proofs.decoding.GroupJudgementLemmas.{few-bits, group-sound, room-symbols, symbol-fault, trailing-fault}
 use Rattle.data_encoding.proofs.digits.WidthLemmas.{group_symbols-few}
 use Rattle.data_encoding.proofs.tables.TableLemmas.{HoldsValues-seen, Reads-seen}
@@ -17,52 +14,38 @@ slice_bounds-room-end g c =
 
 pub slice_bounds-room-end-2 : goal.slice_bounds-room-end-2
 slice_bounds-room-end-2 g c =
-    sym (length-take-le (c.WIDTH.result * c.in-Ok.count / 8) c.args.output.now
-    (room-symbols c.WIDTH.ensures c.in-Ok.ensures.symbols.within
-    (c.requires.room c.in-Ok.ensures.whole)))
+    sym (length-take-le _ c.args.output.now (room-symbols c.WIDTH.ensures
+    c.in-Ok.ensures.symbols.within (c.requires.room c.in-Ok.ensures.whole)))
 
 pub decode_symbols-requires-clause-exact : goal.decode_symbols-requires-clause-exact
 decode_symbols-requires-clause-exact g c =
-    let count = c.in-Ok.count in
-    let group = c.args.group.now in
     let few = c.in-Ok.ensures.symbols.within in
-    length-take-le (c.WIDTH.result * count / 8) c.args.output.now
+    length-take-le _ c.args.output.now
     (room-symbols c.WIDTH.ensures few (c.requires.room c.in-Ok.ensures.whole))
-    ∙ ap (λ n. c.WIDTH.result * n / 8) (sym (length-take-le count group few))
-    ∙ ap (λ w. w * length (take count group) / 8) c.WIDTH.ensures
+    ∙ cc (length-take-le c.in-Ok.count c.args.group.now few)
 
 pub returns-then-index-count-clause-fault : goal.returns-then-index-count-clause-fault
 returns-then-index-count-clause-fault g c =
-    let seen = c.args.self.now in
-    let group = c.args.group.now in
-    let count = c.in-Ok.count in
-    let found = c.symbol_position-index.result in
-    let few = length-take-le count group c.in-Ok.ensures.symbols.within in
-    let inside : found < length (take count group) = omega (arith, few, c.if-index-count.true) in
+    let few = length-take-le c.in-Ok.count c.args.group.now c.in-Ok.ensures.symbols.within in
     rw (c.if-ended.false, c.faulty-then-index-count.ensures)
-    (symbol-fault seen c.self.inside.fields.now.values
-    (HoldsValues-seen _ c.self.invariant seen c.self.view_is) group
-    (λ k. (c.type_inv.group k).fits) count c.in-Ok.ensures.symbols found inside
-    c.symbol_position-index.ensures.before (c.symbol_position-index.ensures.there inside))
+    (symbol-fault c.args.self.now _ (HoldsValues-seen _ c.self.invariant _ c.self.view_is)
+    c.args.group.now (λ k. (c.type_inv.group k).fits) c.in-Ok.count c.in-Ok.ensures.symbols _
+    (omega arith) c.symbol_position-index.ensures.before
+    (c.symbol_position-index.ensures.there (omega arith)))
 
 pub returns-then-not-decode_symbols-clause-fault :
     goal.returns-then-not-decode_symbols-clause-fault
 returns-then-not-decode_symbols-clause-fault g c =
-    let seen = c.args.self.now in
-    let group = c.args.group.now in
-    let count = c.in-Ok.count in
-    let symbols = take count group in
-    let found = c.symbol_position.result in
-    let inside : found < length symbols =
+    let symbols = take c.in-Ok.count c.args.group.now in
+    let inside : c.symbol_position.result < length symbols =
     lt_of_not-le
-    (λ (past : length symbols ≤ found).
+    (λ (past : length symbols ≤ c.symbol_position.result).
     false≢true (c.if-not-decode_symbols.ensures.symbols.1
-    (λ k below. c.symbol_position.ensures.before k (omega (arith, past, below))))) in
+    (λ k below. c.symbol_position.ensures.before k (omega arith)))) in
     rw (c.if-ended.false, c.faulty-then-not-decode_symbols.ensures)
-    (symbol-fault seen c.self.inside.fields.now.values
-    (HoldsValues-seen _ c.self.invariant seen c.self.view_is) group
-    (λ k. (c.type_inv.group k).fits) count c.in-Ok.ensures.symbols found inside
-    c.symbol_position.ensures.before (c.symbol_position.ensures.there inside))
+    (symbol-fault c.args.self.now _ (HoldsValues-seen _ c.self.invariant _ c.self.view_is)
+    c.args.group.now (λ k. (c.type_inv.group k).fits) c.in-Ok.count c.in-Ok.ensures.symbols _
+    inside c.symbol_position.ensures.before (c.symbol_position.ensures.there inside))
 
 pub has_trailing-requires-clause-few : goal.has_trailing-requires-clause-few
 has_trailing-requires-clause-few g c =
@@ -80,49 +63,32 @@ overflow_sub-count g c =
 
 pub returns-then-has_trailing-clause-fault : goal.returns-then-has_trailing-clause-fault
 returns-then-has_trailing-clause-fault g c =
-    let seen = c.args.self.now in
-    let group = c.args.group.now in
-    let count = c.in-Ok.count in
-    let holds = HoldsValues-seen _ c.self.invariant seen c.self.view_is in
+    let reads = Reads-seen _ c.self.invariant c.args.self.now c.self.view_is g.G.GroupSize.WIDTH
+    c.args.order c.requires.width c.requires.order in
     rw (c.if-ended.false, c.faulty-then-has_trailing.ensures)
-    (trailing-fault seen c.self.inside.fields.now.values holds group
-    (λ k. (c.type_inv.group k).fits) count
-    c.in-Ok.ensures.symbols (c.if-not-decode_symbols.ensures.symbols.0 refl)
-    (ap (λ (b : Base). b.checks_trailing_bits) (sym c.self.view_is) ∙ c.if-self.true)
-    (sym (c.if-has_trailing.ensures.any seen
-    (Reads-seen _ c.self.invariant seen c.self.view_is g.G.GroupSize.WIDTH c.args.order
-    c.requires.width c.requires.order)))
-    (c.if-has_trailing.ensures.some refl))
+    (trailing-fault c.args.self.now _ reads.holds c.args.group.now
+    (λ k. (c.type_inv.group k).fits) c.in-Ok.count c.in-Ok.ensures.symbols
+    (c.if-not-decode_symbols.ensures.symbols.0 refl) (rw (← c.self.view_is) c.if-self.true)
+    (sym (c.if-has_trailing.ensures.any _ reads)) (c.if-has_trailing.ensures.some refl))
 
 pub returns-clause-sound : goal.returns-clause-sound
 returns-clause-sound g c =
     let seen = c.args.self.now in
     let group = c.args.group.now in
     let count = c.in-Ok.count in
-    let symbols = take count group in
-    let judged = map (meaning seen) symbols in
     let reads = Reads-seen _ c.self.invariant seen c.self.view_is g.G.GroupSize.WIDTH
     c.args.order c.requires.width c.requires.order in
-    let checks = ap (λ (b : Base). b.checks_trailing_bits) (sym c.self.view_is) in
-    let quiet : (seen.checks_trailing_bits
-    && list_any (λ bit. not (bit == 0)) (trailing_bits seen judged)) ≡ false =
-    elim c.else-self.branch [
-      | else-self-via-then-self+else-has_trailing w ↦
-          (λ i. (checks ∙ w.if-self.true) i
-          && sym (w.if-has_trailing.ensures.any seen reads) i)
-      | else-self-via-else-self w ↦
-          ap (λ b. b && list_any (λ bit. not (bit == 0)) (trailing_bits seen judged))
-          (checks ∙ w.if-self.false)
-    ] in
-    group-sound seen c.self.inside.fields.now.values reads.holds group
-    (λ k. (c.type_inv.group k).fits) count
-    c.in-Ok.ensures.symbols (c.if-not-decode_symbols.ensures.symbols.0 refl) quiet
+    group-sound seen _ reads.holds group (λ k. (c.type_inv.group k).fits) count
+    c.in-Ok.ensures.symbols (c.if-not-decode_symbols.ensures.symbols.0 refl)
+    (elim c.else-self.branch [
+      | else-self-via-then-self+else-has_trailing w ↦ grind
+          (arith, c.self.view_is, w.if-self.true, w.if-has_trailing.ensures.any seen reads)
+      | else-self-via-else-self w ↦ grind (arith, c.self.view_is, w.if-self.false)
+    ])
     c.decode_symbols.new.output (drop (c.WIDTH.result * count / 8) c.args.output.now)
     (c.decode_symbols.auto.output
-    ∙ length-take-le (c.WIDTH.result * count / 8) c.args.output.now
-    (room-symbols c.WIDTH.ensures c.in-Ok.ensures.symbols.within
-    (c.requires.room c.in-Ok.ensures.whole))
-    ∙ ap (λ w. w * count / 8) (c.WIDTH.ensures ∙ sym c.requires.width))
+    ∙ length-take-le _ c.args.output.now (room-symbols c.WIDTH.ensures
+    c.in-Ok.ensures.symbols.within (c.requires.room c.in-Ok.ensures.whole)) ∙ cc)
     (c.if-not-decode_symbols.ensures.bytes seen reads refl)
 
 pub overflow_mul-room : goal.overflow_mul-room

@@ -1,6 +1,6 @@
-use Rattle.std.proofs.Common.{◌≡◌, ◌*◌, ◌/◌, ◌≤◌, true, false, length, Ok, IsOkAnd, sym, ap, ◌∙◌, subst}
+use Rattle.std.proofs.Common.{◌≡◌, true, false, sym, ◌∙◌}
 use Rattle.data_encoding.specs.Base.{ignores_some}
-use Rattle.data_encoding.specs.Lengths.{decoded_len, is_valid_length, most_bytes}
+use Rattle.data_encoding.specs.Lengths.{is_valid_length}
 use Rattle.data_encoding.proofs.grammar.LengthLemmas.{decoded_len-invalid, decoded_len-valid, most_bytes-valid}
 use Rattle.data_encoding.proofs.grammar.MeaningLemmas.{decoded_len-Means, length-Means}
 use Rattle.data_encoding.proofs.tables.TableLemmas.{IsWidth-seen}
@@ -13,11 +13,8 @@ returns-then-not-is_valid_length-clause-most c text bytes h means =
     let width = IsWidth-seen _ c.self.invariant seen c.self.view_is in
     let none : ignores_some seen ≡ false =
     rw (← c.self.view_is) (sym c.self.invariant.ignores ∙ c.if-self.false) in
-    let invalid : is_valid_length seen c.args.len ≡ false =
-    sym c.is_valid_length.ensures ∙ c.if-not-is_valid_length.true in
-    subst (λ r. IsOkAnd r (λ most. length bytes ≤ most))
-    (ap (decoded_len seen) h ∙ decoded_len-invalid seen c.args.len none invalid)
-    (decoded_len-Means seen width text bytes means)
+    rw (h, decoded_len-invalid seen c.args.len none (cc))
+    at (decoded_len-Means seen width text bytes means)
 
 pub returns-then-not-is_valid_length-clause-base : goal.returns-then-not-is_valid_length-clause-base
 returns-then-not-is_valid_length-clause-base c =
@@ -36,20 +33,18 @@ pub returns-clause-value : goal.returns-clause-value
 returns-clause-value c =
     let seen = c.args.self.now in
     let width = IsWidth-seen _ c.self.invariant seen c.self.view_is in
-    let valid : is_valid_length seen c.args.len ≡ true =
-    sym c.is_valid_length.ensures ∙ c.if-not-is_valid_length.false in
-    let most : c.bit_width.result * c.args.len / 8 ≡ most_bytes seen c.args.len =
-    most_bytes-valid seen width c.bit_width.result c.args.len c.bit_width.ensures.value valid in
-    (λ i. Ok (most i)) ∙ sym (decoded_len-valid seen c.args.len valid)
+    let valid : is_valid_length seen c.args.len ≡ true = cc in
+    cc (
+      most_bytes-valid seen width c.bit_width.result c.args.len c.bit_width.ensures.value valid,
+      decoded_len-valid seen c.args.len valid,
+    )
 
 pub returns-clause-most : goal.returns-clause-most
 returns-clause-most c text bytes h means =
     let seen = c.args.self.now in
     let width = IsWidth-seen _ c.self.invariant seen c.self.view_is in
-    let valid : is_valid_length seen c.args.len ≡ true =
-    sym c.is_valid_length.ensures ∙ c.if-not-is_valid_length.false in
-    let most : c.bit_width.result * c.args.len / 8 ≡ most_bytes seen c.args.len =
-    most_bytes-valid seen width c.bit_width.result c.args.len c.bit_width.ensures.value valid in
+    let most = most_bytes-valid seen width c.bit_width.result c.args.len
+    c.bit_width.ensures.value (cc) in
     rw (h, ← most) at (length-Means seen width text bytes means)
 
 pub returns-clause-base : goal.returns-clause-base

@@ -10,15 +10,13 @@ use Rattle.data_encoding.proofs.encoding.EncodingRef.decode_next.Goals.{After-WI
 
 pub returns-then-start-input : goal.returns-then-start-input
 returns-then-start-input g c =
-    let now = under_way g.G.GroupSize.is_group c.requires.width c.requires.exact
-    c.requires.so_far in
-    decoded-behind now c.requires.front (omega (arith, c.if-start-input.true))
+    decoded-behind (under_way g.G.GroupSize.is_group c.requires.width c.requires.exact
+    c.requires.so_far) c.requires.front (omega arith)
 
 pub returns-then-is_empty : goal.returns-then-is_empty
 returns-then-is_empty g c =
-    let now = under_way g.G.GroupSize.is_group c.requires.width c.requires.exact
-    c.requires.so_far in
-    decoded-none now c.requires.front c.next_group-group.ensures c.is_empty.ensures
+    decoded-none (under_way g.G.GroupSize.is_group c.requires.width c.requires.exact
+    c.requires.so_far) c.requires.front c.next_group-group.ensures c.is_empty.ensures
     c.if-is_empty.true
 
 pub decode_group-requires-clause-room : goal.decode_group-requires-clause-room
@@ -93,15 +91,7 @@ slice_bounds-rest-count g c = c.requires.so_far.fits
 
 pub overflow_add-stop : goal.overflow_add-stop
 overflow_add-stop g c =
-    record {
-      fits = omega (
-        arith,
-        length-drop {A = ℕ},
-        c.requires.front.within,
-        c.next_group-group.ensures.within,
-        c.requires.limit,
-      );
-    }
+    record { fits = omega (arith, length-drop {A = ℕ}, c.next_group-group.ensures.within) }
 
 pub decode_group-requires-clause-few : goal.decode_group-requires-clause-few
 decode_group-requires-clause-few g c = c.next_group-group.ensures.few

@@ -43,7 +43,6 @@ overflow_mul-result g c =
       fits = omega (
         arith,
         ap (λ s. c.decode_run-count.result * s) c.SYMBOLS.ensures,
-        c.decode_run-count.ensures.within,
         length-rest (c.args.at.read + c.args.at.ignored) c.args.input.now,
       );
     }
@@ -54,10 +53,8 @@ overflow_add-result g c =
       fits = omega (
         arith,
         ap (λ s. c.decode_run-count.result * s) c.SYMBOLS.ensures,
-        c.decode_run-count.ensures.within,
         length-rest (c.args.at.read + c.args.at.ignored) c.args.input.now,
         length-drop {A = ℕ},
-        c.requires.front.within,
       );
     }
 

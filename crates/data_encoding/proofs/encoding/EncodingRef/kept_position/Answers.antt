@@ -1,8 +1,7 @@
-use Rattle.std.proofs.Common.{◌≡◌, ◌+◌, ◌<◌, ◌==◌, true, false, length, take, get_or, sym, ap, ◌∙◌, subst, arith}
+use Rattle.std.proofs.Common.{◌≡◌, ◌<◌, false, length, take, get_or, sym, ◌∙◌, arith}
 use Rattle.std.proofs.lemmas.Bool.Decides.{nat_tests}
 use Rattle.std.proofs.lemmas.List.{take_all}
 use Rattle.data_encoding.specs.Base.{ignores_some}
-use Rattle.data_encoding.specs.Fault.{position_of}
 use Rattle.data_encoding.specs.Grammar.{kept, positioned}
 use Rattle.data_encoding.proofs.decoding.GatherLemmas.{more-here, none-here, position-here}
 use Rattle.data_encoding.proofs.grammar.PositionLemmas.{filter-plain, length-kept, position_of-positioned_from}
@@ -17,16 +16,11 @@ returns-then-left-eq0-clause-found c h =
     let at = c.loop-position.position in
     let byte = get_or part at 0 in
     let holds = HoldsValues-seen _ c.self.invariant seen c.self.view_is in
-    let other : (get_or c.self.inside.fields.now.values byte 0 == 129) ≡ false =
-    grind (arith, nat_tests, c.if-self-part.true) in
-    let small : byte < 256 = omega (arith, (c.type_inv.part at).fits) in
-    let so_far : length (kept seen (take at part)) + c.loop-position.left ≡ c.args.index =
-    c.loop-position.invariant in
+    let ignored = holds.ignoreds byte (omega (arith, (c.type_inv.part at).fits)) in
     let same : length (kept seen (take at part)) ≡ c.args.index =
-    omega (arith, so_far, c.if-left-eq0.true) in
-    subst (λ n. at ≡ position_of (kept seen part) n) same
-    (sym (position-here seen part at c.loop-position-test.true
-    (holds.ignoreds byte small ∙ other)))
+    omega (arith, c.loop-position.invariant) in
+    rw (← same) (sym (position-here seen part at c.loop-position-test.true
+    (grind (arith, nat_tests, ignored, c.if-self-part.true))))
 
 pub loop-position-preserved : goal.loop-position-preserved
 loop-position-preserved c =
@@ -35,35 +29,24 @@ loop-position-preserved c =
     let at = c.loop-position.position in
     let byte = get_or part at 0 in
     let holds = HoldsValues-seen _ c.self.invariant seen c.self.view_is in
-    let small : byte < 256 = omega (arith, (c.type_inv.part at).fits) in
-    let so_far : length (kept seen (take at part)) + c.loop-position.left ≡ c.args.index =
-    c.loop-position.invariant in
+    let ignored = holds.ignoreds byte (omega (arith, (c.type_inv.part at).fits)) in
     elim c.if-self-part.branch [
       | then-self-part+else-left-eq0 w ↦
-          let other : (get_or c.self.inside.fields.now.values byte 0 == 129) ≡ false =
-          grind (arith, nat_tests, w.if-self-part.true) in
           let more = more-here seen part at c.loop-position-test.true
-          (holds.ignoreds byte small ∙ other) in
-          omega (arith, so_far, more, w.left-is, w.if-left-eq0.false)
+          (grind (arith, nat_tests, ignored, w.if-self-part.true)) in
+          omega (arith, c.loop-position.invariant, w.left-is, w.if-left-eq0.false)
       | else-self-part w ↦
-          let same : (get_or c.self.inside.fields.now.values byte 0 == 129) ≡ true =
-          grind (arith, nat_tests, w.if-self-part.false) in
           let none = none-here seen part at c.loop-position-test.true
-          (holds.ignoreds byte small ∙ same) in
-          omega (arith, so_far, none, w.left-is)
+          (grind (arith, nat_tests, ignored, w.if-self-part.false)) in
+          omega (arith, c.loop-position.invariant, w.left-is)
     ]
 
 pub returns-clause-found : goal.returns-clause-found
 returns-clause-found c h =
     let seen = c.args.self.now in
     let part = c.args.part.now in
-    let at = c.loop-position.position in
-    let so_far : length (kept seen (take at part)) + c.loop-position.left ≡ c.args.index =
-    c.loop-position.invariant in
-    let all : length (kept seen (take at part)) ≡ length (kept seen part) =
-    ap (λ l. length (kept seen l)) (take_all at part
-    (omega (arith, c.loop-position-test.false, c.loop-position.auto.position-end))) in
-    absurd (omega (arith, so_far, all, h))
+    let all = take_all c.loop-position.position part (omega arith) in
+    absurd (omega (arith, rw all at c.loop-position.invariant))
 
 pub returns-then-not-self-clause-found : goal.returns-then-not-self-clause-found
 returns-then-not-self-clause-found c h =
@@ -72,7 +55,5 @@ returns-then-not-self-clause-found c h =
     let none : ignores_some seen ≡ false =
     rw (← c.self.view_is) (sym c.self.invariant.ignores ∙ c.if-not-self.true) in
     let below : c.args.index < length part = omega (arith, length-kept seen part, h) in
-    let same : position_of (kept seen part) c.args.index ≡ 0 + c.args.index =
-    ap (λ ks. position_of ks c.args.index) (filter-plain seen none (positioned part))
-    ∙ position_of-positioned_from 0 part c.args.index below in
-    omega (arith, below, same)
+    rw (filter-plain seen none (positioned part), position_of-positioned_from 0 part _ below)
+    (omega arith)

@@ -1,7 +1,6 @@
-use Rattle.std.proofs.Common.{◌≡◌, length, take, false, sym, ap, ◌∙◌, subst, arith}
+use Rattle.std.proofs.Common.{◌≡◌, take, false, sym, ◌∙◌, arith}
 use Rattle.std.proofs.lemmas.List.{take_all}
 use Rattle.data_encoding.specs.Base.{ignores_some}
-use Rattle.data_encoding.specs.Decoding.{IsGathered}
 use Rattle.data_encoding.proofs.decoding.GatherLemmas.{gathered-plain}
 use Rattle.data_encoding.proofs.digits.SizeLemmas.{IsSmall-group}
 use Rattle.data_encoding.proofs.tables.TableLemmas.{HoldsValues-seen}
@@ -18,22 +17,14 @@ returns g c =
     let rest = c.args.rest.now in
     let none : ignores_some c.args.self.now ≡ false =
     rw (← c.self.view_is) (sym c.self.invariant.ignores ∙ c.if-self.false) in
-    let plain = gathered-plain c.args.self.now none g.G.GroupSize.SYMBOLS rest in
     let same : take g.G.GroupSize.SYMBOLS rest ≡ c.if-rest-count.bytes.now =
     elim c.if-rest-count.branch [
-      | then-rest-count w ↦
-          take_all g.G.GroupSize.SYMBOLS rest (omega
-          (arith, c.SYMBOLS-count.ensures, w.if-rest-count.true))
-          ∙ sym (ap (λ bytes. bytes.now) w.bytes-is)
-      | else-rest-count w ↦ ap (λ n. take n rest) (sym c.SYMBOLS-count.ensures)
-          ∙ sym (ap (λ bytes. bytes.now) w.bytes-is)
+      | then-rest-count w ↦ cc (take_all g.G.GroupSize.SYMBOLS rest
+          (omega (arith, w.if-rest-count.true)))
+      | else-rest-count w ↦ cc
     ] in
-    subst (λ l. IsGathered c.args.self.now g.G.GroupSize.SYMBOLS rest l (length l)) same plain
+    rw same at (gathered-plain c.args.self.now none g.G.GroupSize.SYMBOLS rest)
 
 pub shared_ref_as_front-result : goal.shared_ref_as_front-result
 shared_ref_as_front-result g c =
-    omega (
-      arith,
-      c.gather-gathered.ensures.few,
-      (IsSmall-group g.G.GroupSize.is_group).few_symbols,
-    )
+    omega (arith, (IsSmall-group g.G.GroupSize.is_group).few_symbols)

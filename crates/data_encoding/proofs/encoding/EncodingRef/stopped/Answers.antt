@@ -1,10 +1,7 @@
-use Rattle.std.proofs.Common.{◌≡◌, ◌+◌, ◌-◌, ◌<◌, true, length, drop, refl, sym, ap, ◌∙◌, subst, arith, inl, inr}
-use Rattle.std.proofs.lemmas.Bool.{false≢true}
+use Rattle.std.proofs.Common.{◌≡◌, ◌-◌, true, length, drop, refl, ◌∙◌, arith, inl, inr}
 use Rattle.std.proofs.lemmas.List.{length-drop, take_rest}
-use borrow.Rule.Slice.PartMut.{put_mid}
 use Rattle.data_encoding.specs.declared.error.DecodeKind.{DecodeKind}
-use Rattle.data_encoding.specs.declared.error.DecodeKind.TheVariants.{Length, Symbol, Trailing, Padding}
-use Rattle.data_encoding.specs.Decoding.{HasNoLastRun, HasRoom, IsLastRun}
+use Rattle.data_encoding.specs.declared.error.DecodeKind.TheVariants.{Length}
 use Rattle.data_encoding.specs.Fault.{position_of}
 use Rattle.data_encoding.specs.Grammar.{kept}
 use Rattle.data_encoding.specs.Partial.{is_length_fault}
@@ -14,43 +11,36 @@ use Rattle.data_encoding.proofs.encoding.EncodingRef.stopped.Goals as goal
 use Rattle.data_encoding.proofs.encoding.EncodingRef.stopped.Goals.{After-kept_position, Then-matches, in-Length, in_default}
 
 is_length : (kind : DecodeKind) → is_length_fault kind ≡ true → kind ≡ Length
-is_length Length h = refl
-is_length Symbol h = cc
-is_length Trailing h = cc
-is_length Padding h = cc
+is_length kind h = grind arith
 
 pub overflow_add-position : goal.overflow_add-position
 overflow_add-position c =
-    let within = c.kept_position.ensures.within in
-    let whole = ap length (take_rest c.args.input.now c.args.stop.read) in
-    let left = length-drop c.args.stop.read c.args.input.now in
-    record { fits = omega (arith, within, whole, left, c.requires.within, c.requires.limit) }
+    let left = length-rest c.args.stop.read c.args.input.now in
+    record { fits = omega arith }
 
 -- the position that is reported
 found : (c : After-kept_position)
     → c.kept_position.result
     ≡ position_of (kept c.args.self.now (drop c.args.stop.read c.args.input.now)) c.args.stop.index
 found c =
-    subst (λ l. c.args.stop.index < length (kept c.args.self.now l)
-    → c.kept_position.result ≡ position_of (kept c.args.self.now l) c.args.stop.index)
-    (take_rest c.args.input.now c.args.stop.read) c.kept_position.ensures.found c.requires.inside
+    rw (take_rest c.args.input.now c.args.stop.read) at c.kept_position.ensures.found
+    c.requires.inside
 
 length_is : (c : Then-matches) → is_length_fault c.args.stop.kind ≡ true
 length_is c =
     elim c.match-matches.branch [
-      | in-Length w ↦ ap is_length_fault w.in-Length.is
-      | in_default w ↦ absurd (false≢true (sym w.matches-is ∙ c.if-matches.true))
+      | in-Length w ↦ cc w.in-Length.is
+      | in_default w ↦ cc
     ]
 
 pub returns-else-matches-clause-stop : goal.returns-else-matches-clause-stop
 returns-else-matches-clause-stop c = record {
-  error_is = ap (λ n. record { position = c.args.stop.read + n; kind = c.args.stop.kind })
-      (found (goal.at.returns-else-matches-clause-stop c).After-kept_position);
+  error_is = rw (found (goal.at.returns-else-matches-clause-stop c).After-kept_position);
   how = inl (
     refl,
     refl,
     λ length_is. elim c.match-matches.branch [
-      | in-Length w ↦ absurd (false≢true (sym c.if-matches.false ∙ w.matches-is))
+      | in-Length w ↦ absurd cc
       | in_default w ↦ absurd (w.in_default.not-Length (is_length c.args.stop.kind length_is))
     ],
   );
@@ -65,49 +55,32 @@ returns-in-Some-clause-stop c =
     let count = c.in-Some.count in
     let last = c.decode_front.new.output in
     let run = c.in-Some.ensures.run in
-    let left = c.decode_front.auto.output ∙ ap length (take_rest output written)
-    ∙ length-drop written output in
-    let new_len : length (put_mid written (length output - written) output last)
-    ≡ length output =
-    length-put_mid written (length output - written) output last
-    (omega (arith, c.requires.fits)) left in
+    let left = c.decode_front.auto.output ∙ length-rest written output in
+    let new_len = length-put_mid written (length output - written) output last (omega arith) left
+    in
     record {
-      error_is = ap (λ n. record { position = c.args.stop.read + n; kind = c.args.stop.kind })
-          (found (goal.at.returns-in-Some-clause-stop c).After-kept_position);
+      error_is = rw (found (goal.at.returns-in-Some-clause-stop c).After-kept_position);
       how = inr (
         length_is (goal.at.returns-in-Some-clause-stop c).Then-matches,
         refl,
         count,
         refl,
-        omega (arith, run.0, new_len, left, c.requires.fits),
-        subst (λ l. IsLastRun seen rest count l)
-            (sym (drop-put_mid_at written output last c.requires.fits))
-            (subst (λ l. IsLastRun seen l count last)
-            (take_rest c.args.input.now c.args.stop.read) run.1),
+        omega arith,
+        rw (drop-put_mid_at written output last c.requires.fits) (rw take_rest at run.1),
       );
     }
 
 pub returns-in_default-decode_front-clause-stop : goal.returns-in_default-decode_front-clause-stop
 returns-in_default-decode_front-clause-stop c = record {
-  error_is = ap (λ n. record { position = c.args.stop.read + n; kind = c.args.stop.kind })
-      (found (goal.at.returns-in_default-decode_front-clause-stop c).After-kept_position);
-  how = inl (
-    refl,
-    refl,
-    λ _. subst (HasNoLastRun c.args.self.now) (take_rest c.args.input.now c.args.stop.read)
-        (c.in_default-decode_front.ensures.none refl),
-  );
+  error_is =
+      rw (found (goal.at.returns-in_default-decode_front-clause-stop c).After-kept_position);
+  how = inl (refl, refl, λ _. rw take_rest at (c.in_default-decode_front.ensures.none refl));
 }
 
 pub decode_front-requires-clause-room : goal.decode_front-requires-clause-room
 decode_front-requires-clause-room c =
-    let output = c.args.output.now in
-    let written = c.args.stop.written in
-    let left = ap length (take_rest output written) ∙ length-drop written output in
-    subst (HasRoom c.args.self.now _) (sym left)
-    (subst (λ l. HasRoom c.args.self.now l (length output - written))
-    (sym (take_rest c.args.input.now c.args.stop.read))
-    (c.requires.room (length_is (goal.at.decode_front-requires-clause-room c).Then-matches)))
+    simp (take_rest, length-drop c.args.stop.written c.args.output.now)
+    (c.requires.room (length_is (goal.at.decode_front-requires-clause-room c).Then-matches))
 
 pub slice_bounds-rest-count : goal.slice_bounds-rest-count
 slice_bounds-rest-count c = c.requires.within
@@ -117,16 +90,9 @@ slice_bounds-decode_front-count c = c.requires.fits
 
 pub decode_front-requires-clause-limit : goal.decode_front-requires-clause-limit
 decode_front-requires-clause-limit c =
-    omega (arith, length-rest c.args.stop.read c.args.input.now, c.requires.limit)
+    omega (arith, length-rest c.args.stop.read c.args.input.now)
 
 pub overflow_add-written : goal.overflow_add-written
 overflow_add-written c =
-    record {
-      fits = omega (
-        arith,
-        c.in-Some.ensures.run.0,
-        c.decode_front.auto.output,
-        length-rest c.args.stop.written c.args.output.now,
-        c.requires.fits,
-      );
-    }
+    let left = length-rest c.args.stop.written c.args.output.now in
+    record { fits = omega (arith, c.in-Some.ensures.run.0, left) }
