@@ -145,9 +145,11 @@ fn compares_and_copies(rt: HostRuntime) -> Result<(), Fail> {
     Ok(())
 }
 
-// The lines and the translation of a specification, in a new one.
-fn parts_of(alloc: Global, full: &Specification) -> Result<Specification, AllocError> {
-    let mut parts = Specification::new(alloc);
+// A specification, with the lines and the translation of another.
+fn with_parts_of(
+    mut parts: Specification,
+    full: &Specification,
+) -> Result<Specification, AllocError> {
     parts.wrap = full.wrap.try_clone()?;
     parts.translate = full.translate.try_clone()?;
     Ok(parts)
@@ -179,10 +181,8 @@ fn is_copied(alloc: Global, full: &Specification) -> Result<bool, AllocError> {
 // Whether a specification, its lines and its translation are copied.
 fn are_copied(alloc: Global) -> Result<bool, Fail> {
     let full = row_of(alloc, FULL)?.specification;
-    Ok(
-        is_copied(alloc, &full)?
-            && is_described(alloc, &parts_of(alloc, &full)?, "true/None//76/\n/!?/AB")?,
-    )
+    let parts = with_parts_of(Specification::new(alloc), &full)?;
+    Ok(is_copied(alloc, &full)? && is_described(alloc, &parts, "true/None//76/\n/!?/AB")?)
 }
 
 #[test]
@@ -201,13 +201,11 @@ fn copies_specifications(rt: HostRuntime) -> Result<(), Fail> {
 fn is_copied_again(alloc: Global, encoding: &Encoding, want: &str) -> Result<bool, Fail> {
     let specification = encoding.specification(alloc)?;
     let copy = specification.try_clone()?;
-    let mut parts = specification.try_clone()?;
-    parts.translate = copy.translate.try_clone()?;
-    parts.wrap = copy.wrap.try_clone()?;
+    let parts = with_parts_of(specification.try_clone()?, &copy)?;
     Ok(
-        is_described(alloc, &copy, want)?
+        has_symbols_of(&copy, &specification)
+            && is_described(alloc, &copy, want)?
             && is_described(alloc, &parts, want)?
-            && has_symbols_of(&copy, &specification)
             && parts.encoding()? == *encoding,
     )
 }

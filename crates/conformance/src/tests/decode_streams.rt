@@ -188,27 +188,45 @@ fn calls_of(alloc: Global, encoding: &Encoding, text: &[u8]) -> (usize, usize) {
     (reads, whole.writer.writes)
 }
 
-// Whether the first call that fails ends the stream of a text, as it stands and with a byte that is
-// no symbol in one of its last groups.
+// Whether the stream of a text makes so many calls, and the first that fails ends it.
+fn ends_at_any_call(
+    alloc: Global,
+    encoding: &Encoding,
+    text: &[u8],
+    bytes: &[u8],
+    calls: (usize, usize),
+) -> bool {
+    calls_of(alloc, encoding, text) == calls
+        && ends_at_each_call(alloc, encoding, text, bytes, calls)
+}
+
+// Whether that is so with a byte that is no symbol in one of the last groups.
+fn ends_before_fault(
+    alloc: Global,
+    encoding: &Encoding,
+    judge: Judge<'_>,
+    text: &mut [u8],
+    calls: (usize, usize),
+) -> Result<bool, AllocError> {
+    let Some(position) = text.len().checked_sub(10) else {
+        return Ok(false);
+    };
+    text[position] = b'!';
+    let whole = judge.decode(alloc, text)?;
+    let want = judge.in_pieces(alloc, text, whole)?;
+    Ok(want.fault.is_some() && ends_at_any_call(alloc, encoding, text, &want.bytes, calls))
+}
+
+// Whether the first call that fails ends the stream of a text, as it stands and with such a byte.
 fn ends_throughout(alloc: Global, line: &str, calls: (usize, usize)) -> Result<bool, Fail> {
     let specification = row_of(alloc, line)?.specification;
     let encoding = specification.encoding()?;
     let judge = Judge::of(&specification);
     let bytes = bytes_of_length(alloc, 30_000)?;
     let mut text = judge.encode(alloc, &bytes)?;
-    let Some(position) = text.len().checked_sub(10) else {
-        return Ok(false);
-    };
-    let is_sound = calls_of(alloc, &encoding, &text) == calls
-        && ends_at_each_call(alloc, &encoding, &text, &bytes, calls);
-    text[position] = b'!';
-    let whole = judge.decode(alloc, &text)?;
-    let want = judge.in_pieces(alloc, &text, whole)?;
     Ok(
-        is_sound
-            && want.fault.is_some()
-            && calls_of(alloc, &encoding, &text) == calls
-            && ends_at_each_call(alloc, &encoding, &text, &want.bytes, calls),
+        ends_at_any_call(alloc, &encoding, &text, &bytes, calls)
+            && ends_before_fault(alloc, &encoding, judge, &mut text, calls)?,
     )
 }
 

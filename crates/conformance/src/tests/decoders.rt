@@ -3,8 +3,8 @@
 use super::comparison::{Comparison, Tally};
 use super::decoding::beginning;
 use super::judge::Judge;
-use super::rows::{bytes_of, bytes_of_length, field_of, row_of};
-use data_encoding::{DECODE_LIMIT, DecodeError, base64_nopad};
+use super::rows::{bytes_of, bytes_of_length, case_of, field_of, row_of};
+use data_encoding::{DECODE_LIMIT, DecodeError, Encoding, base64_nopad};
 use encoding_stream::Decoder;
 use std::alloc::{AllocError, Global};
 use std::test::Fail;
@@ -91,13 +91,8 @@ fn is_long_alike(comparison: &mut Comparison<'_>, text: &[u8]) -> Result<bool, A
     )
 }
 
-// A text of some hundred bytes, as it stands and with another byte at some positions.
-fn is_alike_throughout(alloc: Global, line: &str) -> Result<bool, Fail> {
-    let specification = row_of(alloc, line)?.specification;
-    let encoding = specification.encoding()?;
-    let judge = Judge::of(&specification);
-    let mut comparison = Comparison::new(alloc, &encoding, judge, Tally::zero());
-    let mut text = judge.encode(alloc, &bytes_of_length(alloc, 800)?)?;
+// Whether a text is judged alike as it stands, and with another byte at some positions.
+fn is_alike_damaged(comparison: &mut Comparison<'_>, text: &mut [u8]) -> Result<bool, AllocError> {
     if text.len() < 1030 {
         return Ok(false);
     }
@@ -108,13 +103,23 @@ fn is_alike_throughout(alloc: Global, line: &str) -> Result<bool, Fail> {
         let own = text[position];
         for byte in [b'!', b'=', b'-'] {
             text[position] = byte;
-            if !is_long_alike(&mut comparison, &text)? {
+            if !is_long_alike(comparison, text)? {
                 return Ok(false);
             }
         }
         text[position] = own;
     }
-    Ok(is_long_alike(&mut comparison, &text)?)
+    is_long_alike(comparison, text)
+}
+
+// The same of the text of some hundred bytes.
+fn is_alike_throughout(alloc: Global, line: &str) -> Result<bool, Fail> {
+    let specification = row_of(alloc, line)?.specification;
+    let encoding = specification.encoding()?;
+    let judge = Judge::of(&specification);
+    let mut comparison = Comparison::new(alloc, &encoding, judge, Tally::zero());
+    let mut text = judge.encode(alloc, &bytes_of_length(alloc, 800)?)?;
+    Ok(is_alike_damaged(&mut comparison, &mut text)?)
 }
 
 // Appends to an answer what a call has appended, and a bar that leans.
@@ -123,13 +128,12 @@ fn put_bytes(alloc: Global, answer: &mut String, bytes: &[u8]) -> Result<(), All
     answer.push('/')
 }
 
-fn is_decoded(alloc: Global, line: &str) -> Result<bool, Fail> {
-    let row = row_of(alloc, line)?;
-    let encoding = row.specification.encoding()?;
-    let mut decoder = Decoder::new(&encoding);
+// What is appended for each piece of a text and at its end, and the fault.
+fn answer_of(alloc: Global, encoding: &Encoding, text: &str) -> Result<String, Fail> {
+    let mut decoder = Decoder::new(encoding);
     let mut answer = String::new(alloc);
     let mut output = Vec::new(alloc);
-    for piece in row.input.split('/') {
+    for piece in text.split('/') {
         output.clear();
         push(&mut decoder, &bytes_of(alloc, piece)?, &mut output)?;
         put_bytes(alloc, &mut answer, &output)?;
@@ -140,7 +144,12 @@ fn is_decoded(alloc: Global, line: &str) -> Result<bool, Fail> {
     if let Some(error) = fault {
         answer.push_str(error.to_string(alloc)?.as_str())?;
     }
-    Ok(answer.as_str() == row.want)
+    Ok(answer)
+}
+
+fn is_decoded(alloc: Global, line: &str) -> Result<bool, Fail> {
+    let case = case_of(alloc, line)?;
+    Ok(answer_of(alloc, &case.encoding, case.input)?.as_str() == case.want)
 }
 
 #[test]

@@ -153,28 +153,34 @@ fn faults_are_alike(
     Ok(true)
 }
 
-// Texts up to two groups and one byte of symbols without bits and with all, one byte of which is
-// ignored and another is faulty.
-fn is_alike_with_faults(alloc: Global, line: &str, tally: &mut Tally) -> Result<bool, Fail> {
-    let mut specification = row_of(alloc, line)?.specification;
-    specification.ignore.push('-')?;
-    let encoding = specification.encoding()?;
-    let judge = Judge::of(&specification);
-    let mut comparison = Comparison::new(alloc, &encoding, judge, *tally);
+// Texts up to two groups and one byte of symbols without bits and with all.
+fn lengths_are_alike(comparison: &mut Comparison<'_>) -> Result<bool, AllocError> {
+    let judge = comparison.judge;
     let [zero, _, last] = telling_symbols(judge.symbols);
     let size = judge.group_len().min(8);
     let most = if judge.padding.is_some() { size } else { 0 };
     for symbol in [zero, last] {
         for len in 0..2 * size + 2 {
             for padding in 0..=most {
-                if !faults_are_alike(&mut comparison, symbol, len, padding)? {
+                if !faults_are_alike(comparison, symbol, len, padding)? {
                     return Ok(false);
                 }
             }
         }
     }
-    *tally = comparison.tally;
     Ok(true)
+}
+
+// The same, where one byte is ignored and another is faulty.
+fn is_alike_with_faults(alloc: Global, line: &str, tally: &mut Tally) -> Result<bool, Fail> {
+    let mut specification = row_of(alloc, line)?.specification;
+    specification.ignore.push('-')?;
+    let encoding = specification.encoding()?;
+    let judge = Judge::of(&specification);
+    let mut comparison = Comparison::new(alloc, &encoding, judge, *tally);
+    let is_alike = lengths_are_alike(&mut comparison)?;
+    *tally = comparison.tally;
+    Ok(is_alike)
 }
 
 #[test]

@@ -198,42 +198,34 @@ fn is_refused(
 
 #[test]
 fn faults_after_eight_groups_are_reported(rt: HostRuntime) -> Result<(), Fail> {
-    let mut text = [b'0'; 32];
-    text[17] = b'G';
-    let symbol = DecodeError {
-        position: 17,
-        kind: DecodeKind::Symbol,
-    };
-    assert!(rt; is_refused(rt.alloc(), "hex|most|check|||0||||", &text, symbol, (16, 8))?);
-    let mut text = [b'A'; 40];
-    text[33] = b'!';
-    let symbol = DecodeError {
-        position: 33,
-        kind: DecodeKind::Symbol,
-    };
-    assert!(rt;
-        is_refused(
-            rt.alloc(),
+    for (line, text, position, kind, ends) in [
+        (
+            "hex|most|check|||0||||",
+            "00000000000000000G00000000000000",
+            17,
+            DecodeKind::Symbol,
+            (16, 8),
+        ),
+        (
             "base64|most|check|||0||||",
-            &text,
-            symbol,
-            (32, 24)
-        )?
-    );
-    let mut text = [b'A'; 66];
-    text[65] = b'B';
-    let trailing = DecodeError {
-        position: 65,
-        kind: DecodeKind::Trailing,
-    };
-    assert!(rt;
-        is_refused(
-            rt.alloc(),
+            "AAAAAAAAAAAAAAAAAAAAAAAAAAAAAAAAA!AAAAAA",
+            33,
+            DecodeKind::Symbol,
+            (32, 24),
+        ),
+        (
             "base32|most|check|||0||||",
-            &text,
-            trailing,
-            (64, 40)
-        )?
-    );
+            "AAAAAAAAAAAAAAAAAAAAAAAAAAAAAAAAAAAAAAAAAAAAAAAAAAAAAAAAAAAAAAAAAB",
+            65,
+            DecodeKind::Trailing,
+            (64, 40),
+        ),
+    ] {
+        let error = DecodeError { position, kind };
+        assert!(rt;
+            is_refused(rt.alloc(), line, text.as_bytes(), error, ends)?,
+            "{line}"
+        );
+    }
     Ok(())
 }

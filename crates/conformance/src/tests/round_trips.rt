@@ -43,24 +43,29 @@ fn comes_back(
 }
 
 // All data of one byte and of two.
+fn short_are_alike(comparison: &mut Comparison<'_>) -> Result<bool, Fail> {
+    let mut want = Judgement::new(comparison.alloc);
+    for first in 0..=255u8 {
+        if !comes_back(comparison, &mut want, &[first])? {
+            return Ok(false);
+        }
+        for second in 0..=255u8 {
+            if !comes_back(comparison, &mut want, &[first, second])? {
+                return Ok(false);
+            }
+        }
+    }
+    Ok(true)
+}
+
 fn all_come_back(alloc: Global, line: &str, tally: &mut Tally) -> Result<bool, Fail> {
     let specification = row_of(alloc, line)?.specification;
     let encoding = specification.encoding()?;
     let judge = Judge::of(&specification);
     let mut comparison = Comparison::new(alloc, &encoding, judge, *tally);
-    let mut want = Judgement::new(alloc);
-    for first in 0..=255u8 {
-        if !comes_back(&mut comparison, &mut want, &[first])? {
-            return Ok(false);
-        }
-        for second in 0..=255u8 {
-            if !comes_back(&mut comparison, &mut want, &[first, second])? {
-                return Ok(false);
-            }
-        }
-    }
+    let is_alike = short_are_alike(&mut comparison)?;
     *tally = comparison.tally;
-    Ok(true)
+    Ok(is_alike)
 }
 
 // Whether the data have the text that the judge gives, and come back from it.
@@ -83,6 +88,18 @@ fn is_encoded_alike(comparison: &mut Comparison<'_>, data: &[u8]) -> Result<bool
     Ok(comparison.is_alike_in_pieces(&want, text.as_bytes())?)
 }
 
+// Data of up to so many bytes.
+fn fronts_are_alike(comparison: &mut Comparison<'_>, most: usize) -> Result<bool, Fail> {
+    let mut data = Vec::new(comparison.alloc);
+    for index in 0..=most {
+        if !is_encoded_alike(comparison, &data)? {
+            return Ok(false);
+        }
+        data.push((index.wrapping_mul(37) % 256) as u8)?;
+    }
+    Ok(true)
+}
+
 // Data up to three lines of so many groups, and a byte.
 fn is_alike_in_lines(
     alloc: Global,
@@ -98,15 +115,9 @@ fn is_alike_in_lines(
     let judge = Judge::of(&specification);
     let mut comparison = Comparison::new(alloc, &encoding, judge, *tally);
     let most = encoding.encode_align().wrapping_mul(3).wrapping_add(1);
-    let mut data = Vec::new(alloc);
-    for index in 0..=most {
-        if !is_encoded_alike(&mut comparison, &data)? {
-            return Ok(false);
-        }
-        data.push((index.wrapping_mul(37) % 256) as u8)?;
-    }
+    let is_alike = fronts_are_alike(&mut comparison, most)?;
     *tally = comparison.tally;
-    Ok(true)
+    Ok(is_alike)
 }
 
 #[test]

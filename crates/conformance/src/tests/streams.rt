@@ -18,6 +18,12 @@ base64|most|check|=||76|←↵|||
 binary|most|check|||0||||
 binary|most|check|||8|dashes|||";
 
+const HEX: &str = "hex|most|check|||0||||";
+
+const MIME: &str = "base64|most|check|=||76|←↵|||";
+
+const DASHES: &str = "binary|most|check|||8|dashes|||";
+
 // The room for the text of what a stream reads at a time.
 const ROOM: usize = 49_152;
 
@@ -35,17 +41,30 @@ fn text_of(alloc: Global, encoding: &Encoding, bytes: &[u8]) -> Result<String, A
     encoding.encode(alloc, bytes)
 }
 
+// Whether the stream of so many bytes writes what `encode` answers, where a read gives at most so
+// many, and a write takes at most so many.
+fn is_streamed(
+    alloc: Global,
+    encoding: &Encoding,
+    len: usize,
+    most_read: usize,
+    most_written: usize,
+) -> Result<bool, AllocError> {
+    let bytes = bytes_of_length(alloc, len)?;
+    let text = text_of(alloc, encoding, &bytes)?;
+    let writer = Narrow::new(alloc, most_written, Failure::Nothing, 0);
+    let got = stream(encoding, reader_of(&bytes, most_read), writer);
+    Ok(got.is_whole(None, text.as_bytes()))
+}
+
 #[test]
 fn streams_what_encode_answers(rt: HostRuntime) -> Result<(), Fail> {
     for line in ROWS.split('\n') {
         let encoding = row_of(rt.alloc(), line)?.specification.encoding()?;
         let most = encoding.encode_piece_len(ROOM);
         for len in [0, 1, 2, 5, most - 1, most, most.saturating_add(1)] {
-            let bytes = bytes_of_length(rt.alloc(), len)?;
-            let text = text_of(rt.alloc(), &encoding, &bytes)?;
-            let writer = Narrow::new(rt.alloc(), usize::MAX, Failure::Nothing, 0);
-            let got = stream(&encoding, reader_of(&bytes, 1000), writer);
-            assert!(rt; got.is_whole(None, text.as_bytes()), "{len} by {line}");
+            let is_same = is_streamed(rt.alloc(), &encoding, len, 1000, usize::MAX)?;
+            assert!(rt; is_same, "{len} by {line}");
         }
     }
     Ok(())
@@ -55,11 +74,7 @@ fn streams_what_encode_answers(rt: HostRuntime) -> Result<(), Fail> {
 fn streams_byte_by_byte(rt: HostRuntime) -> Result<(), Fail> {
     for line in ROWS.split('\n') {
         let encoding = row_of(rt.alloc(), line)?.specification.encoding()?;
-        let bytes = bytes_of_length(rt.alloc(), 300)?;
-        let text = text_of(rt.alloc(), &encoding, &bytes)?;
-        let writer = Narrow::new(rt.alloc(), 1, Failure::Nothing, 0);
-        let got = stream(&encoding, reader_of(&bytes, 1), writer);
-        assert!(rt; got.is_whole(None, text.as_bytes()), "{line}");
+        assert!(rt; is_streamed(rt.alloc(), &encoding, 300, 1, 1)?, "{line}");
     }
     Ok(())
 }
@@ -93,17 +108,18 @@ fn calls_of(alloc: Global, line: &str, len: usize) -> Result<(usize, usize), Fai
 #[test]
 fn streams_in_large_pieces(rt: HostRuntime) -> Result<(), Fail> {
     // Where the last piece is not full, one read more finds the end.
-    let hex = "hex|most|check|||0||||";
-    assert_eq!(rt; calls_of(rt.alloc(), hex, 0)?, (1, 0));
-    assert_eq!(rt; calls_of(rt.alloc(), hex, 24_575)?, (2, 1));
-    assert_eq!(rt; calls_of(rt.alloc(), hex, 24_576)?, (2, 1));
-    assert_eq!(rt; calls_of(rt.alloc(), hex, 98_304)?, (5, 4));
-    let mime = "base64|most|check|=||76|←↵|||";
-    assert_eq!(rt; calls_of(rt.alloc(), mime, 35_910)?, (2, 1));
-    assert_eq!(rt; calls_of(rt.alloc(), mime, 35_911)?, (3, 2));
-    let dashes = "binary|most|check|||8|dashes|||";
-    assert_eq!(rt; calls_of(rt.alloc(), dashes, 186)?, (2, 1));
-    assert_eq!(rt; calls_of(rt.alloc(), dashes, 187)?, (3, 2));
+    for (line, len, calls) in [
+        (HEX, 0, (1, 0)),
+        (HEX, 24_575, (2, 1)),
+        (HEX, 24_576, (2, 1)),
+        (HEX, 98_304, (5, 4)),
+        (MIME, 35_910, (2, 1)),
+        (MIME, 35_911, (3, 2)),
+        (DASHES, 186, (2, 1)),
+        (DASHES, 187, (3, 2)),
+    ] {
+        assert_eq!(rt; calls_of(rt.alloc(), line, len)?, calls, "{len} by {line}");
+    }
     Ok(())
 }
 

@@ -170,20 +170,26 @@ pub(super) fn telling_symbols(symbols: &[u8]) -> [u8; 3] {
 }
 
 // Texts of symbols without bits, with one and with all; where there is padding, also padded.
+fn symbols_are_alike(comparison: &mut Comparison<'_>) -> Result<bool, AllocError> {
+    let judge = comparison.judge;
+    for symbol in telling_symbols(judge.symbols) {
+        if !lengths_are_alike(comparison, symbol)?
+            || judge.padding.is_some() && !pairs_are_alike(comparison, symbol)?
+        {
+            return Ok(false);
+        }
+    }
+    Ok(true)
+}
+
 fn is_symbol_alike(alloc: Global, line: &str, tally: &mut Tally) -> Result<bool, Fail> {
     let specification = row_of(alloc, line)?.specification;
     let encoding = specification.encoding()?;
     let judge = Judge::of(&specification);
     let mut comparison = Comparison::new(alloc, &encoding, judge, *tally);
-    for symbol in telling_symbols(judge.symbols) {
-        if !lengths_are_alike(&mut comparison, symbol)?
-            || judge.padding.is_some() && !pairs_are_alike(&mut comparison, symbol)?
-        {
-            return Ok(false);
-        }
-    }
+    let is_alike = symbols_are_alike(&mut comparison)?;
     *tally = comparison.tally;
-    Ok(true)
+    Ok(is_alike)
 }
 
 #[test]
