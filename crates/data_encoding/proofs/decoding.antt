@@ -1,23 +1,4 @@
--- Faults, and how far a text is decoded.
-pub mod EightGroupLemmas
+-- The steps of a decoding.
 pub mod TrailingBitLemmas
-pub mod GroupJudgementLemmas
-pub mod RoomLemmas
-pub mod IgnoredFrontLemmas
-pub mod ProgressLemmas
-pub mod SymbolRunLemmas
-pub mod StopLemmas
-pub mod GatherLemmas
-pub mod IgnoringLemmas
-pub mod GreatestLengthLemmas
-pub mod CutLemmas
-pub mod SoundRunLemmas
-pub mod LastRunLemmas
 pub mod StepLemmas
-pub mod ResumeLemmas
-pub mod PieceLemmas
-pub mod WholePieceLemmas
-pub mod WholeLengthLemmas
-pub mod FinalGroupLemmas
-pub mod LoneGroupLemmas
-pub mod FaultStaysLemmas
+pub mod GroupTableLemmas

@@ -1,8 +1,3 @@
--- From a specification to a base, and back.
-pub mod JudgementLemmas
-pub mod RuleLemmas
-pub mod RoundTripLemmas
-pub mod TranslationLemmas
+-- From a specification to the tables of an encoding, and back.
 pub mod FieldLemmas
 pub mod BuilderLemmas
-pub mod YieldLemmas

@@ -1,11 +1,5 @@
-pub mod Examples
-mod Texts
-mod Readings
-mod Layouts
-mod LayoutRules
-mod Meanings
-mod Steps
-mod Compared
-mod SameMeanings
-mod Lanes
-mod Plain
+-- Worked rows of the definitions.
+pub mod Plain
+pub mod Encoders
+pub mod Specifications
+pub mod Tables

@@ -1,9 +1,9 @@
 -- What a contract sees of an encoding: the base of its tables.
 use Rattle.std.specs.Prelude.{◌≡◌, ℕ, zero, suc, Bool, ◌/◌, ◌%◌, ◌^◌, ◌<◌, ◌==◌, nat_lt, ◌||◌, not, IsTrue, List, [], length, map, replicate, take, drop, slice_index, Option, None, Some, is_some}
 use Rattle.std.specs.List.{concat, list_all, range_with_len}
-use Rattle.data_encoding.specs.declared.encoding.BitOrder.{BitOrder}
-use Rattle.data_encoding.specs.Base.{Base, IsWidth, Wrapping, ignores_some, group_symbols}
-use Rattle.data_encoding.specs.Entries.{meaning_of_entry, is_entry_of}
+use Rattle.data_encoding_meaning.specs.declared.encoding.BitOrder.{BitOrder}
+use Rattle.data_encoding_meaning.specs.Base.{Base, IsWidth, ignores_some, group_symbols, wrapping_by}
+use Rattle.data_encoding_meaning.specs.Entries.{meaning_of_entry, is_entry_of}
 
 -- the tables, by which an encoding encodes and decodes
 pub record EncodingTables : Type 0 where
@@ -17,11 +17,6 @@ pub record EncodingTables : Type 0 where
   pub ignores : Bool
   pub column : ℕ
   pub separator : List ℕ
-
--- lines of no characters are no lines
-abbrev pub wrapping_by : ℕ → List ℕ → Option Wrapping
-wrapping_by zero separator = None
-wrapping_by (suc n) separator = Some (record { column = suc n; separator = separator })
 
 abbrev pub base_of_tables : EncodingTables → Base
 base_of_tables e = record {

@@ -1,7 +1,7 @@
 -- The tables of an encoding as plain data.
 use Rattle.std.specs.Prelude.{ℕ, nat_lt, Bool, take, Option, Some, None, if◌then◌else◌}
-use Rattle.data_encoding.specs.declared.encoding.BitOrder.{BitOrder}
-use Rattle.data_encoding.specs.declared.encoding.BitOrder.TheVariants.{MostSignificantFirst, LeastSignificantFirst}
+use Rattle.data_encoding_meaning.specs.declared.encoding.BitOrder.{BitOrder}
+use Rattle.data_encoding_meaning.specs.declared.encoding.BitOrder.TheVariants.{MostSignificantFirst, LeastSignificantFirst}
 use Rattle.data_encoding.specs.declared.plain.PlainFields.{PlainFields}
 use Rattle.data_encoding.specs.Encoding.{EncodingTables}
 

@@ -1,14 +1,14 @@
 -- What a `Specification` says, with its texts as bytes.
 use Rattle.std.specs.Prelude.{◌≡◌, true, [], None}
 use Rattle.std.specs.String.{string_bytes}
-use Rattle.data_encoding.specs.declared.encoding.BitOrder.TheVariants.{MostSignificantFirst}
-use Rattle.data_encoding.specs.declared.specification.meanings.Refusal.{Refusal}
+use Rattle.data_encoding_meaning.specs.declared.encoding.BitOrder.TheVariants.{MostSignificantFirst}
+use Rattle.data_encoding_meaning.specs.declared.refusal.Refusal.{Refusal}
 use Rattle.data_encoding.specs.declared.specification.parts.SpecificationParts.{SpecificationParts}
 use Rattle.data_encoding.specs.declared.specification.Specification.{Specification}
 use Rattle.data_encoding.specs.declared.specification.SpecificationError.{SpecificationError}
 use Rattle.data_encoding.specs.declared.specification.Translate.{Translate}
 use Rattle.data_encoding.specs.declared.specification.Wrap.{Wrap}
-use Rattle.data_encoding.specs.Fields.{Fields}
+use Rattle.data_encoding_meaning.specs.Fields.{Fields}
 
 abbrev pub specified : Specification → Fields
 specified s = record {

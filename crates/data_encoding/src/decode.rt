@@ -7,20 +7,22 @@ pub(crate) mod steps;
 pub(crate) mod text;
 
 ghost use Rattle.std.specs.Prelude.{◌≡◌, ℕ, List, true, ◌+◌, ◌-◌, ◌*◌, ◌/◌, ◌<◌, ◌≤◌, ◌⊎◌, length, take, drop, None, Some, Ok, Err, IfOk, IfErr, IfSome, IsOk, IsOkAnd};
-ghost use Rattle.data_encoding.specs.Decoding.{HasNoLastRun, HasRoom, IsLastRun, IsStop, fault_of_stop};
-ghost use Rattle.data_encoding.specs.Fault.{IsRefusal, fault_of, sound_bytes};
-ghost use Rattle.data_encoding.specs.Grammar.{Means, kept};
-ghost use Rattle.data_encoding.specs.Lengths.{decoded_len};
-ghost use Rattle.data_encoding.specs.Partial.{is_length_fault, partial_of};
+ghost use Rattle.data_encoding_meaning.specs.Decoding.{HasNoLastRun, HasRoom, IsLastRun, IsStop};
+ghost use Rattle.data_encoding.specs.Steps.{fault_of_stop};
+ghost use Rattle.data_encoding_meaning.specs.Fault.{IsRefusal, fault_of, sound_bytes};
+ghost use Rattle.data_encoding_meaning.specs.Grammar.{Means, kept};
+ghost use Rattle.data_encoding_meaning.specs.Lengths.{decoded_len};
+ghost use Rattle.data_encoding_meaning.specs.Partial.{is_length_fault, partial_of};
 
 use crate::encoding::{Encoding, EncodingRef};
 use crate::error::{DecodeError, DecodeFault, DecodeKind, DecodePartial};
-use crate::kernel::group_size::{Base2, Base4, Base8, Base16, Base32, Base64, GroupSize};
+use data_encoding_kernel::group_size::{Base2, Base4, Base8, Base16, Base32, Base64, GroupSize};
 use crate::memory::zeros;
+use data_encoding_meaning::limits;
 use std::alloc::Global;
 
 /// The greatest length of a text that is decoded in one call, in bytes.
-pub const DECODE_LIMIT: usize = usize::MAX / 8;
+pub const DECODE_LIMIT: usize = limits::DECODE_LIMIT;
 
 const _: () = prove!(DECODE_LIMIT == 2305843009213693951);
 

@@ -7,21 +7,22 @@ pub(crate) mod lines;
 
 ghost use Rattle.std.specs.Prelude.{◌≡◌, All, ℕ, ◌<◌, ◌+◌, ◌-◌, ◌*◌, ◌/◌, ◌≤◌, List, ◌++◌, length, drop, flat_map, IfOk, IsOk, IsSome};
 ghost use Rattle.std.specs.String.{string_bytes};
-ghost use Rattle.data_encoding.specs.Base.{IsWidth, group_bytes, group_symbols};
-ghost use Rattle.data_encoding.specs.Bits.{runs};
-ghost use Rattle.data_encoding.specs.Fields.{IsSpecified};
-ghost use Rattle.data_encoding.specs.Lengths.{alignment};
-ghost use Rattle.data_encoding.specs.Tables.{Writes};
-ghost use Rattle.data_encoding.specs.Text.{padded_text, plain_text, text_of};
+ghost use Rattle.data_encoding_meaning.specs.Base.{IsWidth, group_bytes, group_symbols};
+ghost use Rattle.data_encoding_meaning.specs.Bits.{runs};
+ghost use Rattle.data_encoding_meaning.specs.Fields.{IsSpecified};
+ghost use Rattle.data_encoding_meaning.specs.Lengths.{alignment};
+ghost use Rattle.data_encoding_kernel.specs.Tables.{Writes};
+ghost use Rattle.data_encoding_meaning.specs.Text.{padded_text, plain_text, text_of};
 
 use crate::encoding::{Encoding, EncodingRef, group_bytes};
-use crate::kernel::encode::encode_plain;
-use crate::kernel::group_size::{Base2, Base4, Base8, Base16, Base32, Base64, GroupSize};
+use data_encoding_kernel::encode::encode_plain;
+use data_encoding_meaning::limits;
+use data_encoding_kernel::group_size::{Base2, Base4, Base8, Base16, Base32, Base64, GroupSize};
 use crate::memory::zeros;
 use std::alloc::{AllocError, Global};
 
 /// The greatest length of data that is encoded in one call, in bytes.
-pub const ENCODE_LIMIT: usize = usize::MAX / 512;
+pub const ENCODE_LIMIT: usize = limits::ENCODE_LIMIT;
 
 const _: () = prove!(ENCODE_LIMIT == 36028797018963967);
 

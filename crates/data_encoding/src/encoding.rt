@@ -1,8 +1,10 @@
 //! Encodings, and the words that describe them.
 
 ghost use Rattle.std.specs.Prelude.{◌≡◌, ◌<◌, ◌≤◌, MatchResult};
-ghost use Rattle.data_encoding.specs.Base.{IsWidth, group_bytes, group_symbols, ignores_some, is_ignored, is_invalid, is_padding, meaning, value_of};
-ghost use Rattle.data_encoding.specs.Fields.{IsSpecified};
+ghost use Rattle.data_encoding_meaning.specs.Base.{IsWidth, group_bytes, group_symbols, ignores_some, meaning};
+ghost use Rattle.data_encoding_meaning.specs.Fields.{IsSpecified};
+
+pub use data_encoding_meaning::encoding::{BitOrder, Character};
 
 use crate::plain::PlainFields;
 use std::alloc::AllocError;
@@ -15,68 +17,6 @@ pub(crate) const IGNORED: u8 = 129;
 
 pub(crate) const PADDING: u8 = 130;
 
-/// Which bit of a byte comes first.
-#[derive(Clone, Copy, Debug, PartialEq, Eq)]
-pub enum BitOrder {
-    /// The bit of weight 128 comes first, as in RFC 4648.
-    MostSignificantFirst,
-
-    /// The bit of weight 1 comes first, as in DNSCurve.
-    LeastSignificantFirst,
-}
-
-/// What a byte of a text means.
-#[derive(Clone, Copy, Debug, PartialEq, Eq)]
-pub enum Character {
-    /// A symbol, which stands for the bits of its value.
-    Symbol {
-        /// The value, below the number of symbols.
-        value: usize,
-    },
-
-    /// Padding, which fills the last group of a text.
-    Padding,
-
-    /// Ignored, as a line end may be.
-    Ignored,
-
-    /// Nothing: no text that has such a byte can be decoded.
-    Invalid,
-}
-
-impl Character {
-    /// The value, where it is a symbol.
-    pub fn is_symbol(self) -> Option<usize>
-        ensures { result ≡ value_of self }
-    {
-        match self {
-            Character::Symbol { value } => Some(value),
-            _ => None,
-        }
-    }
-
-    /// Whether it is padding.
-    pub fn is_padding(self) -> bool
-        ensures { result ≡ is_padding self }
-    {
-        matches!(self, Character::Padding)
-    }
-
-    /// Whether it is ignored.
-    pub fn is_ignored(self) -> bool
-        ensures { result ≡ is_ignored self }
-    {
-        matches!(self, Character::Ignored)
-    }
-
-    /// Whether it is nothing.
-    pub fn is_invalid(self) -> bool
-        ensures { result ≡ is_invalid self }
-    {
-        matches!(self, Character::Invalid)
-    }
-}
-
 /// An encoding: how data is written as text, and which texts are data.
 #[derive(Debug, Drop)]
 pub struct Encoding {
@@ -84,7 +24,7 @@ pub struct Encoding {
 }
 
 impl Model for Encoding {
-    ghost use Rattle.data_encoding.specs.Base.{Base};
+    ghost use Rattle.data_encoding_meaning.specs.Base.{Base};
 
     ghost Value = { Base };
 
@@ -105,7 +45,7 @@ pub struct EncodingRef<'a> {
 }
 
 impl<'a> Model for EncodingRef<'a> {
-    ghost use Rattle.data_encoding.specs.Base.{Base};
+    ghost use Rattle.data_encoding_meaning.specs.Base.{Base};
 
     ghost Value = { Base };
 
@@ -247,7 +187,7 @@ impl PartialEq for Encoding {
     ghost use Rattle.std.specs.Ordering.{on};
     ghost use Rattle.std.specs.Cmp.{on_per, partial_equiv_from_equiv};
     ghost use Rattle.std.specs.Cmp.Lexicographic.{nat_list_eq_equiv};
-    ghost use Rattle.data_encoding.specs.Layout.{layout};
+    ghost use Rattle.data_encoding_meaning.specs.Layout.{layout};
 
     ghost eq = { on layout bytes_eq };
 
@@ -286,7 +226,7 @@ impl PartialEq for Encoding {
 impl Eq for Encoding {
     ghost use Rattle.std.specs.Cmp.{on_equiv};
     ghost use Rattle.std.specs.Cmp.Lexicographic.{nat_list_eq_equiv};
-    ghost use Rattle.data_encoding.specs.Layout.{layout};
+    ghost use Rattle.data_encoding_meaning.specs.Layout.{layout};
 
     ghost laws = { on_equiv layout nat_list_eq_equiv };
 }

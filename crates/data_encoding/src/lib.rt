@@ -7,14 +7,13 @@
 
 mod decode;
 mod encode;
-mod encoding;
-mod error;
-mod kernel;
-pub mod laws;
+pub mod encoding;
+pub mod error;
 mod memory;
 mod plain;
-mod specification;
+pub mod specification;
 
+pub use data_encoding_meaning::laws;
 pub use decode::DECODE_LIMIT;
 pub use encode::ENCODE_LIMIT;
 pub use encode::display::Display;

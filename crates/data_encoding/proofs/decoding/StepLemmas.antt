@@ -7,27 +7,28 @@ use Rattle.std.proofs.lemmas.Bool.Decides.{nat_tests}
 use Rattle.std.proofs.lemmas.List.{drop-drop, length-drop, take_rest, length-map}
 use Rattle.std.proofs.lemmas.Nat.{div-add-mod'}
 use Rattle.std.proofs.lemmas.Slice.{take-put_mid_below}
-use Rattle.data_encoding.proofs.decoding.WholeLengthLemmas.{most_bytes-few, whole_bytes}
-use Rattle.data_encoding.specs.declared.error.DecodeError.{DecodeError}
-use Rattle.data_encoding.specs.declared.error.DecodePartial.{DecodePartial}
-use Rattle.data_encoding.specs.declared.decode.group.GroupFault.{GroupFault}
-use Rattle.data_encoding.specs.Base.{Base, IsWidth, group_bytes, group_symbols, is_padded, meaning}
-use Rattle.data_encoding.specs.Decoding.{HasFault, HasNoLastRun, HasRoom, IsDecoded, IsDecodedGroup, IsGathered, IsLastRun, IsRun, HasStopped, IsIgnoredFront, valid_front, HasDecodedTo}
-use Rattle.data_encoding.specs.Fault.{position_of}
-use Rattle.data_encoding.specs.Grammar.{Positioned, bytes_in, kept, kept_from}
-use Rattle.data_encoding.specs.Lengths.{decoded_len, greatest_valid_length, length_fault, most_bytes}
-use Rattle.data_encoding.specs.Tables.{IsGroup}
-use Rattle.data_encoding.specs.Partial.{StopsAt, is_length_fault}
-use Rattle.data_encoding.proofs.grammar.LengthLemmas.{decoded_len-counted, is_valid_length-by}
-use Rattle.data_encoding.proofs.grammar.GroupLemmas.{GroupMeans-sound}
-use Rattle.data_encoding.proofs.lists.WriteLemmas.{length-rewritten, length-rewritten_same, rewritten, take-rewritten}
-use Rattle.data_encoding.proofs.decoding.GatherLemmas.{bytes-next, gathered-few, gathered-some, is-next, next_bytes, none-next, position-next}
-use Rattle.data_encoding.proofs.decoding.GreatestLengthLemmas.{greatest-least, greatest-valid}
-use Rattle.data_encoding.proofs.decoding.LastRunLemmas.{last-none, last-sound, last-unsound}
-use Rattle.data_encoding.proofs.decoding.ProgressLemmas.{IsNext, after-group, after-run, at-end, room-group, room-run, same-output}
-use Rattle.data_encoding.proofs.decoding.StopLemmas.{IsAtFault, at-fault_front}
-use Rattle.data_encoding.proofs.grammar.KeptLemmas.{nothing-left}
-use Rattle.data_encoding.proofs.decoding.IgnoredFrontLemmas.{gathered-behind, nothing-behind}
+use Rattle.data_encoding_meaning.proofs.decoding.WholeLengthLemmas.{most_bytes-few, whole_bytes}
+use Rattle.data_encoding_meaning.specs.declared.error.DecodeError.{DecodeError}
+use Rattle.data_encoding_meaning.specs.declared.error.DecodePartial.{DecodePartial}
+use Rattle.data_encoding_meaning.specs.declared.error.GroupFault.{GroupFault}
+use Rattle.data_encoding_meaning.specs.Base.{Base, IsWidth, group_bytes, group_symbols, is_padded, meaning, IsGroup}
+use Rattle.data_encoding_meaning.specs.Decoding.{HasFault, HasNoLastRun, HasRoom, IsDecoded, IsDecodedGroup, IsGathered, IsLastRun, IsIgnoredFront, valid_front, HasDecodedTo}
+use Rattle.data_encoding_kernel.specs.Runs.{IsRun}
+use Rattle.data_encoding.specs.Steps.{HasStopped}
+use Rattle.data_encoding_meaning.specs.Fault.{position_of}
+use Rattle.data_encoding_meaning.specs.Grammar.{Positioned, bytes_in, kept, kept_from}
+use Rattle.data_encoding_meaning.specs.Lengths.{decoded_len, greatest_valid_length, length_fault, most_bytes}
+use Rattle.data_encoding_meaning.specs.Partial.{StopsAt, is_length_fault}
+use Rattle.data_encoding_meaning.proofs.grammar.LengthLemmas.{decoded_len-counted, is_valid_length-by}
+use Rattle.data_encoding_meaning.proofs.grammar.GroupLemmas.{GroupMeans-sound}
+use Rattle.data_encoding_meaning.proofs.lists.WriteLemmas.{length-rewritten, length-rewritten_same, rewritten, take-rewritten}
+use Rattle.data_encoding_meaning.proofs.decoding.GatherLemmas.{bytes-next, gathered-few, gathered-some, is-next, next_bytes, none-next, position-next}
+use Rattle.data_encoding_meaning.proofs.decoding.GreatestLengthLemmas.{greatest-least, greatest-valid}
+use Rattle.data_encoding_meaning.proofs.decoding.LastRunLemmas.{last-none, last-sound, last-unsound}
+use Rattle.data_encoding_meaning.proofs.decoding.ProgressLemmas.{IsNext, after-group, after-run, at-end, room-group, room-run, same-output}
+use Rattle.data_encoding_meaning.proofs.decoding.StopLemmas.{IsAtFault, at-fault_front}
+use Rattle.data_encoding_meaning.proofs.grammar.KeptLemmas.{nothing-left}
+use Rattle.data_encoding_meaning.proofs.decoding.IgnoredFrontLemmas.{gathered-behind, nothing-behind}
 
 -- A decoding under way: so much was read and written of a text whose length has no fault, into an
 -- output of just its size, with the sizes of a group as constants.

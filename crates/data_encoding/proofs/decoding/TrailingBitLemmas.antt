@@ -10,16 +10,16 @@ use Rattle.std.proofs.lemmas.Option.{get_or_from_slice_get, slice_get_within}
 use Rattle.std.proofs.Math.Bool.{or-false, or_comm}
 use Rattle.std.proofs.Math.Seq.{drop-append-add}
 use Rattle.std.specs.List.{list_any, position, prefix_len}
-use Rattle.data_encoding.specs.declared.encoding.BitOrder.{BitOrder}
-use Rattle.data_encoding.specs.declared.encoding.BitOrder.TheVariants.{MostSignificantFirst, LeastSignificantFirst}
-use Rattle.data_encoding.specs.Base.{Base, meaning, is_symbol}
-use Rattle.data_encoding.specs.Bits.{bits_of, low_bits, number_of_low_bits}
-use Rattle.data_encoding.specs.Lengths.{is_valid_count}
-use Rattle.data_encoding.specs.Tables.{HoldsValues}
-use Rattle.data_encoding.specs.Fault.{trailing_bits}
-use Rattle.data_encoding.proofs.digits.BitLemmas.{length-bits_of, length-low_bits, low_bits-add, low_bits-mod, number-low_bits}
-use Rattle.data_encoding.proofs.grammar.UnpaddedGroupLemmas.{length-bits_of_values}
-use Rattle.data_encoding.proofs.digits.KernelLemmas.{values_in-table, entries_below}
+use Rattle.data_encoding_meaning.specs.declared.encoding.BitOrder.{BitOrder}
+use Rattle.data_encoding_meaning.specs.declared.encoding.BitOrder.TheVariants.{MostSignificantFirst, LeastSignificantFirst}
+use Rattle.data_encoding_meaning.specs.Base.{Base, meaning, is_symbol}
+use Rattle.data_encoding_meaning.specs.Bits.{bits_of, low_bits, number_of_low_bits}
+use Rattle.data_encoding_meaning.specs.Lengths.{is_valid_count}
+use Rattle.data_encoding_kernel.specs.Tables.{HoldsValues}
+use Rattle.data_encoding_meaning.specs.Fault.{trailing_bits}
+use Rattle.data_encoding_meaning.proofs.digits.BitLemmas.{length-bits_of, length-low_bits, low_bits-add, low_bits-mod, number-low_bits}
+use Rattle.data_encoding_meaning.proofs.grammar.UnpaddedGroupLemmas.{length-bits_of_values}
+use Rattle.data_encoding_kernel.proofs.digits.KernelLemmas.{values_in-table, entries_below}
 
 module _ (base : Base) (values : List ℕ) (holds : HoldsValues base values) where
   -- So many bytes are symbols, and the next, if there is one, is none.

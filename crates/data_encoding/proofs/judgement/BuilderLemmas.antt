@@ -1,16 +1,16 @@
 -- What the builder makes of a specification.
 use Rattle.std.proofs.Common.{◌≡◌, ℕ, zero, suc, ◌%◌, ◌/◌, ◌^◌, ◌<◌, ◌==◌, Bool, true, false, ◌||◌, cond, List, [], length, map, take, replicate, Option, Some, None, is_none, IfSome, Ok, refl, sym, ap, ◌∙◌, arith}
 use Rattle.std.specs.List.{concat, list_any}
-use Rattle.data_encoding.specs.declared.encoding.Character.{Character}
-use Rattle.data_encoding.specs.Base.{IsWidth, is_ignored}
-use Rattle.data_encoding.specs.Encoding.{EncodingTables, KeepsRules, base_of_tables, wrapping_by}
-use Rattle.data_encoding.specs.Entries.{HoldsEntries, meaning_of_entry}
-use Rattle.data_encoding.specs.Fields.{Fields, Judgement, base_of, base_with, ignored_judgements, judgements, meanings_after, no_meanings, padding_judgements, symbol_judgements, translation_judgements, width_of, wrapping_judgements, wraps}
-use Rattle.data_encoding.proofs.judgement.JudgementLemmas.{Judged, meanings_after-append}
+use Rattle.data_encoding_meaning.specs.declared.encoding.Character.{Character}
+use Rattle.data_encoding_meaning.specs.Base.{IsWidth, is_ignored, wrapping_by}
+use Rattle.data_encoding.specs.Encoding.{EncodingTables, KeepsRules, base_of_tables}
+use Rattle.data_encoding_meaning.specs.Entries.{HoldsEntries, meaning_of_entry}
+use Rattle.data_encoding_meaning.specs.Fields.{Fields, Judgement, base_of, base_with, ignored_judgements, judgements, meanings_after, no_meanings, padding_judgements, symbol_judgements, translation_judgements, width_of, wrapping_judgements, wraps}
+use Rattle.data_encoding_meaning.proofs.judgement.JudgementLemmas.{Judged, meanings_after-append}
 use Rattle.data_encoding.proofs.tables.TableRuleLemmas.{KeepsRules-ruled}
-use Rattle.data_encoding.proofs.lists.RepeatLemmas.{take-repeats}
-use Rattle.data_encoding.proofs.judgement.RuleLemmas.{IsRuled, IsRuledPadding, IsRuledWrapping, IsRuled-from, IsRuled-yield, base_from, base_of-width}
-use Rattle.data_encoding.proofs.digits.WidthLemmas.{times-pos}
+use Rattle.data_encoding_meaning.proofs.lists.RepeatLemmas.{take-repeats}
+use Rattle.data_encoding_meaning.proofs.judgement.RuleLemmas.{IsRuled, IsRuledPadding, IsRuledWrapping, IsRuled-from, IsRuled-yield, base_from, base_of-width}
+use Rattle.data_encoding_meaning.proofs.digits.WidthLemmas.{times-pos}
 
 -- the judgements up to each part
 module _ (width : ℕ) (fields : Fields) where

@@ -3,16 +3,17 @@ use Rattle.std.proofs.Common.{◌≡◌, ℕ, ◌*◌, ◌/◌, ◌%◌, ◌^◌
 use Rattle.std.proofs.lemmas.Bool.{cases_lt}
 use Rattle.std.proofs.lemmas.Bool.Decides.{nat_tests}
 use Rattle.std.proofs.lemmas.List.{get_or-take, get_or_past}
-use Rattle.data_encoding.specs.declared.encoding.BitOrder.{BitOrder}
-use Rattle.data_encoding.specs.Base.{Base, symbol, is_ignored, is_padding, is_symbol, IsWidth}
+use Rattle.data_encoding_meaning.specs.declared.encoding.BitOrder.{BitOrder}
+use Rattle.data_encoding_meaning.specs.Base.{Base, symbol, is_ignored, is_padding, is_symbol, IsWidth}
 use Rattle.data_encoding.specs.Encoding.{EncodingTables, KeepsPadding, KeepsRules, base_of_tables}
-use Rattle.data_encoding.specs.Entries.{is_entry_of, meaning_of_entry}
-use Rattle.data_encoding.specs.Tables.{HoldsSymbols, HoldsValues, Reads, Writes}
-use Rattle.data_encoding.proofs.tables.EntryLemmas.{high_entry, ignored_entry, length-low, meaning-any}
-use Rattle.data_encoding.proofs.tables.TableRuleLemmas.{HoldsEntries-tables, length-symbols, symbol-ascii, value-symbol}
-use Rattle.data_encoding.proofs.lists.EachLemmas.{passes_at}
-use Rattle.data_encoding.proofs.digits.WidthLemmas.{symbols-few, times_symbols}
-use Rattle.data_encoding.proofs.lists.RepeatLemmas.{get_or-repeats}
+use Rattle.data_encoding_meaning.specs.Entries.{is_entry_of, meaning_of_entry}
+use Rattle.data_encoding_kernel.specs.Tables.{HoldsSymbols, HoldsValues, Reads, Writes}
+use Rattle.data_encoding_meaning.proofs.tables.EntryLemmas.{high_entry, ignored_entry, length-low, meaning-any}
+use Rattle.data_encoding.proofs.tables.TableRuleLemmas.{HoldsEntries-tables, length-symbols, symbol-ascii}
+use Rattle.data_encoding_meaning.proofs.tables.EntryRuleLemmas.{value-symbol}
+use Rattle.data_encoding_meaning.proofs.lists.EachLemmas.{passes_at}
+use Rattle.data_encoding_meaning.proofs.digits.WidthLemmas.{symbols-few, times_symbols}
+use Rattle.data_encoding_meaning.proofs.lists.RepeatLemmas.{get_or-repeats}
 
 small_entry : (v count : ℕ) → is_entry_of count v ≡ true → v < 128 → v < count
 small_entry v count h k = grind (arith, nat_tests)

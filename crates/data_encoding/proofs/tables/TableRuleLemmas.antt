@@ -6,40 +6,20 @@ use Rattle.std.proofs.lemmas.List.{ext_get_or, get_or-map, get_or_past, length-m
 use Rattle.std.proofs.lemmas.List.FromFn.{get_or-range_with_len, length-range_with_len}
 use Rattle.std.specs.Cmp.{first_so, second_so}
 use Rattle.std.specs.List.{AllByRecursion, concat, list_all, range_with_len}
-use Rattle.data_encoding.specs.declared.encoding.Character.{Character}
-use Rattle.data_encoding.specs.declared.encoding.Character.TheVariants.{Symbol, Padding, Ignored}
-use Rattle.data_encoding.specs.Base.{meaning, ignores_some}
-use Rattle.data_encoding.specs.Encoding.{EncodingTables, KeepsPadding, KeepsRules, KeepsWrapping, base_of_tables, wrapping_by}
-use Rattle.data_encoding.specs.Entries.{HoldsEntries, is_entry_of, meaning_of_entry}
-use Rattle.data_encoding.specs.Fields.{IsSpecified}
-use Rattle.data_encoding.specs.Layout.{code_of}
-use Rattle.data_encoding.proofs.judgement.RoundTripLemmas.{IsSpecified-ruled}
-use Rattle.data_encoding.proofs.tables.EntryLemmas.{entry_back, high_entry, is_entry-low, length-entries, length-low, meaning-low}
+use Rattle.data_encoding_meaning.specs.declared.encoding.Character.{Character}
+use Rattle.data_encoding_meaning.specs.declared.encoding.Character.TheVariants.{Symbol, Padding, Ignored}
+use Rattle.data_encoding_meaning.specs.Base.{meaning, ignores_some, wrapping_by}
+use Rattle.data_encoding.specs.Encoding.{EncodingTables, KeepsPadding, KeepsRules, KeepsWrapping, base_of_tables}
+use Rattle.data_encoding_meaning.specs.Entries.{HoldsEntries, is_entry_of, meaning_of_entry}
+use Rattle.data_encoding_meaning.specs.Fields.{IsSpecified}
+use Rattle.data_encoding_meaning.specs.Layout.{code_of}
+use Rattle.data_encoding_meaning.proofs.judgement.RoundTripLemmas.{IsSpecified-ruled}
+use Rattle.data_encoding_meaning.proofs.tables.EntryLemmas.{entry_back, high_entry, is_entry-low, length-entries, length-low, meaning-low}
 use Rattle.std.proofs.lemmas.List.Folds.{list_all-map}
-use Rattle.data_encoding.proofs.lists.EachLemmas.{list_all-both, list_all-cons, list_all-places, passes_at}
-use Rattle.data_encoding.proofs.judgement.RuleLemmas.{IsRuled, IsRuledPadding, IsRuledWrapping, is_no_padding, is_within}
-use Rattle.data_encoding.proofs.digits.WidthLemmas.{symbols-few}
-
--- one entry, and its meaning
-pub entry-weaker : (count v : ℕ) → count ≤ 64 → is_entry_of count v ≡ true → is_entry_of 64 v ≡ true
-entry-weaker count v few h = grind (arith, nat_tests)
-
-pub entry-within : (count v : ℕ) → is_entry_of count v ≡ true
-    → is_within count (meaning_of_entry v) ≡ true
-entry-within count v h = grind (arith, nat_tests)
-
-within-entry : (count v : ℕ) → is_entry_of 64 v ≡ true → is_within count (meaning_of_entry v) ≡ true
-    → is_entry_of count v ≡ true
-within-entry count v h k = grind (arith, nat_tests)
-
-pub entry-no_padding : (v : ℕ) → not (v == 130) ≡ true → is_no_padding (meaning_of_entry v) ≡ true
-entry-no_padding v h = grind (arith, nat_tests)
-
-no_padding-entry : (v : ℕ) → is_no_padding (meaning_of_entry v) ≡ true → not (v == 130) ≡ true
-no_padding-entry v h = grind (arith, nat_tests)
-
-pub value-symbol : (v : ℕ) → v < 64 → meaning_of_entry v ≡ Symbol v
-value-symbol v h = grind (arith, nat_tests)
+use Rattle.data_encoding_meaning.proofs.lists.EachLemmas.{list_all-both, list_all-cons, list_all-places, passes_at}
+use Rattle.data_encoding_meaning.proofs.judgement.RuleLemmas.{IsRuled, IsRuledPadding, IsRuledWrapping, is_no_padding, is_within}
+use Rattle.data_encoding_meaning.proofs.digits.WidthLemmas.{symbols-few}
+use Rattle.data_encoding_meaning.proofs.tables.EntryRuleLemmas.{entry-no_padding, entry-weaker, entry-within, no_padding-entry, value-symbol, within-entry}
 
 all-weaker : {X : Type 0} (a b : X → Bool) → ((x : X) → a x ≡ true → b x ≡ true) → (xs : List X)
     → list_all a xs ≡ true → list_all b xs ≡ true

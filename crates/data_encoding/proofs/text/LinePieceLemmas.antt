@@ -4,17 +4,18 @@ use Rattle.std.proofs.Math.Nat.{div-le_self, le-mul_of_pos_right, mul-mod_left, 
 use Rattle.std.proofs.lemmas.Nat.{le-div}
 use Rattle.std.proofs.lemmas.List.Concat.{flat_map-append}
 use Rattle.std.specs.Prelude.{flat_map}
-use Rattle.data_encoding.specs.Base.{Base, Wrapping}
-use Rattle.data_encoding.specs.Bits.{runs}
+use Rattle.data_encoding_meaning.specs.Base.{Base, Wrapping}
+use Rattle.data_encoding_meaning.specs.Bits.{runs}
 use Rattle.data_encoding.specs.Encoding.{EncodingTables, KeepsRules, base_of_tables}
-use Rattle.data_encoding.specs.Lengths.{alignment}
-use Rattle.data_encoding.specs.Text.{padded_text, text_of}
-use Rattle.data_encoding.proofs.judgement.RuleLemmas.{AreLines, IsRuled}
-use Rattle.data_encoding.proofs.lists.PartLemmas.{groups-within}
-use Rattle.data_encoding.proofs.lists.PieceLemmas.{IsByPieces}
-use Rattle.data_encoding.proofs.lists.RunLemmas.{ended-short, runs-join, runs-nil}
-use Rattle.data_encoding.proofs.text.LineLemmas.{IsRuled-seen, alignment-some, are, column-some, padded-lines, short-lines, text-most, text_of-nil, whole-lines, wrapping-seen}
-use Rattle.data_encoding.proofs.text.TextJoinLemmas.{text_of-join, whole-parts}
+use Rattle.data_encoding_meaning.specs.Lengths.{alignment}
+use Rattle.data_encoding_meaning.specs.Text.{padded_text, text_of}
+use Rattle.data_encoding_meaning.proofs.judgement.RuleLemmas.{AreLines, IsRuled}
+use Rattle.data_encoding_meaning.proofs.lists.PartLemmas.{groups-within}
+use Rattle.data_encoding_meaning.proofs.lists.PieceLemmas.{IsByPieces}
+use Rattle.data_encoding_meaning.proofs.lists.RunLemmas.{ended-short, runs-join, runs-nil}
+use Rattle.data_encoding.proofs.text.LineTableLemmas.{IsRuled-seen, column-some, wrapping-seen}
+use Rattle.data_encoding_meaning.proofs.text.LineLemmas.{alignment-some, are, padded-lines, short-lines, text-most, text_of-nil, whole-lines}
+use Rattle.data_encoding_meaning.proofs.text.TextJoinLemmas.{text_of-join, whole-parts}
 
 pub IsByPieces-lines : (column : ℕ) (separator : List ℕ) → 0 < column
     → IsByPieces (λ text. flat_map (λ line. line ++ separator) (runs column text)) column

@@ -1,6 +1,6 @@
 -- Worked rows: an encoding as plain data.
 use Rattle.std.proofs.Common.{◌≡◌, true, false, [], ◌∷◌, Some, None, refl}
-use Rattle.data_encoding.specs.declared.encoding.BitOrder.TheVariants.{MostSignificantFirst, LeastSignificantFirst}
+use Rattle.data_encoding_meaning.specs.declared.encoding.BitOrder.TheVariants.{MostSignificantFirst, LeastSignificantFirst}
 use Rattle.data_encoding.specs.declared.plain.PlainEncoding.{PlainEncoding}
 use Rattle.data_encoding.specs.declared.plain.PlainFields.{PlainFields}
 use Rattle.data_encoding.specs.Plain.{base_of_plain}

@@ -2,23 +2,16 @@
 
 ghost use Rattle.std.specs.Prelude.{◌≡◌, ℕ, ◌*◌, ◌/◌, ◌<◌, ◌≤◌, ◌==◌, not, true, false, length, map, IsTrue, slice_index, IfOk, IfErr};
 ghost use Rattle.std.specs.List.{list_any};
-ghost use Rattle.data_encoding.specs.Base.{Base, meaning, is_padded};
-ghost use Rattle.data_encoding.specs.Decoding.{HasFault, HasSymbols, IsDecodedGroup};
-ghost use Rattle.data_encoding.specs.Fault.{count_before_padding, trailing_bits};
-ghost use Rattle.data_encoding.specs.Lengths.{is_valid_count};
-ghost use Rattle.data_encoding.specs.Tables.{HoldsValues, Reads};
+ghost use Rattle.data_encoding_meaning.specs.Base.{Base, meaning, is_padded};
+ghost use Rattle.data_encoding_meaning.specs.Decoding.{HasFault, HasSymbols, IsDecodedGroup};
+ghost use Rattle.data_encoding_meaning.specs.Fault.{count_before_padding, trailing_bits};
+ghost use Rattle.data_encoding_meaning.specs.Lengths.{is_valid_count};
+ghost use Rattle.data_encoding_kernel.specs.Tables.{HoldsValues, Reads};
 
 use crate::encoding::{BitOrder, EncodingRef, PADDING};
-use crate::error::DecodeKind;
-use crate::kernel::group_size::GroupSize;
-use crate::kernel::words::{decode_symbols, symbol_position};
-
-// What is wrong with a group, and with which of its bytes.
-#[derive(Clone, Copy, Drop)]
-pub(crate) struct GroupFault {
-    pub(crate) index: usize,
-    pub(crate) kind: DecodeKind,
-}
+use data_encoding_meaning::error::{DecodeKind, GroupFault};
+use data_encoding_kernel::group_size::GroupSize;
+use data_encoding_kernel::words::{decode_symbols, symbol_position};
 
 impl EncodingRef<'_> {
     /// Decodes a group to the front of the output, and returns how many symbols it has. It is the

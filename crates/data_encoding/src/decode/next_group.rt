@@ -1,14 +1,14 @@
 //! The next group of a text: the bytes that are not ignored.
 
 ghost use Rattle.std.specs.Prelude.{◌≡◌, ◌<◌, ◌≤◌, length, take};
-ghost use Rattle.data_encoding.specs.Base.{Base};
-ghost use Rattle.data_encoding.specs.Decoding.{IsGathered};
-ghost use Rattle.data_encoding.specs.Fault.{position_of};
-ghost use Rattle.data_encoding.specs.Grammar.{kept};
-ghost use Rattle.data_encoding.specs.Tables.{HoldsValues};
+ghost use Rattle.data_encoding_meaning.specs.Base.{Base};
+ghost use Rattle.data_encoding_meaning.specs.Decoding.{IsGathered};
+ghost use Rattle.data_encoding_meaning.specs.Fault.{position_of};
+ghost use Rattle.data_encoding_meaning.specs.Grammar.{kept};
+ghost use Rattle.data_encoding_kernel.specs.Tables.{HoldsValues};
 
 use crate::encoding::{EncodingRef, IGNORED};
-use crate::kernel::group_size::GroupSize;
+use data_encoding_kernel::group_size::GroupSize;
 
 // A group of a text: its bytes, and how far it goes with the ignored bytes among them.
 #[derive(Clone, Copy, Drop)]

@@ -1,17 +1,18 @@
 //! Decoding step by step: a run of whole groups, and the group that follows it.
 
 ghost use Rattle.std.specs.Prelude.{◌≡◌, true, false, ◌≤◌, length, drop, Ok, IfSome};
-ghost use Rattle.data_encoding.specs.Base.{Base};
-ghost use Rattle.data_encoding.specs.Decoding.{HasDecodedTo, HasEnded, HasStepped, IsIgnoredFront};
-ghost use Rattle.data_encoding.specs.Lengths.{decoded_len};
-ghost use Rattle.data_encoding.specs.Tables.{HoldsValues, Reads};
+ghost use Rattle.data_encoding_meaning.specs.Base.{Base};
+ghost use Rattle.data_encoding_meaning.specs.Decoding.{HasDecodedTo, IsIgnoredFront};
+ghost use Rattle.data_encoding.specs.Steps.{HasEnded, HasStepped};
+ghost use Rattle.data_encoding_meaning.specs.Lengths.{decoded_len};
+ghost use Rattle.data_encoding_kernel.specs.Tables.{HoldsValues, Reads};
 
 use crate::decode::{DECODE_LIMIT, Stop};
 use crate::encoding::{BitOrder, EncodingRef, IGNORED};
-use crate::kernel::decode::decode_run;
-use crate::kernel::group_size::GroupSize;
-use crate::kernel::lanes::look_up::LookUp;
-use crate::kernel::order::ConstantOrder;
+use data_encoding_kernel::decode::decode_run;
+use data_encoding_kernel::group_size::GroupSize;
+use data_encoding_kernel::lanes::look_up::LookUp;
+use data_encoding_kernel::order::ConstantOrder;
 
 // How a step ended.
 #[derive(Clone, Copy, Drop)]

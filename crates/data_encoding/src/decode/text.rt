@@ -1,18 +1,19 @@
 //! Decoding a text: the order, its length and the width are chosen once.
 
 ghost use Rattle.std.specs.Prelude.{◌≡◌, false, ◌≤◌, length, Ok, IsTrue};
-ghost use Rattle.data_encoding.specs.Base.{IsWidth};
-ghost use Rattle.data_encoding.specs.Decoding.{HasDecodedTo, HasEnded};
-ghost use Rattle.data_encoding.specs.Lengths.{decoded_len};
+ghost use Rattle.data_encoding_meaning.specs.Base.{IsWidth};
+ghost use Rattle.data_encoding_meaning.specs.Decoding.{HasDecodedTo};
+ghost use Rattle.data_encoding.specs.Steps.{HasEnded};
+ghost use Rattle.data_encoding_meaning.specs.Lengths.{decoded_len};
 
 use crate::decode::steps::{Reached, Step};
 use crate::decode::{DECODE_LIMIT, Stop};
 use crate::encoding::{BitOrder, EncodingRef};
 use crate::error::DecodeKind;
-use crate::kernel::group_size::{Base2, Base4, Base8, Base16, Base32, Base64, GroupSize};
-use crate::kernel::lanes::affine::{Affine, affine_of};
-use crate::kernel::lanes::rows::{Rows, rows_of};
-use crate::kernel::order::{ConstantOrder, LeastSignificantFirst, MostSignificantFirst};
+use data_encoding_kernel::group_size::{Base2, Base4, Base8, Base16, Base32, Base64, GroupSize};
+use data_encoding_kernel::lanes::affine::{Affine, affine_of};
+use data_encoding_kernel::lanes::rows::{Rows, rows_of};
+use data_encoding_kernel::order::{ConstantOrder, LeastSignificantFirst, MostSignificantFirst};
 
 // The length of a text from which finding the affine form of a table takes less time than it saves.
 const AFFINE_FROM: usize = 704;

@@ -1,13 +1,13 @@
 //! Texts in lines.
 
 ghost use Rattle.std.specs.Prelude.{◌≡◌, ℕ, ◌+◌, ◌<◌, ◌≤◌, List, ◌++◌, length, flat_map, IsSome};
-ghost use Rattle.data_encoding.specs.Bits.{runs};
-ghost use Rattle.data_encoding.specs.Lengths.{alignment};
-ghost use Rattle.data_encoding.specs.Text.{padded_text, text_of};
+ghost use Rattle.data_encoding_meaning.specs.Bits.{runs};
+ghost use Rattle.data_encoding_meaning.specs.Lengths.{alignment};
+ghost use Rattle.data_encoding_meaning.specs.Text.{padded_text, text_of};
 
 use crate::encode::ENCODE_LIMIT;
 use crate::encoding::EncodingRef;
-use crate::kernel::group_size::GroupSize;
+use data_encoding_kernel::group_size::GroupSize;
 
 // The greatest length of a block of lines without their separators, of four lines at least.
 const BLOCK_LEN: usize = 1024;

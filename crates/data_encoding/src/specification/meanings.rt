@@ -2,41 +2,15 @@
 
 ghost use Rattle.std.specs.Prelude.{◌≡◌, ◌/◌, ◌%◌, ◌==◌, ◌||◌, ◌<◌, ◌≤◌, List, length, take, map, slice_index_or, OnOk, IfErr, IsTrue, Ok, Err, Some};
 ghost use Rattle.std.specs.List.{list_any};
-ghost use Rattle.data_encoding.specs.declared.encoding.Character.TheVariants.{Invalid};
-ghost use Rattle.data_encoding.specs.Base.{IsWidth, is_ignored};
-ghost use Rattle.data_encoding.specs.Entries.{meaning_of_entry, is_entry_of, HoldsEntries};
-ghost use Rattle.data_encoding.specs.Fields.{defined, ignored_judgements, meanings_after, no_meanings, padding_judgements, symbol_judgements, translated, translation_judgements, wrapping_judgements, wraps};
+ghost use Rattle.data_encoding_meaning.specs.declared.encoding.Character.TheVariants.{Invalid};
+ghost use Rattle.data_encoding_meaning.specs.Base.{IsWidth, is_ignored};
+ghost use Rattle.data_encoding_meaning.specs.Entries.{meaning_of_entry, is_entry_of, HoldsEntries};
+ghost use Rattle.data_encoding_meaning.specs.Fields.{defined, ignored_judgements, meanings_after, no_meanings, padding_judgements, symbol_judgements, translated, translation_judgements, wrapping_judgements, wraps};
+
+pub use data_encoding_meaning::refusal::Refusal;
 
 use crate::encoding::{IGNORED, INVALID, PADDING, group_symbols};
 use std::marker::Model;
-
-/// Why a specification is refused, with the byte or the number that shows it.
-#[derive(Clone, Copy, Debug)]
-pub enum Refusal {
-    /// There are not 2, 4, 8, 16, 32 or 64 symbols.
-    BadSize,
-
-    /// A character is not ASCII.
-    NotAscii,
-
-    /// The byte is given two meanings.
-    Duplicate(u8),
-
-    /// There is padding, and no text needs any.
-    ExtraPadding,
-
-    /// The width of lines or the length of the separator is over 255.
-    WrapLength,
-
-    /// The width of lines is no multiple of this.
-    WrapWidth(u8),
-
-    /// The texts of a translation differ in length.
-    FromTo,
-
-    /// A byte is translated to this one, which has no meaning.
-    Undefined(u8),
-}
 
 // What the bytes mean so far, by a table of values.
 #[derive(Drop)]
@@ -46,7 +20,7 @@ pub(crate) struct Meanings {
 
 impl Model for Meanings {
     ghost use Rattle.std.specs.Prelude.{List};
-    ghost use Rattle.data_encoding.specs.declared.encoding.Character.{Character};
+    ghost use Rattle.data_encoding_meaning.specs.declared.encoding.Character.{Character};
 
     ghost Value = { List Character };
 

@@ -1,5 +1,5 @@
 use Rattle.std.proofs.Common.{◌-◌, length, arith}
-use Rattle.data_encoding.proofs.decoding.GroupJudgementLemmas.{count-before}
+use Rattle.data_encoding.proofs.decoding.GroupTableLemmas.{count-before}
 use Rattle.data_encoding.proofs.decode.group.before_padding.Goals as goal
 
 pub returns-then-values-group-clause-count : goal.returns-then-values-group-clause-count

@@ -1,8 +1,8 @@
 use Rattle.std.proofs.Common.{◌<◌, length, get_or, ap, ◌∙◌, arith, inl, inr}
 use Rattle.std.proofs.lemmas.List.{length-set}
 use Rattle.std.proofs.lemmas.Bool.Decides.{nat_tests}
-use Rattle.data_encoding.proofs.digits.SizeLemmas.{IsSmall-group}
-use Rattle.data_encoding.proofs.decoding.GatherLemmas.{gather-ignored, gather-kept, gathered, nothing-gathered}
+use Rattle.data_encoding_meaning.proofs.digits.SizeLemmas.{IsSmall-group}
+use Rattle.data_encoding_meaning.proofs.decoding.GatherLemmas.{gather-ignored, gather-kept, gathered, nothing-gathered}
 use Rattle.data_encoding.proofs.decode.next_group.gather.Goals as goal
 use Rattle.data_encoding.proofs.decode.next_group.gather.Goals.{then-values-byte, else-values-byte}
 

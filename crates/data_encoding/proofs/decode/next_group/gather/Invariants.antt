@@ -1,7 +1,7 @@
 use Rattle.std.proofs.Common.{◌≤◌}
-use Rattle.data_encoding.specs.Base.{Base}
-use Rattle.data_encoding.specs.Tables.{HoldsValues}
-use Rattle.data_encoding.proofs.decoding.GatherLemmas.{HasGathered}
+use Rattle.data_encoding_meaning.specs.Base.{Base}
+use Rattle.data_encoding_kernel.specs.Tables.{HoldsValues}
+use Rattle.data_encoding_meaning.proofs.decoding.GatherLemmas.{HasGathered}
 use Rattle.data_encoding.proofs.decode.next_group.gather.Given as goal
 
 abbrev pub invariant-loop-index : goal.invariant-loop-index

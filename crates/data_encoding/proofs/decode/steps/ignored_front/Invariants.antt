@@ -1,7 +1,7 @@
 use Rattle.std.proofs.Common.{◌≡◌, take, []}
-use Rattle.data_encoding.specs.Base.{Base}
-use Rattle.data_encoding.specs.Grammar.{kept}
-use Rattle.data_encoding.specs.Tables.{HoldsValues}
+use Rattle.data_encoding_meaning.specs.Base.{Base}
+use Rattle.data_encoding_meaning.specs.Grammar.{kept}
+use Rattle.data_encoding_kernel.specs.Tables.{HoldsValues}
 use Rattle.data_encoding.proofs.decode.steps.ignored_front.Given as goal
 
 abbrev pub invariant-loop-index : goal.invariant-loop-index

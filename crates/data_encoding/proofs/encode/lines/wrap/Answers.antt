@@ -1,6 +1,6 @@
 use Rattle.std.proofs.Common.{length, sym, ap, ◌∙◌, arith}
-use Rattle.data_encoding.proofs.lists.PieceLemmas.{length-part, part-begins, piece-few, piece-last, piece-next, piece-some, written-first}
-use Rattle.data_encoding.proofs.lists.RunLemmas.{ended-short}
+use Rattle.data_encoding_meaning.proofs.lists.PieceLemmas.{length-part, part-begins, piece-few, piece-last, piece-next, piece-some, written-first}
+use Rattle.data_encoding_meaning.proofs.lists.RunLemmas.{ended-short}
 use Rattle.data_encoding.proofs.text.LinePieceLemmas.{IsByPieces-lines}
 use Rattle.data_encoding.proofs.encode.lines.wrap.Goals as goal
 

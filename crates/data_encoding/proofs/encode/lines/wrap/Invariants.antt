@@ -1,6 +1,6 @@
 use Rattle.std.specs.Prelude.{◌++◌, flat_map}
-use Rattle.data_encoding.specs.Bits.{runs}
-use Rattle.data_encoding.proofs.lists.PieceLemmas.{WritesPieces}
+use Rattle.data_encoding_meaning.specs.Bits.{runs}
+use Rattle.data_encoding_meaning.proofs.lists.PieceLemmas.{WritesPieces}
 use Rattle.data_encoding.proofs.encode.lines.wrap.Given as goal
 
 abbrev pub invariant-loop-index : goal.invariant-loop-index

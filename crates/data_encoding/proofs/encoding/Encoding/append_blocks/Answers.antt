@@ -2,10 +2,10 @@ use Rattle.std.proofs.Common.{◌≡◌, ◌<◌, ◌-◌, ◌*◌, ◌/◌, ◌
 use Rattle.std.proofs.Math.Nat.{mul-mod_left}
 use Rattle.std.proofs.lemmas.Nat.{div-add-mod', mod_below}
 use Rattle.std.specs.String.{string_bytes}
-use Rattle.data_encoding.specs.Lengths.{alignment}
-use Rattle.data_encoding.specs.Text.{text_of}
-use Rattle.data_encoding.proofs.judgement.RuleLemmas.{IsRuled-yield}
-use Rattle.data_encoding.proofs.text.FragmentLemmas.{HasEncoded-blocks}
+use Rattle.data_encoding_meaning.specs.Lengths.{alignment}
+use Rattle.data_encoding_meaning.specs.Text.{text_of}
+use Rattle.data_encoding_meaning.proofs.judgement.RuleLemmas.{IsRuled-yield}
+use Rattle.data_encoding_meaning.proofs.text.FragmentLemmas.{HasEncoded-blocks}
 use Rattle.data_encoding.proofs.encoding.Encoding.append_blocks.Goals as goal
 
 -- what is left without the rest is a multiple

@@ -1,7 +1,7 @@
 use Rattle.std.proofs.lemmas.Result.{on_ok_weaker}
 use Rattle.std.specs.String.{string_bytes}
-use Rattle.data_encoding.proofs.judgement.RuleLemmas.{IsRuled-yield}
-use Rattle.data_encoding.proofs.text.FragmentLemmas.{text_of-fragments}
+use Rattle.data_encoding_meaning.proofs.judgement.RuleLemmas.{IsRuled-yield}
+use Rattle.data_encoding_meaning.proofs.text.FragmentLemmas.{text_of-fragments}
 use Rattle.data_encoding.proofs.encoding.Encoding.append_last.Goals as goal
 
 pub returns-clause-text : goal.returns-clause-text

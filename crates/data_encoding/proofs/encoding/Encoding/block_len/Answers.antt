@@ -1,10 +1,10 @@
 use Rattle.std.proofs.Common.{◌+◌, sym, ap, ◌∙◌, subst}
-use Rattle.data_encoding.specs.Base.{Base, group_symbols}
-use Rattle.data_encoding.specs.Lengths.{IsBlockLength}
+use Rattle.data_encoding_meaning.specs.Base.{Base, group_symbols}
+use Rattle.data_encoding_meaning.specs.Lengths.{IsBlockLength}
 use Rattle.data_encoding.specs.PlainTables.{plain_tables}
 use Rattle.data_encoding.proofs.tables.TableRuleLemmas.{is_base_of}
-use Rattle.data_encoding.proofs.text.BlockLemmas.{IsBlockLength-group, IsBlockLength-line}
-use Rattle.data_encoding.proofs.text.LineLemmas.{IsRuled-seen, unwrapped-seen, wrapping-seen}
+use Rattle.data_encoding_meaning.proofs.text.BlockLemmas.{IsBlockLength-group, IsBlockLength-line}
+use Rattle.data_encoding.proofs.text.LineTableLemmas.{IsRuled-seen, unwrapped-seen, wrapping-seen}
 use Rattle.data_encoding.proofs.encoding.Encoding.block_len.Goals as goal
 
 pub returns-then-self-eq0-clause-length : goal.returns-then-self-eq0-clause-length

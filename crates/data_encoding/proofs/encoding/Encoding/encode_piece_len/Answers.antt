@@ -1,5 +1,5 @@
 use Rattle.std.proofs.Common.{arith}
-use Rattle.data_encoding.proofs.text.BlockLemmas.{piece-few, piece-fits, piece-some, piece-whole}
+use Rattle.data_encoding_meaning.proofs.text.BlockLemmas.{piece-few, piece-fits, piece-some, piece-whole}
 use Rattle.data_encoding.proofs.encoding.Encoding.encode_piece_len.Goals as goal
 
 pub returns-clause-few : goal.returns-clause-few

@@ -1,4 +1,4 @@
-use Rattle.data_encoding.proofs.text.WrittenLemmas.{IsWrittenBefore}
+use Rattle.data_encoding_meaning.proofs.text.WrittenLemmas.{IsWrittenBefore}
 use Rattle.std.proofs.Common.{length}
 use Rattle.data_encoding.proofs.encoding.Encoding.encode_write_buffer.Given as goal
 

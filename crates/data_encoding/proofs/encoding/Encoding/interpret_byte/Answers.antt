@@ -1,7 +1,8 @@
 use Rattle.std.proofs.Common.{sym, ◌∙◌, arith}
-use Rattle.data_encoding.proofs.tables.EntryLemmas.{meaning-any}
-use Rattle.data_encoding.proofs.tables.TableRuleLemmas.{HoldsEntries-tables, value-symbol}
-use Rattle.data_encoding.proofs.tables.LayoutLemmas.{meaning-ignored, meaning-invalid, meaning-padding}
+use Rattle.data_encoding_meaning.proofs.tables.EntryLemmas.{meaning-any}
+use Rattle.data_encoding.proofs.tables.TableRuleLemmas.{HoldsEntries-tables}
+use Rattle.data_encoding_meaning.proofs.tables.EntryRuleLemmas.{value-symbol}
+use Rattle.data_encoding_meaning.proofs.tables.LayoutLemmas.{meaning-ignored, meaning-invalid, meaning-padding}
 use Rattle.data_encoding.proofs.encoding.Encoding.interpret_byte.Goals as goal
 
 pub returns-then-entry-lt64 : goal.returns-then-entry-lt64

@@ -1,7 +1,7 @@
 use Rattle.std.proofs.Common.{◌<◌, subst, rules}
 use Rattle.std.specs.String.{string_bytes}
-use Rattle.data_encoding.proofs.judgement.RuleLemmas.{IsRuled-yield}
-use Rattle.data_encoding.proofs.text.FragmentLemmas.{HasEncoded-nothing}
+use Rattle.data_encoding_meaning.proofs.judgement.RuleLemmas.{IsRuled-yield}
+use Rattle.data_encoding_meaning.proofs.text.FragmentLemmas.{HasEncoded-nothing}
 use Rattle.data_encoding.proofs.encoding.Encoding.new_encoder.Goals as goal
 
 pub returns-clause-fragments : goal.returns-clause-fragments

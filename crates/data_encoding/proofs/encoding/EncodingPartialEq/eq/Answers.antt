@@ -3,10 +3,10 @@ use Rattle.std.proofs.lemmas.Bool.Decides.{same_from_decides}
 use Rattle.std.proofs.lemmas.Slice.Eq.{bytes_eq-Decides}
 use Rattle.std.specs.Bool.{Decides}
 use denote.Enum.Bare.{sameb}
-use Rattle.data_encoding.specs.contracts.encoding.BitOrder.{the_type}
-use Rattle.data_encoding.specs.declared.encoding.BitOrder.{BitOrder}
-use Rattle.data_encoding.specs.declared.encoding.BitOrder.TheVariants.{MostSignificantFirst, LeastSignificantFirst}
-use Rattle.data_encoding.specs.Layout.{layout}
+use Rattle.data_encoding_meaning.specs.contracts.encoding.BitOrder.{the_type}
+use Rattle.data_encoding_meaning.specs.declared.encoding.BitOrder.{BitOrder}
+use Rattle.data_encoding_meaning.specs.declared.encoding.BitOrder.TheVariants.{MostSignificantFirst, LeastSignificantFirst}
+use Rattle.data_encoding_meaning.specs.Layout.{layout}
 use Rattle.data_encoding.proofs.tables.EqualityLemmas.{base-Decides, layout-Decides}
 use Rattle.data_encoding.proofs.encoding.EncodingPartialEq.eq.Goals as goal
 

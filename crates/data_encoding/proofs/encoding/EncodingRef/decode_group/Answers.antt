@@ -1,8 +1,9 @@
 use Rattle.std.proofs.Common.{◌*◌, ◌/◌, ◌<◌, ◌≤◌, length, take, drop, refl, sym, ◌∙◌, arith, length-take-le}
 use Rattle.std.proofs.Math.Nat.{lt_of_not-le}
 use Rattle.std.proofs.lemmas.Bool.{false≢true}
-use Rattle.data_encoding.proofs.decoding.GroupJudgementLemmas.{few-bits, group-sound, room-symbols, symbol-fault, trailing-fault}
-use Rattle.data_encoding.proofs.digits.WidthLemmas.{group_symbols-few}
+use Rattle.data_encoding_meaning.proofs.decoding.GroupJudgementLemmas.{few-bits, room-symbols}
+use Rattle.data_encoding.proofs.decoding.GroupTableLemmas.{group-sound, symbol-fault, trailing-fault}
+use Rattle.data_encoding_meaning.proofs.digits.WidthLemmas.{group_symbols-few}
 use Rattle.data_encoding.proofs.tables.TableLemmas.{HoldsValues-seen, Reads-seen}
 use Rattle.data_encoding.proofs.encoding.EncodingRef.decode_group.Goals as goal
 use Rattle.data_encoding.proofs.encoding.EncodingRef.decode_group.Goals.{else-self-via-then-self+else-has_trailing, else-self-via-else-self}

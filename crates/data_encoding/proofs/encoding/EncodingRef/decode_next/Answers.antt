@@ -1,9 +1,9 @@
 use Rattle.std.proofs.Common.{◌≡◌, ℕ, ◌+◌, ◌*◌, ◌/◌, ◌∙◌, ◌&&◌, Bool, not, nat_lt, length, inl, inr, refl, sym, arith, length-drop}
-use Rattle.data_encoding.proofs.decoding.GroupJudgementLemmas.{few-bits}
+use Rattle.data_encoding_meaning.proofs.decoding.GroupJudgementLemmas.{few-bits}
 use Rattle.data_encoding.proofs.decoding.StepLemmas.{IsUnderWay, after_group, decoded-behind, decoded-none, final-is, final-not, gathered-next, group-stopped, room-next_group, some-group, under_way, written-few}
-use Rattle.data_encoding.proofs.decoding.GatherLemmas.{gathered-few}
-use Rattle.data_encoding.proofs.digits.SizeLemmas.{IsGroup-same}
-use Rattle.data_encoding.proofs.lists.WriteLemmas.{rewritten}
+use Rattle.data_encoding_meaning.proofs.decoding.GatherLemmas.{gathered-few}
+use Rattle.data_encoding_meaning.proofs.digits.SizeLemmas.{IsGroup-same}
+use Rattle.data_encoding_meaning.proofs.lists.WriteLemmas.{rewritten}
 use Rattle.data_encoding.proofs.encoding.EncodingRef.decode_next.Given.{Over}
 use Rattle.data_encoding.proofs.encoding.EncodingRef.decode_next.Goals as goal
 use Rattle.data_encoding.proofs.encoding.EncodingRef.decode_next.Goals.{After-WIDTH, else-count-group-via-then-count-group+else-not-self, else-count-group-via-else-count-group}

@@ -1,8 +1,8 @@
 use Rattle.std.proofs.Common.{Ok, sym, ap, ◌∙◌, subst, arith}
-use Rattle.data_encoding.specs.Base.{IsWidth}
-use Rattle.data_encoding.proofs.decoding.IgnoredFrontLemmas.{no_front}
+use Rattle.data_encoding_meaning.specs.Base.{IsWidth}
+use Rattle.data_encoding_meaning.proofs.decoding.IgnoredFrontLemmas.{no_front}
 use Rattle.data_encoding.proofs.decoding.StepLemmas.{decoded-all, under_way}
-use Rattle.data_encoding.proofs.decoding.ProgressLemmas.{begin}
+use Rattle.data_encoding_meaning.proofs.decoding.ProgressLemmas.{begin}
 use Rattle.data_encoding.proofs.tables.TableLemmas.{Reads-seen}
 use Rattle.data_encoding.proofs.encoding.EncodingRef.decode_text.Goals as goal
 

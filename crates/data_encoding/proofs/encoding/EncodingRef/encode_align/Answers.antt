@@ -1,11 +1,12 @@
 use Rattle.std.proofs.Common.{◌≡◌, ◌≢◌, ℕ, zero, suc, ◌*◌, ◌/◌, ◌<◌, ◌≤◌, List, refl, sym, subst, arith}
-use Rattle.data_encoding.specs.Base.{IsWidth}
-use Rattle.data_encoding.specs.Encoding.{KeepsWrapping, wrapping_by}
-use Rattle.data_encoding.specs.Lengths.{align_by}
-use Rattle.data_encoding.proofs.digits.WidthLemmas.{group_bytes-pos}
+use Rattle.data_encoding_meaning.specs.Base.{IsWidth, wrapping_by}
+use Rattle.data_encoding.specs.Encoding.{KeepsWrapping}
+use Rattle.data_encoding_meaning.specs.Lengths.{align_by}
+use Rattle.data_encoding_meaning.proofs.digits.WidthLemmas.{group_bytes-pos}
 use Rattle.data_encoding.proofs.tables.TableRuleLemmas.{is_base_of}
-use Rattle.data_encoding.proofs.text.BlockLemmas.{few-columns}
-use Rattle.data_encoding.proofs.text.LineLemmas.{IsRuled-seen, alignment-some, wrapping-seen}
+use Rattle.data_encoding_meaning.proofs.text.BlockLemmas.{few-columns}
+use Rattle.data_encoding.proofs.text.LineTableLemmas.{IsRuled-seen, wrapping-seen}
+use Rattle.data_encoding_meaning.proofs.text.LineLemmas.{alignment-some}
 use Rattle.data_encoding.proofs.encoding.EncodingRef.encode_align.Goals as goal
 
 by_column : (column width : ℕ) (separator : List ℕ) → column ≢ 0

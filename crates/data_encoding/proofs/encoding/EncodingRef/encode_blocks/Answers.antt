@@ -1,6 +1,6 @@
 use Rattle.std.proofs.Common.{◌+◌, ◌/◌, ◌∙◌, arith}
 use Rattle.std.proofs.lemmas.Nat.{mul-le}
-use Rattle.data_encoding.proofs.lists.PieceLemmas.{before, length-part, part-begins, piece-begins, piece-few, piece-last, piece-next, written-first}
+use Rattle.data_encoding_meaning.proofs.lists.PieceLemmas.{before, length-part, part-begins, piece-begins, piece-few, piece-last, piece-next, written-first}
 use Rattle.data_encoding.proofs.text.LinePieceLemmas.{IsByPieces-text, columns-some, line-few, lines-few, lines-fit, lines-some, text-few}
 use Rattle.data_encoding.proofs.encoding.EncodingRef.encode_blocks.Goals as goal
 

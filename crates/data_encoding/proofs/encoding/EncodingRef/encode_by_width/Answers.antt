@@ -1,4 +1,4 @@
-use Rattle.data_encoding.proofs.text.LineLemmas.{has-lines}
+use Rattle.data_encoding.proofs.text.LineTableLemmas.{has-lines}
 use Rattle.data_encoding.proofs.encoding.EncodingRef.encode_by_width.Goals as goal
 
 pub encode_lines-requires-clause-lines : goal.encode_lines-requires-clause-lines

@@ -1,5 +1,5 @@
 use Rattle.std.proofs.Common.{◌∙◌, arith}
-use Rattle.data_encoding.proofs.lists.PieceLemmas.{before, length-part, part-begins, piece-begins, piece-few, piece-last, piece-next, piece-some, written-first}
+use Rattle.data_encoding_meaning.proofs.lists.PieceLemmas.{before, length-part, part-begins, piece-begins, piece-few, piece-last, piece-next, piece-some, written-first}
 use Rattle.data_encoding.proofs.text.LinePieceLemmas.{IsByPieces-line, line-few, text-few}
 use Rattle.data_encoding.proofs.encoding.EncodingRef.encode_each_line.Goals as goal
 

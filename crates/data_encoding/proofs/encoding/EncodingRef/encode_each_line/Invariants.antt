@@ -1,5 +1,5 @@
-use Rattle.data_encoding.specs.Text.{text_of}
-use Rattle.data_encoding.proofs.lists.PieceLemmas.{WritesPieces}
+use Rattle.data_encoding_meaning.specs.Text.{text_of}
+use Rattle.data_encoding_meaning.proofs.lists.PieceLemmas.{WritesPieces}
 use Rattle.data_encoding.proofs.encoding.EncodingRef.encode_each_line.Given as goal
 
 abbrev pub invariant-loop-index : goal.invariant-loop-index

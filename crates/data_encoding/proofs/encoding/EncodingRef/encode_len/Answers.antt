@@ -1,10 +1,11 @@
 use Rattle.std.proofs.Common.{◌≡◌, ℕ, ◌+◌, ◌*◌, List, length, replicate, sym, ap, ◌∙◌, arith}
 use Rattle.std.proofs.lemmas.List.{length-replicate}
 use Rattle.data_encoding.specs.PlainTables.{plain_tables}
-use Rattle.data_encoding.proofs.lists.RunLemmas.{div_ceil-runs, run_count}
+use Rattle.data_encoding_meaning.proofs.lists.RunLemmas.{div_ceil-runs, run_count}
 use Rattle.data_encoding.proofs.tables.TableRuleLemmas.{is_base_of}
-use Rattle.data_encoding.proofs.text.LineLemmas.{IsRuled-seen, are, length-lines, text-most, unwrapped-seen, wrapping-seen}
-use Rattle.data_encoding.proofs.text.PaddedTextLemmas.{text_of-unwrapped}
+use Rattle.data_encoding.proofs.text.LineTableLemmas.{IsRuled-seen, unwrapped-seen, wrapping-seen}
+use Rattle.data_encoding_meaning.proofs.text.LineLemmas.{are, length-lines, text-most}
+use Rattle.data_encoding_meaning.proofs.text.PaddedTextLemmas.{text_of-unwrapped}
 use Rattle.data_encoding.proofs.encoding.EncodingRef.encode_len.Goals as goal
 
 pub returns-then-self-eq0-clause-length : goal.returns-then-self-eq0-clause-length

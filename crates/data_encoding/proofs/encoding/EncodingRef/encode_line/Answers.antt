@@ -1,13 +1,14 @@
 use Rattle.std.proofs.Common.{◌≡◌, ℕ, ◌+◌, ◌-◌, ◌<◌, ◌≤◌, List, ◌++◌, length, take, drop, sym, ap, ◌∙◌, arith, length-append, length-take-le}
 use Rattle.std.proofs.lemmas.List.{length-drop, take_at}
 use borrow.Rule.Slice.PartMut.{put_mid}
-use Rattle.data_encoding.specs.Base.{Base}
+use Rattle.data_encoding_meaning.specs.Base.{Base}
 use Rattle.data_encoding.specs.Encoding.{EncodingTables, KeepsRules, base_of_tables}
-use Rattle.data_encoding.specs.Lengths.{alignment}
-use Rattle.data_encoding.specs.Text.{padded_text, text_of}
-use Rattle.data_encoding.proofs.lists.PartLemmas.{length-rest}
-use Rattle.data_encoding.proofs.text.LineLemmas.{IsRuled-seen, separator-seen, text_of-line}
-use Rattle.data_encoding.proofs.lists.WriteLemmas.{put_mid-end}
+use Rattle.data_encoding_meaning.specs.Lengths.{alignment}
+use Rattle.data_encoding_meaning.specs.Text.{padded_text, text_of}
+use Rattle.data_encoding_meaning.proofs.lists.PartLemmas.{length-rest}
+use Rattle.data_encoding.proofs.text.LineTableLemmas.{IsRuled-seen, separator-seen}
+use Rattle.data_encoding_meaning.proofs.text.LineLemmas.{text_of-line}
+use Rattle.data_encoding_meaning.proofs.lists.WriteLemmas.{put_mid-end}
 use Rattle.data_encoding.proofs.encoding.EncodingRef.encode_line.Goals as goal
 
 -- a text that is written, and its separator behind it

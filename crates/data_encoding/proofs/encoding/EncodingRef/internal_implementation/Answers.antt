@@ -1,6 +1,6 @@
 use Rattle.std.proofs.Common.{◌++◌, ◌∷◌, [], false, true, append_assoc, append-nil, sym, ◌∙◌}
 use Rattle.data_encoding.specs.PlainTables.{plain_tables}
-use Rattle.data_encoding.proofs.tables.LayoutLemmas.{layout-joined, lines-tail, no_lines-tail}
+use Rattle.data_encoding.proofs.tables.LayoutTableLemmas.{layout-joined, lines-tail, no_lines-tail}
 use Rattle.data_encoding.proofs.encoding.EncodingRef.internal_implementation.Goals as goal
 
 pub returns-then-self-ne0 : goal.returns-then-self-ne0

@@ -1,7 +1,7 @@
 use Rattle.std.proofs.Common.{sym, ◌∙◌}
-use Rattle.data_encoding.proofs.canonicity.CauseLemmas.{canonical-by}
-use Rattle.data_encoding.proofs.canonicity.TranslatedLemmas.{has_one_text-by, not_one_text}
-use Rattle.data_encoding.proofs.judgement.RuleLemmas.{IsRuled-yield}
+use Rattle.data_encoding_meaning.proofs.canonicity.CauseLemmas.{canonical-by}
+use Rattle.data_encoding_meaning.proofs.canonicity.TranslatedLemmas.{has_one_text-by, not_one_text}
+use Rattle.data_encoding_meaning.proofs.judgement.RuleLemmas.{IsRuled-yield}
 use Rattle.data_encoding.proofs.encoding.EncodingRef.is_canonical.Goals as goal
 
 pub returns-then-has_one_meaning : goal.returns-then-has_one_meaning

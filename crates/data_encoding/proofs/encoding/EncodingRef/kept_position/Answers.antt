@@ -1,10 +1,10 @@
 use Rattle.std.proofs.Common.{◌≡◌, ◌<◌, false, length, take, get_or, sym, ◌∙◌, arith}
 use Rattle.std.proofs.lemmas.Bool.Decides.{nat_tests}
 use Rattle.std.proofs.lemmas.List.{take_all}
-use Rattle.data_encoding.specs.Base.{ignores_some}
-use Rattle.data_encoding.specs.Grammar.{kept, positioned}
-use Rattle.data_encoding.proofs.decoding.GatherLemmas.{more-here, none-here, position-here}
-use Rattle.data_encoding.proofs.grammar.PositionLemmas.{filter-plain, length-kept, position_of-positioned_from}
+use Rattle.data_encoding_meaning.specs.Base.{ignores_some}
+use Rattle.data_encoding_meaning.specs.Grammar.{kept, positioned}
+use Rattle.data_encoding_meaning.proofs.decoding.GatherLemmas.{more-here, none-here, position-here}
+use Rattle.data_encoding_meaning.proofs.grammar.PositionLemmas.{filter-plain, length-kept, position_of-positioned_from}
 use Rattle.data_encoding.proofs.tables.TableLemmas.{HoldsValues-seen}
 use Rattle.data_encoding.proofs.encoding.EncodingRef.kept_position.Goals as goal
 use Rattle.data_encoding.proofs.encoding.EncodingRef.kept_position.Goals.{then-self-part+else-left-eq0, else-self-part}

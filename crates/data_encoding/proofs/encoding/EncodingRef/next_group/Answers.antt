@@ -1,8 +1,8 @@
 use Rattle.std.proofs.Common.{◌≡◌, take, false, sym, ◌∙◌, arith}
 use Rattle.std.proofs.lemmas.List.{take_all}
-use Rattle.data_encoding.specs.Base.{ignores_some}
-use Rattle.data_encoding.proofs.decoding.GatherLemmas.{gathered-plain}
-use Rattle.data_encoding.proofs.digits.SizeLemmas.{IsSmall-group}
+use Rattle.data_encoding_meaning.specs.Base.{ignores_some}
+use Rattle.data_encoding_meaning.proofs.decoding.GatherLemmas.{gathered-plain}
+use Rattle.data_encoding_meaning.proofs.digits.SizeLemmas.{IsSmall-group}
 use Rattle.data_encoding.proofs.tables.TableLemmas.{HoldsValues-seen}
 use Rattle.data_encoding.proofs.encoding.EncodingRef.next_group.Goals as goal
 use Rattle.data_encoding.proofs.encoding.EncodingRef.next_group.Goals.{then-rest-count, else-rest-count}

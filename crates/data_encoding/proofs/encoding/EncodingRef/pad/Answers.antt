@@ -1,12 +1,13 @@
 use Rattle.std.proofs.Common.{◌-◌, ◌*◌, ◌++◌, is_some, length, sym, ap, ◌∙◌, arith, append-nil}
 use Rattle.std.proofs.lemmas.List.{drop_all}
-use Rattle.data_encoding.specs.Base.{is_padded}
-use Rattle.data_encoding.specs.Text.{plain_text}
-use Rattle.data_encoding.proofs.lists.PartLemmas.{length-rest}
-use Rattle.data_encoding.proofs.lists.RunLemmas.{run_count}
+use Rattle.data_encoding_meaning.specs.Base.{is_padded}
+use Rattle.data_encoding_meaning.specs.Text.{plain_text}
+use Rattle.data_encoding_meaning.proofs.lists.PartLemmas.{length-rest}
+use Rattle.data_encoding_meaning.proofs.lists.RunLemmas.{run_count}
 use Rattle.data_encoding.proofs.tables.TableLemmas.{IsWidth-seen}
-use Rattle.data_encoding.proofs.lists.WriteLemmas.{length-put_mid}
-use Rattle.data_encoding.proofs.text.PaddedTextLemmas.{count-inside, length-unpadded, padded_text-unpadded, padding-written}
+use Rattle.data_encoding_meaning.proofs.lists.WriteLemmas.{length-put_mid}
+use Rattle.data_encoding.proofs.text.PadLemmas.{count-inside, padding-written}
+use Rattle.data_encoding_meaning.proofs.text.PaddedTextLemmas.{length-unpadded, padded_text-unpadded}
 use Rattle.data_encoding.proofs.encoding.EncodingRef.pad.Goals as goal
 
 pub returns-in_default-clause-count : goal.returns-in_default-clause-count

@@ -2,7 +2,7 @@ use Rattle.std.proofs.Common.{Err, arith}
 use Rattle.std.proofs.lemmas.Result.{err_from_is_err_and}
 use Rattle.data_encoding.specs.Specification.{fields_of_parts}
 use Rattle.data_encoding.proofs.judgement.BuilderLemmas.{after-ignored, after-padding, after-symbols, after-translation, after-wrapping}
-use Rattle.data_encoding.proofs.digits.WidthLemmas.{symbols-few}
+use Rattle.data_encoding_meaning.proofs.digits.WidthLemmas.{symbols-few}
 use Rattle.data_encoding.proofs.specification.builder.judge.Goals as goal
 
 pub define_symbols-requires : goal.define_symbols-requires

@@ -5,8 +5,8 @@ use Rattle.std.proofs.lemmas.List.{take_all}
 use Rattle.std.proofs.lemmas.List.Edits.{take-paste}
 use Rattle.std.specs.List.{concat}
 use lib.Seq.{paste}
-use Rattle.data_encoding.proofs.digits.WidthLemmas.{times_doubled}
-use Rattle.data_encoding.proofs.lists.RepeatLemmas.{repeats-add}
+use Rattle.data_encoding_meaning.proofs.digits.WidthLemmas.{times_doubled}
+use Rattle.data_encoding_meaning.proofs.lists.RepeatLemmas.{repeats-add}
 use Rattle.data_encoding.proofs.specification.builder.repeated.Goals as goal
 
 pub loop-preserved : goal.loop-preserved

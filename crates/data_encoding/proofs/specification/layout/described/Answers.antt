@@ -1,11 +1,12 @@
 use Rattle.std.proofs.Common.{◌≡◌, ◌/◌, ◌%◌, ◌^◌, ◌==◌, drop, get_or, take, Ok, refl, sym, ap, ◌∙◌, subst, arith}
 use Rattle.data_encoding.specs.declared.specification.tables.Tables.{Tables}
-use Rattle.data_encoding.specs.Base.{Base, IsWidth}
-use Rattle.data_encoding.specs.Fields.{Fields, base_of}
-use Rattle.data_encoding.specs.Layout.{fields_of}
-use Rattle.data_encoding.proofs.judgement.RoundTripLemmas.{specification-again}
-use Rattle.data_encoding.proofs.judgement.RuleLemmas.{IsRuled-yield}
-use Rattle.data_encoding.proofs.tables.ReadingLemmas.{IsReadAs, built-is, built-specified, has_tables, read-layout}
+use Rattle.data_encoding_meaning.specs.Base.{Base, IsWidth}
+use Rattle.data_encoding_meaning.specs.Fields.{Fields, base_of}
+use Rattle.data_encoding_meaning.specs.Layout.{fields_of}
+use Rattle.data_encoding_meaning.proofs.judgement.RoundTripLemmas.{specification-again}
+use Rattle.data_encoding_meaning.proofs.judgement.RuleLemmas.{IsRuled-yield}
+use Rattle.data_encoding_meaning.proofs.tables.ReadingLemmas.{IsReadAs, built-is, built-specified, read-layout}
+use Rattle.data_encoding.proofs.tables.ReadTableLemmas.{has_tables}
 use Rattle.data_encoding.proofs.specification.layout.described.Goals as goal
 use Rattle.data_encoding.proofs.specification.layout.described.Goals.{then-width-eq0-via-then-width-eq0, then-width-eq0-via-else-width-eq0+then-width-gt6}
 

@@ -1,4 +1,4 @@
-use Rattle.data_encoding.proofs.text.WrittenLemmas.{formatted-all, of_ok}
+use Rattle.data_encoding_meaning.proofs.text.WrittenLemmas.{formatted-all, of_ok}
 use Rattle.data_encoding.proofs.encode.display.DisplayDisplay.fmt.Goals as goal
 
 pub returns-clause-writes : goal.returns-clause-writes

@@ -1,5 +1,5 @@
 use Rattle.std.proofs.Common.{arith}
-use Rattle.data_encoding.proofs.tables.EntryLemmas.{defined-same, defined-other, defined-free, HoldsEntries-set}
+use Rattle.data_encoding_meaning.proofs.tables.EntryLemmas.{defined-same, defined-other, defined-free, HoldsEntries-set}
 use Rattle.data_encoding.proofs.specification.meanings.Meanings.define.Goals as goal
 
 pub returns-then-had-entry-clause-defined : goal.returns-then-had-entry-clause-defined

@@ -1,5 +1,5 @@
 use Rattle.std.proofs.Common.{arith}
-use Rattle.data_encoding.proofs.tables.EntryLemmas.{meaning-any, is_entry-any}
+use Rattle.data_encoding_meaning.proofs.tables.EntryLemmas.{meaning-any, is_entry-any}
 use Rattle.data_encoding.proofs.specification.meanings.Meanings.entry.Goals as goal
 
 pub returns-clause-meaning : goal.returns-clause-meaning

@@ -1,5 +1,5 @@
 use Rattle.std.proofs.Common.{take, ◌∙◌}
-use Rattle.data_encoding.proofs.tables.LayoutLemmas.{any-ignored}
+use Rattle.data_encoding_meaning.proofs.tables.LayoutLemmas.{any-ignored}
 use Rattle.data_encoding.proofs.specification.meanings.Meanings.ignores_some.Goals as goal
 
 pub returns : goal.returns

@@ -1,8 +1,8 @@
 use Rattle.std.proofs.Common.{◌≡◌, ◌≤◌, length, map}
-use Rattle.data_encoding.specs.Base.{Base}
-use Rattle.data_encoding.specs.Layout.{own_byte}
+use Rattle.data_encoding_meaning.specs.Base.{Base}
+use Rattle.data_encoding_meaning.specs.Layout.{own_byte}
 use Rattle.data_encoding.specs.Tables.{HasTables}
-use Rattle.data_encoding.proofs.judgement.TranslationLemmas.{translated_below}
+use Rattle.data_encoding_meaning.proofs.judgement.TranslationLemmas.{translated_below}
 use Rattle.data_encoding.proofs.specification.tables.Tables.translations.Given as goal
 
 abbrev pub invariant-loop-byte : goal.invariant-loop-byte

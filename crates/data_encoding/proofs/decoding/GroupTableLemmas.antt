@@ -1,0 +1,126 @@
+-- What the judgement of a group finds by a table: its symbols, or its fault, or its bytes.
+use Rattle.std.proofs.Common.{◌≡◌, ℕ, ◌-◌, ◌*◌, ◌/◌, ◌%◌, ◌<◌, ◌≤◌, ◌==◌, ◌≢◌, nat_lt, Bool, true, false, not, ◌&&◌, ◌||◌, List, [], ◌∷◌, ◌++◌, length, map, take, drop, replicate, slice_index, None, refl, sym, ap, ◌∙◌, arith, length-take-le, take-append-drop}
+use Rattle.std.proofs.lemmas.Bool.Decides.{nat_tests}
+use Rattle.std.proofs.lemmas.List.{drop_all, length-drop, length-map, take-map, take_at}
+use Rattle.std.proofs.lemmas.List.Folds.{list_any-append}
+use Rattle.std.specs.List.{filter_map, list_any, position}
+use Rattle.data_encoding_meaning.specs.declared.encoding.Character.{Character}
+use Rattle.data_encoding_meaning.specs.declared.encoding.Character.TheVariants.{Padding as PaddingCharacter}
+use Rattle.data_encoding_meaning.specs.declared.error.DecodeKind.TheVariants.{Symbol as SymbolFault, Trailing as TrailingFault}
+use Rattle.data_encoding_meaning.specs.Base.{Base, meaning, is_padded, is_padding, is_symbol, value_of}
+use Rattle.data_encoding_meaning.specs.Decoding.{HasFault, HasSymbols, IsDecodedGroup}
+use Rattle.data_encoding_meaning.specs.Fault.{count_before_padding, group_fault, symbol_bytes, trailing_bits, trailing_fault}
+use Rattle.data_encoding_kernel.specs.Tables.{HoldsValues}
+use Rattle.data_encoding_meaning.proofs.lists.EndLemmas.{AllSo, count_before_end-at, count_before_end-map, end-passes}
+use Rattle.data_encoding_meaning.proofs.lists.ListLemmas.{list_any-none}
+use Rattle.data_encoding_meaning.proofs.grammar.GroupLemmas.{all_padding, any_padding, bytes_before_padding, symbols_alone}
+use Rattle.data_encoding_meaning.proofs.grammar.UnpaddedGroupLemmas.{are_symbols}
+use Rattle.data_encoding.proofs.decoding.TrailingBitLemmas.{no_symbol-none, no_symbol-some}
+use Rattle.data_encoding_meaning.proofs.decoding.GroupJudgementLemmas.{HasFault-own, part_bytes}
+
+-- where the padding of a group begins, by its table
+pub count-before : (base : Base) (values : List ℕ) → HoldsValues base values → (group : List ℕ)
+    → ((k : ℕ) → slice_index group k < 256) → (count : ℕ) → count ≤ length group
+    → ((k : ℕ) → count ≤ k → k < length group
+    → slice_index values (slice_index group k) ≡ 130)
+    → (0 < count → slice_index values (slice_index group (count - 1)) ≢ 130)
+    → count ≡ count_before_padding (map (meaning base) group)
+count-before base values holds group are_bytes count within all stops =
+    let pads : ℕ → Bool = λ byte. is_padding (meaning base byte) in
+    let at : (k : ℕ) → pads (slice_index group k)
+    ≡ (slice_index values (slice_index group k) == 130) =
+    λ k. holds.paddings (slice_index group k) (are_bytes k) in
+    sym (count_before_end-map is_padding (meaning base) group
+    ∙ count_before_end-at pads group 0 count within
+    (λ k from inside. at k ∙ rw (all k from inside))
+    (λ some. let other = stops some in at (count - 1) ∙ grind (arith, nat_tests)))
+
+-- A group with this many symbols, as a table says.
+module _ (base : Base) (values : List ℕ) (holds : HoldsValues base values) (group : List ℕ)
+    (are_bytes : (k : ℕ) → slice_index group k < 256) (count : ℕ)
+    (has : HasSymbols base group count) where
+  abbrev symbols : List ℕ
+  symbols = take count group
+
+  abbrev judged : List Character
+  judged = map (meaning base) symbols
+
+  few : length symbols ≡ count
+  few = length-take-le count group has.within
+
+  -- the first that is no symbol is the fault
+  pub symbol-fault : (index : ℕ) → index < length symbols
+      → ((k : ℕ) → k < index → slice_index values (slice_index symbols k) < 128)
+      → 128 ≤ slice_index values (slice_index symbols index)
+      → HasFault base false group (record { index = index; kind = SymbolFault })
+  symbol-fault index inside before there =
+      HasFault-own (omega (arith, inside, few, has.within))
+      (has.fault_is ∙ rw (no_symbol-some base values holds symbols index (record {
+        are_bytes = part_bytes group are_bytes count;
+        before = before;
+        inside = omega (arith, inside);
+        there = λ _. there;
+      }) inside))
+
+  module _ (low : (k : ℕ) → k < length symbols
+      → slice_index values (slice_index symbols k) < 128) where
+    no_symbol : position (λ m. not (is_symbol m)) judged ≡ None
+    no_symbol =
+        no_symbol-none base values holds symbols (record {
+          are_bytes = part_bytes group are_bytes count;
+          before = low;
+          inside = omega arith;
+          there = λ h. absurd (omega (arith, h));
+        })
+
+    fault-symbols : group_fault base group ≡ trailing_fault base judged
+    fault-symbols = has.fault_is ∙ rw no_symbol
+
+    -- or else the bits that are left over
+    pub trailing-fault : base.checks_trailing_bits ≡ true
+        → list_any (λ bit. not (bit == 0)) (trailing_bits base judged) ≡ true
+        → 0 < length symbols
+        → HasFault base false group (record { index = count - 1; kind = TrailingFault })
+    trailing-fault checks some begun =
+        HasFault-own (omega (arith, begun, few, has.within))
+        (fault-symbols ∙ rw (checks, some, length-map symbols (meaning base), few))
+
+    abbrev all : List Character
+    all = map (meaning base) group
+
+    rest_pads : AllSo is_padding (drop count all)
+    rest_pads = by (is_padded base) refl where
+      by : (b : Bool) → is_padded base ≡ b → AllSo is_padding (drop count all)
+      by true is = rw (has.count_is, is) (end-passes is_padding all)
+      by false is =
+          let few : length all ≤ length group = omega (arith, length-map group (meaning base)) in
+          rw (has.count_is, is, drop_all (length group) all few) tt
+
+    behind : all ≡ judged ++ replicate (length (drop count all)) PaddingCharacter
+    behind =
+        sym (take-append-drop count all)
+        ∙ (λ i. take-map (meaning base) count group i ++ all_padding (drop count all) rest_pads i)
+
+    has_padding : list_any is_padding all ≡ nat_lt count (length group)
+    has_padding =
+        let padding = length (drop count all) in
+        let none : list_any is_padding judged ≡ false = rw (are_symbols judged no_symbol)
+        (list_any-none is_padding _ (symbols_alone (filter_map value_of judged))) in
+        let some : nat_lt 0 (length group - count) ≡ nat_lt count (length group) =
+        grind (arith, nat_tests) in
+        ap (list_any is_padding) behind
+        ∙ rw (list_any-append, none, any_padding padding, length-drop, length-map, some)
+
+    -- and where there are none, the group is sound
+    pub group-sound : (base.checks_trailing_bits
+        && list_any (λ bit. not (bit == 0)) (trailing_bits base judged)) ≡ false
+        → (new rest : List ℕ) → length new ≡ base.width * count / 8
+        → new ≡ symbol_bytes base judged
+        → IsDecodedGroup base group count (new ++ rest)
+    group-sound quiet new rest len bytes = record {
+      within = has.within;
+      sound = fault-symbols ∙ rw quiet;
+      final = has_padding;
+      bytes = rw (take_at new rest (base.width * count / 8) len, bytes, behind)
+          (sym (bytes_before_padding base judged (length (drop count all))));
+    }

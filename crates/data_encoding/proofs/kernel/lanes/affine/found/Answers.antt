@@ -1,7 +1,0 @@
-use Rattle.data_encoding.proofs.digits.AffineLemmas.{found-are}
-use Rattle.data_encoding.proofs.kernel.lanes.affine.found.Goals as goal
-
-pub returns : goal.returns
-returns g c =
-    found-are c.args.affine.now g.row.N c.args.bytes c.args.symbols c.args.bits c.args.deltas
-    c.fits-bytes.0 c.requires.symbols c.requires.bits c.requires.deltas

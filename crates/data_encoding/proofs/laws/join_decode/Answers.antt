@@ -1,7 +1,0 @@
-use Rattle.data_encoding.proofs.grammar.JoinLemmas.{Means-join}
-use Rattle.data_encoding.proofs.judgement.RuleLemmas.{IsRuled-yield}
-use Rattle.data_encoding.proofs.laws.join_decode.Goals as goal
-
-pub returns : goal.returns
-returns c = λ base is.
-    Means-join base (IsRuled-yield is.fields base is.yields)

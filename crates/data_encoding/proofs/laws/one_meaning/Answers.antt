@@ -1,9 +1,0 @@
-use Rattle.std.proofs.Common.{sym, ◌∙◌}
-use Rattle.data_encoding.proofs.grammar.MeaningLemmas.{sound_bytes-Means}
-use Rattle.data_encoding.proofs.judgement.RuleLemmas.{IsRuled-yield}
-use Rattle.data_encoding.proofs.laws.one_meaning.Goals as goal
-
-pub returns : goal.returns
-returns c = λ base is text one other h k.
-    let width = (IsRuled-yield is.fields base is.yields).is_width in
-    sym (sound_bytes-Means base width text one h) ∙ sound_bytes-Means base width text other k

@@ -1,0 +1,60 @@
+-- Worked rows of encoders, and of what is shown.
+use mathlib.Core.Option as maybe
+use Rattle.std.proofs.Common.{◌≡◌, ℕ, ◌<◌, List, [], ◌∷◌, ◌++◌, length, codes, Ok, Err, refl, ap, lit<, sym, subst, ◌∙◌}
+use Rattle.data_encoding_meaning.specs.Base.{Base}
+use Rattle.data_encoding_meaning.specs.Predefined.{base64_fields}
+use Rattle.data_encoding_meaning.specs.Text.{text_of}
+use Rattle.data_encoding.specs.declared.encode.encoder.Encoder.{Encoder}
+use Rattle.data_encoding_meaning.specs.Fragments.{HasEncoded}
+use Rattle.data_encoding.specs.Encoder.{base_of_encoder, output_name, written, held, HasTaken, IsUnchanged, name_handed_back}
+use Rattle.data_encoding.specs.declared.encode.display.Display.{Display}
+use Rattle.data_encoding.specs.Shown.{shown_data, shown_text}
+use Rattle.data_encoding_meaning.proofs.vectors.Examples.{encoded, bytes, Has}
+
+-- an encoder that was handed `hello`
+encoder_so_far :
+    Has base64_fields (λ base. (encoder : Encoder) → base_of_encoder encoder ≡ base
+    → written encoder ≡ codes "aGVs" → held encoder ≡ codes "lo"
+    → HasTaken encoder [] (codes "hello"))
+encoder_so_far = λ encoder is is_written is_held.
+    subst (λ base. HasEncoded base [] (codes "hello") (written encoder) (held encoder)) (sym is)
+    (record {
+      encoded = codes "hel";
+      are_bytes = ap (λ lo. codes "hel" ++ lo) (sym is_held);
+      is_aligned = refl;
+      is_short = subst (λ lo. length lo < 3) (sym is_held) (lit< tt);
+      is_written = is_written;
+    })
+
+-- an encoder is as it was, and names the text that it appends to where it is handed back
+encoder_handed_back : (encoder : Encoder) → IsUnchanged encoder encoder
+    × (name_handed_back (Err encoder) ≡ maybe.some (output_name encoder))
+    × (name_handed_back (Ok _) ≡ maybe.none)
+encoder_handed_back encoder =
+    (record { written = refl; held = refl; base = refl; output = refl }, refl, refl)
+
+-- one that is unchanged has taken the same bytes, and appends to the same text
+encoder_unchanged : (old new : Encoder) → IsUnchanged old new → ((before bytes : List ℕ)
+    → HasTaken old before bytes → HasTaken new before bytes)
+    × (output_name new ≡ output_name old)
+encoder_unchanged old new same = (
+  λ before bytes has.
+      subst (λ base. HasEncoded base before bytes (written new) (held new)) (sym same.base)
+      (subst (λ text. HasEncoded (base_of_encoder old) before bytes text (held new))
+      (sym same.written)
+      (subst (λ rest. HasEncoded (base_of_encoder old) before bytes (written old) rest)
+      (sym same.held) has)),
+  same.output,
+)
+
+shown_of : (base : Base) (bytes text : List ℕ) → text_of base bytes ≡ text
+    → (shown : Display) → shown.encoding.now ≡ base → shown_data shown ≡ bytes
+    → shown_text shown ≡ text
+shown_of base bytes text h shown is input_is =
+    ap (λ b. text_of b (shown_data shown)) is ∙ ap (λ input. text_of base input) input_is ∙ h
+
+-- what a `Display` of `Hello world` shows
+text_shown :
+    Has base64_fields (λ base. (shown : Display) → shown.encoding.now ≡ base
+    → shown_data shown ≡ codes "Hello world" → shown_text shown ≡ codes "SGVsbG8gd29ybGQ=")
+text_shown = shown_of _ _ _ refl

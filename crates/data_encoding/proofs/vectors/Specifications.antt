@@ -1,0 +1,30 @@
+-- Worked rows of specifications.
+use Rattle.std.proofs.Common.{◌≡◌, ◌*◌, [], ◌∷◌, ◌++◌, codes, refl}
+use Rattle.data_encoding_meaning.specs.declared.refusal.Refusal.TheVariants.{WrapWidth}
+use Rattle.data_encoding_meaning.specs.Predefined.{unpadded_fields}
+use Rattle.data_encoding.specs.Specification.{no_fields, specified, refusal_of, fields_of_parts, SameTranslate, SameWrap}
+use Rattle.std.specs.String.{string_bytes}
+use Rattle.data_encoding.specs.declared.specification.Specification.{Specification}
+use Rattle.data_encoding.specs.declared.specification.parts.SpecificationParts.{SpecificationParts}
+use Rattle.data_encoding.specs.declared.specification.Translate.{Translate as TranslateTexts}
+use Rattle.data_encoding.specs.declared.specification.Wrap.{Wrap}
+
+no_fields_said : no_fields ≡ unpadded_fields []
+no_fields_said = refl
+
+-- what a specification says whose texts are these, and its copy
+specification_said : (s : Specification) → string_bytes s.symbols ≡ codes "01"
+    → s.wrap.width ≡ 8 → string_bytes s.wrap.separator ≡ 10 ∷ []
+    → ((specified s).symbols ≡ codes "01") × ((specified s).column ≡ 8)
+    × ((specified s).separator ≡ 10 ∷ [])
+specification_said s symbols column separator = (symbols, column, separator)
+
+copies_same : (t : TranslateTexts) (w : Wrap) → SameTranslate t t × SameWrap w w
+copies_same t w = (record { from = refl; to = refl }, record { width = refl; separator = refl })
+
+parts_said : (p : SpecificationParts) → p.symbols.now ≡ codes "01" → p.wrap_width ≡ 8
+    → ((fields_of_parts p).symbols ≡ codes "01") × ((fields_of_parts p).column ≡ 8)
+parts_said p symbols column = (symbols, column)
+
+refusal_told : refusal_of (record { refusal = WrapWidth 4 }) ≡ WrapWidth 4
+refusal_told = refl

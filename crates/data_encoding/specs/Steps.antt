@@ -1,0 +1,40 @@
+-- How a step leaves a text, and how the steps end.
+use Rattle.std.specs.Prelude.{◌≡◌, ℕ, ◌+◌, ◌-◌, ◌*◌, ◌/◌, ◌%◌, ◌<◌, ◌≤◌, ◌⊎◌, Bool, true, false, List, [], ◌∷◌, length, take, drop, if◌then◌else◌}
+use Rattle.data_encoding_meaning.specs.declared.error.DecodePartial.{DecodePartial}
+use Rattle.data_encoding.specs.declared.decode.Stop.{Stop}
+use Rattle.data_encoding.specs.declared.decode.steps.Step.{Step}
+use Rattle.data_encoding.specs.declared.decode.steps.Step.TheVariants.{More, Ended, Faulty}
+use Rattle.data_encoding_meaning.specs.declared.error.GroupFault.{GroupFault}
+use Rattle.data_encoding_meaning.specs.Base.{Base}
+use Rattle.data_encoding_meaning.specs.Grammar.{kept}
+use Rattle.data_encoding_meaning.specs.Partial.{StopsAt, is_length_fault}
+use Rattle.data_encoding_meaning.specs.Decoding.{HasDecodedTo, HasRoom, IsDecoded, IsStop}
+
+abbrev pub fault_of_stop : Stop → GroupFault
+fault_of_stop stop = record { index = stop.index; kind = stop.kind }
+
+-- A decoding stopped before a faulty group: what is reported of that group says how the decoding of
+-- the text stopped.
+pub record HasStopped (base : Base) (text output : List ℕ) (stop : Stop) : Type 0 where
+  pub within : stop.read ≤ length text
+  pub fits : stop.written ≤ length output
+  pub inside : stop.index < length (kept base (drop stop.read text))
+  pub room : is_length_fault stop.kind ≡ true
+      → HasRoom base (drop stop.read text) (length output - stop.written)
+  pub stops : (new : List ℕ) (partial : DecodePartial) → stop.written ≤ length new
+      → take stop.written new ≡ take stop.written output
+      → IsStop base (drop stop.read text) stop.read stop.written (fault_of_stop stop)
+      new partial
+      → StopsAt base text new partial
+
+-- Where the steps over a text ended: at its end without a fault, or at a faulty group.
+abbrev pub HasEnded : Base → List ℕ → List ℕ → Stop → Bool → Type 0
+HasEnded base text output stop true = IsDecoded base text stop.written output
+HasEnded base text output stop false = HasStopped base text output stop
+
+-- How a step from a position left a text: it is further on and more is left, or the steps ended.
+abbrev pub HasStepped : Base → List ℕ → ℕ → List ℕ → Stop → Step → Type 0
+HasStepped base text read output stop More =
+    (read < stop.read) × HasDecodedTo base text stop.read stop.written false output
+HasStepped base text read output stop Ended = HasEnded base text output stop true
+HasStepped base text read output stop Faulty = HasEnded base text output stop false

@@ -1,0 +1,4 @@
+pub mod digits
+pub mod decoding
+pub mod text
+pub mod vectors

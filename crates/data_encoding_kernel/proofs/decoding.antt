@@ -1,0 +1,3 @@
+-- Runs of whole groups.
+pub mod EightGroupLemmas
+pub mod SymbolRunLemmas

@@ -1,0 +1,180 @@
+-- Runs of whole groups of symbols, one after the other.
+use Rattle.std.proofs.Common.{◌≡◌, ℕ, ◌+◌, ◌-◌, ◌*◌, ◌/◌, ◌%◌, ◌<◌, ◌≤◌, true, false, List, ◌++◌, length, take, drop, slice_index, refl, sym, ap, ◌∙◌, arith, length-take-le, ⊎_elim, map, take-add}
+use Rattle.std.proofs.Math.Nat.{add-mul, mul-mod_left, zero-mul}
+use Rattle.std.proofs.lemmas.Bool.{cases_lt}
+use Rattle.std.proofs.lemmas.List.{append-nil, get_or-take, get_or-drop, length-drop, length-take, take_all, take_at, length-map, map-append}
+use Rattle.std.proofs.lemmas.List.Concat.{flat_map-append}
+use Rattle.std.proofs.lemmas.Slice.{take-put_mid}
+use borrow.Rule.Slice.PartMut.{put_mid}
+use Rattle.data_encoding_meaning.specs.declared.encoding.Character.{Character}
+use Rattle.data_encoding_meaning.specs.Base.{Base, IsWidth, meaning, is_symbol, group_bytes, group_symbols, IsGroup}
+use Rattle.data_encoding_kernel.specs.Runs.{IsLongest, IsRun}
+use Rattle.data_encoding_meaning.specs.Decoding.{run_bytes}
+use Rattle.data_encoding_meaning.specs.Fault.{symbol_bytes}
+use Rattle.data_encoding_kernel.specs.Tables.{HoldsValues}
+use Rattle.data_encoding_meaning.proofs.digits.WidthLemmas.{group_symbols-pos}
+use Rattle.data_encoding_meaning.proofs.grammar.KeptLemmas.{between}
+use Rattle.data_encoding_meaning.proofs.lists.RunLemmas.{runs-nil, runs-join, runs-short}
+
+module _ (base : Base) (width : IsWidth base.width) where
+  abbrev byte_count : ℕ
+  byte_count = group_bytes base.width
+
+  abbrev size : ℕ
+  size = group_symbols base.width
+
+  pos : 0 < size
+  pos = group_symbols-pos base.width width
+
+  -- no group
+  pub run-none : (part old new : List ℕ) → IsRun base part 0 old new
+  run-none part old new = record {
+    within = omega (arith, zero-mul size);
+    are_symbols = λ k h. absurd (omega (arith, h, zero-mul size));
+    bytes = rw (zero-mul byte_count, zero-mul size, runs-nil {X = Character} size pos);
+  }
+
+  symbols-more : (part : List ℕ) (i m : ℕ)
+      → ((k : ℕ) → k < i * size → is_symbol (meaning base (slice_index part k)) ≡ true)
+      → ((k : ℕ) → k < m * size
+      → is_symbol (meaning base (slice_index (take (m * size) (drop (i * size) part)) k)) ≡ true)
+      → (k : ℕ) → k < (i + m) * size → is_symbol (meaning base (slice_index part k)) ≡ true
+  symbols-more part i m first second k h =
+      ⊎_elim {C = is_symbol (meaning base (slice_index part k)) ≡ true}
+      (λ (less : k < i * size). first k less)
+      (λ (past : i * size ≤ k).
+      let j = k - i * size in
+      let below : j < m * size = omega (arith, h, past, add-mul i m size) in
+      let back : k ≡ i * size + j = omega (arith, past) in
+      let there = get_or-take (m * size) (drop (i * size) part) j 0 below in
+      rw (back, ← get_or-drop (i * size) part j 0, ← there) (second j below))
+      (cases_lt k (i * size))
+
+  bytes-more : (part : List ℕ) (i m : ℕ) → (i + m) * size ≤ length part
+      → run_bytes base (take (i * size) part)
+      ++ run_bytes base (take (m * size) (take (m * size) (drop (i * size) part)))
+      ≡ run_bytes base (take ((i + m) * size) part)
+  bytes-more part i m within =
+      let front = take (i * size) part in
+      let back = take (m * size) (drop (i * size) part) in
+      let sum : (i + m) * size ≡ i * size + m * size = add-mul i m size in
+      let front_len : length front ≡ i * size =
+      length-take-le (i * size) part (omega (arith, within, sum)) in
+      let whole : length (map (meaning base) front) % size ≡ 0 =
+      rw (length-map, front_len) (mul-mod_left i size) in
+      let few : length back ≤ m * size =
+      omega (arith, length-take (m * size) (drop (i * size) part)) in
+      rw (sum, take-add (i * size) (m * size) part, take_all (m * size) back few, map-append)
+      (rw (runs-join size (map (meaning base) front) _ pos whole, flat_map-append))
+
+  one : (group old piece : List ℕ) → length group ≡ size
+      → ((k : ℕ) → k < length group → is_symbol (meaning base (slice_index group k)) ≡ true)
+      → length piece ≡ byte_count → piece ≡ symbol_bytes base (map (meaning base) group)
+      → IsRun base group 1 old piece
+  one group old piece len symbols piece_len is =
+      let ms = map (meaning base) group in
+      let ms_len : length ms ≡ size = length-map group (meaning base) ∙ len in
+      let all = take_all (1 * byte_count) piece (omega (arith, piece_len)) in
+      let short = runs-short size ms (omega (arith, ms_len, pos)) (omega (arith, ms_len)) in
+      record {
+        within = omega (arith, len);
+        are_symbols = λ k h. symbols k (omega (arith, h, len));
+        bytes = rw (all, take_all (1 * size) group (omega (arith, len)), short, append-nil _) is;
+      }
+
+-- the same, with the sizes of a group as they are called elsewhere
+module _ (base : Base) (width : IsWidth base.width) (w bytes symbols : ℕ)
+    (group : IsGroup w bytes symbols) (is : base.width ≡ w) where
+  same_bytes : group_bytes base.width ≡ bytes
+  same_bytes = ap group_bytes is ∙ sym group.has_bytes
+
+  same_symbols : group_symbols base.width ≡ symbols
+  same_symbols = ap group_symbols is ∙ sym group.has_symbols
+
+  -- what is written behind a run leaves it
+  pub run-kept : (part old output piece : List ℕ) (i k : ℕ) → i * bytes ≤ length output
+      → IsRun base part i old output → IsRun base part i old (put_mid (i * bytes) k output piece)
+  run-kept part old output piece i k =
+      rw (← same_bytes) (λ fits run. record {
+        within = run.within;
+        are_symbols = run.are_symbols;
+        bytes = let place = i * group_bytes base.width in
+            take_at (take place output) (piece ++ drop k (drop place output)) place
+            (length-take-le place output fits) ∙ run.bytes;
+      })
+
+  -- a run of the next groups, which stand between two positions, behind a run
+  pub run-next : (part old output before piece : List ℕ) (i m next k stop : ℕ) → next ≡ i + m
+      → stop ≡ i * symbols + m * symbols → stop ≤ length part → i * bytes ≤ length output
+      → length piece ≡ m * bytes → IsRun base part i old output
+      → IsRun base (between (i * symbols) stop part) m before piece
+      → IsRun base part next old (put_mid (i * bytes) k output piece)
+  run-next part old output before piece i m next k stop =
+      rw (← same_bytes, ← same_symbols) (λ next_is stop_is within fits len first second.
+      let count = group_bytes base.width in
+      let size = group_symbols base.width in
+      let sum : (i + m) * count ≡ i * count + length piece =
+      add-mul i m count ∙ ap (λ n. i * count + n) (sym len) in
+      let part_len : stop - i * size ≡ m * size = omega (arith, stop_is) in
+      let others = rw part_len at second in
+      let whole : (i + m) * size ≤ length part = omega (arith, add-mul i m size, stop_is, within) in
+      let written = take-put_mid (i * count) k output piece (i * count + length piece) refl fits in
+      rw next_is (record {
+        within = whole;
+        are_symbols = symbols-more base width part i m first.are_symbols others.are_symbols;
+        bytes = rw (sum, written)
+            ((λ j. first.bytes j
+            ++ (sym (take_all (m * count) piece (omega (arith, len))) ∙ others.bytes) j)
+            ∙ bytes-more base width part i m whole);
+      }))
+
+  -- a group of symbols behind a run
+  pub group-next : (values part old output piece : List ℕ) (i k stop : ℕ)
+      → stop ≡ i * symbols + symbols → stop ≤ length part → i * bytes ≤ length output
+      → length piece ≡ bytes → HoldsValues base values → IsRun base part i old output
+      → ((j : ℕ) → slice_index part j < 256)
+      → ((j : ℕ) → j < length (between (i * symbols) stop part)
+      → slice_index values (slice_index (between (i * symbols) stop part) j) < 128)
+      → piece ≡ symbol_bytes base (map (meaning base) (between (i * symbols) stop part))
+      → IsRun base part (i + 1) old (put_mid (i * bytes) k output piece)
+  group-next values part old output piece i k stop stop_is within fits len holds first bytes_fit
+      entries is_bytes =
+      let sub = between (i * symbols) stop part in
+      let size : stop - i * symbols ≡ symbols = omega (arith, stop_is) in
+      let sub_len : length sub ≡ symbols =
+      length-take-le (stop - i * symbols) (drop (i * symbols) part)
+      (omega (arith, length-drop (i * symbols) part, within)) ∙ size in
+      run-next part old output piece piece i 1 (i + 1) k stop refl (stop_is ∙ omega arith) within
+      fits (omega (arith, len)) first
+      (one base width sub piece piece (sub_len ∙ sym same_symbols)
+      (λ j h.
+      let here = get_or-take (stop - i * symbols) (drop (i * symbols) part) j 0
+      (omega (arith, h, sub_len, size)) in
+      ap is_symbol (holds.symbols (slice_index sub j)
+      (rw (here, get_or-drop (i * symbols) part j 0) (bytes_fit (i * symbols + j)))
+      (entries j h)))
+      (len ∙ sym same_bytes) is_bytes)
+
+  -- a group that is not one of symbols alone ends the longest run
+  pub run-longest : (values part : List ℕ) (i stop : ℕ) → stop ≡ i * symbols + symbols
+      → HoldsValues base values → ((j : ℕ) → slice_index part j < 256)
+      → (((j : ℕ) → j < length (between (i * symbols) stop part)
+      → slice_index values (slice_index (between (i * symbols) stop part) j) < 128)
+      → false ≡ true)
+      → IsLongest base part i
+  run-longest values part i stop stop_is holds bytes_fit stopped = λ before all.
+      stopped
+      (λ j h.
+      let few = length-take (stop - i * symbols) (drop (i * symbols) part) in
+      let inside : j < symbols = omega (arith, h, few, stop_is) in
+      let byte = slice_index part (i * symbols + j) in
+      let is : is_symbol (meaning base byte) ≡ true = (rw same_symbols at all) j inside in
+      let other = holds.others byte (bytes_fit (i * symbols + j)) in
+      let here = get_or-take (stop - i * symbols) (drop (i * symbols) part) j 0
+      (omega (arith, inside, stop_is)) in
+      rw (here, get_or-drop (i * symbols) part j 0) (grind (arith, is, other)))
+
+  -- so does the last whole group
+  pub run-all : (part : List ℕ) → IsLongest base part (length part / symbols)
+  run-all part = λ before all.
+      absurd (omega (arith, before, ap (λ d. length part / d) same_symbols))

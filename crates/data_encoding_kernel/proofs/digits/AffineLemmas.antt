@@ -1,0 +1,205 @@
+-- Entries of a table that is affine by rows of sixteen, at bytes in lanes.
+use Rattle.std.proofs.Common.{◌≡◌, ℕ, ◌+◌, ◌-◌, ◌*◌, ◌/◌, ◌%◌, ◌^◌, ◌<◌, ◌≤◌, cond, eqb, List, [], ◌∷◌, length, map, take, drop, get_or, slice_index, replicate, bit_and, w8, refl, sym, ap, ◌∙◌, subst, arith, ⊎_elim}
+use Rattle.std.proofs.lemmas.Bool.{cases_lt}
+use Rattle.std.proofs.lemmas.Bool.Decides.{nat_tests}
+use Rattle.std.proofs.lemmas.Nat.{and_le_r}
+use Rattle.std.proofs.lemmas.List.{get_or-drop, get_or-replicate, map-id, ext_get_or}
+use Rattle.std.proofs.lemmas.List.FromFn.{get_or-map-range_with_len, length-map-range_with_len}
+use Rattle.std.proofs.lemmas.Simd.{length-chunk, zip2_of_maps, zip2_splat, splat_is_map, tops_compared, map-map}
+use Rattle.std.specs.List.{AllByRecursion, range_with_len}
+use Rattle.std.specs.Simd.Lanes.{Each1, chunk, zip2, sel_l, top}
+use Rattle.data_encoding_kernel.specs.declared.lanes.affine.Affine.{Affine}
+use Rattle.data_encoding_kernel.specs.Affine.{HoldsAffine, affine_entry, affine_value, bits_of_rows, symbol_bit}
+use Rattle.data_encoding_kernel.specs.Values.{IsRow, in_row}
+use Rattle.data_encoding_kernel.proofs.digits.GatherRowLemmas.{row-of}
+use Rattle.data_encoding_kernel.proofs.digits.LaneLemmas.{selected}
+use Rattle.data_encoding_kernel.proofs.digits.WordLemmas.{map-range-same}
+use Rattle.data_encoding_meaning.proofs.lists.EachLemmas.{all-at}
+
+abbrev pub equal : ℕ → ℕ → ℕ
+equal a b = cond (eqb a b) 255 0
+
+abbrev plus : ℕ → ℕ → ℕ
+plus a b = (a + b) % 2 ^ 8
+
+-- lanes chosen by whether two others are equal
+chosen-equal : (f g h k : ℕ → ℕ) (bytes us vs : List ℕ) {xs ys : List ℕ} → xs ≡ map f bytes
+    → ys ≡ map g bytes → us ≡ map h bytes → vs ≡ map k bytes
+    → sel_l (map (top 7) (zip2 equal xs ys)) us vs
+    ≡ map (λ byte. cond (eqb (f byte) (g byte)) (h byte) (k byte)) bytes
+chosen-equal f g h k bytes us vs {xs} {ys} at_f at_g at_h at_k =
+    let tests : map (top 7) (zip2 equal xs ys) ≡ map (λ byte. eqb (f byte) (g byte)) bytes =
+    tops_compared w8 eqb xs ys ∙ zip2_of_maps eqb f g bytes at_f at_g in
+    (λ i. sel_l (tests i) (at_h i) (at_k i)) ∙ selected (λ byte. eqb (f byte) (g byte)) h k bytes
+
+abbrev at_row : List ℕ → ℕ → ℕ
+at_row row byte = in_row row 0 (byte / 16)
+
+-- a row, as what it has from its own beginning on
+own-row : (row : List ℕ) → IsRow row 0 row
+own-row row k h = ap (λ j. get_or row j 0) (omega arith)
+
+abbrev down : ℕ → ℕ → ℕ
+down a b = a / 2 ^ b
+
+at-rows : (row : List ℕ) (count : ℕ) (bytes entries : List ℕ) → length bytes ≡ count
+    → entries ≡ map (in_row row 0) (zip2 down bytes (replicate count 4))
+    → entries ≡ map (at_row row) bytes
+at-rows row count bytes entries long e =
+    e ∙ ap (map (in_row row 0)) (zip2_splat down bytes count 4 long)
+    ∙ map-map (in_row row 0) (λ byte. down byte 4) bytes
+
+-- what is looked up in a row
+abbrev LooksUp : List ℕ → List ℕ → List ℕ → Type 0
+LooksUp row places found =
+    (values : List ℕ) (start : ℕ) → IsRow values start row
+    → found ≡ map (in_row values start) places
+
+-- what is looked up for the entries at bytes
+pub rows-found : (affine : Affine) (count : ℕ) (bytes bits : List ℕ) {symbols found deltas : List ℕ}
+    → bits ≡ bits_of_rows → length bytes ≡ count → LooksUp affine.symbols bytes symbols
+    → LooksUp bits (zip2 down bytes (replicate count 4)) found
+    → LooksUp affine.deltas (zip2 down bytes (replicate count 4)) deltas
+    → (symbols ≡ map (in_row affine.symbols 0) bytes) × (found ≡ map (at_row bits_of_rows) bytes)
+    × (deltas ≡ map (at_row affine.deltas) bytes)
+rows-found affine count bytes bits {symbols} {found} {deltas} is long first second third = (
+  first affine.symbols 0 (own-row affine.symbols),
+  at-rows bits_of_rows count bytes found long
+      (second bits_of_rows 0 (subst (IsRow bits_of_rows 0) (sym is) (own-row bits_of_rows))),
+  at-rows affine.deltas count bytes deltas long (third affine.deltas 0 (own-row affine.deltas)),
+)
+
+pub found-are : (affine : Affine) (count : ℕ) (bytes symbols bits deltas : List ℕ)
+    → length bytes ≡ count → symbols ≡ map (in_row affine.symbols 0) bytes
+    → bits ≡ map (at_row bits_of_rows) bytes → deltas ≡ map (at_row affine.deltas) bytes
+    → sel_l (map (top 7) (zip2 equal (zip2 bit_and symbols bits) (replicate count 0)))
+    (replicate count 255)
+    (sel_l (map (top 7) (zip2 equal bytes (replicate count affine.odd)))
+    (replicate count affine.odd_value) (zip2 plus bytes deltas))
+    ≡ map (affine_entry affine) bytes
+found-are affine count bytes symbols bits deltas long at_symbols at_bits at_deltas =
+    let own : bytes ≡ map (λ (byte : ℕ). byte) bytes = sym (map-id bytes) in
+    chosen-equal (symbol_bit affine) (λ _. 0) (λ _. 255) (affine_value affine) bytes _ _
+    (zip2_of_maps bit_and (in_row affine.symbols 0) (at_row bits_of_rows) bytes at_symbols at_bits)
+    (splat_is_map bytes count 0 long) (splat_is_map bytes count 255 long)
+    (chosen-equal (λ byte. byte) (λ _. affine.odd) (λ _. affine.odd_value)
+    (λ byte. plus byte (at_row affine.deltas byte)) bytes _ _ own
+    (splat_is_map bytes count affine.odd long) (splat_is_map bytes count affine.odd_value long)
+    (zip2_of_maps plus (λ byte. byte) (at_row affine.deltas) bytes own at_deltas))
+
+-- no row from 128 on has a bit
+no-bit : (row : ℕ) → 8 ≤ row → row < 16 → get_or bits_of_rows row 0 ≡ 0
+no-bit row high low =
+    ap (λ k. get_or bits_of_rows k 0) (omega (arith, high))
+    ∙ sym (get_or-drop 8 bits_of_rows (row - 8) 0)
+    ∙ get_or-replicate 8 (row - 8) 0 0 (omega (arith, high, low))
+
+-- and a byte there is no symbol
+high-entry : (affine : Affine) (byte : ℕ) → 128 ≤ byte → byte < 256
+    → affine_entry affine byte ≡ 255
+high-entry affine byte high fits =
+    let bit : in_row bits_of_rows 0 (byte / 16) ≡ 0 =
+    ap (λ k. get_or bits_of_rows k 0) (omega arith)
+    ∙ no-bit (byte / 16 % 16) (omega (arith, high, fits)) (omega arith) in
+    let none : symbol_bit affine byte ≡ 0 =
+    ap (bit_and (in_row affine.symbols 0 byte)) bit
+    ∙ omega (arith, and_le_r (in_row affine.symbols 0 byte) 0) in
+    ap (λ n. cond (eqb n 0) 255 (affine_value affine byte)) none
+
+entry-is : (values : List ℕ) (affine : Affine) → HoldsAffine values affine → (byte : ℕ)
+    → byte < 256 → affine_entry affine byte < 128
+    → affine_entry affine byte ≡ slice_index values byte
+entry-is values affine held byte fits small =
+    held.agrees byte (⊎_elim (λ (low : byte < 128). low)
+    (λ (high : 128 ≤ byte). absurd (omega (arith, small, high-entry affine byte high fits)))
+    (cases_lt byte 128)) small
+
+pub entries-are : (values : List ℕ) (affine : Affine) → HoldsAffine values affine
+    → (bytes : List ℕ) → Each1 (λ byte. byte < 256) bytes
+    → AllByRecursion (λ entry. entry < 128) (map (affine_entry affine) bytes)
+    → map (affine_entry affine) bytes ≡ map (slice_index values) bytes
+entries-are values affine held [] fits small = refl
+entries-are values affine held (byte ∷ bytes) fits small =
+    λ i. entry-is values affine held byte fits.0 small.0 i
+    ∷ entries-are values affine held bytes fits.1 small.1 i
+
+-- the bytes of a row, as they are computed
+pub row-bytes : (row : ℕ) → row < 8
+    → map (λ k. (k + 16 * row) % 256) (range_with_len 0 16)
+    ≡ map (λ k. 16 * row + k) (range_with_len 0 16)
+row-bytes row few =
+    map-range-same (λ k. (k + 16 * row) % 256) (λ k. 16 * row + k) 16 (λ k h. omega (arith, few, h))
+
+counted-at : (f : ℕ → ℕ) (count k : ℕ) → k < count
+    → get_or (map f (range_with_len 0 count)) k 0 ≡ f k
+counted-at f count k h = get_or-map-range_with_len f 0 count k k 0 h (omega arith)
+
+-- lanes that are counted from 0
+listed : (f : ℕ → ℕ) (count : ℕ) (lanes : List ℕ) → length lanes ≡ count
+    → ((k : ℕ) → k < count → get_or lanes k 0 ≡ f k) → lanes ≡ map f (range_with_len 0 count)
+listed f count lanes long each =
+    ext_get_or 0 lanes (map f (range_with_len 0 count))
+    (long ∙ sym (length-map-range_with_len f 0 count))
+    (λ k h.
+    let inside : k < count = omega (arith, h, long) in
+    each k inside ∙ sym (counted-at f count k inside))
+
+-- a lane that passes
+same-entry : (entry own : ℕ) → entry < 128 → cond (eqb entry own) 0 (plus entry 128) < 128
+    → entry ≡ own
+same-entry entry own small passes = grind (arith, nat_tests)
+
+-- the entries of a row, as they are loaded
+abbrev entries_of : ℕ → List ℕ → List ℕ
+entries_of row values = take 16 (take (16 * row + 16 - 16 * row) (drop (16 * row) values))
+
+-- a row where no entry below 128 differs from the table's
+pub agreed : (affine : Affine) (values bytes found : List ℕ) (row : ℕ) → length values ≡ 256
+    → row < 8 → bytes ≡ map (λ k. 16 * row + k) (range_with_len 0 16)
+    → found ≡ map (affine_entry affine) bytes
+    → AllByRecursion (λ lane. lane < 128)
+    (sel_l (map (top 7) (zip2 equal found (entries_of row values))) (replicate 16 0)
+    (zip2 plus found (replicate 16 128)))
+    → (k : ℕ) → k < 16 → affine_entry affine (16 * row + k) < 128
+    → affine_entry affine (16 * row + k) ≡ slice_index values (16 * row + k)
+agreed affine values bytes found row long few are_bytes are_found passes k h small =
+    let places = range_with_len 0 16 in
+    let entry = λ (j : ℕ). affine_entry affine (16 * row + j) in
+    let own = λ (j : ℕ). slice_index values (16 * row + j) in
+    let lane = λ (j : ℕ). cond (eqb (entry j) (own j)) 0 (plus (entry j) 128) in
+    let found_are : found ≡ map entry places =
+    are_found ∙ ap (map (affine_entry affine)) are_bytes
+    ∙ map-map (affine_entry affine) (λ j. 16 * row + j) places in
+    let size : 16 * row + 16 - 16 * row ≡ 16 = omega arith in
+    let own_are : entries_of row values ≡ map own places =
+    ap (λ n. take 16 (take n (drop (16 * row) values))) size
+    ∙ listed own 16 (chunk 0 16 (chunk (16 * row) 16 values))
+    (length-chunk 0 16 (chunk (16 * row) 16 values)
+    (omega (arith, length-chunk (16 * row) 16 values (omega (arith, long, few)))))
+    (row-of (16 * row) values) in
+    let lanes_are =
+    chosen-equal entry own (λ _. 0) (λ j. plus (entry j) 128) places (replicate 16 0)
+    (zip2 plus found (replicate 16 128)) found_are own_are
+    (splat_is_map places 16 0 refl)
+    (zip2_of_maps plus entry (λ _. 128) places found_are (splat_is_map places 16 128 refl)) in
+    let inside : k < length (map lane places) =
+    omega (arith, h, length-map-range_with_len lane 0 16) in
+    same-entry (entry k) (own k) small
+    (subst (λ n. n < 128) (counted-at lane 16 k h)
+    (all-at (λ n. n < 128) (map lane places)
+    (subst (AllByRecursion (λ n. n < 128)) lanes_are passes) k inside))
+
+-- and one row more
+pub row-more : (affine : Affine) (values : List ℕ) (row : ℕ)
+    → ((byte : ℕ) → byte < 16 * row → affine_entry affine byte < 128
+    → affine_entry affine byte ≡ slice_index values byte)
+    → ((k : ℕ) → k < 16 → affine_entry affine (16 * row + k) < 128
+    → affine_entry affine (16 * row + k) ≡ slice_index values (16 * row + k))
+    → (byte : ℕ) → byte < 16 * (row + 1) → affine_entry affine byte < 128
+    → affine_entry affine byte ≡ slice_index values byte
+row-more affine values row below here byte h =
+    ⊎_elim (λ (low : byte < 16 * row). below byte low)
+    (λ (from : 16 * row ≤ byte).
+    let same : 16 * row + (byte - 16 * row) ≡ byte = omega arith in
+    rw same at (here (byte - 16 * row) (omega arith)))
+    (cases_lt byte (16 * row))

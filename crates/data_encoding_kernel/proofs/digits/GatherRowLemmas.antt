@@ -1,0 +1,201 @@
+-- Entries of a table at bytes in lanes, from rows of sixteen, and the test of them all.
+use Rattle.std.proofs.Common.{◌≡◌, ℕ, zero, suc, ◌+◌, ◌*◌, ◌/◌, ◌%◌, ◌^◌, ◌<◌, ◌≤◌, Bool, true, false, not, cond, eqb, leb, List, [], ◌∷◌, ◌++◌, length, map, take, drop, get_or, slice_index, replicate, bit_and, bit_or, w8, refl, sym, ap, ◌∙◌, subst, arith, eqb-true, leb-false, length-append}
+use Rattle.std.proofs.lemmas.Bool.{leb-true}
+use Rattle.std.proofs.lemmas.Bool.Decides.{nat_tests}
+use Rattle.std.proofs.lemmas.Nat.{and_mask, and_le_r, le_or_r}
+use Rattle.std.proofs.lemmas.Nat.Bits.{and_high}
+use Rattle.std.proofs.lemmas.List.{length-map, get_or-map, get_or-take, get_or-drop, ext_get_or, map-append, take_at}
+use Rattle.std.proofs.lemmas.Simd.{swz_l, SwzOk, SwzOk-from_below, length-swz_l, get_or-swz_l_below, zip2_splat, zip2_splat_left, tops_compared, Each1-all, Each1-zip2, Each2-splat, map-map, mask_l-mod, pick_l-range_with_len}
+use Rattle.std.specs.Bool.{IsTrue}
+use Rattle.std.specs.Int.Bits.{or_zero_r}
+use Rattle.std.specs.List.{AllByRecursion, concat, range_with_len}
+use Rattle.std.specs.Simd.Lanes.{Each1, zip2, sel_l, mask_l, pick_l, top}
+use Rattle.data_encoding_kernel.specs.Values.{IsRow, chosen_by, in_row}
+use Rattle.data_encoding_kernel.proofs.digits.LaneLemmas.{selected}
+use Rattle.data_encoding_meaning.proofs.lists.RepeatLemmas.{get_or-repeats}
+
+abbrev repeats : ℕ → List ℕ → List ℕ
+repeats times xs = concat (replicate times xs)
+
+-- no lane is at least the limit
+below-first : (limit lane rest : ℕ) → cond (leb limit lane) 1 0 + 2 * rest ≡ 0
+    → (lane < limit) × (rest ≡ 0)
+below-first limit lane rest e = grind (arith, nat_tests)
+
+below-by_mask : (limit : ℕ) (lanes : List ℕ) → mask_l (map (leb limit) lanes) ≡ 0
+    → AllByRecursion (λ lane. lane < limit) lanes
+below-by_mask limit [] e = tt
+below-by_mask limit (lane ∷ lanes) e =
+    let first = below-first limit lane (mask_l (map (leb limit) lanes)) e in
+    (first.0, below-by_mask limit lanes first.1)
+
+abbrev pub at_most : ℕ → ℕ → ℕ
+at_most a b = cond (leb a b) 255 0
+
+true-twice : (b : Bool) → IsTrue (not (not b)) → b ≡ true
+true-twice true h = refl
+true-twice false h = h
+
+pub all-below : (limit count : ℕ) (lanes : List ℕ) → length lanes ≡ count → count ≤ 64
+    → IsTrue (not (not (eqb (mask_l (map (top 7)
+    (zip2 at_most (replicate count limit) lanes)) % 18446744073709551616) 0)))
+    → AllByRecursion (λ lane. lane < limit) lanes
+all-below limit count lanes long few h =
+    let same : map (top 7) (zip2 at_most (replicate count limit) lanes) ≡ map (leb limit) lanes =
+    tops_compared w8 leb (replicate count limit) lanes ∙ zip2_splat_left leb limit count lanes long
+    in
+    let tests = map (leb limit) lanes in
+    let whole : mask_l tests % 18446744073709551616 ≡ mask_l tests =
+    mask_l-mod tests 64 (omega (arith, length-map lanes (leb limit), long, few)) in
+    below-by_mask limit lanes
+    (sym whole ∙ ap (λ l. mask_l l % 18446744073709551616) (sym same)
+    ∙ eqb-true _ 0 (true-twice _ h))
+
+-- sixteen entries, as they are loaded
+pub row-of : (start : ℕ) (values : List ℕ)
+    → IsRow values start (take 16 (take 16 (drop start values)))
+row-of start values k h =
+    get_or-take 16 (take 16 (drop start values)) k 0 h ∙ get_or-take 16 (drop start values) k 0 h
+    ∙ get_or-drop start values k 0
+
+-- the places of bytes in a row, each below sixteen
+abbrev pub places : ℕ → List ℕ → List ℕ
+places count bytes = zip2 bit_and bytes (replicate count 15)
+
+places-are : (count : ℕ) (bytes : List ℕ) → length bytes ≡ count
+    → places count bytes ≡ map (λ byte. bit_and byte 15) bytes
+places-are count bytes long = zip2_splat bit_and bytes count 15 long
+
+length-places : (count : ℕ) (bytes : List ℕ) → length bytes ≡ count
+    → length (places count bytes) ≡ count
+length-places count bytes long =
+    ap length (places-are count bytes long) ∙ length-map bytes (λ byte. bit_and byte 15) ∙ long
+
+pub places-ok : (times : ℕ) (bytes : List ℕ) → length bytes ≡ times * 16
+    → SwzOk w8 16 (times * 16) 0 (places (times * 16) bytes)
+places-ok times bytes long =
+    let count = times * 16 in
+    let below = Each1-all (λ a. bit_and a 15 < 16) (λ a. omega (arith, and_le_r a 15)) bytes in
+    SwzOk-from_below w8 16 times count 0 (places count bytes) refl
+    (omega (arith, length-places count bytes long))
+    (Each1-zip2 bit_and (λ j. j < 16) bytes (replicate count 15)
+    (Each2-splat (λ a b. bit_and a b < 16) bytes count 15 below))
+
+-- a row as often as it takes
+pub repeated-row : (times : ℕ) (row : List ℕ) → length row ≡ 16
+    → pick_l 0 (row ++ row) (repeats times (range_with_len 0 16)) ≡ repeats times row
+repeated-row zero row long = refl
+repeated-row (suc times) row long =
+    map-append (λ k. get_or (row ++ row) k 0) (range_with_len 0 16)
+    (repeats times (range_with_len 0 16))
+    ∙ (λ i. (pick_l-range_with_len 0 (row ++ row) 0 16 (omega (arith, length-append row row, long))
+    ∙ take_at row row 16 long) i ++ repeated-row times row long i)
+
+-- what a table of sixteen entries, over and over, has at bytes
+pub in_lanes : (times : ℕ) (entry : ℕ → ℕ) (table bytes : List ℕ) → length bytes ≡ times * 16
+    → ((place : ℕ) → place < times * 16 → get_or table place 0 ≡ entry (place % 16))
+    → swz_l w8 16 table 0 (places (times * 16) bytes) ≡ map (λ byte. entry (byte % 16)) bytes
+in_lanes times entry table bytes long has =
+    let count = times * 16 in
+    let js = places count bytes in
+    let shown = λ (byte : ℕ). entry (byte % 16) in
+    let len : length (swz_l w8 16 table 0 js) ≡ count =
+    length-swz_l w8 16 table 0 js ∙ length-places count bytes long in
+    ext_get_or 0 (swz_l w8 16 table 0 js) (map shown bytes)
+    (len ∙ sym (length-map bytes shown ∙ long))
+    (λ i h.
+    let within : i < length bytes = omega (arith, h, len, long) in
+    let here : get_or js i 0 ≡ get_or bytes i 0 % 16 =
+    ap (λ l. get_or l i 0) (places-are count bytes long)
+    ∙ get_or-map (λ byte. bit_and byte 15) bytes i 0 0 within
+    ∙ and_mask (get_or bytes i 0) 4 in
+    let place = 16 * ((0 + i) / 16) + get_or js i 0 in
+    get_or-swz_l_below w8 16 table 0 js i
+    (omega (arith, within, long, length-places count bytes long)) (omega (arith, here))
+    ∙ has place (omega (arith, here, within, long)) ∙ ap entry (omega (arith, here))
+    ∙ sym (get_or-map shown bytes i 0 0 within))
+
+-- what a row has at bytes
+pub looked-up : (times : ℕ) (values row bytes : List ℕ) (start : ℕ) → length row ≡ 16
+    → length bytes ≡ times * 16 → IsRow values start row
+    → swz_l w8 16 (repeats times row) 0 (places (times * 16) bytes)
+    ≡ map (in_row values start) bytes
+looked-up times values row bytes start sixteen long is_row =
+    in_lanes times (λ k. slice_index values (start + k)) (repeats times row) bytes long
+    (λ place h.
+    get_or-repeats times row place (subst (λ n. place < times * n) (sym sixteen) h)
+    ∙ ap (λ n. get_or row (place % n) 0) sixteen ∙ is_row (place % 16) (omega arith))
+
+-- the lanes where a bit is set
+abbrev pub up : ℕ → ℕ → ℕ
+up a b = a * 2 ^ b % 2 ^ 8
+
+pub chosen-lanes : (shift count : ℕ) (f g : ℕ → ℕ) (bytes : List ℕ) → length bytes ≡ count
+    → sel_l (map (top 7) (zip2 at_most (replicate count 128)
+    (zip2 up bytes (replicate count shift)))) (map f bytes) (map g bytes)
+    ≡ map (chosen_by shift f g) bytes
+chosen-lanes shift count f g bytes long =
+    let shifted = λ (byte : ℕ). up byte shift in
+    let lanes = zip2 up bytes (replicate count shift) in
+    let lanes_are : lanes ≡ map shifted bytes = zip2_splat up bytes count shift long in
+    let tests : map (top 7) (zip2 at_most (replicate count 128) lanes)
+    ≡ map (λ byte. leb 128 (shifted byte)) bytes =
+    tops_compared w8 leb (replicate count 128) lanes
+    ∙ zip2_splat_left leb 128 count lanes
+    (ap length lanes_are ∙ length-map bytes shifted ∙ long)
+    ∙ ap (map (leb 128)) lanes_are
+    ∙ map-map (leb 128) shifted bytes in
+    ap (λ l. sel_l l (map f bytes) (map g bytes)) tests
+    ∙ selected (λ byte. leb 128 (shifted byte)) f g bytes
+
+-- what is chosen of all rows
+abbrev pub of_rows : List ℕ → ℕ → ℕ
+of_rows values =
+    chosen_by 1
+    (chosen_by 2 (chosen_by 3 (in_row values 112) (in_row values 96))
+    (chosen_by 3 (in_row values 80) (in_row values 64)))
+    (chosen_by 2 (chosen_by 3 (in_row values 48) (in_row values 32))
+    (chosen_by 3 (in_row values 16) (in_row values 0)))
+
+-- what both sides give, each where the bit is as it wants
+by-bit : (byte is shift x y : ℕ) → (128 ≤ up byte shift → x ≡ is) → (up byte shift < 128 → y ≡ is)
+    → cond (leb 128 (up byte shift)) x y ≡ is
+by-bit byte is shift x y set clear = go (leb 128 (up byte shift)) refl
+  where
+    go : (b : Bool) → leb 128 (up byte shift) ≡ b → cond b x y ≡ is
+    go true e = set (leb-true 128 (up byte shift) e)
+    go false e = clear (leb-false 128 (up byte shift) e)
+
+of_rows-is : (values : List ℕ) (byte : ℕ) → byte < 128
+    → of_rows values byte ≡ slice_index values byte
+of_rows-is values byte h =
+    let by = by-bit byte (slice_index values byte) in
+    by 1 _ _
+    (λ a. by 2 _ _ (λ b. by 3 _ _ (λ c. at 112 (omega arith)) (λ c. at 96 (omega arith)))
+    (λ b. by 3 _ _ (λ c. at 80 (omega arith)) (λ c. at 64 (omega arith))))
+    (λ a. by 2 _ _ (λ b. by 3 _ _ (λ c. at 48 (omega arith)) (λ c. at 32 (omega arith)))
+    (λ b. by 3 _ _ (λ c. at 16 (omega arith)) (λ c. at 0 (omega arith))))
+  where
+    at : (start : ℕ) → start + byte % 16 ≡ byte
+        → in_row values start byte ≡ slice_index values byte
+    at start e = ap (slice_index values) e
+
+-- a byte from 128 on keeps its highest bit
+abbrev of_byte : List ℕ → ℕ → ℕ
+of_byte values byte = bit_or (of_rows values byte) (bit_and byte 128)
+
+of_byte-is : (values : List ℕ) (byte : ℕ) → byte < 256 → of_byte values byte < 128
+    → of_byte values byte ≡ slice_index values byte
+of_byte-is values byte fits h =
+    let high : bit_and byte 128 ≡ byte / 128 % 2 * 128 = and_high byte 1 7 in
+    let low : byte < 128 =
+    omega (arith, fits, h, high, le_or_r (of_rows values byte) (bit_and byte 128)) in
+    ap (bit_or (of_rows values byte)) (omega (arith, high, low)) ∙ or_zero_r (of_rows values byte)
+    ∙ of_rows-is values byte low
+
+pub of_bytes-are : (values bytes : List ℕ) → Each1 (λ byte. byte < 256) bytes
+    → AllByRecursion (λ entry. entry < 128) (map (of_byte values) bytes)
+    → map (of_byte values) bytes ≡ map (slice_index values) bytes
+of_bytes-are values [] fits h = refl
+of_bytes-are values (byte ∷ bytes) fits h =
+    λ i. of_byte-is values byte fits.0 h.0 i ∷ of_bytes-are values bytes fits.1 h.1 i

@@ -1,0 +1,137 @@
+-- The bytes of eight words.
+use Rattle.std.proofs.Common.{◌≡◌, ℕ, ◌+◌, ◌-◌, ◌*◌, ◌/◌, ◌%◌, ◌^◌, ◌<◌, ◌≤◌, List, [], ◌∷◌, ◌++◌, length, length-append, length-take-le, take, drop, map, refl, sym, ap, ◌∙◌, arith}
+use Rattle.std.proofs.lemmas.List.{append-nil, length-drop, map-id, nil_from_length, take_at}
+use Rattle.std.proofs.lemmas.Simd.{put_chunk_is, put_chunk_whole}
+use mir.Syntax.{Width}
+use mir.Val.{bits, Fits}
+use Rattle.std.specs.Prelude.{flat_map}
+use Rattle.std.specs.List.{AllByRecursion, range_with_len}
+use Rattle.std.specs.Simd.Lanes.{number_l, digits_l, pick_l, put_chunk, Each1}
+use Rattle.data_encoding_meaning.specs.declared.encoding.BitOrder.{BitOrder}
+use Rattle.data_encoding_meaning.specs.declared.encoding.BitOrder.TheVariants.{MostSignificantFirst, LeastSignificantFirst}
+use Rattle.data_encoding_kernel.specs.Lanes.{digits_of}
+use Rattle.data_encoding_kernel.specs.Words.{digit}
+use Rattle.data_encoding_kernel.proofs.digits.LaneLemmas.{by_eight, bytes-of-lanes, digits_of-below, map-same}
+use Rattle.data_encoding_kernel.proofs.digits.GatherWordLemmas.{number-of-digits}
+
+-- narrower lanes hold them
+pub narrow-enough : (w : Width) (few : ℕ) → few ≤ 2 ^ bits w → (words : List ℕ)
+    → AllByRecursion (λ word. word < few) words → Each1 (Fits w) words
+narrow-enough w few h [] all = tt
+narrow-enough w few h (word ∷ words) all =
+    (record { fits = omega (arith, h, all.0) }, narrow-enough w few h words all.1)
+
+-- two parts of the bytes of lanes, by their places
+abbrev pub picked : List ℕ → List ℕ → List ℕ → List ℕ
+picked front back bytes = pick_l 0 (bytes ++ bytes) front ++ pick_l 0 (bytes ++ bytes) back
+
+-- both parts of an output, stored one after the other
+pub stored-parts : (n m : ℕ) (output front back : List ℕ) → length front ≡ n → length back ≡ m
+    → length output ≡ n + m
+    → put_chunk n (put_chunk 0 (take n output) front ++ drop n output) back ≡ front ++ back
+stored-parts n m output front back f b long =
+    let rest = drop n output in
+    let whole = front ++ rest in
+    let first : put_chunk 0 (take n output) front ≡ front =
+    put_chunk_whole (take n output) front
+    (length-take-le n output (omega (arith, long)) ∙ sym f) in
+    let rest_len : length rest ≡ m = length-drop n output ∙ omega (arith, long) in
+    let whole_len : length whole ≡ n + m =
+    length-append front rest ∙ (λ i. f i + rest_len i) in
+    let last : drop (length back) (drop n whole) ≡ [] =
+    nil_from_length (drop (length back) (drop n whole))
+    (length-drop (length back) (drop n whole)
+    ∙ omega (arith, length-drop n whole, whole_len, b)) in
+    ap (λ l. put_chunk n (l ++ rest) back) first
+    ∙ put_chunk_is n whole back (omega (arith, whole_len, b))
+    ∙ (λ i. take_at front rest n f i ++ (back ++ last i))
+    ∙ ap (λ l. front ++ l) (append-nil back)
+
+-- the bytes of words
+abbrev pub bytes_of_words : BitOrder → ℕ → List ℕ → List ℕ
+bytes_of_words order count words =
+    flat_map (λ word. map (digit order 8 count word) (range_with_len 0 count)) words
+
+-- which bytes of lanes are those of their words
+abbrev places : BitOrder → ℕ → ℕ → List ℕ
+places MostSignificantFirst size lane =
+    map (λ k. k / size * lane + (size - 1 - k % size)) (range_with_len 0 (8 * size))
+places LeastSignificantFirst size lane =
+    map (λ k. k / size * lane + k % size) (range_with_len 0 (8 * size))
+
+module _ (order : BitOrder) (size lane front : ℕ) where
+  -- they are picked in two parts
+  abbrev picked-words : List ℕ → List ℕ
+  picked-words = picked (take front (places order size lane)) (drop front (places order size lane))
+
+  abbrev lane_bytes : ℕ → List ℕ
+  lane_bytes word = digits_of LeastSignificantFirst 8 lane word
+
+  words-picked : (q few : ℕ) → q ≡ 256 ^ lane → few ≤ 256 ^ lane
+      → ((word : ℕ) → digits_l 256 lane word ≡ lane_bytes word)
+      → ((word : ℕ) → length (lane_bytes word) ≡ lane)
+      → ((a b c d e f g h : ℕ) → (let words = a ∷ b ∷ c ∷ d ∷ e ∷ f ∷ g ∷ h ∷ [] in
+      picked-words (flat_map lane_bytes words) ≡ bytes_of_words order size words))
+      → (words : List ℕ) → length words ≡ 8 → AllByRecursion (λ word. word < few) words
+      → picked-words (digits_l 256 (lane * 8) (number_l q words)) ≡ bytes_of_words order size words
+  words-picked q few e most same each step words long fit =
+      let own : map (λ word. number_l 256 (lane_bytes word)) words ≡ words =
+      map-same (λ word. word < few) (λ word. number_l 256 (lane_bytes word)) (λ word. word)
+      (λ word h. ap (number_l 256) (sym (same word))
+      ∙ number-of-digits 256 lane word (omega arith) (omega (arith, h, most))) words fit
+      ∙ map-id words in
+      ap (λ l. picked-words (digits_l 256 (lane * 8) (number_l q l))) (sym own)
+      ∙ ap picked-words (bytes-of-lanes lane q (lane * 8) e lane_bytes words
+      (ap (λ n. lane * n) (sym long)) each
+      (λ word. digits_of-below LeastSignificantFirst 8 lane 256 word (omega arith)))
+      ∙ by_eight (λ ws. picked-words (flat_map lane_bytes ws) ≡ bytes_of_words order size ws)
+      step words long
+
+four-bytes : (word : ℕ) → digits_l 256 4 word ≡ digits_of LeastSignificantFirst 8 4 word
+four-bytes word = search arith depth 6
+
+eight-bytes : (word : ℕ) → digits_l 256 8 word ≡ digits_of LeastSignificantFirst 8 8 word
+eight-bytes word = search arith depth 10
+
+pub threes-picked : (order : BitOrder) (words : List ℕ) → length words ≡ 8
+    → AllByRecursion (λ word. word < 2 ^ 24) words
+    → picked-words order 3 4 16 (digits_l 256 32 (number_l 4294967296 words))
+    ≡ bytes_of_words order 3 words
+threes-picked MostSignificantFirst =
+    words-picked MostSignificantFirst 3 4 16 4294967296 (2 ^ 24) refl (omega arith) four-bytes
+    (λ word. refl) (λ a b c d e f g h. refl)
+threes-picked LeastSignificantFirst =
+    words-picked LeastSignificantFirst 3 4 16 4294967296 (2 ^ 24) refl (omega arith) four-bytes
+    (λ word. refl) (λ a b c d e f g h. refl)
+
+pub fives-picked : (order : BitOrder) (words : List ℕ) → length words ≡ 8
+    → AllByRecursion (λ word. word < 2 ^ 40) words
+    → picked-words order 5 8 32 (digits_l 256 64 (number_l 18446744073709551616 words))
+    ≡ bytes_of_words order 5 words
+fives-picked MostSignificantFirst =
+    words-picked MostSignificantFirst 5 8 32 18446744073709551616 (2 ^ 40) refl (omega arith)
+    eight-bytes (λ word. refl) (λ a b c d e f g h. refl)
+fives-picked LeastSignificantFirst =
+    words-picked LeastSignificantFirst 5 8 32 18446744073709551616 (2 ^ 40) refl (omega arith)
+    eight-bytes (λ word. refl) (λ a b c d e f g h. refl)
+
+-- words of one byte are their bytes
+one-byte : (order : BitOrder) (w : ℕ) → w < 256
+    → w ∷ [] ≡ map (digit order 8 1 w) (range_with_len 0 1)
+one-byte MostSignificantFirst w h =
+    let is : w ≡ w / 1 % 256 = omega (arith, h) in ap (λ d. d ∷ []) is
+one-byte LeastSignificantFirst w h =
+    let is : w ≡ w / 1 % 256 = omega (arith, h) in ap (λ d. d ∷ []) is
+
+one-bytes : (order : BitOrder) (words : List ℕ) → AllByRecursion (λ word. word < 256) words
+    → words ≡ bytes_of_words order 1 words
+one-bytes order [] h = refl
+one-bytes order (w ∷ words) h = λ i. one-byte order w h.0 i ++ one-bytes order words h.1 i
+
+pub stored-ones : (order : BitOrder) (words output : List ℕ) → length words ≡ 8
+    → length output ≡ 8 → AllByRecursion (λ word. word < 256) words
+    → put_chunk 0 output (map (λ x. x) words) ≡ bytes_of_words order 1 words
+stored-ones order words output long exact h =
+    ap (put_chunk 0 output) (map-id words)
+    ∙ put_chunk_whole output words (exact ∙ sym long)
+    ∙ one-bytes order words h

@@ -1,0 +1,3 @@
+-- The text of whole groups.
+pub mod PlainGroupLemmas
+pub mod EightGroupLemmas

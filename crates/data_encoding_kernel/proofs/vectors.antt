@@ -1,0 +1,4 @@
+-- Worked rows of the definitions.
+pub mod Lanes
+pub mod Runs
+pub mod Words

@@ -1,0 +1,92 @@
+-- Worked rows of lanes: groups as words, their digits, and tables as rows.
+use Rattle.std.proofs.Common.{◌≡◌, ℕ, ◌+◌, ◌≤◌, List, [], ◌∷◌, map, get_or, codes, refl, sym, ap, ◌∙◌, arith, lit≤}
+use Rattle.std.proofs.lemmas.List.{get_or-map}
+use Rattle.std.proofs.lemmas.List.FromFn.{get_or-range_with_len, length-range_with_len}
+use Rattle.std.specs.List.{range_with_len}
+use Rattle.data_encoding_meaning.specs.declared.encoding.BitOrder.TheVariants.{MostSignificantFirst}
+use Rattle.data_encoding_kernel.specs.declared.lanes.affine.Affine.{Affine}
+use Rattle.data_encoding_kernel.specs.Affine.{HoldsAffine, affine_entry, affine_value, bits_of_rows, symbol_bit}
+use Rattle.data_encoding_kernel.specs.Lanes.{digits_of, group_word, group_words, halved_lane, spread_word}
+use Rattle.data_encoding_kernel.specs.Values.{HoldsRows, IsRow, chosen_by, in_row, joined}
+
+-- the words of `Hel` and `lo!`, the digits of the first, those a byte each, and its upper half
+-- moved four bits up
+lanes_spread :
+    (group_words MostSignificantFirst 3 2 (codes "Hello!") ≡ 4744556 ∷ 7106337 ∷ [])
+    × (group_word MostSignificantFirst 3 (codes "Hello!") 1 ≡ 7106337)
+    × (digits_of MostSignificantFirst 6 4 4744556 ≡ 18 ∷ 6 ∷ 21 ∷ 44 ∷ [])
+    × (spread_word 6 4 4744556 ≡ 302388524)
+    × (halved_lane 32 4095 16773120 4 4744556 ≡ 75892076)
+lanes_spread = (refl, refl, refl, refl, refl)
+
+-- the values 18 and 6 of `SG`, a byte each, as twelve bits
+lanes_joined : joined MostSignificantFirst 8 6 1554 ≡ 1158
+lanes_joined = refl
+
+-- a table that has 1000 and the byte at each byte
+abbrev table : List ℕ
+table = range_with_len 1000 128
+
+row_from : (start : ℕ) → start + 16 ≤ 128 → IsRow table start (range_with_len (1000 + start) 16)
+row_from start few = λ k inside.
+    get_or-range_with_len (1000 + start) 16 k 0 inside
+    ∙ omega arith
+    ∙ sym (get_or-range_with_len 1000 128 (start + k) 0 (omega (arith, few, inside)))
+
+rows_held : HoldsRows table (record {
+  first = range_with_len 1000 16;
+  second = range_with_len 1016 16;
+  third = range_with_len 1032 16;
+  fourth = range_with_len 1048 16;
+  fifth = range_with_len 1064 16;
+  sixth = range_with_len 1080 16;
+  seventh = range_with_len 1096 16;
+  eighth = range_with_len 1112 16;
+})
+rows_held = record {
+  first = row_from 0 (lit≤ tt);
+  second = row_from 16 (lit≤ tt);
+  third = row_from 32 (lit≤ tt);
+  fourth = row_from 48 (lit≤ tt);
+  fifth = row_from 64 (lit≤ tt);
+  sixth = row_from 80 (lit≤ tt);
+  seventh = row_from 96 (lit≤ tt);
+  eighth = row_from 112 (lit≤ tt);
+}
+
+-- the digit `5`, byte 53, is in the row from 48 on; its bit of weight 16 is set
+row_of_five :
+    (in_row table 48 53 ≡ 1053)
+    × (chosen_by 3 (in_row table 48) (in_row table 32) 53 ≡ 1053)
+row_of_five = (refl, refl)
+
+-- digits in the row from 48 on, less 48, and `+` with a value of its own: 62
+digits_and_plus : Affine
+digits_and_plus = record {
+  symbols = 8 ∷ 8 ∷ 8 ∷ 8 ∷ 8 ∷ 8 ∷ 8 ∷ 8 ∷ 8 ∷ 8 ∷ 0 ∷ 4 ∷ 0 ∷ 0 ∷ 0 ∷ 0 ∷ [];
+  deltas = 0 ∷ 0 ∷ 0 ∷ 208 ∷ 0 ∷ 0 ∷ 0 ∷ 0 ∷ 0 ∷ 0 ∷ 0 ∷ 0 ∷ 0 ∷ 0 ∷ 0 ∷ 0 ∷ [];
+  odd = 43;
+  odd_value = 62;
+}
+
+-- the digit `5`, byte 53, of the row with the bit 8, is 5; `+`, byte 43, is 62; `A` is nothing
+affine_digits :
+    (symbol_bit digits_and_plus 53 ≡ 8)
+    × (get_or bits_of_rows 3 0 ≡ 8)
+    × (affine_value digits_and_plus 53 ≡ 5)
+    × (affine_entry digits_and_plus 53 ≡ 5)
+    × (affine_entry digits_and_plus 43 ≡ 62)
+    × (affine_entry digits_and_plus 65 ≡ 255)
+unfolding digits_and_plus
+affine_digits = (refl, refl, refl, refl, refl, refl)
+
+-- held by the table of these values
+affine_held :
+    HoldsAffine (map (affine_entry digits_and_plus) (range_with_len 0 128)) digits_and_plus
+affine_held = record {
+  agrees = λ byte h small.
+      sym (get_or-map (affine_entry digits_and_plus) (range_with_len 0 128) byte 0 0
+      (omega (arith, h, length-range_with_len 0 128))
+      ∙ ap (affine_entry digits_and_plus)
+      (get_or-range_with_len 0 128 byte 0 h ∙ omega arith));
+}

@@ -1,0 +1,42 @@
+use Rattle.std.proofs.Common.{◌+◌, ◌*◌, ◌^◌, ◌<◌, ◌≤◌, take, slice_index, sym, ap, ◌∙◌, arith}
+use Rattle.std.proofs.lemmas.List.{take_more, length-take-le}
+use Rattle.data_encoding_kernel.specs.Words.{weight, word_of}
+use Rattle.data_encoding_meaning.proofs.digits.SizeLemmas.{IsSmall-group}
+use Rattle.data_encoding_kernel.proofs.digits.WordLemmas.{word_of-nil, word_of-more, shifted-small, shifted-whole}
+use Rattle.data_encoding_kernel.proofs.words.word_of_bytes.Goals as goal
+
+pub loop-index-init : goal.loop-index-init
+loop-index-init g c = record {
+  so_far = sym (word_of-nil c.args.order 8 g.G.GroupSize.BYTES);
+  small = omega arith;
+}
+
+pub overflow_add-word : goal.overflow_add-word
+overflow_add-word g c =
+    let byte = slice_index c.args.input.now c.loop-index.index in
+    let below : byte < 256 = (c.type_inv.input c.loop-index.index).fits in
+    let few = IsSmall-group g.G.GroupSize.is_group in
+    let small = shifted-small byte c.weight_at.result below (omega (arith, few.few_bytes)) in
+    record { fits = omega (arith, small, few.few_bytes) }
+
+pub loop-index-preserved : goal.loop-index-preserved
+loop-index-preserved g c =
+    let index = c.loop-index.index in
+    let input = c.args.input.now in
+    let byte = slice_index input index in
+    let below : byte < 256 = (c.type_inv.input index).fits in
+    let few = IsSmall-group g.G.GroupSize.is_group in
+    let fits : c.weight_at.result ≤ 40 = omega (arith, few.few_bytes) in
+    let weight_is = c.weight_at.ensures.weight
+    ∙ ap (λ n. weight c.args.order 8 n index) c.BYTES-count.ensures in
+    record {
+      so_far = (λ i. c.loop-index.invariant.so_far i + shifted-whole byte c.weight_at.result below
+          fits i)
+          ∙ ap (λ w. word_of c.args.order 8 g.G.GroupSize.BYTES (take index input) + byte * 2 ^ w)
+          weight_is
+          ∙ sym (word_of-more c.args.order 8 g.G.GroupSize.BYTES index (take index input) byte
+          (length-take-le index input (omega arith)) (omega arith) below)
+          ∙ ap (word_of c.args.order 8 g.G.GroupSize.BYTES)
+          (sym (take_more input index 0 (omega arith)));
+      small = omega (arith, shifted-small byte c.weight_at.result below fits);
+    }

@@ -1,0 +1,76 @@
+use Rattle.std.proofs.Common.{◌≡◌, ◌+◌, ◌*◌, ◌^◌, ◌<◌, ◌≤◌, ◌∷◌, [], ◌++◌, length, map, take, slice_index, refl, sym, ap, ◌∙◌, subst, arith}
+use Rattle.std.proofs.lemmas.List.{take_more, length-take-le, length-map, map-append}
+use Rattle.std.proofs.lemmas.Nat.{le_or_l, le_or_r, or_lt}
+use borrow.Author.Count.{below_more}
+use Rattle.data_encoding_kernel.specs.Words.{weight, word_of}
+use Rattle.data_encoding_meaning.proofs.digits.SizeLemmas.{IsSmall-group, IsGroup-same}
+use Rattle.data_encoding_kernel.proofs.digits.WordLemmas.{word_of-nil, word_of-more, shifted-small, shifted-whole, few_digits}
+use Rattle.data_encoding_kernel.proofs.words.word_of_symbols.Goals as goal
+
+pub loop-index-init : goal.loop-index-init
+loop-index-init g c = record {
+  so_far = λ h. sym (word_of-nil c.args.order g.G.GroupSize.WIDTH g.G.GroupSize.SYMBOLS);
+  only = λ h k below. absurd (omega (arith, below));
+  all = λ h. omega arith;
+  within = omega arith;
+  small = omega arith;
+}
+
+pub overflow_add-word : goal.overflow_add-word
+overflow_add-word g c =
+    let width = c.WIDTH-width.result in
+    let count = c.SYMBOLS-count.result in
+    let group = IsGroup-same c.WIDTH-width.ensures refl c.SYMBOLS-count.ensures
+    g.G.GroupSize.is_group in
+    let bits = (IsSmall-group group).few_bits in
+    let small = shifted-small c.entry_of-entry.result c.weight_at.result c.entry_of-entry.type_inv
+    (omega (arith, bits)) in
+    let few = few_digits width count 40 group.is_width.some bits in
+    record { fits = omega (arith, small) }
+
+pub loop-index-preserved : goal.loop-index-preserved
+loop-index-preserved g c =
+    let index = c.loop-index.index in
+    let input = c.args.input.now in
+    let values = c.args.values.now in
+    let entry = c.entry_of-entry.result in
+    let inside : index < length input =
+    omega (arith, c.loop-index.invariant.within, c.if-index-input.false) in
+    let same : entry ≡ slice_index values (slice_index input index) = c.entry_of-entry.ensures in
+    let group = IsGroup-same c.WIDTH-width.ensures refl c.SYMBOLS-count.ensures
+    g.G.GroupSize.is_group in
+    let bits = (IsSmall-group group).few_bits in
+    let fits : c.weight_at.result ≤ 40 = omega (arith, bits) in
+    let weight_is = c.weight_at.ensures.weight
+    ∙ (λ i. weight c.args.order (c.WIDTH-width.ensures i) (c.SYMBOLS-count.ensures i) index) in
+    let before = map (slice_index values) (take index input) in
+    let digits : map (slice_index values) (take (index + 1) input) ≡ before ++ entry ∷ [] =
+    ap (map (slice_index values)) (take_more input index 0 inside)
+    ∙ map-append (slice_index values) (take index input) (slice_index input index ∷ [])
+    ∙ ap (λ d. before ++ d ∷ []) (sym same) in
+    let len : length before ≡ index = length-map (take index input) (slice_index values)
+    ∙ length-take-le index input (omega arith) in
+    record {
+      so_far = λ h.
+          (λ i. c.loop-index.invariant.so_far (λ k less. h k (omega arith)) i
+          + shifted-whole entry c.weight_at.result c.entry_of-entry.type_inv fits i)
+          ∙ ap (λ w. word_of c.args.order g.G.GroupSize.WIDTH g.G.GroupSize.SYMBOLS before + entry *
+          2 ^ w)
+          weight_is
+          ∙ sym (word_of-more c.args.order g.G.GroupSize.WIDTH g.G.GroupSize.SYMBOLS index before
+          entry len
+          (omega arith) (subst (λ d. d < 2 ^ g.G.GroupSize.WIDTH) (sym same)
+          (h index (omega arith))))
+          ∙ ap (word_of c.args.order g.G.GroupSize.WIDTH g.G.GroupSize.SYMBOLS) (sym digits);
+      only = λ h. below_more (λ k. slice_index values (slice_index input k) < 128) index
+          (c.loop-index.invariant.only (omega (arith, le_or_l c.loop-index.entries entry, h)))
+          (omega (arith, le_or_r c.loop-index.entries entry, h, same));
+      all = λ h. or_lt 7 c.loop-index.entries entry
+          (c.loop-index.invariant.all (λ k less. h k (omega arith)))
+          (omega (arith, h index (omega arith), same));
+      within = omega (arith, inside);
+      small = omega (
+        arith,
+        shifted-small entry c.weight_at.result c.entry_of-entry.type_inv fits,
+      );
+    }

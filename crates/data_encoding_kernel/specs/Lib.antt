@@ -1,0 +1,6 @@
+pub mod Words
+pub mod Tables
+pub mod Lanes
+pub mod Values
+pub mod Affine
+pub mod Runs

@@ -1,0 +1,33 @@
+-- Runs of whole groups that are symbols alone.
+use Rattle.std.specs.Prelude.{◌≡◌, ℕ, ◌+◌, ◌-◌, ◌*◌, ◌/◌, ◌%◌, ◌<◌, ◌≤◌, ◌⊎◌, true, false, List, [], ◌∷◌, length, take, if◌then◌else◌, slice_index}
+use Rattle.data_encoding_meaning.specs.declared.encoding.BitOrder.{BitOrder}
+use Rattle.data_encoding_meaning.specs.Base.{Base, meaning, is_symbol, group_bytes, group_symbols}
+use Rattle.data_encoding_kernel.specs.Tables.{Reads}
+use Rattle.data_encoding_meaning.specs.Decoding.{run_bytes}
+
+-- This many whole groups in a row, from the front of a part of a text, are symbols alone; their
+-- bytes stand at the front of the output, which keeps its length.
+pub record IsRun (base : Base) (part : List ℕ) (count : ℕ) (old new : List ℕ) : Type 0 where
+  pub within : count * group_symbols base.width ≤ length part
+  pub are_symbols : (k : ℕ) → k < count * group_symbols base.width
+      → is_symbol (meaning base (slice_index part k)) ≡ true
+  pub bytes : take (count * group_bytes base.width) new
+      ≡ run_bytes base (take (count * group_symbols base.width) part)
+
+-- No longer run stands there: it has all whole groups, or the next has a byte that is no symbol.
+abbrev pub IsLongest : Base → List ℕ → ℕ → Type 0
+IsLongest base part count =
+    count < length part / group_symbols base.width
+    → ((k : ℕ) → k < group_symbols base.width
+    → is_symbol (meaning base (slice_index part (count * group_symbols base.width + k))) ≡ true)
+    → false ≡ true
+
+-- A run, by each base that decodes with such a table.
+abbrev pub IsRunBy : List ℕ → ℕ → BitOrder → List ℕ → ℕ → List ℕ → List ℕ → Type 0
+IsRunBy values width order part count old new =
+    (base : Base) → Reads base values width order → IsRun base part count old new
+
+-- The longest run, by each base that decodes with such a table.
+abbrev pub IsLongestBy : List ℕ → ℕ → BitOrder → List ℕ → ℕ → Type 0
+IsLongestBy values width order part count =
+    (base : Base) → Reads base values width order → IsLongest base part count

@@ -1,0 +1,147 @@
+//! Runs of whole groups that are symbols alone, decoded without a judgement.
+
+ghost use Rattle.std.specs.Prelude.{◌≡◌, ℕ, ◌*◌, ◌/◌, ◌≤◌, List, length, IsTrue, IfSome};
+ghost use Rattle.data_encoding_kernel.specs.Runs.{IsLongestBy, IsRunBy};
+
+use data_encoding_meaning::encoding::BitOrder;
+use crate::group_size::GroupSize;
+use crate::lanes::look_up::LookUp;
+use crate::lanes::rows::{Rows, rows_of};
+use crate::order::ConstantOrder;
+use crate::turn::{DecodeTurn, Lanes};
+use crate::words::{decode_symbols, entry_of};
+
+/// Decodes whole groups in a row, from the front of the input to the front of the output, up to the
+/// first that has a byte that is no symbol, and returns how many they are. What the output holds
+/// after their bytes is not said. Without a look-up, one is prepared where there are eight groups.
+// Part of its caller, since a call costs more than a short text.
+#[inline(always)]
+pub fn decode_run<L: LookUp, O: ConstantOrder, G: GroupSize>(
+    values: &[u8; 256],
+    look_up: Option<&L>,
+    input: &[u8],
+    output: &mut [u8],
+) -> usize
+    requires held { IfSome look_up (λ look_up. L.holds values.now look_up.now) }
+    requires room { length input.now / G.SYMBOLS * G.BYTES ≤ length output.old }
+    ensures run { IsRunBy values.now G.WIDTH O.ORDER input.now result output.old output.new }
+    ensures longest { IsLongestBy values.now G.WIDTH O.ORDER input.now result }
+    ensures within { result * G.SYMBOLS ≤ length input.now }
+{
+    let order = O::ORDER;
+    let symbols = G::SYMBOLS;
+    let bytes = G::BYTES;
+    let count = input.len() / symbols;
+    let first = decode_by_several::<L, O, G>(values, look_up, input, output);
+    for index in first..count {
+        let read = index * symbols;
+        let written = index * bytes;
+        if !decode_symbols::<G>(
+            values,
+            order,
+            &input[read..read + symbols],
+            &mut output[written..written + bytes],
+        ) {
+            return index;
+        }
+    }
+    count
+}
+
+// By lanes, where there are eight groups, and else four at a time.
+#[inline(always)]
+fn decode_by_several<L: LookUp, O: ConstantOrder, G: GroupSize>(
+    values: &[u8; 256],
+    look_up: Option<&L>,
+    input: &[u8],
+    output: &mut [u8],
+) -> usize
+    requires held { IfSome look_up (λ look_up. L.holds values.now look_up.now) }
+    requires room { length input.now / G.SYMBOLS * G.BYTES ≤ length output.old }
+    ensures run { IsRunBy values.now G.WIDTH O.ORDER input.now result output.old output.new }
+    ensures within { result ≤ length input.now / G.SYMBOLS }
+{
+    let eight = 8 * G::SYMBOLS;
+    if input.len() < eight {
+        return decode_by_fours::<G>(values, O::ORDER, input, output);
+    }
+    // Padded groups may follow one another: then the eight are not decoded in vain.
+    if 8 % G::WIDTH != 0 && entry_of(values, input[eight - 1]) >= 128 {
+        return 0;
+    }
+    match look_up {
+        Some(look_up) => {
+            decode_turns::<Lanes<L>, G>(&Lanes { look_up: *look_up }, O::ORDER, input, output)
+        }
+        None => decode_by_lanes::<O, G>(values, input, output),
+    }
+}
+
+// By rows of the table. Not inlined, so that shorter texts do not pay for the room that lanes take.
+#[inline(never)]
+fn decode_by_lanes<O: ConstantOrder, G: GroupSize>(
+    values: &[u8; 256],
+    input: &[u8],
+    output: &mut [u8],
+) -> usize
+    requires room { length input.now / G.SYMBOLS * G.BYTES ≤ length output.old }
+    ensures run { IsRunBy values.now G.WIDTH O.ORDER input.now result output.old output.new }
+    ensures within { result ≤ length input.now / G.SYMBOLS }
+{
+    let lanes = Lanes {
+        look_up: rows_of(values),
+    };
+    decode_turns::<Lanes<Rows>, G>(&lanes, O::ORDER, input, output)
+}
+
+// Turn after turn; the groups of a turn with a byte that is no symbol are left.
+#[inline(always)]
+fn decode_turns<T: DecodeTurn, G: GroupSize>(
+    turn: &T,
+    order: BitOrder,
+    input: &[u8],
+    output: &mut [u8],
+) -> usize
+    requires room { length input.now / G.SYMBOLS * G.BYTES ≤ length output.old }
+    ensures run { (values : List ℕ) → T.holds values turn.now
+        → IsRunBy values G.WIDTH order input.now result output.old output.new }
+    ensures within { result ≤ length input.now / G.SYMBOLS }
+{
+    let groups = T::GROUPS;
+    let symbols = G::SYMBOLS;
+    let bytes = G::BYTES;
+    let count = input.len() / symbols / groups;
+    for index in 0..count {
+        let first = index * groups;
+        let read = first * symbols;
+        let written = first * bytes;
+        if !turn.decode::<G>(
+            order,
+            &input[read..read + groups * symbols],
+            &mut output[written..written + groups * bytes],
+        ) {
+            return first;
+        }
+    }
+    count * groups
+}
+
+// Four groups at a time, tested together; the four with a byte that is no symbol are left.
+#[inline(always)]
+fn decode_by_fours<G: GroupSize>(
+    values: &[u8; 256],
+    order: BitOrder,
+    input: &[u8],
+    output: &mut [u8],
+) -> usize
+    requires room { length input.now / G.SYMBOLS * G.BYTES ≤ length output.old }
+    ensures run { IsRunBy values.now G.WIDTH order input.now result output.old output.new }
+    ensures within { result ≤ length input.now / G.SYMBOLS }
+{
+    let four = 4 * G::SYMBOLS;
+    // Padded groups may follow one another: then the four are not decoded in vain.
+    if 8 % G::WIDTH != 0 && input.len() >= four && entry_of(values, input[four - 1]) >= 128 {
+        return 0;
+    }
+    decode_turns::<[u8; 256], G>(values, order, input, output)
+}

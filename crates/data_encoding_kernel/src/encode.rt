@@ -1,0 +1,175 @@
+//! The symbols of data, group after group.
+
+ghost use Rattle.std.specs.Prelude.{◌≡◌, ℕ, ◌+◌, ◌-◌, ◌*◌, ◌/◌, ◌<◌, ◌≤◌, length, take};
+ghost use Rattle.std.proofs.Common.{lit<, lit≤};
+ghost use Rattle.data_encoding_kernel.specs.Tables.{IsTextBy};
+
+use data_encoding_meaning::limits::ENCODE_LIMIT;
+use data_encoding_meaning::encoding::BitOrder;
+use crate::group_size::GroupSize;
+use crate::lanes::encode::encode_eight;
+use crate::words::encode_group;
+
+// The order is a constant from here on: each digit then stands at a known bit of its word.
+#[inline(always)]
+pub fn encode_plain<G: GroupSize>(
+    symbols: &[u8; 256],
+    order: BitOrder,
+    input: &[u8],
+    output: &mut [u8],
+)
+    requires limit { length input.now ≤ ENCODE_LIMIT }
+    requires exact { length output.old ≡ (8 * length input.now + (G.WIDTH - 1)) / G.WIDTH }
+    ensures { IsTextBy symbols.now G.WIDTH order input.now output.new }
+{
+    match order {
+        BitOrder::MostSignificantFirst => encode_turns::<EightGroups, G>(
+            symbols,
+            BitOrder::MostSignificantFirst,
+            input,
+            output,
+        ),
+        BitOrder::LeastSignificantFirst => encode_turns::<EightGroups, G>(
+            symbols,
+            BitOrder::LeastSignificantFirst,
+            input,
+            output,
+        ),
+    }
+}
+
+// Turn after turn, while there are as many bytes as one loads, and then what is left.
+#[inline(always)]
+fn encode_turns<T: EncodeTurn, G: GroupSize>(
+    symbols: &[u8; 256],
+    order: BitOrder,
+    input: &[u8],
+    output: &mut [u8],
+)
+    requires limit { length input.now ≤ ENCODE_LIMIT }
+    requires exact { length output.old ≡ (8 * length input.now + (G.WIDTH - 1)) / G.WIDTH }
+    ensures { IsTextBy symbols.now G.WIDTH order input.now output.new }
+{
+    let bytes = G::BYTES;
+    let groups = T::GROUPS;
+    let read_len = groups * bytes;
+    let written_len = groups * G::SYMBOLS;
+    let ahead_len = T::AHEAD * (bytes - 1);
+    let count = input.len().saturating_sub(ahead_len) / read_len;
+    for index in 0..count {
+        let read = index * read_len;
+        let written = index * written_len;
+        T::encode::<G>(
+            symbols,
+            order,
+            &input[read..read + (read_len + ahead_len)],
+            &mut output[written..written + written_len],
+        );
+    }
+    T::encode_rest::<G>(
+        symbols,
+        order,
+        &input[count * read_len..],
+        &mut output[count * written_len..],
+    );
+}
+
+/// What encodes whole groups by one turn of a loop, in each turn as many, and then what is left.
+trait EncodeTurn {
+    ghost GROUPS: { ℕ };
+
+    ghost AHEAD: { ℕ };
+
+    ghost some_groups: { 0 < GROUPS };
+
+    ghost few_groups: { GROUPS + AHEAD ≤ 10 };
+
+    const GROUPS: usize;
+
+    // A turn loads `AHEAD * (BYTES - 1)` bytes after its groups too.
+    const AHEAD: usize;
+
+    fn encode<G: GroupSize>(symbols: &[u8; 256], order: BitOrder, input: &[u8], output: &mut [u8])
+        requires loaded { length input.now ≡ GROUPS * G.BYTES + AHEAD * (G.BYTES - 1) }
+        requires exact { length output.old ≡ GROUPS * G.SYMBOLS }
+        ensures { IsTextBy symbols.now G.WIDTH order (take (GROUPS * G.BYTES) input.now)
+            output.new };
+
+    // What is left after the last turn: fewer bytes than one loads.
+    fn encode_rest<G: GroupSize>(
+        symbols: &[u8; 256],
+        order: BitOrder,
+        input: &[u8],
+        output: &mut [u8],
+    )
+        requires few { length input.now < GROUPS * G.BYTES + AHEAD * (G.BYTES - 1) }
+        requires limit { length input.now ≤ ENCODE_LIMIT }
+        requires exact { length output.old ≡ (8 * length input.now + (G.WIDTH - 1)) / G.WIDTH }
+        ensures { IsTextBy symbols.now G.WIDTH order input.now output.new };
+}
+
+/// Eight groups in lanes.
+struct EightGroups;
+
+impl EncodeTurn for EightGroups {
+    ghost GROUPS = { 8 };
+
+    ghost AHEAD = { 2 };
+
+    ghost some_groups = { lit< tt };
+
+    ghost few_groups = { lit≤ tt };
+
+    const GROUPS: usize = 8;
+
+    const AHEAD: usize = 2;
+
+    #[inline(always)]
+    fn encode<G: GroupSize>(symbols: &[u8; 256], order: BitOrder, input: &[u8], output: &mut [u8]) {
+        encode_eight::<G>(symbols, order, input, output);
+    }
+
+    // Not inlined, so that the loop over eight groups, where the time goes, is small code.
+    #[inline(never)]
+    fn encode_rest<G: GroupSize>(
+        symbols: &[u8; 256],
+        order: BitOrder,
+        input: &[u8],
+        output: &mut [u8],
+    ) {
+        encode_turns::<OneGroup, G>(symbols, order, input, output);
+    }
+}
+
+/// One group as a word.
+struct OneGroup;
+
+impl EncodeTurn for OneGroup {
+    ghost GROUPS = { 1 };
+
+    ghost AHEAD = { 0 };
+
+    ghost some_groups = { lit< tt };
+
+    ghost few_groups = { lit≤ tt };
+
+    const GROUPS: usize = 1;
+
+    const AHEAD: usize = 0;
+
+    #[inline(always)]
+    fn encode<G: GroupSize>(symbols: &[u8; 256], order: BitOrder, input: &[u8], output: &mut [u8]) {
+        encode_group::<G>(symbols, order, input, output);
+    }
+
+    // The last group, perhaps shorter, or none.
+    #[inline(always)]
+    fn encode_rest<G: GroupSize>(
+        symbols: &[u8; 256],
+        order: BitOrder,
+        input: &[u8],
+        output: &mut [u8],
+    ) {
+        encode_group::<G>(symbols, order, input, output);
+    }
+}

@@ -1,0 +1,167 @@
+//! The sizes of a whole group, by the width of a symbol.
+
+ghost use Rattle.std.specs.Prelude.{ℕ, refl};
+ghost use Rattle.std.proofs.Common.{lit<, lit≤};
+ghost use Rattle.data_encoding_meaning.specs.Base.{IsGroup};
+
+/// The width, and how many bytes a whole group has, as how many symbols: constants, so that loops
+/// over a group are unrolled.
+pub trait GroupSize {
+    ghost WIDTH: { ℕ };
+
+    ghost BYTES: { ℕ };
+
+    ghost SYMBOLS: { ℕ };
+
+    ghost is_group: { IsGroup WIDTH BYTES SYMBOLS };
+
+    const WIDTH: usize;
+
+    const BYTES: usize;
+
+    const SYMBOLS: usize;
+}
+
+/// Symbols of one bit.
+#[derive(Clone, Copy, Drop)]
+pub struct Base2;
+
+impl GroupSize for Base2 {
+    ghost WIDTH = { 1 };
+
+    ghost BYTES = { 1 };
+
+    ghost SYMBOLS = { 8 };
+
+    ghost is_group = { record {
+      is_width = record { some = lit< tt; few = lit≤ tt };
+      has_bytes = refl;
+      has_symbols = refl;
+    } };
+
+    const WIDTH: usize = 1;
+
+    const BYTES: usize = 1;
+
+    const SYMBOLS: usize = 8;
+}
+
+/// Symbols of two bits.
+#[derive(Clone, Copy, Drop)]
+pub struct Base4;
+
+impl GroupSize for Base4 {
+    ghost WIDTH = { 2 };
+
+    ghost BYTES = { 1 };
+
+    ghost SYMBOLS = { 4 };
+
+    ghost is_group = { record {
+      is_width = record { some = lit< tt; few = lit≤ tt };
+      has_bytes = refl;
+      has_symbols = refl;
+    } };
+
+    const WIDTH: usize = 2;
+
+    const BYTES: usize = 1;
+
+    const SYMBOLS: usize = 4;
+}
+
+/// Symbols of three bits.
+#[derive(Clone, Copy, Drop)]
+pub struct Base8;
+
+impl GroupSize for Base8 {
+    ghost WIDTH = { 3 };
+
+    ghost BYTES = { 3 };
+
+    ghost SYMBOLS = { 8 };
+
+    ghost is_group = { record {
+      is_width = record { some = lit< tt; few = lit≤ tt };
+      has_bytes = refl;
+      has_symbols = refl;
+    } };
+
+    const WIDTH: usize = 3;
+
+    const BYTES: usize = 3;
+
+    const SYMBOLS: usize = 8;
+}
+
+/// Symbols of four bits.
+#[derive(Clone, Copy, Drop)]
+pub struct Base16;
+
+impl GroupSize for Base16 {
+    ghost WIDTH = { 4 };
+
+    ghost BYTES = { 1 };
+
+    ghost SYMBOLS = { 2 };
+
+    ghost is_group = { record {
+      is_width = record { some = lit< tt; few = lit≤ tt };
+      has_bytes = refl;
+      has_symbols = refl;
+    } };
+
+    const WIDTH: usize = 4;
+
+    const BYTES: usize = 1;
+
+    const SYMBOLS: usize = 2;
+}
+
+/// Symbols of five bits.
+#[derive(Clone, Copy, Drop)]
+pub struct Base32;
+
+impl GroupSize for Base32 {
+    ghost WIDTH = { 5 };
+
+    ghost BYTES = { 5 };
+
+    ghost SYMBOLS = { 8 };
+
+    ghost is_group = { record {
+      is_width = record { some = lit< tt; few = lit≤ tt };
+      has_bytes = refl;
+      has_symbols = refl;
+    } };
+
+    const WIDTH: usize = 5;
+
+    const BYTES: usize = 5;
+
+    const SYMBOLS: usize = 8;
+}
+
+/// Symbols of six bits.
+#[derive(Clone, Copy, Drop)]
+pub struct Base64;
+
+impl GroupSize for Base64 {
+    ghost WIDTH = { 6 };
+
+    ghost BYTES = { 3 };
+
+    ghost SYMBOLS = { 4 };
+
+    ghost is_group = { record {
+      is_width = record { some = lit< tt; few = lit≤ tt };
+      has_bytes = refl;
+      has_symbols = refl;
+    } };
+
+    const WIDTH: usize = 6;
+
+    const BYTES: usize = 3;
+
+    const SYMBOLS: usize = 4;
+}

@@ -1,0 +1,9 @@
+//! Eight groups at a time, with a lane for each.
+
+pub mod affine;
+pub mod decode;
+pub mod digits;
+pub mod encode;
+pub mod groups;
+pub mod look_up;
+pub mod rows;

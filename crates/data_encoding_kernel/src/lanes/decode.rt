@@ -1,0 +1,240 @@
+//! Eight groups of symbols at a time, with a lane for each.
+
+ghost use Rattle.std.specs.Prelude.{◌≡◌, ℕ, ◌+◌, ◌-◌, ◌*◌, ◌/◌, ◌^◌, ◌<◌, ◌≤◌, ◌⊎◌, List, length, map, slice_index, flat_map, IsTrue};
+ghost use Rattle.std.specs.List.{AllByRecursion, range_with_len};
+ghost use Rattle.std.specs.Simd.{first_chunks};
+ghost use Rattle.data_encoding_kernel.specs.Runs.{IsRunBy};
+ghost use Rattle.data_encoding_kernel.specs.Values.{joined};
+ghost use Rattle.data_encoding_kernel.specs.Words.{digit, word_of};
+
+use data_encoding_meaning::encoding::BitOrder;
+use crate::group_size::GroupSize;
+use crate::lanes::look_up::LookUp;
+use crate::words::weight_at;
+use std::simd::prelude::*;
+
+// The two halves of each lane, each a digit of `size` bits, as one number.
+#[inline(always)]
+fn halves_16<const N: usize>(order: BitOrder, size: usize, lanes: Simd<u16, N>) -> Simd<u16, N>
+    requires { size ≤ 8 }
+    ensures { result ≡ map (joined order 8 size) lanes.entry }
+{
+    let low = lanes & Simd::<u16, N>::splat(0xff);
+    let high = lanes >> Simd::<u16, N>::splat(8);
+    let low_weight = weight_at(order, size, 2, 0) as u16;
+    let high_weight = weight_at(order, size, 2, 1) as u16;
+    (low << Simd::<u16, N>::splat(low_weight)) + (high << Simd::<u16, N>::splat(high_weight))
+}
+
+#[inline(always)]
+fn halves_32<const N: usize>(order: BitOrder, size: usize, lanes: Simd<u32, N>) -> Simd<u32, N>
+    requires { size ≤ 16 }
+    ensures { result ≡ map (joined order 16 size) lanes.entry }
+{
+    let low = lanes & Simd::<u32, N>::splat(0xffff);
+    let high = lanes >> Simd::<u32, N>::splat(16);
+    let low_weight = weight_at(order, size, 2, 0) as u32;
+    let high_weight = weight_at(order, size, 2, 1) as u32;
+    (low << Simd::<u32, N>::splat(low_weight)) + (high << Simd::<u32, N>::splat(high_weight))
+}
+
+#[inline(always)]
+fn halves_64<const N: usize>(order: BitOrder, size: usize, lanes: Simd<u64, N>) -> Simd<u64, N>
+    requires { size ≤ 32 }
+    ensures { result ≡ map (joined order 32 size) lanes.entry }
+{
+    let low = lanes & Simd::<u64, N>::splat(0xffff_ffff);
+    let high = lanes >> Simd::<u64, N>::splat(32);
+    let low_weight = weight_at(order, size, 2, 0) as u64;
+    let high_weight = weight_at(order, size, 2, 1) as u64;
+    (low << Simd::<u64, N>::splat(low_weight)) + (high << Simd::<u64, N>::splat(high_weight))
+}
+
+// The words of eight groups of two, four or eight values, by halves.
+#[inline(always)]
+fn words_of_two(order: BitOrder, width: usize, values: u8x16) -> u64x8
+    requires { width ≤ 8 }
+    ensures words { AllByRecursion (λ value. value < 2 ^ width) values
+        → result ≡ map (word_of order width 2) (first_chunks 2 8 values) }
+    ensures fit { AllByRecursion (λ value. value < 2 ^ width) values
+        → AllByRecursion (λ word. word < 2 ^ (width * 2)) result }
+{
+    halves_16(order, width, u16x8::from_le_bytes(values)).cast::<u64>()
+}
+
+#[inline(always)]
+fn words_of_four(order: BitOrder, width: usize, values: u8x32) -> u64x8
+    requires { width ≤ 8 }
+    ensures words { AllByRecursion (λ value. value < 2 ^ width) values
+        → result ≡ map (word_of order width 4) (first_chunks 4 8 values) }
+    ensures fit { AllByRecursion (λ value. value < 2 ^ width) values
+        → AllByRecursion (λ word. word < 2 ^ (width * 4)) result }
+{
+    let pairs = halves_16(order, width, u16x16::from_le_bytes(values));
+    let fours = u32x8::from_le_bytes(pairs.to_le_bytes());
+    halves_32(order, 2 * width, fours).cast::<u64>()
+}
+
+#[inline(always)]
+fn words_of_eight(order: BitOrder, width: usize, values: u8x64) -> u64x8
+    requires { width ≤ 8 }
+    ensures words { AllByRecursion (λ value. value < 2 ^ width) values
+        → result ≡ map (word_of order width 8) (first_chunks 8 8 values) }
+    ensures fit { AllByRecursion (λ value. value < 2 ^ width) values
+        → AllByRecursion (λ word. word < 2 ^ (width * 8)) result }
+{
+    let pairs = halves_16(order, width, u16x32::from_le_bytes(values));
+    let fours = halves_32(order, 2 * width, u32x16::from_le_bytes(pairs.to_le_bytes()));
+    halves_64(order, 4 * width, u64x8::from_le_bytes(fours.to_le_bytes()))
+}
+
+// Whether each lane is below the limit.
+#[inline(always)]
+pub fn are_below<const N: usize>(limit: u8, lanes: Simd<u8, N>) -> bool
+    requires { N ≤ 64 }
+    ensures { IsTrue result → AllByRecursion (λ lane. lane < limit) lanes.entry }
+{
+    !lanes.simd_ge(Simd::<u8, N>::splat(limit)).any()
+}
+
+// The words of eight groups of symbols, and whether each byte of them is a symbol.
+#[inline(always)]
+fn words_of_groups<L: LookUp, G: GroupSize>(
+    look_up: &L,
+    order: BitOrder,
+    input: &[u8],
+) -> (u64x8, bool)
+    requires symbols { length input.now ≡ 8 * G.SYMBOLS }
+    ensures words { (values : List ℕ) → L.holds values look_up.now → IsTrue result.1
+        → result.0 ≡ map (word_of order G.WIDTH G.SYMBOLS)
+        (first_chunks G.SYMBOLS 8 (map (slice_index values) input.now)) }
+    ensures symbols { (values : List ℕ) → L.holds values look_up.now → IsTrue result.1
+        → (k : ℕ) → k < length input.now
+        → slice_index values (slice_index input.now k) < 128 }
+    ensures fit { IsTrue result.1
+        → AllByRecursion (λ word. word < 2 ^ (G.WIDTH * G.SYMBOLS)) result.0 }
+{
+    let width = G::WIDTH;
+    let limit = 1 << width;
+    match G::SYMBOLS {
+        2 => {
+            let values = look_up.look_up_16(u8x16::from_slice(input));
+            (words_of_two(order, width, values), are_below(limit, values))
+        }
+        4 => {
+            let values = look_up.look_up_32(u8x32::from_slice(input));
+            (
+                words_of_four(order, width, values),
+                are_below(limit, values),
+            )
+        }
+        _ => {
+            let values = look_up.look_up_64(u8x64::from_slice(input));
+            (
+                words_of_eight(order, width, values),
+                are_below(limit, values),
+            )
+        }
+    }
+}
+
+// Writes the bytes of eight words of three bytes each.
+#[inline(always)]
+fn store_three(order: BitOrder, words: u64x8, output: &mut [u8])
+    requires words { AllByRecursion (λ word. word < 2 ^ 24) words }
+    requires exact { length output.old ≡ 24 }
+    ensures { output.new
+        ≡ flat_map (λ word. map (digit order 8 3 word) (range_with_len 0 3)) words }
+{
+    let bytes = words.cast::<u32>().to_le_bytes();
+    match order {
+        BitOrder::MostSignificantFirst => {
+            bytes
+                .swizzle::<16>([2, 1, 0, 6, 5, 4, 10, 9, 8, 14, 13, 12, 18, 17, 16, 22])
+                .copy_to_slice(&mut output[..16]);
+            bytes
+                .swizzle::<8>([21, 20, 26, 25, 24, 30, 29, 28])
+                .copy_to_slice(&mut output[16..]);
+        }
+        BitOrder::LeastSignificantFirst => {
+            bytes
+                .swizzle::<16>([0, 1, 2, 4, 5, 6, 8, 9, 10, 12, 13, 14, 16, 17, 18, 20])
+                .copy_to_slice(&mut output[..16]);
+            bytes
+                .swizzle::<8>([21, 22, 24, 25, 26, 28, 29, 30])
+                .copy_to_slice(&mut output[16..]);
+        }
+    }
+}
+
+// Writes the bytes of eight words of five bytes each.
+#[inline(always)]
+fn store_five(order: BitOrder, words: u64x8, output: &mut [u8])
+    requires words { AllByRecursion (λ word. word < 2 ^ 40) words }
+    requires exact { length output.old ≡ 40 }
+    ensures { output.new
+        ≡ flat_map (λ word. map (digit order 8 5 word) (range_with_len 0 5)) words }
+{
+    let bytes = words.to_le_bytes();
+    match order {
+        BitOrder::MostSignificantFirst => {
+            bytes
+                .swizzle::<32>([
+                    4, 3, 2, 1, 0, 12, 11, 10, 9, 8, 20, 19, 18, 17, 16, 28, 27, 26, 25, 24, 36,
+                    35, 34, 33, 32, 44, 43, 42, 41, 40, 52, 51,
+                ])
+                .copy_to_slice(&mut output[..32]);
+            bytes
+                .swizzle::<8>([50, 49, 48, 60, 59, 58, 57, 56])
+                .copy_to_slice(&mut output[32..]);
+        }
+        BitOrder::LeastSignificantFirst => {
+            bytes
+                .swizzle::<32>([
+                    0, 1, 2, 3, 4, 8, 9, 10, 11, 12, 16, 17, 18, 19, 20, 24, 25, 26, 27, 28, 32,
+                    33, 34, 35, 36, 40, 41, 42, 43, 44, 48, 49,
+                ])
+                .copy_to_slice(&mut output[..32]);
+            bytes
+                .swizzle::<8>([50, 51, 52, 56, 57, 58, 59, 60])
+                .copy_to_slice(&mut output[32..]);
+        }
+    }
+}
+
+// Writes the bytes of eight words.
+#[inline(always)]
+fn store<G: GroupSize>(order: BitOrder, words: u64x8, output: &mut [u8])
+    requires words { AllByRecursion (λ word. word < 2 ^ (8 * G.BYTES)) words }
+    requires exact { length output.old ≡ 8 * G.BYTES }
+    ensures { output.new
+        ≡ flat_map (λ word. map (digit order 8 G.BYTES word) (range_with_len 0 G.BYTES)) words }
+{
+    match G::BYTES {
+        1 => words.cast::<u8>().copy_to_slice(output),
+        3 => store_three(order, words, output),
+        _ => store_five(order, words, output),
+    }
+}
+
+/// Decodes eight whole groups; `false`, with the output unchanged, where some byte of the input is
+/// no symbol.
+#[inline(always)]
+pub fn decode_eight<L: LookUp, G: GroupSize>(
+    look_up: &L,
+    order: BitOrder,
+    input: &[u8],
+    output: &mut [u8],
+) -> bool
+    requires symbols { length input.now ≡ 8 * G.SYMBOLS }
+    requires exact { length output.old ≡ 8 * G.BYTES }
+    ensures { (values : List ℕ) → L.holds values look_up.now → IsTrue result
+        → IsRunBy values G.WIDTH order input.now 8 output.old output.new }
+{
+    let (words, are_symbols) = words_of_groups::<L, G>(look_up, order, input);
+    if !are_symbols {
+        return false;
+    }
+    store::<G>(order, words, output);
+    true
+}

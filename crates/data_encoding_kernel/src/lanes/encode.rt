@@ -1,0 +1,108 @@
+//! The symbols of eight groups of bytes at a time, with a lane for each digit.
+
+ghost use Rattle.std.specs.Prelude.{◌≡◌, ◌⊎◌, ◌+◌, ◌*◌, ◌%◌, ◌^◌, ◌<◌, ◌≤◌, length, map, take, slice_index};
+ghost use Rattle.std.specs.List.{AllByRecursion, range_with_len};
+ghost use Rattle.data_encoding_meaning.specs.Base.{IsWidth};
+ghost use Rattle.data_encoding_kernel.specs.Tables.{IsTextBy};
+
+use data_encoding_meaning::encoding::BitOrder;
+use crate::group_size::GroupSize;
+use crate::lanes::digits::digits;
+use std::simd::prelude::*;
+
+// A row of sixteen, four times.
+const ROWS: [usize; 64] = [
+    0, 1, 2, 3, 4, 5, 6, 7, 8, 9, 10, 11, 12, 13, 14, 15, 0, 1, 2, 3, 4, 5, 6, 7, 8, 9, 10, 11, 12,
+    13, 14, 15, 0, 1, 2, 3, 4, 5, 6, 7, 8, 9, 10, 11, 12, 13, 14, 15, 0, 1, 2, 3, 4, 5, 6, 7, 8, 9,
+    10, 11, 12, 13, 14, 15,
+];
+
+// The first sixteen entries, four times.
+#[inline(always)]
+fn rows(entries: &[u8]) -> u8x64
+    requires { 16 ≤ length entries.now }
+    ensures { result ≡ map (λ lane. slice_index entries.now (lane % 16)) (range_with_len 0 64) }
+{
+    u8x16::from_slice(entries).swizzle::<64>(ROWS)
+}
+
+// The entry that each value names by its lowest four bits.
+#[inline(always)]
+fn look_in_sixteen(entries: &[u8], values: u8x64) -> u8x64
+    requires { 16 ≤ length entries.now }
+    ensures { result ≡ map (λ value. slice_index entries.now (value % 16)) values }
+{
+    rows(entries).swizzle_dyn_within::<16>(values & u8x64::splat(15))
+}
+
+// The entry that each value names by its lowest five bits.
+#[inline(always)]
+fn look_in_thirty_two(entries: &[u8], values: u8x64) -> u8x64
+    requires { 32 ≤ length entries.now }
+    ensures { result ≡ map (λ value. slice_index entries.now (value % 32)) values }
+{
+    let even = look_in_sixteen(entries, values);
+    let odd = look_in_sixteen(&entries[16..], values);
+    let is_odd = (values & u8x64::splat(16)).simd_ne(u8x64::splat(0));
+    is_odd.select(odd, even)
+}
+
+// The entry that each value names by its lowest six bits.
+#[inline(always)]
+fn look_in_sixty_four(entries: &[u8], values: u8x64) -> u8x64
+    requires { 64 ≤ length entries.now }
+    ensures { result ≡ map (λ value. slice_index entries.now (value % 64)) values }
+{
+    let low = look_in_thirty_two(entries, values);
+    let high = look_in_thirty_two(&entries[32..], values);
+    let is_high = (values & u8x64::splat(32)).simd_ne(u8x64::splat(0));
+    is_high.select(high, low)
+}
+
+// The symbols of values.
+#[inline(always)]
+fn look_up<G: GroupSize>(symbols: &[u8; 256], values: u8x64) -> u8x64
+    requires below { AllByRecursion (λ value. value < 2 ^ G.WIDTH) values }
+    ensures { result ≡ map (slice_index symbols.now) values }
+{
+    let width = G::WIDTH;
+    if width == 6 {
+        return look_in_sixty_four(symbols, values);
+    }
+    if width == 5 {
+        return look_in_thirty_two(symbols, values);
+    }
+    look_in_sixteen(symbols, values)
+}
+
+// Writes the first lanes.
+#[inline(always)]
+fn store<G: GroupSize>(lanes: u8x64, output: &mut [u8])
+    requires exact { length output.old ≡ 8 * G.SYMBOLS }
+    ensures { output.new ≡ take (8 * G.SYMBOLS) lanes }
+{
+    let count = G::SYMBOLS;
+    if count == 8 {
+        lanes.copy_to_slice(output);
+    } else if count == 4 {
+        lanes.extract::<0, 32>().copy_to_slice(output);
+    } else {
+        lanes.extract::<0, 16>().copy_to_slice(output);
+    }
+}
+
+/// Writes the text of the first eight groups. Some bytes after them are loaded too.
+#[inline(always)]
+pub fn encode_eight<G: GroupSize>(
+    symbols: &[u8; 256],
+    order: BitOrder,
+    input: &[u8],
+    output: &mut [u8],
+)
+    requires bytes { 10 * G.BYTES ≤ length input.now + 2 }
+    requires exact { length output.old ≡ 8 * G.SYMBOLS }
+    ensures { IsTextBy symbols.now G.WIDTH order (take (8 * G.BYTES) input.now) output.new }
+{
+    let values = digits::<G>(order, input);
+    store::<G>(look_up::<G>(symbols, values), output);
+}

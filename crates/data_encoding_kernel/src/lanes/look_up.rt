@@ -1,0 +1,71 @@
+//! The ways to find the entries of bytes, with a lane for each.
+
+ghost use Rattle.std.specs.Prelude.{◌≡◌, ℕ, ◌<◌, List, map, slice_index};
+ghost use Rattle.std.specs.List.{AllByRecursion};
+ghost use Rattle.data_encoding_kernel.specs.Affine.{HoldsAffine};
+ghost use Rattle.data_encoding_kernel.specs.Values.{HoldsRows};
+
+use crate::lanes::affine::{
+    Affine, affine_entries_16, affine_entries_32, affine_entries_64,
+};
+use crate::lanes::rows::{Rows, entries_16, entries_32, entries_64};
+use std::simd::prelude::*;
+
+/// What finds the entries that a table has at bytes: where each that is found is below 128, they
+/// are the table's.
+pub trait LookUp: Copy {
+    ghost holds: { List ℕ → Self → Type 0 };
+
+    fn look_up_16(&self, bytes: u8x16) -> u8x16
+        ensures { (values : List ℕ) → holds values self.now
+            → AllByRecursion (λ entry. entry < 128) result
+            → result ≡ map (slice_index values) bytes };
+
+    fn look_up_32(&self, bytes: u8x32) -> u8x32
+        ensures { (values : List ℕ) → holds values self.now
+            → AllByRecursion (λ entry. entry < 128) result
+            → result ≡ map (slice_index values) bytes };
+
+    fn look_up_64(&self, bytes: u8x64) -> u8x64
+        ensures { (values : List ℕ) → holds values self.now
+            → AllByRecursion (λ entry. entry < 128) result
+            → result ≡ map (slice_index values) bytes };
+}
+
+impl LookUp for Rows {
+    ghost holds = { λ values rows. HoldsRows values rows };
+
+    #[inline(always)]
+    fn look_up_16(&self, bytes: u8x16) -> u8x16 {
+        entries_16(self, bytes)
+    }
+
+    #[inline(always)]
+    fn look_up_32(&self, bytes: u8x32) -> u8x32 {
+        entries_32(self, bytes)
+    }
+
+    #[inline(always)]
+    fn look_up_64(&self, bytes: u8x64) -> u8x64 {
+        entries_64(self, bytes)
+    }
+}
+
+impl LookUp for Affine {
+    ghost holds = { λ values affine. HoldsAffine values affine };
+
+    #[inline(always)]
+    fn look_up_16(&self, bytes: u8x16) -> u8x16 {
+        affine_entries_16(self, bytes)
+    }
+
+    #[inline(always)]
+    fn look_up_32(&self, bytes: u8x32) -> u8x32 {
+        affine_entries_32(self, bytes)
+    }
+
+    #[inline(always)]
+    fn look_up_64(&self, bytes: u8x64) -> u8x64 {
+        affine_entries_64(self, bytes)
+    }
+}

@@ -1,0 +1,34 @@
+//! The order of the bits, as a type.
+
+ghost use Rattle.data_encoding_meaning.specs.declared.encoding.BitOrder.{BitOrder};
+ghost use Rattle.data_encoding_meaning.specs.declared.encoding.BitOrder.TheVariants.{LeastSignificantFirst as LeastFirst, MostSignificantFirst as MostFirst};
+
+use data_encoding_meaning::encoding::BitOrder;
+
+/// Which bit comes first: a constant, so that each digit stands at a known bit of its word, in the
+/// functions that are not part of their callers too.
+pub trait ConstantOrder {
+    ghost ORDER: { BitOrder };
+
+    const ORDER: BitOrder;
+}
+
+/// The most significant bit.
+#[derive(Clone, Copy, Drop)]
+pub struct MostSignificantFirst;
+
+impl ConstantOrder for MostSignificantFirst {
+    ghost ORDER = { MostFirst };
+
+    const ORDER: BitOrder = BitOrder::MostSignificantFirst;
+}
+
+/// The least significant bit.
+#[derive(Clone, Copy, Drop)]
+pub struct LeastSignificantFirst;
+
+impl ConstantOrder for LeastSignificantFirst {
+    ghost ORDER = { LeastFirst };
+
+    const ORDER: BitOrder = BitOrder::LeastSignificantFirst;
+}

@@ -1,0 +1,218 @@
+//! A group of bytes or of symbols as bits, in one word.
+
+ghost use Rattle.std.specs.Prelude.{◌≡◌, ℕ, ◌+◌, ◌-◌, ◌*◌, ◌/◌, ◌%◌, ◌^◌, ◌<◌, ◌≤◌, ◌↔◌, length, map, slice_index, IsTrue};
+ghost use Rattle.std.specs.List.{range_with_len};
+ghost use Rattle.data_encoding_meaning.specs.Base.{Base, meaning};
+ghost use Rattle.data_encoding_meaning.specs.Fault.{symbol_bytes};
+ghost use Rattle.data_encoding_kernel.specs.Tables.{IsTextBy, Reads};
+ghost use Rattle.data_encoding_kernel.specs.Words.{weight, digit, low_byte, word_of};
+
+use data_encoding_meaning::encoding::BitOrder;
+use crate::group_size::GroupSize;
+
+/// How many bits of a word of `count` digits, each of `size` bits, are below this one.
+pub fn weight_at(order: BitOrder, size: usize, count: usize, index: usize) -> usize
+    requires inside { index < count }
+    requires fits { size * count ≤ 64 }
+    ensures weight { result ≡ weight order size count index }
+    ensures inside { result + size ≤ size * count }
+{
+    match order {
+        BitOrder::MostSignificantFirst => size * (count - 1 - index),
+        BitOrder::LeastSignificantFirst => size * index,
+    }
+}
+
+// The eight bits of the word from this one on.
+fn byte_at(word: u64, weight: usize) -> u8
+    requires { weight < 64 }
+    ensures { result ≡ word / 2 ^ weight % 2 ^ 8 }
+{
+    ((word >> weight) & 0xff) as u8
+}
+
+// The bytes as a word, with zeros for those that are missing.
+fn word_of_bytes<G: GroupSize>(order: BitOrder, input: &[u8]) -> u64
+    requires few { length input.now ≤ G.BYTES }
+    ensures { result ≡ word_of order 8 G.BYTES input.now }
+{
+    let count = G::BYTES;
+    let mut word = 0;
+    for index in 0..input.len() {
+        word += (input[index] as u64) << weight_at(order, 8, count, index);
+    }
+    word
+}
+
+// Writes the symbols of the first digits of a word. The table has a symbol for each byte, so that a
+// byte is its index, and no mask of the width is needed.
+fn symbols_of_word<G: GroupSize>(symbols: &[u8; 256], order: BitOrder, word: u64, output: &mut [u8])
+    requires few { length output.old ≤ G.SYMBOLS }
+    ensures { output.new
+        ≡ map (λ k. slice_index symbols.now (low_byte order G.WIDTH G.SYMBOLS word k))
+        (range_with_len 0 (length output.old)) }
+{
+    let width = G::WIDTH;
+    let count = G::SYMBOLS;
+    for index in 0..output.len() {
+        let weight = weight_at(order, width, count, index);
+        output[index] = symbols[byte_at(word, weight) as usize];
+    }
+}
+
+/// Writes the text of a group of bytes, or of the fewer that are left.
+#[inline]
+pub fn encode_group<G: GroupSize>(
+    symbols: &[u8; 256],
+    order: BitOrder,
+    input: &[u8],
+    output: &mut [u8],
+)
+    requires few { length input.now ≤ G.BYTES }
+    requires exact { length output.old ≡ (8 * length input.now + (G.WIDTH - 1)) / G.WIDTH }
+    ensures text { IsTextBy symbols.now G.WIDTH order input.now output.new }
+{
+    let word = word_of_bytes::<G>(order, input);
+    symbols_of_word::<G>(symbols, order, word, output);
+}
+
+/// What a table says of a byte.
+pub fn entry_of(values: &[u8; 256], byte: u8) -> u8
+    ensures { result ≡ slice_index values.now byte }
+{
+    values[byte as usize]
+}
+
+// The values of the symbols as a word, with zeros for those that are missing, and the bits that any
+// entry has: an entry that is no value has its highest bit, and spoils the word.
+fn word_of_symbols<G: GroupSize>(values: &[u8; 256], order: BitOrder, input: &[u8]) -> (u64, u8)
+    requires few { length input.now ≤ G.SYMBOLS }
+    ensures word { ((k : ℕ) → k < length input.now
+        → slice_index values.now (slice_index input.now k) < 2 ^ G.WIDTH)
+        → result.0 ≡ word_of order G.WIDTH G.SYMBOLS (map (slice_index values.now) input.now) }
+    ensures entries { (result.1 < 128) ↔ ((k : ℕ) → k < length input.now
+        → slice_index values.now (slice_index input.now k) < 128) }
+{
+    let width = G::WIDTH;
+    let count = G::SYMBOLS;
+    let mut word = 0;
+    let mut entries = 0;
+    for index in 0..count {
+        if index == input.len() {
+            break;
+        }
+        let entry = entry_of(values, input[index]);
+        entries |= entry;
+        word += (entry as u64) << weight_at(order, width, count, index);
+    }
+    (word, entries)
+}
+
+// Writes five bytes of a word, four of them by one store.
+fn five_bytes_of_word(order: BitOrder, word: u64, output: &mut [u8])
+    requires exact { length output.old ≡ 5 }
+    ensures { output.new ≡ map (digit order 8 5 word) (range_with_len 0 5) }
+{
+    let low = (word & 0xffff_ffff) as u32;
+    match order {
+        BitOrder::MostSignificantFirst => {
+            output[0] = byte_at(word, 32);
+            output[1..].copy_from_slice(&low.to_be_bytes());
+        }
+        BitOrder::LeastSignificantFirst => {
+            output[..4].copy_from_slice(&low.to_le_bytes());
+            output[4] = byte_at(word, 32);
+        }
+    }
+}
+
+// Writes the first bytes of a word.
+fn bytes_of_word<G: GroupSize>(order: BitOrder, word: u64, output: &mut [u8])
+    requires few { length output.old ≤ G.BYTES }
+    ensures { output.new ≡ map (digit order 8 G.BYTES word) (range_with_len 0 (length output.old)) }
+{
+    let count = G::BYTES;
+    if count == 5 && output.len() == 5 {
+        five_bytes_of_word(order, word, output);
+        return;
+    }
+    for index in 0..count {
+        if index == output.len() {
+            break;
+        }
+        output[index] = byte_at(word, weight_at(order, 8, count, index));
+    }
+}
+
+/// Writes the bytes of a group of symbols, or of the fewer that are left, without the bits after
+/// the last whole byte, and returns the bits that any entry has: the highest, and any bytes are
+/// written, where some byte of the input is no symbol.
+#[inline(always)]
+pub fn decode_entries<G: GroupSize>(
+    values: &[u8; 256],
+    order: BitOrder,
+    input: &[u8],
+    output: &mut [u8],
+) -> u8
+    requires few { length input.now ≤ G.SYMBOLS }
+    requires exact { length output.old ≡ G.WIDTH * length input.now / 8 }
+    ensures symbols { (result < 128) ↔ ((k : ℕ) → k < length input.now
+        → slice_index values.now (slice_index input.now k) < 128) }
+    ensures bytes { (base : Base) → Reads base values.now G.WIDTH order → result < 128
+        → output.new ≡ symbol_bytes base (map (meaning base) input.now) }
+{
+    let (word, entries) = word_of_symbols::<G>(values, order, input);
+    bytes_of_word::<G>(order, word, output);
+    entries
+}
+
+/// Writes the bytes of a group of symbols, or of the fewer that are left, without the bits after
+/// the last whole byte; `false`, and any bytes, where some byte of the input is no symbol.
+// Part of its callers, with the order as a constant, so that every shift is one.
+#[inline(always)]
+pub fn decode_symbols<G: GroupSize>(
+    values: &[u8; 256],
+    order: BitOrder,
+    input: &[u8],
+    output: &mut [u8],
+) -> bool
+    requires few { length input.now ≤ G.SYMBOLS }
+    requires exact { length output.old ≡ G.WIDTH * length input.now / 8 }
+    ensures symbols { IsTrue result ↔ ((k : ℕ) → k < length input.now
+        → slice_index values.now (slice_index input.now k) < 128) }
+    ensures bytes { (base : Base) → Reads base values.now G.WIDTH order → IsTrue result
+        → output.new ≡ symbol_bytes base (map (meaning base) input.now) }
+{
+    let entries = match order {
+        BitOrder::MostSignificantFirst => decode_entries::<G>(
+            values,
+            BitOrder::MostSignificantFirst,
+            input,
+            output,
+        ),
+        BitOrder::LeastSignificantFirst => decode_entries::<G>(
+            values,
+            BitOrder::LeastSignificantFirst,
+            input,
+            output,
+        ),
+    };
+    entries < 128
+}
+
+/// The position of the first byte that is no symbol, or the length.
+#[inline(always)]
+pub fn symbol_position(values: &[u8; 256], input: &[u8]) -> usize
+    ensures before { (k : ℕ) → k < result
+        → slice_index values.now (slice_index input.now k) < 128 }
+    ensures inside { result ≤ length input.now }
+    ensures there { result < length input.now
+        → 128 ≤ slice_index values.now (slice_index input.now result) }
+{
+    for index in 0..input.len() {
+        if entry_of(values, input[index]) >= 128 {
+            return index;
+        }
+    }
+    input.len()
+}

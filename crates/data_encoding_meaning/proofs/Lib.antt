@@ -1,0 +1,10 @@
+pub mod tables
+pub mod digits
+pub mod lists
+pub mod judgement
+pub mod text
+pub mod order
+pub mod grammar
+pub mod decoding
+pub mod canonicity
+pub mod vectors

@@ -1,0 +1,64 @@
+-- What a text means is bytes, and how many, where there is no padding and no ignored byte.
+use Rattle.std.proofs.Common.{◌≡◌, ℕ, ◌*◌, false, ◌<◌, List, [], ◌∷◌, length, All, Option, Some, None, is_some, refl, sym, ap, arith, map, slice_index}
+use Rattle.std.proofs.lemmas.List.Elements.{All-append, All-from_recursion}
+use Rattle.data_encoding_meaning.specs.declared.encoding.Character.{Character}
+use Rattle.data_encoding_meaning.specs.declared.encoding.Character.TheVariants.{Ignored}
+use Rattle.data_encoding_meaning.specs.Base.{Base, IsWidth, Wrapping, ignores_some, is_ignored, meaning}
+use Rattle.data_encoding_meaning.specs.Grammar.{GroupsMean, Means, groups, kept, meanings_in}
+use Rattle.data_encoding_meaning.specs.Lengths.{most_bytes}
+use Rattle.data_encoding_meaning.specs.Text.{text_of}
+use Rattle.data_encoding_meaning.proofs.grammar.LengthLemmas.{most_bytes-by, widths}
+use Rattle.data_encoding_meaning.proofs.grammar.PositionLemmas.{length-kept_plain, never_ignored, length-meanings}
+use Rattle.data_encoding_meaning.proofs.grammar.UnpaddedGrammarLemmas.{unpadded-Means}
+use Rattle.data_encoding_meaning.proofs.grammar.UnpaddedGroupLemmas.{PlainMeans-count}
+use Rattle.data_encoding_meaning.proofs.lists.EachLemmas.{all-at}
+use Rattle.data_encoding_meaning.proofs.lists.RunLemmas.{run_count}
+use Rattle.data_encoding_meaning.proofs.judgement.RuleLemmas.{IsRuled, IsRuledWrapping}
+use Rattle.data_encoding_meaning.proofs.text.PaddedTextLemmas.{length-unpadded}
+
+-- where no byte is ignored, there are no lines
+pub no_lines-plain : (base : Base) → IsRuled base → ignores_some base ≡ false
+    → base.wrapping ≡ None
+no_lines-plain base ruled none = by base.wrapping ruled.wrapping where
+  by : (o : Option Wrapping) → IsRuledWrapping base o → o ≡ None
+  by None h = refl
+  by (Some lines) h =
+      let first = all-at (λ byte. (byte < 128) × (meaning base byte ≡ Ignored)) lines.separator
+      h.ignored 0 h.ended in
+      cc (never_ignored base none (slice_index lines.separator 0), ap is_ignored first.1)
+
+-- texts of as many bytes are as long
+pub length-plain_text_of : (base : Base) → IsRuled base → base.padding ≡ None
+    → ignores_some base ≡ false → (text bytes others : List ℕ) → Means base text bytes
+    → length others ≡ length bytes → length text ≡ length (text_of base others)
+length-plain_text_of base ruled unpadded none text bytes others means same =
+    let meant = meanings_in base (kept base text) in
+    let plain = (unpadded-Means base ruled.is_width (ap is_some unpadded) text bytes).0 means in
+    let bits = PlainMeans-count base ruled.is_width meant bytes plain in
+    let count : run_count base.width (8 * length bytes) ≡ length meant =
+    grind (arith, widths base.width ruled.is_width, bits, plain.rest_is_short) in
+    rw (no_lines-plain base ruled none)
+    (rw (length-unpadded base others ruled.is_width (ap is_some unpadded), same, count)
+    (rw length-meanings (sym (length-kept_plain base text none))))
+
+pub most-Means : (base : Base) → IsWidth base.width → base.padding ≡ None
+    → ignores_some base ≡ false → (text bytes : List ℕ) → Means base text bytes
+    → length bytes ≡ most_bytes base (length text)
+most-Means base width unpadded none text bytes means =
+    let meant = meanings_in base (kept base text) in
+    let plain = (unpadded-Means base width (ap is_some unpadded) text bytes).0 means in
+    let count = PlainMeans-count base width meant bytes plain in
+    rw (most_bytes-by base (length text) false (ap is_some unpadded))
+    (rw (← (length-kept_plain base text none), ← (length-meanings base (kept base text)))
+    (omega (arith, count)))
+
+each-bytes : (base : Base) (gs : List (List Character)) (bytes : List ℕ)
+    → GroupsMean base gs bytes → All (λ byte. byte < 256) bytes
+each-bytes base [] bytes none = rw none (All-from_recursion (λ byte. byte < 256) [] tt)
+each-bytes base (group ∷ gs) bytes means =
+    rw means.2 (All-append (λ byte. byte < 256) means.0 means.1 means.3.means.are_bytes
+    (each-bytes base gs means.1 means.5))
+
+pub are_bytes-Means : (base : Base) (text bytes : List ℕ) → Means base text bytes
+    → All (λ byte. byte < 256) bytes
+are_bytes-Means base text = each-bytes base (map (meanings_in base) (groups base text))

@@ -1,0 +1,6 @@
+-- From a specification to a base, and back.
+pub mod JudgementLemmas
+pub mod RuleLemmas
+pub mod RoundTripLemmas
+pub mod TranslationLemmas
+pub mod YieldLemmas

@@ -1,0 +1,19 @@
+use Rattle.std.proofs.Common.{subst}
+use Rattle.data_encoding_meaning.specs.Grammar.{Means}
+use Rattle.data_encoding_meaning.proofs.grammar.MeaningLemmas.{Means-no_fault, no_fault-Means, sound_bytes-Means}
+use Rattle.data_encoding_meaning.proofs.judgement.RuleLemmas.{IsRuled-yield}
+use Rattle.data_encoding_meaning.proofs.laws.sound_text.Goals as goal
+
+pub returns-clause-sound : goal.returns-clause-sound
+returns-clause-sound c base is text none =
+    Means-no_fault base (IsRuled-yield is.fields base is.yields).is_width text none
+
+pub returns-clause-meant : goal.returns-clause-meant
+returns-clause-meant c base is text bytes =
+    let width = (IsRuled-yield is.fields base is.yields).is_width in (
+      (λ means. (
+        no_fault-Means base width text bytes means,
+        sound_bytes-Means base width text bytes means,
+      )),
+      (λ both. subst (Means base text) both.1 (Means-no_fault base width text both.0)),
+    )

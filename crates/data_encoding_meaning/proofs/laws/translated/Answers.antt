@@ -1,0 +1,24 @@
+use Rattle.data_encoding_meaning.proofs.canonicity.OneTextLemmas.{own_form-text, own_forms}
+use Rattle.data_encoding_meaning.proofs.canonicity.OwnTextLemmas.{own_form-meaning}
+use Rattle.data_encoding_meaning.proofs.grammar.SameMeaningLemmas.{fault_of-translated, Means-translated}
+use Rattle.data_encoding_meaning.proofs.judgement.RuleLemmas.{IsRuled-yield}
+use Rattle.data_encoding_meaning.proofs.laws.translated.Goals as goal
+
+pub returns-clause-same : goal.returns-clause-same
+returns-clause-same c = λ base is text other same.
+    let width = (IsRuled-yield is.fields base is.yields).is_width in (
+      fault_of-translated base width text other same,
+      Means-translated base width text other same,
+    )
+
+pub returns-clause-own_form : goal.returns-clause-own_form
+returns-clause-own_form c = λ base is.
+    own_form-meaning base (IsRuled-yield is.fields base is.yields)
+
+pub returns-clause-own_forms : goal.returns-clause-own_forms
+returns-clause-own_forms c = λ base is.
+    own_forms base (IsRuled-yield is.fields base is.yields)
+
+pub returns-clause-text : goal.returns-clause-text
+returns-clause-text c = λ base is.
+    own_form-text base (IsRuled-yield is.fields base is.yields)

@@ -1,0 +1,10 @@
+-- Worked rows of the definitions.
+pub mod Examples
+pub mod Texts
+pub mod Readings
+pub mod Layouts
+pub mod LayoutRules
+pub mod Meanings
+pub mod Steps
+pub mod Compared
+pub mod SameMeanings

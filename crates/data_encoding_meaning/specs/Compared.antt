@@ -1,0 +1,27 @@
+-- Data that is compared by its texts.
+use Rattle.std.specs.Prelude.{◌≡◌, ◌↔◌, ℕ, ◌<◌, List, All, None}
+use Rattle.data_encoding_meaning.specs.Base.{Base}
+use Rattle.data_encoding_meaning.specs.Canonical.{IsCanonical}
+use Rattle.data_encoding_meaning.specs.Fields.{IsSpecified}
+use Rattle.data_encoding_meaning.specs.Grammar.{Means}
+use Rattle.data_encoding_meaning.specs.Order.{IsBefore, IsOrdered}
+use Rattle.data_encoding_meaning.specs.Text.{text_of}
+
+-- Two lists are in order exactly where two others are, and equal exactly where those are.
+pub record CompareAlike (one other first second : List ℕ) : Type 0 where
+  pub order : IsBefore one other ↔ IsBefore first second
+  pub equality : (one ≡ other) ↔ (first ≡ second)
+
+-- Without lines, data of an ordered base compares as its texts do.
+abbrev pub OrderOfData : Type 0
+OrderOfData =
+    (base : Base) → IsSpecified base → base.wrapping ≡ None → IsOrdered base
+    → (bytes others : List ℕ) → All (λ byte. byte < 256) bytes → All (λ byte. byte < 256) others
+    → CompareAlike bytes others (text_of base bytes) (text_of base others)
+
+-- Where an ordered base is canonical, any texts that mean data compare as their data does.
+abbrev pub OrderOfTexts : Type 0
+OrderOfTexts =
+    (base : Base) → IsSpecified base → IsCanonical base → IsOrdered base
+    → (text other bytes others : List ℕ) → Means base text bytes → Means base other others
+    → CompareAlike bytes others text other

@@ -1,0 +1,53 @@
+-- Which of the eighteen are canonical, and which keep the order of data.
+use Rattle.std.specs.Prelude.{◌≡◌, ◌↔◌, true, List, [], ◌∷◌, All, Ok}
+use Rattle.data_encoding_meaning.specs.Base.{Base}
+use Rattle.data_encoding_meaning.specs.Canonical.{IsCanonical, has_one_text}
+use Rattle.data_encoding_meaning.specs.Fields.{Fields, base_of, IsSpecified}
+use Rattle.data_encoding_meaning.specs.Order.{IsOrdered}
+use Rattle.data_encoding_meaning.specs.Predefined.{hexlower_fields, hexlower_permissive_fields, hexupper_fields, hexupper_permissive_fields, base32_fields, base32_nopad_fields, base32_nopad_nocase_fields, base32_nopad_visual_fields, base32hex_fields, base32hex_nopad_fields, base32_dnssec_fields, base32_dnscurve_fields, base64_fields, base64_nopad_fields, base64_mime_fields, base64_mime_permissive_fields, base64url_fields, base64url_nopad_fields}
+
+-- A base is canonical exactly where it has no cause of a second text.
+abbrev pub CanonicalByCauses : Type 0
+CanonicalByCauses =
+    (base : Base) → IsSpecified base → (has_one_text base ≡ true) ↔ IsCanonical base
+
+-- The base of these fields has the property.
+abbrev pub Yields : (Base → Type 0) → Fields → Type 0
+Yields P fields = (base : Base) → base_of fields ≡ Ok base → P base
+
+-- those of the eighteen that are canonical, and the others
+abbrev pub canonical_fields : List Fields
+canonical_fields =
+    hexlower_fields ∷ hexupper_fields ∷ base32_nopad_fields ∷ base32hex_nopad_fields
+    ∷ base64_nopad_fields ∷ base64url_nopad_fields ∷ []
+
+abbrev pub second_text_fields : List Fields
+second_text_fields =
+    hexlower_permissive_fields ∷ hexupper_permissive_fields ∷ base32_fields
+    ∷ base32_nopad_nocase_fields ∷ base32_nopad_visual_fields ∷ base32hex_fields
+    ∷ base32_dnssec_fields ∷ base32_dnscurve_fields ∷ base64_fields ∷ base64_mime_fields
+    ∷ base64_mime_permissive_fields ∷ base64url_fields ∷ []
+
+-- Six of the eighteen are canonical, and the other twelve are not.
+abbrev pub SixAreCanonical : Type 0
+SixAreCanonical =
+    All (Yields IsCanonical) canonical_fields
+    × All (Yields (λ base. IsCanonical base → ⊥)) second_text_fields
+
+-- those of the sixteen without lines whose texts keep the order of data, and the others
+abbrev pub ordered_fields : List Fields
+ordered_fields =
+    hexlower_fields ∷ hexlower_permissive_fields ∷ hexupper_fields ∷ hexupper_permissive_fields
+    ∷ base32hex_nopad_fields ∷ base32_dnssec_fields ∷ []
+
+abbrev pub unordered_fields : List Fields
+unordered_fields =
+    base32_fields ∷ base32_nopad_fields ∷ base32_nopad_nocase_fields ∷ base32_nopad_visual_fields
+    ∷ base32hex_fields ∷ base32_dnscurve_fields ∷ base64_fields ∷ base64_nopad_fields
+    ∷ base64url_fields ∷ base64url_nopad_fields ∷ []
+
+-- Of the sixteen without lines, six are ordered, and the other ten are not.
+abbrev pub SixAreOrdered : Type 0
+SixAreOrdered =
+    All (Yields IsOrdered) ordered_fields
+    × All (Yields (λ base. IsOrdered base → ⊥)) unordered_fields

@@ -1,0 +1,22 @@
+-- The table of values: what its entries mean.
+use Rattle.std.specs.Prelude.{◌≡◌, ℕ, ◌==◌, nat_lt, Bool, ◌&&◌, ◌||◌, IsTrue, if◌then◌else◌, List, take, drop, replicate}
+use Rattle.std.specs.List.{list_all}
+use Rattle.data_encoding_meaning.specs.declared.encoding.Character.{Character}
+use Rattle.data_encoding_meaning.specs.declared.encoding.Character.TheVariants.{Symbol, Padding, Ignored, Invalid}
+
+-- an entry: the value of a symbol, 128 where the byte means nothing, 129 ignored, 130 padding
+abbrev pub meaning_of_entry : ℕ → Character
+meaning_of_entry entry =
+    if nat_lt entry 64 then Symbol entry
+    else if entry == 129 then Ignored
+    else if entry == 130 then Padding
+    else Invalid
+
+-- an entry where there are this many symbols
+abbrev pub is_entry_of : ℕ → ℕ → Bool
+is_entry_of count entry = nat_lt entry count || (nat_lt 127 entry && nat_lt entry 131)
+
+-- a byte from 128 on means nothing
+pub record HoldsEntries (values : List ℕ) : Type 0 where
+  pub entries : IsTrue (list_all (is_entry_of 64) (take 128 values))
+  pub invalid_from_128 : drop 128 values ≡ replicate 128 128

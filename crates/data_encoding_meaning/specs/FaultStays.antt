@@ -1,0 +1,34 @@
+-- Faults that stay, whatever follows a text.
+use Rattle.std.specs.Prelude.{◌≡◌, ℕ, ◌≤◌, ◌%◌, List, ◌++◌, length, Some, None}
+use Rattle.data_encoding_meaning.specs.declared.error.DecodeError.{DecodeError}
+use Rattle.data_encoding_meaning.specs.Base.{Base, group_symbols}
+use Rattle.data_encoding_meaning.specs.Fault.{fault_of, first_fault}
+use Rattle.data_encoding_meaning.specs.Fields.{IsSpecified}
+use Rattle.data_encoding_meaning.specs.Grammar.{kept}
+use Rattle.data_encoding_meaning.specs.Lengths.{length_fault}
+use Rattle.data_encoding_meaning.specs.Pieces.{whole_groups}
+
+-- The first fault of the whole groups of a text is that of every longer text whose length has none.
+abbrev pub GroupFaultStays : Type 0
+GroupFaultStays =
+    (base : Base) → IsSpecified base → (text after : List ℕ) (error : DecodeError)
+    → first_fault base (whole_groups base text) ≡ Some error
+    → length_fault base (length (text ++ after)) ≡ None
+    → fault_of base (text ++ after) ≡ Some error
+
+-- The fault of a text whose kept bytes are whole groups is that of every longer text whose length
+-- has none.
+abbrev pub FaultStays : Type 0
+FaultStays =
+    (base : Base) → IsSpecified base → (text after : List ℕ) (error : DecodeError)
+    → length (kept base text) % group_symbols base.width ≡ 0
+    → fault_of base text ≡ Some error → length_fault base (length (text ++ after)) ≡ None
+    → fault_of base (text ++ after) ≡ Some error
+
+-- No text that begins with one without a fault whose kept bytes are whole groups has a fault
+-- before the end of that one.
+abbrev pub NoFaultBefore : Type 0
+NoFaultBefore =
+    (base : Base) → IsSpecified base → (text after : List ℕ) (error : DecodeError)
+    → length (kept base text) % group_symbols base.width ≡ 0 → fault_of base text ≡ None
+    → fault_of base (text ++ after) ≡ Some error → length text ≤ error.position

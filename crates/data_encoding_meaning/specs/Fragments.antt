@@ -1,0 +1,14 @@
+-- Data encoded piece by piece.
+use Rattle.std.specs.Prelude.{◌≡◌, ℕ, ◌<◌, ◌%◌, List, ◌++◌, length}
+use Rattle.data_encoding_meaning.specs.Base.{Base}
+use Rattle.data_encoding_meaning.specs.Text.{text_of}
+use Rattle.data_encoding_meaning.specs.Lengths.{alignment}
+
+-- To a text that of these bytes was appended, but for the last few, which are held until they fill
+-- a block.
+pub record HasEncoded (base : Base) (before bytes : List ℕ) (text held : List ℕ) : Type 0 where
+  pub encoded : List ℕ
+  pub are_bytes : bytes ≡ encoded ++ held
+  pub is_aligned : length encoded % alignment base ≡ 0
+  pub is_short : length held < alignment base
+  pub is_written : text ≡ before ++ text_of base encoded

@@ -1,0 +1,86 @@
+-- Which texts mean which data (RFC 4648, sections 3.2 to 3.5).
+use Rattle.std.specs.Prelude.{◌≡◌, ℕ, ◌<◌, Bool, true, false, ◌&&◌, List, [], ◌∷◌, ◌++◌, map, length, drop, flat_map, filter, replicate, All, not}
+use Rattle.std.specs.List.{enumerate_from, list_any}
+use Rattle.data_encoding_meaning.specs.declared.encoding.Character.{Character}
+use Rattle.data_encoding_meaning.specs.declared.encoding.Character.TheVariants.{Symbol, Padding}
+use Rattle.data_encoding_meaning.specs.Base.{Base, meaning, is_padded, is_padding, is_ignored, group_symbols}
+use Rattle.data_encoding_meaning.specs.Bits.{bits_of_bytes, bits_of, runs}
+
+-- a byte of a text, with its position there
+pub record Positioned : Type 0 where
+  pub position : ℕ
+  pub byte : ℕ
+
+-- the bytes of a part that begins at this position
+abbrev pub positioned_from : ℕ → List ℕ → List Positioned
+positioned_from position part =
+    map (λ (p : ℕ × ℕ). record { position = p.0; byte = p.1 }) (enumerate_from position part)
+
+abbrev pub positioned : List ℕ → List Positioned
+positioned text = positioned_from 0 text
+
+-- the bytes of a part, from this position on, that are not ignored
+abbrev pub kept_in : Base → ℕ → List ℕ → List Positioned
+kept_in base start part =
+    filter (λ k. not (is_ignored (meaning base k.byte))) (positioned_from start part)
+
+-- the bytes of a text that are not ignored
+abbrev pub kept : Base → List ℕ → List Positioned
+kept base text = kept_in base 0 text
+
+-- those from a position on
+abbrev pub kept_from : Base → ℕ → List ℕ → List Positioned
+kept_from base read text = kept_in base read (drop read text)
+
+-- in groups, the last perhaps shorter
+abbrev pub groups : Base → List ℕ → List (List Positioned)
+groups base text = runs (group_symbols base.width) (kept base text)
+
+-- the bytes of a group, without their positions, and what each means
+abbrev pub bytes_in : List Positioned → List ℕ
+bytes_in group = map (λ k. k.byte) group
+
+abbrev pub meanings_in : Base → List Positioned → List Character
+meanings_in base group = map (meaning base) (bytes_in group)
+
+-- Symbols alone mean the bytes: their bits are those of the bytes, and then fewer than a symbol's,
+-- which are zeros where that is checked.
+pub record PlainMeans (base : Base) (characters : List Character) (bytes : List ℕ) : Type 0 where
+  pub values : List ℕ
+  pub rest : List ℕ
+  pub are_symbols : characters ≡ map (λ value. Symbol value) values
+  pub same_bits : flat_map (bits_of base.order base.width) values
+      ≡ bits_of_bytes base.order bytes ++ rest
+  pub rest_is_short : length rest < base.width
+  pub rest_is_zero : base.checks_trailing_bits ≡ true → rest ≡ replicate (length rest) 0
+  pub are_bytes : All (λ byte. byte < 256) bytes
+
+-- A group of one or more symbols, and then padding alone, means what its symbols mean. It is whole;
+-- where there is no padding it may be shorter, and holds symbols alone.
+pub record GroupMeans (base : Base) (group : List Character) (bytes : List ℕ) : Type 0 where
+  pub symbols : List Character
+  pub padding : ℕ
+  pub is_group : group ≡ symbols ++ replicate padding Padding
+  pub is_whole : is_padded base ≡ true → length group ≡ group_symbols base.width
+  pub is_plain : is_padded base ≡ false → padding ≡ 0
+  pub is_begun : 0 < length symbols
+  pub means : PlainMeans base symbols bytes
+
+-- a group that no other may follow: it has padding, and texts may not be concatenated
+abbrev pub ends_text : Base → List Character → Bool
+ends_text base group = not base.concatenates && list_any is_padding group
+
+abbrev pub is_final : Base → List Positioned → Bool
+is_final base group = ends_text base (meanings_in base group)
+
+-- Each group means a piece, a final one is the last, and the bytes are the pieces joined.
+abbrev pub GroupsMean : Base → List (List Character) → List ℕ → Type 0
+GroupsMean base [] bytes = bytes ≡ []
+GroupsMean base (group ∷ others) bytes =
+    (piece more : List ℕ) × (bytes ≡ piece ++ more)
+    × GroupMeans base group piece × (ends_text base group ≡ true → others ≡ [])
+    × GroupsMean base others more
+
+-- The text means the data: its groups do, of which the last alone may be short.
+abbrev pub Means : Base → List ℕ → List ℕ → Type 0
+Means base text bytes = GroupsMean base (map (meanings_in base) (groups base text)) bytes

@@ -1,0 +1,74 @@
+-- Texts that mean the same.
+use Rattle.std.specs.Prelude.{◌≡◌, ◌↔◌, ℕ, Bool, true, ◌&&◌, List, filter, map, not, unwrap_or}
+use Rattle.data_encoding_meaning.specs.Base.{Base, meaning, is_ignored, is_padded, ignores_some}
+use Rattle.data_encoding_meaning.specs.Fault.{fault_of}
+use Rattle.data_encoding_meaning.specs.Fields.{IsSpecified}
+use Rattle.data_encoding_meaning.specs.Grammar.{Means}
+use Rattle.data_encoding_meaning.specs.Layout.{own_character}
+use Rattle.data_encoding_meaning.specs.Text.{text_of}
+
+-- the bytes of a text that are not ignored
+abbrev pub kept_bytes : Base → List ℕ → List ℕ
+kept_bytes base text = filter (λ byte. not (is_ignored (meaning base byte))) text
+
+-- Texts of the same bytes but for ignored ones mean the same.
+abbrev pub SameKeptBytes : Type 0
+SameKeptBytes =
+    (base : Base) → IsSpecified base → (text other bytes : List ℕ)
+    → kept_bytes base text ≡ kept_bytes base other → Means base text bytes
+    → Means base other bytes
+
+-- Texts whose bytes mean the same one by one have the same fault, and mean the same.
+abbrev pub Translated : Type 0
+Translated =
+    (base : Base) → IsSpecified base → (text other : List ℕ)
+    → map (meaning base) text ≡ map (meaning base) other
+    → (fault_of base text ≡ fault_of base other)
+    × ((bytes : List ℕ) → Means base text bytes → Means base other bytes)
+
+-- the character of another base for the value of a symbol, or for padding; any other byte itself
+abbrev pub exchanged : Base → Base → ℕ → ℕ
+exchanged base other byte = unwrap_or (own_character other (meaning base byte)) byte
+
+-- each byte replaced by the symbol or the padding character that it stands for, if any
+abbrev pub own_form : Base → List ℕ → List ℕ
+own_form base text = map (exchanged base base) text
+
+-- Each byte means what it is replaced by means.
+abbrev pub OwnForm : Type 0
+OwnForm =
+    (base : Base) → IsSpecified base → (text : List ℕ)
+    → map (meaning base) text ≡ map (meaning base) (own_form base text)
+
+-- no cause of a second text but a translated byte
+abbrev pub has_one_own_form : Base → Bool
+has_one_own_form base =
+    base.checks_trailing_bits && not (is_padded base && base.concatenates)
+    && not (ignores_some base)
+
+-- Where only a translated byte gives a second text, two texts that mean data mean the same data
+-- exactly where their own forms are equal.
+abbrev pub OwnForms : Type 0
+OwnForms =
+    (base : Base) → IsSpecified base → has_one_own_form base ≡ true
+    → (text other bytes others : List ℕ) → Means base text bytes → Means base other others
+    → (bytes ≡ others) ↔ (own_form base text ≡ own_form base other)
+
+-- And the own form of a text that means data is the text of the data.
+abbrev pub OwnText : Type 0
+OwnText =
+    (base : Base) → IsSpecified base → has_one_own_form base ≡ true
+    → (text bytes : List ℕ) → Means base text bytes → own_form base text ≡ text_of base bytes
+
+-- The bases have the same width, bit order and lines, and both have padding or neither.
+pub record DifferInSymbols (base other : Base) : Type 0 where
+  pub width : base.width ≡ other.width
+  pub order : base.order ≡ other.order
+  pub padded : is_padded base ≡ is_padded other
+  pub wrapping : base.wrapping ≡ other.wrapping
+
+-- Then the text of data in the other is that in the base, with each symbol exchanged.
+abbrev pub SameButSymbols : Type 0
+SameButSymbols =
+    (base other : Base) → IsSpecified base → DifferInSymbols base other
+    → (bytes : List ℕ) → text_of other bytes ≡ map (exchanged base other) (text_of base bytes)

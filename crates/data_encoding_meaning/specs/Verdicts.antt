@@ -1,0 +1,29 @@
+-- Verdicts on texts, and what a text means; texts of different data, and their lengths.
+use Rattle.std.specs.Prelude.{◌≡◌, ◌↔◌, ℕ, ◌<◌, List, length, All, None}
+use Rattle.data_encoding_meaning.specs.Base.{Base}
+use Rattle.data_encoding_meaning.specs.Canonical.{IsCanonical}
+use Rattle.data_encoding_meaning.specs.Fault.{fault_of, sound_bytes}
+use Rattle.data_encoding_meaning.specs.Fields.{IsSpecified}
+use Rattle.data_encoding_meaning.specs.Grammar.{Means}
+use Rattle.data_encoding_meaning.specs.Text.{text_of}
+
+-- A text means bytes exactly where it has no fault and these are its sound bytes.
+abbrev pub MeansSound : Type 0
+MeansSound =
+    (base : Base) → IsSpecified base → (text bytes : List ℕ)
+    → Means base text bytes ↔ ((fault_of base text ≡ None) × (sound_bytes base text ≡ bytes))
+
+-- Different data have different texts.
+abbrev pub Injective : Type 0
+Injective =
+    (base : Base) → IsSpecified base → (bytes others : List ℕ)
+    → All (λ byte. byte < 256) bytes → All (λ byte. byte < 256) others
+    → text_of base bytes ≡ text_of base others → bytes ≡ others
+
+-- Where a base is canonical, a text that means data is as long as the text of any data of that
+-- length.
+abbrev pub FixedLength : Type 0
+FixedLength =
+    (base : Base) → IsSpecified base → IsCanonical base → (text bytes others : List ℕ)
+    → Means base text bytes → length others ≡ length bytes
+    → length text ≡ length (text_of base others)
