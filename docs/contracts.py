@@ -23,11 +23,15 @@ PROVED = TOP / "docs/PROVED.md"
 MISSING = "(no words yet)"
 COLUMNS = 110
 
+# What a crate passes on of the crates below it is told with its own calls, and theirs are not told
+# apart.
+PASSED_ON = {"data_encoding": ("data_encoding_meaning", "data_encoding_kernel")}
+
 # The functions of these modules are told together.
 TOGETHER = {("specification", "predefined"): "The predefined encodings"}
 
-# The definitions of these crates are shown with the first call whose clauses name them; those of
-# data_encoding are in docs/DEFINITIONS.md.
+# The definitions of these crates are shown with the first call whose clauses name them; those that
+# data_encoding stands on are in docs/DEFINITIONS.md.
 SHOWN = {"encoding_stream", "basecode"}
 
 # The first line of a definition.
@@ -193,15 +197,26 @@ def together(calls, title):
 
 
 def of_crate(crate):
-    """The public calls of a crate, in the order of its files."""
+    """The public calls of a crate, in the order of its files, and those that it passes on."""
     root = next(path for path in (crate / "src/lib.rt", crate / "src/main.rt") if path.exists())
     names, modules = public_names(root)
     names |= {name for module in modules
               for name in types_of(crate / f"src/{module.replace('::', '/')}.rt")}
     calls = []
+    for below in PASSED_ON.get(crate.name, ()):
+        below = crate.parent / below
+        passed = {module for module in public_names(below / "src/lib.rt")[1]
+                  if module.split("::")[0] in names}
+        calls += of_sources(below / "src", names, passed)
+    return calls + of_sources(crate / "src", names, modules)
+
+
+def of_sources(folder, names, modules):
+    """The calls of these names and modules in a folder of sources."""
+    calls = []
     gathered = {module: [] for module in TOGETHER}
-    for path in sorted((crate / "src").rglob("*.rt")):
-        parts = path.relative_to(crate / "src").with_suffix("").parts
+    for path in sorted(folder.rglob("*.rt")):
+        parts = path.relative_to(folder).with_suffix("").parts
         if "tests" in parts:
             continue
         target = gathered.get(parts[:2], calls)
@@ -329,8 +344,9 @@ def all_calls():
     """The public calls of each crate that has some, by its name, in the order of crates.txt."""
     lines = (TOP / "crates.txt").read_text().split("\n")
     crates = [line.split(":")[0].split(" ")[0].strip() for line in lines]
+    below = {crate for crates_below in PASSED_ON.values() for crate in crates_below}
     found = {crate: of_crate(TOP / "crates" / crate)
-             for crate in crates if crate and not crate.startswith("#")}
+             for crate in crates if crate and not crate.startswith("#") and crate not in below}
     return {crate: calls for crate, calls in found.items() if calls}
 
 

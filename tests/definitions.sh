@@ -22,9 +22,28 @@ words() {
         sed -E 's/^[^A-Za-z_]//' | sort -u
 }
 
+# parts CRATE: the crate and, of data_encoding, those that it is made of.
+parts() {
+    case $1 in
+    data_encoding) printf '%s\n' data_encoding_meaning data_encoding_kernel data_encoding ;;
+    *) echo "$1" ;;
+    esac
+}
+
 # rows CRATE: the files with its worked rows.
 rows() {
-    find "crates/$1/proofs" -path '*/vectors/*.antt' -o -path '*/proofs/Vectors.antt'
+    local part
+    for part in $(parts "$1"); do
+        find "crates/$part/proofs" -path '*/vectors/*.antt' -o -path '*/proofs/Vectors.antt'
+    done
+}
+
+# definitions CRATE: the files with its definitions.
+definitions() {
+    local part
+    for part in $(parts "$1"); do
+        ls crates/"$part"/specs/*.antt
+    done
 }
 
 tables=$(sed '/^## Without a worked row/,$d' "$page")
@@ -32,7 +51,7 @@ without=$(sed '1,/^## Without a worked row/d' "$page")
 
 for crate in data_encoding encoding_stream basecode; do
     mapfile -t files < <(rows "$crate")
-    defined crates/"$crate"/specs/*.antt >"$room/defined"
+    defined $(definitions "$crate") >"$room/defined"
     [ "$(wc -l <"$room/defined")" -ge 20 ]
     is "few definitions of $crate" '' "$([ $? = 0 ] || cat "$room/defined")"
     is "definitions of $crate that no table has" '' \

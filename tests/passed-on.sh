@@ -6,7 +6,7 @@
 
 # made FOLDER: the lines of code below it that name such an error, but for types and imports.
 made() {
-    (cd "$1" && find data_encoding/src encoding_stream/src -name '*.rt' \
+    (cd "$1" && find data_encoding{,_meaning,_kernel}/src encoding_stream/src -name '*.rt' \
         -not -path '*/tests/*' -not -name tests.rt -print0 | sort -z |
         xargs -0 grep -HE 'AllocError|AllocFailed|OutOfMemory|fmt::Error|io::Error|ErrorKind|(StreamFault|Self)::(Read|Write)\b' |
         sed -E 's/: +/: /' |
@@ -14,11 +14,11 @@ made() {
         grep -vE ': (ghost|ensures|requires) |→|DecodeFault\.OutOfMemory|StreamFault\.(Read|Write)')
 }
 
-listed="data_encoding/src/error.rt:OutOfMemory,
-data_encoding/src/error.rt:DecodeFault::OutOfMemory => f.write_str(\"out of memory\"),
-data_encoding/src/error.rt:impl From<AllocError> for DecodeFault {
-data_encoding/src/error.rt:fn from(_error: AllocError) -> DecodeFault {
-data_encoding/src/error.rt:DecodeFault::OutOfMemory
+listed="data_encoding_meaning/src/error.rt:OutOfMemory,
+data_encoding_meaning/src/error.rt:DecodeFault::OutOfMemory => f.write_str(\"out of memory\"),
+data_encoding_meaning/src/error.rt:impl From<AllocError> for DecodeFault {
+data_encoding_meaning/src/error.rt:fn from(_error: AllocError) -> DecodeFault {
+data_encoding_meaning/src/error.rt:DecodeFault::OutOfMemory
 encoding_stream/src/decode_reader.rt:Err(_) => return Err(StreamFault::Read),
 encoding_stream/src/decode_reader.rt:return Err(StreamFault::Write);
 encoding_stream/src/decode_reader.rt:return Err(StreamFault::Write);
@@ -35,7 +35,7 @@ is 'errors that are not passed on' "$listed" "$(made crates | sed -E 's/: +/:/')
 sees() {
     rm -rf "$room/copy"
     mkdir -p "$room/copy"
-    (cd crates && find data_encoding/src encoding_stream/src -name '*.rt' -print0 |
+    (cd crates && find data_encoding{,_meaning,_kernel}/src encoding_stream/src -name '*.rt' -print0 |
         xargs -0 cp --parents -t "$room/copy")
     sed -i "s~$3~$4~" "$room/copy/$2"
     cmp -s "crates/$2" "$room/copy/$2"

@@ -1,5 +1,5 @@
 -- Tables that serve a base: what the loops over groups look up.
-use Rattle.std.specs.Prelude.{◌≡◌, ℕ, ◌%◌, ◌^◌, ◌<◌, ◌≤◌, ◌==◌, false, List, map, slice_index}
+use Rattle.std.specs.Prelude.{◌≡◌, map}
 use Rattle.data_encoding.specs.declared.specification.tables.Tables.{Tables}
 use Rattle.data_encoding_meaning.specs.Base.{Base}
 use Rattle.data_encoding_meaning.specs.Entries.{meaning_of_entry}

@@ -16,8 +16,8 @@ ghost use Rattle.data_encoding_meaning.specs.Partial.{is_length_fault, partial_o
 
 use crate::encoding::{Encoding, EncodingRef};
 use crate::error::{DecodeError, DecodeFault, DecodeKind, DecodePartial};
-use data_encoding_kernel::group_size::{Base2, Base4, Base8, Base16, Base32, Base64, GroupSize};
 use crate::memory::zeros;
+use data_encoding_kernel::group_size::{Base2, Base4, Base8, Base16, Base32, Base64, GroupSize};
 use data_encoding_meaning::limits;
 use std::alloc::Global;
 

@@ -15,10 +15,10 @@ ghost use Rattle.data_encoding_kernel.specs.Tables.{Writes};
 ghost use Rattle.data_encoding_meaning.specs.Text.{padded_text, plain_text, text_of};
 
 use crate::encoding::{Encoding, EncodingRef, group_bytes};
-use data_encoding_kernel::encode::encode_plain;
-use data_encoding_meaning::limits;
-use data_encoding_kernel::group_size::{Base2, Base4, Base8, Base16, Base32, Base64, GroupSize};
 use crate::memory::zeros;
+use data_encoding_kernel::encode::encode_plain;
+use data_encoding_kernel::group_size::{Base2, Base4, Base8, Base16, Base32, Base64, GroupSize};
+use data_encoding_meaning::limits;
 use std::alloc::{AllocError, Global};
 
 /// The greatest length of data that is encoded in one call, in bytes.

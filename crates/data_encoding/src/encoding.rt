@@ -4,9 +4,8 @@ ghost use Rattle.std.specs.Prelude.{◌≡◌, ◌<◌, ◌≤◌, MatchResult};
 ghost use Rattle.data_encoding_meaning.specs.Base.{IsWidth, group_bytes, group_symbols, ignores_some, meaning};
 ghost use Rattle.data_encoding_meaning.specs.Fields.{IsSpecified};
 
-pub use data_encoding_meaning::encoding::{BitOrder, Character};
-
 use crate::plain::PlainFields;
+pub use data_encoding_meaning::encoding::{BitOrder, Character};
 use std::alloc::AllocError;
 use std::marker::Model;
 

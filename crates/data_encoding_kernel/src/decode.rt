@@ -3,13 +3,13 @@
 ghost use Rattle.std.specs.Prelude.{◌≡◌, ℕ, ◌*◌, ◌/◌, ◌≤◌, List, length, IsTrue, IfSome};
 ghost use Rattle.data_encoding_kernel.specs.Runs.{IsLongestBy, IsRunBy};
 
-use data_encoding_meaning::encoding::BitOrder;
 use crate::group_size::GroupSize;
 use crate::lanes::look_up::LookUp;
 use crate::lanes::rows::{Rows, rows_of};
 use crate::order::ConstantOrder;
 use crate::turn::{DecodeTurn, Lanes};
 use crate::words::{decode_symbols, entry_of};
+use data_encoding_meaning::encoding::BitOrder;
 
 /// Decodes whole groups in a row, from the front of the input to the front of the output, up to the
 /// first that has a byte that is no symbol, and returns how many they are. What the output holds

@@ -4,11 +4,11 @@ ghost use Rattle.std.specs.Prelude.{◌≡◌, ℕ, ◌+◌, ◌-◌, ◌*◌, �
 ghost use Rattle.std.proofs.Common.{lit<, lit≤};
 ghost use Rattle.data_encoding_kernel.specs.Tables.{IsTextBy};
 
-use data_encoding_meaning::limits::ENCODE_LIMIT;
-use data_encoding_meaning::encoding::BitOrder;
 use crate::group_size::GroupSize;
 use crate::lanes::encode::encode_eight;
 use crate::words::encode_group;
+use data_encoding_meaning::encoding::BitOrder;
+use data_encoding_meaning::limits::ENCODE_LIMIT;
 
 // The order is a constant from here on: each digit then stands at a known bit of its word.
 #[inline(always)]

@@ -4,11 +4,11 @@ ghost use Rattle.std.specs.Prelude.{◌≡◌, ℕ, ◌*◌, ◌<◌, List, leng
 ghost use Rattle.std.proofs.Common.{lit<};
 ghost use Rattle.data_encoding_kernel.specs.Runs.{IsRunBy};
 
-use data_encoding_meaning::encoding::BitOrder;
 use crate::group_size::GroupSize;
 use crate::lanes::decode::decode_eight;
 use crate::lanes::look_up::LookUp;
 use crate::words::decode_entries;
+use data_encoding_meaning::encoding::BitOrder;
 
 /// What decodes several whole groups by one turn of a loop, in each turn as many.
 pub trait DecodeTurn {

@@ -7,8 +7,8 @@ ghost use Rattle.data_encoding_meaning.specs.Fault.{symbol_bytes};
 ghost use Rattle.data_encoding_kernel.specs.Tables.{IsTextBy, Reads};
 ghost use Rattle.data_encoding_kernel.specs.Words.{weight, digit, low_byte, word_of};
 
-use data_encoding_meaning::encoding::BitOrder;
 use crate::group_size::GroupSize;
+use data_encoding_meaning::encoding::BitOrder;
 
 /// How many bits of a word of `count` digits, each of `size` bits, are below this one.
 pub fn weight_at(order: BitOrder, size: usize, count: usize, index: usize) -> usize

@@ -1,5 +1,5 @@
 -- What an encoding means: its base.
-use Rattle.std.specs.Prelude.{ℕ, ◌<◌, ◌≤◌, ◌*◌, ◌/◌, ◌%◌, ◌==◌, Bool, true, false, List, Option, Some, None, is_some, slice_index_or, if◌then◌else◌, ◌≡◌, ◌^◌, zero, suc, ◌||◌, []}
+use Rattle.std.specs.Prelude.{ℕ, ◌<◌, ◌≤◌, ◌*◌, ◌/◌, ◌%◌, ◌==◌, Bool, true, false, List, Option, Some, None, is_some, slice_index_or, if◌then◌else◌, ◌≡◌, zero, suc}
 use Rattle.std.specs.List.{list_any}
 use Rattle.data_encoding_meaning.specs.declared.encoding.BitOrder.{BitOrder}
 use Rattle.data_encoding_meaning.specs.declared.encoding.Character.{Character}

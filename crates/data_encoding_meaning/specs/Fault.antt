@@ -1,5 +1,5 @@
 -- The one fault of a text that means nothing, and the bytes of what stands before it.
-use Rattle.std.specs.Prelude.{◌≡◌, ◌<◌, ℕ, ◌-◌, ◌*◌, ◌/◌, ◌==◌, nat_lt, Bool, false, not, ◌&&◌, ◌||◌, if◌then◌else◌, List, [], ◌∷◌, map, reverse, length, flat_map, take, drop, take_while, Option, Some, None, is_some, slice_index_or, position, ◌+◌, ◌%◌, ◌≤◌, ◌⊎◌}
+use Rattle.std.specs.Prelude.{◌≡◌, ◌<◌, ℕ, ◌-◌, ◌*◌, ◌/◌, ◌==◌, nat_lt, Bool, false, not, ◌&&◌, ◌||◌, if◌then◌else◌, List, [], ◌∷◌, map, reverse, length, flat_map, take, drop, take_while, Option, Some, None, is_some, slice_index_or, position}
 use Rattle.std.specs.List.{list_any, filter_map}
 use Rattle.data_encoding_meaning.specs.declared.error.GroupFault.{GroupFault}
 use Rattle.data_encoding_meaning.specs.declared.encoding.Character.{Character}

@@ -1,5 +1,5 @@
 -- What the judgement of a group finds by a table: its symbols, or its fault, or its bytes.
-use Rattle.std.proofs.Common.{◌≡◌, ℕ, ◌-◌, ◌*◌, ◌/◌, ◌%◌, ◌<◌, ◌≤◌, ◌==◌, ◌≢◌, nat_lt, Bool, true, false, not, ◌&&◌, ◌||◌, List, [], ◌∷◌, ◌++◌, length, map, take, drop, replicate, slice_index, None, refl, sym, ap, ◌∙◌, arith, length-take-le, take-append-drop}
+use Rattle.std.proofs.Common.{◌≡◌, ℕ, ◌-◌, ◌*◌, ◌/◌, ◌<◌, ◌≤◌, ◌==◌, ◌≢◌, nat_lt, Bool, true, false, not, ◌&&◌, List, ◌++◌, length, map, take, drop, replicate, slice_index, None, refl, sym, ap, ◌∙◌, arith, length-take-le, take-append-drop}
 use Rattle.std.proofs.lemmas.Bool.Decides.{nat_tests}
 use Rattle.std.proofs.lemmas.List.{drop_all, length-drop, length-map, take-map, take_at}
 use Rattle.std.proofs.lemmas.List.Folds.{list_any-append}

@@ -1,5 +1,5 @@
 -- The layout of an encoding, from its tables.
-use Rattle.std.proofs.Common.{◌≡◌, ◌≢◌, ℕ, zero, suc, ◌+◌, ◌/◌, ◌^◌, ◌≤◌, ◌==◌, Bool, ◌||◌, if◌then◌else◌, List, [], ◌∷◌, ◌++◌, map, take, drop, replicate, unwrap_or, refl, sym, ap, ◌∙◌, append_assoc, take-append-drop}
+use Rattle.std.proofs.Common.{◌≡◌, ◌≢◌, ℕ, zero, suc, ◌+◌, ◌/◌, ◌^◌, Bool, if◌then◌else◌, List, [], ◌∷◌, ◌++◌, map, take, drop, replicate, unwrap_or, refl, sym, ap, ◌∙◌, append_assoc, take-append-drop}
 use Rattle.std.specs.List.{concat}
 use Rattle.data_encoding_meaning.specs.Base.{ignores_some, wrapping_by}
 use Rattle.data_encoding.specs.Encoding.{EncodingTables, KeepsRules, base_of_tables}

@@ -1,5 +1,5 @@
 -- What the tables of an encoding say of a byte, and what is read of them off a layout.
-use Rattle.std.proofs.Common.{◌≡◌, ℕ, ◌+◌, ◌-◌, ◌*◌, ◌/◌, ◌%◌, ◌^◌, ◌<◌, ◌≤◌, ◌==◌, cond, if◌then◌else◌, nat_lt, List, [], ◌∷◌, ◌++◌, length, map, take, drop, get_or, Some, None, sym, ap, ◌∙◌}
+use Rattle.std.proofs.Common.{◌≡◌, ℕ, ◌^◌, ◌<◌, ◌==◌, cond, nat_lt, List, length, map, take, drop, get_or, Some, None, sym, ap, ◌∙◌}
 use Rattle.std.proofs.lemmas.List.{get_or-map}
 use Rattle.data_encoding_meaning.specs.declared.encoding.Character.TheVariants.{Invalid}
 use Rattle.data_encoding.specs.declared.specification.tables.Tables.{Tables}

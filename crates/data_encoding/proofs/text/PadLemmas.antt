@@ -1,5 +1,5 @@
 -- What is written after the symbols, by the tables of an encoding.
-use Rattle.std.proofs.Common.{◌≡◌, ℕ, ◌+◌, ◌-◌, ◌*◌, ◌<◌, ◌≤◌, Some, List, ◌++◌, length, take, drop, replicate, sym, ap, ◌∙◌}
+use Rattle.std.proofs.Common.{◌≡◌, ℕ, ◌-◌, ◌*◌, ◌≤◌, Some, List, ◌++◌, length, take, drop, replicate, sym, ap, ◌∙◌}
 use borrow.Rule.Slice.PartMut.{put_mid}
 use Rattle.data_encoding.specs.Encoding.{EncodingTables, base_of_tables, KeepsRules}
 use Rattle.data_encoding_meaning.specs.Base.{Base}

@@ -1,5 +1,5 @@
 -- Worked rows of tables, and of the steps of a decoding.
-use Rattle.std.proofs.Common.{◌≡◌, ◌<◌, true, [], ◌∷◌, ◌++◌, map, drop, codes, replicate, Some, None, refl, ap, lit<, lit≤, sym, inl, subst, take}
+use Rattle.std.proofs.Common.{◌≡◌, true, [], ◌∷◌, ◌++◌, map, drop, codes, replicate, Some, None, refl, ap, lit<, lit≤, sym, inl, subst, take}
 use Rattle.std.proofs.lemmas.Bool.{false≢true}
 use Rattle.data_encoding_meaning.specs.declared.encoding.Character.TheVariants.{Invalid}
 use Rattle.data_encoding.specs.declared.decode.Stop.{Stop}

@@ -9,9 +9,9 @@ ghost use Rattle.data_encoding_meaning.specs.Lengths.{is_valid_count};
 ghost use Rattle.data_encoding_kernel.specs.Tables.{HoldsValues, Reads};
 
 use crate::encoding::{BitOrder, EncodingRef, PADDING};
-use data_encoding_meaning::error::{DecodeKind, GroupFault};
 use data_encoding_kernel::group_size::GroupSize;
 use data_encoding_kernel::words::{decode_symbols, symbol_position};
+use data_encoding_meaning::error::{DecodeKind, GroupFault};
 
 impl EncodingRef<'_> {
     /// Decodes a group to the front of the output, and returns how many symbols it has. It is the

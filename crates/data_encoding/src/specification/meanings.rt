@@ -7,9 +7,8 @@ ghost use Rattle.data_encoding_meaning.specs.Base.{IsWidth, is_ignored};
 ghost use Rattle.data_encoding_meaning.specs.Entries.{meaning_of_entry, is_entry_of, HoldsEntries};
 ghost use Rattle.data_encoding_meaning.specs.Fields.{defined, ignored_judgements, meanings_after, no_meanings, padding_judgements, symbol_judgements, translated, translation_judgements, wrapping_judgements, wraps};
 
-pub use data_encoding_meaning::refusal::Refusal;
-
 use crate::encoding::{IGNORED, INVALID, PADDING, group_symbols};
+pub use data_encoding_meaning::refusal::Refusal;
 use std::marker::Model;
 
 // What the bytes mean so far, by a table of values.

@@ -1,10 +1,10 @@
 -- Words of digits: a digit more, and a digit of a word, in either order.
 use Rattle.std.proofs.Common.{◌≡◌, ℕ, zero, suc, ◌+◌, ◌-◌, ◌*◌, ◌/◌, ◌%◌, ◌^◌, ◌<◌, ◌≤◌, List, [], ◌∷◌, ◌++◌, length, map, take, drop, replicate, reverse, refl, sym, ap, ◌∙◌, subst, arith, length-append, append_assoc, take-append-drop, length-take-le}
-use Rattle.std.proofs.lemmas.List.{length-reverse, reverse-reverse, reverse-append, append-nil, length-replicate, length-drop, drop-drop, replicate-append-replicate}
+use Rattle.std.proofs.lemmas.List.{length-reverse, reverse-reverse, reverse-append, append-nil, length-replicate, length-drop, drop-drop}
 use Rattle.std.proofs.lemmas.List.Concat.{flat_map-append}
 use Rattle.std.proofs.lemmas.Nat.{div-mul-add, mod-mul-add, pow-add, shl_whole, mul-le}
 use Rattle.std.proofs.Math.Pow.{pow_mono}
-use Rattle.std.proofs.Math.Nat.{pow-succ', mul_comm, mul-add, mul-zero, zero-add}
+use Rattle.std.proofs.Math.Nat.{mul_comm, mul-add, mul-zero, zero-add}
 use Rattle.std.specs.Prelude.{flat_map}
 use Rattle.std.specs.List.{AllByRecursion, range_with_len}
 use Rattle.std.specs.Simd.Lanes.{number_l}

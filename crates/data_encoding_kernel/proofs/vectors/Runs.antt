@@ -1,5 +1,5 @@
 -- Worked rows of runs of whole groups.
-use Rattle.std.proofs.Common.{◌≡◌, ℕ, ◌<◌, true, [], ◌∷◌, ◌++◌, codes, refl, lit<, arith, lit≤, zero, suc}
+use Rattle.std.proofs.Common.{◌≡◌, ℕ, ◌<◌, true, [], ◌∷◌, codes, refl, lit<, arith, lit≤, zero, suc}
 use Rattle.data_encoding_meaning.specs.Base.{meaning, is_symbol}
 use Rattle.data_encoding_meaning.specs.Predefined.{base64_nopad_fields}
 use Rattle.std.specs.Prelude.{slice_index}

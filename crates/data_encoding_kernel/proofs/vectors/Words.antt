@@ -1,6 +1,5 @@
 -- Worked rows of words and their digits.
-use mathlib.Core.Option as maybe
-use Rattle.std.proofs.Common.{◌≡◌, ◌<◌, [], ◌∷◌, ◌++◌, map, codes, refl, ◌∙◌}
+use Rattle.std.proofs.Common.{◌≡◌, [], ◌∷◌, map, codes, refl}
 use Rattle.data_encoding_meaning.specs.declared.encoding.BitOrder.TheVariants.{LeastSignificantFirst, MostSignificantFirst}
 use Rattle.data_encoding_kernel.specs.Words.{weight, digit, low_byte, zeros_to, word_of}
 

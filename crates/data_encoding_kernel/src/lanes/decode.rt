@@ -7,10 +7,10 @@ ghost use Rattle.data_encoding_kernel.specs.Runs.{IsRunBy};
 ghost use Rattle.data_encoding_kernel.specs.Values.{joined};
 ghost use Rattle.data_encoding_kernel.specs.Words.{digit, word_of};
 
-use data_encoding_meaning::encoding::BitOrder;
 use crate::group_size::GroupSize;
 use crate::lanes::look_up::LookUp;
 use crate::words::weight_at;
+use data_encoding_meaning::encoding::BitOrder;
 use std::simd::prelude::*;
 
 // The two halves of each lane, each a digit of `size` bits, as one number.

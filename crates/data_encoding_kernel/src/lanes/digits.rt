@@ -5,9 +5,9 @@ ghost use Rattle.std.specs.List.{AllByRecursion};
 ghost use Rattle.data_encoding_meaning.specs.Base.{IsWidth, group_bytes, group_symbols};
 ghost use Rattle.data_encoding_kernel.specs.Lanes.{group_words, digits_of, spread_word, halved_lane};
 
-use data_encoding_meaning::encoding::BitOrder;
 use crate::group_size::GroupSize;
 use crate::lanes::groups::{eight_fives, eight_ones, eight_threes};
+use data_encoding_meaning::encoding::BitOrder;
 use std::simd::prelude::*;
 
 // Which digits come one after another, as often as they fill 64 lanes.

@@ -5,9 +5,9 @@ ghost use Rattle.std.specs.List.{AllByRecursion, range_with_len};
 ghost use Rattle.data_encoding_meaning.specs.Base.{IsWidth};
 ghost use Rattle.data_encoding_kernel.specs.Tables.{IsTextBy};
 
-use data_encoding_meaning::encoding::BitOrder;
 use crate::group_size::GroupSize;
 use crate::lanes::digits::digits;
+use data_encoding_meaning::encoding::BitOrder;
 use std::simd::prelude::*;
 
 // A row of sixteen, four times.

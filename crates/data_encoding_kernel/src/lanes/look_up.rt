@@ -5,9 +5,7 @@ ghost use Rattle.std.specs.List.{AllByRecursion};
 ghost use Rattle.data_encoding_kernel.specs.Affine.{HoldsAffine};
 ghost use Rattle.data_encoding_kernel.specs.Values.{HoldsRows};
 
-use crate::lanes::affine::{
-    Affine, affine_entries_16, affine_entries_32, affine_entries_64,
-};
+use crate::lanes::affine::{Affine, affine_entries_16, affine_entries_32, affine_entries_64};
 use crate::lanes::rows::{Rows, entries_16, entries_32, entries_64};
 use std::simd::prelude::*;
 

@@ -1,5 +1,5 @@
 -- Numbers as bits, in either order.
-use Rattle.std.proofs.Common.{◌≡◌, ℕ, zero, suc, ◌+◌, ◌*◌, ◌/◌, ◌%◌, ◌^◌, ◌<◌, List, [], ◌∷◌, ◌++◌, length, take, drop, reverse, refl, sym, ap, ◌∙◌, subst, arith, length-append, take-append-drop, ◌-◌, ◌≤◌, replicate}
+use Rattle.std.proofs.Common.{◌≡◌, ℕ, zero, suc, ◌+◌, ◌*◌, ◌/◌, ◌%◌, ◌^◌, ◌<◌, List, [], ◌∷◌, ◌++◌, length, take, drop, reverse, refl, sym, ap, ◌∙◌, subst, arith, length-append, take-append-drop, replicate}
 use Rattle.std.proofs.lemmas.List.{length-reverse, reverse-reverse, reverse-append, replicate-append-replicate}
 use Rattle.std.proofs.Math.Nat.{pow-succ', zero-add, suc-add, div-one, div-div-eq-div-mul, mod-lt}
 use Rattle.std.proofs.lemmas.Nat.{div-add-mod', mod-mul-add, pow_pos}

@@ -1,5 +1,5 @@
 -- Tests that all elements of a list pass.
-use Rattle.std.proofs.Common.{◌≡◌, ℕ, zero, suc, ◌+◌, ◌<◌, ◌≤◌, Bool, true, false, ◌&&◌, cond, List, [], ◌∷◌, ◌++◌, length, replicate, reverse, get_or, slice_index, refl, sym, ap, ◌∙◌, subst, arith, ⊎_elim, ◌-◌, ◌*◌, ◌/◌, ◌%◌, ◌^◌, map}
+use Rattle.std.proofs.Common.{◌≡◌, ℕ, zero, suc, ◌+◌, ◌<◌, ◌≤◌, Bool, true, false, ◌&&◌, cond, List, [], ◌∷◌, ◌++◌, length, replicate, reverse, get_or, slice_index, refl, sym, ap, ◌∙◌, subst, arith, ⊎_elim, map}
 use Rattle.std.proofs.Math.ListN.{set}
 use Rattle.std.specs.Cmp.{first_so, second_so}
 use Rattle.std.specs.List.{AllByRecursion, filter, list_all, list_any, range_with_len}

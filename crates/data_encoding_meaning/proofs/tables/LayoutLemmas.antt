@@ -1,8 +1,8 @@
 -- The layout of an encoding, from its tables.
-use Rattle.std.proofs.Common.{◌≡◌, ◌≢◌, ℕ, zero, suc, ◌+◌, ◌/◌, ◌^◌, ◌≤◌, ◌==◌, Bool, true, ◌||◌, if◌then◌else◌, List, [], ◌∷◌, ◌++◌, map, take, drop, replicate, unwrap_or, refl, sym, ap, ◌∙◌, arith, append_assoc, take-append-drop}
+use Rattle.std.proofs.Common.{◌≡◌, ◌≢◌, ℕ, ◌≤◌, ◌==◌, true, ◌||◌, List, [], ◌∷◌, map, refl, sym, ap, arith}
 use Rattle.std.proofs.lemmas.Bool.Decides.{nat_tests}
 use Rattle.std.specs.Cmp.{first_so, second_so}
-use Rattle.std.specs.List.{concat, list_all, list_any}
+use Rattle.std.specs.List.{list_all, list_any}
 use Rattle.data_encoding_meaning.specs.declared.encoding.Character.TheVariants.{Padding, Ignored, Invalid}
 use Rattle.data_encoding_meaning.specs.Base.{is_ignored}
 use Rattle.data_encoding_meaning.specs.Entries.{is_entry_of, meaning_of_entry}

@@ -1,9 +1,8 @@
 -- The text of data with padding.
-use Rattle.std.proofs.Common.{◌≡◌, ℕ, ◌+◌, ◌-◌, ◌*◌, ◌<◌, ◌≤◌, true, false, Option, Some, None, IfSome, cond, is_some, List, ◌++◌, length, take, drop, replicate, sym, ap, ◌∙◌, arith, length-append}
+use Rattle.std.proofs.Common.{◌≡◌, ℕ, ◌+◌, ◌-◌, ◌*◌, ◌<◌, ◌≤◌, true, false, Option, Some, None, IfSome, cond, is_some, List, ◌++◌, length, replicate, sym, ap, ◌∙◌, arith, length-append}
 use Rattle.std.proofs.Math.Nat.{mul_comm}
 use Rattle.std.proofs.lemmas.List.{length-replicate}
 use Rattle.std.specs.List.{AllByRecursion}
-use borrow.Rule.Slice.PartMut.{put_mid}
 use Rattle.data_encoding_meaning.specs.Base.{Base, symbol, is_padded, group_bytes, group_symbols, IsWidth}
 use Rattle.data_encoding_meaning.specs.Bits.{missing}
 use Rattle.data_encoding_meaning.specs.Text.{filled_with, padded_text, plain_text, text_of, with_padding}

@@ -14,7 +14,6 @@ use Rattle.data_encoding_meaning.specs.Fields.{base_of, Require, Define, Transla
 use Rattle.data_encoding_meaning.specs.Layout.{layout, fields_of, code_of, order_flag, wrapping_bytes, own_character, own_byte, is_translated, translated_bytes, ignored_bytes, column_of, separator_of}
 use Rattle.data_encoding_meaning.specs.Predefined.{unpadded_fields, padded_fields, translated_fields, hexlower_fields, hexlower_permissive_fields, hexupper_fields, hexupper_permissive_fields, base32_fields, base32_nopad_fields, base32_nopad_nocase_fields, base32_nopad_visual_fields, base32hex_fields, base32hex_nopad_fields, base32_dnssec_fields, base32_dnscurve_fields, base64_fields, base64_nopad_fields, base64_mime_fields, base64_mime_permissive_fields, base64url_fields, base64url_nopad_fields, symbols_alone, mime_fields}
 use Rattle.data_encoding_meaning.specs.Printed.{printed_fault, printed_refusal, printed_kind, printed_error}
-use Rattle.std.specs.String.{string_bytes}
 use Rattle.data_encoding_meaning.specs.declared.encoding.Character.{Character}
 use Rattle.data_encoding_meaning.proofs.vectors.Examples.{Hold, by, Has, octal_fields, reversed, unchecked, ignoring, wrapped, nopad_ignoring_lf_fields, lines_of_8_fields, single_fields}
 

@@ -1,12 +1,10 @@
 -- Worked rows of what the functions below the public calls promise.
-use Rattle.std.proofs.Common.{◌≡◌, ℕ, ◌<◌, true, false, [], ◌∷◌, ◌++◌, map, drop, codes, replicate, Some, None, refl, ap, lit<, arith, lit≤, sym, inl, inr, subst, zero, suc, take}
-use Rattle.std.proofs.lemmas.Bool.{false≢true}
+use Rattle.std.proofs.Common.{◌≡◌, true, false, [], ◌∷◌, ◌++◌, map, codes, replicate, refl, lit<, lit≤, inl, inr}
 use Rattle.data_encoding_meaning.specs.declared.encoding.Character.TheVariants.{Symbol as SymbolCharacter, Padding as PaddingCharacter, Ignored, Invalid}
 use Rattle.data_encoding_meaning.specs.declared.error.DecodeKind.TheVariants.{Padding, Trailing}
 use Rattle.data_encoding_meaning.specs.Predefined.{base64_fields, base64_nopad_fields, base64_mime_fields}
 use Rattle.data_encoding_meaning.specs.Grammar.{positioned}
 use Rattle.data_encoding_meaning.proofs.grammar.MeaningLemmas.{Means-no_fault}
-use Rattle.std.specs.Prelude.{slice_index}
 use Rattle.data_encoding_meaning.specs.Entries.{meaning_of_entry, is_entry_of, HoldsEntries}
 use Rattle.data_encoding_meaning.specs.Base.{IsGroup}
 use Rattle.data_encoding_meaning.specs.Fault.{AreSound}

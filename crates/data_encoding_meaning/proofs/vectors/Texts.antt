@@ -1,6 +1,5 @@
 -- Worked rows of texts: bytes, bits, and what is encoded.
-use mathlib.Core.Option as maybe
-use Rattle.std.proofs.Common.{◌≡◌, ℕ, ◌<◌, true, false, List, [], ◌∷◌, ◌++◌, map, length, codes, replicate, Some, None, Ok, Err, refl, ap, lit<, arith, lit≤, sym, subst, ◌∙◌}
+use Rattle.std.proofs.Common.{◌≡◌, ℕ, true, false, List, [], ◌∷◌, ◌++◌, map, codes, replicate, Some, None, refl, lit<, arith, lit≤}
 use Rattle.data_encoding_meaning.specs.declared.encoding.BitOrder.TheVariants.{LeastSignificantFirst, MostSignificantFirst}
 use Rattle.data_encoding_meaning.specs.declared.encoding.Character.TheVariants.{Symbol as SymbolCharacter, Padding as PaddingCharacter, Ignored, Invalid}
 use Rattle.data_encoding_meaning.specs.Base.{is_symbol, is_ignored, is_invalid, is_padding, value_of, group_bytes, group_symbols, IsWidth, meaning, symbol, is_padded, ignores_some, Wrapping}
