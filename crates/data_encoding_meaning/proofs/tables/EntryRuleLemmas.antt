@@ -13,8 +13,8 @@ pub entry-within : (count v : ℕ) → is_entry_of count v ≡ true
     → is_within count (meaning_of_entry v) ≡ true
 entry-within count v h = grind (arith, nat_tests)
 
-pub within-entry : (count v : ℕ) → is_entry_of 64 v ≡ true → is_within count (meaning_of_entry v) ≡ true
-    → is_entry_of count v ≡ true
+pub within-entry : (count v : ℕ) → is_entry_of 64 v ≡ true
+    → is_within count (meaning_of_entry v) ≡ true → is_entry_of count v ≡ true
 within-entry count v h k = grind (arith, nat_tests)
 
 pub entry-no_padding : (v : ℕ) → not (v == 130) ≡ true → is_no_padding (meaning_of_entry v) ≡ true
