@@ -27,8 +27,9 @@ COLUMNS = 110
 # apart.
 PASSED_ON = {"data_encoding": ("data_encoding_meaning", "data_encoding_kernel")}
 
-# The functions of these modules are told together.
+# The functions of these modules are told together, but for those of these.
 TOGETHER = {("specification", "predefined"): "The predefined encodings"}
+APART = {("specification", "predefined", "named")}
 
 # The definitions of these crates are shown with the first call whose clauses name them; those that
 # data_encoding stands on are in docs/DEFINITIONS.md.
@@ -219,7 +220,7 @@ def of_sources(folder, names, modules):
         parts = path.relative_to(folder).with_suffix("").parts
         if "tests" in parts:
             continue
-        target = gathered.get(parts[:2], calls)
+        target = calls if parts in APART else gathered.get(parts[:2], calls)
         target += of_file(path, "::".join(parts), names, modules)
     for module, title in TOGETHER.items():
         calls += together(gathered[module], title)

@@ -15,7 +15,7 @@ use Rattle.encoding_stream.specs.Encoded.{ReadsMore}
 use Rattle.encoding_stream.specs.declared.error.StreamFault.{StreamFault}
 use Rattle.encoding_stream.specs.declared.error.StreamFault.TheVariants.{Decode as Faulty, TooLong, Read, Write}
 use Rattle.basecode.specs.Faults.{status_after}
-use Rattle.basecode.specs.Names.{IsNamed}
+use Rattle.data_encoding.specs.Named.{IsNamed}
 use Rattle.basecode.specs.Run.{Begun, ByAnswer, Converts, DecodesFaulty, Done, Explains, Refused}
 use Rattle.basecode.specs.Words.{Asks, limit_of}
 use Rattle.basecode.specs.declared.command.Ask.TheVariants.{Conversion}

@@ -17,7 +17,7 @@ use Rattle.basecode.specs.declared.command.Request.TheVariants.{List as ListRequ
 use Rattle.basecode.specs.declared.command.Verb.TheVariants.{Encode, Decode}
 use Rattle.basecode.specs.declared.fault.WordFault.TheVariants.{Usage, UnknownName}
 use Rattle.basecode.specs.Faults.{line_of, printed_word_fault, status_of, status_after}
-use Rattle.basecode.specs.Names.{IsNamed, fields_named, listing, names}
+use Rattle.data_encoding.specs.Named.{IsNamed, fields_named, listing, names}
 use Rattle.basecode.specs.Run.{DecodesFaulty, AskConversion, Answers, Begins, BeginsAnswer, BeginsReply, Begun, Converts, Done, Explains, Fulfils, ByAnswer, ByReply, IsAnswer, Refused, Replies, OfNames, OfQuestion, TellsCanonical, truth}
 use Rattle.basecode.specs.Words.{Task, Request, AreRequest, Asks, IsWrong, Names, Of, ask_of, both, limit_of, request_of, texts}
 

@@ -9,7 +9,7 @@ use Rattle.std.specs.declared.alloc.Global.{Global}
 use Rattle.data_encoding.specs.Fields.{Fields, base_of}
 use Rattle.data_encoding.specs.Base.{Base}
 use Rattle.data_encoding.specs.Canonical.{IsCanonical}
-use Rattle.basecode.specs.Names.{fields_named, IsNamed}
+use Rattle.data_encoding.specs.Named.{fields_named, IsNamed}
 use Rattle.basecode.specs.Faults.{printed_word_fault}
 use Rattle.basecode.specs.Words.{AreRequest, Asks, IsWrong, Names, Of, Request, Task, ask_of, both, texts}
 use Rattle.basecode.specs.Run.{Answers, Begins, Begun, ByAnswer, ByReply, Done, Fulfils, OfNames, OfQuestion, Replies, TellsCanonical, truth}

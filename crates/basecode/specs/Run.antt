@@ -14,7 +14,7 @@ use Rattle.encoding_stream.specs.declared.error.StreamFault.TheVariants.{Decode 
 use Rattle.basecode.specs.declared.command.Ask.TheVariants.{Conversion, Question}
 use Rattle.basecode.specs.declared.command.Verb.{Verb}
 use Rattle.basecode.specs.declared.command.Verb.TheVariants.{Encode, Decode}
-use Rattle.basecode.specs.Names.{listing}
+use Rattle.data_encoding.specs.Named.{listing}
 use Rattle.basecode.specs.Words.{Asks, Names, limit_of, request_of}
 
 -- The answer to an input is the text of its bytes, or the bytes that it means.

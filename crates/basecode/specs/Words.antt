@@ -12,7 +12,7 @@ use Rattle.basecode.specs.declared.command.Verb.{Verb}
 use Rattle.basecode.specs.declared.command.Verb.TheVariants.{Encode, Decode}
 use Rattle.basecode.specs.declared.fault.WordFault.{WordFault}
 use Rattle.basecode.specs.declared.fault.WordFault.TheVariants.{Usage, UnknownName}
-use Rattle.basecode.specs.Names.{fields_named}
+use Rattle.data_encoding.specs.Named.{fields_named}
 
 -- the bytes of the words
 abbrev pub texts : List (String Global) → List (List ℕ)

@@ -7,7 +7,7 @@ ghost use Rattle.data_encoding.specs.Canonical.{IsCanonical};
 ghost use Rattle.data_encoding.specs.Fault.{fault_of, sound_bytes};
 ghost use Rattle.data_encoding.specs.Grammar.{Means};
 ghost use Rattle.data_encoding.specs.Text.{text_of};
-ghost use Rattle.basecode.specs.Names.{IsNamed, fields_named, listing};
+ghost use Rattle.data_encoding.specs.Named.{IsNamed, fields_named, listing};
 ghost use Rattle.basecode.specs.Words.{ask_of, texts};
 ghost use Rattle.encoding_stream.specs.Watch.{has_failed, inner_of};
 

@@ -4,8 +4,7 @@ ghost use Rattle.std.specs.Prelude.{◌≡◌, ◌↔◌, [], ◌∷◌, IfErr, 
 ghost use Rattle.basecode.specs.Words.{AreRequest, Asks, IsWrong, ask_of, request_of, texts};
 
 use crate::fault::WordFault;
-use crate::names::encoding_named;
-use data_encoding::Encoding;
+use data_encoding::{Encoding, predefined};
 
 /// What is done with an input.
 #[derive(Clone, Copy, Debug, PartialEq, Eq)]
@@ -86,8 +85,11 @@ fn task_named<'a>(word: &str, name: &'a str) -> Result<Task, WordFault<'a>>
     let Some(ask) = ask_named(word) else {
         return Err(WordFault::Usage);
     };
-    match encoding_named(name) {
-        Some(encoding) => Ok(Task { ask, encoding }),
+    match predefined(name) {
+        Some(encoding) => Ok(Task {
+            ask,
+            encoding: encoding.encoding(),
+        }),
         None => Err(WordFault::UnknownName(name)),
     }
 }

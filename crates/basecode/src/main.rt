@@ -12,7 +12,6 @@
 mod callers;
 mod command;
 mod fault;
-mod names;
 mod run;
 
 pub use encoding_stream::Watch;

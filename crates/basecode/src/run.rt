@@ -9,9 +9,8 @@ ghost use Rattle.basecode.specs.Words.{request_of, texts};
 
 use crate::command::{Ask, Request, Verb, request_named};
 use crate::fault::{exit_status, tell};
-use crate::names::names_listed;
-use data_encoding::Encoding;
 use data_encoding::laws::sound_text;
+use data_encoding::{Encoding, predefined_names};
 use encoding_stream::{StreamFault, Watch, decode_stream, encode_stream};
 use std::io::{Read, Write};
 
@@ -56,7 +55,7 @@ pub fn run<R: Read, W: Write, F: Write>(
         (W.contents (inner_of writer.old)) (W.contents (inner_of writer.new)) }
 {
     match request_named(words) {
-        Ok(Request::List) => settle(send(names_listed().as_bytes(), writer), faults),
+        Ok(Request::List) => settle(send(predefined_names().as_bytes(), writer), faults),
         Ok(Request::Of(task)) => match task.ask {
             Ask::Question => settle(send(truth_of(&task.encoding), writer), faults),
             Ask::Conversion(verb) => {

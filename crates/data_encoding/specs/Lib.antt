@@ -27,6 +27,7 @@ pub use Rattle.data_encoding_meaning.specs.SameMeaning
 pub use Rattle.data_encoding_meaning.specs.Decoding
 pub use Rattle.data_encoding_meaning.specs.Printed
 pub use Rattle.data_encoding_meaning.specs.Predefined
+pub use Rattle.data_encoding_meaning.specs.Named
 pub use Rattle.data_encoding_meaning.specs.Verdicts
 pub use Rattle.data_encoding_meaning.specs.Eighteen
 pub use Rattle.data_encoding_meaning.specs.Compared

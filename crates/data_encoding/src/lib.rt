@@ -30,6 +30,7 @@ pub use specification::predefined::{
     base32hex_ref, base64, base64_mime, base64_mime_permissive, base64_mime_permissive_ref,
     base64_mime_ref, base64_nopad, base64_nopad_ref, base64_ref, base64url, base64url_nopad,
     base64url_nopad_ref, base64url_ref, hexlower, hexlower_permissive, hexlower_permissive_ref,
-    hexlower_ref, hexupper, hexupper_permissive, hexupper_permissive_ref, hexupper_ref,
+    hexlower_ref, hexupper, hexupper_permissive, hexupper_permissive_ref, hexupper_ref, predefined,
+    predefined_name, predefined_names, predefined_number, predefined_numbered,
 };
 pub use specification::{Specification, SpecificationError, Translate, Wrap};

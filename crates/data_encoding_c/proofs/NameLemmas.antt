@@ -9,7 +9,7 @@ use Rattle.std.proofs.lemmas.List.Sums.{AllPass-from_list_all}
 use Rattle.std.proofs.lemmas.Slice.Eq.{bytes_eq-Decides}
 use Rattle.std.proofs.lemmas.Str.{IsUtf8-from_ascii}
 use Rattle.std.proofs.lemmas.Str.Ascii.{IsAscii-from_reads}
-use Rattle.data_encoding_c.specs.Names.{names, number_named}
+use Rattle.data_encoding.specs.Named.{names, number_named}
 
 is-low : ℕ → Bool
 is-low byte = nat_lt byte 128

@@ -3,7 +3,7 @@ use Rattle.std.proofs.Common.{◌≡◌, ℕ, Some, Result, Ok, sym, ap, ◌∙�
 use Rattle.data_encoding.specs.declared.specification.meanings.Refusal.{Refusal}
 use Rattle.data_encoding.specs.Base.{Base}
 use Rattle.data_encoding.specs.Fields.{Fields, base_of}
-use Rattle.data_encoding_c.specs.Numbers.{IsNumbered}
+use Rattle.data_encoding.specs.Named.{IsNumbered}
 
 some-one : {one other : Fields} → Some one ≡ Some other → one ≡ other
 some-one is = cc

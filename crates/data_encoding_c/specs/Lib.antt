@@ -1,6 +1,4 @@
 pub mod Status
 pub mod Pieces
-pub mod Numbers
 pub mod Calls
 pub mod Held
-pub mod Names

@@ -4,15 +4,14 @@ ghost use Rattle.std.specs.Prelude.{◌≡◌, [], None};
 ghost use Rattle.data_encoding.specs.Base.{Base};
 ghost use Rattle.data_encoding.specs.Fields.{IsSpecified};
 ghost use Rattle.data_encoding.specs.Plain.{base_of_plain};
-ghost use Rattle.data_encoding_c.specs.Numbers.{IsNumbered, fields_numbered};
+ghost use Rattle.data_encoding.specs.Named.{IsNumbered, fields_numbered};
 ghost use Rattle.data_encoding_c.specs.Pieces.{EndsText, ReadsPiece, StandsAfter, TellsRoom};
 
 use crate::convert::Decoded;
-use crate::numbers::encoding_numbered;
 use crate::pieces::{PlainKept, finish_by, most_by, read_by};
 use crate::status::UNKNOWN_ENCODING;
-use data_encoding::PlainEncoding;
 use data_encoding::laws::steps::pieces;
+use data_encoding::{PlainEncoding, predefined_numbered};
 
 /// What is kept of no text, by every encoding.
 #[unsafe(no_mangle)]
@@ -44,7 +43,7 @@ pub extern "C" fn de_numbered_decoder_most(
     ensures unknown { fields_numbered number ≡ None
         → (result ≡ UNKNOWN_ENCODING) × (most.new ≡ most.old) }
 {
-    let Some(encoding) = encoding_numbered(number) else {
+    let Some(encoding) = predefined_numbered(number) else {
         return UNKNOWN_ENCODING;
     };
     most_by(&encoding.encoding(), decoder, len, most)
@@ -67,7 +66,7 @@ pub extern "C" fn de_numbered_decoder_read(
         × (decoder.new ≡ decoder.old) × (output.new ≡ output.old)
         × (written.new ≡ written.old) }
 {
-    let Some(encoding) = encoding_numbered(number) else {
+    let Some(encoding) = predefined_numbered(number) else {
         return UNKNOWN_ENCODING;
     };
     read_by(&encoding.encoding(), decoder, piece, output, written)
@@ -87,7 +86,7 @@ pub extern "C" fn de_numbered_decoder_finish(
     ensures unknown { fields_numbered number ≡ None
         → (result ≡ UNKNOWN_ENCODING) × (output.new ≡ output.old) × (decoded.new ≡ decoded.old) }
 {
-    let Some(encoding) = encoding_numbered(number) else {
+    let Some(encoding) = predefined_numbered(number) else {
         return UNKNOWN_ENCODING;
     };
     finish_by(&encoding.encoding(), decoder, output, decoded)

@@ -11,7 +11,6 @@ mod held;
 mod make;
 mod names;
 mod numbered;
-mod numbers;
 mod pieces;
 mod status;
 mod stored;

@@ -3,9 +3,10 @@
 ghost use Rattle.std.specs.Prelude.{◌≡◌, ◌≤◌, ℕ, List, length, IfSome, None, Some};
 ghost use Rattle.std.specs.String.{string_bytes};
 ghost use Rattle.data_encoding_c.specs.Calls.{WritesFront};
-ghost use Rattle.data_encoding_c.specs.Names.{name_numbered, number_named};
+ghost use Rattle.data_encoding.specs.Named.{name_numbered, number_named};
 
 use crate::status::{OK, SHORT_BUFFER, UNKNOWN_ENCODING};
+use data_encoding::{predefined_name, predefined_number};
 
 /// Writes the name of an encoding to the front of the output, and its length, at most 22, to
 /// `written`.
@@ -17,7 +18,7 @@ pub extern "C" fn de_numbered_name(number: u32, output: &mut [u8], written: &mut
         → (result ≡ UNKNOWN_ENCODING) × (output.new ≡ output.old) × (written.new ≡ written.old) }
     ensures fits { 22 ≤ length output.old → result ≡ SHORT_BUFFER → ⊥ }
 {
-    let Some(name) = name_of(number) else {
+    let Some(name) = predefined_name(number) else {
         return UNKNOWN_ENCODING;
     };
     let name = name.as_bytes();
@@ -40,65 +41,9 @@ pub extern "C" fn de_named_number(name: &[u8], number: &mut u32) -> u32
     let Ok(name) = str::from_utf8(name) else {
         return UNKNOWN_ENCODING;
     };
-    let Some(found) = number_of(name) else {
+    let Some(found) = predefined_number(name) else {
         return UNKNOWN_ENCODING;
     };
     *number = found;
     OK
-}
-
-// The name of a number, where it has one.
-fn name_of(number: u32) -> Option<&'static str>
-    ensures known { IfSome result (λ name. name_numbered number ≡ Some name.now) }
-    ensures unknown { result ≡ None → name_numbered number ≡ None }
-    ensures short { IfSome result (λ name. length name.now ≤ 22) }
-{
-    Some(match number {
-        0 => "HEXLOWER",
-        1 => "HEXLOWER_PERMISSIVE",
-        2 => "HEXUPPER",
-        3 => "HEXUPPER_PERMISSIVE",
-        4 => "BASE32",
-        5 => "BASE32_NOPAD",
-        6 => "BASE32_NOPAD_NOCASE",
-        7 => "BASE32_NOPAD_VISUAL",
-        8 => "BASE32HEX",
-        9 => "BASE32HEX_NOPAD",
-        10 => "BASE32_DNSSEC",
-        11 => "BASE32_DNSCURVE",
-        12 => "BASE64",
-        13 => "BASE64_NOPAD",
-        14 => "BASE64_MIME",
-        15 => "BASE64_MIME_PERMISSIVE",
-        16 => "BASE64URL",
-        17 => "BASE64URL_NOPAD",
-        _ => return None,
-    })
-}
-
-// The number of a name, where it is known.
-fn number_of(name: &str) -> Option<u32>
-    ensures { result ≡ number_named name.now }
-{
-    Some(match name {
-        "HEXLOWER" => 0,
-        "HEXLOWER_PERMISSIVE" => 1,
-        "HEXUPPER" => 2,
-        "HEXUPPER_PERMISSIVE" => 3,
-        "BASE32" => 4,
-        "BASE32_NOPAD" => 5,
-        "BASE32_NOPAD_NOCASE" => 6,
-        "BASE32_NOPAD_VISUAL" => 7,
-        "BASE32HEX" => 8,
-        "BASE32HEX_NOPAD" => 9,
-        "BASE32_DNSSEC" => 10,
-        "BASE32_DNSCURVE" => 11,
-        "BASE64" => 12,
-        "BASE64_NOPAD" => 13,
-        "BASE64_MIME" => 14,
-        "BASE64_MIME_PERMISSIVE" => 15,
-        "BASE64URL" => 16,
-        "BASE64URL_NOPAD" => 17,
-        _ => return None,
-    })
 }

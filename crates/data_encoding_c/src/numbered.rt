@@ -3,13 +3,13 @@
 ghost use Rattle.std.specs.Prelude.{◌≡◌, None};
 ghost use Rattle.data_encoding.specs.Base.{Base};
 ghost use Rattle.data_encoding_c.specs.Calls.{Decodes, Encodes, TellsCanonical, TellsMost, TellsTextLength};
-ghost use Rattle.data_encoding_c.specs.Numbers.{IsNumbered, fields_numbered};
+ghost use Rattle.data_encoding.specs.Named.{IsNumbered, fields_numbered};
 
 use crate::convert::{
     Decoded, decode_by, decode_len_by, encode_by, encode_len_by, is_canonical_by,
 };
-use crate::numbers::encoding_numbered;
 use crate::status::UNKNOWN_ENCODING;
+use data_encoding::predefined_numbered;
 
 /// The length of the text of `len` bytes.
 #[unsafe(no_mangle)]
@@ -19,7 +19,7 @@ pub extern "C" fn de_numbered_encode_len(number: u32, len: usize, text_len: &mut
     ensures unknown { fields_numbered number ≡ None
         → (result ≡ UNKNOWN_ENCODING) × (text_len.new ≡ text_len.old) }
 {
-    let Some(encoding) = encoding_numbered(number) else {
+    let Some(encoding) = predefined_numbered(number) else {
         return UNKNOWN_ENCODING;
     };
     encode_len_by(&encoding, len, text_len)
@@ -38,7 +38,7 @@ pub extern "C" fn de_numbered_encode(
     ensures unknown { fields_numbered number ≡ None
         → (result ≡ UNKNOWN_ENCODING) × (output.new ≡ output.old) × (written.new ≡ written.old) }
 {
-    let Some(encoding) = encoding_numbered(number) else {
+    let Some(encoding) = predefined_numbered(number) else {
         return UNKNOWN_ENCODING;
     };
     encode_by(&encoding, input, output, written)
@@ -53,7 +53,7 @@ pub extern "C" fn de_numbered_decode_len(number: u32, len: usize, most: &mut usi
     ensures unknown { fields_numbered number ≡ None
         → (result ≡ UNKNOWN_ENCODING) × (most.new ≡ most.old) }
 {
-    let Some(encoding) = encoding_numbered(number) else {
+    let Some(encoding) = predefined_numbered(number) else {
         return UNKNOWN_ENCODING;
     };
     decode_len_by(&encoding, len, most)
@@ -73,7 +73,7 @@ pub extern "C" fn de_numbered_decode(
     ensures unknown { fields_numbered number ≡ None
         → (result ≡ UNKNOWN_ENCODING) × (output.new ≡ output.old) × (decoded.new ≡ decoded.old) }
 {
-    let Some(encoding) = encoding_numbered(number) else {
+    let Some(encoding) = predefined_numbered(number) else {
         return UNKNOWN_ENCODING;
     };
     decode_by(&encoding, input, output, decoded)
@@ -87,7 +87,7 @@ pub extern "C" fn de_numbered_is_canonical(number: u32, answer: &mut bool) -> u3
     ensures unknown { fields_numbered number ≡ None
         → (result ≡ UNKNOWN_ENCODING) × (answer.new ≡ answer.old) }
 {
-    let Some(encoding) = encoding_numbered(number) else {
+    let Some(encoding) = predefined_numbered(number) else {
         return UNKNOWN_ENCODING;
     };
     is_canonical_by(&encoding, answer)

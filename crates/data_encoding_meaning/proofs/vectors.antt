@@ -8,3 +8,4 @@ pub mod Meanings
 pub mod Steps
 pub mod Compared
 pub mod SameMeanings
+pub mod Named

@@ -18,6 +18,7 @@ pub mod SameMeaning
 pub mod Decoding
 pub mod Printed
 pub mod Predefined
+pub mod Named
 pub mod Verdicts
 pub mod Eighteen
 pub mod Compared

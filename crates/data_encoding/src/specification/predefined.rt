@@ -19,12 +19,16 @@ macro_rules! values {
 }
 
 mod hexadecimal;
+mod named;
 mod sixty_four;
 mod thirty_two;
 
 pub use hexadecimal::{
     hexlower, hexlower_permissive, hexlower_permissive_ref, hexlower_ref, hexupper,
     hexupper_permissive, hexupper_permissive_ref, hexupper_ref,
+};
+pub use named::{
+    predefined, predefined_name, predefined_names, predefined_number, predefined_numbered,
 };
 pub use sixty_four::{
     base64, base64_mime, base64_mime_permissive, base64_mime_permissive_ref, base64_mime_ref,

@@ -3,7 +3,7 @@ use Rattle.std.proofs.lemmas.Result.{IfOk-weaker}
 use Rattle.std.specs.declared.string.String.{String}
 use Rattle.std.specs.declared.alloc.Global.{Global}
 use Rattle.basecode.specs.Faults.{printed_word_fault}
-use Rattle.basecode.specs.Names.{fields_named}
+use Rattle.data_encoding.specs.Named.{fields_named}
 use Rattle.basecode.specs.Words.{AreRequest, IsWrong, ask_of}
 use Rattle.basecode.proofs.WordLemmas.{name_requested, printed_name}
 use Rattle.basecode.proofs.callers.told.Goals as goal

@@ -1,6 +1,6 @@
 use Rattle.std.proofs.Common.{rules, arith, ◌≡◌, ◌∙◌, refl, sym, Some, IfErr, inl, inr}
 use Rattle.std.specs.Io.KnownBytes.{Appends, Keeps}
-use Rattle.basecode.specs.Names.{listing}
+use Rattle.data_encoding.specs.Named.{listing}
 use Rattle.basecode.specs.Run.{Begins, ByReply, Converts, Explains, OfNames, OfQuestion, Replies, TellsCanonical}
 use Rattle.encoding_stream.specs.Watch.{inner_of}
 use Rattle.basecode.specs.Words.{Asks, Names, request_of, texts}
