@@ -17,7 +17,8 @@ ghost use Rattle.data_encoding_meaning.specs.Partial.{is_length_fault, partial_o
 use crate::encoding::{Encoding, EncodingRef};
 use crate::error::{DecodeError, DecodeFault, DecodeKind, DecodePartial};
 use crate::memory::zeros;
-use data_encoding_kernel::group_size::{Base2, Base4, Base8, Base16, Base32, Base64, GroupSize};
+use data_encoding_kernel::call_by_width;
+use data_encoding_kernel::group_size::GroupSize;
 use data_encoding_meaning::limits;
 use std::alloc::Global;
 
@@ -138,7 +139,7 @@ impl EncodingRef<'_> {
         ensures len { length output.new ≡ length output.old }
     {
         let mut stop = Stop::new(0, 0, 0, DecodeKind::Length);
-        if self.decode_in_order(input, output, &mut stop) {
+        if self.decode_by_order(input, output, &mut stop) {
             return Ok(stop.written);
         }
         Err(self.stopped(input, output, stop))
@@ -188,14 +189,7 @@ impl EncodingRef<'_> {
             × IsLastRun self.now rest.now written output.new) }
         ensures none { result ≡ None → HasNoLastRun self.now rest.now }
     {
-        match self.fields.width {
-            1 => self.decode_last_run::<Base2>(rest, output),
-            2 => self.decode_last_run::<Base4>(rest, output),
-            3 => self.decode_last_run::<Base8>(rest, output),
-            4 => self.decode_last_run::<Base16>(rest, output),
-            5 => self.decode_last_run::<Base32>(rest, output),
-            _ => self.decode_last_run::<Base64>(rest, output),
-        }
+        call_by_width!(self.fields.width, self.decode_last_run::<>(rest, output))
     }
 
     // With the width as a constant.

@@ -16,8 +16,9 @@ ghost use Rattle.data_encoding_meaning.specs.Text.{padded_text, plain_text, text
 
 use crate::encoding::{Encoding, EncodingRef, group_bytes};
 use crate::memory::zeros;
+use data_encoding_kernel::call_by_width;
 use data_encoding_kernel::encode::encode_plain;
-use data_encoding_kernel::group_size::{Base2, Base4, Base8, Base16, Base32, Base64, GroupSize};
+use data_encoding_kernel::group_size::GroupSize;
 use data_encoding_meaning::limits;
 use std::alloc::{AllocError, Global};
 
@@ -147,16 +148,7 @@ impl EncodingRef<'_> {
         ensures text { output.new ≡ text_of self.now input.now }
         ensures ascii { All (λ byte. byte < 128) output.new }
     {
-        // The width is then a constant, and with it the sizes of a group: loops over a group are
-        // unrolled.
-        match self.fields.width {
-            1 => self.encode_by_width::<Base2>(input, output),
-            2 => self.encode_by_width::<Base4>(input, output),
-            3 => self.encode_by_width::<Base8>(input, output),
-            4 => self.encode_by_width::<Base16>(input, output),
-            5 => self.encode_by_width::<Base32>(input, output),
-            _ => self.encode_by_width::<Base64>(input, output),
-        }
+        call_by_width!(self.fields.width, self.encode_by_width::<>(input, output))
     }
 
     fn encode_by_width<G: GroupSize>(&self, input: &[u8], output: &mut [u8])

@@ -20,7 +20,7 @@ ghost use Rattle.data_encoding.specs.Specification.{specified, no_fields, refusa
 use crate::encoding::{BitOrder, Encoding, EncodingRef};
 use crate::specification::meanings::Refusal;
 use crate::specification::parts::SpecificationParts;
-use crate::specification::tables::{Tables, character, symbol_count};
+use crate::specification::tables::{Tables, alphabet_len, character};
 use std::alloc::{AllocError, Global};
 use std::error::Error;
 use std::fmt;
@@ -204,7 +204,7 @@ impl EncodingRef<'_> {
         ensures ascii { IsTrue (list_all (λ symbol. nat_lt symbol 128) result.symbols.now) }
     {
         Tables {
-            symbols: &self.fields.symbols[..symbol_count(self.fields.width)],
+            symbols: &self.fields.symbols[..alphabet_len(self.fields.width)],
             values: &self.fields.values[..128],
             padding: self.fields.padding_character(),
         }

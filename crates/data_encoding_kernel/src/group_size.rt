@@ -4,6 +4,22 @@ ghost use Rattle.std.specs.Prelude.{ℕ, refl};
 ghost use Rattle.std.proofs.Common.{lit<, lit≤};
 ghost use Rattle.data_encoding_meaning.specs.Base.{IsGroup};
 
+/// Calls a method with the type of a width, from 1 to 6, as its last type argument. The width is then
+/// a constant, and with it the sizes of a group: loops over a group are unrolled.
+#[macro_export]
+macro_rules! call_by_width {
+    ($width:expr, $this:ident.$call:ident::<$($order:ident)?>($($argument:expr),*)) => {
+        match $width {
+            1 => $this.$call::<$($order,)? $crate::group_size::Base2>($($argument),*),
+            2 => $this.$call::<$($order,)? $crate::group_size::Base4>($($argument),*),
+            3 => $this.$call::<$($order,)? $crate::group_size::Base8>($($argument),*),
+            4 => $this.$call::<$($order,)? $crate::group_size::Base16>($($argument),*),
+            5 => $this.$call::<$($order,)? $crate::group_size::Base32>($($argument),*),
+            _ => $this.$call::<$($order,)? $crate::group_size::Base64>($($argument),*),
+        }
+    };
+}
+
 /// The width, and how many bytes a whole group has, as how many symbols: constants, so that loops
 /// over a group are unrolled.
 pub trait GroupSize {

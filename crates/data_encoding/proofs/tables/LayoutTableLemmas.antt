@@ -1,12 +1,18 @@
 -- The layout of an encoding, from its tables.
-use Rattle.std.proofs.Common.{◌≡◌, ◌≢◌, ℕ, zero, suc, ◌+◌, ◌/◌, ◌^◌, Bool, if◌then◌else◌, List, [], ◌∷◌, ◌++◌, map, take, drop, replicate, unwrap_or, refl, sym, ap, ◌∙◌, append_assoc, take-append-drop}
+use Rattle.std.proofs.Common.{◌≡◌, ◌≢◌, ℕ, zero, suc, ◌+◌, ◌/◌, ◌^◌, Bool, if◌then◌else◌, List, [], ◌∷◌, ◌++◌, map, take, drop, replicate, unwrap_or, refl, sym, ap, ◌∙◌, append_assoc, take-append-drop, arith, min}
+use Rattle.std.proofs.lemmas.Bool.Decides.{nat_tests}
 use Rattle.std.specs.List.{concat}
 use Rattle.data_encoding_meaning.specs.Base.{ignores_some, wrapping_by}
 use Rattle.data_encoding.specs.Encoding.{EncodingTables, KeepsRules, base_of_tables}
+use Rattle.data_encoding.specs.PlainTables.{padding_by}
 use Rattle.data_encoding_meaning.specs.Entries.{meaning_of_entry}
 use Rattle.data_encoding_meaning.specs.Layout.{code_of, layout, order_flag, wrapping_bytes}
 use Rattle.data_encoding.proofs.tables.TableRuleLemmas.{HoldsEntries-tables}
 use Rattle.data_encoding_meaning.proofs.tables.LayoutLemmas.{codes-back}
+
+-- the entry of padding, or of none
+pub padding-entry : (entry : ℕ) → min entry 128 ≡ unwrap_or (padding_by entry) 128
+padding-entry entry = grind (arith, nat_tests)
 
 module _ (e : EncodingTables) (rules : KeepsRules e) where
   tables : concat (replicate (256 / 2 ^ e.width) (take (2 ^ e.width) e.symbols))

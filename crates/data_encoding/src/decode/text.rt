@@ -10,7 +10,8 @@ use crate::decode::steps::{Reached, Step};
 use crate::decode::{DECODE_LIMIT, Stop};
 use crate::encoding::{BitOrder, EncodingRef};
 use crate::error::DecodeKind;
-use data_encoding_kernel::group_size::{Base2, Base4, Base8, Base16, Base32, Base64, GroupSize};
+use data_encoding_kernel::call_by_width;
+use data_encoding_kernel::group_size::GroupSize;
 use data_encoding_kernel::lanes::affine::{Affine, affine_of};
 use data_encoding_kernel::lanes::rows::{Rows, rows_of};
 use data_encoding_kernel::order::{ConstantOrder, LeastSignificantFirst, MostSignificantFirst};
@@ -22,7 +23,7 @@ impl EncodingRef<'_> {
     /// Decodes a text as far as it has no fault, and returns whether it has none.
     // One call of `decode_mut`, which is then small enough to be part of its callers.
     #[inline(never)]
-    pub(crate) fn decode_in_order(&self, input: &[u8], output: &mut [u8], stop: &mut Stop) -> bool
+    pub(crate) fn decode_by_order(&self, input: &[u8], output: &mut [u8], stop: &mut Stop) -> bool
         requires limit { length input.now ≤ DECODE_LIMIT }
         requires exact { decoded_len self.now (length input.now) ≡ Ok (length output.old) }
         ensures ends { HasEnded self.now input.now output.new stop.new result }
@@ -53,14 +54,14 @@ impl EncodingRef<'_> {
         ensures width { IsWidth self.now.width }
     {
         if input.len() < AFFINE_FROM {
-            return self.decode_short::<O>(input, output, stop);
+            return self.decode_short_by_width::<O>(input, output, stop);
         }
-        self.decode_by_width::<O>(input, output, stop)
+        self.decode_long_by_width::<O>(input, output, stop)
     }
 
     // A short text. In the same function as the test of the length it took more time.
     #[inline(never)]
-    fn decode_short<O: ConstantOrder>(
+    fn decode_short_by_width<O: ConstantOrder>(
         &self,
         input: &[u8],
         output: &mut [u8],
@@ -72,19 +73,15 @@ impl EncodingRef<'_> {
         ensures ends { HasEnded self.now input.now output.new stop.new result }
         ensures width { IsWidth self.now.width }
     {
-        match self.fields.width {
-            1 => self.decode_text::<O, Base2>(input, output, stop),
-            2 => self.decode_text::<O, Base4>(input, output, stop),
-            3 => self.decode_text::<O, Base8>(input, output, stop),
-            4 => self.decode_text::<O, Base16>(input, output, stop),
-            5 => self.decode_text::<O, Base32>(input, output, stop),
-            _ => self.decode_text::<O, Base64>(input, output, stop),
-        }
+        call_by_width!(
+            self.fields.width,
+            self.decode_text::<O>(input, output, stop)
+        )
     }
 
     // A text of some length.
     #[inline(never)]
-    fn decode_by_width<O: ConstantOrder>(
+    fn decode_long_by_width<O: ConstantOrder>(
         &self,
         input: &[u8],
         output: &mut [u8],
@@ -96,14 +93,10 @@ impl EncodingRef<'_> {
         ensures ends { HasEnded self.now input.now output.new stop.new result }
         ensures width { IsWidth self.now.width }
     {
-        match self.fields.width {
-            1 => self.decode_long::<O, Base2>(input, output, stop),
-            2 => self.decode_long::<O, Base4>(input, output, stop),
-            3 => self.decode_long::<O, Base8>(input, output, stop),
-            4 => self.decode_long::<O, Base16>(input, output, stop),
-            5 => self.decode_long::<O, Base32>(input, output, stop),
-            _ => self.decode_long::<O, Base64>(input, output, stop),
-        }
+        call_by_width!(
+            self.fields.width,
+            self.decode_long::<O>(input, output, stop)
+        )
     }
 
     // With the width as a constant too, and the sizes of a group. Most texts end with the first

@@ -11,7 +11,7 @@ use crate::encoding::{BitOrder, Encoding, EncodingRef, INVALID};
 use crate::plain::padding_of;
 use crate::specification::builder::define;
 use crate::specification::parts::SpecificationParts;
-use crate::specification::tables::{Tables, character, symbol_count};
+use crate::specification::tables::{Tables, alphabet_len, character};
 use arrayvec::ArrayVec;
 
 impl Encoding {
@@ -73,7 +73,7 @@ impl EncodingRef<'_> {
         put(&mut bytes, &self.fields.values);
         put(
             &mut bytes,
-            &[padding_entry(self.fields.padding_character()), self.flags()],
+            &[self.fields.padding.min(INVALID), self.flags()],
         );
         if self.fields.column != 0 {
             put(&mut bytes, &[self.fields.column]);
@@ -113,13 +113,6 @@ fn put(layout: &mut ArrayVec<u8, 770>, bytes: &[u8])
     layout.try_extend_from_slice(bytes).unwrap();
 }
 
-// The padding character, or 128.
-fn padding_entry(padding: Option<u8>) -> u8
-    ensures { result ≡ unwrap_or padding 128 }
-{
-    padding.unwrap_or(INVALID)
-}
-
 // The encoding that has these bytes as its layout, where there is one.
 fn described(bytes: &[u8]) -> Option<Encoding>
     requires { 514 ≤ length bytes.now }
@@ -133,7 +126,7 @@ fn described(bytes: &[u8]) -> Option<Encoding>
         return None;
     }
     let tables = Tables {
-        symbols: &bytes[..symbol_count(width)],
+        symbols: &bytes[..alphabet_len(width)],
         values: &bytes[256..384],
         padding: padding_of(bytes[512]),
     };

@@ -89,7 +89,7 @@ impl Tables<'_> {
 }
 
 // The number of symbols.
-pub(crate) fn symbol_count(width: u8) -> usize
+pub(crate) fn alphabet_len(width: u8) -> usize
     requires { width ≤ 6 }
     ensures value { result ≡ 2 ^ width }
     ensures few { result ≤ 64 }

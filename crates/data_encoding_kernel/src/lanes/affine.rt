@@ -118,47 +118,40 @@ fn agrees_in_row(affine: &Affine, values: &[u8; 256], row: usize) -> bool
     are_below(128, found.simd_eq(entries).select(u8x16::splat(0), moved))
 }
 
+// What is found at bytes: `$in_row` looks into a row of sixteen.
+macro_rules! found_by_rows {
+    ($affine:ident, $bytes:ident, $in_row:ident, $lanes:ident) => {{
+        let rows = $bytes >> $lanes::splat(4);
+        found(
+            $affine,
+            $bytes,
+            $in_row($affine.symbols, $bytes),
+            $in_row(bits(), rows),
+            $in_row($affine.deltas, rows),
+        )
+    }};
+}
+
 // What is found at 16 bytes.
 #[inline(always)]
 fn found_16(affine: &Affine, bytes: u8x16) -> u8x16
     ensures { result ≡ map (affine_entry affine.now) bytes }
 {
-    let rows = bytes >> u8x16::splat(4);
-    found(
-        affine,
-        bytes,
-        in_row_16(affine.symbols, bytes),
-        in_row_16(bits(), rows),
-        in_row_16(affine.deltas, rows),
-    )
+    found_by_rows!(affine, bytes, in_row_16, u8x16)
 }
 
 #[inline(always)]
 fn found_32(affine: &Affine, bytes: u8x32) -> u8x32
     ensures { result ≡ map (affine_entry affine.now) bytes }
 {
-    let rows = bytes >> u8x32::splat(4);
-    found(
-        affine,
-        bytes,
-        in_row_32(affine.symbols, bytes),
-        in_row_32(bits(), rows),
-        in_row_32(affine.deltas, rows),
-    )
+    found_by_rows!(affine, bytes, in_row_32, u8x32)
 }
 
 #[inline(always)]
 fn found_64(affine: &Affine, bytes: u8x64) -> u8x64
     ensures { result ≡ map (affine_entry affine.now) bytes }
 {
-    let rows = bytes >> u8x64::splat(4);
-    found(
-        affine,
-        bytes,
-        in_row_64(affine.symbols, bytes),
-        in_row_64(bits(), rows),
-        in_row_64(affine.deltas, rows),
-    )
+    found_by_rows!(affine, bytes, in_row_64, u8x64)
 }
 
 // The bit of each row; none of those whose bytes are 128 or more.

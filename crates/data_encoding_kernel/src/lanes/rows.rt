@@ -87,6 +87,39 @@ fn by_bit<const N: usize>(
     bits.simd_ge(Simd::<u8, N>::splat(128)).select(ones, zeros)
 }
 
+// The entries of bytes by the rows, of which `$in_row` looks into one. The bit of weight 128 stays.
+macro_rules! entries_by_rows {
+    ($rows:ident, $bytes:ident, $in_row:ident, $lanes:ident) => {{
+        let first = by_bit(
+            3,
+            $bytes,
+            $in_row($rows.second, $bytes),
+            $in_row($rows.first, $bytes),
+        );
+        let second = by_bit(
+            3,
+            $bytes,
+            $in_row($rows.fourth, $bytes),
+            $in_row($rows.third, $bytes),
+        );
+        let third = by_bit(
+            3,
+            $bytes,
+            $in_row($rows.sixth, $bytes),
+            $in_row($rows.fifth, $bytes),
+        );
+        let fourth = by_bit(
+            3,
+            $bytes,
+            $in_row($rows.eighth, $bytes),
+            $in_row($rows.seventh, $bytes),
+        );
+        let below = by_bit(2, $bytes, second, first);
+        let above = by_bit(2, $bytes, fourth, third);
+        by_bit(1, $bytes, above, below) | ($bytes & $lanes::splat(128))
+    }};
+}
+
 /// The entries of 16 bytes; of a byte from 128 on, 128 or more.
 #[inline(always)]
 pub fn entries_16(rows: &Rows, bytes: u8x16) -> u8x16
@@ -94,33 +127,7 @@ pub fn entries_16(rows: &Rows, bytes: u8x16) -> u8x16
         → AllByRecursion (λ entry. entry < 128) result
         → result ≡ map (slice_index values) bytes }
 {
-    let first = by_bit(
-        3,
-        bytes,
-        in_row_16(rows.second, bytes),
-        in_row_16(rows.first, bytes),
-    );
-    let second = by_bit(
-        3,
-        bytes,
-        in_row_16(rows.fourth, bytes),
-        in_row_16(rows.third, bytes),
-    );
-    let third = by_bit(
-        3,
-        bytes,
-        in_row_16(rows.sixth, bytes),
-        in_row_16(rows.fifth, bytes),
-    );
-    let fourth = by_bit(
-        3,
-        bytes,
-        in_row_16(rows.eighth, bytes),
-        in_row_16(rows.seventh, bytes),
-    );
-    let below = by_bit(2, bytes, second, first);
-    let above = by_bit(2, bytes, fourth, third);
-    by_bit(1, bytes, above, below) | (bytes & u8x16::splat(128))
+    entries_by_rows!(rows, bytes, in_row_16, u8x16)
 }
 
 /// The entries of 32 bytes; of a byte from 128 on, 128 or more.
@@ -130,33 +137,7 @@ pub fn entries_32(rows: &Rows, bytes: u8x32) -> u8x32
         → AllByRecursion (λ entry. entry < 128) result
         → result ≡ map (slice_index values) bytes }
 {
-    let first = by_bit(
-        3,
-        bytes,
-        in_row_32(rows.second, bytes),
-        in_row_32(rows.first, bytes),
-    );
-    let second = by_bit(
-        3,
-        bytes,
-        in_row_32(rows.fourth, bytes),
-        in_row_32(rows.third, bytes),
-    );
-    let third = by_bit(
-        3,
-        bytes,
-        in_row_32(rows.sixth, bytes),
-        in_row_32(rows.fifth, bytes),
-    );
-    let fourth = by_bit(
-        3,
-        bytes,
-        in_row_32(rows.eighth, bytes),
-        in_row_32(rows.seventh, bytes),
-    );
-    let below = by_bit(2, bytes, second, first);
-    let above = by_bit(2, bytes, fourth, third);
-    by_bit(1, bytes, above, below) | (bytes & u8x32::splat(128))
+    entries_by_rows!(rows, bytes, in_row_32, u8x32)
 }
 
 /// The entries of 64 bytes; of a byte from 128 on, 128 or more.
@@ -166,31 +147,5 @@ pub fn entries_64(rows: &Rows, bytes: u8x64) -> u8x64
         → AllByRecursion (λ entry. entry < 128) result
         → result ≡ map (slice_index values) bytes }
 {
-    let first = by_bit(
-        3,
-        bytes,
-        in_row_64(rows.second, bytes),
-        in_row_64(rows.first, bytes),
-    );
-    let second = by_bit(
-        3,
-        bytes,
-        in_row_64(rows.fourth, bytes),
-        in_row_64(rows.third, bytes),
-    );
-    let third = by_bit(
-        3,
-        bytes,
-        in_row_64(rows.sixth, bytes),
-        in_row_64(rows.fifth, bytes),
-    );
-    let fourth = by_bit(
-        3,
-        bytes,
-        in_row_64(rows.eighth, bytes),
-        in_row_64(rows.seventh, bytes),
-    );
-    let below = by_bit(2, bytes, second, first);
-    let above = by_bit(2, bytes, fourth, third);
-    by_bit(1, bytes, above, below) | (bytes & u8x64::splat(128))
+    entries_by_rows!(rows, bytes, in_row_64, u8x64)
 }

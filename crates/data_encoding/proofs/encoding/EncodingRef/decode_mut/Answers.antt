@@ -9,9 +9,9 @@ use Rattle.data_encoding.proofs.encoding.EncodingRef.decode_mut.Goals.{After-sto
 stops : (c : After-stopped)
     → StopsAt c.args.self.now c.args.input.now c.stopped.new.output c.stopped.result
 stops c =
-    let ended : HasStopped c.args.self.now c.args.input.now c.decode_in_order.new.output
-    c.decode_in_order.new.stop =
-    rw c.if-decode_in_order.false at c.decode_in_order.ensures.ends in
+    let ended : HasStopped c.args.self.now c.args.input.now c.decode_by_order.new.output
+    c.decode_by_order.new.stop =
+    rw c.if-decode_by_order.false at c.decode_by_order.ensures.ends in
     ended.stops c.stopped.new.output c.stopped.result
     (omega (arith, c.stopped.auto.output, ended.fits)) c.stopped.ensures.kept c.stopped.ensures.stop
 
@@ -19,7 +19,7 @@ pub returns-clause-accepted : goal.returns-clause-accepted
 returns-clause-accepted c bytes means =
     let fault = fault-partial c.args.self.now c.args.input.now c.stopped.result
     (stops (goal.at.returns-clause-accepted c).After-stopped).is_partial in
-    let none = no_fault-Means c.args.self.now c.decode_in_order.ensures.width c.args.input.now bytes
+    let none = no_fault-Means c.args.self.now c.decode_by_order.ensures.width c.args.input.now bytes
     means in
     cc
 
@@ -36,5 +36,5 @@ returns-clause-bounds c =
 
 pub returns-clause-most : goal.returns-clause-most
 returns-clause-most c =
-    most-partial c.args.self.now c.decode_in_order.ensures.width c.args.input.now
+    most-partial c.args.self.now c.decode_by_order.ensures.width c.args.input.now
     c.stopped.new.output c.stopped.result (stops (goal.at.returns-clause-most c).After-stopped)

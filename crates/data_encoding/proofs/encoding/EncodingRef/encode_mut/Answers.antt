@@ -14,32 +14,32 @@ ascii e rules seen is input output written =
     All-from_recursion (λ byte. byte < 128) output
     (subst (AllByRecursion (λ byte. byte < 128)) (sym written) (ascii-seen e rules seen is input))
 
-pub returns-in-1-clause-ascii : goal.returns-in-1-clause-ascii
-returns-in-1-clause-ascii c =
+pub returns-in-1-call_by_width-clause-ascii : goal.returns-in-1-call_by_width-clause-ascii
+returns-in-1-call_by_width-clause-ascii c =
     ascii _ c.self.invariant c.args.self.now c.self.view_is c.args.input.now
-    c.encode_by_width.new.output c.encode_by_width.ensures
+    c.call_by_width-encode_by_width.new.output c.call_by_width-encode_by_width.ensures
 
-pub returns-in-2-clause-ascii : goal.returns-in-2-clause-ascii
-returns-in-2-clause-ascii c =
+pub returns-in-2-call_by_width-clause-ascii : goal.returns-in-2-call_by_width-clause-ascii
+returns-in-2-call_by_width-clause-ascii c =
     ascii _ c.self.invariant c.args.self.now c.self.view_is c.args.input.now
-    c.encode_by_width-in-2.new.output c.encode_by_width-in-2.ensures
+    c.call_by_width-encode_by_width-2.new.output c.call_by_width-encode_by_width-2.ensures
 
-pub returns-in-3-clause-ascii : goal.returns-in-3-clause-ascii
-returns-in-3-clause-ascii c =
+pub returns-in-3-call_by_width-clause-ascii : goal.returns-in-3-call_by_width-clause-ascii
+returns-in-3-call_by_width-clause-ascii c =
     ascii _ c.self.invariant c.args.self.now c.self.view_is c.args.input.now
-    c.encode_by_width-in-3.new.output c.encode_by_width-in-3.ensures
+    c.call_by_width-encode_by_width-3.new.output c.call_by_width-encode_by_width-3.ensures
 
-pub returns-in-4-clause-ascii : goal.returns-in-4-clause-ascii
-returns-in-4-clause-ascii c =
+pub returns-in-4-call_by_width-clause-ascii : goal.returns-in-4-call_by_width-clause-ascii
+returns-in-4-call_by_width-clause-ascii c =
     ascii _ c.self.invariant c.args.self.now c.self.view_is c.args.input.now
-    c.encode_by_width-in-4.new.output c.encode_by_width-in-4.ensures
+    c.call_by_width-encode_by_width-4.new.output c.call_by_width-encode_by_width-4.ensures
 
-pub returns-in-5-clause-ascii : goal.returns-in-5-clause-ascii
-returns-in-5-clause-ascii c =
+pub returns-in-5-call_by_width-clause-ascii : goal.returns-in-5-call_by_width-clause-ascii
+returns-in-5-call_by_width-clause-ascii c =
     ascii _ c.self.invariant c.args.self.now c.self.view_is c.args.input.now
-    c.encode_by_width-in-5.new.output c.encode_by_width-in-5.ensures
+    c.call_by_width-encode_by_width-5.new.output c.call_by_width-encode_by_width-5.ensures
 
 pub returns-in_default-clause-ascii : goal.returns-in_default-clause-ascii
 returns-in_default-clause-ascii c =
     ascii _ c.self.invariant c.args.self.now c.self.view_is c.args.input.now
-    c.encode_by_width-in_default.new.output c.encode_by_width-in_default.ensures
+    c.call_by_width-encode_by_width-6.new.output c.call_by_width-encode_by_width-6.ensures

@@ -1,13 +1,13 @@
 use Rattle.std.proofs.Common.{◌++◌, ◌∷◌, [], false, true, append_assoc, append-nil, sym, ◌∙◌}
 use Rattle.data_encoding.specs.PlainTables.{plain_tables}
-use Rattle.data_encoding.proofs.tables.LayoutTableLemmas.{layout-joined, lines-tail, no_lines-tail}
+use Rattle.data_encoding.proofs.tables.LayoutTableLemmas.{layout-joined, lines-tail, no_lines-tail, padding-entry}
 use Rattle.data_encoding.proofs.encoding.EncodingRef.internal_implementation.Goals as goal
 
 pub returns-then-self-ne0 : goal.returns-then-self-ne0
 returns-then-self-ne0 c =
     let e = plain_tables c.self.inside.fields.now in
     let flags = rw (← c.self.view_is) at c.flags.ensures in
-    let head = rw (c.padding_entry.ensures, c.padding_character.ensures, flags)
+    let head = rw (c.min.ensures, padding-entry c.self.inside.fields.now.padding, flags)
     at c.put-3.ensures in
     let last = c.put-then-self-ne0-2.ensures
     ∙ (λ i. c.put-then-self-ne0.ensures i ++ c.line_separator.ensures.value i)
@@ -19,7 +19,7 @@ returns-then-self-ne0 c =
 pub returns-then-self : goal.returns-then-self
 returns-then-self c =
     let flags = rw (← c.self.view_is) at c.flags.ensures in
-    let head = rw (c.padding_entry.ensures, c.padding_character.ensures, flags)
+    let head = rw (c.min.ensures, padding-entry c.self.inside.fields.now.padding, flags)
     at c.put-3.ensures in
     rw (← c.self.view_is) (layout-joined _ c.self.invariant _ _ _ _ _ (0 ∷ [])
     c.new-bytes.ensures c.put.ensures c.put-2.ensures head c.put-then-self.ensures
@@ -29,7 +29,7 @@ returns-then-self c =
 pub returns-else-self : goal.returns-else-self
 returns-else-self c =
     let flags = rw (← c.self.view_is) at c.flags.ensures in
-    let head = rw (c.padding_entry.ensures, c.padding_character.ensures, flags)
+    let head = rw (c.min.ensures, padding-entry c.self.inside.fields.now.padding, flags)
     at c.put-3.ensures in
     rw (← c.self.view_is) (layout-joined _ c.self.invariant _ _ _ _ _ []
     c.new-bytes.ensures c.put.ensures c.put-2.ensures head

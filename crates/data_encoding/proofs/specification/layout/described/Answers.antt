@@ -25,7 +25,7 @@ returns-then-width-eq0-clause-found c = λ base is same.
 -- what is read
 fields : goal.After-ok → Fields
 fields c = record {
-  symbols = take c.symbol_count.result c.args.bytes.now;
+  symbols = take c.alphabet_len.result c.args.bytes.now;
   order = c.order_of.result;
   checks_trailing_bits = get_or c.args.bytes.now 513 0 / 16 % 2 == 1;
   concatenates = get_or c.args.bytes.now 513 0 / 32 % 2 == 0;
@@ -43,11 +43,11 @@ fields-of_base : (c : goal.After-ok) (base : Base) → IsReadAs base c.args.byte
 unfolding fields
 fields-of_base c base read =
     let bytes = c.args.bytes.now in
-    let count : c.symbol_count.result ≡ 2 ^ base.width =
-    c.symbol_count.ensures.value ∙ ap (λ w. 2 ^ w) read.has_flags.width_is in
-    let symbols : take c.symbol_count.result bytes ≡ take (2 ^ base.width) bytes =
+    let count : c.alphabet_len.result ≡ 2 ^ base.width =
+    c.alphabet_len.ensures.value ∙ ap (λ w. 2 ^ w) read.has_flags.width_is in
+    let symbols : take c.alphabet_len.result bytes ≡ take (2 ^ base.width) bytes =
     ap (λ n. take n bytes) count in
-    let has = λ (tables : Tables) (s : tables.symbols.now ≡ take c.symbol_count.result bytes)
+    let has = λ (tables : Tables) (s : tables.symbols.now ≡ take c.alphabet_len.result bytes)
     (v : tables.values.now ≡ take 128 (drop 256 bytes))
     (p : tables.padding ≡ c.padding_of.result).
     has_tables base bytes read tables (s ∙ symbols) v (p ∙ c.padding_of.ensures) in

@@ -1,6 +1,6 @@
 use Rattle.std.proofs.Common.{◌^◌, ◌≤◌, arith}
 use Rattle.std.proofs.Math.Pow.{pow_mono}
-use Rattle.data_encoding.proofs.specification.tables.symbol_count.Goals as goal
+use Rattle.data_encoding.proofs.specification.tables.alphabet_len.Goals as goal
 
 pub returns-clause-few : goal.returns-clause-few
 returns-clause-few c =
