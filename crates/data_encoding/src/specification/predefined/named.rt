@@ -76,8 +76,8 @@ macro_rules! list {
     };
 }
 
-/// The predefined encoding of a name, as `BASE64_MIME`, where it is known: those of the constants of
-/// the Rust crate, in upper case.
+/// The predefined encoding of a name, such as `BASE64_MIME`, if it is one of the eighteen, in upper
+/// case.
 pub fn predefined(name: &str) -> Option<EncodingRef<'static>>
     ensures known { IfSome result (IsNamed name.now) }
     ensures unknown { (result ≡ None) ↔ (fields_named name.now ≡ None) }
