@@ -65,7 +65,7 @@ given=$(cd "$crate" && env -u DATA_ENCODING_DIR cargo check 2>&1 | sed -n 's/^ *
 is 'without DATA_ENCODING_DIR' "$wanted" "$given"
 
 # What the crate declares of a de_encoding is large enough.
-size=$(sed -n 's/^const MADE_SIZE: usize = \([0-9]*\);$/\1/p' "$crate/src/ffi.rs")
+size=$(sed -n 's/^const TABLES_SIZE: usize = \([0-9]*\);$/\1/p' "$crate/src/ffi.rs")
 cc=${CC:-cc}
 if command -v "$cc" >/dev/null; then
     cat >"$room/size.c" <<END

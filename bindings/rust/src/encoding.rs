@@ -8,7 +8,7 @@ use core::fmt;
 
 use crate::ffi::{self, Handle};
 use crate::layout::Layout;
-use crate::{program, Character, DecodeError, DecodePartial, Display};
+use crate::{static_layout, Character, DecodeError, DecodePartial, Display};
 #[cfg(feature = "alloc")]
 use crate::{Encoder, Specification};
 
@@ -27,16 +27,16 @@ pub struct Encoding(Source);
 enum Source {
     /// A predefined one, which the library has by its number.
     Predefined { number: u32, layout: &'static [u8] },
-    /// One whose layout is in the program.
-    Program(&'static [u8]),
-    /// One that was built.
+    /// A layout of the program, which is judged when it is used.
+    Static(&'static [u8]),
+    /// One that was built of a specification.
     #[cfg(feature = "alloc")]
-    Owned(Arc<Owned>),
+    Built(Arc<Built>),
 }
 
 #[cfg(feature = "alloc")]
-struct Owned {
-    made: ffi::Made,
+struct Built {
+    tables: ffi::Tables,
     layout: Vec<u8>,
 }
 
@@ -46,32 +46,32 @@ impl Encoding {
     }
 
     #[cfg(feature = "alloc")]
-    pub(crate) fn owned(made: ffi::Made) -> Self {
-        let layout = ffi::layout(&made);
-        Encoding(Source::Owned(Arc::new(Owned { made, layout })))
+    pub(crate) fn built(tables: ffi::Tables) -> Self {
+        let layout = ffi::layout(&tables);
+        Encoding(Source::Built(Arc::new(Built { tables, layout })))
     }
 
     /// Calls with the encoding as the library takes it.
     #[inline]
     fn with<R>(&self, call: impl FnOnce(Handle<'_>) -> R) -> R {
-        let read;
+        let tables;
         call(match &self.0 {
             Source::Predefined { number, .. } => Handle::Number(*number),
-            Source::Program(layout) => Handle::Made(match program::kept(layout) {
-                Some(made) => made,
+            Source::Static(layout) => Handle::Tables(match static_layout::kept(layout) {
+                Some(kept) => kept,
                 None => {
-                    read = program::read(layout);
-                    &read
+                    tables = static_layout::read(layout);
+                    &tables
                 }
             }),
             #[cfg(feature = "alloc")]
-            Source::Owned(owned) => Handle::Made(&owned.made),
+            Source::Built(built) => Handle::Tables(&built.tables),
         })
     }
 
     /// The fields of the layout, which is judged if it is one of the program.
     fn layout(&self) -> Layout<'_> {
-        if let Source::Program(_) = self.0 {
+        if let Source::Static(_) = self.0 {
             self.with(|_| ());
         }
         self.fields()
@@ -326,7 +326,7 @@ impl Encoding {
     #[doc(hidden)]
     #[must_use]
     pub const fn internal_new(implementation: &'static [u8]) -> Encoding {
-        Encoding(Source::Program(implementation))
+        Encoding(Source::Static(implementation))
     }
 
     /// Returns the layout.
@@ -335,9 +335,9 @@ impl Encoding {
     #[inline]
     pub fn internal_implementation(&self) -> &[u8] {
         match &self.0 {
-            Source::Predefined { layout, .. } | Source::Program(layout) => layout,
+            Source::Predefined { layout, .. } | Source::Static(layout) => layout,
             #[cfg(feature = "alloc")]
-            Source::Owned(owned) => &owned.layout,
+            Source::Built(built) => &built.layout,
         }
     }
 }

@@ -9,48 +9,54 @@ use alloc::vec::Vec;
 use core::ffi::c_int;
 use core::str;
 
+#[cfg(feature = "alloc")]
+use crate::error::Refusal;
+#[cfg(feature = "alloc")]
+use crate::{BitOrder, Specification, SpecificationError};
 use crate::{DecodeError, DecodeKind, DecodePartial};
 
 /// The statuses that these calls look at.
-pub(crate) mod status {
-    pub(crate) const OK: u32 = 0;
-    pub(crate) const TOO_LONG: u32 = 3;
-    pub(crate) const SHORT_BUFFER: u32 = 4;
-    pub(crate) const INVALID_LENGTH: u32 = 6;
-    pub(crate) const INVALID_SYMBOL: u32 = 7;
-    pub(crate) const INVALID_TRAILING_BITS: u32 = 8;
-    pub(crate) const INVALID_PADDING: u32 = 9;
-    #[cfg(feature = "alloc")]
-    pub(crate) mod refusal {
-        pub(crate) const SYMBOL_COUNT: u32 = 10;
-        pub(crate) const NOT_ASCII: u32 = 11;
-        pub(crate) const DUPLICATE: u32 = 12;
-        pub(crate) const EXTRA_PADDING: u32 = 13;
-        pub(crate) const WRAP_LENGTH: u32 = 14;
-        pub(crate) const WRAP_WIDTH: u32 = 15;
-        pub(crate) const TRANSLATE_LENGTH: u32 = 16;
-        pub(crate) const UNDEFINED: u32 = 17;
-    }
+mod status {
+    pub(super) const OK: u32 = 0;
+    pub(super) const TOO_LONG: u32 = 3;
+    pub(super) const SHORT_BUFFER: u32 = 4;
+    pub(super) const INVALID_LENGTH: u32 = 6;
+    pub(super) const INVALID_SYMBOL: u32 = 7;
+    pub(super) const INVALID_TRAILING_BITS: u32 = 8;
+    pub(super) const INVALID_PADDING: u32 = 9;
+}
+
+/// The statuses of a specification that is refused.
+#[cfg(feature = "alloc")]
+mod refused {
+    pub(super) const SYMBOL_COUNT: u32 = 10;
+    pub(super) const NOT_ASCII: u32 = 11;
+    pub(super) const DUPLICATE: u32 = 12;
+    pub(super) const EXTRA_PADDING: u32 = 13;
+    pub(super) const WRAP_LENGTH: u32 = 14;
+    pub(super) const WRAP_WIDTH: u32 = 15;
+    pub(super) const TRANSLATE_LENGTH: u32 = 16;
+    pub(super) const UNDEFINED: u32 = 17;
 }
 
 /// The size of a `de_encoding`, or more.
-const MADE_SIZE: usize = 784;
+const TABLES_SIZE: usize = 784;
 
 /// The greatest length of a layout.
 #[cfg(feature = "alloc")]
 const LAYOUT_LIMIT: usize = 770;
 
-/// An encoding that the library made: a `de_encoding`, which is plain bytes.
+/// The tables of an encoding that the library made: a `de_encoding`, which is plain bytes.
 #[repr(C, align(8))]
-pub(crate) struct Made([u8; MADE_SIZE]);
+pub(crate) struct Tables([u8; TABLES_SIZE]);
 
 /// An encoding as the calls take it.
 #[derive(Clone, Copy)]
 pub(crate) enum Handle<'a> {
     /// The number of a predefined encoding.
     Number(u32),
-    /// One that the library made.
-    Made(&'a Made),
+    /// The tables of any encoding.
+    Tables(&'a Tables),
 }
 
 /// How far a text was decoded.
@@ -62,21 +68,7 @@ struct Decoded {
     position: usize,
 }
 
-/// What an encoding is asked for by: a `de_specification` whose pointers are borrowed slices.
-#[cfg(feature = "alloc")]
-#[derive(Default)]
-pub(crate) struct Asked<'a> {
-    pub(crate) symbols: &'a str,
-    pub(crate) ignore: &'a str,
-    pub(crate) separator: &'a str,
-    pub(crate) width: usize,
-    pub(crate) from: &'a str,
-    pub(crate) to: &'a str,
-    pub(crate) padding: Option<char>,
-    pub(crate) least_significant_first: bool,
-    pub(crate) check_trailing_bits: bool,
-}
-
+/// Bytes of a `de_specification`.
 #[cfg(feature = "alloc")]
 #[repr(C)]
 struct Bytes {
@@ -91,9 +83,10 @@ impl Bytes {
     }
 }
 
+/// A `de_specification`.
 #[cfg(feature = "alloc")]
 #[repr(C)]
-struct Specification {
+struct Request {
     symbols: Bytes,
     ignore: Bytes,
     separator: Bytes,
@@ -126,35 +119,35 @@ extern "C" {
         decoded: *mut Decoded,
     ) -> u32;
     fn de_is_canonical(number: u32, canonical: *mut bool) -> u32;
-    fn de_encoding_encode_len(encoding: *const Made, len: usize, text_len: *mut usize) -> u32;
+    fn de_encoding_encode_len(encoding: *const Tables, len: usize, text_len: *mut usize) -> u32;
     fn de_encoding_encode(
-        encoding: *const Made,
+        encoding: *const Tables,
         input: *const u8,
         input_len: usize,
         output: *mut u8,
         output_len: usize,
         written: *mut usize,
     ) -> u32;
-    fn de_encoding_decode_len(encoding: *const Made, len: usize, most: *mut usize) -> u32;
+    fn de_encoding_decode_len(encoding: *const Tables, len: usize, most: *mut usize) -> u32;
     fn de_encoding_decode(
-        encoding: *const Made,
+        encoding: *const Tables,
         input: *const u8,
         input_len: usize,
         output: *mut u8,
         output_len: usize,
         decoded: *mut Decoded,
     ) -> u32;
-    fn de_encoding_is_canonical(encoding: *const Made, canonical: *mut bool) -> u32;
-    fn de_encoding_read(encoding: *mut Made, layout: *const u8, len: usize) -> u32;
+    fn de_encoding_is_canonical(encoding: *const Tables, canonical: *mut bool) -> u32;
+    fn de_encoding_read(encoding: *mut Tables, layout: *const u8, len: usize) -> u32;
     #[cfg(feature = "alloc")]
     fn de_encoding_new(
-        encoding: *mut Made,
-        specification: *const Specification,
+        encoding: *mut Tables,
+        specification: *const Request,
         detail: *mut usize,
     ) -> u32;
     #[cfg(feature = "alloc")]
     fn de_encoding_layout(
-        encoding: *const Made,
+        encoding: *const Tables,
         output: *mut u8,
         output_len: usize,
         written: *mut usize,
@@ -169,11 +162,11 @@ extern "C" {
 #[inline]
 pub(crate) fn encode_len(encoding: Handle<'_>, len: usize) -> usize {
     let mut text_len = 0;
-    // SAFETY: The encoding is a number or was made, and the other pointer is to a local variable.
+    // SAFETY: The encoding is a number or was tables, and the other pointer is to a local variable.
     let status = unsafe {
         match encoding {
             Handle::Number(number) => de_encode_len(number, len, &mut text_len),
-            Handle::Made(made) => de_encoding_encode_len(made, len, &mut text_len),
+            Handle::Tables(tables) => de_encoding_encode_len(tables, len, &mut text_len),
         }
     };
     accept(status);
@@ -234,8 +227,8 @@ unsafe fn encode_to(
             Handle::Number(number) => {
                 de_encode(number, bytes, len, output, output_len, &mut written)
             }
-            Handle::Made(made) => {
-                de_encoding_encode(made, bytes, len, output, output_len, &mut written)
+            Handle::Tables(tables) => {
+                de_encoding_encode(tables, bytes, len, output, output_len, &mut written)
             }
         }
     };
@@ -251,11 +244,11 @@ unsafe fn encode_to(
 #[inline]
 pub(crate) fn decode_len(encoding: Handle<'_>, len: usize) -> Result<usize, DecodeError> {
     let mut most = 0;
-    // SAFETY: The encoding is a number or was made, and the other pointer is to a local variable.
+    // SAFETY: The encoding is a number or was tables, and the other pointer is to a local variable.
     let status = unsafe {
         match encoding {
             Handle::Number(number) => de_decode_len(number, len, &mut most),
-            Handle::Made(made) => de_encoding_decode_len(made, len, &mut most),
+            Handle::Tables(tables) => de_encoding_decode_len(tables, len, &mut most),
         }
     };
     match status {
@@ -322,8 +315,8 @@ unsafe fn decode_to(
             Handle::Number(number) => {
                 de_decode(number, bytes, len, output, output_len, &mut decoded)
             }
-            Handle::Made(made) => {
-                de_encoding_decode(made, bytes, len, output, output_len, &mut decoded)
+            Handle::Tables(tables) => {
+                de_encoding_decode(tables, bytes, len, output, output_len, &mut decoded)
             }
         }
     };
@@ -347,11 +340,11 @@ fn partial(status: u32, decoded: &Decoded) -> DecodePartial {
 /// Returns whether no two different texts decode to the same data.
 pub(crate) fn is_canonical(encoding: Handle<'_>) -> bool {
     let mut canonical = false;
-    // SAFETY: The encoding is a number or was made, and the other pointer is to a local variable.
+    // SAFETY: The encoding is a number or was tables, and the other pointer is to a local variable.
     let status = unsafe {
         match encoding {
             Handle::Number(number) => de_is_canonical(number, &mut canonical),
-            Handle::Made(made) => de_encoding_is_canonical(made, &mut canonical),
+            Handle::Tables(tables) => de_encoding_is_canonical(tables, &mut canonical),
         }
     };
     accept(status);
@@ -359,49 +352,64 @@ pub(crate) fn is_canonical(encoding: Handle<'_>) -> bool {
 }
 
 /// Returns the encoding of a layout, if the bytes are one.
-pub(crate) fn read(layout: &[u8]) -> Option<Made> {
-    let mut made = Made([0; MADE_SIZE]);
-    // SAFETY: `Made` has room for a `de_encoding`, and the layout is borrowed.
-    let status = unsafe { de_encoding_read(&mut made, layout.as_ptr(), layout.len()) };
-    (status == status::OK).then_some(made)
+pub(crate) fn read(layout: &[u8]) -> Option<Tables> {
+    let mut tables = Tables([0; TABLES_SIZE]);
+    // SAFETY: `Tables` has room for a `de_encoding`, and the layout is borrowed.
+    let status = unsafe { de_encoding_read(&mut tables, layout.as_ptr(), layout.len()) };
+    (status == status::OK).then_some(tables)
 }
 
-/// Returns the encoding that is asked for, or why there is none: a status, and the byte or number
-/// that it is about.
+/// Returns the encoding that is asked for, or why there is none.
 #[cfg(feature = "alloc")]
-pub(crate) fn make(asked: &Asked<'_>) -> Result<Made, (u32, usize)> {
-    let specification = Specification {
-        symbols: Bytes::of(asked.symbols),
-        ignore: Bytes::of(asked.ignore),
-        separator: Bytes::of(asked.separator),
-        width: asked.width,
-        from: Bytes::of(asked.from),
-        to: Bytes::of(asked.to),
+pub(crate) fn build(specification: &Specification) -> Result<Tables, SpecificationError> {
+    let request = Request {
+        symbols: Bytes::of(&specification.symbols),
+        ignore: Bytes::of(&specification.ignore),
+        separator: Bytes::of(&specification.wrap.separator),
+        width: specification.wrap.width,
+        from: Bytes::of(&specification.translate.from),
+        to: Bytes::of(&specification.translate.to),
         // No character is above 0x10FFFF.
-        padding: asked.padding.map_or(-1, |padding| u32::from(padding) as c_int),
-        least_significant_first: asked.least_significant_first,
-        check_trailing_bits: asked.check_trailing_bits,
+        padding: specification.padding.map_or(-1, |padding| u32::from(padding) as c_int),
+        least_significant_first: specification.bit_order == BitOrder::LeastSignificantFirst,
+        check_trailing_bits: specification.check_trailing_bits,
         concatenate: true,
     };
-    let mut made = Made([0; MADE_SIZE]);
+    let mut tables = Tables([0; TABLES_SIZE]);
     let mut detail = 0;
-    // SAFETY: `Made` has room for a `de_encoding`, and all that the specification points to is
-    // borrowed.
-    let status = unsafe { de_encoding_new(&mut made, &specification, &mut detail) };
+    // SAFETY: `Tables` has room for a `de_encoding`, and all that the request points to is borrowed
+    // by the specification.
+    let status = unsafe { de_encoding_new(&mut tables, &request, &mut detail) };
     match status {
-        status::OK => Ok(made),
-        _ => Err((status, detail)),
+        status::OK => Ok(tables),
+        _ => Err(SpecificationError(refusal(status, detail as u8))),
+    }
+}
+
+/// Why there is no encoding, of a status and the byte or number that it is about.
+#[cfg(feature = "alloc")]
+fn refusal(status: u32, detail: u8) -> Refusal {
+    match status {
+        refused::SYMBOL_COUNT => Refusal::BadSize,
+        refused::NOT_ASCII => Refusal::NotAscii,
+        refused::DUPLICATE => Refusal::Duplicate(detail),
+        refused::EXTRA_PADDING => Refusal::ExtraPadding,
+        refused::WRAP_LENGTH => Refusal::WrapLength,
+        refused::WRAP_WIDTH => Refusal::WrapWidth(detail),
+        refused::TRANSLATE_LENGTH => Refusal::FromTo,
+        refused::UNDEFINED => Refusal::Undefined(detail),
+        _ => refuse(status),
     }
 }
 
 /// Returns the layout of the encoding.
 #[cfg(feature = "alloc")]
-pub(crate) fn layout(made: &Made) -> Vec<u8> {
+pub(crate) fn layout(tables: &Tables) -> Vec<u8> {
     let mut layout = alloc::vec![0; LAYOUT_LIMIT];
     let mut written = 0;
-    // SAFETY: The encoding was made, and the output is borrowed mutably.
+    // SAFETY: The encoding was tables, and the output is borrowed mutably.
     let status =
-        unsafe { de_encoding_layout(made, layout.as_mut_ptr(), layout.len(), &mut written) };
+        unsafe { de_encoding_layout(tables, layout.as_mut_ptr(), layout.len(), &mut written) };
     accept(status);
     layout.truncate(written);
     layout

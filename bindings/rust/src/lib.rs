@@ -40,9 +40,9 @@ mod error;
 mod ffi;
 mod layout;
 mod predefined;
-mod program;
 #[cfg(feature = "alloc")]
 mod specification;
+mod static_layout;
 
 pub use crate::character::Character;
 pub use crate::display::Display;

@@ -1,11 +1,8 @@
 use alloc::string::String;
 
 use crate::encoding::Encoding;
-use crate::error::{Refusal, SpecificationError};
-use crate::ffi::status::refusal;
-use crate::ffi::{self, Asked};
 use crate::layout::Layout;
-use crate::Character;
+use crate::{ffi, Character, SpecificationError};
 
 /// In which order the bits of a byte are written.
 ///
@@ -113,21 +110,7 @@ impl Specification {
     ///
     /// Returns why there is no such encoding.
     pub fn encoding(&self) -> Result<Encoding, SpecificationError> {
-        let asked = Asked {
-            symbols: &self.symbols,
-            ignore: &self.ignore,
-            separator: &self.wrap.separator,
-            width: self.wrap.width,
-            from: &self.translate.from,
-            to: &self.translate.to,
-            padding: self.padding,
-            least_significant_first: self.bit_order == BitOrder::LeastSignificantFirst,
-            check_trailing_bits: self.check_trailing_bits,
-        };
-        match ffi::make(&asked) {
-            Ok(made) => Ok(Encoding::owned(made)),
-            Err((status, detail)) => Err(SpecificationError(refusal_of(status, detail as u8))),
-        }
+        ffi::build(self).map(Encoding::built)
     }
 
     /// Returns the specification of a layout.
@@ -165,19 +148,5 @@ impl Specification {
 impl Default for Specification {
     fn default() -> Self {
         Self::new()
-    }
-}
-
-fn refusal_of(status: u32, detail: u8) -> Refusal {
-    match status {
-        refusal::SYMBOL_COUNT => Refusal::BadSize,
-        refusal::NOT_ASCII => Refusal::NotAscii,
-        refusal::DUPLICATE => Refusal::Duplicate(detail),
-        refusal::EXTRA_PADDING => Refusal::ExtraPadding,
-        refusal::WRAP_LENGTH => Refusal::WrapLength,
-        refusal::WRAP_WIDTH => Refusal::WrapWidth(detail),
-        refusal::TRANSLATE_LENGTH => Refusal::FromTo,
-        refusal::UNDEFINED => Refusal::Undefined(detail),
-        _ => unreachable!("status {status} of a specification"),
     }
 }

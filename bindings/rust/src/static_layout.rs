@@ -1,7 +1,7 @@
 //! Encodings whose layouts are in the program: a constant is such a layout, which is judged when
 //! the program runs.
 
-use crate::ffi::{self, Made};
+use crate::ffi::{self, Tables};
 
 /// Returns the encoding of the layout.
 ///
@@ -9,13 +9,13 @@ use crate::ffi::{self, Made};
 ///
 /// Panics if the bytes are no layout.
 #[cold]
-pub(crate) fn read(layout: &[u8]) -> Made {
+pub(crate) fn read(layout: &[u8]) -> Tables {
     ffi::read(layout).expect("the bytes are no layout of an encoding")
 }
 
 /// Returns nothing: no memory is there to keep it in.
 #[cfg(not(feature = "std"))]
-pub(crate) fn kept(_: &'static [u8]) -> Option<&'static Made> {
+pub(crate) fn kept(_: &'static [u8]) -> Option<&'static Tables> {
     None
 }
 
@@ -30,7 +30,7 @@ mod kept {
     use std::ptr;
     use std::sync::OnceLock;
 
-    use crate::ffi::Made;
+    use crate::ffi::Tables;
 
     const PLACES: usize = 256;
 
@@ -38,7 +38,7 @@ mod kept {
 
     struct Kept {
         layout: &'static [u8],
-        made: Made,
+        tables: Tables,
     }
 
     /// Returns the encoding of the layout, which is read if it was not before; or nothing if other
@@ -47,19 +47,19 @@ mod kept {
     /// # Panics
     ///
     /// Panics if the bytes are no layout.
-    pub(crate) fn kept(layout: &'static [u8]) -> Option<&'static Made> {
+    pub(crate) fn kept(layout: &'static [u8]) -> Option<&'static Tables> {
         let first = first_place(layout);
         KEPT[first..]
             .iter()
             .chain(&KEPT[..first])
             .map(|place| place.get_or_init(|| keep(layout)))
             .find(|kept| ptr::eq(kept.layout, layout))
-            .map(|kept| &kept.made)
+            .map(|kept| &kept.tables)
     }
 
     #[cold]
     fn keep(layout: &'static [u8]) -> Box<Kept> {
-        Box::new(Kept { layout, made: super::read(layout) })
+        Box::new(Kept { layout, tables: super::read(layout) })
     }
 
     /// Where the layout is, unless others were there before. Layouts have 514 bytes or more.
