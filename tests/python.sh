@@ -3,13 +3,13 @@
 # the blocks of docs/PYTHON.md. Nothing is taken from a network, and nothing is written into
 # bindings/.
 #
-# usage: tests/python.sh [LIB]: where build.sh left the library; it is built where no folder is
+# usage: tests/python.sh [LIB]: where build.sh left the library; it is built if no folder is
 # given.
 . "$(dirname "$0")/common.bash" || exit 1
 
 cc=${CC:-cc}
 
-# lacking PYTHON: what it lacks to build a package, in a few words; nothing where it lacks nothing.
+# lacking PYTHON: what it lacks to build a package, in a few words; nothing if it lacks nothing.
 lacking() {
     "$1" - <<'END'
 import importlib.util, os, sys, sysconfig
@@ -54,7 +54,7 @@ cd "$room" || exit 1
 export DATA_ENCODING_DIR=$lib
 export PIP_DISABLE_PIP_VERSION_CHECK=1 PIP_ROOT_USER_ACTION=ignore PYTHONDONTWRITEBYTECODE=1
 
-# quietly COMMAND..: what it says is printed where it fails.
+# quietly COMMAND..: what it says is printed if it fails.
 quietly() {
     "$@" >said 2>&1 || {
         tail -n 60 said

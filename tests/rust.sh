@@ -3,7 +3,7 @@
 # a program whose other crates depend on data-encoding; and the blocks of docs/RUST.md. Nothing is
 # taken from a network, and nothing is written into bindings/.
 #
-# usage: tests/rust.sh [LIB]: where build.sh left the library; it is built where no folder is given.
+# usage: tests/rust.sh [LIB]: where build.sh left the library; it is built if no folder is given.
 . "$(dirname "$0")/common.bash" || exit 1
 
 if ! command -v cargo >/dev/null; then
@@ -25,7 +25,7 @@ export CARGO_TARGET_DIR=$room/target
 export CARGO_NET_OFFLINE=true
 export CARGO_TERM_COLOR=never
 
-# cargo_in FOLDER WORD..: what cargo says is printed where it fails.
+# cargo_in FOLDER WORD..: what cargo says is printed if it fails.
 cargo_in() {
     local folder=$1
     shift

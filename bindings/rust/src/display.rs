@@ -2,7 +2,7 @@ use core::fmt;
 
 use crate::Encoding;
 
-/// The text of data, which is encoded where it is printed.
+/// The text of data, which is encoded when it is printed.
 ///
 /// [`Encoding::encode_display`] makes it.
 #[derive(Debug)]

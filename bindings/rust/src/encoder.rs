@@ -8,7 +8,7 @@ const ALIGN_LIMIT: usize = 189;
 /// Appends the text of data that comes in fragments to a string.
 ///
 /// The text is that of the whole data: lines and padding do not show where a fragment ended. The
-/// end of the text is written by [`finalize`](Encoder::finalize), or where the encoder is dropped.
+/// end of the text is written by [`finalize`](Encoder::finalize), or when the encoder is dropped.
 ///
 /// ```
 /// static BASE32: data_encoding::Encoding = data_encoding::BASE32;

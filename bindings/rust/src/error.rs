@@ -31,7 +31,7 @@ impl fmt::Display for DecodeKind {
 /// The fault of a text.
 #[derive(Debug, Clone, Copy, PartialEq, Eq)]
 pub struct DecodeError {
-    /// The position of the faulty byte, from 0; for [`DecodeKind::Length`], where no byte is
+    /// The position of the faulty byte, from 0; for [`DecodeKind::Length`], if no byte is
     /// ignored, the greatest valid length below that of the text.
     pub position: usize,
 

@@ -16,7 +16,7 @@
 //!
 //! Data may also be encoded in place ([`Encoding::encode_mut`]), at the end of a `String`
 //! ([`Encoding::encode_append`]), in fragments ([`Encoding::new_encoder`]), to a writer
-//! ([`Encoding::encode_write`]), and where it is printed ([`Encoding::encode_display`]).
+//! ([`Encoding::encode_write`]), and when it is printed ([`Encoding::encode_display`]).
 //!
 //! # Features
 //!

@@ -3,9 +3,7 @@
 
 use std::panic::{catch_unwind, AssertUnwindSafe};
 
-use data_encoding::{
-    Encoding, Specification, BASE32_NOPAD, BASE64, BASE64_MIME, BASE64_NOPAD, HEXLOWER,
-};
+use data_encoding::{BASE32_NOPAD, BASE64, BASE64_MIME, BASE64_NOPAD, HEXLOWER};
 
 fn panics<R>(call: impl FnOnce() -> R) -> bool {
     catch_unwind(AssertUnwindSafe(call)).is_err()
@@ -71,20 +69,15 @@ fn limits() {
     assert_eq!(BASE64_NOPAD.decode_len(usize::MAX / 8 - 3), Ok((usize::MAX / 8 - 3) / 4 * 3));
 }
 
-/// A string is as it was where an encoder panicked before it.
+/// An encoder that a panic drops ends its text.
 #[test]
-fn string_after_a_panic() {
-    let mut text = String::from("é");
+fn dropped_encoder() {
+    let mut text = String::new();
     let called = panics(|| {
-        BASE64.encode_append(b"foo", &mut text);
-        BASE64.encode_mut(b"foo", &mut []);
+        let mut encoder = BASE64.new_encoder(&mut text);
+        encoder.append(b"f");
+        HEXLOWER.encode_mut(b"foo", &mut []);
     });
     assert!(called);
-    assert_eq!(text, "éZm9v");
-}
-
-#[test]
-fn specification_of_no_symbols() {
-    assert!(!panics(|| Specification::new().encoding().is_err()));
-    let _: Encoding = BASE64;
+    assert_eq!(text, "Zg==");
 }

@@ -62,7 +62,7 @@ fn byte_by_byte() {
         for byte in &data {
             encoder.append(&[*byte]);
         }
-        // The end of the text is written where the encoder is dropped.
+        // The end of the text is written when the encoder is dropped.
         drop(encoder);
         assert_eq!(text, encoding.encode(&data));
     }

@@ -58,7 +58,7 @@ class DecodeError(ValueError):
     """A text means nothing.
 
     `kind` is "length", "symbol", "trailing" or "padding". `position` is that of the faulty
-    character, from 0; for an invalid length where no character is ignored, the greatest valid
+    character, from 0; for an invalid length if no character is ignored, the greatest valid
     length below it. `data` is what the call decoded before the fault.
     """
 
@@ -133,7 +133,7 @@ def _width(value: object) -> int:
 @final
 class Encoding(Calls):
     """An encoding: how data is written as text, and which texts are data. It never changes, and
-    threads may share it. Two are equal where their layouts are."""
+    threads may share it. Two are equal if their layouts are."""
 
     __slots__ = ()
 
@@ -151,7 +151,7 @@ class Encoding(Calls):
     ) -> "Encoding":
         """The encoding of 2, 4, 8, 16, 32 or 64 ASCII symbols, in order of value.
 
-        `padding` fills the last group of a text. The characters of `ignore` may stand anywhere in
+        `padding` fills the last group of a text. The characters of `ignore` may be anywhere in
         a text. `wrap` is the number of characters of a line, and what follows each. Each character
         of the first text of `translate` means what that of the second at its position means.
         A ValueError says why there is no such encoding.
@@ -179,7 +179,7 @@ class Encoding(Calls):
 
     @staticmethod
     def named(name: str) -> "Encoding":
-        """The predefined encoding of a name, as "BASE64". A ValueError where none has it."""
+        """The predefined encoding of a name, as "BASE64". A ValueError if none has it."""
         if not isinstance(name, str):
             raise TypeError(f"a name has to be a str, not {type(name).__name__}")
         found = _PREDEFINED.get(name)
@@ -189,7 +189,7 @@ class Encoding(Calls):
 
     @staticmethod
     def from_layout(layout: _Bytes) -> "Encoding":
-        """The encoding of a layout. A ValueError where the bytes are none."""
+        """The encoding of a layout. A ValueError if the bytes are none."""
         encoding = Encoding._of_layout(layout)
         name = _NAMES.get(encoding._layout())
         return encoding if name is None else _PREDEFINED[name]
@@ -476,12 +476,12 @@ class Encoder(codecs.IncrementalEncoder):
         self._held = b""
 
     def getstate(self) -> int:
-        """What is held of the data, as a number: 0 where nothing is."""
+        """What is held of the data, as a number: 0 if nothing is."""
         return int.from_bytes(b"\1" + self._held, "big") if self._held else 0
 
     # The base class has any number or text here.
     def setstate(self, state: int) -> None:  # type: ignore[override]
-        """Goes on from there. A ValueError where it is no state of such an encoder."""
+        """Goes on from there. A ValueError if it is no state of such an encoder."""
         marked = state.to_bytes((state.bit_length() + 7) // 8, "big") if state > 0 else b""
         held = marked[1:]
         if state != 0 and (marked[:1] != b"\1" or not 0 < len(held) < self._align):
@@ -511,7 +511,7 @@ class Decoder(codecs.IncrementalDecoder):
         return held, int.from_bytes(self._kept, "little")
 
     def setstate(self, state: Tuple[bytes, int]) -> None:
-        """Goes on from there. A ValueError where it is no state of a decoder of this encoding."""
+        """Goes on from there. A ValueError if it is no state of a decoder of this encoding."""
         try:
             kept = state[1].to_bytes(len(self._kept), "little")
         except OverflowError:

@@ -16,7 +16,7 @@
 /* What is written up to this length is written on the stack first. */
 #define SMALL 512
 
-/* From this length on other threads run during a call, where nothing can change what it reads. */
+/* From this length on other threads run during a call, if nothing can change what it reads. */
 #define THREADED 8192
 
 /* A predefined encoding by its number, with its tables for its layout; or one by its tables. */
@@ -315,7 +315,7 @@ static PyObject *decode(PyObject *self, PyObject *object) {
 }
 
 /* The data, how many characters were read, and the kind and the position of the fault; the kind is
- * None where there is none. */
+ * None if there is none. */
 static PyObject *decode_parts(PyObject *self, PyObject *object) {
     struct input input;
     de_status status;
@@ -637,19 +637,19 @@ static PyObject *names(PyObject *module, PyObject *unused) {
 
 static PyMethodDef encoding_methods[] = {
     {"encode", encode, METH_O,
-     "encode($self, data, /)\n--\n\nThe text of the data. A ValueError where it is too long."},
+     "encode($self, data, /)\n--\n\nThe text of the data. A ValueError if it is too long."},
     {"decode", decode, METH_O,
-     "decode($self, text, /)\n--\n\nThe data that the text means. A DecodeError where it means "
+     "decode($self, text, /)\n--\n\nThe data that the text means. A DecodeError if it means "
      "nothing."},
     {"decode_into", decode_into, METH_VARARGS,
      "decode_into($self, text, output, /)\n--\n\nWrites the data that the text means to the front "
      "of the output, which has room for as many bytes as `decode_len` says, and returns how many "
-     "these are. A DecodeError where it means nothing."},
+     "these are. A DecodeError if it means nothing."},
     {"encode_len", encode_len, METH_O,
      "encode_len($self, len, /)\n--\n\nThe length of the text of so many bytes."},
     {"decode_len", decode_len, METH_O,
      "decode_len($self, len, /)\n--\n\nHow many bytes a text of so many characters means at most. "
-     "A DecodeError where no text has this length."},
+     "A DecodeError if no text has this length."},
     {"is_canonical", is_canonical, METH_NOARGS,
      "is_canonical($self, /)\n--\n\nWhether no two different texts decode to the same data."},
     {"_decode_parts", decode_parts, METH_O, NULL},
