@@ -72,9 +72,9 @@ fn limits() {
 /// An encoder that a panic drops ends its text.
 #[test]
 fn dropped_encoder() {
-    let mut text = String::new();
+    let (encoding, mut text) = (BASE64, String::new());
     let called = panics(|| {
-        let mut encoder = BASE64.new_encoder(&mut text);
+        let mut encoder = encoding.new_encoder(&mut text);
         encoder.append(b"f");
         HEXLOWER.encode_mut(b"foo", &mut []);
     });
