@@ -369,6 +369,7 @@ class Encodings(unittest.TestCase):
             self.assertIs(copy.copy(encoding), encoding)
             self.assertIs(copy.deepcopy(encoding), encoding)
         self.assertIs(pickle.loads(pickle.dumps(BASE64)), BASE64)
+        self.assertLess(len(pickle.dumps(BASE64)), 100)
 
     def test_alignment(self) -> None:
         data = random.randbytes(1000)
@@ -413,6 +414,9 @@ class Pieces(unittest.TestCase):
         self.assertRaises(ValueError, decoder.setstate, (b"", 1 << 64))
         self.assertRaises(ValueError, decoder.setstate, (b"", 1 << 10000))
         self.assertRaises(ValueError, decoder.setstate, (b"", -1))
+        for wrong in (5, (b"",), (b"", "1"), None):
+            self.assertRaises(TypeError, decoder.setstate, wrong)
+        self.assertRaises(TypeError, Decoder, "BASE64")
         self.assertEqual(decoder.decode("Zm9v", final=True), b"foo")
 
     def test_decoder_after_a_fault(self) -> None:
@@ -468,6 +472,8 @@ class Pieces(unittest.TestCase):
         self.assertEqual(encoder.encode(b"foo", final=True), "Zm9v")
         for wrong in (-1, 1, 2, 0x0261, 0x01616263, 1 << 10000):
             self.assertRaises(ValueError, encoder.setstate, wrong)
+        self.assertRaises(TypeError, encoder.setstate, "1")
+        self.assertRaises(TypeError, Encoder, "BASE64")
 
 
 def joined(encoding: Encoding, pieces: List[str]) -> bytes:

@@ -236,7 +236,11 @@ class Encoding(Calls):
         return hash(self._layout())
 
     def __reduce__(self) -> Tuple[Any, ...]:
-        return Encoding.from_layout, (self._layout(),)
+        layout = self._layout()
+        name = _NAMES.get(layout)
+        if name is not None:
+            return Encoding.named, (name,)
+        return Encoding.from_layout, (layout,)
 
     def __copy__(self) -> "Encoding":
         return self
@@ -453,12 +457,24 @@ BASE64URL = _predefined("BASE64URL", _64URL, "=")
 BASE64URL_NOPAD = _predefined("BASE64URL_NOPAD", _64URL)
 
 
+def _encoding(value: object) -> Encoding:
+    if not isinstance(value, Encoding):
+        raise TypeError(f"an Encoding is needed, not {type(value).__name__}")
+    return value
+
+
+def _number(value: object) -> int:
+    if not isinstance(value, int):
+        raise TypeError(f"a state has to be an int, not {type(value).__name__}")
+    return value
+
+
 class Encoder(codecs.IncrementalEncoder):
     """Encodes data that comes in pieces. The texts of the pieces, joined, are that of the whole."""
 
     def __init__(self, encoding: Encoding, errors: str = "strict") -> None:
         super().__init__(errors)
-        self._encoding = encoding
+        self._encoding = _encoding(encoding)
         self._align = encoding.encode_align
         self._held = b""
 
@@ -482,6 +498,7 @@ class Encoder(codecs.IncrementalEncoder):
     # The base class has any number or text here.
     def setstate(self, state: int) -> None:  # type: ignore[override]
         """Goes on from there. A ValueError if it is no state of such an encoder."""
+        state = _number(state)
         marked = state.to_bytes((state.bit_length() + 7) // 8, "big") if state > 0 else b""
         held = marked[1:]
         if state != 0 and (marked[:1] != b"\1" or not 0 < len(held) < self._align):
@@ -498,7 +515,7 @@ class Decoder(codecs.IncrementalDecoder):
 
     def __init__(self, encoding: Encoding, errors: str = "strict") -> None:
         super().__init__(errors)
-        self._encoding = encoding
+        self._encoding = _encoding(encoding)
         self._kept = new_decoder()
 
     def reset(self) -> None:
@@ -512,8 +529,9 @@ class Decoder(codecs.IncrementalDecoder):
 
     def setstate(self, state: Tuple[bytes, int]) -> None:
         """Goes on from there. A ValueError if it is no state of a decoder of this encoding."""
+        _, number = _pair("a state", state)
         try:
-            kept = state[1].to_bytes(len(self._kept), "little")
+            kept = _number(number).to_bytes(len(self._kept), "little")
         except OverflowError:
             raise ValueError("no decoder") from None
         self._encoding._decoder_held(kept)
