@@ -42,6 +42,7 @@ OWN = [
     Encoding("01", wrap=(8, "\n"), least_significant_first=True),
     Encoding("0123456789abcdef", translate=("ABCDEF", "abcdef"), wrap=(254, "\r\n")),
     Encoding("01234567", check_trailing_bits=False),
+    Encoding("01234567", padding="=", translate=("#a", "=1")),
 ]
 
 
@@ -119,7 +120,7 @@ class Calls(unittest.TestCase):
             BASE64.decode_len(5)
         self.assertEqual(caught.exception.args, ("length", 4, b""))
         for call in (BASE64.encode_len, BASE64.decode_len):
-            self.assertRaises(ValueError, call, -1)
+            self.assertRaisesRegex(ValueError, "a length below 0", call, -1)
             self.assertRaises(ValueError, call, 1 << 70)
             self.assertRaises(TypeError, call, "1")
             self.assertRaises(TypeError, call, 1.0)
@@ -213,6 +214,7 @@ class Faults(unittest.TestCase):
             ("Zm9vY", "length", 4, "invalid length at 4"),
             ("Zm9v!===", "padding", 5, "invalid padding length at 5"),
             ("Zm9vZh==", "trailing", 5, "non-zero trailing bits at 5"),
+            ("Zm9v\u0141m9v", "symbol", 4, "invalid symbol at 4"),
             ("Zm9v\ud800m9v", "symbol", 4, "invalid symbol at 4"),
             ("Zm9v\U0001f600m9v", "symbol", 4, "invalid symbol at 4"),
         ):
@@ -280,6 +282,8 @@ class Encodings(unittest.TestCase):
             ({"symbols": "01", "wrap": (8,)}, "wrap has to be a tuple of two"),
             ({"symbols": "01", "wrap": ("8", "\n")},
              "the width of wrap has to be an int, not str"),
+            ({"symbols": "01", "wrap": (True, "\n")},
+             "the width of wrap has to be an int, not bool"),
             ({"symbols": "01", "wrap": (8, b"\n")},
              "the separator of wrap has to be a str, not bytes"),
             ({"symbols": "01", "translate": {"a": "0"}}, "translate has to be a tuple of two"),
@@ -339,6 +343,8 @@ class Encodings(unittest.TestCase):
             "wrap": (254, "\r\n"), "translate": ("ABCDEF", "abcdef"),
             "least_significant_first": False, "check_trailing_bits": True, "concatenate": True,
         })
+        self.assertEqual(OWN[6].specification()["translate"], ("#a", "=1"))
+        self.assertEqual(OWN[6].decode("220644#="), b"Hi")
         self.assertFalse(OWN[2].specification()["concatenate"])
         self.assertTrue(OWN[3].specification()["least_significant_first"])
         self.assertFalse(OWN[5].specification()["check_trailing_bits"])
@@ -377,7 +383,7 @@ class Encodings(unittest.TestCase):
             cut = encoding.encode_align
             self.assertEqual(encoding.encode(data[:cut]) + encoding.encode(data[cut:]),
                              encoding.encode(data))
-        self.assertEqual([encoding.encode_align for encoding in OWN], [3, 5, 3, 1, 127, 3])
+        self.assertEqual([encoding.encode_align for encoding in OWN], [3, 5, 3, 1, 127, 3, 3])
         self.assertEqual(data_encoding.BASE64_MIME.encode_align, 57)
 
     def test_unchanged(self) -> None:
@@ -418,6 +424,12 @@ class Pieces(unittest.TestCase):
             self.assertRaises(TypeError, decoder.setstate, wrong)
         self.assertRaises(TypeError, Decoder, "BASE64")
         self.assertEqual(decoder.decode("Zm9v", final=True), b"foo")
+
+    def test_bytes_of_no_decoder(self) -> None:
+        for wrong in (b"", b"1", bytes(103), bytes(105)):
+            self.assertRaises(ValueError, BASE64._decoder_held, wrong)
+            self.assertRaises(ValueError, BASE64._decoder_read, wrong, "Zm9v")
+            self.assertRaises(ValueError, BASE64._decoder_finish, wrong)
 
     def test_decoder_after_a_fault(self) -> None:
         decoder = Decoder(BASE64)

@@ -101,6 +101,20 @@ fn of_all_fields() {
     assert!(!encoding.is_canonical());
 }
 
+/// Bytes that are ignored, and no lines.
+#[test]
+fn ignored() {
+    let mut octal = symbols("01234567");
+    octal.ignore.push_str(" \u{7f}");
+    let encoding = octal.encoding().unwrap();
+    assert_eq!(encoding.decode(b"20 46\x7f4564"), Ok(b"Bit".to_vec()));
+    assert_eq!(encoding.encode_align(), 3);
+    assert_eq!(encoding.encode_display(b"Bit").to_string(), "20464564");
+    let given = encoding.specification();
+    assert_eq!((given.ignore.as_str(), given.wrap.width), (" \u{7f}", 0));
+    assert_eq!(given.encoding().unwrap(), encoding);
+}
+
 /// A symbol of each width.
 #[test]
 fn widths() {
