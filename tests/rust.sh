@@ -84,31 +84,50 @@ block() {
     awk -v kind="$1" '/^```/ { inside = $0 == "```" kind; next } inside' docs/RUST.md
 }
 
-# A program that depends on data-encoding, and a crate that it depends on, which does too.
-mkdir -p "$room/program/src" "$room/between/src"
-cat >"$room/between/Cargo.toml" <<'END'
+# new_package NAME VERSION: a package that depends on this version of data-encoding; what else its
+# Cargo.toml says is read from standard input.
+new_package() {
+    mkdir -p "$room/$1/src"
+    cat >"$room/$1/Cargo.toml" <<END
 [package]
-name = "between"
+name = "$1"
 version = "0.1.0"
 edition = "2021"
 
 [dependencies]
-data-encoding = "2.5"
+data-encoding = "$2"
 END
+    cat >>"$room/$1/Cargo.toml"
+}
+
+# A program that depends on data-encoding, and two crates that it depends on, which do too: one has
+# a macro that writes the layout of an encoding, as those of data-encoding-macro do.
+new_package between 2.5 </dev/null
 cat >"$room/between/src/lib.rs" <<'END'
 pub fn text(data: &[u8]) -> String {
     data_encoding::BASE64.encode(data)
 }
 END
-cat >"$room/program/Cargo.toml" <<END
-[package]
-name = "program"
-version = "0.1.0"
-edition = "2021"
+new_package macros 2.4 <<'END'
 
-[dependencies]
-data-encoding = "2.11"
+[lib]
+proc-macro = true
+END
+cat >"$room/macros/src/lib.rs" <<'END'
+use proc_macro::TokenStream;
+
+#[proc_macro]
+pub fn octal(_: TokenStream) -> TokenStream {
+    let mut specification = data_encoding::Specification::new();
+    specification.symbols.push_str("01234567");
+    let encoding = specification.encoding().unwrap();
+    let layout = encoding.internal_implementation();
+    format!("::data_encoding::Encoding::internal_new(&{layout:?})").parse().unwrap()
+}
+END
+new_package program 2.11 <<END
 between = { path = "../between" }
+macros = { path = "../macros" }
 
 $(block toml | sed "s:\"bamsturk/:\"$room/bamsturk/:")
 END
@@ -119,13 +138,20 @@ END
 #[test]
 fn of_the_crate_between() {
     assert_eq!(between::text(b"Hi"), "SGk=");
-    assert!(format!("{:?}", data_encoding::BASE64).starts_with("Encoding([65, 66, 67,"));
+}
+
+#[test]
+fn of_the_macro() {
+    const OCTAL: data_encoding::Encoding = macros::octal!();
+    assert_eq!(OCTAL.encode(b"Bit"), "20464564");
+    assert_eq!(OCTAL.specification().encoding().unwrap(), OCTAL);
 }
 END
 } >"$room/program/src/main.rs"
 is 'the commands of docs/RUST.md' 'crates/data_encoding_c/build.sh /opt/bamsturk
 export DATA_ENCODING_DIR=/opt/bamsturk' "$(block sh)"
 holds 'a program in the place of data-encoding' cargo_in "$room/program" test
+is 'the tests of that program' 2 "$(grep -c '^test .* ok$' "$room/said")"
 holds 'the program of docs/RUST.md' cargo_in "$room/program" run --quiet
 is 'what the program of docs/RUST.md prints' $'SGVsbG8=\n220644==\ninvalid symbol at 5' \
     "$(cat "$room/said")"
