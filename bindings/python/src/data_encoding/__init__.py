@@ -528,7 +528,7 @@ class Decoder(codecs.IncrementalDecoder):
         return held, int.from_bytes(self._kept, "little")
 
     def setstate(self, state: Tuple[bytes, int]) -> None:
-        """Goes on from there. A ValueError if it is no state of a decoder of this encoding."""
+        """Goes on from there. A ValueError if the library refuses the number for this encoding."""
         _, number = _pair("a state", state)
         try:
             kept = _number(number).to_bytes(len(self._kept), "little")

@@ -471,7 +471,7 @@ static PyObject *new_decoder(PyObject *module, PyObject *unused) {
     return bytes_of_decoder(&decoder);
 }
 
-/* The characters that are held: those of an unfinished group. Refuses what no call can have left. */
+/* The characters that are held: those of an unfinished group. Refuses what the library refuses. */
 static PyObject *decoder_held(PyObject *self, PyObject *kept) {
     de_decoder decoder;
     size_t most;
