@@ -89,7 +89,7 @@ unset DATA_ENCODING_DIR
 tests=bindings/python/tests/test_data_encoding.py
 holds 'the tests of the package' quietly "$python" "$tests"
 # The wheel serves any other Python from 3.11 on.
-for other in python3 /usr/bin/python3; do
+for other in python3 /usr/bin/python3 python3.12 python3.13; do
     if [ "$(command -v "$other")" != "$(command -v "$python")" ] &&
         "$other" -c 'import sys; sys.exit(sys.version_info < (3, 11))' 2>/dev/null; then
         holds "its tests with $other" quietly "$other" "$tests"
@@ -107,9 +107,19 @@ block() {
     awk -v kind="$1" '/^```/ { inside = $0 == "```" kind; next } inside' "$page"
 }
 
-is 'the commands of docs/PYTHON.md' 'crates/data_encoding_c/build.sh /opt/bamsturk
-DATA_ENCODING_DIR=/opt/bamsturk pip install --no-build-isolation ./bindings/python' "$(block sh)"
+commands=$(block sh)
+is 'the first command of docs/PYTHON.md' 'crates/data_encoding_c/build.sh /opt/bamsturk' \
+    "${commands%%$'\n'*}"
+commands=${commands#*$'\n'}
+commands=${commands//\/opt\/bamsturk/$lib}
+python3() {
+    "$python" "$@"
+}
+export -f python3
+export python PIP_NO_INDEX=1
+holds 'the commands of docs/PYTHON.md' quietly bash -ec "$commands"
 block python >hello.py
-is 'the program of docs/PYTHON.md' "$(block text)" "$("$python" hello.py 2>&1)"
+is 'the program of docs/PYTHON.md' "$(block text)" \
+    "$(env -u PYTHONPATH environment/bin/python3 hello.py 2>&1)"
 
 finish
