@@ -162,7 +162,7 @@ extern "C" {
 #[inline]
 pub(crate) fn encode_len(encoding: Handle<'_>, len: usize) -> usize {
     let mut text_len = 0;
-    // SAFETY: The encoding is a number or was tables, and the other pointer is to a local variable.
+    // SAFETY: The tables are borrowed, and the other pointer is to a local variable.
     let status = unsafe {
         match encoding {
             Handle::Number(number) => de_encode_len(number, len, &mut text_len),
@@ -187,7 +187,7 @@ pub(crate) fn encode<'a>(encoding: Handle<'_>, input: &[u8], output: &'a mut [u8
     unsafe { str::from_utf8_unchecked(&output[..written]) }
 }
 
-/// Appends the text of the data, which has `len` bytes, to the output.
+/// Appends the text of the data, which is `len` bytes, to the output.
 ///
 /// # Panics
 ///
@@ -244,7 +244,7 @@ unsafe fn encode_to(
 #[inline]
 pub(crate) fn decode_len(encoding: Handle<'_>, len: usize) -> Result<usize, DecodeError> {
     let mut most = 0;
-    // SAFETY: The encoding is a number or was tables, and the other pointer is to a local variable.
+    // SAFETY: The tables are borrowed, and the other pointer is to a local variable.
     let status = unsafe {
         match encoding {
             Handle::Number(number) => de_decode_len(number, len, &mut most),
@@ -340,7 +340,7 @@ fn partial(status: u32, decoded: &Decoded) -> DecodePartial {
 /// Returns whether no two different texts decode to the same data.
 pub(crate) fn is_canonical(encoding: Handle<'_>) -> bool {
     let mut canonical = false;
-    // SAFETY: The encoding is a number or was tables, and the other pointer is to a local variable.
+    // SAFETY: The tables are borrowed, and the other pointer is to a local variable.
     let status = unsafe {
         match encoding {
             Handle::Number(number) => de_is_canonical(number, &mut canonical),
@@ -407,7 +407,7 @@ fn refusal(status: u32, detail: u8) -> Refusal {
 pub(crate) fn layout(tables: &Tables) -> Vec<u8> {
     let mut layout = alloc::vec![0; LAYOUT_LIMIT];
     let mut written = 0;
-    // SAFETY: The encoding was tables, and the output is borrowed mutably.
+    // SAFETY: The tables are borrowed, and so is the output, mutably.
     let status =
         unsafe { de_encoding_layout(tables, layout.as_mut_ptr(), layout.len(), &mut written) };
     accept(status);
