@@ -1,0 +1,37 @@
+"""Builds the extension module, with the library for C in the folder that DATA_ENCODING_DIR names."""
+
+import os
+import sys
+
+from setuptools import Extension, setup
+
+ARCHIVE = "libdata_encoding.a"
+# From Python 3.11 on the stable interface has what reads a buffer.
+ABI = "cp311"
+
+
+def folder() -> str:
+    found = os.environ.get("DATA_ENCODING_DIR", "")
+    if not os.path.isabs(found) or not os.path.isfile(os.path.join(found, ARCHIVE)):
+        sys.exit(
+            f"DATA_ENCODING_DIR has to be the absolute path of a folder with {ARCHIVE}, which "
+            "`crates/data_encoding_c/build.sh FOLDER` makes from the sources of Bamsturk"
+        )
+    return found
+
+
+library = folder()
+setup(
+    ext_modules=[
+        Extension(
+            "data_encoding._native",
+            ["src/data_encoding/_native.c"],
+            include_dirs=[library],
+            extra_objects=[os.path.join(library, ARCHIVE)],
+            extra_compile_args=["-std=c99"],
+            extra_link_args=["-Wl,--exclude-libs,ALL"],
+            py_limited_api=True,
+        )
+    ],
+    options={"bdist_wheel": {"py_limited_api": ABI}},
+)

@@ -1,0 +1,695 @@
+/* The calls of the library for C, as data_encoding/__init__.py uses them.
+ *
+ * Nothing here decides what a text means: an object of Python is made an array, a call of the
+ * library is made, and what it wrote is made an object. The interface is the stable one of Python
+ * 3.11, so that one build serves it and what comes after it.
+ */
+#define Py_LIMITED_API 0x030B0000
+#define PY_SSIZE_T_CLEAN
+#include <Python.h>
+
+#include "data_encoding.h"
+
+#include <stdint.h>
+#include <string.h>
+
+/* What is written up to this length is written on the stack first. */
+#define SMALL 512
+
+/* From this length on other threads run during a call, if nothing can change what it reads. */
+#define THREADED 8192
+
+/* A predefined encoding by its number, with its tables for its layout; or one by its tables. */
+typedef struct {
+    PyObject_HEAD
+    bool is_predefined;
+    de_number number;
+    de_encoding tables;
+} encoding;
+
+static const encoding *encoding_of(PyObject *self) {
+    return (const encoding *)(void *)self;
+}
+
+/* The calls by the number of an encoding or by its tables. */
+
+static de_status text_len(const encoding *it, size_t len, size_t *result) {
+    return it->is_predefined ? de_encode_len(it->number, len, result)
+                             : de_encoding_encode_len(&it->tables, len, result);
+}
+
+static de_status most_data(const encoding *it, size_t len, size_t *result) {
+    return it->is_predefined ? de_decode_len(it->number, len, result)
+                             : de_encoding_decode_len(&it->tables, len, result);
+}
+
+static de_status most_of_piece(const encoding *it, const de_decoder *decoder, size_t len,
+                               size_t *result) {
+    return it->is_predefined ? de_decoder_most(it->number, decoder, len, result)
+                             : de_encoding_decoder_most(&it->tables, decoder, len, result);
+}
+
+/* Bytes that are read: those of an object, or of a copy of what it has. */
+struct input {
+    const char *start;
+    size_t len;
+    bool is_fixed;
+    Py_buffer view;
+    PyObject *copy;
+};
+
+static void release(struct input *input) {
+    if (input->view.obj != NULL) {
+        PyBuffer_Release(&input->view);
+    }
+    Py_XDECREF(input->copy);
+}
+
+static bool take_bytes(struct input *input, PyObject *bytes) {
+    input->start = PyBytes_AsString(bytes);
+    input->len = (size_t)PyBytes_Size(bytes);
+    input->is_fixed = true;
+    return true;
+}
+
+static bool take_copy(struct input *input, PyObject *copy) {
+    input->copy = copy;
+    return copy != NULL && take_bytes(input, copy);
+}
+
+/* Takes bytes, or any object that has a buffer. */
+static bool take_data(struct input *input, PyObject *object) {
+    input->view.obj = NULL;
+    input->copy = NULL;
+    input->is_fixed = false;
+    if (PyBytes_Check(object)) {
+        return take_bytes(input, object);
+    }
+    if (PyObject_GetBuffer(object, &input->view, PyBUF_SIMPLE) == 0) {
+        input->start = (const char *)input->view.buf;
+        input->len = (size_t)input->view.len;
+        return true;
+    }
+    input->view.obj = NULL;
+    if (!PyErr_ExceptionMatches(PyExc_BufferError)) {
+        return false;
+    }
+    /* Its bytes are not one after the other. */
+    PyErr_Clear();
+    return take_copy(input, PyBytes_FromObject(object));
+}
+
+/* A byte for each character: a character that is not ASCII is no symbol, and has one position. */
+static PyObject *bytes_of_characters(PyObject *text) {
+    Py_ssize_t len = PyUnicode_GetLength(text);
+    PyObject *bytes = PyBytes_FromStringAndSize(NULL, len);
+    char *output;
+    Py_ssize_t index;
+    if (bytes == NULL) {
+        return NULL;
+    }
+    output = PyBytes_AsString(bytes);
+    for (index = 0; index < len; index++) {
+        Py_UCS4 character = PyUnicode_ReadChar(text, index);
+        output[index] = (char)(unsigned char)(character < 128 ? character : 128);
+    }
+    return bytes;
+}
+
+/* Takes a string, or what `take_data` takes. */
+static bool take_text(struct input *input, PyObject *object) {
+    Py_ssize_t len = 0;
+    if (!PyUnicode_Check(object)) {
+        return take_data(input, object);
+    }
+    input->view.obj = NULL;
+    input->copy = NULL;
+    input->is_fixed = true;
+    input->start = PyUnicode_AsUTF8AndSize(object, &len);
+    input->len = (size_t)len;
+    if (input->start != NULL && len == PyUnicode_GetLength(object)) {
+        return true;
+    }
+    PyErr_Clear();
+    return take_copy(input, bytes_of_characters(object));
+}
+
+static PyThreadState *let_others_run(const struct input *input) {
+    return input->is_fixed && input->len >= THREADED ? PyEval_SaveThread() : NULL;
+}
+
+static void run_again(PyThreadState *thread) {
+    if (thread != NULL) {
+        PyEval_RestoreThread(thread);
+    }
+}
+
+static de_status write_text(const encoding *it, const struct input *input, char *output,
+                            size_t *len) {
+    PyThreadState *thread = let_others_run(input);
+    de_status status =
+        it->is_predefined
+            ? de_encode(it->number, input->start, input->len, output, *len, len)
+            : de_encoding_encode(&it->tables, input->start, input->len, output, *len, len);
+    run_again(thread);
+    return status;
+}
+
+static de_status write_data(const encoding *it, const struct input *input, char *output,
+                            size_t room, de_decoded *decoded) {
+    PyThreadState *thread = let_others_run(input);
+    de_status status =
+        it->is_predefined
+            ? de_decode(it->number, input->start, input->len, output, room, decoded)
+            : de_encoding_decode(&it->tables, input->start, input->len, output, room, decoded);
+    run_again(thread);
+    return status;
+}
+
+static de_status write_piece(const encoding *it, de_decoder *decoder, const struct input *input,
+                             char *output, size_t room, size_t *written) {
+    PyThreadState *thread = let_others_run(input);
+    de_status status = it->is_predefined
+                           ? de_decoder_read(it->number, decoder, input->start, input->len,
+                                             output, room, written)
+                           : de_encoding_decoder_read(&it->tables, decoder, input->start,
+                                                      input->len, output, room, written);
+    run_again(thread);
+    return status;
+}
+
+/* Raises that a call was refused. */
+static PyObject *refused(de_status status) {
+    PyErr_SetString(PyExc_ValueError, de_status_text(status));
+    return NULL;
+}
+
+/* The kind of the fault of a text, or NULL for any other status. */
+static const char *kind_of(de_status status) {
+    switch (status) {
+    case DE_INVALID_LENGTH:
+        return "length";
+    case DE_INVALID_SYMBOL:
+        return "symbol";
+    case DE_INVALID_TRAILING_BITS:
+        return "trailing";
+    case DE_INVALID_PADDING:
+        return "padding";
+    default:
+        return NULL;
+    }
+}
+
+static bool is_verdict(de_status status) {
+    return status == DE_OK || kind_of(status) != NULL;
+}
+
+/* Raises a DecodeError with the data before the fault. */
+static void raise_fault(de_status status, size_t position, PyObject *data) {
+    PyObject *module = PyImport_ImportModule("data_encoding");
+    PyObject *type = module == NULL ? NULL : PyObject_GetAttrString(module, "DecodeError");
+    PyObject *error = NULL;
+    if (type != NULL) {
+        error = PyObject_CallFunction(type, "snO", kind_of(status), (Py_ssize_t)position, data);
+    }
+    if (error != NULL) {
+        PyErr_SetObject(type, error);
+    }
+    Py_XDECREF(error);
+    Py_XDECREF(type);
+    Py_XDECREF(module);
+}
+
+/* The text of the data. */
+static PyObject *encode_input(const encoding *it, const struct input *input) {
+    char small[SMALL];
+    char *output = small;
+    size_t len;
+    PyObject *text;
+    de_status status = text_len(it, input->len, &len);
+    if (status != DE_OK) {
+        return refused(status);
+    }
+    if (len > SMALL) {
+        output = PyMem_Malloc(len);
+        if (output == NULL) {
+            return PyErr_NoMemory();
+        }
+    }
+    status = write_text(it, input, output, &len);
+    text = status == DE_OK ? PyUnicode_DecodeASCII(output, (Py_ssize_t)len, NULL)
+                           : refused(status);
+    if (output != small) {
+        PyMem_Free(output);
+    }
+    return text;
+}
+
+static PyObject *encode(PyObject *self, PyObject *object) {
+    struct input input;
+    PyObject *text = NULL;
+    if (take_data(&input, object)) {
+        text = encode_input(encoding_of(self), &input);
+        release(&input);
+    }
+    return text;
+}
+
+/* The bytes object, or another of the front of it, which is as long as what was written. */
+static PyObject *shortened(PyObject *bytes, size_t room, size_t written) {
+    PyObject *front;
+    if (written == room) {
+        return bytes;
+    }
+    front = PyBytes_FromStringAndSize(PyBytes_AsString(bytes), (Py_ssize_t)written);
+    Py_DECREF(bytes);
+    return front;
+}
+
+/* The data that the text means, or as much as comes before its fault, which is the status. */
+static PyObject *decode_input(const encoding *it, const struct input *input, de_status *status,
+                              de_decoded *decoded) {
+    char small[SMALL];
+    size_t most;
+    PyObject *data;
+    *status = most_data(it, input->len, &most);
+    if (*status != DE_OK) {
+        decoded->read = 0;
+        decoded->position = most;
+        return kind_of(*status) == NULL ? refused(*status) : PyBytes_FromStringAndSize(NULL, 0);
+    }
+    if (most <= SMALL) {
+        *status = write_data(it, input, small, most, decoded);
+        return is_verdict(*status)
+                   ? PyBytes_FromStringAndSize(small, (Py_ssize_t)decoded->written)
+                   : refused(*status);
+    }
+    data = PyBytes_FromStringAndSize(NULL, (Py_ssize_t)most);
+    if (data == NULL) {
+        return NULL;
+    }
+    *status = write_data(it, input, PyBytes_AsString(data), most, decoded);
+    if (!is_verdict(*status)) {
+        Py_DECREF(data);
+        return refused(*status);
+    }
+    return shortened(data, most, decoded->written);
+}
+
+static PyObject *decode(PyObject *self, PyObject *object) {
+    struct input input;
+    de_status status;
+    de_decoded decoded;
+    PyObject *data;
+    if (!take_text(&input, object)) {
+        return NULL;
+    }
+    data = decode_input(encoding_of(self), &input, &status, &decoded);
+    release(&input);
+    if (data != NULL && status != DE_OK) {
+        raise_fault(status, decoded.position, data);
+        Py_DECREF(data);
+        return NULL;
+    }
+    return data;
+}
+
+/* The data, how many characters were read, and the kind and the position of the fault; the kind is
+ * None if there is none. */
+static PyObject *decode_parts(PyObject *self, PyObject *object) {
+    struct input input;
+    de_status status;
+    de_decoded decoded;
+    PyObject *data;
+    if (!take_text(&input, object)) {
+        return NULL;
+    }
+    data = decode_input(encoding_of(self), &input, &status, &decoded);
+    release(&input);
+    if (data == NULL) {
+        return NULL;
+    }
+    return Py_BuildValue("Nnzn", data, (Py_ssize_t)decoded.read, kind_of(status),
+                         (Py_ssize_t)decoded.position);
+}
+
+static bool overlap(const struct input *input, const Py_buffer *output) {
+    uintptr_t from = (uintptr_t)input->start;
+    uintptr_t to = (uintptr_t)output->buf;
+    return from < to + (size_t)output->len && to < from + input->len;
+}
+
+/* Writes the data to the front of the output, and returns its length. */
+static PyObject *decode_to(const encoding *it, const struct input *input, Py_buffer *output) {
+    de_status status;
+    de_decoded decoded = {0, 0, 0};
+    PyObject *data;
+    if (overlap(input, output)) {
+        PyErr_SetString(PyExc_ValueError, "the text is in the output");
+        return NULL;
+    }
+    status = most_data(it, input->len, &decoded.position);
+    if (status == DE_OK) {
+        status = write_data(it, input, output->buf, (size_t)output->len, &decoded);
+    }
+    if (status == DE_OK) {
+        return PyLong_FromSize_t(decoded.written);
+    }
+    if (kind_of(status) == NULL) {
+        return refused(status);
+    }
+    data = PyBytes_FromStringAndSize(output->buf, (Py_ssize_t)decoded.written);
+    if (data != NULL) {
+        raise_fault(status, decoded.position, data);
+        Py_DECREF(data);
+    }
+    return NULL;
+}
+
+static PyObject *decode_into(PyObject *self, PyObject *arguments) {
+    struct input input;
+    Py_buffer output;
+    PyObject *object;
+    PyObject *len = NULL;
+    if (!PyArg_ParseTuple(arguments, "Ow*:decode_into", &object, &output)) {
+        return NULL;
+    }
+    if (take_text(&input, object)) {
+        len = decode_to(encoding_of(self), &input, &output);
+        release(&input);
+    }
+    PyBuffer_Release(&output);
+    return len;
+}
+
+/* Takes a length, which is no less than 0. */
+static bool take_len(PyObject *object, size_t *len) {
+    Py_ssize_t given = PyNumber_AsSsize_t(object, NULL);
+    if (given == -1 && PyErr_Occurred()) {
+        return false;
+    }
+    if (given < 0) {
+        PyErr_SetString(PyExc_ValueError, "a length below 0");
+        return false;
+    }
+    *len = (size_t)given;
+    return true;
+}
+
+static PyObject *encode_len(PyObject *self, PyObject *object) {
+    size_t len;
+    de_status status;
+    if (!take_len(object, &len)) {
+        return NULL;
+    }
+    status = text_len(encoding_of(self), len, &len);
+    return status == DE_OK ? PyLong_FromSize_t(len) : refused(status);
+}
+
+static PyObject *decode_len(PyObject *self, PyObject *object) {
+    size_t len;
+    de_status status;
+    PyObject *none;
+    if (!take_len(object, &len)) {
+        return NULL;
+    }
+    status = most_data(encoding_of(self), len, &len);
+    if (status == DE_OK) {
+        return PyLong_FromSize_t(len);
+    }
+    if (kind_of(status) == NULL) {
+        return refused(status);
+    }
+    none = PyBytes_FromStringAndSize(NULL, 0);
+    if (none != NULL) {
+        raise_fault(status, len, none);
+        Py_DECREF(none);
+    }
+    return NULL;
+}
+
+static PyObject *is_canonical(PyObject *self, PyObject *unused) {
+    const encoding *it = encoding_of(self);
+    bool canonical = false;
+    de_status status = it->is_predefined ? de_is_canonical(it->number, &canonical)
+                                         : de_encoding_is_canonical(&it->tables, &canonical);
+    (void)unused;
+    return status == DE_OK ? PyBool_FromLong(canonical) : refused(status);
+}
+
+static PyObject *layout(PyObject *self, PyObject *unused) {
+    char output[DE_LAYOUT_LIMIT];
+    size_t len;
+    de_status status =
+        de_encoding_layout(&encoding_of(self)->tables, output, sizeof output, &len);
+    (void)unused;
+    return status == DE_OK ? PyBytes_FromStringAndSize(output, (Py_ssize_t)len)
+                           : refused(status);
+}
+
+/* What a decoder keeps is a bytes object, as long as a de_decoder. */
+
+static PyObject *bytes_of_decoder(const de_decoder *decoder) {
+    return PyBytes_FromStringAndSize((const char *)decoder, sizeof *decoder);
+}
+
+static bool take_decoder(de_decoder *decoder, PyObject *kept) {
+    if (!PyBytes_Check(kept) || PyBytes_Size(kept) != (Py_ssize_t)sizeof *decoder) {
+        refused(DE_NO_DECODER);
+        return false;
+    }
+    memcpy(decoder, PyBytes_AsString(kept), sizeof *decoder);
+    return true;
+}
+
+static PyObject *new_decoder(PyObject *module, PyObject *unused) {
+    de_decoder decoder;
+    memset(&decoder, 0, sizeof decoder);
+    de_decoder_new(&decoder);
+    (void)module;
+    (void)unused;
+    return bytes_of_decoder(&decoder);
+}
+
+/* The characters that are held: those of an unfinished group. Refuses what the library refuses. */
+static PyObject *decoder_held(PyObject *self, PyObject *kept) {
+    de_decoder decoder;
+    size_t most;
+    de_status status;
+    if (!take_decoder(&decoder, kept)) {
+        return NULL;
+    }
+    status = most_of_piece(encoding_of(self), &decoder, 0, &most);
+    if (status != DE_OK || decoder.count > sizeof decoder.bytes) {
+        return refused(status == DE_OK ? DE_NO_DECODER : status);
+    }
+    return PyBytes_FromStringAndSize((const char *)decoder.bytes, (Py_ssize_t)decoder.count);
+}
+
+/* The data of the groups that the piece completes, and what is kept then. */
+static PyObject *read_piece(const encoding *it, de_decoder *decoder, const struct input *input) {
+    size_t most;
+    size_t written = 0;
+    PyObject *data;
+    de_status status = most_of_piece(it, decoder, input->len, &most);
+    if (status != DE_OK) {
+        return refused(status);
+    }
+    data = PyBytes_FromStringAndSize(NULL, (Py_ssize_t)most);
+    if (data == NULL) {
+        return NULL;
+    }
+    status = write_piece(it, decoder, input, PyBytes_AsString(data), most, &written);
+    if (status != DE_OK) {
+        Py_DECREF(data);
+        return refused(status);
+    }
+    data = shortened(data, most, written);
+    return data == NULL ? NULL : Py_BuildValue("NN", data, bytes_of_decoder(decoder));
+}
+
+static PyObject *decoder_read(PyObject *self, PyObject *arguments) {
+    struct input input;
+    de_decoder decoder;
+    PyObject *kept;
+    PyObject *object;
+    PyObject *read = NULL;
+    if (!PyArg_ParseTuple(arguments, "OO", &kept, &object) || !take_decoder(&decoder, kept) ||
+        !take_text(&input, object)) {
+        return NULL;
+    }
+    read = read_piece(encoding_of(self), &decoder, &input);
+    release(&input);
+    return read;
+}
+
+/* The data of the last group, and the kind and the position of the fault, as in decode_parts. */
+static PyObject *decoder_finish(PyObject *self, PyObject *kept) {
+    const encoding *it = encoding_of(self);
+    char output[8];
+    de_decoder decoder;
+    de_decoded decoded;
+    de_status status;
+    if (!take_decoder(&decoder, kept)) {
+        return NULL;
+    }
+    status = it->is_predefined
+                 ? de_decoder_finish(it->number, &decoder, output, sizeof output, &decoded)
+                 : de_encoding_decoder_finish(&it->tables, &decoder, output, sizeof output,
+                                              &decoded);
+    if (!is_verdict(status)) {
+        return refused(status);
+    }
+    return Py_BuildValue("y#zn", output, (Py_ssize_t)decoded.written, kind_of(status),
+                         (Py_ssize_t)decoded.position);
+}
+
+/* Raises why there is no such encoding. */
+static PyObject *refused_specification(de_status status, size_t detail) {
+    const char *text = de_status_text(status);
+    char character = (char)detail;
+    PyObject *name;
+    if (status == DE_WRAP_WIDTH) {
+        return PyErr_Format(PyExc_ValueError, "%s of %zu", text, detail);
+    }
+    if (status != DE_DUPLICATE && status != DE_UNDEFINED) {
+        return refused(status);
+    }
+    name = PyUnicode_DecodeASCII(&character, 1, NULL);
+    if (name != NULL) {
+        PyErr_Format(PyExc_ValueError, "%s %R", text, name);
+        Py_DECREF(name);
+    }
+    return NULL;
+}
+
+/* A new object of the type, with these tables. */
+static PyObject *new_encoding(PyObject *type, const de_encoding *tables, Py_ssize_t number) {
+    PyObject *self = PyType_GenericAlloc((PyTypeObject *)(void *)type, 0);
+    if (self != NULL) {
+        encoding *it = (encoding *)(void *)self;
+        it->is_predefined = number >= 0;
+        it->number = (de_number)(number >= 0 ? number : 0);
+        it->tables = *tables;
+    }
+    return self;
+}
+
+/* The encoding that is asked for; it is the predefined one of the number, if that is not below 0. */
+static PyObject *specified(PyObject *type, PyObject *arguments) {
+    de_specification asked = DE_SPECIFICATION;
+    de_encoding tables;
+    Py_ssize_t symbols, ignore, separator, width, from, to, number;
+    int least_significant_first, check_trailing_bits, concatenate;
+    size_t detail = 0;
+    de_status status;
+    if (!PyArg_ParseTuple(arguments, "y#iy#ny#y#y#pppn", &asked.symbols, &symbols, &asked.padding,
+                          &asked.ignore, &ignore, &width, &asked.wrap_separator, &separator,
+                          &asked.translate_from, &from, &asked.translate_to, &to,
+                          &least_significant_first, &check_trailing_bits, &concatenate,
+                          &number)) {
+        return NULL;
+    }
+    asked.symbols_len = (size_t)symbols;
+    asked.ignore_len = (size_t)ignore;
+    asked.wrap_width = (size_t)width;
+    asked.wrap_separator_len = (size_t)separator;
+    asked.translate_from_len = (size_t)from;
+    asked.translate_to_len = (size_t)to;
+    asked.least_significant_first = least_significant_first != 0;
+    asked.check_trailing_bits = check_trailing_bits != 0;
+    asked.concatenate = concatenate != 0;
+    status = de_encoding_new(&tables, &asked, &detail);
+    return status == DE_OK ? new_encoding(type, &tables, number)
+                           : refused_specification(status, detail);
+}
+
+static PyObject *of_layout(PyObject *type, PyObject *object) {
+    struct input input;
+    de_encoding tables;
+    de_status status;
+    if (!take_data(&input, object)) {
+        return NULL;
+    }
+    status = de_encoding_read(&tables, input.start, input.len);
+    release(&input);
+    return status == DE_OK ? new_encoding(type, &tables, -1) : refused(status);
+}
+
+/* The names of the predefined encodings, in the order of their numbers. */
+static PyObject *names(PyObject *module, PyObject *unused) {
+    char name[DE_NAME_LIMIT];
+    size_t len;
+    int number = 0;
+    PyObject *list = PyList_New(0);
+    (void)module;
+    (void)unused;
+    while (list != NULL && de_name((de_number)number, name, sizeof name, &len) == DE_OK) {
+        PyObject *item = PyUnicode_DecodeASCII(name, (Py_ssize_t)len, NULL);
+        if (item == NULL || PyList_Append(list, item) != 0) {
+            Py_CLEAR(list);
+        }
+        Py_XDECREF(item);
+        number++;
+    }
+    return list;
+}
+
+static PyMethodDef encoding_methods[] = {
+    {"encode", encode, METH_O,
+     "encode($self, data, /)\n--\n\nThe text of the data. A ValueError if it is too long."},
+    {"decode", decode, METH_O,
+     "decode($self, text, /)\n--\n\nThe data that the text means. A DecodeError if it means "
+     "nothing."},
+    {"decode_into", decode_into, METH_VARARGS,
+     "decode_into($self, text, output, /)\n--\n\nWrites the data that the text means to the front "
+     "of the output, which has room for as many bytes as `decode_len` says, and returns how many "
+     "these are. A DecodeError if it means nothing."},
+    {"encode_len", encode_len, METH_O,
+     "encode_len($self, len, /)\n--\n\nThe length of the text of so many bytes."},
+    {"decode_len", decode_len, METH_O,
+     "decode_len($self, len, /)\n--\n\nHow many bytes a text of so many characters means at most. "
+     "A DecodeError if no text has this length."},
+    {"is_canonical", is_canonical, METH_NOARGS,
+     "is_canonical($self, /)\n--\n\nWhether no two different texts decode to the same data."},
+    {"_decode_parts", decode_parts, METH_O, NULL},
+    {"_layout", layout, METH_NOARGS, NULL},
+    {"_decoder_held", decoder_held, METH_O, NULL},
+    {"_decoder_read", decoder_read, METH_VARARGS, NULL},
+    {"_decoder_finish", decoder_finish, METH_O, NULL},
+    {"_specified", specified, METH_VARARGS | METH_CLASS, NULL},
+    {"_of_layout", of_layout, METH_O | METH_CLASS, NULL},
+    {NULL, NULL, 0, NULL},
+};
+
+static PyType_Slot encoding_slots[] = {
+    {Py_tp_methods, encoding_methods},
+    {0, NULL},
+};
+
+static PyType_Spec encoding_spec = {
+    .name = "data_encoding._native.Calls",
+    .basicsize = sizeof(encoding),
+    .flags = Py_TPFLAGS_DEFAULT | Py_TPFLAGS_BASETYPE | Py_TPFLAGS_DISALLOW_INSTANTIATION,
+    .slots = encoding_slots,
+};
+
+static PyMethodDef functions[] = {
+    {"names", names, METH_NOARGS, NULL},
+    {"new_decoder", new_decoder, METH_NOARGS, NULL},
+    {NULL, NULL, 0, NULL},
+};
+
+static struct PyModuleDef definition = {
+    PyModuleDef_HEAD_INIT, "data_encoding._native", NULL, 0, functions, NULL, NULL, NULL, NULL,
+};
+
+PyMODINIT_FUNC PyInit__native(void) {
+    PyObject *module = PyModule_Create(&definition);
+    PyObject *type = module == NULL ? NULL : PyType_FromSpec(&encoding_spec);
+    if (type == NULL || PyModule_AddObjectRef(module, "Calls", type) != 0) {
+        Py_CLEAR(module);
+    }
+    Py_XDECREF(type);
+    return module;
+}

@@ -1,0 +1,507 @@
+"""Tests of data_encoding against the standard library, and over every cutting of short texts."""
+
+import array
+import base64
+import binascii
+import codecs
+import concurrent.futures
+import copy
+import doctest
+import itertools
+import pickle
+import random
+import sys
+import threading
+import time
+import unittest
+from typing import Any, Callable, List, Tuple
+
+import data_encoding
+from data_encoding import BASE64, DecodeError, Decoder, Encoder, Encoding
+
+SAME: Any = {
+    "hexlower": base64.b16encode,
+    "hexupper": base64.b16encode,
+    "base32": base64.b32encode,
+    "base32hex": base64.b32hexencode,
+    "base64": base64.b64encode,
+    "base64url": base64.urlsafe_b64encode,
+}
+
+NAMES = [
+    "hexlower", "hexlower_permissive", "hexupper", "hexupper_permissive", "base32",
+    "base32_nopad", "base32_nopad_nocase", "base32_nopad_visual", "base32hex", "base32hex_nopad",
+    "base32_dnssec", "base32_dnscurve", "base64", "base64_nopad", "base64_mime",
+    "base64_mime_permissive", "base64url", "base64url_nopad",
+]
+
+OWN = [
+    Encoding("01234567", padding="=", ignore=" "),
+    Encoding("ABCDEFGHIJKLMNOPQRSTUVWXYZ234567", ignore="-"),
+    Encoding("01234567", padding="=", concatenate=False),
+    Encoding("01", wrap=(8, "\n"), least_significant_first=True),
+    Encoding("0123456789abcdef", translate=("ABCDEF", "abcdef"), wrap=(254, "\r\n")),
+    Encoding("01234567", check_trailing_bits=False),
+    Encoding("01234567", padding="=", translate=("#a", "=1")),
+]
+
+
+def predefined() -> List[Encoding]:
+    return [getattr(Encoding, name)() for name in NAMES]
+
+
+def every() -> List[Encoding]:
+    return predefined() + OWN
+
+
+def verdict(call: Callable[[], bytes]) -> Tuple[Any, ...]:
+    try:
+        return ("data", call())
+    except DecodeError as error:
+        return (error.kind, error.position, str(error))
+
+
+class Calls(unittest.TestCase):
+    def test_standard_library(self) -> None:
+        for name, other in SAME.items():
+            encoding = getattr(Encoding, name)()
+            for size in (0, 1, 2, 3, 4, 5, 57, 383, 384, 385, 1000, 100_000):
+                data = random.randbytes(size)
+                text = other(data).decode()
+                text = text.lower() if name == "hexlower" else text
+                self.assertEqual(encoding.encode(data), text)
+                self.assertEqual(encoding.decode(text), data)
+
+    def test_binascii(self) -> None:
+        for text in ("Zm9v", "Zm9vYg==", "Zm9vYg=", "Zm9!", "Zm9vYg==Zm9v", "Z===", "===="):
+            try:
+                data = binascii.a2b_base64(text, strict_mode=True)
+            except binascii.Error:
+                data = None
+            if data is not None:
+                self.assertEqual(BASE64.decode(text), data)
+            elif text != "Zm9vYg==Zm9v":
+                self.assertRaises(DecodeError, BASE64.decode, text)
+
+    def test_round_trip(self) -> None:
+        for encoding in every():
+            for size in (*range(20), 400, 9000):
+                data = random.randbytes(size)
+                text = encoding.encode(data)
+                self.assertEqual(encoding.encode_len(size), len(text))
+                self.assertGreaterEqual(encoding.decode_len(len(text)), size)
+                self.assertEqual(encoding.decode(text), data)
+                self.assertEqual(encoding.decode(text.encode()), data)
+                self.assertEqual(encoding.decode(bytearray(text, "ascii")), data)
+
+    def test_buffers(self) -> None:
+        data = bytes(range(200))
+        text = BASE64.encode(data)
+        others: List[Any] = [bytearray(data), memoryview(data), array.array("B", data)]
+        for same in others:
+            self.assertEqual(BASE64.encode(same), text)
+        self.assertEqual(BASE64.encode(memoryview(data)[::2]), BASE64.encode(data[::2]))
+        self.assertEqual(BASE64.encode(array.array("H", [1, 2])), "AQACAA==")
+        self.assertEqual(BASE64.decode(memoryview(text.encode())), data)
+
+    def test_no_buffers(self) -> None:
+        calls: Any = (BASE64.encode, BASE64.decode, BASE64.decode_partial,
+                      Decoder(BASE64).decode, Encoder(BASE64).encode)
+        for wrong in (5, True, [1, 2], None, 1.5, {1}):
+            for call in calls:
+                self.assertRaises(TypeError, call, wrong)
+        self.assertRaises(TypeError, BASE64.encode, "text")
+        self.assertRaises(TypeError, Encoder(BASE64).encode, "text")
+        self.assertRaises(TypeError, BASE64.encode)
+
+    def test_lengths(self) -> None:
+        self.assertEqual((BASE64.encode_len(4), BASE64.decode_len(8)), (8, 6))
+        with self.assertRaises(DecodeError) as caught:
+            BASE64.decode_len(5)
+        self.assertEqual(caught.exception.args, ("length", 4, b""))
+        for call in (BASE64.encode_len, BASE64.decode_len):
+            self.assertRaisesRegex(ValueError, "a length below 0", call, -1)
+            self.assertRaises(ValueError, call, 1 << 70)
+            self.assertRaises(TypeError, call, "1")
+            self.assertRaises(TypeError, call, 1.0)
+
+    def test_decode_into(self) -> None:
+        output = bytearray(b"........")
+        self.assertEqual(BASE64.decode_into("Zm9vYg==", output), 4)
+        self.assertEqual((output[:4], output[6:]), (b"foob", b".."))
+        self.assertEqual(BASE64.decode_into("Zm9v", memoryview(output)[5:]), 3)
+        self.assertEqual(output[5:], b"foo")
+        with self.assertRaises(ValueError) as refused:
+            BASE64.decode_into("Zm9vYg==", bytearray(5))
+        self.assertEqual(str(refused.exception), "output too short")
+        with self.assertRaises(DecodeError) as caught:
+            BASE64.decode_into("Zm9vY!==", output)
+        self.assertEqual(caught.exception.args, ("symbol", 5, b"foo"))
+        self.assertRaises(DecodeError, BASE64.decode_into, "Zm9vY", output)
+        self.assertRaises(TypeError, BASE64.decode_into, "Zm9v", b"........")
+        self.assertRaises(TypeError, BASE64.decode_into, 5, output)
+
+    def test_decode_into_the_text(self) -> None:
+        text = bytearray(b"Zm9v....")
+        self.assertRaises(ValueError, BASE64.decode_into, memoryview(text)[:4], text)
+        self.assertEqual(text, b"Zm9v....")
+        self.assertEqual(BASE64.decode_into(memoryview(text)[:4], memoryview(text)[4:]), 3)
+        self.assertEqual(text, b"Zm9vfoo.")
+
+    def test_threads(self) -> None:
+        encoding = OWN[0]
+        data = random.randbytes(20_000)
+        text = encoding.encode(data)
+        wrong = []
+
+        def run() -> None:
+            for _ in range(100):
+                if encoding.encode(data) != text or encoding.decode(text) != data:
+                    wrong.append(1)
+
+        threads = [threading.Thread(target=run) for _ in range(2)]
+        for thread in threads:
+            thread.start()
+        for thread in threads:
+            thread.join()
+        self.assertEqual(wrong, [])
+
+    def test_others_run_meanwhile(self) -> None:
+        """No thread is made to wait here, so that one runs only when a call lets it."""
+        turns = [0]
+        ended = threading.Event()
+
+        def count() -> None:
+            while not ended.is_set():
+                turns[0] += 1
+                time.sleep(0.0002)
+
+        data = bytes(1 << 25)
+        text = BASE64.encode(data)
+        calls: Any = ((BASE64.encode, data), (BASE64.decode, text), (Decoder(BASE64).decode, text))
+        interval = sys.getswitchinterval()
+        thread = threading.Thread(target=count)
+        thread.start()
+        sys.setswitchinterval(1000)
+        try:
+            for call, argument in calls:
+                before = turns[0]
+                # On a busy machine a thread may not have its turn at once.
+                for _ in range(20):
+                    if turns[0] == before:
+                        call(argument)
+                self.assertGreater(turns[0], before)
+            before = turns[0]
+            BASE64.encode(data[:1000])
+            self.assertEqual(turns[0], before)
+        finally:
+            sys.setswitchinterval(interval)
+            ended.set()
+            thread.join()
+
+
+class Faults(unittest.TestCase):
+    def test_errors(self) -> None:
+        with self.assertRaises(DecodeError) as caught:
+            BASE64.decode("Zm9vZm9\u00e9")
+        self.assertIsInstance(caught.exception, ValueError)
+        self.assertEqual((caught.exception.kind, caught.exception.position), ("symbol", 7))
+        self.assertEqual(str(caught.exception), "invalid symbol at 7")
+        self.assertEqual(caught.exception.data, b"foo")
+
+    def test_kinds(self) -> None:
+        for text, kind, position, printed in (
+            ("Zm9vY", "length", 4, "invalid length at 4"),
+            ("Zm9v!===", "padding", 5, "invalid padding length at 5"),
+            ("Zm9vZh==", "trailing", 5, "non-zero trailing bits at 5"),
+            ("Zm9v\u0141m9v", "symbol", 4, "invalid symbol at 4"),
+            ("Zm9v\ud800m9v", "symbol", 4, "invalid symbol at 4"),
+            ("Zm9v\U0001f600m9v", "symbol", 4, "invalid symbol at 4"),
+        ):
+            self.assertEqual(verdict(lambda: BASE64.decode(text)), (kind, position, printed))
+            self.assertEqual(verdict(lambda: Decoder(BASE64).decode(text, True)),
+                             (kind, position, printed))
+
+    def test_partial(self) -> None:
+        data, read, error = BASE64.decode_partial("Zm9vZ!==")
+        assert error is not None
+        self.assertEqual((data, read, error.args), (b"foo", 4, ("symbol", 5, b"foo")))
+        self.assertEqual(BASE64.decode_partial("Zm9v"), (b"foo", 4, None))
+        long = "Zm9v" * 1000
+        partial = BASE64.decode_partial(long + "!" + long[1:])
+        self.assertEqual((partial.data, partial.read), (b"foo" * 1000, 4000))
+        self.assertEqual(BASE64.decode_partial("Zm9vY").read, 0)
+
+    def test_copies(self) -> None:
+        error = DecodeError("symbol", 7, b"foo")
+        copies = [pickle.loads(pickle.dumps(error, protocol)) for protocol in range(6)]
+        for other in copies + [copy.copy(error), copy.deepcopy(error)]:
+            self.assertIsInstance(other, DecodeError)
+            self.assertEqual((other.kind, other.position, other.data), ("symbol", 7, b"foo"))
+            self.assertEqual(str(other), str(error))
+
+    def test_process_pool(self) -> None:
+        with concurrent.futures.ProcessPoolExecutor(1) as pool:
+            self.assertEqual(pool.submit(OWN[0].decode, "142 =====").result(), b"1")
+            with self.assertRaises(DecodeError) as caught:
+                pool.submit(BASE64.decode, "Zm9v!===").result()
+            self.assertEqual(caught.exception.args, ("padding", 5, b"foo"))
+            self.assertEqual(pool.submit(BASE64.decode, "Zm9v").result(), b"foo")
+
+
+class Encodings(unittest.TestCase):
+    def test_specifications(self) -> None:
+        for arguments, text in (
+            ({"symbols": "abc"}, "invalid number of symbols"),
+            ({"symbols": "aa"}, "conflicting definitions of a character 'a'"),
+            ({"symbols": "01", "padding": "="}, "unnecessary padding"),
+            ({"symbols": "a\u00e9"}, "invalid number of symbols"),
+            ({"symbols": "01", "ignore": "\u00e9"}, "non-ascii character"),
+            ({"symbols": "01", "ignore": "\ud800"}, "non-ascii character"),
+            ({"symbols": "01234567", "padding": "\u20ac"}, "non-ascii character"),
+            ({"symbols": "01", "translate": ("a", "b")}, "undefined character 'b'"),
+            ({"symbols": "01", "translate": ("a", "01")}, "translate from/to length mismatch"),
+            ({"symbols": "01", "wrap": (9, "\n")}, "wrap width not a multiple of a group of 8"),
+            ({"symbols": "01", "wrap": (256, "\n")}, "invalid wrap width or separator length"),
+            ({"symbols": "01", "wrap": (2**64 + 8, "\n")},
+             "invalid wrap width or separator length"),
+            ({"symbols": "01", "wrap": (-8, "\n")}, "the width of wrap is below 0"),
+            ({"symbols": "01234567", "padding": "=="}, "the padding is not one character"),
+            ({"symbols": "01234567", "padding": ""}, "the padding is not one character"),
+        ):
+            with self.assertRaises(ValueError) as caught:
+                Encoding(**arguments)  # type: ignore[arg-type]
+            self.assertEqual(str(caught.exception), text)
+
+    def test_types(self) -> None:
+        for arguments, text in (
+            ({"symbols": b"01"}, "symbols has to be a str, not bytes"),
+            ({"symbols": None}, "symbols has to be a str, not NoneType"),
+            ({"symbols": "01", "padding": 61}, "padding has to be a str or None, not int"),
+            ({"symbols": "01", "ignore": ["a"]}, "ignore has to be a str, not list"),
+            ({"symbols": "01", "wrap": (8,)}, "wrap has to be a tuple of two"),
+            ({"symbols": "01", "wrap": ("8", "\n")},
+             "the width of wrap has to be an int, not str"),
+            ({"symbols": "01", "wrap": (True, "\n")},
+             "the width of wrap has to be an int, not bool"),
+            ({"symbols": "01", "wrap": (8, b"\n")},
+             "the separator of wrap has to be a str, not bytes"),
+            ({"symbols": "01", "translate": {"a": "0"}}, "translate has to be a tuple of two"),
+            ({"symbols": "01", "translate": (1, 2)}, "translate has to be a str, not int"),
+        ):
+            with self.assertRaises(TypeError) as caught:
+                Encoding(**arguments)  # type: ignore[arg-type]
+            self.assertEqual(str(caught.exception), text)
+        for wrong in (None, b"BASE64", 12):
+            self.assertRaises(TypeError, Encoding.named, wrong)
+        self.assertRaises(TypeError, Encoding)
+        self.assertRaises(TypeError, Encoding.from_layout, 5)
+        self.assertRaises(TypeError, object.__new__, Encoding)
+
+    def test_names(self) -> None:
+        self.assertEqual([name.lower() for name in Encoding.names()], NAMES)
+        for name in NAMES:
+            constant = getattr(data_encoding, name.upper())
+            self.assertIs(getattr(Encoding, name)(), constant)
+            self.assertIs(Encoding.named(name.upper()), constant)
+            self.assertIn(name.upper(), data_encoding.__all__)
+        for name in ("base64", "BASE", "BASE64 ", "", "BASE64\u00e9", "\ud800"):
+            self.assertRaises(ValueError, Encoding.named, name)
+
+    def test_canonical(self) -> None:
+        canonical = [name for name in NAMES if getattr(Encoding, name)().is_canonical()]
+        self.assertEqual(canonical, [
+            "hexlower", "hexupper", "base32_nopad", "base32hex_nopad", "base64_nopad",
+            "base64url_nopad",
+        ])
+
+    def test_numbers_and_layouts(self) -> None:
+        """By its number, and by its layout alone, an encoding is the same."""
+        data = bytes(range(256))
+        for encoding in predefined():
+            other = Encoding._of_layout(encoding.layout)
+            text = encoding.encode(data)
+            self.assertEqual(other.encode(data), text)
+            for byte in range(256):
+                faulty = text[:9].encode() + bytes([byte]) + text[10:].encode()
+                self.assertEqual(other.decode_partial(faulty)[:2],
+                                 encoding.decode_partial(faulty)[:2])
+
+    def test_layouts(self) -> None:
+        for encoding in every():
+            self.assertEqual(Encoding.from_layout(encoding.layout), encoding)
+            self.assertEqual(Encoding.from_layout(bytearray(encoding.layout)), encoding)
+        self.assertIs(Encoding.from_layout(BASE64.layout), BASE64)
+        for wrong in (b"", bytes(514), BASE64.layout[:-1], BASE64.layout + b"\0"):
+            self.assertRaises(ValueError, Encoding.from_layout, wrong)
+
+    def test_specification(self) -> None:
+        for encoding in every():
+            self.assertEqual(Encoding(**encoding.specification()), encoding)
+        self.assertEqual(OWN[4].specification(), {
+            "symbols": "0123456789abcdef", "padding": None, "ignore": "\n\r",
+            "wrap": (254, "\r\n"), "translate": ("ABCDEF", "abcdef"),
+            "least_significant_first": False, "check_trailing_bits": True, "concatenate": True,
+        })
+        self.assertEqual(OWN[6].specification()["translate"], ("#a", "=1"))
+        self.assertEqual(OWN[6].decode("220644#="), b"Hi")
+        self.assertFalse(OWN[2].specification()["concatenate"])
+        self.assertTrue(OWN[3].specification()["least_significant_first"])
+        self.assertFalse(OWN[5].specification()["check_trailing_bits"])
+
+    def test_equality(self) -> None:
+        for one, other in itertools.product(every(), every()):
+            self.assertEqual(one == other, one is other)
+            self.assertEqual(one.layout == other.layout, one is other)
+        again = Encoding("01234567", padding="=", ignore=" ")
+        self.assertIsNot(again, OWN[0])
+        self.assertEqual(again, OWN[0])
+        self.assertEqual(hash(again), hash(OWN[0]))
+        self.assertEqual(len(set(every() + every() + [again])), len(every()))
+        self.assertNotEqual(BASE64, "BASE64")
+
+    def test_repr(self) -> None:
+        self.assertEqual(repr(BASE64), "Encoding.base64()")
+        self.assertEqual(repr(OWN[2]), "Encoding('01234567', padding='=', concatenate=False)")
+        for encoding in every():
+            self.assertEqual(eval(repr(encoding)), encoding)
+
+    def test_copies(self) -> None:
+        for encoding in every():
+            for protocol in range(6):
+                other = pickle.loads(pickle.dumps(encoding, protocol))
+                self.assertEqual(other, encoding)
+                self.assertEqual(other.encode(b"foo"), encoding.encode(b"foo"))
+            self.assertIs(copy.copy(encoding), encoding)
+            self.assertIs(copy.deepcopy(encoding), encoding)
+        self.assertIs(pickle.loads(pickle.dumps(BASE64)), BASE64)
+        self.assertLess(len(pickle.dumps(BASE64)), 100)
+
+    def test_alignment(self) -> None:
+        data = random.randbytes(1000)
+        for encoding in every():
+            cut = encoding.encode_align
+            self.assertEqual(encoding.encode(data[:cut]) + encoding.encode(data[cut:]),
+                             encoding.encode(data))
+        self.assertEqual([encoding.encode_align for encoding in OWN], [3, 5, 3, 1, 127, 3, 3])
+        self.assertEqual(data_encoding.BASE64_MIME.encode_align, 57)
+
+    def test_unchanged(self) -> None:
+        with self.assertRaises(AttributeError):
+            BASE64.other = 1  # type: ignore[attr-defined]
+
+    def test_documentation(self) -> None:
+        self.assertEqual(doctest.testmod(data_encoding).failed, 0)
+
+
+class Pieces(unittest.TestCase):
+    def test_decoder(self) -> None:
+        """Each text in two and three pieces, cut anywhere, and byte by byte."""
+        for encoding in every():
+            for text in texts(encoding):
+                wanted = verdict(lambda: encoding.decode(text))
+                cuts = itertools.combinations_with_replacement(range(len(text) + 1), 2)
+                for one, other in cuts:
+                    pieces = [text[:one], text[one:other], text[other:]]
+                    self.assertEqual(verdict(lambda: joined(encoding, pieces)), wanted)
+                pieces = [text[i : i + 1] for i in range(len(text))]
+                self.assertEqual(verdict(lambda: joined(encoding, pieces)), wanted)
+
+    def test_decoder_is_incremental(self) -> None:
+        decoder = Decoder(BASE64)
+        self.assertIsInstance(decoder, codecs.IncrementalDecoder)
+        self.assertEqual(decoder.decode("Zm9vY"), b"foo")
+        state = decoder.getstate()
+        self.assertEqual(decoder.decode("mFy"), b"bar")
+        decoder.setstate(state)
+        self.assertEqual(decoder.decode("g==", final=True), b"b")
+        self.assertEqual(decoder.getstate(), (b"", 0))
+        self.assertEqual(state[0], b"Y")
+        self.assertRaises(ValueError, decoder.setstate, (b"", 1 << 64))
+        self.assertRaises(ValueError, decoder.setstate, (b"", 1 << 10000))
+        self.assertRaises(ValueError, decoder.setstate, (b"", -1))
+        for wrong in (5, (b"",), (b"", "1"), None):
+            self.assertRaises(TypeError, decoder.setstate, wrong)
+        self.assertRaises(TypeError, Decoder, "BASE64")
+        self.assertEqual(decoder.decode("Zm9v", final=True), b"foo")
+
+    def test_bytes_of_no_decoder(self) -> None:
+        for wrong in (b"", b"1", bytes(103), bytes(105)):
+            self.assertRaises(ValueError, BASE64._decoder_held, wrong)
+            self.assertRaises(ValueError, BASE64._decoder_read, wrong, "Zm9v")
+            self.assertRaises(ValueError, BASE64._decoder_finish, wrong)
+
+    def test_decoder_after_a_fault(self) -> None:
+        decoder = Decoder(BASE64)
+        self.assertEqual(decoder.decode("Zm9v!mFy"), b"foo")
+        self.assertEqual(decoder.decode("Zm9v" * 1000), b"")
+        with self.assertRaises(DecodeError) as caught:
+            decoder.decode("Z", final=True)
+        self.assertEqual((caught.exception.kind, caught.exception.position), ("length", 4008))
+        self.assertEqual(decoder.getstate(), (b"", 0))
+
+    def test_data_before_a_fault(self) -> None:
+        decoder = Decoder(BASE64)
+        self.assertEqual(decoder.decode("Zm9"), b"")
+        with self.assertRaises(DecodeError) as caught:
+            decoder.decode("vYmFy!m9v", final=True)
+        self.assertEqual(caught.exception.args, ("symbol", 8, b"foobar"))
+
+    def test_copies_of_a_decoder(self) -> None:
+        decoder = Decoder(OWN[0])
+        self.assertEqual(decoder.decode("220 6"), b"")
+        others = [copy.copy(decoder), copy.deepcopy(decoder), pickle.loads(pickle.dumps(decoder))]
+        self.assertEqual(decoder.decode("44==", final=True), b"Hi")
+        for other in others:
+            self.assertEqual(other.decode("44==", final=True), b"Hi")
+
+    def test_encoder(self) -> None:
+        data = random.randbytes(300)
+        for encoding in every():
+            whole = encoding.encode(data)
+            for one, other in ((0, 0), (1, 2), (1, 300), (57, 58), (128, 254), (300, 300)):
+                encoder = Encoder(encoding)
+                text = encoder.encode(data[:one]) + encoder.encode(bytearray(data[one:other]))
+                copied = copy.copy(encoder)
+                self.assertEqual(text + encoder.encode(data[other:], final=True), whole)
+                self.assertEqual(text + copied.encode(data[other:], final=True), whole)
+            encoder = Encoder(encoding)
+            text = "".join(encoder.encode(data[i : i + 1]) for i in range(len(data)))
+            self.assertEqual(text + encoder.encode(b"", final=True), whole)
+
+    def test_encoder_is_incremental(self) -> None:
+        encoder = Encoder(BASE64)
+        self.assertIsInstance(encoder, codecs.IncrementalEncoder)
+        self.assertEqual(encoder.getstate(), 0)
+        self.assertEqual(encoder.encode(b"foob\0"), "Zm9v")
+        state = encoder.getstate()
+        self.assertEqual(encoder.encode(b"", final=True), "YgA=")
+        self.assertEqual(encoder.getstate(), 0)
+        encoder.setstate(state)
+        self.assertEqual(encoder.encode(b"", final=True), "YgA=")
+        encoder.encode(b"f")
+        encoder.reset()
+        self.assertEqual(encoder.encode(b"foo", final=True), "Zm9v")
+        for wrong in (-1, 1, 2, 0x0261, 0x01616263, 1 << 10000):
+            self.assertRaises(ValueError, encoder.setstate, wrong)
+        self.assertRaises(TypeError, encoder.setstate, "1")
+        self.assertRaises(TypeError, Encoder, "BASE64")
+
+
+def joined(encoding: Encoding, pieces: List[str]) -> bytes:
+    decoder = Decoder(encoding)
+    data = b"".join(decoder.decode(piece) for piece in pieces)
+    return data + decoder.decode("", final=True)
+
+
+def texts(encoding: Encoding) -> List[str]:
+    """Texts of short data, some of them damaged."""
+    found = []
+    for size in (0, 1, 2, 5, 6):
+        text = encoding.encode(b"foobar"[:size])
+        found += [text, text + text, text[:-1], text + "!", "!" + text, text.replace("=", "")]
+    return found
+
+
+if __name__ == "__main__":
+    unittest.main()

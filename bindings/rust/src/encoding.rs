@@ -1,0 +1,357 @@
+#[cfg(feature = "alloc")]
+use alloc::string::String;
+#[cfg(feature = "alloc")]
+use alloc::sync::Arc;
+#[cfg(feature = "alloc")]
+use alloc::vec::Vec;
+use core::fmt;
+
+use crate::ffi::{self, Handle};
+use crate::layout::Layout;
+use crate::{static_layout, Character, DecodeError, DecodePartial, Display};
+#[cfg(feature = "alloc")]
+use crate::{Encoder, Specification};
+
+/// The shortest buffer in which any encoding has room for a line and its separator.
+const BUFFER_LEN: usize = 510;
+
+/// An encoding: how data is written as text, and which texts are data.
+///
+/// Two encodings are equal if they write the same texts and decode the same texts to the same data,
+/// that is, if their layouts are equal. A clone takes no memory.
+#[derive(Clone)]
+pub struct Encoding(Source);
+
+/// What an encoding is made of.
+#[derive(Clone)]
+enum Source {
+    /// A predefined one, which the library has by its number.
+    Predefined { number: u32, layout: &'static [u8] },
+    /// A layout of the program, which is judged when it is used.
+    Static(&'static [u8]),
+    /// One that was built of a specification.
+    #[cfg(feature = "alloc")]
+    Built(Arc<Built>),
+}
+
+#[cfg(feature = "alloc")]
+struct Built {
+    tables: ffi::Tables,
+    layout: Vec<u8>,
+}
+
+impl Encoding {
+    pub(crate) const fn predefined(number: u32, layout: &'static [u8]) -> Self {
+        Encoding(Source::Predefined { number, layout })
+    }
+
+    #[cfg(feature = "alloc")]
+    pub(crate) fn built(tables: ffi::Tables) -> Self {
+        let layout = ffi::layout(&tables);
+        Encoding(Source::Built(Arc::new(Built { tables, layout })))
+    }
+
+    /// Calls with the encoding as the library takes it.
+    #[inline]
+    fn with<R>(&self, call: impl FnOnce(Handle<'_>) -> R) -> R {
+        let tables;
+        call(match &self.0 {
+            Source::Predefined { number, .. } => Handle::Number(*number),
+            Source::Static(layout) => Handle::Tables(match static_layout::kept(layout) {
+                Some(kept) => kept,
+                None => {
+                    tables = static_layout::read(layout);
+                    &tables
+                }
+            }),
+            #[cfg(feature = "alloc")]
+            Source::Built(built) => Handle::Tables(&built.tables),
+        })
+    }
+
+    /// The fields of the layout, which is judged if it is one of the program.
+    fn layout(&self) -> Layout<'_> {
+        if let Source::Static(_) = self.0 {
+            self.with(|_| ());
+        }
+        self.fields()
+    }
+
+    #[inline]
+    fn fields(&self) -> Layout<'_> {
+        Layout::new(self.internal_implementation())
+    }
+
+    /// Returns the length of the text of `len` bytes.
+    ///
+    /// # Panics
+    ///
+    /// Panics if `len` is greater than `usize::MAX / 512`. Longer data is encoded in parts, whose
+    /// lengths are multiples of [`encode_align`](Encoding::encode_align).
+    #[must_use]
+    #[inline]
+    pub fn encode_len(&self, len: usize) -> usize {
+        self.with(|encoding| ffi::encode_len(encoding, len))
+    }
+
+    /// Returns the number of bytes after a multiple of which data may be cut: the texts of the
+    /// parts, joined, are the text of the whole.
+    ///
+    /// ```
+    /// use data_encoding::BASE64;
+    ///
+    /// assert_eq!(BASE64.encode_align(), 3);
+    /// assert_eq!(BASE64.encode(b"foobar"), BASE64.encode(b"foo") + &BASE64.encode(b"bar"));
+    /// ```
+    #[must_use]
+    pub fn encode_align(&self) -> usize {
+        let layout = self.layout();
+        let bit_width = layout.bit_width();
+        match layout.line_width() {
+            Some(width) => width * bit_width / 8,
+            None => bit_width >> bit_width.trailing_zeros(),
+        }
+    }
+
+    /// Writes the text of the data to the output.
+    ///
+    /// # Panics
+    ///
+    /// Panics if the length of the output is not [`encode_len`](Encoding::encode_len) of that of
+    /// the data.
+    ///
+    /// ```
+    /// use data_encoding::HEXLOWER;
+    ///
+    /// let mut text = [0; 4];
+    /// HEXLOWER.encode_mut(b"Hi", &mut text);
+    /// assert_eq!(&text, b"4869");
+    /// ```
+    #[inline]
+    pub fn encode_mut(&self, input: &[u8], output: &mut [u8]) {
+        self.encode_mut_str(input, output);
+    }
+
+    /// Writes the text of the data to the output, and returns it, which is all of the output.
+    ///
+    /// # Panics
+    ///
+    /// Panics if the length of the output is not [`encode_len`](Encoding::encode_len) of that of
+    /// the data.
+    #[inline]
+    pub fn encode_mut_str<'a>(&self, input: &[u8], output: &'a mut [u8]) -> &'a str {
+        let len = output.len();
+        let text = self.with(|encoding| ffi::encode(encoding, input, output));
+        assert!(text.len() == len, "the length of the output is not what `encode_len` says");
+        text
+    }
+
+    /// Appends the text of the data to the output.
+    ///
+    /// ```
+    /// use data_encoding::HEXUPPER;
+    ///
+    /// let mut line = String::from("0x");
+    /// HEXUPPER.encode_append(&[0xca, 0xfe], &mut line);
+    /// assert_eq!(line, "0xCAFE");
+    /// ```
+    #[cfg(feature = "alloc")]
+    #[inline]
+    pub fn encode_append(&self, input: &[u8], output: &mut String) {
+        self.with(|encoding| {
+            let len = ffi::encode_len(encoding, input.len());
+            ffi::encode_append(encoding, input, len, output);
+        });
+    }
+
+    /// Returns an encoder, which appends the text of data that comes in fragments to the output.
+    #[cfg(feature = "alloc")]
+    pub fn new_encoder<'a>(&'a self, output: &'a mut String) -> Encoder<'a> {
+        Encoder::new(self, output)
+    }
+
+    /// Writes the text of the data to the writer, through 1024 bytes on the stack.
+    ///
+    /// # Errors
+    ///
+    /// Returns the error of the writer.
+    pub fn encode_write(&self, input: &[u8], output: &mut impl fmt::Write) -> fmt::Result {
+        self.encode_write_buffer(input, output, &mut [0; 1024])
+    }
+
+    /// Writes the text of the data to the writer, through the buffer.
+    ///
+    /// # Panics
+    ///
+    /// Panics if the buffer has less than 510 bytes.
+    ///
+    /// # Errors
+    ///
+    /// Returns the error of the writer.
+    pub fn encode_write_buffer(
+        &self,
+        input: &[u8],
+        output: &mut impl fmt::Write,
+        buffer: &mut [u8],
+    ) -> fmt::Result {
+        assert!(buffer.len() >= BUFFER_LEN, "a buffer of less than {BUFFER_LEN} bytes");
+        let align = self.encode_align();
+        let parts = input.chunks(buffer.len() / self.encode_len(align) * align);
+        self.with(|encoding| {
+            for part in parts {
+                output.write_str(ffi::encode(encoding, part, buffer))?;
+            }
+            Ok(())
+        })
+    }
+
+    /// Returns a value that is printed as the text of the data.
+    ///
+    /// ```
+    /// use data_encoding::BASE64URL_NOPAD;
+    ///
+    /// assert_eq!(format!("id={}", BASE64URL_NOPAD.encode_display(&[0xff, 0xef])), "id=_-8");
+    /// ```
+    #[must_use]
+    pub fn encode_display<'a>(&'a self, input: &'a [u8]) -> Display<'a> {
+        Display::new(self, input)
+    }
+
+    /// Returns the text of the data.
+    #[cfg(feature = "alloc")]
+    #[must_use]
+    #[inline]
+    pub fn encode(&self, input: &[u8]) -> String {
+        self.with(|encoding| {
+            let len = ffi::encode_len(encoding, input.len());
+            let mut output = String::with_capacity(len);
+            ffi::encode_append(encoding, input, len, &mut output);
+            output
+        })
+    }
+
+    /// Returns how many bytes a text of `len` bytes means at most: less, if it has padding or bytes
+    /// that are ignored.
+    ///
+    /// # Panics
+    ///
+    /// Panics if `len` is greater than `usize::MAX / 8`.
+    ///
+    /// # Errors
+    ///
+    /// Returns [`DecodeKind::Length`](crate::DecodeKind::Length), with the greatest valid length
+    /// below `len`, if no text has this length.
+    #[inline]
+    pub fn decode_len(&self, len: usize) -> Result<usize, DecodeError> {
+        self.with(|encoding| ffi::decode_len(encoding, len))
+    }
+
+    /// Writes the data that the text means to the front of the output, and returns its length. What
+    /// the output has after the data is not specified.
+    ///
+    /// # Panics
+    ///
+    /// Panics if the length of the output is not [`decode_len`](Encoding::decode_len) of that of
+    /// the text, or if that is an error.
+    ///
+    /// # Errors
+    ///
+    /// Returns the fault of the text, with how far it was decoded: what was read means what was
+    /// written. [`DecodeKind::Length`](crate::DecodeKind::Length) is returned only if bytes are
+    /// ignored: `decode_len` has it otherwise.
+    ///
+    /// ```
+    /// use data_encoding::HEXLOWER;
+    ///
+    /// let mut data = [0; 3];
+    /// assert_eq!(HEXLOWER.decode_mut(b"486921", &mut data), Ok(3));
+    /// assert_eq!(&data, b"Hi!");
+    /// let partial = HEXLOWER.decode_mut(b"48692x", &mut data).unwrap_err();
+    /// assert_eq!((partial.read, partial.written, partial.error.position), (4, 2, 5));
+    /// ```
+    #[inline]
+    pub fn decode_mut(&self, input: &[u8], output: &mut [u8]) -> Result<usize, DecodePartial> {
+        self.with(|encoding| {
+            let decoded = ffi::decode(encoding, input, output);
+            let fits = match decoded {
+                Ok(_) => self.fields().most(input.len()) == output.len(),
+                Err(_) => ffi::decode_len(encoding, input.len()) == Ok(output.len()),
+            };
+            assert!(fits, "the length of the output is not what `decode_len` says");
+            decoded
+        })
+    }
+
+    /// Returns the data that the text means.
+    ///
+    /// # Errors
+    ///
+    /// Returns the fault of the text.
+    #[cfg(feature = "alloc")]
+    #[inline]
+    pub fn decode(&self, input: &[u8]) -> Result<Vec<u8>, DecodeError> {
+        self.with(|encoding| {
+            let most = ffi::decode_len(encoding, input.len())?;
+            ffi::decode_new(encoding, input, most).map_err(|partial| partial.error)
+        })
+    }
+
+    /// Returns how many bits a symbol means, from 1 to 6.
+    #[must_use]
+    pub fn bit_width(&self) -> usize {
+        self.layout().bit_width()
+    }
+
+    /// Returns what a byte of a text is to the encoding.
+    #[must_use]
+    pub fn interpret_byte(&self, byte: u8) -> Character {
+        self.layout().character(byte)
+    }
+
+    /// Returns whether no two different texts decode to the same data.
+    #[must_use]
+    pub fn is_canonical(&self) -> bool {
+        self.with(ffi::is_canonical)
+    }
+
+    /// Returns a specification that asks for this encoding.
+    #[cfg(feature = "alloc")]
+    #[must_use]
+    pub fn specification(&self) -> Specification {
+        Specification::of(self.layout())
+    }
+
+    /// Returns the encoding of a layout, as `data-encoding-macro` writes it. The first call that
+    /// has to know what the bytes say judges them, and panics if they are no layout.
+    #[doc(hidden)]
+    #[must_use]
+    pub const fn internal_new(implementation: &'static [u8]) -> Encoding {
+        Encoding(Source::Static(implementation))
+    }
+
+    /// Returns the layout.
+    #[doc(hidden)]
+    #[must_use]
+    #[inline]
+    pub fn internal_implementation(&self) -> &[u8] {
+        match &self.0 {
+            Source::Predefined { layout, .. } | Source::Static(layout) => layout,
+            #[cfg(feature = "alloc")]
+            Source::Built(built) => &built.layout,
+        }
+    }
+}
+
+impl PartialEq for Encoding {
+    fn eq(&self, other: &Self) -> bool {
+        self.internal_implementation() == other.internal_implementation()
+    }
+}
+
+impl Eq for Encoding {}
+
+impl fmt::Debug for Encoding {
+    fn fmt(&self, formatter: &mut fmt::Formatter<'_>) -> fmt::Result {
+        formatter.debug_tuple("Encoding").field(&self.internal_implementation()).finish()
+    }
+}

@@ -1,0 +1,125 @@
+#!/usr/bin/env bash
+# Builds the package for Python with the library for C in it, installs it, and runs its tests and
+# the blocks of docs/PYTHON.md. Nothing is taken from a network, and nothing is written into
+# bindings/.
+#
+# usage: tests/python.sh [LIB]: where build.sh left the library; it is built if no folder is
+# given.
+. "$(dirname "$0")/common.bash" || exit 1
+
+cc=${CC:-cc}
+
+# lacking PYTHON: what it lacks to build a package, in a few words; nothing if it lacks nothing.
+lacking() {
+    "$1" - <<'END'
+import importlib.util, os, sys, sysconfig
+missing = []
+if sys.version_info < (3, 11):
+    missing.append("Python 3.11")
+if not os.path.exists(os.path.join(sysconfig.get_paths()["include"], "Python.h")):
+    missing.append("Python.h (python3-dev)")
+for module in ("pip", "setuptools", "wheel"):
+    if importlib.util.find_spec(module) is None:
+        missing.append(f"{module} (python3-{module})")
+print(", ".join(missing))
+END
+}
+
+if ! command -v "$cc" >/dev/null; then
+    skip "the package for Python: no $cc"
+    finish
+fi
+python=
+for found in python3 /usr/bin/python3; do
+    if [ -z "$python" ] && command -v "$found" >/dev/null; then
+        missing=$(lacking "$found")
+        [ -n "$missing" ] || python=$found
+    fi
+done
+if [ -z "$python" ]; then
+    skip "the package for Python: no ${missing:-python3}"
+    finish
+fi
+
+lib=$room/lib
+if [ $# = 0 ]; then
+    crates/data_encoding_c/build.sh "$lib" || exit 1
+else
+    ln -s "$(realpath "$1")" "$lib" && lib=$(realpath "$1") || exit 1
+fi
+mkdir "$room/bindings"
+cp -r bindings/python "$room/bindings"
+rm -rf "$room/bindings/python"/{build,src/*.egg-info}
+cd "$room" || exit 1
+export DATA_ENCODING_DIR=$lib
+export PIP_DISABLE_PIP_VERSION_CHECK=1 PIP_ROOT_USER_ACTION=ignore PYTHONDONTWRITEBYTECODE=1
+
+# quietly COMMAND..: what it says is printed if it fails.
+quietly() {
+    "$@" >said 2>&1 || {
+        tail -n 60 said
+        return 1
+    }
+}
+
+include=$("$python" -c 'import sysconfig; print(sysconfig.get_paths()["include"])')
+holds 'the half in C' quietly "$cc" -std=c99 -Wall -Wextra -Wpedantic -Werror "-I$lib" \
+    -isystem "$include" -c bindings/python/src/data_encoding/_native.c -o native.o
+
+wanted="DATA_ENCODING_DIR has to be the absolute path of a folder with libdata_encoding.a, which \
+\`crates/data_encoding_c/build.sh FOLDER\` makes from the sources of Bamsturk"
+for folder in '' "$room" lib; do
+    given=$(cd bindings/python && DATA_ENCODING_DIR=$folder "$python" setup.py --version 2>&1)
+    is "without a library in '$folder'" "$wanted" "$given"
+done
+
+offline=(--no-build-isolation --no-index --no-deps)
+holds 'a wheel' quietly "$python" -m pip wheel "${offline[@]}" --wheel-dir wheels ./bindings/python
+is 'the name of the wheel' 1 "$(ls wheels | grep -c '^data_encoding-.*-cp311-abi3-')"
+holds 'an installed wheel' quietly "$python" -m pip install "${offline[@]}" --no-compile \
+    --target site wheels/*.whl
+is 'what is installed' $'__init__.py\n_native.abi3.so\n_native.pyi\npy.typed' \
+    "$(ls site/data_encoding)"
+is 'what the module gives' PyInit__native \
+    "$(nm -D --defined-only site/data_encoding/_native.abi3.so | sed 's/.* //')"
+
+# Nothing is needed of the library once the wheel is built.
+export PYTHONPATH=$room/site
+unset DATA_ENCODING_DIR
+tests=bindings/python/tests/test_data_encoding.py
+holds 'the tests of the package' quietly "$python" "$tests"
+# The wheel serves any other Python from 3.11 on.
+for other in python3 /usr/bin/python3 python3.12 python3.13; do
+    if [ "$(command -v "$other")" != "$(command -v "$python")" ] &&
+        "$other" -c 'import sys; sys.exit(sys.version_info < (3, 11))' 2>/dev/null; then
+        holds "its tests with $other" quietly "$other" "$tests"
+    fi
+done
+if command -v mypy >/dev/null; then
+    MYPYPATH=site holds 'its types' quietly mypy --strict --cache-dir mypy site/data_encoding "$tests"
+else
+    skip 'the types of the package: no mypy'
+fi
+
+# block KIND: the block of docs/PYTHON.md of this kind.
+page=$OLDPWD/docs/PYTHON.md
+block() {
+    awk -v kind="$1" '/^```/ { inside = $0 == "```" kind; next } inside' "$page"
+}
+
+commands=$(block sh)
+is 'the first command of docs/PYTHON.md' 'crates/data_encoding_c/build.sh /opt/bamsturk' \
+    "${commands%%$'\n'*}"
+commands=${commands#*$'\n'}
+commands=${commands//\/opt\/bamsturk/$lib}
+python3() {
+    "$python" "$@"
+}
+export -f python3
+export python PIP_NO_INDEX=1
+holds 'the commands of docs/PYTHON.md' quietly bash -ec "$commands"
+block python >hello.py
+is 'the program of docs/PYTHON.md' "$(block text)" \
+    "$(env -u PYTHONPATH environment/bin/python3 hello.py 2>&1)"
+
+finish

@@ -1,0 +1,161 @@
+#!/usr/bin/env bash
+# Builds the crate for Rust over the library for C, and runs its tests, with each set of features;
+# a program whose other crates depend on data-encoding; and the blocks of docs/RUST.md. Nothing is
+# taken from a network, and nothing is written into bindings/.
+#
+# usage: tests/rust.sh [LIB]: where build.sh left the library; it is built if no folder is given.
+. "$(dirname "$0")/common.bash" || exit 1
+
+if ! command -v cargo >/dev/null; then
+    skip 'the crate for Rust: no cargo'
+    finish
+fi
+
+lib=$room/lib
+if [ $# = 0 ]; then
+    crates/data_encoding_c/build.sh "$lib" || exit 1
+else
+    ln -s "$(realpath "$1")" "$lib" && lib=$(realpath "$1") || exit 1
+fi
+crate=$room/bamsturk/bindings/rust
+mkdir -p "$crate"
+cp -r bindings/rust/{Cargo.toml,build.rs,rustfmt.toml,src,tests} "$crate"
+export DATA_ENCODING_DIR=$lib
+export CARGO_TARGET_DIR=$room/target
+export CARGO_NET_OFFLINE=true
+export CARGO_TERM_COLOR=never
+
+# cargo_in FOLDER WORD..: what cargo says is printed if it fails.
+cargo_in() {
+    local folder=$1
+    shift
+    (cd "$folder" && cargo "$@") >"$room/said" 2>&1 || {
+        tail -n 60 "$room/said"
+        return 1
+    }
+}
+
+holds 'the tests of the crate' cargo_in "$crate" test
+tried=$(grep -c '^test .* ok$' "$room/said")
+[ "$tried" -ge 70 ] || fail "the crate has fewer than 70 tests: $tried"
+holds 'its tests with alloc alone' cargo_in "$crate" test --tests --no-default-features \
+    --features alloc
+holds 'its tests without features' cargo_in "$crate" test --tests --no-default-features
+RUSTDOCFLAGS='-D warnings' holds 'its documentation' cargo_in "$crate" doc
+if cargo clippy --version >/dev/null 2>&1; then
+    for features in --all-features --no-default-features; do
+        holds "clippy $features" cargo_in "$crate" clippy --all-targets "$features" -- -D warnings
+    done
+else
+    skip 'clippy: this cargo has none'
+fi
+if cargo fmt --version >/dev/null 2>&1; then
+    holds 'the layout of its files' cargo_in "$crate" fmt --check
+else
+    skip 'the layout of the files: this cargo has no fmt'
+fi
+
+wanted="DATA_ENCODING_DIR has to be the absolute path of a folder with libdata_encoding.a, which \
+\`crates/data_encoding_c/build.sh FOLDER\` makes from the sources of Bamsturk"
+for folder in '' "$room" lib; do
+    given=$(cd "$crate" && DATA_ENCODING_DIR=$folder cargo check 2>&1 | sed -n 's/^ *\(DATA_.*FOLDER.*\)/\1/p')
+    is "without a library in '$folder'" "$wanted" "$given"
+done
+given=$(cd "$crate" && env -u DATA_ENCODING_DIR cargo check 2>&1 | sed -n 's/^ *\(DATA_.*FOLDER.*\)/\1/p')
+is 'without DATA_ENCODING_DIR' "$wanted" "$given"
+
+# What the crate declares of a de_encoding is large enough.
+size=$(sed -n 's/^const TABLES_SIZE: usize = \([0-9]*\);$/\1/p' "$crate/src/ffi.rs")
+cc=${CC:-cc}
+if command -v "$cc" >/dev/null; then
+    cat >"$room/size.c" <<END
+#include "data_encoding.h"
+typedef char size[sizeof(de_encoding) <= $size ? 1 : -1];
+typedef char parts[sizeof(de_decoded) == 3 * sizeof(size_t) ? 1 : -1];
+typedef char limit[DE_LAYOUT_LIMIT == 770 ? 1 : -1];
+END
+    holds 'the size of an encoding' "$cc" -std=c99 "-I$lib" -c "$room/size.c" -o "$room/size.o"
+else
+    skip "the size of an encoding: no $cc"
+fi
+
+# block KIND: the block of docs/RUST.md of this kind.
+block() {
+    awk -v kind="$1" '/^```/ { inside = $0 == "```" kind; next } inside' docs/RUST.md
+}
+
+# new_package NAME VERSION: a package that depends on this version of data-encoding; what else its
+# Cargo.toml says is read from standard input.
+new_package() {
+    mkdir -p "$room/$1/src"
+    cat >"$room/$1/Cargo.toml" <<END
+[package]
+name = "$1"
+version = "0.1.0"
+edition = "2021"
+
+[dependencies]
+data-encoding = "$2"
+END
+    cat >>"$room/$1/Cargo.toml"
+}
+
+# A program that depends on data-encoding, and two crates that it depends on, which do too: one has
+# a macro that writes the layout of an encoding, as those of data-encoding-macro do.
+new_package between 2.5 </dev/null
+cat >"$room/between/src/lib.rs" <<'END'
+pub fn text(data: &[u8]) -> String {
+    data_encoding::BASE64.encode(data)
+}
+END
+new_package macros 2.4 <<'END'
+
+[lib]
+proc-macro = true
+END
+cat >"$room/macros/src/lib.rs" <<'END'
+use proc_macro::TokenStream;
+
+#[proc_macro]
+pub fn octal(_: TokenStream) -> TokenStream {
+    let mut specification = data_encoding::Specification::new();
+    specification.symbols.push_str("01234567");
+    let encoding = specification.encoding().unwrap();
+    let layout = encoding.internal_implementation();
+    format!("::data_encoding::Encoding::internal_new(&{layout:?})").parse().unwrap()
+}
+END
+new_package program 2.11 <<END
+between = { path = "../between" }
+macros = { path = "../macros" }
+
+$(block toml | sed "s:\"bamsturk/:\"$room/bamsturk/:")
+END
+{
+    block rust
+    cat <<'END'
+
+#[test]
+fn of_the_crate_between() {
+    assert_eq!(between::text(b"Hi"), "SGk=");
+}
+
+#[test]
+fn of_the_macro() {
+    const OCTAL: data_encoding::Encoding = macros::octal!();
+    assert_eq!(OCTAL.encode(b"Bit"), "20464564");
+    assert_eq!(OCTAL.specification().encoding().unwrap(), OCTAL);
+}
+END
+} >"$room/program/src/main.rs"
+is 'the commands of docs/RUST.md' 'crates/data_encoding_c/build.sh /opt/bamsturk
+export DATA_ENCODING_DIR=/opt/bamsturk' "$(block sh)"
+holds 'a program in the place of data-encoding' cargo_in "$room/program" test
+is 'the tests of that program' 2 "$(grep -c '^test .* ok$' "$room/said")"
+holds 'the program of docs/RUST.md' cargo_in "$room/program" run --quiet
+is 'what the program of docs/RUST.md prints' $'SGVsbG8=\n220644==\ninvalid symbol at 5' \
+    "$(cat "$room/said")"
+is 'the one data-encoding of the program' 1 \
+    "$(grep -c '^name = "data-encoding"' "$room/program/Cargo.lock")"
+
+finish
