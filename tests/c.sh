@@ -1,6 +1,6 @@
 #!/usr/bin/env bash
-# Builds the library for programs in C, and calls it from C, C++, Python and Rust: the programs of
-# tests/c/, the tests of the Python module, and the blocks of docs/C.md. They run side by side.
+# Builds the library for programs in C, and calls it from C and C++: the programs of tests/c/, and the
+# blocks of docs/C.md. They run side by side.
 #
 # usage: tests/c.sh [LIB]: where build.sh left the library; it is built where no folder is given.
 . "$(dirname "$0")/common.bash" || exit 1
@@ -76,12 +76,6 @@ if command -v c++ >/dev/null; then
 else
     skip 'calls in C++: no c++'
 fi
-if command -v python3 >/dev/null; then
-    begin 'the Python module' env "DATA_ENCODING_LIBRARY=$lib/libdata_encoding.so" \
-        python3 -B bindings/python/test_data_encoding.py
-else
-    skip 'the Python module: no python3'
-fi
 
 is 'what the shared library gives' "$(grep -o '^[a-z].*\bde_[a-z_]*(' "$lib/data_encoding.h" |
     grep -o 'de_[a-z_]*($' | tr -d '(' | sort)" \
@@ -99,24 +93,10 @@ block() {
 }
 
 block c >"$room/hello.c"
-block rust >"$room/hello.rs"
-block python >"$room/hello.py"
 commands=$(block sh)
 is 'the commands of docs/C.md' 'crates/data_encoding_c/build.sh lib' "${commands%%$'\n'*}"
 given=$(cd "$room" && bash -e -c "${commands#*$'\n'} && ./hello" 2>&1)
 is 'the program of docs/C.md' 'SGVsbG8=' "$given"
-if command -v python3 >/dev/null; then
-    given=$(DATA_ENCODING_LIBRARY=$lib/libdata_encoding.so PYTHONPATH=bindings/python \
-        python3 -B "$room/hello.py" 2>&1)
-    is 'the Python of docs/C.md' $'SGVsbG8=\nb\'Hello\'\n220644==\nsymbol 5' "$given"
-fi
-if command -v rustc >/dev/null; then
-    given=$(cd "$room" && rustc hello.rs -L native=lib -l static=data_encoding -o rust_hello 2>&1 &&
-        ./rust_hello)
-    is 'the Rust of docs/C.md' 'SGVsbG8=' "$given"
-else
-    skip 'the Rust of docs/C.md: no rustc'
-fi
 
 ended
 finish
