@@ -208,7 +208,7 @@ impl EncodingRef<'_> {
         if len > G::SYMBOLS {
             return None;
         }
-        match self.decode_group::<G>(false, self.fields.order(), &rest[..len], output) {
+        match self.decode_group::<G>(self.fields.order(), &rest[..len], output) {
             Ok(count) => Some(G::WIDTH * count / 8),
             Err(_) => None,
         }

@@ -16,6 +16,12 @@ pub(crate) const IGNORED: u8 = 129;
 
 pub(crate) const PADDING: u8 = 130;
 
+// The most symbols, and so the least number that is no value.
+pub(crate) const MOST_SYMBOLS: u8 = 64;
+
+// The number of ASCII characters, of which a text has no others.
+pub(crate) const ASCII: u8 = 128;
+
 /// An encoding: how data is written as text, and which texts are data.
 #[derive(Debug, Drop)]
 pub struct Encoding {
@@ -126,7 +132,7 @@ impl Encoding {
         ensures { result ≡ meaning self.now byte }
     {
         let entry = self.fields.values[byte as usize];
-        if entry < 64 {
+        if entry < MOST_SYMBOLS {
             Character::Symbol {
                 value: entry as usize,
             }
@@ -216,8 +222,9 @@ impl PartialEq for Encoding {
         );
         // At most 64 symbols repeat, and no byte from 128 on has a value.
         one == another
-            && self.fields.symbols[..64] == other.fields.symbols[..64]
-            && self.fields.values[..128] == other.fields.values[..128]
+            && self.fields.symbols[..MOST_SYMBOLS as usize]
+                == other.fields.symbols[..MOST_SYMBOLS as usize]
+            && self.fields.values[..ASCII as usize] == other.fields.values[..ASCII as usize]
             && self.fields.line_separator() == other.fields.line_separator()
     }
 }

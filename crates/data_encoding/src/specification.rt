@@ -17,7 +17,7 @@ ghost use Rattle.data_encoding_meaning.specs.Printed.{printed_refusal};
 ghost use Rattle.data_encoding.specs.Tables.{HasTables};
 ghost use Rattle.data_encoding.specs.Specification.{specified, no_fields, refusal_of, SameTranslate, SameWrap};
 
-use crate::encoding::{BitOrder, Encoding, EncodingRef};
+use crate::encoding::{ASCII, BitOrder, Encoding, EncodingRef};
 use crate::specification::meanings::Refusal;
 use crate::specification::parts::SpecificationParts;
 use crate::specification::tables::{Tables, alphabet_len, character};
@@ -205,7 +205,7 @@ impl EncodingRef<'_> {
     {
         Tables {
             symbols: &self.fields.symbols[..alphabet_len(self.fields.width)],
-            values: &self.fields.values[..128],
+            values: &self.fields.values[..ASCII as usize],
             padding: self.fields.padding_character(),
         }
     }

@@ -20,7 +20,6 @@ impl EncodingRef<'_> {
     #[inline(always)]
     pub(crate) fn decode_group<G: GroupSize>(
         &self,
-        ended: bool,
         order: BitOrder,
         group: &[u8],
         output: &mut [u8],
@@ -31,14 +30,10 @@ impl EncodingRef<'_> {
         requires few { length group.now ≤ G.SYMBOLS }
         requires room { (is_padded self.now ≡ true → length group.now ≡ G.SYMBOLS)
             → G.WIDTH * length group.now / 8 ≤ length output.old }
-        ensures begun { IfOk result (λ _. ended ≡ false) }
         ensures sound { IfOk result (λ count.
             IsDecodedGroup self.now group.now count output.new) }
-        ensures fault { IfErr result (HasFault self.now ended group.now) }
+        ensures fault { IfErr result (HasFault self.now false group.now) }
     {
-        if ended {
-            return Err(faulty(0, DecodeKind::Padding));
-        }
         let count = match self.count_symbols::<G>(group) {
             Ok(count) => count,
             Err(fault) => return Err(fault),

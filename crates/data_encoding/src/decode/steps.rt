@@ -1,6 +1,6 @@
 //! Decoding step by step: a run of whole groups, and the group that follows it.
 
-ghost use Rattle.std.specs.Prelude.{◌≡◌, true, false, ◌≤◌, length, drop, Ok, IfSome};
+ghost use Rattle.std.specs.Prelude.{◌≡◌, ℕ, List, true, false, ◌≤◌, length, drop, Ok, IfSome};
 ghost use Rattle.data_encoding_meaning.specs.Base.{Base};
 ghost use Rattle.data_encoding_meaning.specs.Decoding.{HasDecodedTo, IsIgnoredFront};
 ghost use Rattle.data_encoding.specs.Steps.{HasEnded, HasStepped};
@@ -9,6 +9,7 @@ ghost use Rattle.data_encoding_kernel.specs.Tables.{HoldsValues, Reads};
 
 use crate::decode::{DECODE_LIMIT, Stop};
 use crate::encoding::{BitOrder, EncodingRef, IGNORED};
+use crate::error::DecodeKind;
 use data_encoding_kernel::decode::decode_run;
 use data_encoding_kernel::group_size::GroupSize;
 use data_encoding_kernel::lanes::look_up::LookUp;
@@ -219,7 +220,7 @@ impl EncodingRef<'_> {
             return Step::Ended;
         }
         let rest = &mut output[at.written..];
-        let count = match self.decode_group::<G>(false, order, group.bytes, rest) {
+        let count = match self.decode_group::<G>(order, group.bytes, rest) {
             Ok(count) => count,
             Err(fault) => {
                 *stop = Stop::new(at.read, at.written, fault.index, fault.kind);
@@ -229,7 +230,7 @@ impl EncodingRef<'_> {
         stop.read = start + group.span;
         stop.written = at.written + G::WIDTH * count / 8;
         if count < group.bytes.len() && !self.fields.concatenates {
-            if self.is_end::<G>(input, output, stop) {
+            if self.is_end::<G>(input, stop) {
                 return Step::Ended;
             }
             return Step::Faulty;
@@ -237,28 +238,24 @@ impl EncodingRef<'_> {
         Step::More
     }
 
-    // Whether a text ends behind a final group: any group that follows is a fault.
+    // Whether a text ends after a final group: any group that follows is a fault, at its first byte.
+    // The output is read and written no more.
     #[inline(never)]
-    fn is_end<G: GroupSize>(&self, input: &[u8], output: &mut [u8], stop: &mut Stop) -> bool
+    fn is_end<G: GroupSize>(&self, input: &[u8], stop: &mut Stop) -> bool
         requires width { self.now.width ≡ G.WIDTH }
-        requires exact { decoded_len self.now (length input.now) ≡ Ok (length output.old) }
-        requires so_far { HasDecodedTo self.now input.now stop.old.read stop.old.written true
-            output.old }
-        ensures { HasEnded self.now input.now output.new stop.new result }
+        requires within { stop.old.read ≤ length input.now }
+        ensures { (output : List ℕ) → decoded_len self.now (length input.now) ≡ Ok (length output)
+            → HasDecodedTo self.now input.now stop.old.read stop.old.written true output
+            → HasEnded self.now input.now output stop.new result }
     {
         let mut room = [0; 8];
         let group = self.next_group::<G>(&input[stop.read..], &mut room).bytes;
         if group.is_empty() {
             return true;
         }
-        let order = self.fields.order();
-        let rest = &mut output[stop.written..];
-        if let Err(fault) = self.decode_group::<G>(true, order, group, rest) {
-            stop.index = fault.index;
-            stop.kind = fault.kind;
-            return false;
-        }
-        true
+        stop.index = 0;
+        stop.kind = DecodeKind::Padding;
+        false
     }
 }
 

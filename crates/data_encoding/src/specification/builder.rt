@@ -88,27 +88,18 @@ fn is_least_first(order: BitOrder) -> bool
     }
 }
 
-// The length of a line, or 0 where there are no lines.
-fn column_byte(column: usize, separator: &[u8]) -> u8
-    requires { IsTrue (wraps column separator.now) → column < 256 }
-    ensures { result ≡ (if wraps column separator.now then column else 0) }
+// The length of a line, and what follows each; 0 and nothing if there are no lines.
+fn lines_of(column: usize, separator: &[u8]) -> (u8, &[u8])
+    requires column { IsTrue (wraps column separator.now) → column < 256 }
+    requires separator { IsTrue (wraps column separator.now) → length separator.now < 256 }
+    ensures column { result.0 ≡ (if wraps column separator.now then column else 0) }
+    ensures separator { result.1.now ≡ (if wraps column separator.now then separator.now else []) }
+    ensures short { length result.1.now < 256 }
 {
     if wraps(column, separator) {
-        return column as u8;
+        return (column as u8, separator);
     }
-    0
-}
-
-// What follows each line; nothing where there are no lines.
-fn separator_bytes(column: usize, separator: &[u8]) -> &[u8]
-    requires { IsTrue (wraps column separator.now) → length separator.now < 256 }
-    ensures value { result.now ≡ (if wraps column separator.now then separator.now else []) }
-    ensures short { length result.now < 256 }
-{
-    if wraps(column, separator) {
-        return separator;
-    }
-    b""
+    (0, b"")
 }
 
 // The bytes, followed by zeros.
@@ -151,7 +142,7 @@ fn assembled(parts: &SpecificationParts<'_>, width: u8, meanings: Meanings) -> E
     ensures { base_of (fields_of_parts parts.now) ≡ Ok result }
 {
     let ignores = meanings.ignores_some();
-    let separator = separator_bytes(parts.wrap_width, parts.wrap_separator);
+    let (column, separator) = lines_of(parts.wrap_width, parts.wrap_separator);
     Encoding {
         fields: PlainFields {
             symbols: repeated(parts.symbols, width),
@@ -159,7 +150,7 @@ fn assembled(parts: &SpecificationParts<'_>, width: u8, meanings: Meanings) -> E
             separator: filled(separator),
             separator_len: separator.len() as u8,
             width,
-            column: column_byte(parts.wrap_width, parts.wrap_separator),
+            column,
             padding: padding_entry(parts.padding),
             least_significant_first: is_least_first(parts.bit_order),
             checks_trailing_bits: checks_trailing_bits(parts.check_trailing_bits, width),

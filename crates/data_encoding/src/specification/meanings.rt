@@ -7,7 +7,7 @@ ghost use Rattle.data_encoding_meaning.specs.Base.{IsWidth, is_ignored};
 ghost use Rattle.data_encoding_meaning.specs.Entries.{meaning_of_entry, is_entry_of, HoldsEntries};
 ghost use Rattle.data_encoding_meaning.specs.Fields.{defined, ignored_judgements, meanings_after, no_meanings, padding_judgements, symbol_judgements, translated, translation_judgements, wrapping_judgements, wraps};
 
-use crate::encoding::{IGNORED, INVALID, PADDING, group_symbols};
+use crate::encoding::{ASCII, IGNORED, INVALID, PADDING, group_symbols};
 pub use data_encoding_meaning::refusal::Refusal;
 use std::marker::Model;
 
@@ -56,7 +56,7 @@ impl Meanings {
         ensures refused { IfErr result
             (λ refusal. defined self.old byte (meaning_of_entry entry) ≡ Err refusal) }
     {
-        if byte >= 128 {
+        if byte >= ASCII {
             return Err(Refusal::NotAscii);
         }
         let had = self.values[byte as usize];
@@ -101,7 +101,7 @@ impl Meanings {
             return Err(Refusal::ExtraPadding);
         }
         let code = character as u32;
-        if code >= 128 {
+        if code >= ASCII as u32 {
             return Err(Refusal::NotAscii);
         }
         self.define(code as u8, PADDING)
@@ -154,7 +154,7 @@ impl Meanings {
         ensures defined { OnOk result (translated self.old from to ≡ Ok self.new) }
         ensures refused { IfErr result (λ refusal. translated self.old from to ≡ Err refusal) }
     {
-        if to >= 128 {
+        if to >= ASCII {
             return Err(Refusal::NotAscii);
         }
         let entry = self.entry(to);
@@ -186,7 +186,7 @@ impl Meanings {
     pub(crate) fn ignores_some(&self) -> bool
         ensures { result ≡ list_any is_ignored self.now }
     {
-        self.values[..128].contains(&IGNORED)
+        self.values[..ASCII as usize].contains(&IGNORED)
     }
 
     // The table of values.

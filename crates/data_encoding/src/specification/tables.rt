@@ -5,7 +5,7 @@ ghost use Rattle.data_encoding_meaning.specs.Base.{Base, meaning};
 ghost use Rattle.data_encoding_meaning.specs.Layout.{ignored_bytes, is_translated, own_byte, own_character, translated_bytes};
 ghost use Rattle.data_encoding.specs.Tables.{HasTables};
 
-use crate::encoding::{IGNORED, PADDING};
+use crate::encoding::{IGNORED, MOST_SYMBOLS, PADDING};
 use arrayvec::ArrayVec;
 
 // The symbols in order of value, the entries of the bytes below 128, and the padding character.
@@ -78,7 +78,7 @@ impl Tables<'_> {
             → result ≡ own_character base (meaning base byte) }
     {
         let entry = self.values[byte as usize];
-        if entry < 64 {
+        if entry < MOST_SYMBOLS {
             return Some(self.symbols.get(entry as usize).copied().unwrap_or(0));
         }
         if entry == PADDING {

@@ -28,7 +28,7 @@ decode_symbols-requires-clause-exact g c =
 pub returns-then-index-count-clause-fault : goal.returns-then-index-count-clause-fault
 returns-then-index-count-clause-fault g c =
     let few = length-take-le c.in-Ok.count c.args.group.now c.in-Ok.ensures.symbols.within in
-    rw (c.if-ended.false, c.faulty-then-index-count.ensures)
+    rw c.faulty.ensures
     (symbol-fault c.args.self.now _ (HoldsValues-seen _ c.self.invariant _ c.self.view_is)
     c.args.group.now (λ k. (c.type_inv.group k).fits) c.in-Ok.count c.in-Ok.ensures.symbols _
     (omega arith) c.symbol_position-index.ensures.before
@@ -43,7 +43,7 @@ returns-then-not-decode_symbols-clause-fault g c =
     (λ (past : length symbols ≤ c.symbol_position.result).
     false≢true (c.if-not-decode_symbols.ensures.symbols.1
     (λ k below. c.symbol_position.ensures.before k (omega arith)))) in
-    rw (c.if-ended.false, c.faulty-then-not-decode_symbols.ensures)
+    rw c.faulty-then-not-decode_symbols.ensures
     (symbol-fault c.args.self.now _ (HoldsValues-seen _ c.self.invariant _ c.self.view_is)
     c.args.group.now (λ k. (c.type_inv.group k).fits) c.in-Ok.count c.in-Ok.ensures.symbols _
     inside c.symbol_position.ensures.before (c.symbol_position.ensures.there inside))
@@ -66,7 +66,7 @@ pub returns-then-has_trailing-clause-fault : goal.returns-then-has_trailing-clau
 returns-then-has_trailing-clause-fault g c =
     let reads = Reads-seen _ c.self.invariant c.args.self.now c.self.view_is g.G.GroupSize.WIDTH
     c.args.order c.requires.width c.requires.order in
-    rw (c.if-ended.false, c.faulty-then-has_trailing.ensures)
+    rw c.faulty-then-has_trailing.ensures
     (trailing-fault c.args.self.now _ reads.holds c.args.group.now
     (λ k. (c.type_inv.group k).fits) c.in-Ok.count c.in-Ok.ensures.symbols
     (c.if-not-decode_symbols.ensures.symbols.0 refl) (rw (← c.self.view_is) c.if-self.true)

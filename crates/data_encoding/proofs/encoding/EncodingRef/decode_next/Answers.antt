@@ -1,9 +1,10 @@
-use Rattle.std.proofs.Common.{◌≡◌, ℕ, ◌+◌, ◌*◌, ◌/◌, ◌∙◌, ◌&&◌, Bool, not, nat_lt, length, inl, inr, refl, sym, arith, length-drop}
+use Rattle.std.proofs.Common.{◌≡◌, ℕ, ◌+◌, ◌*◌, ◌/◌, ◌∙◌, ◌&&◌, Bool, not, nat_lt, length, inl, inr, refl, sym, ap, arith, length-drop, Ok}
 use Rattle.data_encoding_meaning.proofs.decoding.GroupJudgementLemmas.{few-bits}
 use Rattle.data_encoding.proofs.decoding.StepLemmas.{IsUnderWay, after_group, decoded-behind, decoded-none, final-is, final-not, gathered-next, group-stopped, room-next_group, some-group, under_way, written-few}
+use Rattle.data_encoding_meaning.specs.Lengths.{decoded_len}
 use Rattle.data_encoding_meaning.proofs.decoding.GatherLemmas.{gathered-few}
 use Rattle.data_encoding_meaning.proofs.digits.SizeLemmas.{IsGroup-same}
-use Rattle.data_encoding_meaning.proofs.lists.WriteLemmas.{rewritten}
+use Rattle.data_encoding_meaning.proofs.lists.WriteLemmas.{length-rewritten_same, rewritten}
 use Rattle.data_encoding.proofs.encoding.EncodingRef.decode_next.Given.{Over}
 use Rattle.data_encoding.proofs.encoding.EncodingRef.decode_next.Goals as goal
 use Rattle.data_encoding.proofs.encoding.EncodingRef.decode_next.Goals.{After-WIDTH, else-count-group-via-then-count-group+else-not-self, else-count-group-via-else-count-group}
@@ -54,9 +55,28 @@ overflow_add-stop-2 g c =
     let few = written-few (after g (goal.at.overflow_add-stop-2 g c).After-WIDTH refl) in
     record { fits = omega (arith, few, c.requires.limit) }
 
-pub is_end-requires-clause-so_far : goal.is_end-requires-clause-so_far
-is_end-requires-clause-so_far g c =
-    (after g (goal.at.is_end-requires-clause-so_far g c).After-WIDTH
+pub is_end-requires-clause-within : goal.is_end-requires-clause-within
+is_end-requires-clause-within g c =
+    (after g (goal.at.is_end-requires-clause-within g c).After-WIDTH
+    (final-is _ _ c.self.view_is c.if-not-self.true c.if-count-group.true)).so_far.within
+
+-- the room is that of the output
+exact : (g : Over) (c : After-WIDTH g) → decoded_len c.args.self.now (length c.args.input.now)
+    ≡ Ok (length (rewritten c.args.at.written c.args.output.now c.decode_group.new.output))
+exact g c =
+    c.requires.exact ∙ ap (λ n. Ok n) (sym (length-rewritten_same c.args.at.written
+    c.args.output.now c.decode_group.new.output c.requires.so_far.fits c.decode_group.auto.output))
+
+pub returns-then-is_end : goal.returns-then-is_end
+returns-then-is_end g c =
+    let before = (goal.at.returns-then-is_end g c).After-WIDTH in
+    c.if-is_end.ensures _ (exact g before) (after g before
+    (final-is _ _ c.self.view_is c.if-not-self.true c.if-count-group.true)).so_far
+
+pub returns-then-not-self : goal.returns-then-not-self
+returns-then-not-self g c =
+    let before = (goal.at.returns-then-not-self g c).After-WIDTH in
+    c.if-is_end.ensures _ (exact g before) (after g before
     (final-is _ _ c.self.view_is c.if-not-self.true c.if-count-group.true)).so_far
 
 pub returns : goal.returns

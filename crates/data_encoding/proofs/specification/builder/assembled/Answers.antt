@@ -10,13 +10,13 @@ padding_entry-requires c =
     padding-ascii c.args.width (fields_of_parts c.args.parts.now) c.args.meanings c.requires.sized
     c.requires.width.some c.requires.judged
 
-pub column_byte-requires : goal.column_byte-requires
-column_byte-requires c = λ on.
+pub lines_of-column-requires-clause-column : goal.lines_of-column-requires-clause-column
+lines_of-column-requires-clause-column c = λ on.
     (lines-short c.args.width (fields_of_parts c.args.parts.now) c.args.meanings
     c.requires.sized c.requires.width.some c.requires.judged on).0
 
-pub separator_bytes-separator-requires : goal.separator_bytes-separator-requires
-separator_bytes-separator-requires c = λ on.
+pub lines_of-column-requires-clause-separator : goal.lines_of-column-requires-clause-separator
+lines_of-column-requires-clause-separator c = λ on.
     (lines-short c.args.width (fields_of_parts c.args.parts.now) c.args.meanings
     c.requires.sized c.requires.width.some c.requires.judged on).1
 
@@ -30,8 +30,8 @@ tables c = record {
   concatenates = c.concatenates.result;
   padding = padding_by c.padding_entry.result;
   ignores = c.ignores_some-ignores.result;
-  column = c.column_byte.result;
-  separator = take (length c.separator_bytes-separator.result.now) c.filled.result;
+  column = c.lines_of-column.result.0;
+  separator = take (length c.lines_of-column.result.1.now) c.filled.result;
 }
 
 made : (c : goal.After-concatenates)
@@ -50,8 +50,8 @@ made c = record {
   concatenates = c.concatenates.ensures;
   padding = c.padding_entry.ensures;
   ignores = c.ignores_some-ignores.ensures;
-  column = c.column_byte.ensures;
-  separator = c.filled.ensures ∙ c.separator_bytes-separator.ensures.value;
+  column = c.lines_of-column.ensures.column;
+  separator = c.filled.ensures ∙ c.lines_of-column.ensures.separator;
 }
 
 pub invariant_of-result : goal.invariant_of-result
