@@ -21,7 +21,7 @@ impl BufferDecoder<'_> {
         let is_padded = self.kept.bytes[..self.size]
             .iter()
             .any(|byte| self.encoding.interpret_byte(*byte).is_padding());
-        !self.concatenates && is_padded
+        !self.encoding.concatenates() && is_padded
     }
 
     /// Judges the first bytes that are kept as the next group: its fault, or its bytes.
