@@ -44,16 +44,17 @@ impl BufferDecoder<'_> {
                 kind: DecodeKind::Padding,
             }));
         }
-        match self.encoding.decode_len(count) {
+        let fault = match self.encoding.decode_len(count) {
             Ok(most) => match self
                 .encoding
                 .decode_mut(&self.kept.bytes[..count], &mut output[..most])
             {
-                Ok(written) => Ok(written),
-                Err(partial) => Err(self.at(partial.error)),
+                Ok(written) => return Ok(written),
+                Err(partial) => partial.error,
             },
-            Err(error) => Err(self.at(error)),
-        }
+            Err(error) => error,
+        };
+        Err(self.at(fault))
     }
 
     // The fault of the bytes that are kept, at its position in the text.
