@@ -295,7 +295,7 @@ fn is_completed(
     }
 }
 
-// Whether a fault is the other, so many bytes further on.
+// Whether a fault is the other, so many bytes later.
 fn is_further(fault: Option<DecodeError>, read: usize, error: DecodeError) -> bool {
     match fault {
         Some(fault) => {

@@ -2,8 +2,10 @@
 //! are looked up by lanes: data have the text that lists of bits say, and with each byte in place
 //! of a symbol it means what the symbols of that group say, or has their fault.
 
+use super::comparison::{Comparison, Differs, Tally};
 use super::judge::{Judge, Judgement};
-use data_encoding::{BitOrder, DECODE_LIMIT, DecodeError, ENCODE_LIMIT, Encoding, Specification};
+use super::round_trips::compare_whole;
+use data_encoding::{BitOrder, DECODE_LIMIT, DecodeError, Specification};
 use std::alloc::{AllocError, Global};
 use std::test::Fail;
 
@@ -23,24 +25,21 @@ impl Draw {
         (self.state >> 33) as usize % bound.max(1)
     }
 
-    // As many bytes.
-    fn bytes(&mut self, alloc: Global, count: usize) -> Result<Vec<u8>, AllocError> {
-        let mut bytes = Vec::with_capacity(alloc, count)?;
+    // Appends so many bytes.
+    fn put_bytes(&mut self, bytes: &mut Vec<u8>, count: usize) -> Result<(), AllocError> {
         for _ in 0..count {
             bytes.push((self.below(256) % 256) as u8)?;
         }
-        Ok(bytes)
+        Ok(())
     }
 }
 
 // A table, what it is compared with, and data that are encoded by it.
 #[derive(Drop)]
 struct Sweep<'a> {
-    alloc: Global,
+    comparison: Comparison<'a>,
     specification: &'a Specification,
-    encoding: &'a Encoding,
-    judge: Judge<'a>,
-    data: Vec<u8>,
+    data: Judgement,
 }
 
 impl Sweep<'_> {
@@ -62,70 +61,95 @@ impl Sweep<'_> {
 
     // What the judge finds in the first group.
     fn judged(&self, text: &[u8]) -> Result<Judgement, AllocError> {
-        let mut group = Vec::new(self.alloc);
-        for byte in text.iter().take(self.judge.group_len()) {
+        let mut group = Vec::new(self.comparison.alloc);
+        for byte in text.iter().take(self.comparison.judge.group_len()) {
             group.push(self.meant(*byte))?;
         }
-        self.judge.decode(self.alloc, &group)
+        self.comparison.judge.decode(self.comparison.alloc, &group)
     }
 
-    // Whether `decode_mut` finds in a text what the judge finds in the group at a position, and the
-    // data in the others.
-    fn is_found(&self, text: &[u8], position: usize) -> Result<bool, AllocError> {
+    // Whether bytes begin with so many of the data, and what is wanted of the next group.
+    fn begins(&self, bytes: &[u8], front: usize, want: &Judgement) -> bool {
+        bytes.get(..front) == self.data.bytes.get(..front)
+            && bytes.get(front..).unwrap_or(&[]).starts_with(&want.bytes)
+    }
+
+    // Whether bytes are the data, but for what is wanted of a group of this size.
+    fn is_whole(&self, bytes: &[u8], front: usize, size: usize, want: &Judgement) -> bool {
+        let rest = bytes.get(front.wrapping_add(want.bytes.len())..);
+        let data = self.data.bytes.get(front.wrapping_add(size)..);
+        self.begins(bytes, front, want) && rest.unwrap_or(&[]) == data.unwrap_or(&[])
+    }
+
+    // Whether `decode_mut` finds in a text what is wanted of a group, and the data in the others.
+    fn is_found(&self, text: &[u8], group: usize, want: &Judgement) -> bool {
+        let encoding = self.comparison.encoding;
         if text.len() > DECODE_LIMIT {
-            return Ok(false);
+            return false;
         }
-        let len = self.encoding.decode_len(text.len()).unwrap_or(1025);
+        let len = encoding.decode_len(text.len()).unwrap_or(1025);
         if len > 1024 {
-            return Ok(false);
+            return false;
         }
-        let symbols = self.judge.group_len();
-        let width = self.judge.symbols.len().trailing_zeros() as usize;
-        let size = symbols.wrapping_mul(width) / 8;
-        let start = (position / symbols).wrapping_mul(symbols);
-        let front_len = (position / symbols).wrapping_mul(size);
-        let want = self.judged(text.get(start..).unwrap_or(&[]))?;
-        let mut bytes = Vec::new(self.alloc);
-        bytes.extend_from_slice(self.data.get(..front_len).unwrap_or(&[]))?;
-        bytes.extend_from_slice(&want.bytes)?;
+        let symbols = self.comparison.judge.group_len();
+        let size = symbols.wrapping_mul(encoding.bit_width()) / 8;
+        let (start, front) = (group.wrapping_mul(symbols), group.wrapping_mul(size));
         let mut output = [0; 1024];
-        match self.encoding.decode_mut(text, &mut output[..len]) {
+        match encoding.decode_mut(text, &mut output[..len]) {
             Ok(count) => {
-                let rest = self.data.get(front_len.wrapping_add(size)..);
-                bytes.extend_from_slice(rest.unwrap_or(&[]))?;
-                Ok(want.fault.is_none() && output.get(..count) == Some(bytes.as_slice()))
+                let bytes = output.get(..count).unwrap_or(&[]);
+                want.fault.is_none() && self.is_whole(bytes, front, size, want)
             }
             Err(partial) => {
                 let position = partial.error.position.wrapping_sub(start);
                 let kind = partial.error.kind;
-                Ok(
-                    want.fault == Some(DecodeError { position, kind })
-                        && (partial.read, partial.written) == (start, front_len)
-                        && output.starts_with(&bytes),
-                )
+                want.fault == Some(DecodeError { position, kind })
+                    && (partial.read, partial.written) == (start, front)
+                    && self.begins(&output, front, want)
             }
         }
     }
 
-    // Whether that is so with each byte at the position, and of the text as it stands.
-    fn is_found_damaged(&self, text: &mut [u8], position: usize) -> Result<bool, AllocError> {
+    // Compares what `decode_mut` finds in a text with what the judge finds in the group at a
+    // position, and with the data.
+    fn compare(&self, text: &[u8], position: usize) -> Result<(), Differs> {
+        let symbols = self.comparison.judge.group_len();
+        let group = position / symbols;
+        let start = group.wrapping_mul(symbols);
+        let want = self.judged(text.get(start..).unwrap_or(&[]))?;
+        if self.is_found(text, group, &want) {
+            return Ok(());
+        }
+        Err(Differs {})
+    }
+
+    // Compares a text with each byte at the position, and as it is.
+    fn compare_damaged(&self, text: &mut [u8], position: usize) -> Result<(), Differs> {
         if position >= text.len() {
-            return Ok(false);
+            return Err(Differs {});
         }
         let own = text[position];
         for byte in 0..=255u8 {
             text[position] = byte;
-            if !self.is_found(text, position)? {
-                return Ok(false);
-            }
+            self.compare(text, position)?;
         }
         text[position] = own;
-        self.is_found(text, position)
+        self.compare(text, position)
+    }
+
+    // Compares the text of the data with that of the judge, and what it means with each byte at
+    // some positions.
+    fn compare_all(&self, draw: &mut Draw) -> Result<(), Differs> {
+        let mut text = compare_whole(&self.comparison, &self.data)?.into_bytes();
+        for _ in 0..2 {
+            let position = draw.below(text.len());
+            self.compare_damaged(&mut text, position)?;
+        }
+        Ok(())
     }
 }
 
-// Whether data of this many groups, and a byte, have the text of the judge, and it means them, and
-// what it means with each byte at some positions.
+// Whether all of this is so of data of this many groups, and a byte.
 fn is_alike(
     alloc: Global,
     specification: &Specification,
@@ -135,36 +159,30 @@ fn is_alike(
     let encoding = specification.encoding()?;
     let judge = Judge::of(specification);
     let len = encoding.encode_align().wrapping_mul(groups).wrapping_add(1);
-    let data = draw.bytes(alloc, len)?;
-    if data.len() > ENCODE_LIMIT {
-        return Ok(false);
-    }
-    let mut text = judge.encode(alloc, &data)?;
-    if encoding.encode(alloc, &data)?.as_bytes() != text.as_slice() {
-        return Ok(false);
-    }
+    let mut data = Judgement::new(alloc);
+    draw.put_bytes(&mut data.bytes, len)?;
     let sweep = Sweep {
-        alloc,
+        comparison: Comparison::new(alloc, &encoding, judge, Tally::zero()),
         specification,
-        encoding: &encoding,
-        judge,
         data,
     };
-    for _ in 0..2 {
-        let position = draw.below(text.len());
-        if !sweep.is_found_damaged(&mut text, position)? {
-            return Ok(false);
-        }
-    }
-    Ok(true)
+    Ok(sweep.compare_all(draw).is_ok())
 }
 
 // The same of a few groups, and of as many as the affine form of a table is looked for in.
-fn are_alike(alloc: Global, specification: &Specification, draw: &mut Draw) -> Result<bool, Fail> {
+fn compare_lengths(
+    alloc: Global,
+    specification: &Specification,
+    draw: &mut Draw,
+    turn: u32,
+) -> Result<(), Fail> {
     let symbols = Judge::of(specification).group_len();
     let few = draw.below(27).wrapping_add(7);
     let many = (704 / symbols).wrapping_add(draw.below(10));
-    Ok(is_alike(alloc, specification, draw, few)? && is_alike(alloc, specification, draw, many)?)
+    if is_alike(alloc, specification, draw, few)? && is_alike(alloc, specification, draw, many)? {
+        return Ok(());
+    }
+    Err(Fail::new(format_args!("turn {turn}")))
 }
 
 // Symbols, padding, which not every width allows, and bytes that stand for symbols.
@@ -224,18 +242,34 @@ fn order_of(turn: u32) -> BitOrder {
     }
 }
 
+// Compares a table that is drawn; the failure names the turn.
+fn compare_drawn(alloc: Global, draw: &mut Draw, turn: u32) -> Result<(), Fail> {
+    let mut specification = Specification::new(alloc);
+    specification.bit_order = order_of(turn / 6);
+    let width = turn % 6 + 1;
+    specify_drawn(&mut specification, draw, 1 << width)?;
+    if turn / 12 % 2 == 0 || 8 % width == 0 {
+        specification.padding = None;
+    }
+    compare_lengths(alloc, &specification, draw, turn)
+}
+
+// Compares a table of which one symbol is odd.
+fn compare_odd(alloc: Global, draw: &mut Draw, turn: u32) -> Result<(), Fail> {
+    let mut specification = Specification::new(alloc);
+    specification.bit_order = order_of(turn);
+    let width = if turn < 256 { 6 } else { turn % 5 + 1 };
+    let is_after = turn / 128 % 2 == 0;
+    let byte = (turn % 128) as u8;
+    specify_odd(&mut specification, draw, byte, 1 << width, is_after)?;
+    compare_lengths(alloc, &specification, draw, turn)
+}
+
 #[test]
 fn drawn_tables_are_looked_up(rt: HostRuntime) -> Result<(), Fail> {
     let mut draw = Draw { state: 1 };
     for turn in 0..96u32 {
-        let mut specification = Specification::new(rt.alloc());
-        specification.bit_order = order_of(turn / 6);
-        let width = turn % 6 + 1;
-        specify_drawn(&mut specification, &mut draw, 1 << width)?;
-        if turn / 12 % 2 == 0 || 8 % width == 0 {
-            specification.padding = None;
-        }
-        assert!(rt; are_alike(rt.alloc(), &specification, &mut draw)?, "{turn}");
+        compare_drawn(rt.alloc(), &mut draw, turn)?;
     }
     Ok(())
 }
@@ -244,18 +278,7 @@ fn drawn_tables_are_looked_up(rt: HostRuntime) -> Result<(), Fail> {
 fn odd_symbols_are_looked_up(rt: HostRuntime) -> Result<(), Fail> {
     let mut draw = Draw { state: 2 };
     for turn in 0..512u32 {
-        let mut specification = Specification::new(rt.alloc());
-        specification.bit_order = order_of(turn);
-        let width = if turn < 256 { 6 } else { turn % 5 + 1 };
-        let is_after = turn / 128 % 2 == 0;
-        specify_odd(
-            &mut specification,
-            &mut draw,
-            (turn % 128) as u8,
-            1 << width,
-            is_after,
-        )?;
-        assert!(rt; are_alike(rt.alloc(), &specification, &mut draw)?, "{turn}");
+        compare_odd(rt.alloc(), &mut draw, turn)?;
     }
     Ok(())
 }

@@ -9,11 +9,10 @@ use super::layouts::{has_layout_of, shown};
 use super::order::keeps_order;
 use super::pieces::pieces;
 use super::predefined::{Case, case_of};
-use super::rows::{bytes_of, is_wanted};
-use super::specifications::described;
+use super::rows::{bytes_of, compare};
 use super::streams::{decode_reads, encode_calls, streamed, written};
 use super::tables;
-use super::writing::{Writer, written_by};
+use super::writing::{Writer, displayed, written_by};
 use data_encoding::{DECODE_LIMIT, ENCODE_LIMIT, Encoding};
 use std::alloc::{AllocError, Global};
 use std::test::Fail;
@@ -30,8 +29,8 @@ enum Call {
     DecodeLen,
     DecodeReads,
     DecodeStream,
-    Describe,
     Display,
+    DisplayPadded,
     Encode,
     EncodeCalls,
     EncodeLen,
@@ -57,8 +56,8 @@ const TABLES: [(Call, &str); 24] = [
     (Call::DecodeLen, tables::DECODED_LENGTHS),
     (Call::DecodeReads, tables::DECODE_READS),
     (Call::DecodeStream, tables::DECODED_STREAMS),
-    (Call::Describe, tables::DESCRIPTIONS),
     (Call::Display, tables::DISPLAYED),
+    (Call::DisplayPadded, tables::DISPLAYED_PADDED),
     (Call::Encode, tables::TEXTS),
     (Call::EncodeCalls, tables::ENCODE_CALLS),
     (Call::EncodeLen, tables::LENGTHS),
@@ -123,7 +122,7 @@ fn returned(alloc: Global, call: Call, case: &Case<'_>, input: &[u8]) -> Result<
         Call::DecodeLen => most(alloc, encoding, input.len()),
         Call::DecodeReads => decode_reads(alloc, encoding, input),
         Call::DecodeStream => streamed(alloc, encoding, input),
-        Call::Describe => Ok(described(alloc, &encoding.specification(alloc)?)?),
+        Call::DisplayPadded => Ok(displayed(alloc, encoding, input)?),
         Call::Encode => encoded(alloc, encoding, input),
         Call::EncodeStream => written(alloc, encoding, input),
         Call::Interpret => Ok(interpreted(alloc, encoding, input)?),
@@ -156,46 +155,51 @@ fn returned_to_words(
     }
 }
 
-// Whether a row's call returns what it wants.
-fn is_returned(alloc: Global, call: Call, line: &str) -> Result<bool, Fail> {
+// Fails where a row's call returns something else.
+fn compare_row(alloc: Global, call: Call, line: &str) -> Result<(), Fail> {
     let case = case_of(alloc, line)?;
     let input = bytes_of(alloc, case.input)?;
     if input.len() > ENCODE_LIMIT || input.len() > DECODE_LIMIT {
-        return Ok(false);
+        return Err(Fail::new(line));
     }
     let answer = returned(alloc, call, &case, &input)?;
-    is_wanted(alloc, &answer, case.want)
+    compare(alloc, line, answer.as_str(), case.want)
 }
 
 #[test]
 fn encodings_return_what_rows_want(rt: HostRuntime) -> Result<(), Fail> {
-    for (call, lines) in TABLES {
+    for (call, lines) in &TABLES {
         for line in lines.split('\n') {
-            assert!(rt; is_returned(rt.alloc(), call, line)?, "{line}");
+            compare_row(rt.alloc(), *call, line)?;
         }
     }
     Ok(())
 }
 
-// Whether the layout of the first encoding, changed, is that of the other or not, as a row wants,
-// and the first is its copy.
-fn is_compared(alloc: Global, line: &str) -> Result<bool, Fail> {
+// Whether the layout of the first encoding, changed, is that of the other; without a change, the
+// encodings are then equal, and the first is its copy.
+fn compared(alloc: Global, one: &Case<'_>, other: &Encoding) -> Result<String, Fail> {
+    let is_same = has_layout_of(alloc, &one.encoding, one.input, other)?;
+    let is_equal = one.encoding == *other;
+    if one.encoding != one.encoding.clone()? || one.input.is_empty() && is_equal != is_same {
+        return Ok(String::from_str(alloc, "a copy that differs")?);
+    }
+    answer(alloc, is_same)
+}
+
+// Fails where two encodings are compared otherwise.
+fn compare_two(alloc: Global, line: &str) -> Result<(), Fail> {
     let (one, other) = line.split_once('&').unwrap_or((line, ""));
     let one = case_of(alloc, one)?;
     let other = case_of(alloc, other)?;
-    let want = other.want == "true";
-    let is_equal = one.encoding == other.encoding;
-    Ok(
-        (is_equal == want || !one.input.is_empty())
-            && has_layout_of(alloc, &one.encoding, one.input, &other.encoding)? == want
-            && one.encoding == one.encoding.clone()?,
-    )
+    let answer = compared(alloc, &one, &other.encoding)?;
+    compare(alloc, line, answer.as_str(), other.want)
 }
 
 #[test]
 fn encodings_are_compared(rt: HostRuntime) -> Result<(), Fail> {
     for line in tables::COMPARISONS.split('\n') {
-        assert!(rt; is_compared(rt.alloc(), line)?, "{line}");
+        compare_two(rt.alloc(), line)?;
     }
     Ok(())
 }

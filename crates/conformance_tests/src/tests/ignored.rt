@@ -47,8 +47,8 @@ fn compare_ignored_bytes(comparison: &mut Comparison<'_>, text: &[u8]) -> Result
     Ok(())
 }
 
-// Compares texts of a symbol that have an ignored byte or two, and with padding, so many bytes of it
-// after one or more groups.
+// Compares texts of a symbol that have an ignored byte or two, and with padding, so many bytes of
+// it after one or more groups.
 fn compare_symbol(comparison: &mut Comparison<'_>, symbol: u8, len: usize) -> Result<(), Differs>
     requires short { len ≤ 16 }
 {

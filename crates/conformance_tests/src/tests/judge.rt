@@ -155,7 +155,7 @@ impl Judge<'_> {
     }
 
     // The data of a text. After a length fault, the greatest front of valid length of what was not
-    // read is read too, where it decodes as it stands.
+    // read is read too, where it decodes as it is.
     pub(super) fn decode(&self, alloc: Global, text: &[u8]) -> Result<Judgement, AllocError> {
         let mut judgement = self.decode_sound(alloc, text)?;
         let Some(error) = judgement.fault else {
@@ -350,7 +350,7 @@ impl Judge<'_> {
         Ok(())
     }
 
-    // The symbols of a group, which stand before its padding.
+    // The symbols of a group, which come before its padding.
     fn symbols_of<'g>(&self, group: &'g [Character]) -> Result<&'g [Character], DecodeFault> {
         let greatest = self.greatest_length(group.len());
         let Some(padding) = self.padding else {

@@ -7,10 +7,10 @@ use super::buffers::kept;
 use super::comparison::{Comparison, Tally};
 use super::decoding::beginning;
 use super::judge::Judge;
-use super::resuming::resumed;
-use super::rows::{bytes_of, field_of, is_wanted, row_of};
-use data_encoding::{DECODE_LIMIT, Encoding, Specification};
-use std::alloc::Global;
+use super::resuming::compare_resumed;
+use super::rows::{bytes_of, compare, field_of, row_of};
+use data_encoding::{DECODE_LIMIT, Specification};
+use std::alloc::{AllocError, Global};
 use std::test::Fail;
 
 // What the original crate returns, data-encoding 2.11.1, but for what stays single: it has no such
@@ -112,6 +112,13 @@ enum Asked {
     Resumed,
 }
 
+const TABLES: [(Asked, &str); 4] = [
+    (Asked::Judgement, TEXTS),
+    (Asked::Beginning, BEGINNINGS),
+    (Asked::Kept, KEPT),
+    (Asked::Resumed, RESUMED),
+];
+
 // The bytes that a text means, or its fault.
 fn judged(alloc: Global, judge: Judge<'_>, text: &[u8]) -> Result<String, Fail> {
     let judgement = judge.decode(alloc, text)?;
@@ -122,13 +129,27 @@ fn judged(alloc: Global, judge: Judge<'_>, text: &[u8]) -> Result<String, Fail> 
 }
 
 // How far `decode_mut` comes, if each call decodes the text, or refuses it, as the judge does.
-fn begun(alloc: Global, encoding: &Encoding, judge: Judge<'_>, text: &[u8]) -> Result<String, Fail>
+fn begun(alloc: Global, comparison: &mut Comparison<'_>, text: &[u8]) -> Result<String, Fail>
     requires limit { length text.now ≤ DECODE_LIMIT }
 {
-    let mut comparison = Comparison::new(alloc, encoding, judge, Tally::zero());
     match comparison.compare(text) {
-        Ok(()) => beginning(alloc, encoding, text),
+        Ok(()) => beginning(alloc, comparison.encoding, text),
         Err(_) => Ok(String::from_str(alloc, "judged otherwise")?),
+    }
+}
+
+// How many fronts of the text have the length of a text, if each call decodes the text, also from
+// what was read of a front, as the judge does; and with another byte at each position too.
+fn resumed(
+    alloc: Global,
+    comparison: &mut Comparison<'_>,
+    text: &mut [u8],
+) -> Result<String, AllocError>
+    requires short { length text.old ≤ 17 }
+{
+    match compare_resumed(comparison, text) {
+        Ok(fronts) => format!(in alloc; "{fronts}"),
+        Err(_) => String::from_str(alloc, "resumed otherwise"),
     }
 }
 
@@ -141,36 +162,29 @@ fn answer(
 ) -> Result<String, Fail> {
     let encoding = specification.encoding()?;
     let judge = Judge::of(specification);
-    if text.len() > DECODE_LIMIT {
-        return Ok(String::from_str(alloc, "too long")?);
-    }
+    let mut comparison = Comparison::new(alloc, &encoding, judge, Tally::zero());
     match asked {
         Asked::Judgement => judged(alloc, judge, text),
-        Asked::Beginning => begun(alloc, &encoding, judge, text),
+        Asked::Beginning if text.len() <= DECODE_LIMIT => begun(alloc, &mut comparison, text),
         Asked::Kept if text.len() <= 17 => kept(alloc, &encoding, judge, text),
-        Asked::Resumed if text.len() <= 17 => resumed(alloc, &encoding, judge, text),
+        Asked::Resumed if text.len() <= 17 => Ok(resumed(alloc, &mut comparison, text)?),
         _ => Ok(String::from_str(alloc, "too long")?),
     }
 }
 
-// Whether what is returned of a text is what the row wants.
-fn is_answered(alloc: Global, asked: Asked, line: &str) -> Result<bool, Fail> {
+// Fails where something else is returned of a text.
+fn compare_row(alloc: Global, asked: Asked, line: &str) -> Result<(), Fail> {
     let row = row_of(alloc, line)?;
     let mut text = bytes_of(alloc, row.input)?;
     let answer = answer(alloc, asked, &row.specification, &mut text)?;
-    is_wanted(alloc, &answer, row.want)
+    compare(alloc, line, answer.as_str(), row.want)
 }
 
 #[test]
 fn texts_are_judged(rt: HostRuntime) -> Result<(), Fail> {
-    for (asked, lines) in [
-        (Asked::Judgement, TEXTS),
-        (Asked::Beginning, BEGINNINGS),
-        (Asked::Kept, KEPT),
-        (Asked::Resumed, RESUMED),
-    ] {
+    for (asked, lines) in &TABLES {
         for line in lines.split('\n') {
-            assert!(rt; is_answered(rt.alloc(), asked, line)?, "{line}");
+            compare_row(rt.alloc(), *asked, line)?;
         }
     }
     Ok(())

@@ -17,8 +17,8 @@ const ROOM: usize = 576;
 // Bytes that are no symbol of some, among them those next to ranges of symbols.
 const DAMAGE: [u8; 11] = [128, 255, b'/', b':', b'@', b'[', b'`', b'{', b'=', b'\n', 0];
 
-// Compares what `decode_mut` finds in a text with what the judge finds: the fault, how much was read
-// before it, and the bytes that were written.
+// Compares what `decode_mut` finds in a text with what the judge finds: the fault, how much was
+// read before it, and the bytes that were written.
 fn compare_text(comparison: &Comparison<'_>, text: &[u8]) -> Result<(), Differs> {
     let want = comparison.judge.decode(comparison.alloc, text)?;
     if text.len() <= DECODE_LIMIT && is_written_alike(comparison.encoding, &want, text) {

@@ -8,12 +8,12 @@ use data_encoding::laws::{
     round_trip, specification_again,
 };
 use data_encoding::{DecodeError, DecodeFault, DecodeKind};
-use std::alloc::Global;
+use encoding_stream::StreamFault;
+use std::alloc::{AllocError, Global};
 use std::test::Fail;
 
 // A law is a call that does nothing.
-#[test]
-fn calls_laws() {
+fn call_laws() {
     specification_again();
     join_encode();
     round_trip();
@@ -27,19 +27,22 @@ fn calls_laws() {
     pieces();
 }
 
+// How each fault is printed.
+fn printed(alloc: Global) -> Result<String, AllocError> {
+    let kind = DecodeKind::Padding;
+    let fault = DecodeFault::from(DecodeError { position: 7, kind });
+    let memory = DecodeFault::OutOfMemory;
+    let (read, write) = (StreamFault::Read, StreamFault::Write);
+    let decode = StreamFault::Decode(DecodeError { position: 4, kind });
+    let long = StreamFault::TooLong;
+    format!(in alloc; "{fault}; {memory}; {read}; {write}; {decode}; {long}")
+}
+
 #[test]
-fn prints_faults(rt: HostRuntime) -> Result<(), Fail> {
-    let error = DecodeError {
-        position: 7,
-        kind: DecodeKind::Padding,
-    };
-    for (fault, want) in [
-        (DecodeFault::from(error), "invalid padding length at 7"),
-        (DecodeFault::OutOfMemory, "out of memory"),
-    ] {
-        let text = fault.to_string(rt.alloc())?;
-        assert!(rt; text.as_str() == want, "{text}");
-    }
+fn prints_each_fault(rt: HostRuntime) -> Result<(), Fail> {
+    let want = "invalid padding length at 7; out of memory; read failed; write failed; \
+        invalid padding length at 4; input too long";
+    assert_eq!(rt; printed(rt.alloc())?.as_str(), want);
     Ok(())
 }
 
@@ -52,6 +55,7 @@ fn come_back(alloc: Global, count: usize) -> Result<bool, Fail> {
 
 #[test]
 fn many_bytes_come_back(rt: HostRuntime) -> Result<(), Fail> {
+    call_laws();
     assert!(rt; come_back(rt.alloc(), 20_000)?);
     Ok(())
 }

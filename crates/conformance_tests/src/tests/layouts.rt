@@ -236,7 +236,7 @@ fn lengths_are_judged_alike(alloc: Global, layout: &[u8], fill: u8) -> Result<bo
 
 // Whether all three hold of the layout of a name.
 fn is_damaged_alike(alloc: Global, name: &str) -> Result<bool, Fail> {
-    let Some(encoding) = named(name) else {
+    let Some((encoding, _)) = named(name) else {
         return Ok(false);
     };
     let mut layout = changed(alloc, &encoding, "")?;

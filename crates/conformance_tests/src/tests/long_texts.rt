@@ -22,7 +22,7 @@ fn compare_cuts(comparison: &mut Comparison<'_>, text: &[u8]) -> Result<(), Diff
     comparison.compare_read(&want, text, usize::MAX)
 }
 
-// Compares a text as it stands, and with another byte at some positions.
+// Compares a text as it is, and with another byte at some positions.
 fn compare_damaged(comparison: &mut Comparison<'_>, text: &mut [u8]) -> Result<(), Differs> {
     if text.len() < 1030 {
         return Err(Differs {});

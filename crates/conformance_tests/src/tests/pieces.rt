@@ -30,15 +30,15 @@ pub(super) fn finish(
     }
 }
 
-// Moves to an answer what a call has appended, and puts a bar that leans behind it.
+// Moves to an answer what a call has appended, and puts a bar that leans after it.
 fn move_bytes(alloc: Global, output: &mut Vec<u8>, answer: &mut String) -> Result<(), AllocError> {
     answer.push_str(field_of(alloc, output)?.as_str())?;
     output.clear();
     answer.push('/')
 }
 
-// What is appended for each piece of a text and at its end, and the fault. A bar that leans stands
-// between two pieces, and between two parts of the answer.
+// What is appended for each piece of a text and at its end, and the fault. A bar that leans
+// is between two pieces, and between two parts of the answer.
 pub(super) fn pieces(alloc: Global, encoding: &Encoding, text: &str) -> Result<String, Fail> {
     let mut decoder = Decoder::new(encoding);
     let mut answer = String::new(alloc);

@@ -3,12 +3,7 @@
 use super::encoding::writes;
 use super::predefined::named;
 use conformance::callers::referenced::{decode_exactly, encode_exactly};
-use data_encoding::{
-    Encoding, EncodingRef, base32_dnscurve_ref, base32_dnssec_ref, base32_nopad_nocase_ref,
-    base32_nopad_ref, base32_nopad_visual_ref, base32_ref, base32hex_nopad_ref, base32hex_ref,
-    base64_mime_permissive_ref, base64_mime_ref, base64_nopad_ref, base64_ref, base64url_nopad_ref,
-    base64url_ref, hexlower_permissive_ref, hexlower_ref, hexupper_permissive_ref, hexupper_ref,
-};
+use data_encoding::{Encoding, EncodingRef};
 
 const NAMES: &str = "\
 HEXLOWER
@@ -29,31 +24,6 @@ BASE64_MIME
 BASE64_MIME_PERMISSIVE
 BASE64URL
 BASE64URL_NOPAD";
-
-// The reference of a name.
-fn reference(name: &str) -> Option<EncodingRef<'static>> {
-    Some(match name {
-        "HEXLOWER" => hexlower_ref(),
-        "HEXLOWER_PERMISSIVE" => hexlower_permissive_ref(),
-        "HEXUPPER" => hexupper_ref(),
-        "HEXUPPER_PERMISSIVE" => hexupper_permissive_ref(),
-        "BASE32" => base32_ref(),
-        "BASE32_NOPAD" => base32_nopad_ref(),
-        "BASE32_NOPAD_NOCASE" => base32_nopad_nocase_ref(),
-        "BASE32_NOPAD_VISUAL" => base32_nopad_visual_ref(),
-        "BASE32HEX" => base32hex_ref(),
-        "BASE32HEX_NOPAD" => base32hex_nopad_ref(),
-        "BASE32_DNSSEC" => base32_dnssec_ref(),
-        "BASE32_DNSCURVE" => base32_dnscurve_ref(),
-        "BASE64" => base64_ref(),
-        "BASE64_NOPAD" => base64_nopad_ref(),
-        "BASE64_MIME" => base64_mime_ref(),
-        "BASE64_MIME_PERMISSIVE" => base64_mime_permissive_ref(),
-        "BASE64URL" => base64url_ref(),
-        "BASE64URL_NOPAD" => base64url_nopad_ref(),
-        _ => return None,
-    })
-}
 
 const DATA: &[u8; 6] = b"foobar";
 
@@ -80,9 +50,9 @@ fn are_alike(encoding: &Encoding, reference: &EncodingRef<'_>) -> bool {
 
 // Whether the encoding of a name and its reference are alike.
 fn is_alike(name: &str) -> bool {
-    match (named(name), reference(name)) {
-        (Some(encoding), Some(reference)) => are_alike(&encoding, &reference),
-        _ => false,
+    match named(name) {
+        Some((encoding, reference)) => are_alike(&encoding, &reference),
+        None => false,
     }
 }
 

@@ -105,7 +105,7 @@ fn put(text: &mut String, field: &str) -> Result<(), AllocError> {
     Ok(())
 }
 
-// The ignored bytes of a field, which may stand for each ASCII character that is no symbol.
+// The ignored bytes of a field, which may mean each ASCII character that is no symbol.
 fn put_ignored(specification: &mut Specification, field: &str) -> Result<(), AllocError> {
     if field != "others" {
         return put(&mut specification.ignore, field);
@@ -118,7 +118,7 @@ fn put_ignored(specification: &mut Specification, field: &str) -> Result<(), All
     Ok(())
 }
 
-// The separator of a field, which may stand for the longest: 255 dashes, or as many line feeds.
+// The separator of a field, which may mean the longest: 255 dashes, or as many line feeds.
 pub(super) fn put_separator(
     specification: &mut Specification,
     field: &str,
@@ -136,7 +136,7 @@ pub(super) fn put_separator(
     Ok(())
 }
 
-// The text that a field means: its parts stand between broken bars, and a part may be a count and
+// The text that a field means: its parts are between broken bars, and a part may be a count and
 // what is repeated so often, after a sign of multiplication.
 pub(super) fn text_of(alloc: Global, field: &str) -> Result<String, Fail> {
     let mut text = String::new(alloc);
@@ -164,9 +164,12 @@ pub(super) fn bytes_of(alloc: Global, field: &str) -> Result<Vec<u8>, Fail> {
     Ok(bytes)
 }
 
-// Whether an answer is what a row wants.
-pub(super) fn is_wanted(alloc: Global, answer: &String, want: &str) -> Result<bool, Fail> {
-    Ok(answer.as_str() == text_of(alloc, want)?.as_str())
+// Fails where an answer is not what a row wants, and names both.
+pub(super) fn compare(alloc: Global, line: &str, answer: &str, want: &str) -> Result<(), Fail> {
+    if text_of(alloc, want)?.as_str() == answer {
+        return Ok(());
+    }
+    Err(Fail::new(format_args!("{line}, and not: {answer}")))
 }
 
 // So many bytes, not all the same.

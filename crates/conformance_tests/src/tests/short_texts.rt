@@ -31,7 +31,7 @@ pub(super) fn compare_bytes(comparison: &mut Comparison<'_>) -> Result<(), Diffe
     Ok(())
 }
 
-// Compares the text as it stands, and with another byte at each position.
+// Compares the text as it is, and with another byte at each position.
 fn compare_damaged(comparison: &mut Comparison<'_>, text: &mut [u8]) -> Result<(), Differs> {
     for position in 0..text.len() {
         let own = text[position];

@@ -1,8 +1,8 @@
 //! Specifications that yield encodings, and specifications that are refused.
 
 use super::predefined::case_of;
-use super::rows::{is_wanted, row_of};
-use super::{table, tables};
+use super::rows::{compare, row_of};
+use super::table;
 use conformance::callers::symbols_of;
 use data_encoding::{
     BitOrder, Encoding, Specification, SpecificationError, SpecificationParts, base64_mime,
@@ -64,14 +64,43 @@ hex|most|check|||0||ABCDEF|abcdef|0123456789abcdef
 abc|most|check|||0||||none
 aa|most|check|||0||||none";
 
-// Each field is another than that of a new specification.
-const FULL: &str = "base64|least|single|.|~|76|↵|!?|AB|";
+// The specification of the encoding: whether texts stay single, its check, padding, ignored bytes,
+// lines and translation.
+const DESCRIPTIONS: &str = "\
+binary|most||||0||||true/None//0///
+octal|most||||0||||false/None//0///
+octal|most|check|||0||||true/None//0///
+base64|most|check|||300||||true/None//0///
+base64|most|check|=||76|--|||true/Some('=')/-/76/--//
+base32|most|check|||0||01l8|OIIB|true/None//0//018l/OIBI
+binary|most|check||-|0||_|-|true/None/-_/0///
+binary|most|check|||0||ab|0a|true/None//0//ab/00
+octal|most|check|=||0||~|=|true/Some('=')//0//~/=
+base64|most|single check|||0||||true/None//0///
+base64|most|single check|=||0||||single/true/Some('=')//0///";
+
+// Specifications, how a copy is written, and a new one with its lines and its translation. Each
+// field of the first is another than that of a new specification.
+const COPIES: [(&str, &str, &str); 3] = [
+    (
+        "base64|least|single|.|~|76|↵|!?|AB|",
+        "single/false/Some('.')/~/76/\n/!?/AB",
+        "true/None//76/\n/!?/AB",
+    ),
+    (
+        "BASE32_NOPAD_VISUAL|",
+        "true/None//0//018l/OIBI",
+        "true/None//0//018l/OIBI",
+    ),
+    (
+        "BASE64_MIME|",
+        "true/Some('=')/\n\r/76/\r\n//",
+        "true/None//76/\r\n//",
+    ),
+];
 
 // A specification as a row writes it, besides its symbols and the order of its bits.
-pub(super) fn described(
-    alloc: Global,
-    specification: &Specification,
-) -> Result<String, AllocError> {
+fn described(alloc: Global, specification: &Specification) -> Result<String, AllocError> {
     let single = if specification.concatenate {
         ""
     } else {
@@ -121,80 +150,85 @@ fn is_yielded(
     })
 }
 
-// The length of a layout, and the sum of its bytes, each times its position, if the encoding yields
-// itself again.
+// The sum of bytes, each times its position.
+fn sum_of(bytes: &[u8]) -> u64 {
+    let mut sum: u64 = 0;
+    let mut position: u64 = 0;
+    for byte in bytes {
+        position = position.wrapping_add(1);
+        sum = sum.wrapping_add(position.wrapping_mul(u64::from(*byte))) % 1_000_003;
+    }
+    sum
+}
+
+// The length of a layout and its sum, if the encoding yields itself again.
 fn summed(alloc: Global, encoding: &Encoding) -> Result<String, Fail> {
     if encoding.specification(alloc)?.encoding()? != *encoding {
         return Ok(String::from_str(alloc, "yields another")?);
     }
     let layout = encoding.internal_implementation();
-    let mut sum: u64 = 0;
-    let mut position: u64 = 0;
-    for byte in layout.as_slice() {
-        position = position.wrapping_add(1);
-        sum = sum.wrapping_add(position.wrapping_mul(u64::from(*byte))) % 1_000_003;
-    }
-    let len = layout.as_slice().len();
+    let (len, sum) = (layout.as_slice().len(), sum_of(layout.as_slice()));
     Ok(format!(in alloc; "{len} bytes, {sum}")?)
 }
 
-// What a specification yields: an encoding, with its sum where that is asked for, or a refusal.
-fn yielded(alloc: Global, specification: &Specification, is_summed: bool) -> Result<String, Fail> {
+// The symbols that a caller finds.
+fn symbols(alloc: Global, specification: &Specification) -> Result<String, AllocError> {
+    match symbols_of(alloc, specification)? {
+        Some(symbols) => Ok(symbols),
+        None => String::from_str(alloc, "none"),
+    }
+}
+
+// What is asked of a specification.
+#[derive(Clone, Copy)]
+enum Asked {
+    Encoding,
+    Description,
+    Sum,
+    Symbols,
+}
+
+const TABLES: [(Asked, &str); 4] = [
+    (Asked::Encoding, JUDGEMENTS),
+    (Asked::Description, DESCRIPTIONS),
+    (Asked::Sum, table::ROWS),
+    (Asked::Symbols, SYMBOLS),
+];
+
+// What a specification yields: an encoding, of which that is written which is asked for, or a
+// refusal.
+fn yielded(alloc: Global, specification: &Specification, asked: Asked) -> Result<String, Fail> {
     let yielded = specification.encoding();
     if !is_yielded(alloc, &yielded, parts_of(specification).encoding())? {
         return Ok(String::from_str(alloc, "yielded otherwise by its parts")?);
     }
     match yielded {
-        Ok(encoding) if is_summed => summed(alloc, &encoding),
-        Ok(_) => Ok(String::from_str(alloc, "an encoding")?),
+        Ok(encoding) => match asked {
+            Asked::Description => Ok(described(alloc, &encoding.specification(alloc)?)?),
+            Asked::Sum => summed(alloc, &encoding),
+            _ => Ok(String::from_str(alloc, "an encoding")?),
+        },
         Err(error) => Ok(error.to_string(alloc)?),
     }
 }
 
-// Whether the row has what is yielded.
-fn agrees(alloc: Global, line: &str, is_summed: bool) -> Result<bool, Fail> {
+// Fails where a specification yields something else.
+fn compare_row(alloc: Global, asked: Asked, line: &str) -> Result<(), Fail> {
     let row = row_of(alloc, line)?;
-    is_wanted(
-        alloc,
-        &yielded(alloc, &row.specification, is_summed)?,
-        row.want,
-    )
+    let answer = match asked {
+        Asked::Symbols => symbols(alloc, &row.specification)?,
+        _ => yielded(alloc, &row.specification, asked)?,
+    };
+    compare(alloc, line, answer.as_str(), row.want)
 }
 
 #[test]
 fn specifications_yield_what_rows_want(rt: HostRuntime) -> Result<(), Fail> {
     assert!(rt; table::ROWS.split('\n').count() == 200);
-    for (lines, is_summed) in [(JUDGEMENTS, false), (table::ROWS, true)] {
+    for (asked, lines) in &TABLES {
         for line in lines.split('\n') {
-            assert!(rt; agrees(rt.alloc(), line, is_summed)?, "{line}");
+            compare_row(rt.alloc(), *asked, line)?;
         }
-    }
-    Ok(())
-}
-
-// Whether a specification that yields an encoding yields the same by its bytes.
-fn is_yielded_by_parts(alloc: Global, line: &str) -> Result<bool, Fail> {
-    let case = case_of(alloc, line)?;
-    let by_parts = parts_of(&case.specification).encoding();
-    Ok(is_yielded(alloc, &Ok(case.encoding), by_parts)?)
-}
-
-// Whether a caller finds the symbols of the row.
-fn has_symbols(alloc: Global, line: &str) -> Result<bool, Fail> {
-    let row = row_of(alloc, line)?;
-    Ok(match symbols_of(alloc, &row.specification)? {
-        Some(symbols) => symbols.as_str() == row.want,
-        None => row.want == "none",
-    })
-}
-
-#[test]
-fn specifications_are_read(rt: HostRuntime) -> Result<(), Fail> {
-    for line in tables::DESCRIPTIONS.split('\n') {
-        assert!(rt; is_yielded_by_parts(rt.alloc(), line)?, "{line}");
-    }
-    for line in SYMBOLS.split('\n') {
-        assert!(rt; has_symbols(rt.alloc(), line)?, "{line}");
     }
     Ok(())
 }
@@ -204,56 +238,46 @@ fn has_symbols_of(one: &Specification, other: &Specification) -> bool {
     one.symbols.as_str() == other.symbols.as_str() && one.bit_order == other.bit_order
 }
 
-// How a copy of a specification is written, and a new one with its lines and its translation.
-fn copied(alloc: Global, specification: &Specification) -> Result<String, AllocError> {
-    let copy = specification.try_clone()?;
+// A new specification with the lines and the translation of another.
+fn with_parts_of(alloc: Global, other: &Specification) -> Result<Specification, AllocError> {
     let mut parts = Specification::new(alloc);
-    parts.wrap = copy.wrap.try_clone()?;
-    parts.translate = copy.translate.try_clone()?;
-    let mut answer = described(alloc, &copy)?;
-    if !has_symbols_of(&copy, specification) {
-        answer.push_str(" has other symbols")?;
-    }
-    answer.push(' ')?;
-    answer.push_str(described(alloc, &parts)?.as_str())?;
-    Ok(answer)
+    parts.wrap = other.wrap.try_clone()?;
+    parts.translate = other.translate.try_clone()?;
+    Ok(parts)
 }
 
-// Whether the copy of a specification is written so, and yields the encoding.
-fn is_copied(alloc: Global, line: &str, want: &str) -> Result<bool, Fail> {
-    let case = case_of(alloc, line)?;
+// Whether the copy of a specification is written so, and a new one with its parts so.
+fn is_copied(
+    alloc: Global,
+    specification: &Specification,
+    want: &str,
+    parts: &str,
+) -> Result<bool, AllocError> {
+    let copy = specification.try_clone()?;
     Ok(
-        copied(alloc, &case.specification)?.as_str() == want
-            && case.specification.try_clone()?.encoding()? == case.encoding,
+        has_symbols_of(&copy, specification)
+            && described(alloc, &copy)?.as_str() == want
+            && described(alloc, &with_parts_of(alloc, &copy)?)?.as_str() == parts,
     )
+}
+
+// Whether the specification of a row, and of the encoding that it yields, are copied.
+fn are_copied(alloc: Global, line: &str, want: &str, parts: &str) -> Result<bool, Fail> {
+    let case = case_of(alloc, line)?;
+    let again = case.specification.try_clone()?.encoding()?;
+    Ok(again == case.encoding && is_copied(alloc, &case.specification, want, parts)?)
 }
 
 #[test]
 fn specifications_are_copied(rt: HostRuntime) -> Result<(), Fail> {
-    for (line, want) in [
-        (
-            FULL,
-            "single/false/Some('.')/~/76/\n/!?/AB true/None//76/\n/!?/AB",
-        ),
-        (
-            "BASE32_NOPAD_VISUAL|",
-            "true/None//0//018l/OIBI true/None//0//018l/OIBI",
-        ),
-        (
-            "BASE64_MIME|",
-            "true/Some('=')/\n\r/76/\r\n// true/None//76/\r\n//",
-        ),
-    ] {
-        assert!(rt; is_copied(rt.alloc(), line, want)?, "{line}");
+    for (line, want, parts) in &COPIES {
+        assert!(rt; are_copied(rt.alloc(), line, want, parts)?, "{line}");
     }
-    let plain = base64_mime().to_plain();
-    assert!(rt; plain.encoding() == base64_mime());
-    assert!(rt; plain.encoding().encode_len(1) == 6);
     Ok(())
 }
 
 // The parts with these symbols, lines of this width that end with LF, and translations.
-fn asked<'a>(symbols: &'a [u8], wrap_width: usize, from: &'a [u8]) -> SpecificationParts<'a> {
+fn parts_with<'a>(symbols: &'a [u8], wrap_width: usize, from: &'a [u8]) -> SpecificationParts<'a> {
     SpecificationParts {
         symbols,
         bit_order: BitOrder::MostSignificantFirst,
@@ -275,7 +299,7 @@ fn refusal(
     wrap_width: usize,
     from: &[u8],
 ) -> Result<String, AllocError> {
-    match asked(symbols, wrap_width, from).encoding() {
+    match parts_with(symbols, wrap_width, from).encoding() {
         Ok(_) => Ok(String::new(alloc)),
         Err(error) => {
             let refusal = error.refusal();
@@ -284,19 +308,29 @@ fn refusal(
     }
 }
 
+// Whether an encoding with lines is the same as plain data.
+fn is_plain() -> bool {
+    let plain = base64_mime().to_plain();
+    plain.encoding() == base64_mime() && plain.encoding().encode_len(1) == 6
+}
+
+// Bytes, the width of lines, what is translated, and why they are refused.
+const REFUSALS: [(&[u8], usize, &[u8], &str); 7] = [
+    (b"abc", 0, b"", "BadSize"),
+    (b"0\xff", 0, b"", "NotAscii"),
+    (b"00", 0, b"", "Duplicate(48)"),
+    (b"01", 256, b"", "WrapLength"),
+    (b"01", 9, b"", "WrapWidth(8)"),
+    (b"01", 0, b"", "FromTo"),
+    (b"01", 0, b"a", "Undefined(122)"),
+];
+
 #[test]
 fn refusals_are_returned(rt: HostRuntime) -> Result<(), Fail> {
-    for (symbols, wrap_width, from, want) in [
-        (b"abc".as_slice(), 0, b"".as_slice(), "BadSize"),
-        (b"0\xff".as_slice(), 0, b"".as_slice(), "NotAscii"),
-        (b"00".as_slice(), 0, b"".as_slice(), "Duplicate(48)"),
-        (b"01".as_slice(), 256, b"".as_slice(), "WrapLength"),
-        (b"01".as_slice(), 9, b"".as_slice(), "WrapWidth(8)"),
-        (b"01".as_slice(), 0, b"".as_slice(), "FromTo"),
-        (b"01".as_slice(), 0, b"a".as_slice(), "Undefined(122)"),
-    ] {
-        let refusal = refusal(rt.alloc(), symbols, wrap_width, from)?;
-        assert!(rt; refusal.as_str() == want, "{want}");
+    for (symbols, wrap_width, from, want) in &REFUSALS {
+        let answer = refusal(rt.alloc(), symbols, *wrap_width, from)?;
+        compare(rt.alloc(), want, answer.as_str(), want)?;
     }
+    assert!(rt; is_plain());
     Ok(())
 }

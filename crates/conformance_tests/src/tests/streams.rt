@@ -1,21 +1,13 @@
 //! Data that is encoded, and texts that are decoded, from a reader to a writer.
 
-use super::judge::{Judge, Judgement};
-use super::rows::{bytes_of_length, field_of, row_of};
+use super::comparison::{Comparison, Differs};
+use super::judge::Judgement;
+use super::rows::{bytes_of_length, field_of};
 use super::slow::{Failure, Narrow, Outcome, Slow, reader_of};
-use data_encoding::{DecodeError, DecodeKind, ENCODE_LIMIT, Encoding, hexlower};
+use data_encoding::{ENCODE_LIMIT, Encoding, hexlower};
 use encoding_stream::{StreamFault, Watch, decode_stream, encode_stream};
 use std::alloc::{AllocError, Global};
 use std::test::Fail;
-
-// Of widths from one bit to six, with padding and lines; the last has 263 characters for a byte.
-const ROWS: &str = "\
-hex|most|check|||0||||
-octal|least|check|=||0||||
-base32|most|check|=||0||||
-base64|most|check|=||76|←↵|||
-binary|most|check|||0||||
-binary|most|check|||8|dashes|||";
 
 // The room for the text of what a stream reads at a time.
 const ROOM: usize = 49_152;
@@ -121,40 +113,33 @@ pub(super) fn decode_reads(
     Ok(format!(in alloc; "{reads} reads")?)
 }
 
-// Whether the stream of so many bytes writes what `encode` returns, where a read gives at most so
-// many, and a write takes at most so many.
-fn is_encoded_by_stream(
-    alloc: Global,
-    encoding: &Encoding,
+// Compares what the stream of so many bytes writes with what `encode` returns, where a read gives
+// at most so many, and a write takes at most so many.
+fn compare_len(
+    comparison: &Comparison<'_>,
     len: usize,
     most: (usize, usize),
-) -> Result<bool, AllocError> {
+) -> Result<(), Differs> {
+    let (alloc, encoding) = (comparison.alloc, comparison.encoding);
     let bytes = bytes_of_length(alloc, len)?;
     if bytes.len() > ENCODE_LIMIT {
-        return Ok(false);
+        return Err(Differs {});
     }
     let text = encoding.encode(alloc, &bytes)?;
-    Ok(run_slowly(alloc, Way::Encode, encoding, &bytes, most).is_whole(None, text.as_bytes()))
+    let got = run_slowly(alloc, Way::Encode, encoding, &bytes, most);
+    if got.is_whole(None, text.as_bytes()) {
+        return Ok(());
+    }
+    Err(Differs {})
 }
 
-// Whether that is so of data of some lengths, read by some thousand bytes, and byte by byte.
-fn are_encoded_by_streams(alloc: Global, line: &str) -> Result<bool, Fail> {
-    let encoding = row_of(alloc, line)?.specification.encoding()?;
-    let most = encoding.encode_piece_len(ROOM);
+// The same of data of some lengths, read by some thousand bytes, and byte by byte.
+pub(super) fn compare_streams(comparison: &Comparison<'_>) -> Result<(), Differs> {
+    let most = comparison.encoding.encode_piece_len(ROOM);
     for len in [0, 1, 2, 5, most - 1, most, most.saturating_add(1)] {
-        if !is_encoded_by_stream(alloc, &encoding, len, (1000, usize::MAX))? {
-            return Ok(false);
-        }
+        compare_len(comparison, len, (1000, usize::MAX))?;
     }
-    Ok(is_encoded_by_stream(alloc, &encoding, 300, (1, 1))?)
-}
-
-#[test]
-fn streams_write_what_encode_returns(rt: HostRuntime) -> Result<(), Fail> {
-    for line in ROWS.split('\n') {
-        assert!(rt; are_encoded_by_streams(rt.alloc(), line)?, "{line}");
-    }
-    Ok(())
+    compare_len(comparison, 300, (1, 1))
 }
 
 impl Stream<'_> {
@@ -238,114 +223,76 @@ impl Stream<'_> {
     }
 }
 
-// Whether the first call that fails ends the stream of so many bytes.
-fn encoding_ends(
-    alloc: Global,
-    encoding: &Encoding,
-    judge: Judge<'_>,
-    bytes: &[u8],
-    calls: (usize, usize),
-) -> Result<bool, AllocError> {
-    let text = judge.encode(alloc, bytes)?;
-    let stream = Stream {
-        way: Way::Encode,
-        alloc,
-        encoding,
-        input: bytes,
-        output: &text,
-    };
-    Ok(stream.ends_at_any_call(calls))
+// The reads and writes of a stream that encodes, and of one that decodes, a thousand bytes at a
+// time.
+#[derive(Clone, Copy)]
+pub(super) struct Calls {
+    pub(super) encode: (usize, usize),
+    pub(super) decode: (usize, usize),
 }
 
-// Whether the first call that fails ends the stream of their text, as it is, and with a byte that
-// is no symbol in one of the last groups.
-fn decoding_ends(
-    alloc: Global,
-    encoding: &Encoding,
-    judge: Judge<'_>,
-    bytes: &[u8],
+// Whether the first call that fails ends the stream of some data, and of their text.
+fn ends(
+    comparison: &Comparison<'_>,
+    way: Way,
+    data: &[u8],
+    text: &[u8],
+    calls: (usize, usize),
+) -> bool {
+    let (input, output) = match way {
+        Way::Encode => (data, text),
+        Way::Decode => (text, data),
+    };
+    let stream = Stream {
+        way,
+        alloc: comparison.alloc,
+        encoding: comparison.encoding,
+        input,
+        output,
+    };
+    stream.ends_at_any_call(calls)
+}
+
+// Whether the first call that fails ends the stream of a text that has a byte that is no symbol in
+// one of the last groups.
+fn ends_before_fault(
+    comparison: &Comparison<'_>,
+    text: &mut [u8],
     calls: (usize, usize),
 ) -> Result<bool, AllocError> {
-    let mut text = judge.encode(alloc, bytes)?;
-    let sound = Stream {
-        way: Way::Decode,
-        alloc,
-        encoding,
-        input: &text,
-        output: bytes,
-    };
-    if !sound.ends_at_any_call(calls) || text.len() < 10 {
+    if text.len() < 10 {
         return Ok(false);
     }
     let position = text.len() - 10;
     text[position] = b'!';
-    let whole = judge.decode(alloc, &text)?;
-    let want = judge.in_pieces(alloc, &text, whole)?;
-    let damaged = Stream {
-        way: Way::Decode,
-        alloc,
-        encoding,
-        input: &text,
-        output: &want.bytes,
-    };
-    Ok(want.fault.is_some() && damaged.ends_at_any_call(calls))
+    let whole = comparison.judge.decode(comparison.alloc, text)?;
+    let want = comparison.judge.in_pieces(comparison.alloc, text, whole)?;
+    Ok(want.fault.is_some() && ends(comparison, Way::Decode, &want.bytes, text, calls))
 }
 
-// Whether the first call that fails ends the stream of 60,000 bytes, and of the text of 30,000.
-fn ends_throughout(
-    alloc: Global,
-    line: &str,
-    encode_calls: (usize, usize),
-    decode_calls: (usize, usize),
-) -> Result<bool, Fail> {
-    let specification = row_of(alloc, line)?.specification;
-    let encoding = specification.encoding()?;
-    let judge = Judge::of(&specification);
-    let bytes = bytes_of_length(alloc, 60_000)?;
-    let half = bytes.get(..30_000).unwrap_or(&[]);
-    Ok(
-        encoding_ends(alloc, &encoding, judge, &bytes, encode_calls)?
-            && decoding_ends(alloc, &encoding, judge, half, decode_calls)?,
-    )
-}
-
-#[test]
-fn ends_at_a_failed_call(rt: HostRuntime) -> Result<(), Fail> {
-    for (line, encode_calls, decode_calls) in [
-        ("hex|most|check|||0||||", (62, 122), (62, 31)),
-        ("base32|most|check|=||0||||", (62, 97), (50, 31)),
-        ("base64|most|check|=||76|←↵|||", (62, 83), (43, 31)),
-    ] {
-        assert!(rt;
-            ends_throughout(rt.alloc(), line, encode_calls, decode_calls)?,
-            "{line}"
-        );
+// Compares where streams of 60,000 bytes, and of the text of 30,000, end.
+pub(super) fn compare_ends(comparison: &Comparison<'_>, calls: Calls) -> Result<(), Differs> {
+    let data = bytes_of_length(comparison.alloc, 60_000)?;
+    let half = data.get(..30_000).unwrap_or(&[]);
+    let text = comparison.judge.encode(comparison.alloc, &data)?;
+    let mut half_text = comparison.judge.encode(comparison.alloc, half)?;
+    if ends(comparison, Way::Encode, &data, &text, calls.encode)
+        && ends(comparison, Way::Decode, half, &half_text, calls.decode)
+        && ends_before_fault(comparison, &mut half_text, calls.decode)?
+    {
+        return Ok(());
     }
+    Err(Differs {})
+}
+
+// Whether a flush that fails ends the stream of a short text, by two bytes and three.
+pub(super) fn ends_at_short_flush(alloc: Global) -> bool {
     let short = Stream {
         way: Way::Encode,
-        alloc: rt.alloc(),
+        alloc,
         encoding: &hexlower(),
         input: b"Hello",
         output: b"48656c6c6f",
     };
-    assert!(rt; short.ends_at_flush(2, 3));
-    Ok(())
-}
-
-#[test]
-fn prints_each_fault(rt: HostRuntime) -> Result<(), Fail> {
-    let error = DecodeError {
-        position: 4,
-        kind: DecodeKind::Padding,
-    };
-    for (fault, line) in [
-        (StreamFault::Read, "read failed"),
-        (StreamFault::Write, "write failed"),
-        (StreamFault::Decode(error), "invalid padding length at 4"),
-        (StreamFault::TooLong, "input too long"),
-    ] {
-        let text = fault.to_string(rt.alloc())?;
-        assert!(rt; text.as_str() == line, "{text}");
-    }
-    Ok(())
+    short.ends_at_flush(2, 3)
 }

@@ -11,6 +11,7 @@ use super::long_texts::compare_long;
 use super::round_trips::{compare_in_lines, compare_short};
 use super::rows::{put_separator, row_of};
 use super::short_texts::{compare_bytes, compare_symbols};
+use super::streams::{Calls, compare_ends, compare_streams, ends_at_short_flush};
 use data_encoding::Specification;
 use std::alloc::Global;
 use std::test::Fail;
@@ -143,6 +144,15 @@ base64|most|check|=||252|↵|||
 base64|least|check|||252|↵|||
 base64|least|check|=||252|↵|||";
 
+// Of widths from one bit to six, with padding and lines; the last has 263 characters for a byte.
+const STREAMS: &str = "\
+hex|most|check|||0||||
+octal|least|check|=||0||||
+base32|most|check|=||0||||
+base64|most|check|=||76|←↵|||
+binary|most|check|||0||||
+binary|most|check|||8|dashes|||";
+
 // Each width, then padded, with ignored bytes, unpadded with ignored bytes, and single.
 const LONG: &str = "\
 binary|most|check|||0||||
@@ -184,6 +194,8 @@ enum Sweep {
     Counted,
     CountedUnwrapped,
     EqualBytes,
+    Streams,
+    Ends(Calls),
 }
 
 // The specification of a row, as a sweep changes it.
@@ -216,6 +228,8 @@ fn compare_all(comparison: &mut Comparison<'_>, sweep: Sweep) -> Result<(), Diff
         Sweep::ManyGroups => compare_many_groups(comparison),
         Sweep::Counted | Sweep::CountedUnwrapped => compare_counted(comparison),
         Sweep::EqualBytes => compare_equal_bytes(comparison),
+        Sweep::Streams => compare_streams(comparison),
+        Sweep::Ends(calls) => compare_ends(comparison, calls),
     }
 }
 
@@ -350,5 +364,45 @@ fn lanes_encode_each_length(rt: HostRuntime) -> Result<(), Fail> {
 #[test]
 fn lanes_encode_zeros_and_ones(rt: HostRuntime) -> Result<(), Fail> {
     sweep_rows(rt.alloc(), &[IN_LINES], Sweep::EqualBytes, Tally::zero())?;
+    Ok(())
+}
+
+#[test]
+fn streams_write_what_encode_returns(rt: HostRuntime) -> Result<(), Fail> {
+    sweep_rows(rt.alloc(), &[STREAMS], Sweep::Streams, Tally::zero())?;
+    Ok(())
+}
+
+// How often the streams of each row read and write.
+const ENDS: [(&str, Calls); 3] = [
+    (
+        "hex|most|check|||0||||",
+        Calls {
+            encode: (62, 122),
+            decode: (62, 31),
+        },
+    ),
+    (
+        "base32|most|check|=||0||||",
+        Calls {
+            encode: (62, 97),
+            decode: (50, 31),
+        },
+    ),
+    (
+        "base64|most|check|=||76|←↵|||",
+        Calls {
+            encode: (62, 83),
+            decode: (43, 31),
+        },
+    ),
+];
+
+#[test]
+fn ends_at_a_failed_call(rt: HostRuntime) -> Result<(), Fail> {
+    for (line, calls) in &ENDS {
+        sweep_row(rt.alloc(), line, Sweep::Ends(*calls), Tally::zero())?;
+    }
+    assert!(rt; ends_at_short_flush(rt.alloc()));
     Ok(())
 }

@@ -421,22 +421,6 @@ BASE64_MIME|len=515|none
 BASE64_MIME|len=515 514=0|515: [61, 30] [0]
 base64|most|check|||252|feeds||||770: [128, 30] [252, 10, 10]";
 
-// The specification of the encoding: whether texts stay single, its check, padding, ignored bytes,
-// lines and translation.
-pub(super) const DESCRIPTIONS: &str = "\
-binary|most||||0||||true/None//0///
-octal|most||||0||||false/None//0///
-octal|most|check|||0||||true/None//0///
-base64|most|check|||300||||true/None//0///
-base64|most|check|=||76|--|||true/Some('=')/-/76/--//
-base32|most|check|||0||01l8|OIIB|true/None//0//018l/OIBI
-binary|most|check||-|0||_|-|true/None/-_/0///
-binary|most|check|||0||ab|0a|true/None//0//ab/00
-octal|most|check|=||0||~|=|true/Some('=')//0//~/=
-base64|most|single check|||0||||true/None//0///
-base64|most|single check|=||0||||single/true/Some('=')//0///
-BASE32_NOPAD_VISUAL||true/None//0//018l/OIBI";
-
 // An encoding, what is changed in its layout, another encoding, and whether it is the one that has
 // the layout. Concatenation tells two apart if there is padding.
 pub(super) const COMPARISONS: &str = "\
@@ -453,3 +437,7 @@ BASE32||&base32|most|check|=||0||||true
 BASE64_MIME||&base64|most|check|=||76|←↵|||true
 HEXLOWER||&HEXLOWER||true
 BASE64|513=62|&base64|most|single check|=||0||||true";
+
+// A text after other words, and in a field that is longer.
+pub(super) const DISPLAYED_PADDED: &str = "\
+BASE64|Hello world|Payload: SGVsbG8gd29ybGQ= SGVsbG8gd29ybGQ=";

@@ -3,8 +3,8 @@
 ghost use Rattle.std.specs.Prelude.{◌≤◌, length};
 
 use super::rows::bytes_of_length;
-use data_encoding::{ENCODE_LIMIT, Encoding, base64};
-use std::alloc::Global;
+use data_encoding::{ENCODE_LIMIT, Encoding};
+use std::alloc::{AllocError, Global};
 use std::fmt;
 use std::fmt::Write;
 use std::test::Fail;
@@ -81,8 +81,44 @@ fn ends_at_call(
         && whole.text.as_str().starts_with(calls.text.as_str())
 }
 
-// The lengths of what the calls of a writer are given of so many bytes, if their text is written,
-// and each call that fails ends the writing.
+// Whether each call that fails ends the writing.
+fn ends_at_each_call(
+    alloc: Global,
+    encoding: &Encoding,
+    input: &[u8],
+    whole: &Calls,
+    writer: Writer,
+) -> bool
+    requires limit { length input.now ≤ ENCODE_LIMIT }
+{
+    for good in 0..whole.count {
+        if !ends_at_call(encoding, input, whole, writer, Calls::new(alloc, good)) {
+            return false;
+        }
+    }
+    true
+}
+
+// The lengths of what the calls of a writer are given of data, if their text is written.
+fn lengths_of(
+    alloc: Global,
+    encoding: &Encoding,
+    input: &[u8],
+    writer: Writer,
+) -> Result<String, AllocError>
+    requires limit { length input.now ≤ ENCODE_LIMIT }
+{
+    let mut whole = Calls::new(alloc, usize::MAX);
+    let is_ok = is_written(encoding, input, &mut whole, writer);
+    let is_text = encoding.encode(alloc, input)? == whole.text;
+    if !is_ok || !is_text || !ends_at_each_call(alloc, encoding, input, &whole, writer) {
+        return String::from_str(alloc, "written otherwise");
+    }
+    let lengths = whole.lengths.as_slice();
+    format!(in alloc; "{lengths:?}")
+}
+
+// The same of so many bytes.
 pub(super) fn written_by(
     alloc: Global,
     encoding: &Encoding,
@@ -90,28 +126,21 @@ pub(super) fn written_by(
     len: &str,
 ) -> Result<String, Fail> {
     let input = bytes_of_length(alloc, len.parse()?)?;
-    let mut whole = Calls::new(alloc, usize::MAX);
-    if input.len() > ENCODE_LIMIT
-        || !is_written(encoding, &input, &mut whole, writer)
-        || whole.text != encoding.encode(alloc, &input)?
-    {
-        return Ok(String::from_str(alloc, "written otherwise")?);
+    if input.len() > ENCODE_LIMIT {
+        return Ok(String::from_str(alloc, "too long")?);
     }
-    for good in 0..whole.count {
-        if !ends_at_call(encoding, &input, &whole, writer, Calls::new(alloc, good)) {
-            return Ok(String::from_str(alloc, "not ended")?);
-        }
-    }
-    let lengths = whole.lengths.as_slice();
-    Ok(format!(in alloc; "{lengths:?}")?)
+    Ok(lengths_of(alloc, encoding, &input, writer)?)
 }
 
-// A width and a fill change nothing.
-#[test]
-fn displays_the_text(rt: HostRuntime) -> Result<(), Fail> {
-    let encoding = base64();
-    let shown = encoding.encode_display(b"Hello world");
-    let text = format!(in rt.alloc(); "Payload: {shown} {shown:*>20}")?;
-    assert!(rt; text.as_str() == "Payload: SGVsbG8gd29ybGQ= SGVsbG8gd29ybGQ=");
-    Ok(())
+// The text of data after other words, and in a field that is longer: a width and a fill change
+// nothing.
+pub(super) fn displayed(
+    alloc: Global,
+    encoding: &Encoding,
+    input: &[u8],
+) -> Result<String, AllocError>
+    requires limit { length input.now ≤ ENCODE_LIMIT }
+{
+    let shown = encoding.encode_display(input);
+    format!(in alloc; "Payload: {shown} {shown:*>20}")
 }
