@@ -92,7 +92,11 @@ fn sizes(alloc: Global, encoding: &Encoding) -> Result<String, AllocError> {
     let piece = encoding.encode_piece_len(1024);
     let ignores = encoding.ignores_bytes();
     let concatenates = encoding.concatenates();
-    format!(in alloc; "{width}, {len}, {align}, {piece}, {ignores}, {concatenates}")
+    let bytes = encoding.group_bytes();
+    let completes = encoding.completes_groups();
+    format!(in alloc;
+        "{width}, {len}, {align}, {piece}, {ignores}, {concatenates}, {bytes}, {completes}"
+    )
 }
 
 // The length of the text of so many bytes.

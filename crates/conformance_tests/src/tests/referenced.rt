@@ -3,8 +3,12 @@
 use super::encoding::writes;
 use super::predefined::named;
 use conformance::callers::referenced::{decode_exactly, encode_exactly};
-use data_encoding::{Encoding, EncodingRef};
+use data_encoding::{
+    Encoding, EncodingRef, predefined, predefined_name, predefined_names, predefined_number,
+    predefined_numbered,
+};
 
+// The names, in the order of their numbers.
 const NAMES: &str = "\
 HEXLOWER
 HEXLOWER_PERMISSIVE
@@ -61,4 +65,37 @@ fn references_are_alike(rt: HostRuntime) {
     for name in NAMES.split('\n') {
         assert!(rt; is_alike(name), "{name}");
     }
+}
+
+// Whether the number is that of the name, and both are those of its encoding.
+fn is_numbered(number: u32, name: &str) -> bool {
+    let (Some((encoding, _)), Some(by_name)) = (named(name), predefined(name)) else {
+        return false;
+    };
+    let Some(by_number) = predefined_numbered(number) else {
+        return false;
+    };
+    predefined_name(number) == Some(name)
+        && predefined_number(name) == Some(number)
+        && by_name.encoding() == encoding
+        && by_number.encoding() == encoding
+}
+
+#[test]
+fn names_and_numbers(rt: HostRuntime) {
+    let mut number = 0;
+    for name in NAMES.split('\n') {
+        assert!(rt; is_numbered(number, name), "{name}");
+        if number < 18 {
+            number += 1;
+        }
+    }
+    assert_eq!(rt; number, 18);
+    assert!(rt; predefined_numbered(18).is_none() && predefined_name(18).is_none());
+    assert!(rt; predefined("base64").is_none() && predefined_number("base64").is_none());
+}
+
+#[test]
+fn names_are_listed(rt: HostRuntime) {
+    assert_eq!(rt; predefined_names().strip_suffix('\n'), Some(NAMES));
 }

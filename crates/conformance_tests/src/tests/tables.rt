@@ -250,15 +250,15 @@ BASE64_MIME|\u{c8}|Invalid None false false true";
 // The bits of a symbol, the symbols of a group, the bytes of a group or of a line and of a piece
 // whose text fits 1,024 bytes, whether a byte is ignored, and whether texts may be concatenated.
 pub(super) const SIZES: &str = "\
-binary|most|check|||0||||1, 8, 1, 128, false, true
-quaternary|most|check|||0||||2, 4, 1, 256, false, true
-octal|most|check|||0||||3, 8, 3, 384, false, true
-hex|most|check|||0||||4, 2, 1, 512, false, true
-base32|most|check|||0||||5, 8, 5, 640, false, true
-base64|most|check|||0||||6, 4, 3, 768, false, true
-base64|most|check|=||76|←↵|||6, 4, 57, 741, true, true
-base64|most|check||~|0||||6, 4, 3, 768, true, true
-base64|most|single check|=||0||||6, 4, 3, 768, false, false";
+binary|most|check|||0||||1, 8, 1, 128, false, true, 1, true
+quaternary|most|check|||0||||2, 4, 1, 256, false, true, 1, true
+octal|most|check|||0||||3, 8, 3, 384, false, true, 3, false
+hex|most|check|||0||||4, 2, 1, 512, false, true, 1, true
+base32|most|check|||0||||5, 8, 5, 640, false, true, 5, false
+base64|most|check|||0||||6, 4, 3, 768, false, true, 3, false
+base64|most|check|=||76|←↵|||6, 4, 57, 741, true, true, 3, true
+base64|most|check||~|0||||6, 4, 3, 768, true, true, 3, false
+base64|most|single check|=||0||||6, 4, 3, 768, false, false, 3, true";
 
 // Whether data has one text only.
 pub(super) const CANONICAL: &str = "\
