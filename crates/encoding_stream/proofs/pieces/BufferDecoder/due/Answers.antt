@@ -1,10 +1,9 @@
-use Rattle.std.proofs.Common.{◌≡◌, ◌*◌, ◌/◌, Ok, sym, ap, subst, ◌∙◌, arith}
+use Rattle.std.proofs.Common.{◌≡◌, ◌*◌, ◌/◌, Ok, sym, ap, subst, ◌∙◌}
 use Rattle.std.proofs.Math.Nat.{mul-mod_left}
 use Rattle.data_encoding.specs.Base.{group_bytes}
 use Rattle.data_encoding.specs.Lengths.{decoded_len}
 use Rattle.encoding_stream.specs.Pieces.{base_of_pieces}
 use Rattle.encoding_stream.proofs.PieceLemmas.{is-specified}
-use Rattle.encoding_stream.proofs.SizeLemmas.{most-few}
 use Rattle.encoding_stream.proofs.pieces.BufferDecoder.due.Goals as goal
 
 pub returns-clause-due : goal.returns-clause-due
