@@ -97,5 +97,5 @@ fn names_and_numbers(rt: HostRuntime) {
 
 #[test]
 fn names_are_listed(rt: HostRuntime) {
-    assert_eq!(rt; predefined_names().strip_suffix('\n'), Some(NAMES));
+    assert_eq!(rt; predefined_names().strip_suffix("\n"), Some(NAMES));
 }
