@@ -1,7 +1,5 @@
 //! What the libraries promise, seen from outside: callers that are proved from public clauses
-//! alone, and tests over public calls.
+//! alone. The tests over public calls are in the crate `conformance_tests`.
 #![tactic(auto)]
 
 pub mod callers;
-#[cfg(test)]
-mod tests;

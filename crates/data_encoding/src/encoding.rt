@@ -1,8 +1,9 @@
 //! Encodings, and the words that describe them.
 
-ghost use Rattle.std.specs.Prelude.{◌≡◌, ◌<◌, ◌≤◌, MatchResult};
-ghost use Rattle.data_encoding_meaning.specs.Base.{IsWidth, group_bytes, group_symbols, ignores_some, meaning};
+ghost use Rattle.std.specs.Prelude.{◌≡◌, ◌<◌, ◌≤◌, ◌-◌, ◌==◌, ◌||◌, MatchResult};
+ghost use Rattle.data_encoding_meaning.specs.Base.{IsWidth, group_bytes, group_symbols, ignores_some, is_padded, meaning};
 ghost use Rattle.data_encoding_meaning.specs.Fields.{IsSpecified};
+ghost use Rattle.data_encoding_meaning.specs.Lengths.{most_bytes};
 
 use crate::plain::PlainFields;
 pub use data_encoding_meaning::encoding::{BitOrder, Character};
@@ -82,6 +83,27 @@ impl EncodingRef<'_> {
     {
         self.fields.width as usize
     }
+
+    /// The number of bytes of a whole group: 1, 3 or 5.
+    #[inline]
+    pub fn group_bytes(&self) -> usize
+        ensures value { result ≡ group_bytes self.now.width }
+        ensures some { 0 < result }
+        ensures few { result ≤ 5 }
+        ensures base { IsSpecified self.now }
+    {
+        group_bytes(self.fields.width) as usize
+    }
+
+    /// Whether texts are whole groups, so that fewer symbols than a whole group mean no byte: texts
+    /// are padded, or a whole group is one byte.
+    #[inline]
+    pub fn completes_groups(&self) -> bool
+        ensures value { result ≡ (is_padded self.now || group_bytes self.now.width == 1) }
+        ensures none { result ≡ (most_bytes self.now (group_symbols self.now.width - 1) == 0) }
+    {
+        self.fields.is_padded() || self.group_bytes() == 1
+    }
 }
 
 impl Encoding {
@@ -108,9 +130,29 @@ impl Encoding {
     /// or 8.
     pub fn group_len(&self) -> usize
         ensures value { result ≡ group_symbols self.now.width }
+        ensures width { IsWidth self.now.width }
         ensures base { IsSpecified self.now }
     {
         group_symbols(self.fields.width) as usize
+    }
+
+    /// The number of bytes of a whole group: 1, 3 or 5.
+    pub fn group_bytes(&self) -> usize
+        ensures value { result ≡ group_bytes self.now.width }
+        ensures some { 0 < result }
+        ensures few { result ≤ 5 }
+        ensures base { IsSpecified self.now }
+    {
+        self.by_ref().group_bytes()
+    }
+
+    /// Whether texts are whole groups, so that fewer symbols than a whole group mean no byte: texts
+    /// are padded, or a whole group is one byte.
+    pub fn completes_groups(&self) -> bool
+        ensures value { result ≡ (is_padded self.now || group_bytes self.now.width == 1) }
+        ensures none { result ≡ (most_bytes self.now (group_symbols self.now.width - 1) == 0) }
+    {
+        self.by_ref().completes_groups()
     }
 
     /// Whether a byte is ignored.
@@ -149,6 +191,7 @@ impl Encoding {
 // The number of bytes of a whole group.
 pub(crate) fn group_bytes(width: u8) -> u8
     ensures value { result ≡ group_bytes width }
+    ensures some { 0 < result }
     ensures few { result ≤ 5 }
 {
     if width == 5 {

@@ -1,6 +1,6 @@
 -- Texts in pieces, of which a caller keeps plain numbers.
-use Rattle.std.proofs.Common.{◌≡◌, nat_lt, inl, inr, ◌⊎◌, ℕ, ◌+◌, ◌≤◌, Bool, if◌then◌else◌, List, ◌++◌, length, take, drop, length-take-le, Option, None, Some, IsSome, Result, Ok, Err, refl, sym, ap, ◌∙◌, subst, arith}
-use Rattle.std.proofs.lemmas.Bool.{le-ltb}
+use Rattle.std.proofs.Common.{◌≡◌, nat_lt, inl, inr, ◌⊎◌, ℕ, ◌+◌, ◌<◌, ◌≤◌, Bool, if◌then◌else◌, List, ◌++◌, length, take, drop, length-take-le, Option, None, Some, IsSome, Result, Ok, Err, refl, sym, ap, ◌∙◌, subst, arith}
+use Rattle.std.proofs.lemmas.Bool.{le-ltb, lt-ltb}
 use Rattle.std.proofs.lemmas.List.{length-append, length-drop, take-append-le, take_all}
 use Rattle.std.proofs.lemmas.Slice.{drop-append-drop}
 use Rattle.data_encoding.specs.declared.error.DecodeError.{DecodeError}
@@ -14,7 +14,7 @@ use Rattle.encoding_stream.specs.declared.pieces.Kept.{Kept}
 use Rattle.encoding_stream.specs.Pieces.{most_completed, verdict_of, Keeps}
 use Rattle.encoding_stream.specs.Reading.{HasLastBytes}
 use Rattle.data_encoding_c.specs.declared.pieces.PlainKept.{PlainKept}
-use Rattle.data_encoding_c.specs.Pieces.{kept_told, piece_status, StandsAfter}
+use Rattle.data_encoding_c.specs.Pieces.{kept_told, piece_status, Places, ReadsPiece, StandsAfter}
 use Rattle.data_encoding_c.specs.Status.{ok, short_buffer, status_of_kind, too_long}
 
 -- where no decoder goes on, it was told no text
@@ -46,6 +46,40 @@ piece-fits base kept len room few fits =
     (le-ltb 2305843009213693951 (kept.len + len) few)
     ∙ ap (λ (short : Bool). if short then short_buffer else ok)
     (le-ltb room (most_completed base kept len) fits))
+
+-- a piece that makes the text too long, and one for which there is no room
+pub piece-long : (base : Base) (kept : Kept) (len room : ℕ)
+    → 2305843009213693951 < kept.len + len → too_long ≡ piece_status base kept len room
+piece-long base kept len room many =
+    sym (ap (λ (long : Bool). if long then too_long
+    else if nat_lt room (most_completed base kept len) then short_buffer else ok)
+    (lt-ltb 2305843009213693951 (kept.len + len) many))
+
+pub piece-short : (base : Base) (kept : Kept) (len room : ℕ)
+    → kept.len + len ≤ 2305843009213693951 → room < most_completed base kept len
+    → short_buffer ≡ piece_status base kept len room
+piece-short base kept len room few misses =
+    sym (ap (λ (long : Bool). if long then too_long
+    else if nat_lt room (most_completed base kept len) then short_buffer else ok)
+    (le-ltb 2305843009213693951 (kept.len + len) few)
+    ∙ ap (λ (short : Bool). if short then short_buffer else ok)
+    (lt-ltb room (most_completed base kept len) misses))
+
+-- a piece that was refused
+pub refuses : (base : Base) (piece : List ℕ) (places : Places) (answer : ℕ)
+    → (answer ≡ ok → ⊥)
+    → ((text : List ℕ) (stands : StandsAfter base places.decoder text)
+    → answer ≡ piece_status base stands.kept (length piece) (length places.output))
+    → ReadsPiece base piece places places answer
+refuses base piece places answer refused status = record {
+  status = status;
+  stands = λ is. absurd (refused is);
+  decodes = λ is. absurd (refused is);
+  within = λ is. absurd (refused is);
+  behind = λ is. absurd (refused is);
+  len = refl;
+  refused = λ _. refl;
+}
 
 -- what a verdict says of the fault
 pub fault-none : (fault : Option DecodeError) (verdict : Result (Unit {0}) DecodeError)

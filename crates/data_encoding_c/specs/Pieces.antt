@@ -72,23 +72,28 @@ pub record TellsRoom (base : Base) (plain : PlainKept) (len old new answer : ℕ
       → new ≡ most_completed base stands.kept len
   pub refused : (answer ≡ ok → ⊥) → new ≡ old
 
+-- What a call that reads a piece may change: the caller's decoder, the output, and the number of
+-- bytes that were written.
+pub record Places : Type 0 where
+  pub decoder : PlainKept
+  pub output : List ℕ
+  pub written : ℕ
+
 -- A call read a piece, and wrote the bytes of the groups that are then whole to the front of the
 -- output, or refused and changed nothing.
-pub record ReadsPiece (base : Base) (old new : PlainKept) (piece output_old output_new : List ℕ)
-    (written_old written_new answer : ℕ) : Type 0 where
-  pub status : (text : List ℕ) (stands : StandsAfter base old text)
-      → answer ≡ piece_status base stands.kept (length piece) (length output_old)
-  pub stands : answer ≡ ok → (text : List ℕ) → StandsAfter base old text
-      → StandsAfter base new (text ++ piece)
-  pub decodes : answer ≡ ok → (text : List ℕ) → StandsAfter base old text
-      → whole_bytes base (text ++ piece) ≡ whole_bytes base text ++ take written_new output_new
-  pub within : answer ≡ ok → written_new ≤ length output_new
-  pub behind : answer ≡ ok → (text : List ℕ) (stands : StandsAfter base old text)
-      → drop (most_completed base stands.kept (length piece)) output_new
-      ≡ drop (most_completed base stands.kept (length piece)) output_old
-  pub len : length output_new ≡ length output_old
-  pub refused : (answer ≡ ok → ⊥)
-      → (new ≡ old) × (output_new ≡ output_old) × (written_new ≡ written_old)
+pub record ReadsPiece (base : Base) (piece : List ℕ) (old new : Places) (answer : ℕ) : Type 0 where
+  pub status : (text : List ℕ) (stands : StandsAfter base old.decoder text)
+      → answer ≡ piece_status base stands.kept (length piece) (length old.output)
+  pub stands : answer ≡ ok → (text : List ℕ) → StandsAfter base old.decoder text
+      → StandsAfter base new.decoder (text ++ piece)
+  pub decodes : answer ≡ ok → (text : List ℕ) → StandsAfter base old.decoder text
+      → whole_bytes base (text ++ piece) ≡ whole_bytes base text ++ take new.written new.output
+  pub within : answer ≡ ok → new.written ≤ length new.output
+  pub behind : answer ≡ ok → (text : List ℕ) (stands : StandsAfter base old.decoder text)
+      → drop (most_completed base stands.kept (length piece)) new.output
+      ≡ drop (most_completed base stands.kept (length piece)) old.output
+  pub len : length new.output ≡ length old.output
+  pub refused : (answer ≡ ok → ⊥) → new ≡ old
 
 -- A call wrote the bytes of a last group to the front of the output, and told the verdict on the
 -- text, or refused and changed nothing.

@@ -59,9 +59,9 @@ pub extern "C" fn de_numbered_decoder_read(
     output: &mut [u8],
     written: &mut usize,
 ) -> u32
-    ensures known { (base : Base) → IsNumbered number base
-        → ReadsPiece base decoder.old decoder.new piece.now output.old output.new written.old
-        written.new result }
+    ensures known { (base : Base) → IsNumbered number base → ReadsPiece base piece.now
+        (record { decoder = decoder.old; output = output.old; written = written.old })
+        (record { decoder = decoder.new; output = output.new; written = written.new }) result }
     ensures unknown { fields_numbered number ≡ None → (result ≡ UNKNOWN_ENCODING)
         × (decoder.new ≡ decoder.old) × (output.new ≡ output.old)
         × (written.new ≡ written.old) }
@@ -115,8 +115,9 @@ pub extern "C" fn de_held_decoder_read(
     output: &mut [u8],
     written: &mut usize,
 ) -> u32
-    ensures { ReadsPiece (base_of_plain held.now) decoder.old decoder.new piece.now output.old
-        output.new written.old written.new result }
+    ensures { ReadsPiece (base_of_plain held.now) piece.now
+        (record { decoder = decoder.old; output = output.old; written = written.old })
+        (record { decoder = decoder.new; output = output.new; written = written.new }) result }
 {
     read_by(&held.encoding(), decoder, piece, output, written)
 }

@@ -127,8 +127,9 @@ pub(crate) fn read_by(
     output: &mut [u8],
     written: &mut usize,
 ) -> u32
-    ensures { ReadsPiece encoding.now plain.old plain.new piece.now output.old output.new
-        written.old written.new result }
+    ensures { ReadsPiece encoding.now piece.now
+        (record { decoder = plain.old; output = output.old; written = written.old })
+        (record { decoder = plain.new; output = output.new; written = written.new }) result }
 {
     let Some(mut decoder) = decoder_of(encoding, plain) else {
         return NO_DECODER;

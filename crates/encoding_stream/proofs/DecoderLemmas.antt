@@ -1,8 +1,6 @@
 -- A text that comes in pieces, and what is appended of it.
 use Rattle.std.proofs.Common.{◌≡◌, ℕ, ◌+◌, ◌≤◌, List, [], ◌++◌, length, take, drop, ◌-◌, refl, sym, ap, ◌∙◌, subst, arith, append-nil, append_assoc, length-append, length-take-le, length-take}
-use Rattle.std.proofs.Math.Logic.{∥∥₁_elim}
 use Rattle.std.proofs.lemmas.List.{length-drop, take-append-drop, take-take, take_rest, drop-take}
-use Rattle.std.specs.Coded.{le_prop}
 use Rattle.data_encoding.specs.Base.{Base}
 use Rattle.data_encoding.specs.Fields.{IsSpecified}
 use Rattle.data_encoding.specs.Pieces.{whole_bytes, KeepsBytes}
@@ -136,12 +134,11 @@ module _ (base : Base) where
   }
 
   -- where a piece adds no byte, its front adds none
-  pub front-adds-none : ∥ IsSpecified base ∥₁ → KeepsBytes → (text front rest bytes : List ℕ)
+  pub front-adds-none : IsSpecified base → KeepsBytes → (text front rest bytes : List ℕ)
       → whole_bytes base (text ++ front) ≡ whole_bytes base text ++ bytes
       → whole_bytes base (text ++ (front ++ rest)) ≡ whole_bytes base text
       → length bytes ≤ 0
-  front-adds-none specified law text front rest bytes first none =
-      ∥∥₁_elim specified le_prop (λ (is : IsSpecified base).
+  front-adds-none is law text front rest bytes first none =
       let more = law base is (text ++ front) rest in
       let lengths : length (whole_bytes base text)
       ≡ length ((whole_bytes base text ++ bytes) ++ more.0) =
@@ -152,7 +149,7 @@ module _ (base : Base) where
         lengths,
         length-append (whole_bytes base text ++ bytes) more.0,
         length-append (whole_bytes base text) bytes,
-      ))
+      )
 
 -- what is appended follows what stood before
 pub appended-behind : (before : List ℕ) {old new x y : List ℕ} → x ≡ before ++ old

@@ -7,14 +7,23 @@ use Rattle.data_encoding.specs.declared.error.DecodeError.{DecodeError}
 use Rattle.data_encoding.specs.Base.{Base, IsWidth, group_bytes, group_symbols, is_ignored, is_padding, meaning}
 use Rattle.data_encoding.specs.Fault.{position_of}
 use Rattle.data_encoding.specs.Fields.{IsSpecified}
+use Rattle.data_encoding.specs.Layout.{fields_of}
 use Rattle.data_encoding.specs.Grammar.{Positioned, is_final, kept, positioned, meanings_in}
 use Rattle.data_encoding.specs.Pieces.{bytes_unless, held_with, unfinished, whole_bytes, HasRead, HoldsPiece, ReadsGroup}
+use Rattle.encoding_stream.specs.declared.pieces.BufferDecoder.{BufferDecoder}
 use Rattle.encoding_stream.specs.declared.pieces.Kept.{Kept}
 use Rattle.encoding_stream.specs.Judged.{next_group, JudgesFaulty, JudgesSound}
-use Rattle.encoding_stream.specs.Pieces.{at_positions, held, paired, FillsGroups, Keeps, NoneIgnored}
+use Rattle.encoding_stream.specs.Pieces.{at_positions, base_of_pieces, held, paired, FillsGroups, Keeps, NoneIgnored}
 use Rattle.encoding_stream.specs.Reading.{ReadsOn}
 use Rattle.encoding_stream.proofs.ReadPieceLemmas.{fills-few, fills-none}
 use Rattle.encoding_stream.proofs.SizeLemmas.{symbols-few}
+
+-- the laws hold of the encoding of a decoder
+pub is-specified : (pieces : BufferDecoder) → IsSpecified (base_of_pieces pieces)
+is-specified pieces = record {
+  fields = fields_of (base_of_pieces pieces);
+  yields = pieces.specified.yields;
+}
 
 -- Bytes at their positions.
 

@@ -28,6 +28,11 @@ symbols-few =
     by_width (λ w. group_symbols w ≤ 8) (omega arith) (omega arith) (omega arith) (omega arith)
     (omega arith) (omega arith)
 
+pub bytes-few : (width : ℕ) → IsWidth width → group_bytes width ≤ 5
+bytes-few =
+    by_width (λ w. group_bytes w ≤ 5) (omega arith) (omega arith) (omega arith) (omega arith)
+    (omega arith) (omega arith)
+
 bytes-fewer : (width : ℕ) → IsWidth width → group_bytes width ≤ group_symbols width
 bytes-fewer =
     by_width (λ w. group_bytes w ≤ group_symbols w) (omega arith) (omega arith) (omega arith)

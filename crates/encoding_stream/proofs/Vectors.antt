@@ -23,6 +23,7 @@ use Rattle.encoding_stream.specs.Appending.{AppendsDecoded}
 use Rattle.encoding_stream.specs.Decoder.{base_of_decoder, decoder_len, StandsAfter}
 use Rattle.encoding_stream.specs.Encoded.{EncodesAll, EncodesFront, ReadsMore}
 use Rattle.encoding_stream.specs.Printed.{printed_stream_fault}
+use Rattle.encoding_stream.specs.Specified.{IsBuiltAgain}
 use Rattle.encoding_stream.specs.Watch.{inner_of, has_failed, is_refused, AppendsFront}
 
 abbrev Holds : (Base → Type 0) → Result Base Refusal → Type 0
@@ -32,6 +33,10 @@ Holds P (Err refusal) = ⊥
 -- The fields have a base, and it is so.
 abbrev Has : Fields → (Base → Type 0) → Type 0
 Has fields P = Holds P (base_of fields)
+
+-- BASE64 is built from its own specification
+built_again : Has base64_fields IsBuiltAgain
+built_again = record { yields = refl }
 
 -- `Hello` was read to its end, and its text written
 encoded_all :

@@ -1,4 +1,5 @@
 pub mod Watch
+pub mod Specified
 pub mod Printed
 pub mod Encoded
 pub mod Judged

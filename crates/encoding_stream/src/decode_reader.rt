@@ -58,8 +58,6 @@ pub fn decode_stream<R: Read, W: Write>(
         → ReadsMore DECODE_LIMIT (R.remaining (inner_of reader.old))
         (R.remaining (inner_of reader.new)) }
 {
-    // It tells that the base is built from a specification.
-    encoding.bit_width();
     steps::pieces();
     let mut pieces = BufferDecoder::new(encoding);
     let mut buffer = [0; CHUNK];

@@ -2,7 +2,6 @@
 
 ghost use Rattle.std.specs.Prelude.{◌≡◌, ℕ, ◌+◌, ◌≤◌, List, ◌++◌, length, take, vec_capacity, vec_len, IfOk, IsOk, OnErr, OnOk};
 ghost use Rattle.data_encoding.specs.declared.decode.TheConstants.{DECODE_LIMIT};
-ghost use Rattle.data_encoding.specs.Fields.{IsSpecified};
 ghost use Rattle.data_encoding.specs.Fault.{fault_of};
 ghost use Rattle.encoding_stream.specs.Pieces.{base_of_pieces, most_completed, verdict_of, Keeps};
 ghost use Rattle.encoding_stream.specs.Reading.{AppendsLast, AppendsPiece, CompletesNothing, HasNoLastBytes, ReadsOn};
@@ -26,7 +25,6 @@ const ROOM: usize = CHUNK + 8;
 #[derive(Debug, Drop)]
 pub struct Decoder<'a> {
     pieces: BufferDecoder<'a>,
-    ghost specified: { ∥ IsSpecified (base_of_pieces pieces) ∥₁ },
 }
 
 /// What `Decoder::finish` returns of the whole text.
@@ -39,6 +37,7 @@ pub struct Finished {
 impl<'a> Decoder<'a> {
     ghost use Rattle.std.specs.Prelude.{◌≡◌, ℕ, ◌+◌, ◌≤◌, List, [], ◌++◌, length, IfErr, IfOk, IsOk, OnErr, OnOk};
     ghost use Rattle.data_encoding.specs.Fault.{fault_of, sound_bytes};
+    ghost use Rattle.data_encoding.specs.Fields.{IsSpecified};
     ghost use Rattle.data_encoding.specs.Pieces.{whole_bytes};
     ghost use Rattle.encoding_stream.specs.Decoder.{base_of_decoder, decoder_len, AppendsFinished, AppendsPushed, StandsAfter};
     ghost use Rattle.encoding_stream.specs.Pieces.{verdict_of};
@@ -48,10 +47,8 @@ impl<'a> Decoder<'a> {
         ensures base { base_of_decoder result ≡ encoding.now }
         ensures nothing { StandsAfter result [] }
         ensures no_bytes { whole_bytes encoding.now [] ≡ [] }
+        ensures specified { IsSpecified encoding.now }
     {
-        // It tells that the base is built from a specification.
-        encoding.bit_width();
-        steps::pieces();
         Decoder {
             pieces: BufferDecoder::new(encoding),
         }
@@ -122,7 +119,6 @@ fn append_piece<A: Allocator + Copy>(
     piece: &[u8],
     output: &mut Vec<u8, A>,
 ) -> Result<(), AllocError>
-    requires specified { ∥ IsSpecified (base_of_pieces pieces.old) ∥₁ }
     requires limit { pieces.old.kept.len + length piece.now ≤ DECODE_LIMIT }
     ensures base { base_of_pieces pieces.new ≡ base_of_pieces pieces.old }
     ensures appends { OnOk result (AppendsPiece (base_of_pieces pieces.old) pieces.old.kept

@@ -21,7 +21,7 @@ impl BufferDecoder<'_> {
         let is_padded = self.kept.bytes[..self.size]
             .iter()
             .any(|byte| self.encoding.interpret_byte(*byte).is_padding());
-        !self.concatenates && is_padded
+        !self.encoding.concatenates() && is_padded
     }
 
     /// Judges the first bytes that are kept as the next group: its fault, or its bytes.
@@ -44,16 +44,17 @@ impl BufferDecoder<'_> {
                 kind: DecodeKind::Padding,
             }));
         }
-        match self.encoding.decode_len(count) {
+        let fault = match self.encoding.decode_len(count) {
             Ok(most) => match self
                 .encoding
                 .decode_mut(&self.kept.bytes[..count], &mut output[..most])
             {
-                Ok(written) => Ok(written),
-                Err(partial) => Err(self.at(partial.error)),
+                Ok(written) => return Ok(written),
+                Err(partial) => partial.error,
             },
-            Err(error) => Err(self.at(error)),
-        }
+            Err(error) => error,
+        };
+        Err(self.at(fault))
     }
 
     // The fault of the bytes that are kept, at its position in the text.

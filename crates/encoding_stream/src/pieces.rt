@@ -2,8 +2,10 @@
 
 ghost use Rattle.std.specs.Prelude.{◌≡◌, ℕ, ◌+◌, ◌<◌, ◌≤◌, ◌⊎◌, List, [], ◌∷◌, length, take, IfSome, IsSome};
 ghost use Rattle.data_encoding.specs.declared.decode.TheConstants.{DECODE_LIMIT};
-ghost use Rattle.data_encoding.specs.Base.{IsWidth, group_symbols, ignores_some};
+ghost use Rattle.data_encoding.specs.Base.{IsWidth, group_symbols};
+ghost use Rattle.encoding_stream.specs.Specified.{IsBuiltAgain};
 
+use data_encoding::laws::specification_again;
 use data_encoding::laws::steps::pieces;
 use data_encoding::{DECODE_LIMIT, DecodeError, Encoding};
 
@@ -36,14 +38,12 @@ pub struct Kept {
 #[derive(Clone, Copy, Debug, Drop)]
 pub struct BufferDecoder<'a> {
     pub(crate) encoding: &'a Encoding,
+    // The symbols of a whole group: `group_len` divides, and each byte asks for it.
     pub(crate) size: usize,
-    pub(crate) concatenates: bool,
-    pub(crate) ignores: bool,
     pub(crate) kept: Kept,
+    ghost specified: { IsBuiltAgain encoding.now },
     ghost width: { IsWidth encoding.now.width },
     ghost group: { size ≡ group_symbols encoding.now.width },
-    ghost single: { concatenates ≡ encoding.now.concatenates },
-    ghost ignored: { ignores ≡ ignores_some encoding.now },
     ghost short: { kept.count < size },
     ghost held: { kept.count ≤ kept.len },
     ghost clear: { IsSome kept.fault → kept.count ≡ 0 },
@@ -51,6 +51,7 @@ pub struct BufferDecoder<'a> {
 }
 
 impl<'a> BufferDecoder<'a> {
+    ghost use Rattle.data_encoding.specs.Fields.{IsSpecified};
     ghost use Rattle.data_encoding.specs.Pieces.{whole_bytes};
     ghost use Rattle.encoding_stream.specs.Pieces.{base_of_pieces, kept_by, most_completed, GoesOn, Keeps};
     ghost use Rattle.encoding_stream.specs.Reading.{ReadsOn};
@@ -60,15 +61,13 @@ impl<'a> BufferDecoder<'a> {
         ensures base { base_of_pieces result ≡ encoding.now }
         ensures nothing { Keeps encoding.now (kept_by result) [] }
         ensures no_bytes { whole_bytes encoding.now [] ≡ [] }
+        ensures specified { IsSpecified encoding.now }
     {
-        // The width is that of an encoding that a specification yields.
-        encoding.bit_width();
         pieces();
+        specification_again();
         BufferDecoder {
             encoding,
             size: encoding.group_len(),
-            concatenates: encoding.concatenates(),
-            ignores: encoding.ignores_bytes(),
             kept: Kept {
                 len: 0,
                 fault: None,
@@ -209,8 +208,6 @@ impl<'a> BufferDecoder<'a> {
         ensures within { result ≤ length output.new }
         ensures len { length output.new ≡ length output.old }
     {
-        // It tells that the laws hold of the encoding.
-        self.encoding.bit_width();
         pieces();
         let position = self.kept.len;
         self.kept.len += 1;
@@ -245,8 +242,6 @@ impl<'a> BufferDecoder<'a> {
         ensures reads { ReadsOn (base_of_pieces self.old) self.old.kept self.new.kept piece.now
             [] }
     {
-        // The laws hold of an encoding that a specification yields.
-        self.encoding.bit_width();
         pieces();
         self.kept.len += piece.len();
     }

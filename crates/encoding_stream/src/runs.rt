@@ -3,7 +3,6 @@
 ghost use Rattle.std.specs.Prelude.{◌≡◌, ℕ, ◌+◌, ◌≤◌, ◌<◌, ◌%◌, true, false, List, length, take, IfOk, IfErr, None, Ok, Some};
 ghost use Rattle.data_encoding.specs.declared.decode.TheConstants.{DECODE_LIMIT};
 ghost use Rattle.data_encoding.specs.Base.{group_bytes, group_symbols, ignores_some};
-ghost use Rattle.data_encoding.specs.Fields.{IsSpecified};
 ghost use Rattle.data_encoding.specs.Grammar.{Means};
 ghost use Rattle.data_encoding.specs.Lengths.{decoded_len, most_bytes};
 ghost use Rattle.data_encoding.specs.Pieces.{IsOfWholeGroup};
@@ -23,14 +22,10 @@ impl BufferDecoder<'_> {
         ensures whole { result.0 % self.now.size ≡ 0 }
         ensures due { decoded_len (base_of_pieces self.now) result.0 ≡ Ok result.1 }
         ensures bytes { result.1 ≡ bytes_due (base_of_pieces self.now) len }
-        ensures specified { IsSpecified (base_of_pieces self.now) }
     {
         whole_groups();
-        let whole = len / self.size * self.size;
-        let Ok(most) = self.encoding.decode_len(whole) else {
-            unreachable!()
-        };
-        (whole, most)
+        let groups = len / self.size;
+        (groups * self.size, groups * self.encoding.group_bytes())
     }
 
     /// Reads whole groups where they lie: all before a fault, or all, if the fault is that of one.
@@ -92,8 +87,6 @@ impl BufferDecoder<'_> {
         ensures within { IfErr result (λ partial. partial.written ≤ length output.new) }
         ensures len { length output.new ≡ length output.old }
     {
-        // It tells that the laws hold of the encoding.
-        self.encoding.bit_width();
         pieces();
         let len = text.len();
         match self.encoding.decode_mut(text, output) {
@@ -109,10 +102,10 @@ impl BufferDecoder<'_> {
         requires whole { len % self.now.size ≡ 0 }
         ensures { result ≡ true → IsOfWholeGroup (base_of_pieces self.now) len kind }
     {
-        if matches!(kind, DecodeKind::Length) || !self.concatenates {
+        if matches!(kind, DecodeKind::Length) || !self.encoding.concatenates() {
             return false;
         }
-        !self.ignores || matches!(self.encoding.decode_len(self.size - 1), Ok(0))
+        !self.encoding.ignores_bytes() || self.encoding.completes_groups()
     }
 
     // Whether a text of this length that means this many bytes is whole groups of which none is
@@ -129,16 +122,12 @@ impl BufferDecoder<'_> {
         ensures by_length { ignores_some (base_of_pieces self.now) ≡ false
             → (base_of_pieces self.now).concatenates ≡ true
             → read % group_symbols (base_of_pieces self.now).width ≡ 0 → result ≡ true }
-        ensures specified { IsSpecified (base_of_pieces self.now) }
     {
         pieces();
         whole_groups();
-        let Ok(bytes) = self.encoding.decode_len(self.size) else {
-            unreachable!()
-        };
-        if self.concatenates && !self.ignores && read % self.size == 0 {
+        if self.encoding.concatenates() && !self.encoding.ignores_bytes() && read % self.size == 0 {
             return true;
         }
-        written % bytes == 0
+        written % self.encoding.group_bytes() == 0
     }
 }

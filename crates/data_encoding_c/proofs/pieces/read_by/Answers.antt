@@ -6,7 +6,7 @@ use Rattle.encoding_stream.specs.Pieces.{kept_by, most_completed, Keeps}
 use Rattle.encoding_stream.specs.Reading.{ReadsOn}
 use Rattle.data_encoding_c.specs.Pieces.{piece_status, StandsAfter}
 use Rattle.data_encoding_c.specs.Status.{ok}
-use Rattle.data_encoding_c.proofs.PieceLemmas.{none-stands, piece-fits, stands-kept}
+use Rattle.data_encoding_c.proofs.PieceLemmas.{none-stands, piece-fits, piece-long, piece-short, refuses, stands-kept}
 use Rattle.data_encoding_c.proofs.pieces.read_by.Goals as goal
 
 pub returns-in_default : goal.returns-in_default
@@ -14,15 +14,37 @@ returns-in_default c =
     let none =
     none-stands c.args.encoding.now c.args.plain.now c.decoder_of.result c.in_default.is
     c.decoder_of.ensures.stands in
-    record {
-      status = λ text stands. absurd (none text stands);
-      stands = λ is text stands. absurd (none text stands);
-      decodes = λ is text stands. absurd (none text stands);
-      within = λ is. absurd (cc is);
-      behind = λ is text stands. absurd (none text stands);
-      len = refl;
-      refused = λ _. (refl, refl, refl);
-    }
+    refuses c.args.encoding.now c.args.piece.now _ _ (λ is. cc)
+    (λ text stands. absurd (none text stands))
+
+pub returns-then-piece-len : goal.returns-then-piece-len
+returns-then-piece-len c =
+    let base = c.args.encoding.now in
+    let piece = c.args.piece.now in
+    let room : ℕ = length c.args.output.now in
+    let kept = kept_by c.in-Some.decoder in
+    let long = piece-long base kept (length piece) room
+    (omega (arith, c.if-piece-len.true, c.len.ensures.value, c.len.ensures.limit)) in
+    refuses base piece _ _ (λ is. cc)
+    (λ text stands. long
+    ∙ ap (λ k. piece_status base k (length piece) room)
+    (sym (stands-kept base c.args.plain.now kept text c.in-Some.ensures.kept stands).0))
+
+pub returns-then-output-most : goal.returns-then-output-most
+returns-then-output-most c =
+    let base = c.args.encoding.now in
+    let piece = c.args.piece.now in
+    let room : ℕ = length c.args.output.now in
+    let kept = kept_by c.in-Some.decoder in
+    let most_is : c.most-most.result ≡ most_completed base kept (length piece) =
+    rw c.in-Some.ensures.base at c.most-most.ensures.value in
+    let short = piece-short base kept (length piece) room
+    (omega (arith, c.if-piece-len.false, c.len.ensures.value, c.len.ensures.limit))
+    (omega (arith, c.if-output-most.true, most_is)) in
+    refuses base piece _ _ (λ is. cc)
+    (λ text stands. short
+    ∙ ap (λ k. piece_status base k (length piece) room)
+    (sym (stands-kept base c.args.plain.now kept text c.in-Some.ensures.kept stands).0))
 
 pub returns : goal.returns
 returns c =

@@ -15,7 +15,7 @@ pub loop-count-init : goal.loop-count-init
 loop-count-init g c = record {
   base = c.new-pieces.ensures.base;
   decoded =
-      decoded-nothing c.args.encoding.now c.bit_width.ensures.base c.pieces.ensures.nothing
+      decoded-nothing c.args.encoding.now c.new-pieces.ensures.specified c.pieces.ensures.nothing
       c.new-pieces.result.kept c.new-pieces.ensures.nothing _ _;
   reader_works = c.requires.reader_works;
   writer_works = c.requires.writer_works;
@@ -44,7 +44,7 @@ loop-count-preserved g c =
     record {
       base = c.read-written.ensures.base ∙ now.base;
       decoded =
-          decoded-more base c.bit_width.ensures.base now.decoded c.in-Ok.ensures.bytes reads
+          decoded-more base c.new-pieces.ensures.specified now.decoded c.in-Ok.ensures.bytes reads
           (on-works c.write_all.result c.if-is_err.ensures.value c.write_all.ensures.bytes);
       reader_works = search rules;
       writer_works = search rules;
@@ -58,13 +58,13 @@ loop-count-preserved g c =
 pub returns-in-Err-clause-begun : goal.returns-in-Err-clause-begun
 returns-in-Err-clause-begun g c =
     let more = c.in-Err.ensures.begun in
-    decoded-only c.args.encoding.now c.bit_width.ensures.base c.pieces.ensures.grows
+    decoded-only c.args.encoding.now c.new-pieces.ensures.specified c.pieces.ensures.grows
     c.pieces.ensures.bytes c.loop-count.invariant.decoded
     more.0 more.1
 
 pub returns-then-count-left-clause-begun : goal.returns-then-count-left-clause-begun
 returns-then-count-left-clause-begun g c =
-    decoded-only c.args.encoding.now c.bit_width.ensures.base c.pieces.ensures.grows
+    decoded-only c.args.encoding.now c.new-pieces.ensures.specified c.pieces.ensures.grows
     c.pieces.ensures.bytes c.loop-count.invariant.decoded
     (take c.in-Ok.count c.fill.new.buffer) c.in-Ok.ensures.bytes
 
@@ -90,7 +90,7 @@ returns-then-is_err-clause-begun g c =
     reads-buffer base (base_of_pieces c.loop-count.pieces) now.base c.loop-count.pieces.kept
     c.read-written.new.self.kept c.fill.new.buffer (drop c.min-asked.result c.loop-count.buffer)
     count bytes c.in-Ok.ensures.bound c.read-written.ensures.reads in
-    decoded-front base c.bit_width.ensures.base now.decoded c.in-Ok.ensures.bytes reads
+    decoded-front base c.new-pieces.ensures.specified now.decoded c.in-Ok.ensures.bytes reads
     c.pieces.ensures.grows c.pieces.ensures.bytes c.write_all.ensures.begun
 
 pub returns-then-count-asked : goal.returns-then-count-asked
@@ -113,7 +113,7 @@ returns-then-count-asked g c =
     let at_end : IsAtEnd (g.R.Read.remaining (inner_of c.fill.new.reader)) =
     c.in-Ok.ensures.at_end (omega (arith, filled, c.if-count-asked.true)) in
     let done =
-    decoded-more base c.bit_width.ensures.base now.decoded c.in-Ok.ensures.bytes reads
+    decoded-more base c.new-pieces.ensures.specified now.decoded c.in-Ok.ensures.bytes reads
     (on-works c.write_all.result c.if-is_err.ensures.value c.write_all.ensures.bytes) in
     let is : base_of_pieces next ≡ base = c.read-written.ensures.base ∙ now.base in
     let ends =
@@ -150,7 +150,7 @@ returns-then-count-asked g c =
             };
       };
       begun =
-          front-all base c.bit_width.ensures.base _ _ _ _ done.text done.read at_end
+          front-all base c.new-pieces.ensures.specified _ _ _ _ done.text done.read at_end
           (ended-front done ends);
       judges =
           Consumes-whole _ _ done.text

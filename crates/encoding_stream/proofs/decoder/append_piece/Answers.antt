@@ -6,6 +6,7 @@ use Rattle.data_encoding.specs.Pieces.{whole_bytes}
 use Rattle.encoding_stream.specs.Pieces.{base_of_pieces}
 use Rattle.encoding_stream.specs.Reading.{ReadsOn}
 use Rattle.encoding_stream.proofs.DecoderLemmas.{appends-none, appends-rest, front-adds-none}
+use Rattle.encoding_stream.proofs.PieceLemmas.{is-specified}
 use Rattle.encoding_stream.proofs.decoder.append_piece.Goals as goal
 
 -- what holds holds where an error is answered too
@@ -40,7 +41,7 @@ returns-in_err-reserve-clause-no_group g c = λ text is none.
     let read : ℕ = first.result.0 in
     let written : ℕ = first.result.1 in
     let few =
-    front-adds-none base c.requires.specified c.pieces.ensures.grows text (take read piece)
+    front-adds-none base (is-specified c.args.pieces.now) c.pieces.ensures.grows text (take read piece)
     (drop read piece) (take written first.new.buffer) (first.ensures.reads.decodes text is)
     (ap (λ p. whole_bytes base (text ++ p)) (take-append-drop read piece) ∙ none) in
     let no : ⊥ =

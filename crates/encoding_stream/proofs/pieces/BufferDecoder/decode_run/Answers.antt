@@ -1,5 +1,6 @@
 use Rattle.std.proofs.Common.{arith}
 use Rattle.encoding_stream.specs.Pieces.{base_of_pieces}
+use Rattle.encoding_stream.proofs.PieceLemmas.{is-specified}
 use Rattle.encoding_stream.proofs.ReadRunLemmas.{stopped-most, stopped-within}
 use Rattle.encoding_stream.proofs.SizeLemmas.{due-most}
 use Rattle.encoding_stream.proofs.pieces.BufferDecoder.decode_run.Goals as goal
@@ -15,7 +16,7 @@ returns-in-Ok-clause-most c =
 
 pub returns-in-Err-clause-fault : goal.returns-in-Err-clause-fault
 returns-in-Err-clause-fault c = λ before len read.
-    c.pieces.ensures.stops (base_of_pieces c.args.self.now) c.bit_width.ensures.base before
+    c.pieces.ensures.stops (base_of_pieces c.args.self.now) (is-specified c.args.self.now) before
     c.args.text.now _ len c.in-Err.partial read c.in-Err.ensures.fault
     (c.is_of_whole_group.ensures c.if-is_of_whole_group.true) c.in-Err.ensures.partial
 

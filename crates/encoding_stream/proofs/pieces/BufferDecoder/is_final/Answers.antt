@@ -6,8 +6,13 @@ use Rattle.encoding_stream.proofs.PieceLemmas.{any-final}
 use Rattle.encoding_stream.proofs.SizeLemmas.{symbols-few}
 use Rattle.encoding_stream.proofs.pieces.BufferDecoder.is_final.Goals as goal
 
-pub returns-then-not-self : goal.returns-then-not-self
-returns-then-not-self c =
+pub shared_ref_as_front-iter : goal.shared_ref_as_front-iter
+shared_ref_as_front-iter c =
+    let s = c.args.self.now in
+    omega (arith, symbols-few s.encoding.now.width s.width, s.group)
+
+pub returns-then-not-concatenates : goal.returns-then-not-concatenates
+returns-then-not-concatenates c =
     let s = c.args.self.now in
     let k = s.kept in
     let few = symbols-few s.encoding.now.width s.width in
@@ -19,4 +24,4 @@ returns-then-not-self c =
     found
     ∙ any-final s.encoding.now s.size k.positions k.bytes
     (omega (arith, few, s.group)) (omega (arith, few, s.group))
-    (sym s.single ∙ c.if-not-self.true)
+    (sym c.concatenates.ensures ∙ c.if-not-concatenates.true)

@@ -1,10 +1,11 @@
-use Rattle.std.proofs.Common.{◌≡◌, None, Some, Ok, drop, sym, ap, ◌∙◌, subst, arith, length-take-le}
+use Rattle.std.proofs.Common.{◌≡◌, ◌<◌, None, Some, Ok, take, drop, sym, ap, ◌∙◌, subst, arith, length-take-le}
 use Rattle.std.proofs.lemmas.List.{take-append-le}
-use Rattle.data_encoding.specs.Fault.{fault_after}
+use Rattle.data_encoding.specs.Fault.{fault_after, fault_of}
 use Rattle.data_encoding.specs.Lengths.{decoded_len}
 use Rattle.encoding_stream.specs.Pieces.{at_positions}
 use Rattle.encoding_stream.proofs.SizeLemmas.{symbols-few}
 use Rattle.encoding_stream.proofs.JudgedLemmas.{due-few, fault-refused, fault-stopped, judged-ended, judged-fault, judged-sound}
+use Rattle.encoding_stream.proofs.pieces.BufferDecoder.judge.Goals.{in-Ok+in-Err-decode_mut, in-Err}
 use Rattle.encoding_stream.proofs.pieces.BufferDecoder.judge.Goals as goal
 
 pub returns-then-self-clause-fault : goal.returns-then-self-clause-fault
@@ -53,15 +54,6 @@ decode_mut-requires-clause-exact c =
     ∙ sym c.decode_len.ensures.value ∙ c.in-Ok.is
     ∙ ap (λ n. Ok n) (slice_bounds-decode_mut-end-in-Ok-2 c)
 
-pub at-requires-in-Err : goal.at-requires-in-Err
-at-requires-in-Err c =
-    omega (
-      arith,
-      symbols-few c.args.self.now.encoding.now.width c.args.self.now.width,
-      c.requires.few,
-      c.in-Err.ensures.position,
-    )
-
 pub returns-in-Ok-decode_mut-clause-sound : goal.returns-in-Ok-decode_mut-clause-sound
 returns-in-Ok-decode_mut-clause-sound c = λ none.
     let s = c.args.self.now in
@@ -98,40 +90,45 @@ returns-in-Ok-decode_mut-clause-few c =
       c.in-Ok-decode_mut.ensures.decoded.0,
     )
 
-pub returns-in-Err-decode_mut-clause-fault : goal.returns-in-Err-decode_mut-clause-fault
-returns-in-Err-decode_mut-clause-fault c = λ none.
-    let s = c.args.self.now in
-    let k = s.kept in
-    let few = symbols-few s.encoding.now.width s.width in
-    let size =
-    length-take-le c.args.count k.bytes (omega (arith, few, c.requires.few)) in
-    subst
-    (λ e. fault_after e s.encoding.now (at_positions c.args.count k.positions k.bytes)
-    ≡ Some c.at-in-Err-decode_mut.result)
-    (sym c.if-self.false)
-    (judged-fault s.encoding.now c.args.count k.positions k.bytes c.requires.some
-    (omega (arith, few, c.requires.few)) (omega (arith, few, c.requires.few))
-    c.decode_len.ensures.base c.pieces.ensures.alone c.requires.few none
-    c.in-Err-decode_mut.partial.error c.at-in-Err-decode_mut.result
-    (fault-stopped s.encoding.now _ _ c.in-Err-decode_mut.ensures.fault)
-    (omega (arith, size, c.in-Err-decode_mut.ensures.bounds.1))
-    c.at-in-Err-decode_mut.ensures.position c.at-in-Err-decode_mut.ensures.kind)
+pub at-requires-2 : goal.at-requires-2
+at-requires-2 c =
+    let few = symbols-few c.args.self.now.encoding.now.width c.args.self.now.width in
+    elim c.match-decode_len.branch [
+      | in-Ok+in-Err-decode_mut w ↦
+          rw w.fault-is
+          (omega (arith, few, c.requires.few, w.in-Err-decode_mut.ensures.bounds.1))
+      | in-Err w ↦
+          rw w.fault-is (omega (arith, few, c.requires.few, w.in-Err.ensures.position))
+    ]
 
-pub returns-in-Err-clause-fault : goal.returns-in-Err-clause-fault
-returns-in-Err-clause-fault c = λ none.
+pub returns-clause-fault : goal.returns-clause-fault
+returns-clause-fault c = λ none.
     let s = c.args.self.now in
     let k = s.kept in
     let few = symbols-few s.encoding.now.width s.width in
-    let size =
-    length-take-le c.args.count k.bytes (omega (arith, few, c.requires.few)) in
+    let text = take c.args.count k.bytes in
+    let size = length-take-le c.args.count k.bytes (omega (arith, few, c.requires.few)) in
+    let found : (fault_of s.encoding.now text ≡ Some c.match-decode_len.fault)
+    × (c.match-decode_len.fault.position < c.args.count) =
+    elim c.match-decode_len.branch [
+      | in-Ok+in-Err-decode_mut w ↦
+          rw w.fault-is (
+            fault-stopped s.encoding.now text _ w.in-Err-decode_mut.ensures.fault,
+            omega (arith, size, w.in-Err-decode_mut.ensures.bounds.1),
+          )
+      | in-Err w ↦
+          rw w.fault-is (
+            fault-refused s.encoding.now text c.args.count w.in-Err.error size
+                (sym c.decode_len.ensures.value ∙ w.in-Err.is),
+            w.in-Err.ensures.position,
+          )
+    ] in
     subst
     (λ e. fault_after e s.encoding.now (at_positions c.args.count k.positions k.bytes)
-    ≡ Some c.at-in-Err.result)
+    ≡ Some c.at-2.result)
     (sym c.if-self.false)
     (judged-fault s.encoding.now c.args.count k.positions k.bytes c.requires.some
     (omega (arith, few, c.requires.few)) (omega (arith, few, c.requires.few))
     c.decode_len.ensures.base c.pieces.ensures.alone c.requires.few none
-    c.in-Err.error c.at-in-Err.result
-    (fault-refused s.encoding.now _ c.args.count c.in-Err.error size
-    (sym c.decode_len.ensures.value ∙ c.in-Err.is))
-    c.in-Err.ensures.position c.at-in-Err.ensures.position c.at-in-Err.ensures.kind)
+    c.match-decode_len.fault c.at-2.result found.0 found.1 c.at-2.ensures.position
+    c.at-2.ensures.kind)

@@ -1,8 +1,19 @@
-use Rattle.std.proofs.Common.{None, Some, arith}
+use Rattle.std.proofs.Common.{None, Some, arith, refl}
 use Rattle.std.proofs.lemmas.Result.{IfErr-weaker, IfOk-weaker}
-use Rattle.encoding_stream.proofs.SizeLemmas.{symbols-few}
+use Rattle.encoding_stream.proofs.SizeLemmas.{bytes-few, symbols-few}
 use Rattle.encoding_stream.proofs.FinishLemmas.{last-judged, last-kept}
 use Rattle.encoding_stream.proofs.pieces.BufferDecoder.judge_last.Goals as goal
+
+pub returns-then-self-eq0-clause-sound : goal.returns-then-self-eq0-clause-sound
+returns-then-self-eq0-clause-sound c = λ text keeps.
+    rw (c.in_default.is, c.if-self-eq0.true) (refl, refl)
+
+pub returns-clause-few : goal.returns-clause-few
+returns-clause-few c =
+    let s = c.args.self.now in
+    IfOk-weaker c.judge.result _ _
+    (λ written few. omega (arith, few, bytes-few s.encoding.now.width s.width))
+    c.judge.ensures.few
 
 pub returns-clause-sound : goal.returns-clause-sound
 returns-clause-sound c =

@@ -1,10 +1,11 @@
 use Rattle.std.proofs.Common.{rules}
 use Rattle.encoding_stream.specs.Pieces.{base_of_pieces}
+use Rattle.encoding_stream.proofs.PieceLemmas.{is-specified}
 use Rattle.encoding_stream.proofs.ReadPieceLemmas.{reads-fault}
 use Rattle.encoding_stream.proofs.pieces.BufferDecoder.pass.Goals as goal
 
 pub returns-clause-reads : goal.returns-clause-reads
 returns-clause-reads c =
-    reads-fault (base_of_pieces c.args.self.now) c.args.self.now.width c.bit_width.ensures.base
+    reads-fault (base_of_pieces c.args.self.now) c.args.self.now.width (is-specified c.args.self.now)
     c.pieces.ensures.faulty
     c.args.self.now.kept (search rules) c.args.piece.now

@@ -4,7 +4,7 @@ use Rattle.data_encoding.specs.Base.{group_symbols}
 use Rattle.data_encoding.specs.Grammar.{Means}
 use Rattle.encoding_stream.specs.Pieces.{base_of_pieces, FillsGroups}
 use Rattle.encoding_stream.specs.Reading.{ReadsOn}
-use Rattle.encoding_stream.proofs.PieceLemmas.{no-fault}
+use Rattle.encoding_stream.proofs.PieceLemmas.{is-specified, no-fault}
 use Rattle.encoding_stream.proofs.ReadRunLemmas.{IsFresh, reads-run, run-sound}
 use Rattle.encoding_stream.proofs.pieces.BufferDecoder.read_run.Goals as goal
 
@@ -83,5 +83,5 @@ returns-clause-reads c =
     (subst (λ n. ReadsOn base old (record old { len = old.len + n; fault = None }) front bytes)
     front-is
     (reads-run base s.width old fresh front bytes None
-    (run-sound base c.are_whole.ensures.specified c.pieces.ensures.sound front bytes means whole)
+    (run-sound base (is-specified s) c.pieces.ensures.sound front bytes means whole)
     few)))

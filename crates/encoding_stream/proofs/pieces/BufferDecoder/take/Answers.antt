@@ -1,18 +1,17 @@
 use Rattle.std.proofs.Common.{◌≡◌, ◌+◌, ◌∙◌, arith, length, refl, ap, sym, subst, [], ◌∷◌, take, length-take-le}
 use Rattle.data_encoding.specs.Base.{is_ignored}
-use Rattle.data_encoding.specs.Fields.{IsSpecified}
 use Rattle.encoding_stream.specs.declared.pieces.BufferDecoder.{BufferDecoder}
 use Rattle.encoding_stream.specs.Reading.{ReadsOn}
-use Rattle.encoding_stream.proofs.PieceLemmas.{take-faulty, take-held, take-ignored, take-sound, IsKept}
+use Rattle.encoding_stream.proofs.PieceLemmas.{is-specified, take-faulty, take-held, take-ignored, take-sound, IsKept}
 use Rattle.encoding_stream.proofs.ReadPieceLemmas.{most-whole, reads-fault}
 use Rattle.encoding_stream.proofs.pieces.BufferDecoder.take.Goals.{then-is_some-via-then-is_some, then-is_some-via-else-is_some+then-is_ignored}
 use Rattle.encoding_stream.proofs.pieces.BufferDecoder.take.Goals as goal
 
-is-kept : (pieces : BufferDecoder) → IsSpecified pieces.encoding.now
+is-kept : (pieces : BufferDecoder)
     → length pieces.kept.positions ≡ 8 → length pieces.kept.bytes ≡ 8
     → IsKept pieces.encoding.now pieces.kept
-is-kept pieces specified positions bytes = record {
-  specified = specified;
+is-kept pieces positions bytes = record {
+  specified = is-specified pieces;
   width = pieces.width;
   short = omega (arith, pieces.group, pieces.short);
   positions = positions;
@@ -25,7 +24,7 @@ returns-then-is_some-clause-reads c =
     let k = s.kept in
     let base = s.encoding.now in
     let byte = c.args.byte in
-    let is = is-kept s c.bit_width.ensures.base (omega arith) (omega arith) in
+    let is = is-kept s (omega arith) (omega arith) in
     elim c.then-is_some.branch [
       | then-is_some-via-then-is_some w ↦
           subst (λ (p : BufferDecoder). ReadsOn base k p.kept (byte ∷ []) []) (sym w.self-is)
@@ -45,7 +44,7 @@ returns-then-index-self-clause-reads c =
     let k = s.kept in
     let few = c.if-index-self.true in
     take-held s.encoding.now k
-    (is-kept s c.bit_width.ensures.base (omega arith) (omega arith)) c.args.byte
+    (is-kept s (omega arith) (omega arith)) c.args.byte
     (sym c.is_some.ensures ∙ c.if-is_some.false)
     (ap is_ignored (sym c.interpret_byte.ensures) ∙ sym c.is_ignored.ensures
     ∙ c.if-is_ignored.false)
@@ -73,7 +72,7 @@ returns-in-Ok-clause-reads c =
     let bytes = take c.in-Ok.written c.judge.new.output in
     let size = length-take-le c.in-Ok.written c.judge.new.output (returns-in-Ok-clause-within c) in
     take-sound s.encoding.now s.kept
-    (is-kept s c.bit_width.ensures.base (omega arith) (omega arith)) c.args.byte
+    (is-kept s (omega arith) (omega arith)) c.args.byte
     (sym c.is_some.ensures ∙ c.if-is_some.false)
     (ap is_ignored (sym c.interpret_byte.ensures) ∙ sym c.is_ignored.ensures
     ∙ c.if-is_ignored.false)
@@ -85,7 +84,7 @@ pub returns-in-Err-clause-reads : goal.returns-in-Err-clause-reads
 returns-in-Err-clause-reads c =
     let s = c.args.self.now in
     take-faulty s.encoding.now s.kept
-    (is-kept s c.bit_width.ensures.base (omega arith) (omega arith)) c.args.byte
+    (is-kept s (omega arith) (omega arith)) c.args.byte
     (sym c.is_some.ensures ∙ c.if-is_some.false)
     (ap is_ignored (sym c.interpret_byte.ensures) ∙ sym c.is_ignored.ensures
     ∙ c.if-is_ignored.false)

@@ -1,0 +1,36 @@
+//! Rows from outside, sweeps over short texts, and each public call with ample memory.
+
+mod appending;
+mod bits;
+mod buffers;
+mod callers;
+mod comparison;
+mod decoding;
+mod drawn_tables;
+mod each_length;
+mod encoding;
+mod encodings;
+mod ignored;
+mod judge;
+mod judged;
+mod lanes_decoded;
+mod lanes_encoded;
+mod laws;
+mod layouts;
+mod long_texts;
+mod order;
+mod pieces;
+mod predefined;
+mod referenced;
+mod resuming;
+mod round_trips;
+mod rows;
+mod short_texts;
+mod slow;
+mod specifications;
+mod stored;
+mod streams;
+mod sweeps;
+mod table;
+mod tables;
+mod writing;

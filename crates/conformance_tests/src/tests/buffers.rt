@@ -1,0 +1,178 @@
+//! Texts that come in pieces, cut anywhere, and are decoded into buffers by decoders that go on
+//! from what is kept.
+
+ghost use Rattle.std.specs.Prelude.{◌≤◌, length};
+
+use super::judge::{Judge, Judgement};
+use conformance::callers::buffers::decode_kept;
+use data_encoding::{DECODE_LIMIT, DecodeError, DecodeKind, Encoding, base64};
+use encoding_stream::{BufferDecoder, Kept};
+use std::alloc::{AllocError, Global};
+use std::test::Fail;
+
+// Reads a piece into as much room as is asked for, and appends what is written.
+fn read_on(
+    decoder: &mut BufferDecoder<'_>,
+    piece: &[u8],
+    output: &mut Vec<u8>,
+) -> Result<(), AllocError>
+    requires short { length piece.now ≤ 17 }
+{
+    if decoder.len() > DECODE_LIMIT - piece.len() {
+        return Err(AllocError);
+    }
+    let mut room = [0; 24];
+    let most = decoder.most(piece.len());
+    let written = decoder.read(piece, &mut room[..most]);
+    output.extend_from_slice(&room[..written])
+}
+
+// Whether the text is decoded, or refused, as by the judge, that comes in three pieces, with a
+// decoder for each.
+fn is_cut_alike(
+    alloc: Global,
+    encoding: &Encoding,
+    want: &Judgement,
+    text: &[u8],
+    cuts: (usize, usize),
+) -> Result<bool, AllocError>
+    requires short { length text.now ≤ 17 }
+    requires first { cuts.0 ≤ cuts.1 }
+    requires second { cuts.1 ≤ length text.now }
+{
+    let mut kept = BufferDecoder::new(encoding).kept();
+    let mut output = Vec::new(alloc);
+    for piece in [&text[..cuts.0], &text[cuts.0..cuts.1], &text[cuts.1..]] {
+        let Some(mut decoder) = BufferDecoder::resumed(encoding, kept) else {
+            return Ok(false);
+        };
+        read_on(&mut decoder, piece, &mut output)?;
+        kept = decoder.kept();
+    }
+    let Some(decoder) = BufferDecoder::resumed(encoding, kept) else {
+        return Ok(false);
+    };
+    let mut last = [0; 5];
+    let (written, verdict) = decoder.finish(&mut last);
+    output.extend_from_slice(&last[..written])?;
+    Ok(verdict.err() == want.fault && output == want.bytes)
+}
+
+// The same, for every two positions.
+fn is_alike(
+    alloc: Global,
+    encoding: &Encoding,
+    want: &Judgement,
+    text: &[u8],
+) -> Result<bool, AllocError>
+    requires short { length text.now ≤ 17 }
+{
+    for second in 0..=text.len() {
+        for first in 0..=second {
+            if !is_cut_alike(alloc, encoding, want, text, (first, second))? {
+                return Ok(false);
+            }
+        }
+        if !is_kept_alike(alloc, encoding, want, text, second)? {
+            return Ok(false);
+        }
+    }
+    Ok(true)
+}
+
+// Whether the caller that is proved decodes the text so, that is cut in two.
+fn is_kept_alike(
+    alloc: Global,
+    encoding: &Encoding,
+    want: &Judgement,
+    text: &[u8],
+    cut: usize,
+) -> Result<bool, AllocError>
+    requires short { length text.now ≤ 17 }
+    requires inside { cut ≤ length text.now }
+{
+    let (mut front, mut next, mut last) = ([0; 24], [0; 24], [0; 5]);
+    let filled = decode_kept(
+        encoding,
+        &text[..cut],
+        &text[cut..],
+        &mut front,
+        &mut next,
+        &mut last,
+    );
+    let mut output = Vec::new(alloc);
+    for part in [
+        front.get(..filled.front),
+        next.get(..filled.next),
+        last.get(..filled.last),
+    ] {
+        output.extend_from_slice(part.unwrap_or(&[]))?;
+    }
+    Ok(filled.verdict.err() == want.fault && output == want.bytes)
+}
+
+// The fault of a text, if it is decoded as by the judge, wherever it is cut.
+pub(super) fn kept(
+    alloc: Global,
+    encoding: &Encoding,
+    judge: Judge<'_>,
+    text: &[u8],
+) -> Result<String, Fail>
+    requires short { length text.now ≤ 17 }
+{
+    let whole = judge.decode(alloc, text)?;
+    let want = judge.in_pieces(alloc, text, whole)?;
+    if !is_alike(alloc, encoding, &want, text)? {
+        return Ok(String::from_str(alloc, "decoded otherwise")?);
+    }
+    match want.fault {
+        Some(error) => Ok(error.to_string(alloc)?),
+        None => Ok(String::new(alloc)),
+    }
+}
+
+// Whether a decoder of base64 goes on from so many bytes, with a fault or without, of which so
+// many are held.
+fn goes_on(len: usize, is_faulty: bool, count: usize) -> bool {
+    let error = DecodeError {
+        position: 0,
+        kind: DecodeKind::Symbol,
+    };
+    let fault = if is_faulty { Some(error) } else { None };
+    let kept = Kept {
+        len,
+        fault,
+        positions: [0; 8],
+        bytes: [0; 8],
+        count,
+        ended: false,
+    };
+    BufferDecoder::resumed(&base64(), kept).is_some()
+}
+
+// Whether a decoder asks for room, and after a fault for none.
+fn asks_for_room() -> bool {
+    let encoding = base64();
+    let mut decoder = BufferDecoder::new(&encoding);
+    let asked = decoder.most(8);
+    let mut room = [0; 24];
+    let most = decoder.most(5);
+    let written = decoder.read(b"AA!AA", &mut room[..most]);
+    asked == 6 && written == 0 && decoder.len() == 5 && decoder.most(8) == 0
+}
+
+#[test]
+fn refuses_what_no_decoder_keeps(rt: HostRuntime) {
+    for (len, is_faulty, count, want) in [
+        (DECODE_LIMIT, false, 3, true),
+        (DECODE_LIMIT, true, 0, true),
+        (DECODE_LIMIT + 1, false, 0, false),
+        (7, false, 4, false),
+        (7, false, usize::MAX, false),
+        (2, false, 3, false),
+        (7, true, 1, false),
+    ] {
+        assert!(rt; goes_on(len, is_faulty, count) == want, "{len} and {count}");
+    }
+    assert!(rt; asks_for_room());
+}

@@ -1,0 +1,139 @@
+//! Short texts that have ignored bytes among others, for every width and both orders.
+
+ghost use Rattle.std.specs.Prelude.{◌<◌, ◌≤◌, length};
+
+use super::comparison::{Comparison, Differs};
+use super::short_texts::{pad, telling_symbols};
+
+// Compares the text as it is, and with a byte that is no symbol after this one.
+fn compare_beside(
+    comparison: &mut Comparison<'_>,
+    text: &mut [u8],
+    position: usize,
+) -> Result<(), Differs>
+    requires inside { position < length text.old }
+{
+    comparison.compare(text)?;
+    let next = position + 1;
+    if next == text.len() {
+        return Ok(());
+    }
+    let own = text[next];
+    for byte in [b'!', b'='] {
+        text[next] = byte;
+        comparison.compare(text)?;
+    }
+    text[next] = own;
+    Ok(())
+}
+
+// Compares the texts that have an ignored byte at any position of the text, or two at any pair of
+// positions.
+fn compare_ignored_bytes(comparison: &mut Comparison<'_>, text: &[u8]) -> Result<(), Differs>
+    requires short { length text.now ≤ 16 }
+{
+    for first in 0..text.len() {
+        let mut own = [0; 16];
+        let own = &mut own[..text.len()];
+        own.copy_from_slice(text);
+        own[first] = b'-';
+        compare_beside(comparison, own, first)?;
+        for second in first + 1..text.len() {
+            own[second] = b'-';
+            comparison.compare(own)?;
+            own[second] = text[second];
+        }
+    }
+    Ok(())
+}
+
+// Compares texts of a symbol that have an ignored byte or two, and with padding, so many bytes of
+// it after one or more groups.
+fn compare_symbol(comparison: &mut Comparison<'_>, symbol: u8, len: usize) -> Result<(), Differs>
+    requires short { len ≤ 16 }
+{
+    let size = comparison.judge.group_len();
+    let (shortest, most) = match comparison.judge.padding {
+        Some(_) => (size.min(len), size),
+        None => (len, 0),
+    };
+    for end in shortest..=len {
+        for count in 0..=most {
+            let mut text = [symbol; 16];
+            pad(&mut text[..end], count);
+            compare_ignored_bytes(comparison, &text[..len])?;
+        }
+    }
+    Ok(())
+}
+
+// Texts up to a group and two bytes of symbols without bits, with one and with all, and texts of
+// ignored bytes alone.
+pub(super) fn compare_ignored(comparison: &mut Comparison<'_>) -> Result<(), Differs> {
+    for len in 0..=16 {
+        comparison.compare(&[b'-'; 16][..len])?;
+    }
+    for symbol in telling_symbols(comparison.judge.symbols) {
+        for len in 0..comparison.judge.group_len().min(8) + 3 {
+            compare_symbol(comparison, symbol, len)?;
+        }
+    }
+    Ok(())
+}
+
+// Compares the texts in which a faulty byte is at any position but this one.
+fn compare_faults_beside(
+    comparison: &mut Comparison<'_>,
+    text: &mut [u8],
+    ignored: usize,
+) -> Result<(), Differs> {
+    for position in 0..text.len() {
+        if position == ignored {
+            continue;
+        }
+        let own = text[position];
+        for byte in [b'!', b'=', 200] {
+            text[position] = byte;
+            comparison.compare(text)?;
+        }
+        text[position] = own;
+    }
+    Ok(())
+}
+
+// Compares texts of a symbol that end with so much padding, with an ignored byte at any position,
+// and a faulty one at any other.
+fn compare_faults_of(
+    comparison: &mut Comparison<'_>,
+    symbol: u8,
+    len: usize,
+    padding: usize,
+) -> Result<(), Differs>
+    requires short { len ≤ 17 }
+{
+    for ignored in 0..len {
+        let mut text = [symbol; 17];
+        let text = &mut text[..len];
+        pad(text, padding);
+        text[ignored] = b'-';
+        compare_faults_beside(comparison, text, ignored)?;
+    }
+    Ok(())
+}
+
+// Texts up to two groups and one byte of symbols without bits and with all, in which one byte is
+// ignored and another is faulty.
+pub(super) fn compare_faults(comparison: &mut Comparison<'_>) -> Result<(), Differs> {
+    let judge = comparison.judge;
+    let [zero, _, last] = telling_symbols(judge.symbols);
+    let size = judge.group_len().min(8);
+    let most = if judge.padding.is_some() { size } else { 0 };
+    for symbol in [zero, last] {
+        for len in 0..2 * size + 2 {
+            for padding in 0..=most {
+                compare_faults_of(comparison, symbol, len, padding)?;
+            }
+        }
+    }
+    Ok(())
+}

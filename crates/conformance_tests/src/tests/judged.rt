@@ -1,0 +1,191 @@
+//! What the judge says of texts, compared with rows from outside, and what encodings return,
+//! compared with both.
+
+ghost use Rattle.std.specs.Prelude.{◌≤◌, length};
+
+use super::buffers::kept;
+use super::comparison::{Comparison, Tally};
+use super::decoding::beginning;
+use super::judge::Judge;
+use super::resuming::compare_resumed;
+use super::rows::{bytes_of, compare, field_of, row_of};
+use data_encoding::{DECODE_LIMIT, Specification};
+use std::alloc::{AllocError, Global};
+use std::test::Fail;
+
+// What the original crate returns, data-encoding 2.11.1, but for what stays single: it has no such
+// texts, and the rule is that no group follows a padded one.
+const TEXTS: &str = "\
+base64|most|check|=||0||||AAAAAA==|\0\0\0\0
+base64|most|check|=||0||||AA==AAA=|\0\0\0
+base64|most|check|=||0||||AAB=|non-zero trailing bits at 2
+base64|most||=||0||||AAB=|\0\0
+base64|most|check|=||0||||====|invalid padding length at 0
+base64|most|check|=||0||||A===|invalid padding length at 1
+base64|most|check|=||0||||!===|invalid padding length at 1
+base64|most|check|=||0||||AA=A|invalid symbol at 2
+base64|most|check|=||0||||===A|invalid symbol at 0
+base64|most|check|=||0||||!AAAAA|invalid length at 4
+base64|most|check|=|←↵|0||||AAA|invalid length at 0
+base64|most|check|=|←↵|0||||AA↵=A|invalid symbol at 3
+base64|most|check|=|←↵|0||||SG↵Vs|Hel
+base64|most|check||↵|0||||AAAA↵A|invalid length at 5
+base64|most|check||↵|0||||↵AAAA↵AA↵|\0\0\0\0
+base64|most|single check|=||0||||AA==A===|invalid padding length at 4
+base64|most|single check|=||0||||AA==!===|invalid padding length at 4
+base64|most|single check|=||0||||AA==AA==|invalid padding length at 4
+base64|most|single check|=||0||||AA==A|invalid length at 4
+base64|most|single check|=|↵|0||||AA==↵A|invalid padding length at 5
+base64|most|single check|=||0||||AAAAAA==|\0\0\0\0
+base32|least|check|=||0||||AA======|\0
+base32|least|check|=||0||||AAA=====|invalid padding length at 3
+octal|most|check|=| |0||||0 0 2 = = = = = |\u{1}";
+
+const BEGINNINGS: &str = "\
+base64|most|check|||0||||AAAA!A|4 read, 3 written, invalid symbol at 4
+base64|most|check|||0||||AAAAAB|4 read, 3 written, non-zero trailing bits at 5
+base64|most|check|=||0||||AA==A===|4 read, 1 written, invalid padding length at 5
+base64|most|check|=||0||||AA==AAB=|4 read, 1 written, non-zero trailing bits at 6
+base64|most|check|=||0||||Zm9v====|4 read, 3 written, invalid padding length at 4
+base64|most|single check|=||0||||AA==A===|4 read, 1 written, invalid padding length at 4
+base64|most|single check|=||0||||AA==AA==|4 read, 1 written, invalid padding length at 4
+base64|most|single check|=|↵|0||||AA==↵A|4 read, 1 written, invalid padding length at 5
+octal|most|check|| |0||||00100|0 read, 0 written, invalid length at 3
+octal|most|check|| |0||||00000|3 read, 1 written, invalid length at 3
+octal|most|check|| |0||||000 0|4 read, 1 written, invalid length at 4
+octal|most|check|| |0|||| 00|0 read, 0 written, invalid length at 1
+base64|most|check|=||76|←↵|||AAAA↵A|5 read, 3 written, invalid length at 5
+base64|most|check||↵|0||||AAAA↵A|4 read, 3 written, invalid length at 5
+base64|most|check|=||76|←↵|||SGVs←↵bG|4 read, 3 written, invalid length at 6
+base64|most|check|=||76|←↵|||A↵===|0 read, 0 written, invalid padding length at 2
+base64|most|check|=||76|←↵|||AAAA←↵AAAA←↵!AAA|10 read, 6 written, invalid symbol at 12
+base64|most|check|=||76|←↵|||AAAA←↵AAAA←↵A=AA|10 read, 6 written, invalid symbol at 13
+base64|most|check|=||76|←↵|||AAAA←↵AAAA←↵AA|10 read, 6 written, invalid length at 12
+base64|most|check|=||76|←↵|||←↵←↵AAAA↵↵↵AAAA↵A!AA|15 read, 6 written, invalid symbol at 17
+base64|most|check|=||76|←↵|||A↵AAA↵AAAA↵AA↵A!|10 read, 6 written, invalid symbol at 15
+base64|most|check|=||76|←↵|||←↵AAAA←↵AAAA←↵AA==←↵←↵|7 in all
+base64|most|single check|=|↵|0||||AAAA↵AA==↵↵A|9 read, 4 written, invalid padding length at 11
+base64|most|single check|=|↵|0||||↵AAAA↵AAAA↵AA==↵↵|7 in all";
+
+// Texts that are decoded by decoders that go on from what is kept, and the fault of each.
+const KEPT: &str = "\
+base64|most|check|=||0||||Zm9vYmE=Zg==|
+base64|most|check|=||0||||Zm9vYg==!|invalid length at 8
+base64|most|check|=||0||||Zm9vYm!yZm9v|invalid symbol at 6
+base64|most|check|=||0||||Zm9vYmF=Zm9v|non-zero trailing bits at 6
+base64|most|check|=||0||||Zm9vY===Zm9v|invalid padding length at 5
+base64|most|single check|=||0||||Zm9vYg==Zm9v|invalid padding length at 8
+base64|most|single check|=|-|0||||Zm9v-Yg==Z---|invalid padding length at 9
+base64|most|single check|=||0||||Zm9vY!==Zm9v|invalid symbol at 5
+base64|most|check|=||76|←↵|||SGVs←↵bG8=←↵|
+base64|most|check|=||76|←↵|||SGVs←↵b!8=←↵|invalid symbol at 7
+base64|most|check|=||76|←↵|||SGVs←↵bG9=←↵SGVs|non-zero trailing bits at 8
+base64|most|check|=||76|←↵|||SGVs←↵b===←↵SGVs|invalid padding length at 7
+base64|most|check|=||76|←↵|||SGVs←↵SGVs←↵b!|invalid length at 12
+base32|most|check|||0||||MZXW6YTBOI|
+base32|most|check|||0||||MZXW6YTBO|invalid length at 8
+base32|most|check|||0||||MZXW6YTBO!|invalid symbol at 9
+base32|most|check|||0||||MZX!6YTBMZXW6YTB|invalid symbol at 3
+base32|most|check|||0||||MZXW6YTBOJ|non-zero trailing bits at 9
+base32|most|check||-|0||||M!------Z|invalid length at 8
+octal|most|check|=|-|0||||22-06-44-==|
+hex|most|check|||0||||48656c6c6f|";
+
+// Texts, and how many of their fronts have the length of a text, and are resumed.
+const RESUMED: &str = "\
+base64|most|check|=||0||||Zm9vYmE=Zg==|4
+base64|most|check|=||76|←↵|||SGVs←↵bG8=←↵|13
+base64|most|single check|=|-|0||||Zm9v-Zm9v-Zg|13
+base64|most|single check|=|-|0||||Zm9v-Zg==-Zg|13
+base32|most|check|=|-|0||||ME-======-ME|13
+hex|most|check|||0||||48656c6c6f21|7
+hex|most|check||-|0||||48-65-6c-6c-|13
+quaternary|least|check|||0||||012301230123|4
+binary|most|check||-|0||||01010011-010|13";
+
+// What is asked of a text.
+#[derive(Clone, Copy)]
+enum Asked {
+    Judgement,
+    Beginning,
+    Kept,
+    Resumed,
+}
+
+const TABLES: [(Asked, &str); 4] = [
+    (Asked::Judgement, TEXTS),
+    (Asked::Beginning, BEGINNINGS),
+    (Asked::Kept, KEPT),
+    (Asked::Resumed, RESUMED),
+];
+
+// The bytes that a text means, or its fault.
+fn judged(alloc: Global, judge: Judge<'_>, text: &[u8]) -> Result<String, Fail> {
+    let judgement = judge.decode(alloc, text)?;
+    match judgement.fault {
+        None => Ok(field_of(alloc, &judgement.bytes)?),
+        Some(error) => Ok(error.to_string(alloc)?),
+    }
+}
+
+// How far `decode_mut` comes, if each call decodes the text, or refuses it, as the judge does.
+fn begun(alloc: Global, comparison: &mut Comparison<'_>, text: &[u8]) -> Result<String, Fail>
+    requires limit { length text.now ≤ DECODE_LIMIT }
+{
+    match comparison.compare(text) {
+        Ok(()) => beginning(alloc, comparison.encoding, text),
+        Err(_) => Ok(String::from_str(alloc, "judged otherwise")?),
+    }
+}
+
+// How many fronts of the text have the length of a text, if each call decodes the text, also from
+// what was read of a front, as the judge does; and with another byte at each position too.
+fn resumed(
+    alloc: Global,
+    comparison: &mut Comparison<'_>,
+    text: &mut [u8],
+) -> Result<String, AllocError>
+    requires short { length text.old ≤ 17 }
+{
+    match compare_resumed(comparison, text) {
+        Ok(fronts) => format!(in alloc; "{fronts}"),
+        Err(_) => String::from_str(alloc, "resumed otherwise"),
+    }
+}
+
+// What is returned of a text of a few bytes.
+fn answer(
+    alloc: Global,
+    asked: Asked,
+    specification: &Specification,
+    text: &mut [u8],
+) -> Result<String, Fail> {
+    let encoding = specification.encoding()?;
+    let judge = Judge::of(specification);
+    let mut comparison = Comparison::new(alloc, &encoding, judge, Tally::zero());
+    match asked {
+        Asked::Judgement => judged(alloc, judge, text),
+        Asked::Beginning if text.len() <= DECODE_LIMIT => begun(alloc, &mut comparison, text),
+        Asked::Kept if text.len() <= 17 => kept(alloc, &encoding, judge, text),
+        Asked::Resumed if text.len() <= 17 => Ok(resumed(alloc, &mut comparison, text)?),
+        _ => Ok(String::from_str(alloc, "too long")?),
+    }
+}
+
+// Fails where something else is returned of a text.
+fn compare_row(alloc: Global, asked: Asked, line: &str) -> Result<(), Fail> {
+    let row = row_of(alloc, line)?;
+    let mut text = bytes_of(alloc, row.input)?;
+    let answer = answer(alloc, asked, &row.specification, &mut text)?;
+    compare(alloc, line, answer.as_str(), row.want)
+}
+
+#[test]
+fn texts_are_judged(rt: HostRuntime) -> Result<(), Fail> {
+    for (asked, lines) in &TABLES {
+        for line in lines.split('\n') {
+            compare_row(rt.alloc(), *asked, line)?;
+        }
+    }
+    Ok(())
+}

@@ -1,0 +1,40 @@
+//! Texts that are decoded in two parts: what the first call leaves comes before what follows.
+
+ghost use Rattle.std.specs.Prelude.{◌≤◌, length};
+
+use super::comparison::{Comparison, Differs, front_read};
+use data_encoding::Encoding;
+
+// How many fronts of a text have the length of a text.
+fn fronts(encoding: &Encoding, text: &[u8]) -> usize
+    requires short { length text.now ≤ 17 }
+{
+    let mut fronts: usize = 0;
+    for cut in 0..=text.len() {
+        let mut output = [0; 16];
+        if front_read(encoding, &text[..cut], &mut output).is_some() {
+            fronts = fronts.wrapping_add(1);
+        }
+    }
+    fronts
+}
+
+// Compares a text, each front of which may be decoded first, as it is, and with each of four bytes
+// at each position; and returns the number of these fronts.
+pub(super) fn compare_resumed(
+    comparison: &mut Comparison<'_>,
+    text: &mut [u8],
+) -> Result<usize, Differs>
+    requires short { length text.old ≤ 17 }
+{
+    for position in 0..text.len() {
+        let own = text[position];
+        for byte in [b'!', b'=', b'-', b'1'] {
+            text[position] = byte;
+            comparison.compare(text)?;
+        }
+        text[position] = own;
+    }
+    comparison.compare(text)?;
+    Ok(fronts(comparison.encoding, text))
+}

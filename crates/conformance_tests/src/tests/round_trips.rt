@@ -1,0 +1,76 @@
+//! Data that come back from their text: all of one byte and of two, and data in lines.
+
+ghost use Rattle.std.specs.Prelude.{◌≤◌, length};
+
+use super::comparison::{Comparison, Differs, is_decoded_alike, is_written_alike};
+use super::judge::Judgement;
+use data_encoding::{DECODE_LIMIT, ENCODE_LIMIT};
+
+// Compares what comes back from the text of at most two bytes.
+fn compare_data(
+    comparison: &mut Comparison<'_>,
+    want: &mut Judgement,
+    input: &[u8],
+) -> Result<(), Differs>
+    requires short { length input.now ≤ 2 }
+{
+    let mut text = [0; 16];
+    let len = comparison.encoding.encode_len(input.len());
+    if len > 16 {
+        return Err(Differs {});
+    }
+    comparison.encoding.encode_mut(input, &mut text[..len]);
+    want.bytes.clear();
+    want.bytes.extend_from_slice(input)?;
+    if comparison.encoding.decode_len(len) != Ok(input.len())
+        || !is_written_alike(comparison.encoding, want, &text[..len])
+    {
+        return Err(Differs {});
+    }
+    comparison.compare_pieces(want, &text[..len])
+}
+
+// All data of one byte and of two.
+pub(super) fn compare_short(comparison: &mut Comparison<'_>) -> Result<(), Differs> {
+    let mut want = Judgement::new(comparison.alloc);
+    for first in 0..=255u8 {
+        compare_data(comparison, &mut want, &[first])?;
+        for second in 0..=255u8 {
+            compare_data(comparison, &mut want, &[first, second])?;
+        }
+    }
+    Ok(())
+}
+
+// The text of data, which is that of the judge, and is decoded to them.
+pub(super) fn compare_whole(
+    comparison: &Comparison<'_>,
+    want: &Judgement,
+) -> Result<String, Differs> {
+    let (alloc, encoding) = (comparison.alloc, comparison.encoding);
+    if want.bytes.len() > ENCODE_LIMIT {
+        return Err(Differs {});
+    }
+    let text = encoding.encode(alloc, &want.bytes)?;
+    if text.len() > DECODE_LIMIT
+        || encoding.encode_len(want.bytes.len()) != text.len()
+        || comparison.judge.encode(alloc, &want.bytes)?.as_slice() != text.as_bytes()
+        || !is_decoded_alike(alloc, encoding, want, text.as_bytes())
+    {
+        return Err(Differs {});
+    }
+    Ok(text)
+}
+
+// Data of each length up to three lines, and a byte.
+pub(super) fn compare_in_lines(comparison: &mut Comparison<'_>) -> Result<(), Differs> {
+    let most = comparison.encoding.encode_align().wrapping_mul(3);
+    let mut want = Judgement::new(comparison.alloc);
+    for index in 0..=most.wrapping_add(1) {
+        let text = compare_whole(comparison, &want)?;
+        comparison.compare_pieces(&want, text.as_bytes())?;
+        want.bytes
+            .extend_from_slice(&[(index.wrapping_mul(37) % 256) as u8])?;
+    }
+    Ok(())
+}

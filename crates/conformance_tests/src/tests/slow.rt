@@ -1,0 +1,146 @@
+//! Readers and writers that give little, take little, or fail once, and what a stream did with
+//! them.
+
+use encoding_stream::{StreamFault, Watch};
+use std::alloc::Global;
+use std::io;
+use std::io::{ErrorKind, Read, Write};
+
+// Gives at most so many bytes a call. The call after so many good ones is interrupted, and those
+// after it are good again.
+#[derive(Drop)]
+pub(super) struct Slow<'a> {
+    bytes: &'a [u8],
+    most: usize,
+    pub(super) good: usize,
+    calls: usize,
+}
+
+impl Read for Slow<'_> {
+    fn read(&mut self, buf: &mut [u8]) -> io::Result<usize> {
+        let call = self.calls;
+        self.calls = call.saturating_add(1);
+        if call == self.good {
+            return Err(io::Error::from(ErrorKind::Interrupted));
+        }
+        let count = self.most.min(buf.len()).min(self.bytes.len());
+        let (front, rest) = self.bytes.split_at(count);
+        buf[..count].copy_from_slice(front);
+        self.bytes = rest;
+        Ok(count)
+    }
+}
+
+// What a writer does not do, once.
+#[derive(Clone, Copy)]
+pub(super) enum Failure {
+    Nothing,
+    Write,
+    Take,
+    Flush,
+}
+
+// Takes at most so many bytes a call, and fails once after so many good writes.
+#[derive(Drop)]
+pub(super) struct Narrow {
+    pub(super) bytes: Vec<u8>,
+    most: usize,
+    failure: Failure,
+    good: usize,
+    pub(super) writes: usize,
+    pub(super) flushes: usize,
+    writes_when_flushed: usize,
+}
+
+impl Narrow {
+    pub(super) fn new(alloc: Global, most: usize, failure: Failure, good: usize) -> Narrow {
+        Narrow {
+            bytes: Vec::new(alloc),
+            most,
+            failure,
+            good,
+            writes: 0,
+            flushes: 0,
+            writes_when_flushed: 0,
+        }
+    }
+}
+
+impl Write for Narrow {
+    fn write(&mut self, buf: &[u8]) -> io::Result<usize> {
+        let write = self.writes;
+        self.writes = write.saturating_add(1);
+        if write == self.good {
+            match self.failure {
+                Failure::Write => return Err(io::Error::from(ErrorKind::Interrupted)),
+                Failure::Take => return Ok(0),
+                Failure::Nothing | Failure::Flush => {}
+            }
+        }
+        let count = self.most.min(buf.len());
+        self.bytes.extend_from_slice(&buf[..count])?;
+        Ok(count)
+    }
+
+    fn flush(&mut self) -> io::Result<()> {
+        self.flushes = self.flushes.saturating_add(1);
+        self.writes_when_flushed = self.writes;
+        if matches!(self.failure, Failure::Flush) {
+            return Err(io::Error::from(ErrorKind::Interrupted));
+        }
+        Ok(())
+    }
+}
+
+// What a stream has done.
+#[derive(Drop)]
+pub(super) struct Outcome {
+    pub(super) result: Result<(), StreamFault>,
+    pub(super) reads: usize,
+    read_failed: bool,
+    write_failed: bool,
+    pub(super) writer: Narrow,
+}
+
+impl Outcome {
+    // What was done by a reader and a writer that were watched.
+    pub(super) fn of(
+        answer: Result<(), StreamFault>,
+        reader: Watch<Slow<'_>>,
+        writer: Watch<Narrow>,
+    ) -> Outcome {
+        Outcome {
+            result: answer,
+            read_failed: reader.failed(),
+            write_failed: writer.failed(),
+            reads: reader.into_inner().calls,
+            writer: writer.into_inner(),
+        }
+    }
+
+    // That fault was returned, or none; the bytes were written, and flushed once, after the last
+    // write.
+    pub(super) fn is_whole(&self, fault: Option<StreamFault>, bytes: &[u8]) -> bool {
+        self.result.err() == fault
+            && self.writer.bytes.as_slice() == bytes
+            && self.writer.flushes == 1
+            && self.writer.writes_when_flushed == self.writer.writes
+    }
+
+    // The fault was returned, its watch has failed, and a beginning of the bytes was written.
+    pub(super) fn is_fault(&self, fault: StreamFault, bytes: &[u8]) -> bool {
+        self.result == Err(fault)
+            && self.read_failed == (fault == StreamFault::Read)
+            && self.write_failed == (fault == StreamFault::Write)
+            && bytes.starts_with(self.writer.bytes.as_slice())
+    }
+}
+
+pub(super) fn reader_of(bytes: &[u8], most: usize) -> Slow<'_> {
+    Slow {
+        bytes,
+        most,
+        good: usize::MAX,
+        calls: 0,
+    }
+}

@@ -1,0 +1,73 @@
+//! Encodings that are stored as bytes, and texts that are appended to another.
+
+use conformance::callers::stored::{
+    encoded_at_second_try, finalized, is_stored_alike, restored, show_nothing, stands_for_some,
+    write_behind,
+};
+use data_encoding::{Encoding, base32, base64, base64_mime, hexlower};
+use std::alloc::Global;
+use std::fmt;
+use std::test::Fail;
+
+// A writer that fails at each call.
+#[derive(Drop)]
+struct Refusing {}
+
+impl fmt::Write for Refusing {
+    fn write_str(&mut self, _part: &str) -> fmt::Result {
+        Err(fmt::Error)
+    }
+}
+
+// Whether the encoding comes back, its bytes are those of it alone, and no bytes are those of none.
+pub(super) fn is_stored(encoding: &Encoding, other: &Encoding) -> bool {
+    let bytes = encoding.internal_implementation();
+    let is_back = match restored(encoding) {
+        Some(back) => back == *encoding,
+        None => false,
+    };
+    is_back
+        && is_stored_alike(encoding, encoding)
+        && !is_stored_alike(encoding, other)
+        && stands_for_some(bytes.as_slice())
+        && !stands_for_some(b"")
+}
+
+// Whether the text of the byte is appended.
+fn is_finalized(encoding: &Encoding, byte: u8, output: &mut String) -> bool {
+    let mut encoder = encoding.new_encoder(output);
+    let is_taken = encoder.append(&[byte]).is_ok();
+    match finalized(encoder) {
+        Ok(()) => is_taken,
+        Err(encoder) => {
+            encoder.abandon();
+            false
+        }
+    }
+}
+
+// Whether the texts are appended to the words.
+fn grows(alloc: Global) -> Result<bool, Fail> {
+    let mut output = String::from_str(alloc, "Payload: ")?;
+    let is_ok = write_behind(&hexlower(), b"Hello", &mut output).is_ok();
+    encoded_at_second_try(&base32(), b"Hello", b" world", &mut output)?;
+    encoded_at_second_try(&base64_mime(), b"", b"", &mut output)?;
+    let is_last = is_finalized(&base64(), b'!', &mut output);
+    let want = "Payload: 48656c6c6fJBSWY3DPEB3W64TMMQ======IQ==";
+    Ok(is_ok && is_last && output.as_str() == want)
+}
+
+// Whether no data are shown by a writer that fails at each call, and data are not.
+fn shows_no_data() -> bool {
+    let mut plain = fmt::Formatter::new(Refusing {});
+    show_nothing(&base64_mime(), &mut plain).is_ok()
+        && write!(plain, "{}", base64().encode_display(b"")).is_ok()
+        && write!(plain, "{}", base64().encode_display(b"A")).is_err()
+}
+
+#[test]
+fn callers_append_and_show(rt: HostRuntime) -> Result<(), Fail> {
+    assert!(rt; grows(rt.alloc())?);
+    assert!(rt; shows_no_data());
+    Ok(())
+}

@@ -1,0 +1,146 @@
+//! Texts that are written call by call, or displayed.
+
+ghost use Rattle.std.specs.Prelude.{◌≤◌, length};
+
+use super::rows::bytes_of_length;
+use data_encoding::{ENCODE_LIMIT, Encoding};
+use std::alloc::{AllocError, Global};
+use std::fmt;
+use std::fmt::Write;
+use std::test::Fail;
+
+// By which call a text is written.
+#[derive(Clone, Copy)]
+pub(super) enum Writer {
+    Buffer,
+    NoBuffer,
+    Display,
+}
+
+// A writer that counts its calls, fails once after so many good ones, and keeps what they were
+// given.
+#[derive(Drop)]
+struct Calls {
+    text: String,
+    lengths: Vec<usize>,
+    good: usize,
+    count: usize,
+}
+
+impl Calls {
+    fn new(alloc: Global, good: usize) -> Calls {
+        Calls {
+            text: String::new(alloc),
+            lengths: Vec::new(alloc),
+            good,
+            count: 0,
+        }
+    }
+}
+
+impl fmt::Write for Calls {
+    fn write_str(&mut self, part: &str) -> fmt::Result {
+        let call = self.count;
+        self.count = call.saturating_add(1);
+        if call == self.good {
+            return Err(fmt::Error);
+        }
+        self.text.push_str(part)?;
+        self.lengths.extend_from_slice(&[part.len()])?;
+        Ok(())
+    }
+}
+
+// Writes the text, and returns whether that succeeds.
+fn is_written(encoding: &Encoding, input: &[u8], calls: &mut Calls, writer: Writer) -> bool
+    requires limit { length input.now ≤ ENCODE_LIMIT }
+{
+    match writer {
+        Writer::Buffer => encoding
+            .encode_write_buffer(input, calls, &mut [0; 510])
+            .is_ok(),
+        Writer::NoBuffer => encoding.encode_write(input, calls).is_ok(),
+        Writer::Display => write!(calls, "{}", encoding.encode_display(input)).is_ok(),
+    }
+}
+
+// Whether the call after so many good ones ends the writing, and those before it were given as much
+// of the text as if none failed.
+fn ends_at_call(
+    encoding: &Encoding,
+    input: &[u8],
+    whole: &Calls,
+    writer: Writer,
+    mut calls: Calls,
+) -> bool
+    requires limit { length input.now ≤ ENCODE_LIMIT }
+{
+    !is_written(encoding, input, &mut calls, writer)
+        && calls.count == calls.good.wrapping_add(1)
+        && whole.lengths.get(..calls.good) == Some(calls.lengths.as_slice())
+        && whole.text.as_str().starts_with(calls.text.as_str())
+}
+
+// Whether each call that fails ends the writing.
+fn ends_at_each_call(
+    alloc: Global,
+    encoding: &Encoding,
+    input: &[u8],
+    whole: &Calls,
+    writer: Writer,
+) -> bool
+    requires limit { length input.now ≤ ENCODE_LIMIT }
+{
+    for good in 0..whole.count {
+        if !ends_at_call(encoding, input, whole, writer, Calls::new(alloc, good)) {
+            return false;
+        }
+    }
+    true
+}
+
+// The lengths of what the calls of a writer are given of data, if their text is written.
+fn lengths_of(
+    alloc: Global,
+    encoding: &Encoding,
+    input: &[u8],
+    writer: Writer,
+) -> Result<String, AllocError>
+    requires limit { length input.now ≤ ENCODE_LIMIT }
+{
+    let mut whole = Calls::new(alloc, usize::MAX);
+    let is_ok = is_written(encoding, input, &mut whole, writer);
+    let is_text = encoding.encode(alloc, input)? == whole.text;
+    if !is_ok || !is_text || !ends_at_each_call(alloc, encoding, input, &whole, writer) {
+        return String::from_str(alloc, "written otherwise");
+    }
+    let lengths = whole.lengths.as_slice();
+    format!(in alloc; "{lengths:?}")
+}
+
+// The same of so many bytes.
+pub(super) fn written_by(
+    alloc: Global,
+    encoding: &Encoding,
+    writer: Writer,
+    len: &str,
+) -> Result<String, Fail> {
+    let input = bytes_of_length(alloc, len.parse()?)?;
+    if input.len() > ENCODE_LIMIT {
+        return Ok(String::from_str(alloc, "too long")?);
+    }
+    Ok(lengths_of(alloc, encoding, &input, writer)?)
+}
+
+// The text of data after other words, and in a field that is longer: a width and a fill change
+// nothing.
+pub(super) fn displayed(
+    alloc: Global,
+    encoding: &Encoding,
+    input: &[u8],
+) -> Result<String, AllocError>
+    requires limit { length input.now ≤ ENCODE_LIMIT }
+{
+    let shown = encoding.encode_display(input);
+    format!(in alloc; "Payload: {shown} {shown:*>20}")
+}

@@ -1,0 +1,9 @@
+-- What a decoder by pieces keeps of its encoding, so that the laws hold of it.
+use Rattle.std.specs.Prelude.{◌≡◌, Ok}
+use Rattle.data_encoding.specs.Base.{Base}
+use Rattle.data_encoding.specs.Fields.{base_of}
+use Rattle.data_encoding.specs.Layout.{fields_of}
+
+-- The base is built from its own specification.
+pub record IsBuiltAgain (base : Base) : Type 0 where
+  pub yields : base_of (fields_of base) ≡ Ok base
