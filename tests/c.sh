@@ -57,6 +57,8 @@ run_made() {
 program 'calls in C' "$cc" "${strict[@]}" tests/c/calls.c "$lib/libdata_encoding.a"
 program 'calls of the shared library' "$cc" "${strict[@]}" tests/c/calls.c "-L$lib" \
     -ldata_encoding "-Wl,-rpath,$lib"
+program 'calls with short enums' "$cc" "${strict[@]}" -fshort-enums tests/c/calls.c \
+    "$lib/libdata_encoding.a"
 program 'texts in pieces' "$cc" "${strict[@]}" tests/c/pieces.c "$lib/libdata_encoding.a"
 program 'two threads' "$cc" "${strict[@]}" tests/c/threads.c "$lib/libdata_encoding.a" -pthread
 begin 'the program of speed' "$cc" -O2 "${strict[@]}" tests/c/speed.c "$lib/libdata_encoding.a" \

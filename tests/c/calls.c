@@ -140,6 +140,19 @@ static void named(void) {
     }
 }
 
+/* The library writes four bytes to a number, whatever a compiler takes for an enum. */
+static void sizes(void) {
+    struct {
+        de_number number;
+        unsigned char next[4];
+    } found = {77, {1, 2, 3, 4}};
+    is("the size of a status", 4, sizeof(de_status));
+    is("the size of a number", 4, sizeof(de_number));
+    is("a number and no more", DE_OK, de_number_named("HEXUPPER", 8, &found.number));
+    is("a number and no more", DE_HEXUPPER, found.number);
+    holds("a number and no more", memcmp(found.next, "\1\2\3\4", 4) == 0);
+}
+
 static void no_names(void) {
     char output[8] = "untold!";
     size_t size = 77;
@@ -412,6 +425,7 @@ int main(void) {
     numbers();
     canonical();
     named();
+    sizes();
     no_names();
     statuses();
     refusals();

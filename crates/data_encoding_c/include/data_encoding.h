@@ -28,7 +28,8 @@ extern "C" {
 
 /* What happened. After any but DE_OK, and the four of a faulty text, a call has changed nothing
  * (but *detail, where it names one). */
-typedef enum de_status {
+typedef uint32_t de_status;
+enum {
     DE_OK = 0,
 
     /* No predefined encoding has the number, or the name. */
@@ -81,13 +82,14 @@ typedef enum de_status {
 
     /* No call can have left such a de_decoder for the encoding. */
     DE_NO_DECODER = 19
-} de_status;
+};
 
 /* A few words on a status: never null, and valid for ever. */
 const char *de_status_text(de_status status);
 
 /* The predefined encodings. */
-typedef enum de_number {
+typedef uint32_t de_number;
+enum {
     DE_HEXLOWER = 0,
     DE_HEXLOWER_PERMISSIVE = 1,
     DE_HEXUPPER = 2,
@@ -106,7 +108,7 @@ typedef enum de_number {
     DE_BASE64_MIME_PERMISSIVE = 15,
     DE_BASE64URL = 16,
     DE_BASE64URL_NOPAD = 17
-} de_number;
+};
 
 /* How far a text was decoded, where its status is DE_OK or that of a faulty text. */
 typedef struct de_decoded {
@@ -159,7 +161,7 @@ typedef struct de_decoder {
 
     /* The first fault of the whole groups: its position, and its status or 0. */
     size_t fault_position;
-    uint32_t fault;
+    de_status fault;
 
     /* Whether no group may follow. */
     uint32_t ended;
