@@ -234,7 +234,7 @@ static de_status made(const de_specification *asked, size_t *detail) {
     memset(&encoding, 0xa5, sizeof encoding);
     status = de_encoding_new(&encoding, asked, detail);
     if (status != DE_OK) {
-        holds("nothing is made", encoding.made == 0xa5 && encoding.tables[0] == 0xa5 &&
+        holds("nothing is made", encoding.made[0] == 0xa5 && encoding.tables[0] == 0xa5 &&
                                      encoding.tables[DE_TABLES - 1] == 0xa5);
     }
     return status;
@@ -347,6 +347,32 @@ static void own(void) {
     is("no bytes at null", DE_OK, de_encoding_encode(&encoding, NULL, 0, NULL, 0, &size));
 }
 
+/* A de_encoding is refused where any byte of its mark is another, and where all its bytes are one. */
+static void unmade(void) {
+    de_specification asked = DE_SPECIFICATION;
+    de_encoding encoding;
+    de_encoding copy;
+    size_t size = 77;
+    size_t index;
+    int byte;
+    asked.symbols = "01";
+    asked.symbols_len = 2;
+    is("bits", DE_OK, de_encoding_new(&encoding, &asked, NULL));
+    is("bytes of the mark", 8, sizeof encoding.made);
+    for (index = 0; index < sizeof encoding.made; index++) {
+        copy = encoding;
+        copy.made[index] ^= 1;
+        is("another mark", DE_NO_ENCODING, de_encoding_encode_len(&copy, 1, &size));
+    }
+    for (byte = 0; byte < 256; byte++) {
+        memset(&copy, byte, sizeof copy);
+        is("one byte", DE_NO_ENCODING, de_encoding_encode_len(&copy, 1, &size));
+    }
+    is("nothing is changed", 77, size);
+    is("bits", DE_OK, de_encoding_encode_len(&encoding, 1, &size));
+    is("bits", 8, size);
+}
+
 /* What a layout is read as has this layout again, and encodes alike; a layout of which one byte is
  * changed is refused, or is that of another encoding. */
 static void layouts(const de_specification *asked) {
@@ -430,6 +456,7 @@ int main(void) {
     statuses();
     refusals();
     own();
+    unmade();
     stored();
     holds("a text", strcmp(de_status_text(DE_INVALID_SYMBOL), "invalid symbol") == 0);
     holds("a text", strcmp(de_status_text(DE_NO_ENCODING), "no encoding") == 0);

@@ -59,8 +59,8 @@ de_status de_held_decoder_read(const byte *held, de_decoder *decoder, const byte
 de_status de_held_decoder_finish(const byte *held, const de_decoder *decoder, byte *output,
                                  size_t output_len, de_decoded *decoded);
 
-/* What marks a de_encoding that was made. */
-#define MADE 0xde
+/* What marks a de_encoding that was made: eight bytes of no pattern. */
+static const byte made_mark[8] = {0xde, 0x3b, 0x92, 0x67, 0xf4, 0x0d, 0xa8, 0x51};
 
 /* What no bytes are read from, and written to. */
 static const byte no_bytes[1];
@@ -83,13 +83,13 @@ static byte *out(void *bytes, size_t len) {
 }
 
 static bool is_held(const de_encoding *encoding) {
-    return encoding->made == MADE;
+    return memcmp(encoding->made, made_mark, sizeof made_mark) == 0;
 }
 
 /* Where an encoding is made, it is stored. */
 static de_status stored(de_encoding *encoding, const struct made *made) {
     if (made->status == DE_OK) {
-        encoding->made = MADE;
+        memcpy(encoding->made, made_mark, sizeof made_mark);
         memcpy(encoding->tables, made->held, sizeof encoding->tables);
     }
     return made->status;

@@ -77,7 +77,7 @@ enum {
     /* A byte is translated to the byte `detail`, which has no meaning. */
     DE_UNDEFINED = 17,
 
-    /* The bytes are no layout; or the de_encoding shows that none was made. */
+    /* The bytes are no layout; or the de_encoding was not made, as its mark shows. */
     DE_NO_ENCODING = 18,
 
     /* No call can have left such a de_decoder for the encoding. */
@@ -246,9 +246,10 @@ typedef struct de_specification {
 
 /* An encoding of a caller's own: plain bytes, which may be copied within the program, and need no
  * end. They are trusted, and not judged again: bytes from elsewhere are read by de_encoding_read.
- * One that is all zeros is refused by DE_NO_ENCODING. */
+ * One that was not made is refused by DE_NO_ENCODING, unless its eight bytes `made` are by chance
+ * those of one that was. */
 typedef struct de_encoding {
-    unsigned char made;
+    unsigned char made[8];
     unsigned char tables[DE_TABLES];
 } de_encoding;
 
