@@ -60,6 +60,8 @@ program 'calls of the shared library' "$cc" "${strict[@]}" tests/c/calls.c "-L$l
 program 'calls with short enums' "$cc" "${strict[@]}" -fshort-enums tests/c/calls.c \
     "$lib/libdata_encoding.a"
 program 'texts in pieces' "$cc" "${strict[@]}" tests/c/pieces.c "$lib/libdata_encoding.a"
+program 'what is written to a bool' "$cc" "${strict[@]}" tests/c/bools.c "$glue"/*.c \
+    "$lib/libdata_encoding.a" -Wl,--wrap=de_numbered_is_canonical,--wrap=de_held_is_canonical
 program 'two threads' "$cc" "${strict[@]}" tests/c/threads.c "$lib/libdata_encoding.a" -pthread
 begin 'the program of speed' "$cc" -O2 "${strict[@]}" tests/c/speed.c "$lib/libdata_encoding.a" \
     -o "$room/speed"

@@ -155,11 +155,18 @@ de_status de_decode(de_number number, const char *input, size_t input_len, void 
     return de_numbered_decode(number, from, input_len, to, output_len, decoded);
 }
 
+/* What a caller's bool has before the call may be no bool: the answer is taken in one that is. */
 de_status de_is_canonical(de_number number, bool *canonical) {
+    bool answer = false;
+    de_status status;
     if (canonical == NULL) {
         return DE_NULL_POINTER;
     }
-    return de_numbered_is_canonical(number, canonical);
+    status = de_numbered_is_canonical(number, &answer);
+    if (status == DE_OK) {
+        *canonical = answer;
+    }
+    return status;
 }
 
 de_status de_name(de_number number, char *output, size_t output_len, size_t *written) {
@@ -289,13 +296,19 @@ de_status de_encoding_decode(const de_encoding *encoding, const char *input, siz
 }
 
 de_status de_encoding_is_canonical(const de_encoding *encoding, bool *canonical) {
+    bool answer = false;
+    de_status status;
     if (encoding == NULL || canonical == NULL) {
         return DE_NULL_POINTER;
     }
     if (!is_held(encoding)) {
         return DE_NO_ENCODING;
     }
-    return de_held_is_canonical(encoding->tables, canonical);
+    status = de_held_is_canonical(encoding->tables, &answer);
+    if (status == DE_OK) {
+        *canonical = answer;
+    }
+    return status;
 }
 
 de_status de_decoder_new(de_decoder *decoder) {
