@@ -81,6 +81,30 @@ else
     skip 'calls in C++: no c++'
 fi
 
+# warned NAME WARNING OPTION CALL: a program with the call is not compiled, for this warning alone;
+# with the option, which defines a macro of the header, it is.
+warned() {
+    local source=$room/warned.c
+    printf '#include "data_encoding.h"\n%s\n' "$4" >"$source"
+    if "$cc" "${strict[@]}" -c "$source" -o "$room/warned.o" 2>"$room/warnings"; then
+        fail "$1"
+    else
+        is "$1" 1 "$(grep -c "error: .*$2" "$room/warnings")"
+    fi
+    holds "$1, which is turned off" "$cc" "${strict[@]}" "$3" -c "$source" -o "$room/warned.o"
+}
+
+warned 'a status that is dropped' unused-result -DDE_NODISCARD= \
+    'void drop(size_t *len) { de_encode_len(DE_BASE64, 1, len); }'
+warned 'a null pointer' nonnull '-DDE_NONNULL(...)=' \
+    'de_status pass(void) { return de_encode_len(DE_BASE64, 1, NULL); }'
+
+version=$(sed -n 's/^## //p' CHANGELOG.md | head -n 1)
+macros=$(echo 'DE_VERSION_MAJOR.DE_VERSION_MINOR.DE_VERSION_PATCH DE_VERSION' |
+    cat "$lib/data_encoding.h" - | "$cc" -E -P -x c - | tail -n 1 | sed 's/ *\. */./g')
+is 'the version of the header' "$version \"$version\"" "$macros"
+is 'the name of the shared library' "libdata_encoding.so.${version%%.*}" \
+    "$(readelf -d "$lib/libdata_encoding.so" | sed -n 's/.*SONAME.*\[\(.*\)\]/\1/p')"
 is 'what the shared library gives' "$(grep -o '^[a-z].*\bde_[a-z_]*(' "$lib/data_encoding.h" |
     grep -o 'de_[a-z_]*($' | tr -d '(' | sort)" \
     "$(nm -D --defined-only "$lib/libdata_encoding.so" | sed 's/.* //' | sort)"

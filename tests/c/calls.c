@@ -1,5 +1,7 @@
 /* Calls each function of data_encoding.h with vectors from outside, with damaged texts, and so that
  * each status is returned. Prints a line for each test that fails, and then how many passed. */
+/* Null pointers are passed, and refused. */
+#define DE_NONNULL(...)
 #include "data_encoding.h"
 #include "tests.h"
 
@@ -458,6 +460,7 @@ int main(void) {
     own();
     unmade();
     stored();
+    holds("the version", strcmp(de_version(), DE_VERSION) == 0);
     holds("a text", strcmp(de_status_text(DE_INVALID_SYMBOL), "invalid symbol") == 0);
     holds("a text", strcmp(de_status_text(DE_NO_ENCODING), "no encoding") == 0);
     holds("a text", strcmp(de_status_text((de_status)99), "unknown status") == 0);
