@@ -1,7 +1,7 @@
 #!/usr/bin/env bash
-# Proves the library and builds it for programs in C: libdata_encoding.a, libdata_encoding.so and
-# the file with the number of its interface that this is a link to, data_encoding.h and
-# data_encoding.pc in DIR, which is made.
+# Proves the library and builds it for programs in C, in DIR, which is made: libdata_encoding.a;
+# libdata_encoding.so, a link to the file with the number of the interface in its name;
+# data_encoding.h; and the files of package/, by which pkg-config and CMake find these.
 #
 # usage: crates/data_encoding_c/build.sh [--cpu NAME] DIR
 #
@@ -53,13 +53,7 @@ ar crs "$target/libdata_encoding.a" "$room"/*.o
     "$room"/*.o
 ln -sf "$shared" "$target/libdata_encoding.so"
 cp "$header" "$target"
-cat >"$target/data_encoding.pc" <<END
-libdir=$target
-includedir=$target
-
-Name: data_encoding
-Description: Base encodings, proved
-Version: $version
-Libs: -L\${libdir} -ldata_encoding
-Cflags: -I\${includedir}
-END
+for file in package/*; do
+    sed "s/@VERSION@/$version/; s/@MINOR@/${version%.*}/; s/@SHARED@/$shared/" "$file" \
+        >"$target/$(basename "$file")"
+done
