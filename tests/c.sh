@@ -99,6 +99,27 @@ warned 'a status that is dropped' unused-result -DDE_NODISCARD= \
 warned 'a null pointer' nonnull '-DDE_NONNULL(...)=' \
     'de_status pass(void) { return de_encode_len(DE_BASE64, 1, NULL); }'
 
+# Each call of the header that is not marked for the pointers that it refuses: all but those to bytes
+# and *detail.
+is 'the marks of null pointers' '' "$(awk '
+    /^DE_EXPORT/ { marks = $0; call = ""; next }
+    marks != "" { call = call $0 }
+    marks != "" && /;/ {
+        wanted = ""
+        count = split(call, parameters, /[(,]/)
+        for (at = 2; at <= count; at++) {
+            if (parameters[at] ~ /\*/ && parameters[at] !~ /(void|char) \*|\*detail/) {
+                wanted = wanted (wanted == "" ? "" : ", ") (at - 1)
+            }
+        }
+        given = marks ~ /DE_NONNULL/ ? marks : ""
+        gsub(/.*DE_NONNULL\(|\).*/, "", given)
+        if (given != wanted) print call
+        marks = ""
+    }' "$lib/data_encoding.h")"
+is 'the statuses that may be dropped' de_decoder_new "$(grep -A 1 '^DE_EXPORT' "$lib/data_encoding.h" |
+    grep -v DE_NODISCARD | grep -A 1 '^DE_EXPORT' | sed -n 's/^de_status \(de_[a-z_]*\)(.*/\1/p')"
+
 version=$(sed -n 's/^## //p' CHANGELOG.md | head -n 1)
 macros=$(echo 'DE_VERSION_MAJOR.DE_VERSION_MINOR.DE_VERSION_PATCH DE_VERSION' |
     cat "$lib/data_encoding.h" - | "$cc" -E -P -x c - | tail -n 1 | sed 's/ *\. */./g')
