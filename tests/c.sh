@@ -1,6 +1,6 @@
 #!/usr/bin/env bash
-# Builds the library for programs in C, calls it from C and C++ by the programs of tests/c/, which run
-# side by side, installs it, and tries the blocks of docs/C.md.
+# Builds the library for programs in C, calls it from C and C++ by the programs of tests/c/, which
+# run side by side, installs it, and tries the blocks of docs/C.md.
 #
 # usage: tests/c.sh [LIB]: where build.sh left the library; it is built where no folder is given.
 . "$(dirname "$0")/common.bash" || exit 1
@@ -99,8 +99,8 @@ warned 'a status that is dropped' unused-result -DDE_NODISCARD= \
 warned 'a null pointer' nonnull '-DDE_NONNULL(...)=' \
     'de_status pass(void) { return de_encode_len(DE_BASE64, 1, NULL); }'
 
-# Each call of the header that is not marked for the pointers that it refuses: all but those to bytes
-# and *detail.
+# Each call of the header that is not marked for the pointers that it refuses: all but those to
+# bytes and *detail.
 is 'the marks of null pointers' '' "$(awk '
     /^DE_EXPORT/ { marks = $0; call = ""; next }
     marks != "" { call = call $0 }
@@ -117,14 +117,16 @@ is 'the marks of null pointers' '' "$(awk '
         if (given != wanted) print call
         marks = ""
     }' "$lib/data_encoding.h")"
-is 'the statuses that may be dropped' de_decoder_new "$(grep -A 1 '^DE_EXPORT' "$lib/data_encoding.h" |
-    grep -v DE_NODISCARD | grep -A 1 '^DE_EXPORT' | sed -n 's/^de_status \(de_[a-z_]*\)(.*/\1/p')"
+is 'the statuses that may be dropped' de_decoder_new "$(awk '
+    /^de_status / && marks !~ /DE_NODISCARD/ { sub(/\(.*/, ""); print $2 }
+    { marks = $0 }' "$lib/data_encoding.h")"
 
 version=$(sed -n 's/^## //p' CHANGELOG.md | head -n 1)
 macros=$(echo 'DE_VERSION_MAJOR.DE_VERSION_MINOR.DE_VERSION_PATCH DE_VERSION' |
     cat "$lib/data_encoding.h" - | "$cc" -E -P -x c - | tail -n 1 | sed 's/ *\. */./g')
 is 'the version of the header' "$version \"$version\"" "$macros"
-is 'the name of the shared library' "libdata_encoding.so.${version%%.*}" \
+interface=$(sed -n 's/^#define DE_INTERFACE //p' "$lib/data_encoding.h")
+is 'the name of the shared library' "libdata_encoding.so.$interface" \
     "$(readelf -d "$lib/libdata_encoding.so" | sed -n 's/.*SONAME.*\[\(.*\)\]/\1/p')"
 is 'what the shared library gives' "$(grep -o '^[a-z].*\bde_[a-z_]*(' "$lib/data_encoding.h" |
     grep -o 'de_[a-z_]*($' | tr -d '(' | sort)" \
@@ -134,13 +136,13 @@ files() {
     find "$1" -type f -printf '%m %P\n' -o -type l -printf '%l %P\n' | sort -k 2
 }
 
-installed='644 include/data_encoding.h
+installed="644 include/data_encoding.h
 644 lib/cmake/data_encoding/data_encoding-config-version.cmake
 644 lib/cmake/data_encoding/data_encoding-config.cmake
 644 lib/libdata_encoding.a
-libdata_encoding.so.0 lib/libdata_encoding.so
-755 lib/libdata_encoding.so.0
-644 lib/pkgconfig/data_encoding.pc'
+libdata_encoding.so.$interface lib/libdata_encoding.so
+755 lib/libdata_encoding.so.$interface
+644 lib/pkgconfig/data_encoding.pc"
 install=$(realpath crates/data_encoding_c/install.sh)
 
 # in_room COMMAND..: runs it in the folder of this test.
@@ -154,7 +156,7 @@ status() {
 
 holds 'installs' in_room "$install" "$lib" prefix
 is 'the files' "$installed" "$(files "$room/prefix")"
-for file in libdata_encoding.a libdata_encoding.so.0 libdata_encoding.so; do
+for file in libdata_encoding.a libdata_encoding.so; do
     holds "$file" cmp "$lib/$file" "$room/prefix/lib/$file"
 done
 holds data_encoding.h cmp "$lib/data_encoding.h" "$room/prefix/include/data_encoding.h"
@@ -190,14 +192,14 @@ is 'the first of docs/C.md' 'crates/data_encoding_c/build.sh lib' "${commands[0]
 is 'the third of docs/C.md' 'crates/data_encoding_c/install.sh lib /usr/local' "${commands[2]}"
 is 'the program of docs/C.md' SGVsbG8= "$(in_room bash -c "${commands[1]} && ./hello" 2>&1)"
 
-# An installed library is found where it was moved to, also where the name of the folder has a blank.
+# An installed library is found after a move, also if the name of its folder has a blank.
 holds 'installs to be moved' in_room "$install" "$lib" first
 mkdir "$room/moved to"
 mv "$room/first" "$room/moved to/usr"
 moved="$room/moved to/usr"
 
-# by_pkg_config LIB FOLDER COMMAND: what the program of docs/C.md prints that the command builds, with
-# the library in LIB and its file for pkg-config in the folder.
+# by_pkg_config LIB FOLDER COMMAND: what the program of docs/C.md prints that the command builds,
+# with the library in LIB and its file for pkg-config in the folder.
 by_pkg_config() {
     rm -f "$room/hello"
     LD_LIBRARY_PATH=$1 PKG_CONFIG_PATH=$2 in_room bash -c "$3 && ./hello" 2>&1
@@ -229,7 +231,7 @@ if command -v cmake >/dev/null; then
     is 'CMake' SGVsbG8= "$(by_cmake "$lib")"
     is 'CMake, of an installed library' SGVsbG8= "$(by_cmake "$moved")"
     is 'CMake takes the shared library' 1 \
-        "$(readelf -d "$room/built/hello" | grep -c 'NEEDED.*\[libdata_encoding\.so\.0\]')"
+        "$(readelf -d "$room/built/hello" | grep -c "NEEDED.*\[libdata_encoding\.so\.$interface\]")"
     block cmake | sed 's/::data_encoding/::static/' >"$room/cmake/CMakeLists.txt"
     is 'CMake, of the static library' SGVsbG8= "$(by_cmake "$moved")"
     is 'CMake takes the static library' 0 \

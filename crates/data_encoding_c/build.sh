@@ -34,7 +34,7 @@ fi
 
 header=include/data_encoding.h
 version=$(sed -n 's/^#define DE_VERSION "\(.*\)"$/\1/p' "$header")
-shared=libdata_encoding.so.${version%%.*}
+shared=libdata_encoding.so.$(sed -n 's/^#define DE_INTERFACE //p' "$header")
 
 for source in glue/*.c; do
     "$cc" -std=c99 -Wall -Wextra -Wpedantic -Werror -O2 -fPIC -fvisibility=hidden ${CFLAGS:-} \

@@ -61,8 +61,8 @@ esac
 prefix=${DESTDIR:+$(absolute "$DESTDIR")}$(absolute "$2")
 
 # This script may be called by a symbolic link.
-here=$(dirname "$(readlink -f "$0")")
-shared=libdata_encoding.so.$(sed -n 's/^#define DE_VERSION_MAJOR //p' "$here/include/data_encoding.h")
+header=$(dirname "$(readlink -f "$0")")/include/data_encoding.h
+shared=libdata_encoding.so.$(sed -n 's/^#define DE_INTERFACE //p' "$header")
 link=$prefix/lib/libdata_encoding.so
 if [ -z "$dir" ]; then
     files | while read -r file _ folder; do rm -f "$prefix/$folder/$file"; done

@@ -1,5 +1,5 @@
-/* The proved half is given a bool that is one, whatever the caller's has before. The linker puts the
- * functions of this file between the halves, by --wrap. */
+/* The proved half is given a bool that is one, whatever the caller's has before. The linker puts
+ * the functions of this file between the halves, by --wrap. */
 #include "data_encoding.h"
 #include "tests.h"
 

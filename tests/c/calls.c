@@ -349,7 +349,8 @@ static void own(void) {
     is("no bytes at null", DE_OK, de_encoding_encode(&encoding, NULL, 0, NULL, 0, &size));
 }
 
-/* A de_encoding is refused where any byte of its mark is another, and where all its bytes are one. */
+/* A de_encoding is refused where any byte of its mark is another, and where all its bytes are the
+ * same. */
 static void unmade(void) {
     de_specification asked = DE_SPECIFICATION;
     de_encoding encoding;

@@ -28,6 +28,10 @@ extern "C" {
 #define DE_VERSION_PATCH 0
 #define DE_VERSION "0.1.0"
 
+/* The number in the name of the shared library, which is raised where programs that were built with
+ * it before do not run with it. */
+#define DE_INTERFACE 0
+
 /* What a compiler is told of the calls. A program may define each of these before it includes this
  * header, also as nothing. */
 
@@ -51,9 +55,9 @@ extern "C" {
 #endif
 #endif
 
-/* A compiler warns where one of these parameters, counted from 1, is a null pointer. It may also take
- * it that none is, and leave out what the program does about one that is: a program that relies on
- * DE_NULL_POINTER defines this as nothing. */
+/* A compiler warns where one of these parameters, counted from 1, is a null pointer. It may also
+ * take it that none is, and leave out what the program does about one that is: a program that relies
+ * on DE_NULL_POINTER defines this as nothing. */
 #ifndef DE_NONNULL
 #ifdef __GNUC__
 #define DE_NONNULL(...) __attribute__((nonnull(__VA_ARGS__)))
@@ -62,7 +66,8 @@ extern "C" {
 #endif
 #endif
 
-/* The version of the library, as DE_VERSION is that of the header: never null, and valid for ever. */
+/* The version of the library, as DE_VERSION is that of the header: never null, and valid for
+ * ever. */
 DE_EXPORT
 const char *de_version(void);
 

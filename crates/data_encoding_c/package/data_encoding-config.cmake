@@ -1,5 +1,6 @@
 # Makes the targets data_encoding::data_encoding, the shared library, and data_encoding::static, the
-# static one. The folders are found from that of this file, so that the library may be moved with it.
+# static one. The folders are found from that of this file, so that the library may be moved with
+# it.
 get_filename_component(data_encoding_folder "${CMAKE_CURRENT_LIST_DIR}" REALPATH)
 set(data_encoding_libdir "${data_encoding_folder}")
 set(data_encoding_includedir "${data_encoding_folder}")
