@@ -131,6 +131,7 @@ is 'the name of the shared library' "libdata_encoding.so.$interface" \
 is 'what the shared library gives' "$(grep -o '^[a-z].*\bde_[a-z_]*(' "$lib/data_encoding.h" |
     grep -o 'de_[a-z_]*($' | tr -d '(' | sort)" \
     "$(nm -D --defined-only "$lib/libdata_encoding.so" | sed 's/.* //' | sort)"
+
 # files FOLDER: the files below it, with their modes, and the links.
 files() {
     find "$1" -type f -printf '%m %P\n' -o -type l -printf '%l %P\n' | sort -k 2
