@@ -1,6 +1,6 @@
 #!/usr/bin/env bash
-# Builds the library for programs in C, and calls it from C and C++: the programs of tests/c/, and the
-# blocks of docs/C.md. They run side by side.
+# Builds the library for programs in C, calls it from C and C++ by the programs of tests/c/, which
+# run side by side, installs it, and tries the blocks of docs/C.md.
 #
 # usage: tests/c.sh [LIB]: where build.sh left the library; it is built where no folder is given.
 . "$(dirname "$0")/common.bash" || exit 1
@@ -57,7 +57,11 @@ run_made() {
 program 'calls in C' "$cc" "${strict[@]}" tests/c/calls.c "$lib/libdata_encoding.a"
 program 'calls of the shared library' "$cc" "${strict[@]}" tests/c/calls.c "-L$lib" \
     -ldata_encoding "-Wl,-rpath,$lib"
+program 'calls with short enums' "$cc" "${strict[@]}" -fshort-enums tests/c/calls.c \
+    "$lib/libdata_encoding.a"
 program 'texts in pieces' "$cc" "${strict[@]}" tests/c/pieces.c "$lib/libdata_encoding.a"
+program 'what is written to a bool' "$cc" "${strict[@]}" tests/c/bools.c "$glue"/*.c \
+    "$lib/libdata_encoding.a" -Wl,--wrap=de_numbered_is_canonical,--wrap=de_held_is_canonical
 program 'two threads' "$cc" "${strict[@]}" tests/c/threads.c "$lib/libdata_encoding.a" -pthread
 begin 'the program of speed' "$cc" -O2 "${strict[@]}" tests/c/speed.c "$lib/libdata_encoding.a" \
     -o "$room/speed"
@@ -77,26 +81,171 @@ else
     skip 'calls in C++: no c++'
 fi
 
+# warned NAME WARNING OPTION CALL: a program with the call is not compiled, for this warning alone;
+# with the option, which defines a macro of the header, it is.
+warned() {
+    local source=$room/warned.c
+    printf '#include "data_encoding.h"\n%s\n' "$4" >"$source"
+    if "$cc" "${strict[@]}" -c "$source" -o "$room/warned.o" 2>"$room/warnings"; then
+        fail "$1"
+    else
+        is "$1" 1 "$(grep -c "error: .*$2" "$room/warnings")"
+    fi
+    holds "$1, which is turned off" "$cc" "${strict[@]}" "$3" -c "$source" -o "$room/warned.o"
+}
+
+warned 'a status that is dropped' unused-result -DDE_NODISCARD= \
+    'void drop(size_t *len) { de_encode_len(DE_BASE64, 1, len); }'
+warned 'a null pointer' nonnull '-DDE_NONNULL(...)=' \
+    'de_status pass(void) { return de_encode_len(DE_BASE64, 1, NULL); }'
+
+# Each call of the header that is not marked for the pointers that it refuses: all but those to
+# bytes and *detail.
+is 'the marks of null pointers' '' "$(awk '
+    /^DE_EXPORT/ { marks = $0; call = ""; next }
+    marks != "" { call = call $0 }
+    marks != "" && /;/ {
+        wanted = ""
+        count = split(call, parameters, /[(,]/)
+        for (at = 2; at <= count; at++) {
+            if (parameters[at] ~ /\*/ && parameters[at] !~ /(void|char) \*|\*detail/) {
+                wanted = wanted (wanted == "" ? "" : ", ") (at - 1)
+            }
+        }
+        given = marks ~ /DE_NONNULL/ ? marks : ""
+        gsub(/.*DE_NONNULL\(|\).*/, "", given)
+        if (given != wanted) print call
+        marks = ""
+    }' "$lib/data_encoding.h")"
+is 'the statuses that may be dropped' de_decoder_new "$(awk '
+    /^de_status / && marks !~ /DE_NODISCARD/ { sub(/\(.*/, ""); print $2 }
+    { marks = $0 }' "$lib/data_encoding.h")"
+
+version=$(sed -n 's/^## //p' CHANGELOG.md | head -n 1)
+macros=$(echo 'DE_VERSION_MAJOR.DE_VERSION_MINOR.DE_VERSION_PATCH DE_VERSION' |
+    cat "$lib/data_encoding.h" - | "$cc" -E -P -x c - | tail -n 1 | sed 's/ *\. */./g')
+is 'the version of the header' "$version \"$version\"" "$macros"
+interface=$(sed -n 's/^#define DE_INTERFACE //p' "$lib/data_encoding.h")
+is 'the name of the shared library' "libdata_encoding.so.$interface" \
+    "$(readelf -d "$lib/libdata_encoding.so" | sed -n 's/.*SONAME.*\[\(.*\)\]/\1/p')"
 is 'what the shared library gives' "$(grep -o '^[a-z].*\bde_[a-z_]*(' "$lib/data_encoding.h" |
     grep -o 'de_[a-z_]*($' | tr -d '(' | sort)" \
     "$(nm -D --defined-only "$lib/libdata_encoding.so" | sed 's/.* //' | sort)"
-if command -v pkg-config >/dev/null; then
-    is pkg-config "-I$lib -L$lib -ldata_encoding" "$(PKG_CONFIG_PATH=$lib \
-        pkg-config --cflags --libs data_encoding | sed 's/ *$//')"
-else
-    skip 'the file for pkg-config: no pkg-config'
-fi
 
-# block KIND: the block of docs/C.md of this kind.
+# files FOLDER: the files below it, with their modes, and the links.
+files() {
+    find "$1" -type f -printf '%m %P\n' -o -type l -printf '%l %P\n' | sort -k 2
+}
+
+installed="644 include/data_encoding.h
+644 lib/cmake/data_encoding/data_encoding-config-version.cmake
+644 lib/cmake/data_encoding/data_encoding-config.cmake
+644 lib/libdata_encoding.a
+libdata_encoding.so.$interface lib/libdata_encoding.so
+755 lib/libdata_encoding.so.$interface
+644 lib/pkgconfig/data_encoding.pc"
+install=$(realpath crates/data_encoding_c/install.sh)
+
+# in_room COMMAND..: runs it in the folder of this test.
+in_room() (cd "$room" && "$@")
+
+# status COMMAND..: the status it ends with, in the folder of this test.
+status() {
+    in_room "$@" >/dev/null 2>&1
+    echo $?
+}
+
+holds 'installs' in_room "$install" "$lib" prefix
+is 'the files' "$installed" "$(files "$room/prefix")"
+for file in libdata_encoding.a libdata_encoding.so; do
+    holds "$file" cmp "$lib/$file" "$room/prefix/lib/$file"
+done
+holds data_encoding.h cmp "$lib/data_encoding.h" "$room/prefix/include/data_encoding.h"
+echo other >"$room/prefix/lib/other"
+ln -s "$install" "$room/link"
+holds 'installs again, by a link' in_room ./link "$lib" prefix
+holds 'removes' in_room "$install" --remove prefix
+is 'what is left' '644 lib/other' "$(files "$room/prefix")"
+holds 'removes nothing' in_room "$install" --remove prefix
+for staged in beside "$room/staged"; do
+    DESTDIR=$staged holds "installs below $staged" in_room "$install" "$lib" /usr
+    is "the files below $staged" "$installed" "$(in_room files "$staged/usr")"
+    DESTDIR=$staged holds "removes below $staged" in_room "$install" --remove /usr
+    is "nothing is left below $staged" '' "$(in_room files "$staged")"
+done
+is 'no words' 2 "$(status "$install")"
+is 'no folder' 2 "$(status "$install" "$lib")"
+is 'nothing to remove from' 2 "$(status "$install" --remove)"
+is 'an option that there is not' 2 "$(status "$install" --delete prefix)"
+is 'too many words' 2 "$(status "$install" "$lib" prefix other)"
+is 'no library' 1 "$(status "$install" prefix prefix)"
+is 'nothing was installed' '644 lib/other' "$(files "$room/prefix")"
+
+# block KIND: the blocks of docs/C.md of this kind.
 block() {
     awk -v kind="$1" '/^```/ { inside = $0 == "```" kind; next } inside' docs/C.md
 }
 
+mapfile -t commands < <(block sh)
 block c >"$room/hello.c"
-commands=$(block sh)
-is 'the commands of docs/C.md' 'crates/data_encoding_c/build.sh lib' "${commands%%$'\n'*}"
-given=$(cd "$room" && bash -e -c "${commands#*$'\n'} && ./hello" 2>&1)
-is 'the program of docs/C.md' 'SGVsbG8=' "$given"
+is 'the commands of docs/C.md' 4 "${#commands[@]}"
+is 'the first of docs/C.md' 'crates/data_encoding_c/build.sh lib' "${commands[0]}"
+is 'the third of docs/C.md' 'crates/data_encoding_c/install.sh lib /usr/local' "${commands[2]}"
+is 'the program of docs/C.md' SGVsbG8= "$(in_room bash -c "${commands[1]} && ./hello" 2>&1)"
+
+# An installed library is found after a move, also if the name of its folder has a blank.
+holds 'installs to be moved' in_room "$install" "$lib" first
+mkdir "$room/moved to"
+mv "$room/first" "$room/moved to/usr"
+moved="$room/moved to/usr"
+
+# by_pkg_config LIB FOLDER COMMAND: what the program of docs/C.md prints that the command builds,
+# with the library in LIB and its file for pkg-config in the folder.
+by_pkg_config() {
+    rm -f "$room/hello"
+    LD_LIBRARY_PATH=$1 PKG_CONFIG_PATH=$2 in_room bash -c "$3 && ./hello" 2>&1
+}
+
+if command -v pkg-config >/dev/null; then
+    is 'pkg-config: the version' "$version" \
+        "$(PKG_CONFIG_PATH=$lib pkg-config --modversion data_encoding)"
+    is 'pkg-config' SGVsbG8= "$(by_pkg_config "$lib" "$lib" "${commands[3]}")"
+    is 'pkg-config, of an installed library' SGVsbG8= \
+        "$(by_pkg_config "$moved/lib" "$moved/lib/pkgconfig" "eval \"${commands[3]}\"")"
+else
+    skip 'the file for pkg-config: no pkg-config'
+fi
+
+# by_cmake FOLDER: what the program of docs/C.md prints that CMake builds by its block of that page,
+# with the library in the folder.
+by_cmake() {
+    rm -rf "$room/built"
+    in_room cmake -S cmake -B built "-DCMAKE_PREFIX_PATH=$1" >"$room/said" 2>&1 &&
+        in_room cmake --build built >>"$room/said" 2>&1 && "$room/built/hello" ||
+        tail -n 20 "$room/said"
+}
+
+if command -v cmake >/dev/null; then
+    mkdir "$room/cmake"
+    cp "$room/hello.c" "$room/cmake"
+    block cmake >"$room/cmake/CMakeLists.txt"
+    is 'CMake' SGVsbG8= "$(by_cmake "$lib")"
+    is 'CMake, of an installed library' SGVsbG8= "$(by_cmake "$moved")"
+    is 'CMake takes the shared library' 1 \
+        "$(readelf -d "$room/built/hello" | grep -c "NEEDED.*\[libdata_encoding\.so\.$interface\]")"
+    block cmake | sed 's/::data_encoding/::static/' >"$room/cmake/CMakeLists.txt"
+    is 'CMake, of the static library' SGVsbG8= "$(by_cmake "$moved")"
+    is 'CMake takes the static library' 0 \
+        "$(readelf -d "$room/built/hello" | grep -c 'NEEDED.*libdata_encoding')"
+    for refused in "${version%.*}.99" 0.99 99.1; do
+        block cmake | sed "s/data_encoding 0.1/data_encoding $refused/" \
+            >"$room/cmake/CMakeLists.txt"
+        is "CMake: no version $refused" 1 "$(by_cmake "$moved" |
+            grep -c 'compatible with requested version')"
+    done
+else
+    skip 'the package for CMake: no cmake'
+fi
 
 ended
 finish

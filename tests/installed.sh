@@ -142,6 +142,11 @@ is 'installs by a link, below another folder' 0 $?
 holds 'the program there' cmp "$program" staged/usr/bin/basecode
 DESTDIR=$room/staged ./link --remove /usr
 is 'and is removed' '' "$(find staged -type f)"
+DESTDIR=beside ./link /usr
+is 'installs below a folder beside' 0 $?
+holds 'the program beside' cmp "$program" beside/usr/bin/basecode
+DESTDIR=beside ./link --remove /usr
+is 'and is removed from there' '' "$(find beside -type f)"
 
 if command -v fish >/dev/null; then
     # offered LINE: what fish completes it to, without descriptions.

@@ -16,6 +16,14 @@ usage() {
     exit 2
 }
 
+# absolute FOLDER: its path from the root.
+absolute() {
+    case $1 in
+    /*) echo "$1" ;;
+    *) echo "$PWD/$1" ;;
+    esac
+}
+
 # Each line: a file of this folder, its mode, and where it goes below PREFIX.
 files() {
     cat <<LINES
@@ -71,8 +79,6 @@ esac
 [ $# = 1 ] || usage
 case $1 in
 '' | -*) usage ;;
-/*) prefix=$1 ;;
-*) prefix=$PWD/$1 ;;
 esac
 case $cpu in
 '' | x86-64 | x86-64-v2 | x86-64-v3) ;;
@@ -82,7 +88,7 @@ case $cpu in
     ;;
 esac
 
-prefix=${DESTDIR-}$prefix
+prefix=${DESTDIR:+$(absolute "$DESTDIR")}$(absolute "$1")
 
 # This script may be called by a symbolic link.
 cd "$(dirname "$(readlink -f "$0")")"

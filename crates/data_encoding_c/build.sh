@@ -1,6 +1,7 @@
 #!/usr/bin/env bash
-# Proves the library and builds it for programs in C: libdata_encoding.a, libdata_encoding.so,
-# data_encoding.h and data_encoding.pc in DIR, which is made.
+# Proves the library and builds it for programs in C, in DIR, which is made: libdata_encoding.a;
+# libdata_encoding.so, a link to the file with the number of the interface in its name;
+# data_encoding.h; and the files of package/, by which pkg-config and CMake find these.
 #
 # usage: crates/data_encoding_c/build.sh [--cpu NAME] DIR
 #
@@ -31,30 +32,28 @@ if ! rt lib ${cpu[@]+"${cpu[@]}"} >"$log" 2>&1; then
     exit 1
 fi
 
+header=include/data_encoding.h
+version=$(sed -n 's/^#define DE_VERSION "\(.*\)"$/\1/p' "$header")
+shared=libdata_encoding.so.$(sed -n 's/^#define DE_INTERFACE //p' "$header")
+
 for source in glue/*.c; do
-    "$cc" -std=c99 -Wall -Wextra -Wpedantic -Werror -O2 -fPIC ${CFLAGS:-} -Iinclude -c "$source" \
-        -o "$room/$(basename "$source" .c).o"
+    "$cc" -std=c99 -Wall -Wextra -Wpedantic -Werror -O2 -fPIC -fvisibility=hidden ${CFLAGS:-} \
+        -Iinclude -c "$source" -o "$room/$(basename "$source" .c).o"
 done
 (cd "$room" && ar x "$OLDPWD/out/libdata_encoding_c.a")
 rm -f "$target/libdata_encoding.a"
 ar crs "$target/libdata_encoding.a" "$room"/*.o
-# What the header does not name stays inside.
-cat >"$room/names" <<'END'
+# The proved half has names too that the header does not have: they stay inside.
 {
-    global: de_status_text; de_encode*; de_decode*; de_is_canonical; de_encoding_*; de_name;
-        de_number_named;
-    local: *;
-};
-END
-"$cc" -shared -Wl,--version-script="$room/names" -o "$target/libdata_encoding.so" "$room"/*.o
-cp include/data_encoding.h "$target"
-cat >"$target/data_encoding.pc" <<END
-libdir=$target
-includedir=$target
-
-Name: data_encoding
-Description: Base encodings, proved
-Version: 0.1.0
-Libs: -L\${libdir} -ldata_encoding
-Cflags: -I\${includedir}
-END
+    echo '{ global:'
+    sed -n '/^DE_EXPORT/ { n; s/.*[ *]\(de_[a-z_]*\)(.*/    \1;/p; }' "$header"
+    echo 'local: *; };'
+} >"$room/names"
+"$cc" -shared -Wl,--version-script="$room/names" -Wl,-soname,"$shared" -o "$target/$shared" \
+    "$room"/*.o
+ln -sf "$shared" "$target/libdata_encoding.so"
+cp "$header" "$target"
+for file in package/*; do
+    sed "s/@VERSION@/$version/; s/@MINOR@/${version%.*}/; s/@SHARED@/$shared/" "$file" \
+        >"$target/$(basename "$file")"
+done

@@ -1,5 +1,7 @@
 /* Calls each function of data_encoding.h with vectors from outside, with damaged texts, and so that
  * each status is returned. Prints a line for each test that fails, and then how many passed. */
+/* Null pointers are passed, and refused. */
+#define DE_NONNULL(...)
 #include "data_encoding.h"
 #include "tests.h"
 
@@ -140,6 +142,19 @@ static void named(void) {
     }
 }
 
+/* The library writes four bytes to a number, whatever a compiler takes for an enum. */
+static void sizes(void) {
+    struct {
+        de_number number;
+        unsigned char next[4];
+    } found = {77, {1, 2, 3, 4}};
+    is("the size of a status", 4, sizeof(de_status));
+    is("the size of a number", 4, sizeof(de_number));
+    is("a number and no more", DE_OK, de_number_named("HEXUPPER", 8, &found.number));
+    is("a number and no more", DE_HEXUPPER, found.number);
+    holds("a number and no more", memcmp(found.next, "\1\2\3\4", 4) == 0);
+}
+
 static void no_names(void) {
     char output[8] = "untold!";
     size_t size = 77;
@@ -221,7 +236,7 @@ static de_status made(const de_specification *asked, size_t *detail) {
     memset(&encoding, 0xa5, sizeof encoding);
     status = de_encoding_new(&encoding, asked, detail);
     if (status != DE_OK) {
-        holds("nothing is made", encoding.made == 0xa5 && encoding.tables[0] == 0xa5 &&
+        holds("nothing is made", encoding.made[0] == 0xa5 && encoding.tables[0] == 0xa5 &&
                                      encoding.tables[DE_TABLES - 1] == 0xa5);
     }
     return status;
@@ -334,6 +349,33 @@ static void own(void) {
     is("no bytes at null", DE_OK, de_encoding_encode(&encoding, NULL, 0, NULL, 0, &size));
 }
 
+/* A de_encoding is refused where any byte of its mark is another, and where all its bytes are the
+ * same. */
+static void unmade(void) {
+    de_specification asked = DE_SPECIFICATION;
+    de_encoding encoding;
+    de_encoding copy;
+    size_t size = 77;
+    size_t index;
+    int byte;
+    asked.symbols = "01";
+    asked.symbols_len = 2;
+    is("bits", DE_OK, de_encoding_new(&encoding, &asked, NULL));
+    is("bytes of the mark", 8, sizeof encoding.made);
+    for (index = 0; index < sizeof encoding.made; index++) {
+        copy = encoding;
+        copy.made[index] ^= 1;
+        is("another mark", DE_NO_ENCODING, de_encoding_encode_len(&copy, 1, &size));
+    }
+    for (byte = 0; byte < 256; byte++) {
+        memset(&copy, byte, sizeof copy);
+        is("one byte", DE_NO_ENCODING, de_encoding_encode_len(&copy, 1, &size));
+    }
+    is("nothing is changed", 77, size);
+    is("bits", DE_OK, de_encoding_encode_len(&encoding, 1, &size));
+    is("bits", 8, size);
+}
+
 /* What a layout is read as has this layout again, and encodes alike; a layout of which one byte is
  * changed is refused, or is that of another encoding. */
 static void layouts(const de_specification *asked) {
@@ -412,11 +454,14 @@ int main(void) {
     numbers();
     canonical();
     named();
+    sizes();
     no_names();
     statuses();
     refusals();
     own();
+    unmade();
     stored();
+    holds("the version", strcmp(de_version(), DE_VERSION) == 0);
     holds("a text", strcmp(de_status_text(DE_INVALID_SYMBOL), "invalid symbol") == 0);
     holds("a text", strcmp(de_status_text(DE_NO_ENCODING), "no encoding") == 0);
     holds("a text", strcmp(de_status_text((de_status)99), "unknown status") == 0);

@@ -1,6 +1,8 @@
 /* Decodes short texts in two and three pieces, cut everywhere, by number and by an encoding of the
  * caller's own, and compares with what de_decode tells of the whole; and calls so that each status
  * of a decoder is returned. Prints a line for each test that fails, and then how many passed. */
+/* Null pointers are passed, and refused. */
+#define DE_NONNULL(...)
 #include "data_encoding.h"
 #include "tests.h"
 

@@ -1,4 +1,7 @@
 /* The calls of data_encoding.h over those that are proved, which take no null pointer. */
+
+/* What tests a pointer would be dropped here by a compiler that takes it that it is not null. */
+#define DE_NONNULL(...)
 #include "data_encoding.h"
 
 #include <string.h>
@@ -14,18 +17,19 @@ struct form {
     bool concatenate;
 };
 
-unsigned de_numbered_encode_len(unsigned number, size_t len, size_t *text_len);
-unsigned de_numbered_encode(unsigned number, const byte *input, size_t input_len, byte *output,
-                            size_t output_len, size_t *written);
-unsigned de_numbered_decode_len(unsigned number, size_t len, size_t *most);
-unsigned de_numbered_decode(unsigned number, const byte *input, size_t input_len, byte *output,
-                            size_t output_len, de_decoded *decoded);
-unsigned de_numbered_is_canonical(unsigned number, bool *canonical);
-unsigned de_numbered_name(unsigned number, byte *output, size_t output_len, size_t *written);
-unsigned de_named_number(const byte *name, size_t name_len, unsigned *number);
+de_status de_numbered_encode_len(de_number number, size_t len, size_t *text_len);
+de_status de_numbered_encode(de_number number, const byte *input, size_t input_len, byte *output,
+                             size_t output_len, size_t *written);
+de_status de_numbered_decode_len(de_number number, size_t len, size_t *most);
+de_status de_numbered_decode(de_number number, const byte *input, size_t input_len, byte *output,
+                             size_t output_len, de_decoded *decoded);
+de_status de_numbered_is_canonical(de_number number, bool *canonical);
+de_status de_numbered_name(de_number number, byte *output, size_t output_len, size_t *written);
+de_status de_named_number(const byte *name, size_t name_len, de_number *number);
+
 /* What the library returns of an encoding that is asked for. */
 struct made {
-    uint32_t status;
+    de_status status;
     size_t detail;
     byte held[DE_TABLES];
 };
@@ -35,31 +39,31 @@ struct made de_held_new(const struct form *form, const byte *symbols, size_t sym
                         size_t separator_len, const byte *from, size_t from_len, const byte *to,
                         size_t to_len);
 struct made de_held_read(const byte *bytes, size_t len);
-unsigned de_held_layout(const byte *held, byte *output, size_t output_len, size_t *written);
-unsigned de_held_encode_len(const byte *held, size_t len, size_t *text_len);
-unsigned de_held_encode(const byte *held, const byte *input, size_t input_len, byte *output,
-                        size_t output_len, size_t *written);
-unsigned de_held_decode_len(const byte *held, size_t len, size_t *most);
-unsigned de_held_decode(const byte *held, const byte *input, size_t input_len, byte *output,
-                        size_t output_len, de_decoded *decoded);
-unsigned de_held_is_canonical(const byte *held, bool *canonical);
+de_status de_held_layout(const byte *held, byte *output, size_t output_len, size_t *written);
+de_status de_held_encode_len(const byte *held, size_t len, size_t *text_len);
+de_status de_held_encode(const byte *held, const byte *input, size_t input_len, byte *output,
+                         size_t output_len, size_t *written);
+de_status de_held_decode_len(const byte *held, size_t len, size_t *most);
+de_status de_held_decode(const byte *held, const byte *input, size_t input_len, byte *output,
+                         size_t output_len, de_decoded *decoded);
+de_status de_held_is_canonical(const byte *held, bool *canonical);
 void de_plain_decoder_new(de_decoder *decoder);
-unsigned de_numbered_decoder_most(unsigned number, const de_decoder *decoder, size_t len,
-                                  size_t *most);
-unsigned de_numbered_decoder_read(unsigned number, de_decoder *decoder, const byte *input,
-                                  size_t input_len, byte *output, size_t output_len,
-                                  size_t *written);
-unsigned de_numbered_decoder_finish(unsigned number, const de_decoder *decoder, byte *output,
-                                    size_t output_len, de_decoded *decoded);
-unsigned de_held_decoder_most(const byte *held, const de_decoder *decoder, size_t len,
-                              size_t *most);
-unsigned de_held_decoder_read(const byte *held, de_decoder *decoder, const byte *input,
-                              size_t input_len, byte *output, size_t output_len, size_t *written);
-unsigned de_held_decoder_finish(const byte *held, const de_decoder *decoder, byte *output,
-                                size_t output_len, de_decoded *decoded);
+de_status de_numbered_decoder_most(de_number number, const de_decoder *decoder, size_t len,
+                                   size_t *most);
+de_status de_numbered_decoder_read(de_number number, de_decoder *decoder, const byte *input,
+                                   size_t input_len, byte *output, size_t output_len,
+                                   size_t *written);
+de_status de_numbered_decoder_finish(de_number number, const de_decoder *decoder, byte *output,
+                                     size_t output_len, de_decoded *decoded);
+de_status de_held_decoder_most(const byte *held, const de_decoder *decoder, size_t len,
+                               size_t *most);
+de_status de_held_decoder_read(const byte *held, de_decoder *decoder, const byte *input,
+                               size_t input_len, byte *output, size_t output_len, size_t *written);
+de_status de_held_decoder_finish(const byte *held, const de_decoder *decoder, byte *output,
+                                 size_t output_len, de_decoded *decoded);
 
-/* What marks a de_encoding that was made. */
-#define MADE 0xde
+/* What marks a de_encoding that was made: eight bytes of no pattern. */
+static const byte made_mark[8] = {0xde, 0x3b, 0x92, 0x67, 0xf4, 0x0d, 0xa8, 0x51};
 
 /* What no bytes are read from, and written to. */
 static const byte no_bytes[1];
@@ -82,16 +86,20 @@ static byte *out(void *bytes, size_t len) {
 }
 
 static bool is_held(const de_encoding *encoding) {
-    return encoding->made == MADE;
+    return memcmp(encoding->made, made_mark, sizeof made_mark) == 0;
 }
 
 /* Where an encoding is made, it is stored. */
 static de_status stored(de_encoding *encoding, const struct made *made) {
     if (made->status == DE_OK) {
-        encoding->made = MADE;
+        memcpy(encoding->made, made_mark, sizeof made_mark);
         memcpy(encoding->tables, made->held, sizeof encoding->tables);
     }
-    return (de_status)made->status;
+    return made->status;
+}
+
+const char *de_version(void) {
+    return DE_VERSION;
 }
 
 const char *de_status_text(de_status status) {
@@ -117,15 +125,14 @@ const char *de_status_text(de_status status) {
         "no encoding",
         "no decoder",
     };
-    unsigned index = (unsigned)status;
-    return index < sizeof texts / sizeof *texts ? texts[index] : "unknown status";
+    return status < sizeof texts / sizeof *texts ? texts[status] : "unknown status";
 }
 
 de_status de_encode_len(de_number number, size_t len, size_t *text_len) {
     if (text_len == NULL) {
         return DE_NULL_POINTER;
     }
-    return (de_status)de_numbered_encode_len((unsigned)number, len, text_len);
+    return de_numbered_encode_len(number, len, text_len);
 }
 
 de_status de_encode(de_number number, const void *input, size_t input_len, char *output,
@@ -135,15 +142,14 @@ de_status de_encode(de_number number, const void *input, size_t input_len, char 
     if (from == NULL || to == NULL || written == NULL) {
         return DE_NULL_POINTER;
     }
-    return (de_status)de_numbered_encode((unsigned)number, from, input_len, to, output_len,
-                                         written);
+    return de_numbered_encode(number, from, input_len, to, output_len, written);
 }
 
 de_status de_decode_len(de_number number, size_t len, size_t *most) {
     if (most == NULL) {
         return DE_NULL_POINTER;
     }
-    return (de_status)de_numbered_decode_len((unsigned)number, len, most);
+    return de_numbered_decode_len(number, len, most);
 }
 
 de_status de_decode(de_number number, const char *input, size_t input_len, void *output,
@@ -153,15 +159,21 @@ de_status de_decode(de_number number, const char *input, size_t input_len, void 
     if (from == NULL || to == NULL || decoded == NULL) {
         return DE_NULL_POINTER;
     }
-    return (de_status)de_numbered_decode((unsigned)number, from, input_len, to, output_len,
-                                         decoded);
+    return de_numbered_decode(number, from, input_len, to, output_len, decoded);
 }
 
+/* What a caller's bool has before the call may be no bool: the answer is taken in one that is. */
 de_status de_is_canonical(de_number number, bool *canonical) {
+    bool answer = false;
+    de_status status;
     if (canonical == NULL) {
         return DE_NULL_POINTER;
     }
-    return (de_status)de_numbered_is_canonical((unsigned)number, canonical);
+    status = de_numbered_is_canonical(number, &answer);
+    if (status == DE_OK) {
+        *canonical = answer;
+    }
+    return status;
 }
 
 de_status de_name(de_number number, char *output, size_t output_len, size_t *written) {
@@ -169,19 +181,19 @@ de_status de_name(de_number number, char *output, size_t output_len, size_t *wri
     if (to == NULL || written == NULL) {
         return DE_NULL_POINTER;
     }
-    return (de_status)de_numbered_name((unsigned)number, to, output_len, written);
+    return de_numbered_name(number, to, output_len, written);
 }
 
 de_status de_number_named(const char *name, size_t name_len, de_number *number) {
     const byte *from = in(name, name_len);
-    unsigned found = 0;
+    de_number found = 0;
     de_status status;
     if (from == NULL || number == NULL) {
         return DE_NULL_POINTER;
     }
-    status = (de_status)de_named_number(from, name_len, &found);
+    status = de_named_number(from, name_len, &found);
     if (status == DE_OK) {
-        *number = (de_number)found;
+        *number = found;
     }
     return status;
 }
@@ -231,7 +243,7 @@ de_status de_encoding_layout(const de_encoding *encoding, void *output, size_t o
     if (!is_held(encoding)) {
         return DE_NO_ENCODING;
     }
-    return (de_status)de_held_layout(encoding->tables, to, output_len, written);
+    return de_held_layout(encoding->tables, to, output_len, written);
 }
 
 de_status de_encoding_read(de_encoding *encoding, const void *layout, size_t len) {
@@ -251,7 +263,7 @@ de_status de_encoding_encode_len(const de_encoding *encoding, size_t len, size_t
     if (!is_held(encoding)) {
         return DE_NO_ENCODING;
     }
-    return (de_status)de_held_encode_len(encoding->tables, len, text_len);
+    return de_held_encode_len(encoding->tables, len, text_len);
 }
 
 de_status de_encoding_encode(const de_encoding *encoding, const void *input, size_t input_len,
@@ -264,7 +276,7 @@ de_status de_encoding_encode(const de_encoding *encoding, const void *input, siz
     if (!is_held(encoding)) {
         return DE_NO_ENCODING;
     }
-    return (de_status)de_held_encode(encoding->tables, from, input_len, to, output_len, written);
+    return de_held_encode(encoding->tables, from, input_len, to, output_len, written);
 }
 
 de_status de_encoding_decode_len(const de_encoding *encoding, size_t len, size_t *most) {
@@ -274,7 +286,7 @@ de_status de_encoding_decode_len(const de_encoding *encoding, size_t len, size_t
     if (!is_held(encoding)) {
         return DE_NO_ENCODING;
     }
-    return (de_status)de_held_decode_len(encoding->tables, len, most);
+    return de_held_decode_len(encoding->tables, len, most);
 }
 
 de_status de_encoding_decode(const de_encoding *encoding, const char *input, size_t input_len,
@@ -287,17 +299,23 @@ de_status de_encoding_decode(const de_encoding *encoding, const char *input, siz
     if (!is_held(encoding)) {
         return DE_NO_ENCODING;
     }
-    return (de_status)de_held_decode(encoding->tables, from, input_len, to, output_len, decoded);
+    return de_held_decode(encoding->tables, from, input_len, to, output_len, decoded);
 }
 
 de_status de_encoding_is_canonical(const de_encoding *encoding, bool *canonical) {
+    bool answer = false;
+    de_status status;
     if (encoding == NULL || canonical == NULL) {
         return DE_NULL_POINTER;
     }
     if (!is_held(encoding)) {
         return DE_NO_ENCODING;
     }
-    return (de_status)de_held_is_canonical(encoding->tables, canonical);
+    status = de_held_is_canonical(encoding->tables, &answer);
+    if (status == DE_OK) {
+        *canonical = answer;
+    }
+    return status;
 }
 
 de_status de_decoder_new(de_decoder *decoder) {
@@ -312,7 +330,7 @@ de_status de_decoder_most(de_number number, const de_decoder *decoder, size_t le
     if (decoder == NULL || most == NULL) {
         return DE_NULL_POINTER;
     }
-    return (de_status)de_numbered_decoder_most((unsigned)number, decoder, len, most);
+    return de_numbered_decoder_most(number, decoder, len, most);
 }
 
 de_status de_decoder_read(de_number number, de_decoder *decoder, const char *input,
@@ -322,8 +340,7 @@ de_status de_decoder_read(de_number number, de_decoder *decoder, const char *inp
     if (decoder == NULL || from == NULL || to == NULL || written == NULL) {
         return DE_NULL_POINTER;
     }
-    return (de_status)de_numbered_decoder_read((unsigned)number, decoder, from, input_len, to,
-                                               output_len, written);
+    return de_numbered_decoder_read(number, decoder, from, input_len, to, output_len, written);
 }
 
 de_status de_decoder_finish(de_number number, const de_decoder *decoder, void *output,
@@ -332,8 +349,7 @@ de_status de_decoder_finish(de_number number, const de_decoder *decoder, void *o
     if (decoder == NULL || to == NULL || decoded == NULL) {
         return DE_NULL_POINTER;
     }
-    return (de_status)de_numbered_decoder_finish((unsigned)number, decoder, to, output_len,
-                                                 decoded);
+    return de_numbered_decoder_finish(number, decoder, to, output_len, decoded);
 }
 
 de_status de_encoding_decoder_most(const de_encoding *encoding, const de_decoder *decoder,
@@ -344,7 +360,7 @@ de_status de_encoding_decoder_most(const de_encoding *encoding, const de_decoder
     if (!is_held(encoding)) {
         return DE_NO_ENCODING;
     }
-    return (de_status)de_held_decoder_most(encoding->tables, decoder, len, most);
+    return de_held_decoder_most(encoding->tables, decoder, len, most);
 }
 
 de_status de_encoding_decoder_read(const de_encoding *encoding, de_decoder *decoder,
@@ -358,8 +374,8 @@ de_status de_encoding_decoder_read(const de_encoding *encoding, de_decoder *deco
     if (!is_held(encoding)) {
         return DE_NO_ENCODING;
     }
-    return (de_status)de_held_decoder_read(encoding->tables, decoder, from, input_len, to,
-                                           output_len, written);
+    return de_held_decoder_read(encoding->tables, decoder, from, input_len, to, output_len,
+                                written);
 }
 
 de_status de_encoding_decoder_finish(const de_encoding *encoding, const de_decoder *decoder,
@@ -371,5 +387,5 @@ de_status de_encoding_decoder_finish(const de_encoding *encoding, const de_decod
     if (!is_held(encoding)) {
         return DE_NO_ENCODING;
     }
-    return (de_status)de_held_decoder_finish(encoding->tables, decoder, to, output_len, decoded);
+    return de_held_decoder_finish(encoding->tables, decoder, to, output_len, decoded);
 }

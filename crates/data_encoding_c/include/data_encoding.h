@@ -6,8 +6,8 @@
  * What a caller owes, and nothing checks: a pointer points to as many bytes as the length after it
  * says, or to a value of its type; what a call writes to overlaps nothing else that it is given;
  * nothing writes to any of these while the call runs; and a de_encoding is one that de_encoding_new
- * or de_encoding_read made, or a copy of it. A pointer to bytes may be null where its
- * length is 0. Any other null pointer is refused by DE_NULL_POINTER.
+ * or de_encoding_read made, or a copy of it. A pointer to bytes may be null where its length is 0.
+ * Any other null pointer is refused by DE_NULL_POINTER (but see DE_NONNULL).
  *
  * Lengths are in bytes. No text that is written ends in a NUL. No call takes memory.
  */
@@ -22,13 +22,63 @@
 extern "C" {
 #endif
 
+/* The version of this header. Before 1.0.0 calls may change with DE_VERSION_MINOR. */
+#define DE_VERSION_MAJOR 0
+#define DE_VERSION_MINOR 1
+#define DE_VERSION_PATCH 0
+#define DE_VERSION "0.1.0"
+
+/* The number in the name of the shared library, which is raised where programs that were built with
+ * it before do not run with it. */
+#define DE_INTERFACE 0
+
+/* What a compiler is told of the calls. A program may define each of these before it includes this
+ * header, also as nothing. */
+
+/* A shared library gives the call, also one that is made of the static library. */
+#ifndef DE_EXPORT
+#ifdef __GNUC__
+#define DE_EXPORT __attribute__((visibility("default")))
+#else
+#define DE_EXPORT
+#endif
+#endif
+
+/* A compiler warns where the status is dropped. */
+#ifndef DE_NODISCARD
+#if defined(__GNUC__)
+#define DE_NODISCARD __attribute__((warn_unused_result))
+#elif defined(__cplusplus) && __cplusplus >= 201703L
+#define DE_NODISCARD [[nodiscard]]
+#else
+#define DE_NODISCARD
+#endif
+#endif
+
+/* A compiler warns where one of these parameters, counted from 1, is a null pointer. It may also
+ * take it that none is, and leave out what the program does about one that is: a program that relies
+ * on DE_NULL_POINTER defines this as nothing. */
+#ifndef DE_NONNULL
+#ifdef __GNUC__
+#define DE_NONNULL(...) __attribute__((nonnull(__VA_ARGS__)))
+#else
+#define DE_NONNULL(...)
+#endif
+#endif
+
+/* The version of the library, as DE_VERSION is that of the header: never null, and valid for
+ * ever. */
+DE_EXPORT
+const char *de_version(void);
+
 /* The greatest length of data that is encoded in one call, and of a text that is decoded. */
 #define DE_ENCODE_LIMIT (SIZE_MAX / 512)
 #define DE_DECODE_LIMIT (SIZE_MAX / 8)
 
 /* What happened. After any but DE_OK, and the four of a faulty text, a call has changed nothing
  * (but *detail, where it names one). */
-typedef enum de_status {
+typedef uint32_t de_status;
+enum {
     DE_OK = 0,
 
     /* No predefined encoding has the number, or the name. */
@@ -76,18 +126,20 @@ typedef enum de_status {
     /* A byte is translated to the byte `detail`, which has no meaning. */
     DE_UNDEFINED = 17,
 
-    /* The bytes are no layout; or the de_encoding shows that none was made. */
+    /* The bytes are no layout; or the de_encoding was not made, as its mark shows. */
     DE_NO_ENCODING = 18,
 
     /* No call can have left such a de_decoder for the encoding. */
     DE_NO_DECODER = 19
-} de_status;
+};
 
 /* A few words on a status: never null, and valid for ever. */
+DE_EXPORT
 const char *de_status_text(de_status status);
 
 /* The predefined encodings. */
-typedef enum de_number {
+typedef uint32_t de_number;
+enum {
     DE_HEXLOWER = 0,
     DE_HEXLOWER_PERMISSIVE = 1,
     DE_HEXUPPER = 2,
@@ -106,7 +158,7 @@ typedef enum de_number {
     DE_BASE64_MIME_PERMISSIVE = 15,
     DE_BASE64URL = 16,
     DE_BASE64URL_NOPAD = 17
-} de_number;
+};
 
 /* How far a text was decoded, where its status is DE_OK or that of a faulty text. */
 typedef struct de_decoded {
@@ -124,15 +176,18 @@ typedef struct de_decoded {
 
 /* Writes to *text_len how long the text of len bytes is, with its padding and line ends.
  * DE_TOO_LONG where len is above DE_ENCODE_LIMIT. */
+DE_EXPORT DE_NODISCARD DE_NONNULL(3)
 de_status de_encode_len(de_number number, size_t len, size_t *text_len);
 
 /* Writes the text of the data to the front of output, and its length to *written. What stands in
  * the output after the text stays. DE_TOO_LONG, DE_SHORT_BUFFER. */
+DE_EXPORT DE_NODISCARD DE_NONNULL(6)
 de_status de_encode(de_number number, const void *input, size_t input_len, char *output,
                     size_t output_len, size_t *written);
 
 /* Writes to *most how many bytes a text of len bytes may mean at most. Where no text has this
  * length, DE_INVALID_LENGTH, and *most is the greatest valid length below it. DE_TOO_LONG. */
+DE_EXPORT DE_NODISCARD DE_NONNULL(3)
 de_status de_decode_len(de_number number, size_t len, size_t *most);
 
 /* Writes the data that the text means to the front of output, which has room for as many bytes as
@@ -140,10 +195,12 @@ de_status de_decode_len(de_number number, size_t len, size_t *most);
  * of the four statuses DE_INVALID_. Then what was read means what was written; what the output has
  * after these, within what de_decode_len says, is not said. Where the length alone is the fault,
  * nothing is read. DE_TOO_LONG, DE_SHORT_BUFFER. */
+DE_EXPORT DE_NODISCARD DE_NONNULL(6)
 de_status de_decode(de_number number, const char *input, size_t input_len, void *output,
                     size_t output_len, de_decoded *decoded);
 
 /* Writes to *canonical whether no two different texts decode to the same data. */
+DE_EXPORT DE_NODISCARD DE_NONNULL(2)
 de_status de_is_canonical(de_number number, bool *canonical);
 
 /* What a decoder keeps of a text that comes in pieces: plain numbers, which may be copied, and need
@@ -159,19 +216,22 @@ typedef struct de_decoder {
 
     /* The first fault of the whole groups: its position, and its status or 0. */
     size_t fault_position;
-    uint32_t fault;
+    de_status fault;
 
     /* Whether no group may follow. */
     uint32_t ended;
     unsigned char bytes[8];
 } de_decoder;
 
-/* Makes *decoder one that has read nothing, for any encoding. */
+/* Makes *decoder one that has read nothing, for any encoding. No other status than DE_OK and
+ * DE_NULL_POINTER is returned, so that it may be dropped. */
+DE_EXPORT DE_NONNULL(1)
 de_status de_decoder_new(de_decoder *decoder);
 
 /* Writes to *most how many bytes len more bytes of the text may complete at most: no more than
  * len + 7, and none after a fault. DE_NO_DECODER; DE_TOO_LONG where the text has more than
  * DE_DECODE_LIMIT bytes with them. */
+DE_EXPORT DE_NODISCARD DE_NONNULL(2, 4)
 de_status de_decoder_most(de_number number, const de_decoder *decoder, size_t len, size_t *most);
 
 /* Reads a piece of the text, which may be cut anywhere. Writes the data of the groups that are then
@@ -179,6 +239,7 @@ de_status de_decoder_most(de_number number, const de_decoder *decoder, size_t le
  * de_decoder_most says, and their number to *written. A fault is reported at the end. What the output
  * has behind the data, within that room, is not said; what it has behind that room stays.
  * DE_NO_DECODER, DE_TOO_LONG, DE_SHORT_BUFFER. */
+DE_EXPORT DE_NODISCARD DE_NONNULL(2, 7)
 de_status de_decoder_read(de_number number, de_decoder *decoder, const char *input,
                           size_t input_len, void *output, size_t output_len, size_t *written);
 
@@ -187,6 +248,7 @@ de_status de_decoder_read(de_number number, de_decoder *decoder, const char *inp
  * which is that length where there is none. What the output has behind these bytes stays. The
  * status is the verdict that de_decode has on the whole text. The decoder stays as it was.
  * DE_NO_DECODER, DE_SHORT_BUFFER. */
+DE_EXPORT DE_NODISCARD DE_NONNULL(2, 5)
 de_status de_decoder_finish(de_number number, const de_decoder *decoder, void *output,
                             size_t output_len, de_decoded *decoded);
 
@@ -196,10 +258,12 @@ de_status de_decoder_finish(de_number number, const de_decoder *decoder, void *o
 /* Writes the name of the encoding, as "BASE64_NOPAD" that of DE_BASE64_NOPAD, to the front of
  * output, and its length to *written. What stands in the output after the name stays.
  * DE_SHORT_BUFFER, which DE_NAME_LIMIT bytes avoid. */
+DE_EXPORT DE_NODISCARD DE_NONNULL(4)
 de_status de_name(de_number number, char *output, size_t output_len, size_t *written);
 
 /* Writes the number of the encoding of this name to *number. DE_UNKNOWN_ENCODING, also where the
  * name is in lower case. */
+DE_EXPORT DE_NODISCARD DE_NONNULL(3)
 de_status de_number_named(const char *name, size_t name_len, de_number *number);
 
 /* What an encoding is asked for by. DE_SPECIFICATION is one with nothing but the defaults. */
@@ -244,14 +308,16 @@ typedef struct de_specification {
 
 /* An encoding of a caller's own: plain bytes, which may be copied within the program, and need no
  * end. They are trusted, and not judged again: bytes from elsewhere are read by de_encoding_read.
- * One that is all zeros is refused by DE_NO_ENCODING. */
+ * One that was not made is refused by DE_NO_ENCODING, unless its eight bytes `made` are by chance
+ * those of one that was. */
 typedef struct de_encoding {
-    unsigned char made;
+    unsigned char made[8];
     unsigned char tables[DE_TABLES];
 } de_encoding;
 
 /* Writes the encoding that is asked for to *encoding; or, after DE_DUPLICATE, DE_WRAP_WIDTH and
  * DE_UNDEFINED, what these name to *detail, if that is not null. */
+DE_EXPORT DE_NODISCARD DE_NONNULL(1, 2)
 de_status de_encoding_new(de_encoding *encoding, const de_specification *specification,
                           size_t *detail);
 
@@ -261,26 +327,36 @@ de_status de_encoding_new(de_encoding *encoding, const de_specification *specifi
 /* Writes the layout of the encoding to the front of output, and its length to *written: bytes that
  * say all of it, to be stored or sent. What stands in the output after them stays.
  * DE_SHORT_BUFFER, which DE_LAYOUT_LIMIT bytes avoid. */
+DE_EXPORT DE_NODISCARD DE_NONNULL(1, 4)
 de_status de_encoding_layout(const de_encoding *encoding, void *output, size_t output_len,
                              size_t *written);
 
 /* Writes the encoding of a layout to *encoding. Any bytes may be given: DE_NO_ENCODING where they
  * are no layout. */
+DE_EXPORT DE_NODISCARD DE_NONNULL(1)
 de_status de_encoding_read(de_encoding *encoding, const void *layout, size_t len);
 
 /* The same calls by such an encoding. DE_NO_ENCODING. */
+DE_EXPORT DE_NODISCARD DE_NONNULL(1, 3)
 de_status de_encoding_encode_len(const de_encoding *encoding, size_t len, size_t *text_len);
+DE_EXPORT DE_NODISCARD DE_NONNULL(1, 6)
 de_status de_encoding_encode(const de_encoding *encoding, const void *input, size_t input_len,
                              char *output, size_t output_len, size_t *written);
+DE_EXPORT DE_NODISCARD DE_NONNULL(1, 3)
 de_status de_encoding_decode_len(const de_encoding *encoding, size_t len, size_t *most);
+DE_EXPORT DE_NODISCARD DE_NONNULL(1, 6)
 de_status de_encoding_decode(const de_encoding *encoding, const char *input, size_t input_len,
                              void *output, size_t output_len, de_decoded *decoded);
+DE_EXPORT DE_NODISCARD DE_NONNULL(1, 2)
 de_status de_encoding_is_canonical(const de_encoding *encoding, bool *canonical);
+DE_EXPORT DE_NODISCARD DE_NONNULL(1, 2, 4)
 de_status de_encoding_decoder_most(const de_encoding *encoding, const de_decoder *decoder,
                                    size_t len, size_t *most);
+DE_EXPORT DE_NODISCARD DE_NONNULL(1, 2, 7)
 de_status de_encoding_decoder_read(const de_encoding *encoding, de_decoder *decoder,
                                    const char *input, size_t input_len, void *output,
                                    size_t output_len, size_t *written);
+DE_EXPORT DE_NODISCARD DE_NONNULL(1, 2, 5)
 de_status de_encoding_decoder_finish(const de_encoding *encoding, const de_decoder *decoder,
                                      void *output, size_t output_len, de_decoded *decoded);
 
