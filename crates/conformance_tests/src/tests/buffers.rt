@@ -10,15 +10,13 @@ use encoding_stream::{BufferDecoder, Kept};
 use std::alloc::{AllocError, Global};
 use std::test::Fail;
 
-// Reads a piece into as much room as is asked for, and appends what is written.
+// Reads a piece of at most 17 bytes into as much room as is asked for, and appends what is written.
 fn read_on(
     decoder: &mut BufferDecoder<'_>,
     piece: &[u8],
     output: &mut Vec<u8>,
-) -> Result<(), AllocError>
-    requires short { length piece.now ≤ 17 }
-{
-    if decoder.len() > DECODE_LIMIT - piece.len() {
+) -> Result<(), AllocError> {
+    if piece.len() > 17 || decoder.len() > DECODE_LIMIT - piece.len() {
         return Err(AllocError);
     }
     let mut room = [0; 24];
@@ -36,7 +34,6 @@ fn is_cut_alike(
     text: &[u8],
     cuts: (usize, usize),
 ) -> Result<bool, AllocError>
-    requires short { length text.now ≤ 17 }
     requires first { cuts.0 ≤ cuts.1 }
     requires second { cuts.1 ≤ length text.now }
 {
