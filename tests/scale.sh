@@ -45,7 +45,7 @@ quietly() {
 
 holds 'the package' quietly env DATA_ENCODING_DIR="$lib" "$python" -m pip install \
     --no-build-isolation --no-index --no-deps --no-compile --target site ./package
-export PYTHONPATH=$room/site:$room
+export PYTHONPATH=$room/site:$room DASK_TEMPORARY_DIRECTORY=$room
 
 head -c 67108864 /dev/urandom >input
 "$python" -c '
