@@ -6,9 +6,9 @@
 # - `rust`: stands in the callers, word for word, or in crates/examples;
 # - `sh`: is run as it stands, but that `rt run` runs the program that is tried.
 #
-# tests/interop.sh runs those of docs/SCALE.md, tests/library.sh that of docs/LIBRARY.md, tests/c.sh
-# those of docs/C.md, tests/rust.sh and tests/python.sh those of their pages, and tests/contracts.sh
-# has those of docs/CONTRACTS.md.
+# tests/interop.sh and tests/scale.sh run those of docs/SCALE.md, tests/library.sh that of
+# docs/LIBRARY.md, tests/c.sh those of docs/C.md, tests/rust.sh and tests/python.sh those of their
+# pages, and tests/contracts.sh has those of docs/CONTRACTS.md.
 #
 # usage: tests/examples.sh [PROGRAM]
 . "$(dirname "$0")/common.bash" || exit 1
@@ -67,7 +67,7 @@ try_commands() {
 # try_block PAGE KIND BLOCK
 try_block() {
     case $1:$2 in
-    docs/SCALE.md:sh | docs/LIBRARY.md:sh | docs/CONTRACTS.md:rust) ;;
+    docs/SCALE.md:sh | docs/SCALE.md:python | docs/LIBRARY.md:sh | docs/CONTRACTS.md:rust) ;;
     docs/C.md:* | docs/RUST.md:* | docs/PYTHON.md:*) ;;
     *:text) try_examples "$1" "$3" ;;
     *:sh) try_commands "$1" "$3" ;;

@@ -1,0 +1,265 @@
+"""Tries the functions of docs/SCALE.md for a cluster, as a module `parts`, against one run.
+
+usage: scale.py, in a folder with `input`, 64 MiB of data
+"""
+
+import os
+import pickle
+import random
+import signal
+import unittest
+
+import parts
+from data_encoding import BASE64, BASE64_MIME, BASE64_NOPAD, DecodeError, Decoder, Encoding
+from distributed import Client, LocalCluster
+
+INPUT = "input"
+PART = parts.PART
+
+
+def remove(name):
+    # A file that is emptied and written again is waited for on some disks.
+    if os.path.exists(name):
+        os.remove(name)
+
+
+def write(name, data):
+    remove(name)
+    with open(name, "wb") as file:
+        file.write(data)
+
+
+def contents(name):
+    with open(name, "rb") as file:
+        return file.read()
+
+
+def one_run(encoding, text):
+    """The data of a text before its fault, and the fault, as one decoder gives them."""
+    decoder = Decoder(encoding)
+    data = decoder.decode(text)
+    try:
+        return data + decoder.decode(b"", final=True), None
+    except DecodeError as error:
+        return data + error.data, (error.kind, error.position)
+
+
+def in_parts(client, encoding, source):
+    """The same, as `decode_file` gives them."""
+    remove("back")
+    try:
+        parts.decode_file(client, encoding, source, "back")
+    except DecodeError as error:
+        return contents("back"), (error.kind, error.position)
+    return contents("back"), None
+
+
+class Deadly:
+    """A path. The worker that opens it as the fourth dies, and its results with it."""
+
+    def __init__(self, path):
+        self.path = path
+        self.opened = path + ".opened"
+        self.client = os.getpid()
+        write(self.opened, b"")
+
+    def __fspath__(self):
+        if os.getpid() != self.client:
+            log = os.open(self.opened, os.O_WRONLY | os.O_APPEND)
+            os.write(log, b"%8d" % os.getpid())
+            if os.lseek(log, 0, os.SEEK_CUR) == 4 * 8:
+                os.kill(os.getpid(), signal.SIGKILL)
+            os.close(log)
+        return self.path
+
+    def openers(self):
+        return [int(process) for process in contents(self.opened).split()]
+
+
+class Done:
+    def __init__(self, value):
+        self.value = value
+
+    def result(self):
+        return self.value
+
+
+class Here:
+    """A client that runs each task at once, with copies of what it is given."""
+
+    def __init__(self):
+        self.submitted = 0
+
+    def done(self, function, *arguments, **named):
+        arguments, named = pickle.loads(pickle.dumps((arguments, named)))
+        return Done(pickle.loads(pickle.dumps(function(*arguments, **named))))
+
+    def submit(self, function, *arguments, pure):
+        self.submitted += 1
+        return self.done(function, *arguments)
+
+    def map(self, function, starts, *, pure, **named):
+        return [self.done(function, start, **named) for start in starts]
+
+    def gather(self, futures):
+        return [future.result() for future in futures]
+
+
+class OnACluster(unittest.TestCase):
+    """The text of 64 MiB, by two processes. Of each cluster one dies at most, so that nothing
+    depends on whether it is replaced."""
+
+    @classmethod
+    def setUpClass(cls):
+        cls.data = contents(INPUT)
+
+    def setUp(self):
+        local = "127.0.0.1:0"
+        self.cluster = LocalCluster(
+            n_workers=2, threads_per_worker=1, dashboard_address=local,
+            worker_dashboard_address=local, host="127.0.0.1", memory_limit="1GiB",
+        )
+        self.addCleanup(self.cluster.close)
+        self.client = Client(self.cluster)
+        self.addCleanup(self.client.close)
+        with open("workers", "a") as file:
+            print(*self.client.run(os.getpid).values(), file=file)
+
+    def assert_one_died(self, source):
+        openers = source.openers()
+        self.assertGreater(len(openers), len(self.data) / PART)
+        self.assertNotIn(openers[3], openers[4:])
+
+    def test_a_worker_dies_encoding(self):
+        source = Deadly(INPUT)
+        parts.encode_file(self.client, BASE64, source, "text")
+        self.assert_one_died(source)
+        self.assertTrue(contents("text") == BASE64.encode(self.data).encode())
+
+    def try_decoding(self, encoding):
+        write("text", encoding.encode(self.data).encode())
+        source = Deadly("text")
+        parts.decode_file(self.client, encoding, source, "back")
+        self.assert_one_died(source)
+        self.assertTrue(contents("back") == self.data)
+
+    def test_a_worker_dies_decoding(self):
+        self.try_decoding(BASE64)
+
+    def test_a_worker_dies_with_the_decoder(self):
+        self.try_decoding(BASE64_NOPAD)
+
+    def test_faults(self):
+        text = BASE64.encode(self.data).encode()
+        step = BASE64.encode_len(PART)
+        for position in 3 * step - 1, 3 * step, len(text) - 4:
+            faulty = bytearray(text)
+            faulty[position] = ord("!")
+            write("faulty", faulty)
+            found = in_parts(self.client, BASE64, "faulty")
+            self.assertTrue(found == one_run(BASE64, faulty), position)
+            self.assertEqual(found[1], ("symbol", position))
+
+
+class OfSmallParts(unittest.TestCase):
+    def setUp(self):
+        self.addCleanup(setattr, parts, "PART", PART)
+
+    def assert_same(self, encoding, text):
+        parts.PART = encoding.encode_align * 2
+        write("text", text)
+        wanted, fault = one_run(encoding, text)
+        if fault and fault[0] == "length" and not encoding.specification()["ignore"]:
+            # It is found before a byte is written.
+            with self.assertRaises(DecodeError) as caught:
+                parts.decode_file(Here(), encoding, "text", "back")
+            self.assertEqual((caught.exception.kind, caught.exception.position), fault)
+        else:
+            found = in_parts(Here(), encoding, "text")
+            self.assertEqual(found, (wanted, fault), (encoding, text))
+
+    def test_lengths(self):
+        for encoding in ENCODINGS:
+            align = encoding.encode_align
+            for size in 0, 1, 2, 2 * align - 1, 2 * align, 2 * align + 1, 4 * align, 5 * align + 2:
+                data = random.randbytes(size)
+                write("data", data)
+                remove("text")
+                parts.PART = align * 3 - 1
+                parts.encode_file(Here(), encoding, "data", "text")
+                text = contents("text")
+                self.assertEqual(text, encoding.encode(data).encode())
+                self.assert_same(encoding, text)
+
+    def test_faults_about_the_cuts(self):
+        for encoding in ENCODINGS:
+            align = encoding.encode_align
+            text = encoding.encode(random.randbytes(5 * align + 1)).encode()
+            step = encoding.encode_len(2 * align)
+            for position in range(len(text)):
+                if (position + 2) % step < 4 or position + 4 > len(text):
+                    self.assert_same(encoding, text[:position])
+                    for byte in b"!=\n":
+                        faulty = bytearray(text)
+                        faulty[position] = byte
+                        self.assert_same(encoding, faulty)
+
+    def test_texts_of_any_bytes(self):
+        for encoding in ENCODINGS:
+            symbols = encoding.specification()["symbols"].encode()
+            for _ in range(150):
+                size = random.randrange(100)
+                text = bytearray(random.choices(symbols, k=size))
+                for _ in range(random.choice((0, 0, 1, 3, 9))):
+                    text.insert(random.randrange(size + 1), random.choice(b"!= \r\n"))
+                self.assert_same(encoding, text)
+
+    def test_texts_joined(self):
+        for encoding in ENCODINGS:
+            for _ in range(25):
+                sizes = random.choices(range(12), k=9)
+                texts = [encoding.encode(random.randbytes(size)) for size in sizes]
+                self.assert_same(encoding, "".join(texts).encode())
+
+    def test_what_is_read_by_one_decoder(self):
+        parts.PART = 12
+        good = 64 * b"A"
+        lines = 5 * (12 * b"A" + b"\n") + 60 * b"A"
+        for encoding, text, submitted in (
+            (BASE64, good, 0),
+            (BASE64, b"!" + good[1:], 0),
+            (BASE64_NOPAD, good, 4),
+            (LINES, good, 0),
+            # The fourth cut is between groups.
+            (LINES, lines, 6),
+            (LINES, lines[:20] + b"!" + lines[21:], 1),
+        ):
+            client = Here()
+            write("text", text)
+            self.assertEqual(in_parts(client, encoding, "text"), one_run(encoding, text))
+            self.assertEqual(client.submitted, submitted, (encoding, text))
+
+    def test_a_cut_inside_a_group(self):
+        text = b"\n\n\n" + 76 * b"A" + b"\r\n" + 76 * b"A"
+        self.assert_same(BASE64_MIME, text)
+        self.assertEqual(one_run(BASE64_MIME, text), (bytes(114), None))
+
+
+UPPER = "ABCDEFGHIJKLMNOPQRSTUVWXYZ"
+LINES = Encoding(UPPER + UPPER.lower() + "0123456789+/", padding="=", ignore="\n")
+ENCODINGS = [Encoding.named(name) for name in Encoding.names()] + [
+    Encoding("AB"),
+    Encoding("ABCD", ignore=" \n"),
+    Encoding("ABCDEFGH", padding="=", ignore=" "),
+    Encoding("ABCDEFGH"),
+    Encoding(UPPER + "234567", ignore=" \n"),
+    Encoding(UPPER + "234567", padding="=", ignore=" \n", concatenate=False),
+    Encoding(UPPER + UPPER.lower() + "0123456789+/", ignore="\r\n"),
+    Encoding(UPPER + UPPER.lower() + "0123456789+/", padding="=", concatenate=False),
+    Encoding(UPPER + UPPER.lower() + "0123456789+/", padding="=", ignore="\n", wrap=(8, "\n")),
+    LINES,
+]
+
+if __name__ == "__main__":
+    random.seed(1)
+    unittest.main()

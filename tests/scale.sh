@@ -1,0 +1,62 @@
+#!/usr/bin/env bash
+# Runs the program of docs/SCALE.md, and its functions with faulty texts and with workers that die,
+# on a cluster of two processes. It is skipped where there is no Dask.
+#
+# usage: tests/scale.sh [LIB]: where build.sh left the library for C; it is built if no folder is
+# given.
+. "$(dirname "$0")/common.bash" || exit 1
+
+# lacking PYTHON: why it can't build the package or make a cluster, in a line; nothing if it can.
+lacking() {
+    "$1" -W ignore -c '
+import setuptools, distributed, pip, sysconfig, wheel
+open(sysconfig.get_paths()["include"] + "/Python.h")' 2>&1 | tail -n 1
+}
+
+python=
+for found in python3 /usr/bin/python3; do
+    if [ -z "$python" ] && command -v "$found" >/dev/null; then
+        missing=$(lacking "$found")
+        [ -n "$missing" ] || python=$found
+    fi
+done
+if [ -z "$python" ] || ! command -v "${CC:-cc}" >/dev/null; then
+    skip "the cluster of docs/SCALE.md: ${missing:-no python3 or no ${CC:-cc}}"
+    finish
+fi
+
+lib=${1:-$room/lib}
+[ $# != 0 ] || crates/data_encoding_c/build.sh "$lib" || exit 1
+lib=$(realpath "$lib")
+cp -r bindings/python "$room/package"
+rm -rf "$room/package"/{build,src/*.egg-info}
+awk '/^```/ { inside = $0 == "```python"; next } inside' docs/SCALE.md >"$room/parts.py"
+test=$(realpath tests/scale.py)
+cd "$room" || exit 1
+export PIP_DISABLE_PIP_VERSION_CHECK=1 PIP_ROOT_USER_ACTION=ignore PYTHONDONTWRITEBYTECODE=1
+
+# quietly COMMAND..: what it says is printed if it fails.
+quietly() {
+    "$@" >said 2>&1 || {
+        tail -n 60 said
+        return 1
+    }
+}
+
+holds 'the package' quietly env DATA_ENCODING_DIR="$lib" "$python" -m pip install \
+    --no-build-isolation --no-index --no-deps --no-compile --target site ./package
+export PYTHONPATH=$room/site:$room DASK_TEMPORARY_DIRECTORY=$room
+
+head -c 67108864 /dev/urandom >input
+"$python" -c '
+import sys
+from data_encoding import BASE64
+sys.stdout.write(BASE64.encode(sys.stdin.buffer.read()))' <input >whole
+# At the limit of time a program ends with all its processes.
+holds 'the program' quietly timeout -k 5 60 "$python" parts.py
+holds 'what it encodes' cmp whole text
+holds 'what it decodes' cmp input back
+holds 'its functions' quietly timeout -k 5 120 "$python" "$test"
+is 'what is left of its processes' '' "$(cat workers | xargs -r ps -o pid= -p)"
+
+finish
