@@ -9,5 +9,6 @@ pub mod JudgedLemmas
 pub mod DecoderLemmas
 pub mod DecodedLemmas
 pub mod FinishLemmas
+pub mod OrderLemmas
 pub mod ResumedLemmas
 mod Vectors
