@@ -10,5 +10,6 @@ pub mod DecoderLemmas
 pub mod DecodedLemmas
 pub mod FinishLemmas
 pub mod OrderLemmas
+pub mod KindLemmas
 pub mod ResumedLemmas
 mod Vectors

@@ -10,10 +10,12 @@ use Rattle.data_encoding.specs.Base.{Base, IsWidth, group_symbols, is_ignored, m
 use Rattle.data_encoding.specs.Grammar.{Positioned, kept, positioned}
 use Rattle.data_encoding.specs.declared.decode.TheConstants.{DECODE_LIMIT}
 use Rattle.data_encoding.specs.Fault.{first_fault}
-use Rattle.data_encoding.specs.Pieces.{unfinished, whole_groups, EndsNowhere, HasRead}
+use Rattle.data_encoding.specs.Fields.{IsSpecified}
+use Rattle.data_encoding.specs.Pieces.{unfinished, whole_groups, EndsNowhere, HasRead, JoinsUnpadded}
 use Rattle.encoding_stream.specs.declared.pieces.Kept.{Kept}
 use Rattle.encoding_stream.specs.Pieces.{at_positions, paired, Keeps, NoneIgnored}
-use Rattle.encoding_stream.specs.Resume.{Ascend, MayBeKept}
+use Rattle.encoding_stream.specs.Resume.{is_of_group, Ascend, MayBeKept}
+use Rattle.encoding_stream.proofs.KindLemmas.{group-kind}
 use Rattle.encoding_stream.proofs.OrderLemmas.{first-inside, unfinished-ascends}
 use Rattle.encoding_stream.proofs.PieceLemmas.{positions-bytes, unfinished-kept}
 use Rattle.encoding_stream.proofs.SizeLemmas.{symbols-few, symbols-some}
@@ -85,8 +87,8 @@ not-true true h = absurd (h refl)
 not-true false h = refl
 
 -- What is kept of a text passes the tests of what a caller gives back.
-module _ (base : Base) (width : IsWidth base.width) (nowhere : EndsNowhere) (text : List ℕ)
-    (len count : ℕ) (positions bytes : List ℕ) (ended : Bool) (h : count ≤ length positions)
+module _ (base : Base) (is : IsSpecified base) (width : IsWidth base.width)
+    (joins : JoinsUnpadded) (nowhere : EndsNowhere) (text : List ℕ) (len count : ℕ) (positions bytes : List ℕ) (ended : Bool) (h : count ≤ length positions)
     (k : count ≤ length bytes) where
   in-order : (fault : Option DecodeError)
       → HasRead base text len fault (at_positions count positions bytes) ended
@@ -121,17 +123,25 @@ module _ (base : Base) (width : IsWidth base.width) (nowhere : EndsNowhere) (tex
       (subst (λ n. IfSome (first_fault base (whole_groups base text)) (λ error. error.position < n))
       (sym reads.counted) (first-inside base width text))
 
+  kind : (fault : Option DecodeError)
+      → HasRead base text len fault (at_positions count positions bytes) ended
+      → IfSome fault (λ error. is_of_group base error.kind ≡ true)
+  kind fault reads =
+      subst (λ f. IfSome f (λ error. is_of_group base error.kind ≡ true)) (sym reads.first)
+      (group-kind base is joins width text)
+
   ends : (fault : Option DecodeError)
       → HasRead base text len fault (at_positions count positions bytes) ended
       → fault ≡ None → ended ≡ true → base.concatenates ≡ false
-  ends fault reads none is =
+  ends fault reads none final =
       not-true base.concatenates
-      (λ joins. cc (reads.ends none, nowhere base joins (whole_groups base text), is))
+      (λ both. cc (reads.ends none, nowhere base both (whole_groups base text), final))
 
-pub may-be-kept : (base : Base) → IsWidth base.width → EndsNowhere → (text : List ℕ)
+pub may-be-kept : (base : Base) → IsSpecified base → IsWidth base.width → JoinsUnpadded
+    → EndsNowhere → (text : List ℕ)
     (kept : Kept) → length kept.positions ≡ 8 → length kept.bytes ≡ 8 → Keeps base kept text
     → length text ≤ DECODE_LIMIT → (IsSome kept.fault → kept.count ≡ 0) → MayBeKept base kept
-may-be-kept base width nowhere text kept h k reads limit clear =
+may-be-kept base is width joins nowhere text kept h k reads limit clear =
     let few =
     held-few base width text kept.len kept.count kept.fault kept.positions kept.bytes kept.ended
     h k reads clear in
@@ -142,18 +152,21 @@ may-be-kept base width nowhere text kept h k reads limit clear =
       limit = omega (arith, reads.counted, limit);
       short = few.0;
       in_order =
-          in-order base width nowhere text kept.len kept.count kept.positions kept.bytes
+          in-order base is width joins nowhere text kept.len kept.count kept.positions kept.bytes
           kept.ended there here kept.fault reads clear;
       none_ignored =
-          none-ignored base width nowhere text kept.len kept.count kept.positions kept.bytes
+          none-ignored base is width joins nowhere text kept.len kept.count kept.positions kept.bytes
           kept.ended there here kept.fault reads clear;
       fault = record {
         clear = clear;
         inside =
-            inside base width nowhere text kept.len kept.count kept.positions kept.bytes
+            inside base is width joins nowhere text kept.len kept.count kept.positions kept.bytes
+            kept.ended there here kept.fault reads;
+        kind =
+            kind base is width joins nowhere text kept.len kept.count kept.positions kept.bytes
             kept.ended there here kept.fault reads;
         ends =
-            ends base width nowhere text kept.len kept.count kept.positions kept.bytes
+            ends base is width joins nowhere text kept.len kept.count kept.positions kept.bytes
             kept.ended there here kept.fault reads;
       };
     }

@@ -1,10 +1,10 @@
 //! What a caller gives back of a text is tested before a decoder goes on from it.
 
 ghost use Rattle.std.specs.Prelude.{◌≡◌, ◌≤◌, true, false};
-ghost use Rattle.encoding_stream.specs.Resume.{held_positions, Ascend, HasPossibleFault, HoldsNoIgnored};
+ghost use Rattle.encoding_stream.specs.Resume.{held_positions, is_of_group, Ascend, HasPossibleFault, HoldsNoIgnored};
 
 use crate::pieces::Kept;
-use data_encoding::Encoding;
+use data_encoding::{DecodeKind, Encoding};
 
 impl Kept {
     /// Whether the held bytes lie in the text, each after the one before.
@@ -40,8 +40,21 @@ impl Kept {
         ensures complete { HasPossibleFault encoding.now self.now → result ≡ true }
     {
         match self.fault {
-            Some(error) => self.count == 0 && error.position < self.len,
+            Some(error) => {
+                self.count == 0 && error.position < self.len && is_of_group(encoding, error.kind)
+            }
             None => !self.ended || !encoding.concatenates(),
         }
+    }
+}
+
+// Whether a whole group may have a fault of this kind, as far as its getters tell of an encoding.
+fn is_of_group(encoding: &Encoding, kind: DecodeKind) -> bool
+    ensures { result ≡ is_of_group encoding.now kind }
+{
+    match kind {
+        DecodeKind::Length => false,
+        DecodeKind::Padding => encoding.completes_groups(),
+        DecodeKind::Symbol | DecodeKind::Trailing => true,
     }
 }

@@ -28,7 +28,8 @@ pub returns-then-not-is_in_order-clause-resumes :
 returns-then-not-is_in_order-clause-resumes c = λ text keeps limit clear.
     let decoder = c.new-decoder.result in
     let may =
-    may-be-kept c.args.encoding.now (rw c.new-decoder.ensures.base at decoder.width)
+    may-be-kept c.args.encoding.now c.new-decoder.ensures.specified
+    (rw c.new-decoder.ensures.base at decoder.width) c.whole_groups.ensures.joins
     c.whole_groups.ensures.ends_nowhere text c.args.kept (omega arith) (omega arith) keeps limit
     clear in
     elim c.then-not-is_in_order.branch [
@@ -43,7 +44,8 @@ pub returns-then-not-has_possible_fault-clause-resumes :
 returns-then-not-has_possible_fault-clause-resumes c = λ text keeps limit clear.
     let decoder = c.new-decoder.result in
     let may =
-    may-be-kept c.args.encoding.now (rw c.new-decoder.ensures.base at decoder.width)
+    may-be-kept c.args.encoding.now c.new-decoder.ensures.specified
+    (rw c.new-decoder.ensures.base at decoder.width) c.whole_groups.ensures.joins
     c.whole_groups.ensures.ends_nowhere text c.args.kept (omega arith) (omega arith) keeps limit
     clear in
     sym c.if-not-has_possible_fault.true ∙ c.has_possible_fault.ensures.complete may.fault
