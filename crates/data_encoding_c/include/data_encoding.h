@@ -155,7 +155,7 @@ de_status de_is_canonical(de_number number, bool *canonical);
  * is tested: DE_INVALID_LENGTH, and DE_INVALID_PADDING if texts have no padding and a group is of
  * more than one byte of data; with no fault, an ended of 1 if texts may be concatenated. Others may
  * pass that no call has left: then what is decoded is not said, but no call reads or writes outside
- * its arrays, and the position that de_decoder_finish tells is below len, or is len with DE_OK. */
+ * its arrays, and the position that de_decoder_finish writes is below len, or len with DE_OK. */
 typedef struct de_decoder {
     /* How many bytes the text has. */
     size_t len;
