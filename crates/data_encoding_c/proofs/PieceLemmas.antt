@@ -1,5 +1,5 @@
 -- Texts in pieces, of which a caller keeps plain numbers.
-use Rattle.std.proofs.Common.{◌≡◌, nat_lt, inl, inr, ◌⊎◌, ℕ, ◌+◌, ◌<◌, ◌≤◌, Bool, if◌then◌else◌, List, ◌++◌, length, take, drop, length-take-le, Option, None, Some, IsSome, Result, Ok, Err, refl, sym, ap, ◌∙◌, subst, arith}
+use Rattle.std.proofs.Common.{◌≡◌, nat_lt, inl, inr, ◌⊎◌, ℕ, ◌+◌, ◌<◌, ◌≤◌, Bool, if◌then◌else◌, List, ◌++◌, length, take, drop, length-take-le, Option, None, Some, IsSome, IfErr, Result, Ok, Err, refl, sym, ap, ◌∙◌, subst, arith}
 use Rattle.std.proofs.lemmas.Bool.{le-ltb, lt-ltb}
 use Rattle.std.proofs.lemmas.List.{length-append, length-drop, take-append-le, take_all}
 use Rattle.std.proofs.lemmas.Slice.{drop-append-drop}
@@ -14,7 +14,7 @@ use Rattle.encoding_stream.specs.declared.pieces.Kept.{Kept}
 use Rattle.encoding_stream.specs.Pieces.{most_completed, verdict_of, Keeps}
 use Rattle.encoding_stream.specs.Reading.{HasLastBytes}
 use Rattle.data_encoding_c.specs.declared.pieces.PlainKept.{PlainKept}
-use Rattle.data_encoding_c.specs.Pieces.{kept_told, piece_status, Places, ReadsPiece, StandsAfter}
+use Rattle.data_encoding_c.specs.Pieces.{fault_told, kept_told, kept_with, piece_status, Places, ReadsPiece, StandsAfter}
 use Rattle.data_encoding_c.specs.Status.{ok, short_buffer, status_of_kind, too_long}
 
 -- where no decoder goes on, it was told no text
@@ -27,6 +27,23 @@ none-stands base plain found is law text stands =
 
 one-kept : {a b : Kept} → Some a ≡ Some b → a ≡ b
 one-kept is = cc
+
+-- the length of the text that the numbers tell
+told-by : (plain : PlainKept) (fault : Option (Option DecodeError)) (kept : Kept)
+    → kept_with plain fault ≡ Some kept → kept.len ≡ plain.len
+told-by plain None kept told = absurd (cc told)
+told-by plain (Some fault) kept told = ap (λ k. k.len) (sym (one-kept told))
+
+pub told-len : (plain : PlainKept) (kept : Kept) → kept_told plain ≡ Some kept
+    → kept.len ≡ plain.len
+told-len plain kept told =
+    told-by plain (fault_told plain.fault plain.fault_position) kept told
+
+-- the position of a fault, where a clause says that it is in the text
+pub fault-inside : (len : ℕ) (verdict : Result (Unit {0}) DecodeError) (error : DecodeError)
+    → verdict ≡ Err error → IfErr verdict (λ e. e.position < len) → error.position < len
+fault-inside len verdict error is inside =
+    subst (λ v. IfErr v (λ e. e.position < len)) is inside
 
 -- a decoder that goes on keeps what the caller does
 pub stands-kept : (base : Base) (plain : PlainKept) (kept : Kept) (text : List ℕ)

@@ -8,6 +8,7 @@ use Rattle.data_encoding.specs.Fault.{fault_of, sound_bytes}
 use Rattle.data_encoding.specs.Pieces.{whole_bytes}
 use Rattle.encoding_stream.specs.declared.pieces.Kept.{Kept}
 use Rattle.encoding_stream.specs.Pieces.{most_completed, Keeps}
+use Rattle.encoding_stream.specs.Resume.{MayBeKept}
 use Rattle.data_encoding_c.specs.declared.convert.Decoded.{Decoded}
 use Rattle.data_encoding_c.specs.declared.pieces.PlainKept.{PlainKept}
 use Rattle.data_encoding_c.specs.Status.{ok, too_long, short_buffer, no_decoder, status_of_fault}
@@ -44,6 +45,12 @@ kept_with plain (Some fault) = Some (record {
 -- what plain numbers say is kept
 abbrev pub kept_told : PlainKept → Option Kept
 kept_told plain = kept_with plain (fault_told plain.fault plain.fault_position)
+
+-- The caller's numbers pass the tests of what a decoder may keep.
+pub record MayBeGiven (base : Base) (plain : PlainKept) : Type 0 where
+  pub kept : Kept
+  pub told : kept_told plain ≡ Some kept
+  pub passes : MayBeKept base kept
 
 -- The caller's decoder was told this text.
 pub record StandsAfter (base : Base) (plain : PlainKept) (text : List ℕ) : Type 0 where
@@ -110,6 +117,11 @@ pub record EndsText (base : Base) (plain : PlainKept) (output_old output_new : L
   pub read : (answer ≡ short_buffer → ⊥) → (text : List ℕ) → StandsAfter base plain text
       → decoded_new.read ≡ length text
   pub end : answer ≡ ok → decoded_new.position ≡ decoded_new.read
+  pub given : (answer ≡ no_decoder → ⊥) → MayBeGiven base plain
+  pub counted : (answer ≡ no_decoder → ⊥) → (answer ≡ short_buffer → ⊥)
+      → decoded_new.read ≡ plain.len
+  pub inside : (answer ≡ no_decoder → ⊥) → (answer ≡ short_buffer → ⊥) → (answer ≡ ok → ⊥)
+      → decoded_new.position < decoded_new.read
   pub within : (answer ≡ short_buffer → ⊥) → (text : List ℕ) → StandsAfter base plain text
       → decoded_new.written ≤ length output_new
   pub behind : drop decoded_new.written output_new ≡ drop decoded_new.written output_old

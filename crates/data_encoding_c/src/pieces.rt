@@ -2,7 +2,7 @@
 
 ghost use Rattle.std.specs.Prelude.{◌≡◌, ℕ, List, IfSome, IsSome, Some};
 ghost use Rattle.encoding_stream.specs.Pieces.{base_of_pieces, kept_by};
-ghost use Rattle.data_encoding_c.specs.Pieces.{kept_told, kind_told, EndsText, ReadsPiece, StandsAfter, TellsRoom};
+ghost use Rattle.data_encoding_c.specs.Pieces.{kept_told, kind_told, EndsText, MayBeGiven, ReadsPiece, StandsAfter, TellsRoom};
 
 use crate::convert::Decoded;
 use crate::status::{NO_DECODER, OK, SHORT_BUFFER, TOO_LONG, status_of_kind};
@@ -99,6 +99,7 @@ fn plain_of(kept: &Kept) -> PlainKept
 fn decoder_of<'a>(encoding: &'a Encoding, plain: &PlainKept) -> Option<BufferDecoder<'a>>
     ensures base { IfSome result (λ decoder. base_of_pieces decoder ≡ encoding.now) }
     ensures kept { IfSome result (λ decoder. kept_told plain.now ≡ Some (kept_by decoder)) }
+    ensures given { IsSome result → MayBeGiven encoding.now plain.now }
     ensures stands { (text : List ℕ) → StandsAfter encoding.now plain.now text → IsSome result }
 {
     BufferDecoder::resumed(encoding, kept_of(plain)?)

@@ -9,5 +9,7 @@ pub mod JudgedLemmas
 pub mod DecoderLemmas
 pub mod DecodedLemmas
 pub mod FinishLemmas
+pub mod OrderLemmas
+pub mod KindLemmas
 pub mod ResumedLemmas
 mod Vectors

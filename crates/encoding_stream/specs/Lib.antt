@@ -8,3 +8,4 @@ pub mod Reading
 pub mod Decoder
 pub mod Appending
 pub mod Decoded
+pub mod Resume

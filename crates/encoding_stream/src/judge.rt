@@ -1,6 +1,7 @@
 //! The judgement of one group of a text that is decoded piece by piece, and the end of the text.
 
 ghost use Rattle.std.specs.Prelude.{◌≡◌, ℕ, ◌<◌, ◌≤◌, List, length, slice_index, take, IfOk, IfErr};
+ghost use Rattle.std.specs.List.{Contains};
 ghost use Rattle.data_encoding.specs.Base.{group_bytes, group_symbols};
 ghost use Rattle.data_encoding.specs.Fault.{fault_of};
 ghost use Rattle.data_encoding.specs.Grammar.{is_final};
@@ -33,6 +34,8 @@ impl BufferDecoder<'_> {
             count (take written output.new)) }
         ensures fault { IfErr result (λ error. JudgesFaulty (base_of_pieces self.now)
             self.now.kept count error) }
+        ensures position { IfErr result (λ error.
+            Contains (take count self.now.kept.positions) error.position) }
         ensures few { IfOk result (λ written.
             written ≤ group_bytes (base_of_pieces self.now).width) }
         ensures len { length output.new ≡ length output.old }
@@ -77,6 +80,7 @@ impl BufferDecoder<'_> {
         requires room { 5 ≤ length output.old }
         ensures verdict { (text : List ℕ) → Keeps (base_of_pieces self.now) (kept_by self.now) text
             → result.1 ≡ verdict_of (fault_of (base_of_pieces self.now) text) }
+        ensures position { IfErr result.1 (λ error. error.position < (kept_by self.now).len) }
         ensures bytes { HasLastBytes (base_of_pieces self.now) (kept_by self.now)
             (take result.0 output.new) }
         ensures few { result.0 ≤ 5 }
@@ -102,6 +106,7 @@ impl BufferDecoder<'_> {
             (take written output.new)) }
         ensures fault { IfErr result (λ error. EndsFaulty (base_of_pieces self.now)
             self.now.kept error) }
+        ensures position { IfErr result (λ error. error.position < self.now.kept.len) }
         ensures few { IfOk result (λ written. written ≤ 5) }
         ensures len { length output.new ≡ length output.old }
     {

@@ -11,6 +11,7 @@ mod error;
 mod fill;
 mod judge;
 mod pieces;
+mod resume;
 mod runs;
 mod watch;
 

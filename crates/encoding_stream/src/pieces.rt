@@ -1,12 +1,13 @@
 //! A text that is decoded piece by piece, into buffers: what is kept of it, and how it is read on.
 
-ghost use Rattle.std.specs.Prelude.{◌≡◌, ℕ, ◌+◌, ◌<◌, ◌≤◌, ◌⊎◌, List, [], ◌∷◌, length, take, IfSome, IsSome};
+ghost use Rattle.std.proofs.Props.{props};
+ghost use Rattle.std.specs.Prelude.{◌≡◌, ℕ, ◌+◌, ◌<◌, ◌≤◌, ◌⊎◌, List, [], ◌∷◌, length, take, All, IfSome, IsSome};
 ghost use Rattle.data_encoding.specs.declared.decode.TheConstants.{DECODE_LIMIT};
 ghost use Rattle.data_encoding.specs.Base.{IsWidth, group_symbols};
 ghost use Rattle.encoding_stream.specs.Specified.{IsBuiltAgain};
 
 use data_encoding::laws::specification_again;
-use data_encoding::laws::steps::pieces;
+use data_encoding::laws::steps::{pieces, whole_groups};
 use data_encoding::{DECODE_LIMIT, DecodeError, Encoding};
 
 /// What is kept of a text between its pieces: plain numbers, from which decoding goes on.
@@ -48,6 +49,8 @@ pub struct BufferDecoder<'a> {
     ghost held: { kept.count ≤ kept.len },
     ghost clear: { IsSome kept.fault → kept.count ≡ 0 },
     ghost limit: { kept.len ≤ DECODE_LIMIT },
+    ghost inside: { All (λ position. position < kept.len) (take kept.count kept.positions) },
+    ghost fault_inside: { IfSome kept.fault (λ error. error.position < kept.len) } by { Prim.hlevel props },
 }
 
 impl<'a> BufferDecoder<'a> {
@@ -55,6 +58,7 @@ impl<'a> BufferDecoder<'a> {
     ghost use Rattle.data_encoding.specs.Pieces.{whole_bytes};
     ghost use Rattle.encoding_stream.specs.Pieces.{base_of_pieces, kept_by, most_completed, GoesOn, Keeps};
     ghost use Rattle.encoding_stream.specs.Reading.{ReadsOn};
+    ghost use Rattle.encoding_stream.specs.Resume.{MayBeKept};
 
     /// A decoder that has read nothing.
     pub fn new(encoding: &'a Encoding) -> BufferDecoder<'a>
@@ -81,20 +85,29 @@ impl<'a> BufferDecoder<'a> {
 
     /// A decoder that goes on from what another of the same encoding kept.
     ///
-    /// Any numbers may be given. `None` where no decoder of this encoding keeps such: the length
-    /// of the text is above `DECODE_LIMIT`, a whole group is held or more bytes than the text has,
-    /// or bytes are held after a fault.
+    /// Any numbers may be given, and are tested. `None` if the length of the text is above
+    /// `DECODE_LIMIT`; if a whole group is held, or a byte that is ignored, or if the positions of
+    /// the held bytes do not ascend below the length; if bytes are held after a fault, if that does
+    /// not lie in the text, or if it is one of the length, or of padding in an encoding of which
+    /// `completes_groups` is false; or if there is none, and a group was final although texts may be
+    /// concatenated. Others may be taken that no decoder keeps: of these it is only sure that each
+    /// call is safe, and that the fault that `finish` returns lies in the text.
     pub fn resumed(encoding: &'a Encoding, kept: Kept) -> Option<BufferDecoder<'a>>
         ensures goes_on { IfSome result (GoesOn encoding.now kept) }
+        ensures tested { IsSome result → MayBeKept encoding.now kept }
         ensures resumes { (text : List ℕ) → Keeps encoding.now kept text
             → length text ≤ DECODE_LIMIT → (IsSome kept.fault → kept.count ≡ 0)
             → IsSome result }
     {
+        whole_groups();
         let mut decoder = BufferDecoder::new(encoding);
         if kept.len > DECODE_LIMIT || kept.count >= decoder.size || kept.count > kept.len {
             return None;
         }
-        if kept.fault.is_some() && kept.count > 0 {
+        if !kept.is_in_order() || kept.holds_ignored(encoding) {
+            return None;
+        }
+        if !kept.has_possible_fault(encoding) {
             return None;
         }
         decoder.kept = kept;

@@ -1,8 +1,9 @@
-use Rattle.std.proofs.Common.{◌≡◌, ◌⊎◌, ◌++◌, List, ℕ, None, Some, drop, refl, sym, ap, ◌∙◌, arith, inl, inr}
+use Rattle.std.proofs.Common.{◌≡◌, ◌⊎◌, ◌++◌, List, ℕ, ◌<◌, None, Some, is_some, drop, refl, sym, ap, subst, ◌∙◌, arith, inl, inr}
 use Rattle.data_encoding.specs.Fault.{fault_of}
+use Rattle.encoding_stream.specs.Pieces.{kept_by}
 use Rattle.data_encoding_c.specs.Pieces.{StandsAfter}
 use Rattle.data_encoding_c.specs.Status.{status_of_fault}
-use Rattle.data_encoding_c.proofs.PieceLemmas.{EndsKept, ended, fault-none, fault-some, kind-faulty, kind-own, no-error, none-stands, one-error}
+use Rattle.data_encoding_c.proofs.PieceLemmas.{EndsKept, ended, fault-inside, fault-none, fault-some, kind-faulty, kind-own, no-error, none-stands, one-error, told-len}
 use Rattle.data_encoding_c.proofs.pieces.finish_by.Goals as goal
 
 pub returns-in_default : goal.returns-in_default
@@ -16,6 +17,9 @@ returns-in_default c =
       position = λ _ text error stands. absurd (none text stands);
       read = λ _ text stands. absurd (none text stands);
       end = λ is. absurd (cc is);
+      given = λ known. absurd (known refl);
+      counted = λ known _. absurd (known refl);
+      inside = λ known _ _. absurd (known refl);
       within = λ _ text stands. absurd (none text stands);
       behind = refl;
       len = refl;
@@ -45,6 +49,11 @@ returns-in-Ok c =
           absurd (no-error (sym (none text stands) ∙ found));
       read = λ _ text stands. now.read_is text stands;
       end = λ _. refl;
+      given = λ _. c.decoder_of.ensures.given (ap is_some c.in-Some.is);
+      counted = λ _ _.
+          c.len-read.ensures.value
+          ∙ told-len c.args.plain.now (kept_by c.in-Some.decoder) c.in-Some.ensures.kept;
+      inside = λ _ _ bad. absurd (bad refl);
       within = λ _ text stands. now.within;
       behind = now.behind;
       len = now.len;
@@ -80,6 +89,14 @@ returns-in-Err c =
           ap (λ e. e.position) (one-error (sym (some text stands) ∙ found));
       read = λ _ text stands. now.read_is text stands;
       end = λ is. absurd (kind-faulty c.in-Err.error.kind (sym c.status_of_kind.ensures ∙ is));
+      given = λ _. c.decoder_of.ensures.given (ap is_some c.in-Some.is);
+      counted = λ _ _.
+          c.len-read.ensures.value
+          ∙ told-len c.args.plain.now (kept_by c.in-Some.decoder) c.in-Some.ensures.kept;
+      inside = λ _ _ _.
+          subst (λ n. c.in-Err.error.position < n) (sym c.len-read.ensures.value)
+          (fault-inside (kept_by c.in-Some.decoder).len end.result.1 c.in-Err.error c.in-Err.is
+          end.ensures.position);
       within = λ _ text stands. now.within;
       behind = now.behind;
       len = now.len;

@@ -4,6 +4,7 @@ use Rattle.data_encoding.specs.Fault.{fault_after, fault_of}
 use Rattle.data_encoding.specs.Lengths.{decoded_len}
 use Rattle.encoding_stream.specs.Pieces.{at_positions}
 use Rattle.encoding_stream.proofs.SizeLemmas.{symbols-few}
+use Rattle.encoding_stream.proofs.OrderLemmas.{is-held}
 use Rattle.encoding_stream.proofs.JudgedLemmas.{due-few, fault-refused, fault-stopped, judged-ended, judged-fault, judged-sound}
 use Rattle.encoding_stream.proofs.pieces.BufferDecoder.judge.Goals.{in-Ok+in-Err-decode_mut, in-Err}
 use Rattle.encoding_stream.proofs.pieces.BufferDecoder.judge.Goals as goal
@@ -89,6 +90,35 @@ returns-in-Ok-decode_mut-clause-few c =
       c.decode_mut.ensures.len,
       c.in-Ok-decode_mut.ensures.decoded.0,
     )
+
+pub decode_len-requires : goal.decode_len-requires
+decode_len-requires c =
+    omega (
+      arith,
+      symbols-few c.args.self.now.encoding.now.width c.args.self.now.width,
+      c.requires.few,
+    )
+
+pub returns-then-self-clause-position : goal.returns-then-self-clause-position
+returns-then-self-clause-position c =
+    let s = c.args.self.now in
+    let few = symbols-few s.encoding.now.width s.width in
+    is-held c.args.count 0 s.kept.positions c.at.result.position c.at.ensures.position
+    c.requires.some (omega (arith, few, c.requires.few))
+
+pub returns-clause-position : goal.returns-clause-position
+returns-clause-position c =
+    let s = c.args.self.now in
+    let few = symbols-few s.encoding.now.width s.width in
+    let size = length-take-le c.args.count s.kept.bytes (omega (arith, few, c.requires.few)) in
+    let inside : c.match-decode_len.fault.position < c.args.count =
+    elim c.match-decode_len.branch [
+      | in-Ok+in-Err-decode_mut w ↦
+          rw w.fault-is (omega (arith, size, w.in-Err-decode_mut.ensures.bounds.1))
+      | in-Err w ↦ rw w.fault-is w.in-Err.ensures.position
+    ] in
+    is-held c.args.count c.match-decode_len.fault.position s.kept.positions
+    c.at-2.result.position c.at-2.ensures.position inside (omega (arith, few, c.requires.few))
 
 pub at-requires-2 : goal.at-requires-2
 at-requires-2 c =

@@ -1,8 +1,11 @@
-use Rattle.std.proofs.Common.{◌≡◌, ◌+◌, ◌∙◌, arith, length, refl, ap, sym, subst, [], ◌∷◌, take, length-take-le}
+use Rattle.std.proofs.lemmas.List.Elements.{All-contains}
+use Rattle.std.proofs.Common.{All, set, ◌<◌, ◌≡◌, ◌+◌, ◌∙◌, arith, length, refl, ap, sym, subst, [], ◌∷◌, take, length-take-le}
 use Rattle.data_encoding.specs.Base.{is_ignored}
 use Rattle.encoding_stream.specs.declared.pieces.BufferDecoder.{BufferDecoder}
 use Rattle.encoding_stream.specs.Reading.{ReadsOn}
+use Rattle.encoding_stream.proofs.OrderLemmas.{inside-more}
 use Rattle.encoding_stream.proofs.PieceLemmas.{is-specified, take-faulty, take-held, take-ignored, take-sound, IsKept}
+use Rattle.encoding_stream.proofs.SizeLemmas.{symbols-few}
 use Rattle.encoding_stream.proofs.ReadPieceLemmas.{most-whole, reads-fault}
 use Rattle.encoding_stream.proofs.pieces.BufferDecoder.take.Goals.{then-is_some-via-then-is_some, then-is_some-via-else-is_some+then-is_ignored}
 use Rattle.encoding_stream.proofs.pieces.BufferDecoder.take.Goals as goal
@@ -90,3 +93,25 @@ returns-in-Err-clause-reads c =
     ∙ c.if-is_ignored.false)
     s.size (omega (arith, s.short, c.if-index-self.false)) c.pieces.ensures.group s.group
     c.in-Err.error c.in-Err.ensures.fault
+
+pub invariant_of-self-then-index-self-clause-inside :
+    goal.invariant_of-self-then-index-self-clause-inside
+invariant_of-self-then-index-self-clause-inside c =
+    let s = c.args.self.now in
+    inside-more s.kept.count s.kept.len s.kept.positions
+    (omega (arith, symbols-few s.encoding.now.width s.width, s.group, s.short)) s.inside
+
+pub invariant_of-self-in-Err-clause-fault_inside :
+    goal.invariant_of-self-in-Err-clause-fault_inside
+invariant_of-self-in-Err-clause-fault_inside c =
+    let s = c.args.self.now in
+    let k = s.kept in
+    let size : s.size ≡ k.count + 1 = omega (arith, s.short, c.if-index-self.false) in
+    let below =
+    inside-more k.count k.len k.positions
+    (omega (arith, symbols-few s.encoding.now.width s.width, s.group, s.short)) s.inside in
+    All-contains (λ p. p < k.len + 1) (take s.size (set k.positions k.count k.len))
+    c.in-Err.error.position
+    (subst (λ n. All (λ p. p < k.len + 1) (take n (set k.positions k.count k.len))) (sym size)
+    below)
+    c.in-Err.ensures.position

@@ -1,0 +1,60 @@
+//! What a caller gives back of a text is tested before a decoder goes on from it.
+
+ghost use Rattle.std.specs.Prelude.{◌≡◌, ◌≤◌, true, false};
+ghost use Rattle.encoding_stream.specs.Resume.{held_positions, is_of_group, Ascend, HasPossibleFault, HoldsNoIgnored};
+
+use crate::pieces::Kept;
+use data_encoding::{DecodeKind, Encoding};
+
+impl Kept {
+    /// Whether the held bytes lie in the text, each after the one before.
+    pub(crate) fn is_in_order(&self) -> bool
+        requires few { self.now.count ≤ 8 }
+        ensures sound { result ≡ true → Ascend 0 self.now.len (held_positions self.now) }
+        ensures complete { Ascend 0 self.now.len (held_positions self.now) → result ≡ true }
+    {
+        let mut start = 0;
+        for position in &self.positions[..self.count] {
+            if *position < start || *position >= self.len {
+                return false;
+            }
+            start = *position + 1;
+        }
+        true
+    }
+
+    /// Whether one of the held bytes is ignored.
+    pub(crate) fn holds_ignored(&self, encoding: &Encoding) -> bool
+        requires few { self.now.count ≤ 8 }
+        ensures sound { result ≡ false → HoldsNoIgnored encoding.now self.now }
+        ensures complete { HoldsNoIgnored encoding.now self.now → result ≡ false }
+    {
+        self.bytes[..self.count]
+            .iter()
+            .any(|byte| encoding.interpret_byte(*byte).is_ignored())
+    }
+
+    /// Whether a decoder of this encoding may keep the fault with the rest, or that there is none.
+    pub(crate) fn has_possible_fault(&self, encoding: &Encoding) -> bool
+        ensures sound { result ≡ true → HasPossibleFault encoding.now self.now }
+        ensures complete { HasPossibleFault encoding.now self.now → result ≡ true }
+    {
+        match self.fault {
+            Some(error) => {
+                self.count == 0 && error.position < self.len && is_of_group(encoding, error.kind)
+            }
+            None => !self.ended || !encoding.concatenates(),
+        }
+    }
+}
+
+// Whether a whole group may have a fault of this kind, as far as its getters tell of an encoding.
+fn is_of_group(encoding: &Encoding, kind: DecodeKind) -> bool
+    ensures { result ≡ is_of_group encoding.now kind }
+{
+    match kind {
+        DecodeKind::Length => false,
+        DecodeKind::Padding => encoding.completes_groups(),
+        DecodeKind::Symbol | DecodeKind::Trailing => true,
+    }
+}
