@@ -5,7 +5,9 @@ ghost use Rattle.std.specs.Prelude.{◌≤◌, length};
 
 use super::judge::{Judge, Judgement};
 use conformance::callers::buffers::decode_kept;
-use data_encoding::{DECODE_LIMIT, DecodeError, DecodeKind, Encoding, base64};
+use data_encoding::{
+    DECODE_LIMIT, DecodeError, DecodeKind, Encoding, base64, base64_mime, base64_nopad, hexlower,
+};
 use encoding_stream::{BufferDecoder, Kept};
 use std::alloc::{AllocError, Global};
 use std::test::Fail;
@@ -139,12 +141,52 @@ fn goes_on(len: usize, is_faulty: bool, count: usize) -> bool {
     let kept = Kept {
         len,
         fault,
-        positions: [0; 8],
+        positions: [0, 1, 2, 3, 4, 5, 6, 7],
         bytes: [0; 8],
         count,
         ended: false,
     };
     BufferDecoder::resumed(&base64(), kept).is_some()
+}
+
+// Whether a decoder goes on from eight bytes of which three, all alike, are held.
+fn holds(encoding: &Encoding, positions: (usize, usize, usize), byte: u8) -> bool {
+    let (first, second, third) = positions;
+    let kept = Kept {
+        len: 8,
+        fault: None,
+        positions: [first, second, third, 0, 0, 0, 0, 0],
+        bytes: [byte; 8],
+        count: 3,
+        ended: false,
+    };
+    BufferDecoder::resumed(encoding, kept).is_some()
+}
+
+// Whether a decoder goes on from eight bytes with a fault.
+fn has_fault(encoding: &Encoding, position: usize, kind: DecodeKind) -> bool {
+    let kept = Kept {
+        len: 8,
+        fault: Some(DecodeError { position, kind }),
+        positions: [0; 8],
+        bytes: [0; 8],
+        count: 0,
+        ended: false,
+    };
+    BufferDecoder::resumed(encoding, kept).is_some()
+}
+
+// Whether a decoder goes on from one byte, which is held, at its position or at another.
+fn holds_one(encoding: &Encoding, position: usize, ended: bool) -> bool {
+    let kept = Kept {
+        len: 1,
+        fault: None,
+        positions: [position, 0, 0, 0, 0, 0, 0, 0],
+        bytes: *b"!       ",
+        count: 1,
+        ended,
+    };
+    BufferDecoder::resumed(encoding, kept).is_some()
 }
 
 // Whether a decoder asks for room, and after a fault for none.
@@ -172,4 +214,48 @@ fn refuses_what_no_decoder_keeps(rt: HostRuntime) {
         assert!(rt; goes_on(len, is_faulty, count) == want, "{len} and {count}");
     }
     assert!(rt; asks_for_room());
+}
+
+#[test]
+fn refuses_what_is_held_elsewhere(rt: HostRuntime) {
+    let mime = base64_mime();
+    for (positions, byte, want) in [
+        ((1, 3, 7), b'A', true),
+        ((0, 1, 2), b'A', true),
+        ((1, 3, 8), b'A', false),
+        ((1, 3, 1000), b'A', false),
+        ((1, 1, 7), b'A', false),
+        ((3, 1, 7), b'A', false),
+        ((1, 3, 7), b'!', true),
+        ((1, 3, 7), b'\n', false),
+    ] {
+        let (first, second, third) = positions;
+        let found = holds(&mime, positions, byte);
+        assert!(rt; found == want, "{first}, {second}, {third} and {byte}");
+    }
+    let hexadecimal = hexlower();
+    assert!(rt; holds_one(&hexadecimal, 0, false));
+    assert!(rt; !holds_one(&hexadecimal, 1000, false), "behind the text");
+    assert!(rt; !holds_one(&hexadecimal, 0, true), "after a last group");
+}
+
+#[test]
+fn refuses_faults_that_no_group_has(rt: HostRuntime) {
+    let padded = base64();
+    for (position, kind, want) in [
+        (7, DecodeKind::Symbol, true),
+        (8, DecodeKind::Symbol, false),
+        (1000, DecodeKind::Padding, false),
+        (7, DecodeKind::Padding, true),
+        (7, DecodeKind::Trailing, true),
+        (4, DecodeKind::Length, false),
+    ] {
+        assert!(rt; has_fault(&padded, position, kind) == want, "{position}");
+    }
+    let plain = base64_nopad();
+    assert!(rt; has_fault(&plain, 7, DecodeKind::Symbol));
+    assert!(rt;
+        !has_fault(&plain, 7, DecodeKind::Padding),
+        "padding without padding"
+    );
 }

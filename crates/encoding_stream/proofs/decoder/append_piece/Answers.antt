@@ -41,8 +41,9 @@ returns-in_err-reserve-clause-no_group g c = λ text is none.
     let read : ℕ = first.result.0 in
     let written : ℕ = first.result.1 in
     let few =
-    front-adds-none base (is-specified c.args.pieces.now) c.pieces.ensures.grows text (take read piece)
-    (drop read piece) (take written first.new.buffer) (first.ensures.reads.decodes text is)
+    front-adds-none base (is-specified c.args.pieces.now) c.pieces.ensures.grows text
+    (take read piece) (drop read piece) (take written first.new.buffer)
+    (first.ensures.reads.decodes text is)
     (ap (λ p. whole_bytes base (text ++ p)) (take-append-drop read piece) ∙ none) in
     let no : ⊥ =
     omega (
