@@ -88,7 +88,8 @@ not-true false h = refl
 
 -- What is kept of a text passes the tests of what a caller gives back.
 module _ (base : Base) (is : IsSpecified base) (width : IsWidth base.width)
-    (joins : JoinsUnpadded) (nowhere : EndsNowhere) (text : List ℕ) (len count : ℕ) (positions bytes : List ℕ) (ended : Bool) (h : count ≤ length positions)
+    (joins : JoinsUnpadded) (nowhere : EndsNowhere) (text : List ℕ) (len count : ℕ)
+    (positions bytes : List ℕ) (ended : Bool) (h : count ≤ length positions)
     (k : count ≤ length bytes) where
   in-order : (fault : Option DecodeError)
       → HasRead base text len fault (at_positions count positions bytes) ended
@@ -155,8 +156,8 @@ may-be-kept base is width joins nowhere text kept h k reads limit clear =
           in-order base is width joins nowhere text kept.len kept.count kept.positions kept.bytes
           kept.ended there here kept.fault reads clear;
       none_ignored =
-          none-ignored base is width joins nowhere text kept.len kept.count kept.positions kept.bytes
-          kept.ended there here kept.fault reads clear;
+          none-ignored base is width joins nowhere text kept.len kept.count kept.positions
+          kept.bytes kept.ended there here kept.fault reads clear;
       fault = record {
         clear = clear;
         inside =

@@ -50,7 +50,7 @@ pub struct BufferDecoder<'a> {
     ghost clear: { IsSome kept.fault → kept.count ≡ 0 },
     ghost limit: { kept.len ≤ DECODE_LIMIT },
     ghost inside: { All (λ position. position < kept.len) (take kept.count kept.positions) },
-    ghost fault_inside: { IfSome kept.fault (λ error. error.position < kept.len) } by { Prim.hlevel props },
+    ghost fault_inside: { IfSome kept.fault (λ e. e.position < kept.len) } by { Prim.hlevel props },
 }
 
 impl<'a> BufferDecoder<'a> {
@@ -89,9 +89,9 @@ impl<'a> BufferDecoder<'a> {
     /// `DECODE_LIMIT`; if a whole group is held, or a byte that is ignored, or if the positions of
     /// the held bytes do not ascend below the length; if bytes are held after a fault, if that does
     /// not lie in the text, or if it is one of the length, or of padding in an encoding of which
-    /// `completes_groups` is false; or if there is none, and a group was final although texts may be
-    /// concatenated. Others may be taken that no decoder keeps: of these it is only sure that each
-    /// call is safe, and that the fault that `finish` returns lies in the text.
+    /// `completes_groups` is false; or if there is none, and a group was final although texts may
+    /// be concatenated. Others may be taken that no decoder keeps: of these it is only sure that
+    /// each call is safe, and that the fault that `finish` returns lies in the text.
     pub fn resumed(encoding: &'a Encoding, kept: Kept) -> Option<BufferDecoder<'a>>
         ensures goes_on { IfSome result (GoesOn encoding.now kept) }
         ensures tested { IsSome result → MayBeKept encoding.now kept }
