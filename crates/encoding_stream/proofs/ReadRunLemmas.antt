@@ -54,14 +54,6 @@ run-sound base is law piece bytes means whole text len reads =
     let next = law base is text piece bytes len reads means whole.whole in
     (rw whole.not_final at next.0, next.1)
 
-pub due-group : (base : Base) → IsSpecified base → CountsGroups → (size : ℕ)
-    → size ≡ group_symbols base.width → decoded_len base size ≡ Ok (group_bytes base.width)
-due-group base is law size same =
-    let symbols : 1 * group_symbols base.width ≡ size = omega (arith, same) in
-    let bytes : 1 * group_bytes base.width ≡ group_bytes base.width = omega arith in
-    subst (λ n. decoded_len base n ≡ Ok (group_bytes base.width)) symbols
-    (subst (λ n. decoded_len base (1 * group_symbols base.width) ≡ Ok n) bytes (law base is 1))
-
 -- no group is final where the bytes are whole groups
 not-both : (a b : Bool) → b ≡ true → (a && not b) ≡ false
 not-both true b is = ap not is

@@ -238,8 +238,8 @@ impl EncodingRef<'_> {
         Step::More
     }
 
-    // Whether a text ends after a final group: any group that follows is a fault, at its first byte.
-    // The output is read and written no more.
+    // Whether a text ends after a final group: any group that follows is a fault, at its first
+    // byte. The output is read and written no more.
     #[inline(never)]
     fn is_end<G: GroupSize>(&self, input: &[u8], stop: &mut Stop) -> bool
         requires width { self.now.width ≡ G.WIDTH }
