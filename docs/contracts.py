@@ -168,7 +168,7 @@ def name_of(line):
 
 def imports_of(text):
     """The definitions that a file imports: crate, module and name of each."""
-    used = re.findall(r"ghost use Rattle\.(\w+)\.specs\.(\w+)\.\{(.*?)\};", text, re.DOTALL)
+    used = re.findall(r"ghost use Rattle\.(\w+)\.specs\.(?:\w+\.)?(\w+)\.\{(.*?)\};", text, re.DOTALL)
     return {(crate, module, name) for crate, module, all_names in used
             for name in re.findall(r"[^\s,]+", all_names)}
 
@@ -234,14 +234,15 @@ def types_of(path):
 def definitions():
     """Each definition of specs/ by crate, module and name: the comment above it, and its lines."""
     found = {}
-    for path in sorted(TOP.glob("crates/*/specs/*.antt")):
+    for path in sorted(TOP.glob("crates/*/specs/**/*.antt")):
+        crate = path.relative_to(TOP).parts[1]
         for part in path.read_text().split("\n\n"):
             lines = part.strip("\n").split("\n")
             comment = [line for line in lines if line.startswith("--")]
             rest = [line for line in lines if not line.startswith("--")]
             head = re.match(DEFINITION, rest[0]) if rest else None
             if head:
-                found[path.parts[-3], path.stem, head[1]] = comment, rest
+                found[crate, path.stem, head[1]] = comment, rest
     return found
 
 

@@ -29,7 +29,7 @@ sees 'a call that is new' $encode '    fn padded_len' '    pub fn padded_len'
 sees 'a call that is gone' $encode 'pub fn encode_align' 'fn encode_align'
 sees 'a definition that changed' crates/encoding_stream/specs/Encoded.antt \
     'pub at_end : IsAtEnd read_new' 'pub at_end : IsAtEnd read_old'
-sees 'a law that changed' crates/data_encoding_meaning/specs/Laws.antt '→ one ≡ other' '→ other ≡ one'
+sees 'a law that changed' crates/data_encoding_meaning/specs/laws/Laws.antt '→ one ≡ other' '→ other ≡ one'
 
 sees 'a clause that docs/PROVED.md shows otherwise' docs/PROVED.md \
     'IfOk result (λ bytes. Means self.now input.now bytes.items)' \
@@ -58,8 +58,8 @@ unnamed() {
 
 missing=$(unnamed docs/ARCHITECTURE.md crates/{data_encoding{_meaning,_kernel,},encoding_stream}/src/*.rt)
 is 'files that docs/ARCHITECTURE.md does not name' '' "$missing"
-missing=$(unnamed docs/DEFINITIONS.md $(ls crates/{data_encoding{_meaning,_kernel,},encoding_stream}/specs/*.antt |
-    grep -v /Lib.antt))
+modules=$(find crates/{data_encoding{_meaning,_kernel,},encoding_stream}/specs -name '[A-Z]*.antt' ! -name Lib.antt)
+missing=$(unnamed docs/DEFINITIONS.md $modules)
 is 'modules that docs/DEFINITIONS.md does not name' '' "$missing"
 
 finish

@@ -42,7 +42,7 @@ rows() {
 definitions() {
     local part
     for part in $(parts "$1"); do
-        ls crates/"$part"/specs/*.antt
+        find "crates/$part/specs" -name '*.antt'
     done
 }
 

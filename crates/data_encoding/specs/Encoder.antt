@@ -7,9 +7,9 @@ use Rattle.std.specs.contracts.impls.GlobalAllocator.TheImpl.{ghosts}
 use Rattle.std.specs.contracts.string.String as string
 use mathlib.Core.Option as maybe
 use Rattle.data_encoding.specs.declared.encode.encoder.Encoder.{Encoder}
-use Rattle.data_encoding_meaning.specs.Base.{Base}
-use Rattle.data_encoding_meaning.specs.Fragments.{HasEncoded}
-use Rattle.data_encoding_meaning.specs.Text.{text_of}
+use Rattle.data_encoding_meaning.specs.text.Base.{Base}
+use Rattle.data_encoding_meaning.specs.text.Fragments.{HasEncoded}
+use Rattle.data_encoding_meaning.specs.text.Text.{text_of}
 
 -- the encoding
 abbrev pub base_of_encoder : Encoder → Base

@@ -2,8 +2,8 @@
 use Rattle.std.specs.Prelude.{◌≡◌, ℕ, zero, suc, Bool, ◌/◌, ◌%◌, ◌^◌, ◌<◌, ◌==◌, nat_lt, ◌||◌, not, IsTrue, List, [], length, map, replicate, take, drop, slice_index, Option, None, Some, is_some}
 use Rattle.std.specs.List.{concat, list_all, range_with_len}
 use Rattle.data_encoding_meaning.specs.declared.encoding.BitOrder.{BitOrder}
-use Rattle.data_encoding_meaning.specs.Base.{Base, IsWidth, ignores_some, group_symbols, wrapping_by}
-use Rattle.data_encoding_meaning.specs.Entries.{meaning_of_entry, is_entry_of}
+use Rattle.data_encoding_meaning.specs.text.Base.{Base, IsWidth, ignores_some, group_symbols, wrapping_by}
+use Rattle.data_encoding_meaning.specs.specification.Entries.{meaning_of_entry, is_entry_of}
 
 -- the tables, by which an encoding encodes and decodes
 pub record EncodingTables : Type 0 where

@@ -1,6 +1,6 @@
 -- What a contract sees of a `PlainEncoding`.
 use Rattle.data_encoding.specs.declared.plain.PlainEncoding.{PlainEncoding}
-use Rattle.data_encoding_meaning.specs.Base.{Base}
+use Rattle.data_encoding_meaning.specs.text.Base.{Base}
 use Rattle.data_encoding.specs.Encoding.{base_of_tables}
 use Rattle.data_encoding.specs.PlainTables.{plain_tables}
 

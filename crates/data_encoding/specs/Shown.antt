@@ -1,7 +1,7 @@
 -- What a `Display` shows.
 use Rattle.std.specs.Prelude.{ℕ, List}
 use Rattle.data_encoding.specs.declared.encode.display.Display.{Display}
-use Rattle.data_encoding_meaning.specs.Text.{text_of}
+use Rattle.data_encoding_meaning.specs.text.Text.{text_of}
 
 -- its data
 abbrev pub shown_data : Display → List ℕ

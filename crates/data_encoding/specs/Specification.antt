@@ -8,7 +8,7 @@ use Rattle.data_encoding.specs.declared.specification.Specification.{Specificati
 use Rattle.data_encoding.specs.declared.specification.SpecificationError.{SpecificationError}
 use Rattle.data_encoding.specs.declared.specification.Translate.{Translate}
 use Rattle.data_encoding.specs.declared.specification.Wrap.{Wrap}
-use Rattle.data_encoding_meaning.specs.Fields.{Fields}
+use Rattle.data_encoding_meaning.specs.specification.Fields.{Fields}
 
 abbrev pub specified : Specification → Fields
 specified s = record {

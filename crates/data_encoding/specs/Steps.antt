@@ -5,10 +5,10 @@ use Rattle.data_encoding.specs.declared.decode.Stop.{Stop}
 use Rattle.data_encoding.specs.declared.decode.steps.Step.{Step}
 use Rattle.data_encoding.specs.declared.decode.steps.Step.TheVariants.{More, Ended, Faulty}
 use Rattle.data_encoding_meaning.specs.declared.error.GroupFault.{GroupFault}
-use Rattle.data_encoding_meaning.specs.Base.{Base}
-use Rattle.data_encoding_meaning.specs.Grammar.{kept}
-use Rattle.data_encoding_meaning.specs.Partial.{StopsAt, is_length_fault}
-use Rattle.data_encoding_meaning.specs.Decoding.{HasDecodedTo, HasRoom, IsDecoded, IsStop}
+use Rattle.data_encoding_meaning.specs.text.Base.{Base}
+use Rattle.data_encoding_meaning.specs.text.Grammar.{kept}
+use Rattle.data_encoding_meaning.specs.decoding.Partial.{StopsAt, is_length_fault}
+use Rattle.data_encoding_meaning.specs.decoding.Decoding.{HasDecodedTo, HasRoom, IsDecoded, IsStop}
 
 abbrev pub fault_of_stop : Stop → GroupFault
 fault_of_stop stop = record { index = stop.index; kind = stop.kind }

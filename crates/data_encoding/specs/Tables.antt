@@ -1,8 +1,8 @@
 -- Tables that serve a base: what the loops over groups look up.
 use Rattle.std.specs.Prelude.{◌≡◌, map}
 use Rattle.data_encoding.specs.declared.specification.tables.Tables.{Tables}
-use Rattle.data_encoding_meaning.specs.Base.{Base}
-use Rattle.data_encoding_meaning.specs.Entries.{meaning_of_entry}
+use Rattle.data_encoding_meaning.specs.text.Base.{Base}
+use Rattle.data_encoding_meaning.specs.specification.Entries.{meaning_of_entry}
 
 -- They have the symbols, the meanings and the padding character of the base.
 pub record HasTables (base : Base) (tables : Tables) : Type 0 where

@@ -7,12 +7,12 @@ pub(crate) mod steps;
 pub(crate) mod text;
 
 ghost use Rattle.std.specs.Prelude.{◌≡◌, ℕ, List, true, ◌+◌, ◌-◌, ◌*◌, ◌/◌, ◌<◌, ◌≤◌, ◌⊎◌, length, take, drop, None, Some, Ok, Err, IfOk, IfErr, IfSome, IsOk, IsOkAnd};
-ghost use Rattle.data_encoding_meaning.specs.Decoding.{HasNoLastRun, HasRoom, IsLastRun, IsStop};
+ghost use Rattle.data_encoding_meaning.specs.decoding.Decoding.{HasNoLastRun, HasRoom, IsLastRun, IsStop};
 ghost use Rattle.data_encoding.specs.Steps.{fault_of_stop};
-ghost use Rattle.data_encoding_meaning.specs.Fault.{IsRefusal, fault_of, sound_bytes};
-ghost use Rattle.data_encoding_meaning.specs.Grammar.{Means, kept};
-ghost use Rattle.data_encoding_meaning.specs.Lengths.{decoded_len};
-ghost use Rattle.data_encoding_meaning.specs.Partial.{is_length_fault, partial_of};
+ghost use Rattle.data_encoding_meaning.specs.decoding.Fault.{IsRefusal, fault_of, sound_bytes};
+ghost use Rattle.data_encoding_meaning.specs.text.Grammar.{Means, kept};
+ghost use Rattle.data_encoding_meaning.specs.text.Lengths.{decoded_len};
+ghost use Rattle.data_encoding_meaning.specs.decoding.Partial.{is_length_fault, partial_of};
 
 use crate::encoding::{Encoding, EncodingRef};
 use crate::error::{DecodeError, DecodeFault, DecodeKind, DecodePartial};

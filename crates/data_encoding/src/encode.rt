@@ -7,12 +7,12 @@ pub(crate) mod lines;
 
 ghost use Rattle.std.specs.Prelude.{◌≡◌, All, ℕ, ◌<◌, ◌+◌, ◌-◌, ◌*◌, ◌/◌, ◌≤◌, List, ◌++◌, length, drop, flat_map, IfOk, IsOk, IsSome};
 ghost use Rattle.std.specs.String.{string_bytes};
-ghost use Rattle.data_encoding_meaning.specs.Base.{IsWidth, group_bytes, group_symbols};
-ghost use Rattle.data_encoding_meaning.specs.Bits.{runs};
-ghost use Rattle.data_encoding_meaning.specs.Fields.{IsSpecified};
-ghost use Rattle.data_encoding_meaning.specs.Lengths.{alignment};
+ghost use Rattle.data_encoding_meaning.specs.text.Base.{IsWidth, group_bytes, group_symbols};
+ghost use Rattle.data_encoding_meaning.specs.text.Bits.{runs};
+ghost use Rattle.data_encoding_meaning.specs.specification.Fields.{IsSpecified};
+ghost use Rattle.data_encoding_meaning.specs.text.Lengths.{alignment};
 ghost use Rattle.data_encoding_kernel.specs.Tables.{Writes};
-ghost use Rattle.data_encoding_meaning.specs.Text.{padded_text, plain_text, text_of};
+ghost use Rattle.data_encoding_meaning.specs.text.Text.{padded_text, plain_text, text_of};
 
 use crate::encoding::{Encoding, EncodingRef, group_bytes};
 use crate::memory::zeros;

@@ -1,9 +1,9 @@
 //! Encodings, and the words that describe them.
 
 ghost use Rattle.std.specs.Prelude.{◌≡◌, ◌<◌, ◌≤◌, ◌-◌, ◌==◌, ◌||◌, MatchResult};
-ghost use Rattle.data_encoding_meaning.specs.Base.{IsWidth, group_bytes, group_symbols, ignores_some, is_padded, meaning};
-ghost use Rattle.data_encoding_meaning.specs.Fields.{IsSpecified};
-ghost use Rattle.data_encoding_meaning.specs.Lengths.{most_bytes};
+ghost use Rattle.data_encoding_meaning.specs.text.Base.{IsWidth, group_bytes, group_symbols, ignores_some, is_padded, meaning};
+ghost use Rattle.data_encoding_meaning.specs.specification.Fields.{IsSpecified};
+ghost use Rattle.data_encoding_meaning.specs.text.Lengths.{most_bytes};
 
 use crate::plain::PlainFields;
 pub use data_encoding_meaning::encoding::{BitOrder, Character};
@@ -30,7 +30,7 @@ pub struct Encoding {
 }
 
 impl Model for Encoding {
-    ghost use Rattle.data_encoding_meaning.specs.Base.{Base};
+    ghost use Rattle.data_encoding_meaning.specs.text.Base.{Base};
 
     ghost Value = { Base };
 
@@ -51,7 +51,7 @@ pub struct EncodingRef<'a> {
 }
 
 impl<'a> Model for EncodingRef<'a> {
-    ghost use Rattle.data_encoding_meaning.specs.Base.{Base};
+    ghost use Rattle.data_encoding_meaning.specs.text.Base.{Base};
 
     ghost Value = { Base };
 
@@ -235,7 +235,7 @@ impl PartialEq for Encoding {
     ghost use Rattle.std.specs.Ordering.{on};
     ghost use Rattle.std.specs.Cmp.{on_per, partial_equiv_from_equiv};
     ghost use Rattle.std.specs.Cmp.Lexicographic.{nat_list_eq_equiv};
-    ghost use Rattle.data_encoding_meaning.specs.Layout.{layout};
+    ghost use Rattle.data_encoding_meaning.specs.specification.Layout.{layout};
 
     ghost eq = { on layout bytes_eq };
 
@@ -275,7 +275,7 @@ impl PartialEq for Encoding {
 impl Eq for Encoding {
     ghost use Rattle.std.specs.Cmp.{on_equiv};
     ghost use Rattle.std.specs.Cmp.Lexicographic.{nat_list_eq_equiv};
-    ghost use Rattle.data_encoding_meaning.specs.Layout.{layout};
+    ghost use Rattle.data_encoding_meaning.specs.specification.Layout.{layout};
 
     ghost laws = { on_equiv layout nat_list_eq_equiv };
 }

@@ -11,9 +11,9 @@ pub(crate) mod tables;
 ghost use Rattle.std.specs.Prelude.{◌≡◌, ◌<◌, ◌++◌, ◌∷◌, [], length, nat_lt, IsTrue, IfOk, IfErr, OnOk, Ok, Err};
 ghost use Rattle.std.specs.List.{list_all};
 ghost use Rattle.std.specs.String.{string_bytes};
-ghost use Rattle.data_encoding_meaning.specs.Fields.{base_of};
-ghost use Rattle.data_encoding_meaning.specs.Layout.{fields_of};
-ghost use Rattle.data_encoding_meaning.specs.Printed.{printed_refusal};
+ghost use Rattle.data_encoding_meaning.specs.specification.Fields.{base_of};
+ghost use Rattle.data_encoding_meaning.specs.specification.Layout.{fields_of};
+ghost use Rattle.data_encoding_meaning.specs.decoding.Printed.{printed_refusal};
 ghost use Rattle.data_encoding.specs.Tables.{HasTables};
 ghost use Rattle.data_encoding.specs.Specification.{specified, no_fields, refusal_of, SameTranslate, SameWrap};
 

@@ -1,9 +1,9 @@
 -- Runs of whole groups that are symbols alone.
 use Rattle.std.specs.Prelude.{◌≡◌, ℕ, ◌+◌, ◌*◌, ◌/◌, ◌<◌, ◌≤◌, true, false, List, length, take, slice_index}
 use Rattle.data_encoding_meaning.specs.declared.encoding.BitOrder.{BitOrder}
-use Rattle.data_encoding_meaning.specs.Base.{Base, meaning, is_symbol, group_bytes, group_symbols}
+use Rattle.data_encoding_meaning.specs.text.Base.{Base, meaning, is_symbol, group_bytes, group_symbols}
 use Rattle.data_encoding_kernel.specs.Tables.{Reads}
-use Rattle.data_encoding_meaning.specs.Decoding.{run_bytes}
+use Rattle.data_encoding_meaning.specs.decoding.Decoding.{run_bytes}
 
 -- This many whole groups in a row, from the front of a part of a text, are symbols alone; their
 -- bytes stand at the front of the output, which keeps its length.

@@ -2,8 +2,8 @@
 use Rattle.std.specs.Prelude.{◌≡◌, ℕ, ◌%◌, ◌^◌, ◌<◌, ◌≤◌, ◌==◌, false, List, slice_index}
 use Rattle.data_encoding_meaning.specs.declared.encoding.Character.TheVariants.{Symbol}
 use Rattle.data_encoding_meaning.specs.declared.encoding.BitOrder.{BitOrder}
-use Rattle.data_encoding_meaning.specs.Base.{Base, IsWidth, meaning, symbol, is_symbol, is_padding, is_ignored}
-use Rattle.data_encoding_meaning.specs.Text.{plain_text}
+use Rattle.data_encoding_meaning.specs.text.Base.{Base, IsWidth, meaning, symbol, is_symbol, is_padding, is_ignored}
+use Rattle.data_encoding_meaning.specs.text.Text.{plain_text}
 
 -- At each byte stands the symbol of the value in its lowest bits.
 pub record HoldsSymbols (base : Base) (symbols : List ℕ) : Type 0 where

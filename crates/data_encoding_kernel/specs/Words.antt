@@ -2,7 +2,7 @@
 use Rattle.std.specs.Prelude.{ℕ, ◌-◌, ◌*◌, ◌/◌, ◌%◌, ◌^◌, List, ◌++◌, length, replicate, flat_map}
 use Rattle.data_encoding_meaning.specs.declared.encoding.BitOrder.{BitOrder}
 use Rattle.data_encoding_meaning.specs.declared.encoding.BitOrder.TheVariants.{MostSignificantFirst, LeastSignificantFirst}
-use Rattle.data_encoding_meaning.specs.Bits.{bits_of, number_of}
+use Rattle.data_encoding_meaning.specs.text.Bits.{bits_of, number_of}
 
 -- how many bits of a word are below a digit, by the number of digits and the bits of each
 abbrev pub weight : BitOrder → ℕ → ℕ → ℕ → ℕ

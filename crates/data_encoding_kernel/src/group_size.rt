@@ -2,7 +2,7 @@
 
 ghost use Rattle.std.specs.Prelude.{ℕ, refl};
 ghost use Rattle.std.proofs.Common.{lit<, lit≤};
-ghost use Rattle.data_encoding_meaning.specs.Base.{IsGroup};
+ghost use Rattle.data_encoding_meaning.specs.text.Base.{IsGroup};
 
 /// Calls a method with the type of a width, from 1 to 6, as its last type argument. The width is
 /// then a constant, and with it the sizes of a group: loops over a group are unrolled.

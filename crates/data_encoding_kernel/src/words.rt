@@ -2,8 +2,8 @@
 
 ghost use Rattle.std.specs.Prelude.{◌≡◌, ℕ, ◌+◌, ◌-◌, ◌*◌, ◌/◌, ◌%◌, ◌^◌, ◌<◌, ◌≤◌, ◌↔◌, length, map, slice_index, IsTrue};
 ghost use Rattle.std.specs.List.{range_with_len};
-ghost use Rattle.data_encoding_meaning.specs.Base.{Base, meaning};
-ghost use Rattle.data_encoding_meaning.specs.Fault.{symbol_bytes};
+ghost use Rattle.data_encoding_meaning.specs.text.Base.{Base, meaning};
+ghost use Rattle.data_encoding_meaning.specs.decoding.Fault.{symbol_bytes};
 ghost use Rattle.data_encoding_kernel.specs.Tables.{IsTextBy, Reads};
 ghost use Rattle.data_encoding_kernel.specs.Words.{weight, digit, low_byte, word_of};
 

@@ -1,7 +1,7 @@
 //! The order of bits, and what a byte of a text means.
 
 ghost use Rattle.std.specs.Prelude.{◌≡◌};
-ghost use Rattle.data_encoding_meaning.specs.Base.{is_ignored, is_invalid, is_padding, value_of};
+ghost use Rattle.data_encoding_meaning.specs.text.Base.{is_ignored, is_invalid, is_padding, value_of};
 
 /// Which bit of a byte comes first.
 #[derive(Clone, Copy, Debug, PartialEq, Eq)]

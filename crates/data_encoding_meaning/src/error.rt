@@ -1,7 +1,7 @@
 //! Faults of texts: what is wrong, where, and what is printed of it.
 
 ghost use Rattle.std.specs.Prelude.{Some};
-ghost use Rattle.data_encoding_meaning.specs.Printed.{printed_error, printed_fault, printed_kind};
+ghost use Rattle.data_encoding_meaning.specs.decoding.Printed.{printed_error, printed_fault, printed_kind};
 
 use std::alloc::AllocError;
 use std::error::Error;

@@ -3,15 +3,15 @@
 //! The laws here are what a user concludes from. The steps by which a decoder proves that it reads
 //! a text in pieces stand in `steps`.
 
-ghost use Rattle.data_encoding_meaning.specs.Canonical.{Canonical, NotCanonical};
-ghost use Rattle.data_encoding_meaning.specs.OneLayout.{Layouts, OneLayout};
-ghost use Rattle.data_encoding_meaning.specs.Laws.{JoinDecode, JoinEncode, JoinFault, NoOrder, OneMeaning, Order, Resume, RoundTrip, SoundMeans, SpecificationAgain, Unpadded};
-ghost use Rattle.data_encoding_meaning.specs.Compared.{OrderOfData, OrderOfTexts};
-ghost use Rattle.data_encoding_meaning.specs.Eighteen.{CanonicalByCauses, SixAreCanonical, SixAreOrdered};
-ghost use Rattle.data_encoding_meaning.specs.FaultStays.{FaultStays, GroupFaultStays, NoFaultBefore};
-ghost use Rattle.data_encoding_meaning.specs.Tight.{LengthAgain, LengthOfText, MeansMost};
-ghost use Rattle.data_encoding_meaning.specs.Verdicts.{FixedLength, Injective, MeansSound};
-ghost use Rattle.data_encoding_meaning.specs.SameMeaning.{OwnForm, OwnForms, OwnText, SameButSymbols, SameKeptBytes, Translated};
+ghost use Rattle.data_encoding_meaning.specs.laws.Canonical.{Canonical, NotCanonical};
+ghost use Rattle.data_encoding_meaning.specs.specification.OneLayout.{Layouts, OneLayout};
+ghost use Rattle.data_encoding_meaning.specs.laws.Laws.{JoinDecode, JoinEncode, JoinFault, NoOrder, OneMeaning, Order, Resume, RoundTrip, SoundMeans, SpecificationAgain, Unpadded};
+ghost use Rattle.data_encoding_meaning.specs.laws.Compared.{OrderOfData, OrderOfTexts};
+ghost use Rattle.data_encoding_meaning.specs.laws.Eighteen.{CanonicalByCauses, SixAreCanonical, SixAreOrdered};
+ghost use Rattle.data_encoding_meaning.specs.laws.FaultStays.{FaultStays, GroupFaultStays, NoFaultBefore};
+ghost use Rattle.data_encoding_meaning.specs.laws.Tight.{LengthAgain, LengthOfText, MeansMost};
+ghost use Rattle.data_encoding_meaning.specs.laws.Verdicts.{FixedLength, Injective, MeansSound};
+ghost use Rattle.data_encoding_meaning.specs.laws.SameMeaning.{OwnForm, OwnForms, OwnText, SameButSymbols, SameKeptBytes, Translated};
 
 pub mod steps;
 

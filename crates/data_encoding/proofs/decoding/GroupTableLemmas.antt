@@ -7,9 +7,9 @@ use Rattle.std.specs.List.{filter_map, list_any, position}
 use Rattle.data_encoding_meaning.specs.declared.encoding.Character.{Character}
 use Rattle.data_encoding_meaning.specs.declared.encoding.Character.TheVariants.{Padding as PaddingCharacter}
 use Rattle.data_encoding_meaning.specs.declared.error.DecodeKind.TheVariants.{Symbol as SymbolFault, Trailing as TrailingFault}
-use Rattle.data_encoding_meaning.specs.Base.{Base, meaning, is_padded, is_padding, is_symbol, value_of}
-use Rattle.data_encoding_meaning.specs.Decoding.{HasFault, HasSymbols, IsDecodedGroup}
-use Rattle.data_encoding_meaning.specs.Fault.{count_before_padding, group_fault, symbol_bytes, trailing_bits, trailing_fault}
+use Rattle.data_encoding_meaning.specs.text.Base.{Base, meaning, is_padded, is_padding, is_symbol, value_of}
+use Rattle.data_encoding_meaning.specs.decoding.Decoding.{HasFault, HasSymbols, IsDecodedGroup}
+use Rattle.data_encoding_meaning.specs.decoding.Fault.{count_before_padding, group_fault, symbol_bytes, trailing_bits, trailing_fault}
 use Rattle.data_encoding_kernel.specs.Tables.{HoldsValues}
 use Rattle.data_encoding_meaning.proofs.lists.EndLemmas.{AllSo, count_before_end-at, count_before_end-map, end-passes}
 use Rattle.data_encoding_meaning.proofs.lists.ListLemmas.{list_any-none}

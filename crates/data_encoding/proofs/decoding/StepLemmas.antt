@@ -11,14 +11,14 @@ use Rattle.data_encoding_meaning.proofs.decoding.WholeLengthLemmas.{most_bytes-f
 use Rattle.data_encoding_meaning.specs.declared.error.DecodeError.{DecodeError}
 use Rattle.data_encoding_meaning.specs.declared.error.DecodePartial.{DecodePartial}
 use Rattle.data_encoding_meaning.specs.declared.error.GroupFault.{GroupFault}
-use Rattle.data_encoding_meaning.specs.Base.{Base, IsWidth, group_bytes, group_symbols, is_padded, meaning, IsGroup}
-use Rattle.data_encoding_meaning.specs.Decoding.{HasFault, HasNoLastRun, HasRoom, IsDecoded, IsDecodedGroup, IsGathered, IsLastRun, IsIgnoredFront, valid_front, HasDecodedTo}
+use Rattle.data_encoding_meaning.specs.text.Base.{Base, IsWidth, group_bytes, group_symbols, is_padded, meaning, IsGroup}
+use Rattle.data_encoding_meaning.specs.decoding.Decoding.{HasFault, HasNoLastRun, HasRoom, IsDecoded, IsDecodedGroup, IsGathered, IsLastRun, IsIgnoredFront, valid_front, HasDecodedTo}
 use Rattle.data_encoding_kernel.specs.Runs.{IsRun}
 use Rattle.data_encoding.specs.Steps.{HasStopped}
-use Rattle.data_encoding_meaning.specs.Fault.{position_of}
-use Rattle.data_encoding_meaning.specs.Grammar.{Positioned, bytes_in, kept, kept_from}
-use Rattle.data_encoding_meaning.specs.Lengths.{decoded_len, greatest_valid_length, length_fault, most_bytes}
-use Rattle.data_encoding_meaning.specs.Partial.{StopsAt, is_length_fault}
+use Rattle.data_encoding_meaning.specs.decoding.Fault.{position_of}
+use Rattle.data_encoding_meaning.specs.text.Grammar.{Positioned, bytes_in, kept, kept_from}
+use Rattle.data_encoding_meaning.specs.text.Lengths.{decoded_len, greatest_valid_length, length_fault, most_bytes}
+use Rattle.data_encoding_meaning.specs.decoding.Partial.{StopsAt, is_length_fault}
 use Rattle.data_encoding_meaning.proofs.grammar.LengthLemmas.{decoded_len-counted, is_valid_length-by}
 use Rattle.data_encoding_meaning.proofs.grammar.GroupLemmas.{GroupMeans-sound}
 use Rattle.data_encoding_meaning.proofs.lists.WriteLemmas.{length-rewritten, length-rewritten_same, rewritten, take-rewritten}

@@ -12,11 +12,11 @@ use Rattle.std.proofs.Math.Seq.{drop-append-add}
 use Rattle.std.specs.List.{list_any, position, prefix_len}
 use Rattle.data_encoding_meaning.specs.declared.encoding.BitOrder.{BitOrder}
 use Rattle.data_encoding_meaning.specs.declared.encoding.BitOrder.TheVariants.{MostSignificantFirst, LeastSignificantFirst}
-use Rattle.data_encoding_meaning.specs.Base.{Base, meaning, is_symbol}
-use Rattle.data_encoding_meaning.specs.Bits.{bits_of, low_bits, number_of_low_bits}
-use Rattle.data_encoding_meaning.specs.Lengths.{is_valid_count}
+use Rattle.data_encoding_meaning.specs.text.Base.{Base, meaning, is_symbol}
+use Rattle.data_encoding_meaning.specs.text.Bits.{bits_of, low_bits, number_of_low_bits}
+use Rattle.data_encoding_meaning.specs.text.Lengths.{is_valid_count}
 use Rattle.data_encoding_kernel.specs.Tables.{HoldsValues}
-use Rattle.data_encoding_meaning.specs.Fault.{trailing_bits}
+use Rattle.data_encoding_meaning.specs.decoding.Fault.{trailing_bits}
 use Rattle.data_encoding_meaning.proofs.digits.BitLemmas.{length-bits_of, length-low_bits, low_bits-add, low_bits-mod, number-low_bits}
 use Rattle.data_encoding_meaning.proofs.grammar.UnpaddedGroupLemmas.{length-bits_of_values}
 use Rattle.data_encoding_kernel.proofs.digits.KernelLemmas.{values_in-table, entries_below}

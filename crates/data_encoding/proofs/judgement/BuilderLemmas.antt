@@ -2,10 +2,10 @@
 use Rattle.std.proofs.Common.{◌≡◌, ℕ, zero, suc, ◌%◌, ◌/◌, ◌^◌, ◌<◌, ◌==◌, Bool, true, false, ◌||◌, cond, List, [], length, map, take, replicate, Option, Some, None, is_none, IfSome, Ok, refl, sym, ap, ◌∙◌, arith}
 use Rattle.std.specs.List.{concat, list_any}
 use Rattle.data_encoding_meaning.specs.declared.encoding.Character.{Character}
-use Rattle.data_encoding_meaning.specs.Base.{IsWidth, is_ignored, wrapping_by}
+use Rattle.data_encoding_meaning.specs.text.Base.{IsWidth, is_ignored, wrapping_by}
 use Rattle.data_encoding.specs.Encoding.{EncodingTables, KeepsRules, base_of_tables}
-use Rattle.data_encoding_meaning.specs.Entries.{HoldsEntries, meaning_of_entry}
-use Rattle.data_encoding_meaning.specs.Fields.{Fields, Judgement, base_of, base_with, ignored_judgements, judgements, meanings_after, no_meanings, padding_judgements, symbol_judgements, translation_judgements, width_of, wrapping_judgements, wraps}
+use Rattle.data_encoding_meaning.specs.specification.Entries.{HoldsEntries, meaning_of_entry}
+use Rattle.data_encoding_meaning.specs.specification.Fields.{Fields, Judgement, base_of, base_with, ignored_judgements, judgements, meanings_after, no_meanings, padding_judgements, symbol_judgements, translation_judgements, width_of, wrapping_judgements, wraps}
 use Rattle.data_encoding_meaning.proofs.judgement.JudgementLemmas.{Judged, meanings_after-append}
 use Rattle.data_encoding.proofs.tables.TableRuleLemmas.{KeepsRules-ruled}
 use Rattle.data_encoding_meaning.proofs.lists.RepeatLemmas.{take-repeats}

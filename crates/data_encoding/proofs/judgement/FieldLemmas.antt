@@ -3,8 +3,8 @@ use Rattle.std.proofs.Common.{◌≡◌, ℕ, zero, suc, ◌^◌, List, map, tak
 use Rattle.std.specs.String.{string_bytes}
 use Rattle.data_encoding.specs.declared.specification.Specification.{Specification}
 use Rattle.data_encoding.specs.Encoding.{EncodingTables, KeepsRules, KeepsWrapping, base_of_tables}
-use Rattle.data_encoding_meaning.specs.Base.{wrapping_by}
-use Rattle.data_encoding_meaning.specs.Layout.{column_of, fields_of, ignored_bytes, own_byte, separator_of, translated_bytes}
+use Rattle.data_encoding_meaning.specs.text.Base.{wrapping_by}
+use Rattle.data_encoding_meaning.specs.specification.Layout.{column_of, fields_of, ignored_bytes, own_byte, separator_of, translated_bytes}
 use Rattle.data_encoding.specs.Specification.{specified}
 
 column-kept : (column : ℕ) (separator : List ℕ) → column ≡ column_of (wrapping_by column separator)

@@ -9,10 +9,10 @@ use Rattle.std.specs.Cmp.{booleans_Decides}
 use Rattle.std.specs.List.{concat}
 use Rattle.std.specs.Option.{option_eq}
 use Rattle.std.specs.Str.{bytes_eq}
-use Rattle.data_encoding_meaning.specs.Base.{Base, Wrapping, wrapping_by}
+use Rattle.data_encoding_meaning.specs.text.Base.{Base, Wrapping, wrapping_by}
 use Rattle.data_encoding.specs.Encoding.{EncodingTables, KeepsRules, KeepsWrapping, base_of_tables}
-use Rattle.data_encoding_meaning.specs.Entries.{meaning_of_entry}
-use Rattle.data_encoding_meaning.specs.Layout.{code_of, layout}
+use Rattle.data_encoding_meaning.specs.specification.Entries.{meaning_of_entry}
+use Rattle.data_encoding_meaning.specs.specification.Layout.{code_of, layout}
 use Rattle.data_encoding_meaning.proofs.digits.WidthLemmas.{symbols-few}
 use Rattle.data_encoding_meaning.proofs.judgement.RuleLemmas.{IsRuled}
 use Rattle.data_encoding_meaning.proofs.tables.LayoutLemmas.{codes-back}

@@ -2,11 +2,11 @@
 use Rattle.std.proofs.Common.{◌≡◌, ◌≢◌, ℕ, zero, suc, ◌+◌, ◌/◌, ◌^◌, Bool, if◌then◌else◌, List, [], ◌∷◌, ◌++◌, map, take, drop, replicate, unwrap_or, refl, sym, ap, ◌∙◌, append_assoc, take-append-drop, arith, min}
 use Rattle.std.proofs.lemmas.Bool.Decides.{nat_tests}
 use Rattle.std.specs.List.{concat}
-use Rattle.data_encoding_meaning.specs.Base.{ignores_some, wrapping_by}
+use Rattle.data_encoding_meaning.specs.text.Base.{ignores_some, wrapping_by}
 use Rattle.data_encoding.specs.Encoding.{EncodingTables, KeepsRules, base_of_tables}
 use Rattle.data_encoding.specs.PlainTables.{padding_by}
-use Rattle.data_encoding_meaning.specs.Entries.{meaning_of_entry}
-use Rattle.data_encoding_meaning.specs.Layout.{code_of, layout, order_flag, wrapping_bytes}
+use Rattle.data_encoding_meaning.specs.specification.Entries.{meaning_of_entry}
+use Rattle.data_encoding_meaning.specs.specification.Layout.{code_of, layout, order_flag, wrapping_bytes}
 use Rattle.data_encoding.proofs.tables.TableRuleLemmas.{HoldsEntries-tables}
 use Rattle.data_encoding_meaning.proofs.tables.LayoutLemmas.{codes-back}
 

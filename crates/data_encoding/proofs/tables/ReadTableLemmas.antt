@@ -3,8 +3,8 @@ use Rattle.std.proofs.Common.{◌≡◌, ℕ, ◌^◌, ◌<◌, ◌==◌, cond, 
 use Rattle.std.proofs.lemmas.List.{get_or-map}
 use Rattle.data_encoding_meaning.specs.declared.encoding.Character.TheVariants.{Invalid}
 use Rattle.data_encoding.specs.declared.specification.tables.Tables.{Tables}
-use Rattle.data_encoding_meaning.specs.Base.{Base, is_ignored, meaning}
-use Rattle.data_encoding_meaning.specs.Entries.{meaning_of_entry}
+use Rattle.data_encoding_meaning.specs.text.Base.{Base, is_ignored, meaning}
+use Rattle.data_encoding_meaning.specs.specification.Entries.{meaning_of_entry}
 use Rattle.data_encoding.specs.Tables.{HasTables}
 use Rattle.data_encoding_meaning.proofs.tables.EntryLemmas.{ignored_entry}
 use Rattle.data_encoding_meaning.proofs.tables.ReadingLemmas.{IsReadAs}

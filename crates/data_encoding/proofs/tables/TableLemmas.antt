@@ -4,9 +4,9 @@ use Rattle.std.proofs.lemmas.Bool.{cases_lt}
 use Rattle.std.proofs.lemmas.Bool.Decides.{nat_tests}
 use Rattle.std.proofs.lemmas.List.{get_or-take, get_or_past}
 use Rattle.data_encoding_meaning.specs.declared.encoding.BitOrder.{BitOrder}
-use Rattle.data_encoding_meaning.specs.Base.{Base, symbol, is_ignored, is_padding, is_symbol, IsWidth}
+use Rattle.data_encoding_meaning.specs.text.Base.{Base, symbol, is_ignored, is_padding, is_symbol, IsWidth}
 use Rattle.data_encoding.specs.Encoding.{EncodingTables, KeepsPadding, KeepsRules, base_of_tables}
-use Rattle.data_encoding_meaning.specs.Entries.{is_entry_of, meaning_of_entry}
+use Rattle.data_encoding_meaning.specs.specification.Entries.{is_entry_of, meaning_of_entry}
 use Rattle.data_encoding_kernel.specs.Tables.{HoldsSymbols, HoldsValues, Reads, Writes}
 use Rattle.data_encoding_meaning.proofs.tables.EntryLemmas.{high_entry, ignored_entry, length-low, meaning-any}
 use Rattle.data_encoding.proofs.tables.TableRuleLemmas.{HoldsEntries-tables, length-symbols, symbol-ascii}

@@ -7,11 +7,11 @@ use Rattle.std.specs.Cmp.{first_so, second_so}
 use Rattle.std.specs.List.{AllByRecursion, concat, list_all, range_with_len}
 use Rattle.data_encoding_meaning.specs.declared.encoding.Character.{Character}
 use Rattle.data_encoding_meaning.specs.declared.encoding.Character.TheVariants.{Symbol, Padding, Ignored}
-use Rattle.data_encoding_meaning.specs.Base.{meaning, ignores_some, wrapping_by}
+use Rattle.data_encoding_meaning.specs.text.Base.{meaning, ignores_some, wrapping_by}
 use Rattle.data_encoding.specs.Encoding.{EncodingTables, KeepsPadding, KeepsRules, KeepsWrapping, base_of_tables}
-use Rattle.data_encoding_meaning.specs.Entries.{HoldsEntries, is_entry_of, meaning_of_entry}
-use Rattle.data_encoding_meaning.specs.Fields.{IsSpecified}
-use Rattle.data_encoding_meaning.specs.Layout.{code_of}
+use Rattle.data_encoding_meaning.specs.specification.Entries.{HoldsEntries, is_entry_of, meaning_of_entry}
+use Rattle.data_encoding_meaning.specs.specification.Fields.{IsSpecified}
+use Rattle.data_encoding_meaning.specs.specification.Layout.{code_of}
 use Rattle.data_encoding_meaning.proofs.judgement.RoundTripLemmas.{IsSpecified-ruled}
 use Rattle.data_encoding_meaning.proofs.tables.EntryLemmas.{entry_back, high_entry, is_entry-low, length-entries, length-low, meaning-low}
 use Rattle.std.proofs.lemmas.List.Folds.{list_all-map}

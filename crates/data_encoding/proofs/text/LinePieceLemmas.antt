@@ -4,11 +4,11 @@ use Rattle.std.proofs.Math.Nat.{div-le_self, le-mul_of_pos_right, mul-mod_left, 
 use Rattle.std.proofs.lemmas.Nat.{le-div}
 use Rattle.std.proofs.lemmas.List.Concat.{flat_map-append}
 use Rattle.std.specs.Prelude.{flat_map}
-use Rattle.data_encoding_meaning.specs.Base.{Base, Wrapping}
-use Rattle.data_encoding_meaning.specs.Bits.{runs}
+use Rattle.data_encoding_meaning.specs.text.Base.{Base, Wrapping}
+use Rattle.data_encoding_meaning.specs.text.Bits.{runs}
 use Rattle.data_encoding.specs.Encoding.{EncodingTables, KeepsRules, base_of_tables}
-use Rattle.data_encoding_meaning.specs.Lengths.{alignment}
-use Rattle.data_encoding_meaning.specs.Text.{padded_text, text_of}
+use Rattle.data_encoding_meaning.specs.text.Lengths.{alignment}
+use Rattle.data_encoding_meaning.specs.text.Text.{padded_text, text_of}
 use Rattle.data_encoding_meaning.proofs.judgement.RuleLemmas.{AreLines, IsRuled}
 use Rattle.data_encoding_meaning.proofs.lists.PartLemmas.{groups-within}
 use Rattle.data_encoding_meaning.proofs.lists.PieceLemmas.{IsByPieces}

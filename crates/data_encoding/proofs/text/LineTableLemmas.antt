@@ -2,9 +2,9 @@
 use Rattle.std.proofs.Common.{◌≡◌, ◌≢◌, ℕ, zero, suc, ◌<◌, Some, None, IsSome, is_some, List, refl, sym, ap, ◌∙◌, arith}
 use Rattle.std.proofs.lemmas.Bool.{false≢true}
 use Rattle.std.specs.List.{AllByRecursion}
-use Rattle.data_encoding_meaning.specs.Base.{Base, wrapping_by}
+use Rattle.data_encoding_meaning.specs.text.Base.{Base, wrapping_by}
 use Rattle.data_encoding.specs.Encoding.{EncodingTables, KeepsRules, KeepsWrapping, base_of_tables}
-use Rattle.data_encoding_meaning.specs.Text.{text_of}
+use Rattle.data_encoding_meaning.specs.text.Text.{text_of}
 use Rattle.data_encoding_meaning.proofs.judgement.RuleLemmas.{IsRuled}
 use Rattle.data_encoding.proofs.tables.TableLemmas.{padding-seen, symbols-seen}
 use Rattle.data_encoding.proofs.tables.TableRuleLemmas.{IsRuled-tables}

@@ -2,8 +2,8 @@
 use Rattle.std.proofs.Common.{◌≡◌, ℕ, ◌-◌, ◌*◌, ◌≤◌, Some, List, ◌++◌, length, take, drop, replicate, sym, ap, ◌∙◌}
 use borrow.Rule.Slice.PartMut.{put_mid}
 use Rattle.data_encoding.specs.Encoding.{EncodingTables, base_of_tables, KeepsRules}
-use Rattle.data_encoding_meaning.specs.Base.{Base}
-use Rattle.data_encoding_meaning.specs.Text.{padded_text, plain_text}
+use Rattle.data_encoding_meaning.specs.text.Base.{Base}
+use Rattle.data_encoding_meaning.specs.text.Text.{padded_text, plain_text}
 use Rattle.data_encoding_meaning.proofs.lists.PartLemmas.{length-rest}
 use Rattle.data_encoding_meaning.proofs.lists.RunLemmas.{run_count}
 use Rattle.data_encoding.proofs.tables.TableLemmas.{IsWidth-seen}

@@ -1,11 +1,11 @@
 -- Worked rows of encoders, and of what is shown.
 use mathlib.Core.Option as maybe
 use Rattle.std.proofs.Common.{◌≡◌, ℕ, ◌<◌, List, [], ◌++◌, length, codes, Ok, Err, refl, ap, lit<, sym, subst, ◌∙◌}
-use Rattle.data_encoding_meaning.specs.Base.{Base}
-use Rattle.data_encoding_meaning.specs.Predefined.{base64_fields}
-use Rattle.data_encoding_meaning.specs.Text.{text_of}
+use Rattle.data_encoding_meaning.specs.text.Base.{Base}
+use Rattle.data_encoding_meaning.specs.specification.Predefined.{base64_fields}
+use Rattle.data_encoding_meaning.specs.text.Text.{text_of}
 use Rattle.data_encoding.specs.declared.encode.encoder.Encoder.{Encoder}
-use Rattle.data_encoding_meaning.specs.Fragments.{HasEncoded}
+use Rattle.data_encoding_meaning.specs.text.Fragments.{HasEncoded}
 use Rattle.data_encoding.specs.Encoder.{base_of_encoder, output_name, written, held, HasTaken, IsUnchanged, name_handed_back}
 use Rattle.data_encoding.specs.declared.encode.display.Display.{Display}
 use Rattle.data_encoding.specs.Shown.{shown_data, shown_text}

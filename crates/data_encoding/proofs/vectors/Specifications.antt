@@ -1,7 +1,7 @@
 -- Worked rows of specifications.
 use Rattle.std.proofs.Common.{◌≡◌, [], ◌∷◌, codes, refl}
 use Rattle.data_encoding_meaning.specs.declared.refusal.Refusal.TheVariants.{WrapWidth}
-use Rattle.data_encoding_meaning.specs.Predefined.{unpadded_fields}
+use Rattle.data_encoding_meaning.specs.specification.Predefined.{unpadded_fields}
 use Rattle.data_encoding.specs.Specification.{no_fields, specified, refusal_of, fields_of_parts, SameTranslate, SameWrap}
 use Rattle.std.specs.String.{string_bytes}
 use Rattle.data_encoding.specs.declared.specification.Specification.{Specification}

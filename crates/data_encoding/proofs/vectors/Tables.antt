@@ -5,18 +5,18 @@ use Rattle.data_encoding_meaning.specs.declared.encoding.Character.TheVariants.{
 use Rattle.data_encoding.specs.declared.decode.Stop.{Stop}
 use Rattle.data_encoding.specs.declared.decode.steps.Step.TheVariants.{Ended}
 use Rattle.data_encoding_meaning.specs.declared.error.DecodeKind.TheVariants.{Symbol}
-use Rattle.data_encoding_meaning.specs.Base.{Base, ignores_some, wrapping_by}
-use Rattle.data_encoding_meaning.specs.Layout.{layout, column_of, separator_of}
-use Rattle.data_encoding_meaning.specs.Predefined.{unpadded_fields, base64_nopad_fields, base64_mime_fields}
+use Rattle.data_encoding_meaning.specs.text.Base.{Base, ignores_some, wrapping_by}
+use Rattle.data_encoding_meaning.specs.specification.Layout.{layout, column_of, separator_of}
+use Rattle.data_encoding_meaning.specs.specification.Predefined.{unpadded_fields, base64_nopad_fields, base64_mime_fields}
 use Rattle.data_encoding_meaning.specs.declared.encoding.BitOrder.TheVariants.{MostSignificantFirst}
 use Rattle.data_encoding.specs.declared.specification.meanings.Meanings.TheInside.{Inside as BuilderInside}
 use Rattle.data_encoding.specs.declared.specification.tables.Tables.{Tables}
 use Rattle.data_encoding.specs.Encoding.{EncodingTables, base_of_tables, KeepsRules, KeepsPadding, KeepsWrapping}
-use Rattle.data_encoding_meaning.specs.Entries.{meaning_of_entry, HoldsEntries}
+use Rattle.data_encoding_meaning.specs.specification.Entries.{meaning_of_entry, HoldsEntries}
 use Rattle.data_encoding.specs.Meanings.{meanings_of_table, HasEntries}
 use Rattle.data_encoding.specs.Tables.{HasTables}
 use Rattle.data_encoding_kernel.specs.Tables.{HoldsSymbols, HoldsValues, Reads, Writes}
-use Rattle.data_encoding_meaning.specs.Decoding.{IsStop}
+use Rattle.data_encoding_meaning.specs.decoding.Decoding.{IsStop}
 use Rattle.data_encoding.specs.Steps.{HasEnded, HasStepped, fault_of_stop}
 use Rattle.data_encoding.proofs.tables.TableLemmas.{Reads-seen, Writes-tables}
 use Rattle.data_encoding_meaning.proofs.vectors.Examples.{built, Has}

@@ -2,10 +2,10 @@
 
 ghost use Rattle.std.specs.Prelude.{◌≡◌, ℕ, ◌*◌, ◌/◌, ◌<◌, ◌≤◌, ◌==◌, not, true, false, length, map, IsTrue, slice_index, IfOk, IfErr};
 ghost use Rattle.std.specs.List.{list_any};
-ghost use Rattle.data_encoding_meaning.specs.Base.{Base, meaning, is_padded};
-ghost use Rattle.data_encoding_meaning.specs.Decoding.{HasFault, HasSymbols, IsDecodedGroup};
-ghost use Rattle.data_encoding_meaning.specs.Fault.{count_before_padding, trailing_bits};
-ghost use Rattle.data_encoding_meaning.specs.Lengths.{is_valid_count};
+ghost use Rattle.data_encoding_meaning.specs.text.Base.{Base, meaning, is_padded};
+ghost use Rattle.data_encoding_meaning.specs.decoding.Decoding.{HasFault, HasSymbols, IsDecodedGroup};
+ghost use Rattle.data_encoding_meaning.specs.decoding.Fault.{count_before_padding, trailing_bits};
+ghost use Rattle.data_encoding_meaning.specs.text.Lengths.{is_valid_count};
 ghost use Rattle.data_encoding_kernel.specs.Tables.{HoldsValues, Reads};
 
 use crate::encoding::{BitOrder, EncodingRef, PADDING};

@@ -1,10 +1,10 @@
 //! The next group of a text: the bytes that are not ignored.
 
 ghost use Rattle.std.specs.Prelude.{◌≡◌, ◌<◌, ◌≤◌, length, take};
-ghost use Rattle.data_encoding_meaning.specs.Base.{Base};
-ghost use Rattle.data_encoding_meaning.specs.Decoding.{IsGathered};
-ghost use Rattle.data_encoding_meaning.specs.Fault.{position_of};
-ghost use Rattle.data_encoding_meaning.specs.Grammar.{kept};
+ghost use Rattle.data_encoding_meaning.specs.text.Base.{Base};
+ghost use Rattle.data_encoding_meaning.specs.decoding.Decoding.{IsGathered};
+ghost use Rattle.data_encoding_meaning.specs.decoding.Fault.{position_of};
+ghost use Rattle.data_encoding_meaning.specs.text.Grammar.{kept};
 ghost use Rattle.data_encoding_kernel.specs.Tables.{HoldsValues};
 
 use crate::encoding::{EncodingRef, IGNORED};

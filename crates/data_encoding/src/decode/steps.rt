@@ -1,10 +1,10 @@
 //! Decoding step by step: a run of whole groups, and the group that follows it.
 
 ghost use Rattle.std.specs.Prelude.{◌≡◌, ℕ, List, true, false, ◌≤◌, length, drop, Ok, IfSome};
-ghost use Rattle.data_encoding_meaning.specs.Base.{Base};
-ghost use Rattle.data_encoding_meaning.specs.Decoding.{HasDecodedTo, IsIgnoredFront};
+ghost use Rattle.data_encoding_meaning.specs.text.Base.{Base};
+ghost use Rattle.data_encoding_meaning.specs.decoding.Decoding.{HasDecodedTo, IsIgnoredFront};
 ghost use Rattle.data_encoding.specs.Steps.{HasEnded, HasStepped};
-ghost use Rattle.data_encoding_meaning.specs.Lengths.{decoded_len};
+ghost use Rattle.data_encoding_meaning.specs.text.Lengths.{decoded_len};
 ghost use Rattle.data_encoding_kernel.specs.Tables.{HoldsValues, Reads};
 
 use crate::decode::{DECODE_LIMIT, Stop};

@@ -1,10 +1,10 @@
 //! Decoding a text: the order, its length and the width are chosen once.
 
 ghost use Rattle.std.specs.Prelude.{◌≡◌, false, ◌≤◌, length, Ok, IsTrue};
-ghost use Rattle.data_encoding_meaning.specs.Base.{IsWidth};
-ghost use Rattle.data_encoding_meaning.specs.Decoding.{HasDecodedTo};
+ghost use Rattle.data_encoding_meaning.specs.text.Base.{IsWidth};
+ghost use Rattle.data_encoding_meaning.specs.decoding.Decoding.{HasDecodedTo};
 ghost use Rattle.data_encoding.specs.Steps.{HasEnded};
-ghost use Rattle.data_encoding_meaning.specs.Lengths.{decoded_len};
+ghost use Rattle.data_encoding_meaning.specs.text.Lengths.{decoded_len};
 
 use crate::decode::steps::{Reached, Step};
 use crate::decode::{DECODE_LIMIT, Stop};

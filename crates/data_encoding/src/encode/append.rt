@@ -2,8 +2,8 @@
 
 ghost use Rattle.std.specs.Prelude.{◌≡◌, ◌+◌, ◌≤◌, ◌++◌, length, IsOk, OnErr, OnOk};
 ghost use Rattle.std.specs.String.{string_bytes, string_capacity, string_len};
-ghost use Rattle.data_encoding_meaning.specs.Fields.{IsSpecified};
-ghost use Rattle.data_encoding_meaning.specs.Text.{text_of};
+ghost use Rattle.data_encoding_meaning.specs.specification.Fields.{IsSpecified};
+ghost use Rattle.data_encoding_meaning.specs.text.Text.{text_of};
 
 use crate::encode::ENCODE_LIMIT;
 use crate::encoding::Encoding;

@@ -2,10 +2,10 @@
 
 ghost use Rattle.std.specs.Prelude.{◌≡◌, ◌⊎◌, ◌%◌, ◌<◌, ◌≤◌, ℕ, List, length, Some, IsOk, OnOk};
 ghost use Rattle.std.specs.Fmt.{DisplaysOnOk, WritesInCalls};
-ghost use Rattle.data_encoding_meaning.specs.Fields.{IsSpecified};
-ghost use Rattle.data_encoding_meaning.specs.Lengths.{IsBlockLength, alignment};
+ghost use Rattle.data_encoding_meaning.specs.specification.Fields.{IsSpecified};
+ghost use Rattle.data_encoding_meaning.specs.text.Lengths.{IsBlockLength, alignment};
 ghost use Rattle.data_encoding.specs.Shown.{shown_data, shown_text};
-ghost use Rattle.data_encoding_meaning.specs.Text.{text_of};
+ghost use Rattle.data_encoding_meaning.specs.text.Text.{text_of};
 
 use crate::encode::ENCODE_LIMIT;
 use crate::encoding::{Encoding, group_symbols};

@@ -3,9 +3,9 @@
 ghost use Rattle.std.specs.Prelude.{◌≡◌, ℕ, ◌+◌, ◌<◌, ◌≤◌, List, [], ◌++◌, length, IfErr, IsOk, OnErr, OnOk};
 ghost use Rattle.std.specs.Borrow.{sem};
 ghost use Rattle.std.specs.String.{string_bytes};
-ghost use Rattle.data_encoding_meaning.specs.Fragments.{HasEncoded};
-ghost use Rattle.data_encoding_meaning.specs.Lengths.{alignment};
-ghost use Rattle.data_encoding_meaning.specs.Text.{text_of};
+ghost use Rattle.data_encoding_meaning.specs.text.Fragments.{HasEncoded};
+ghost use Rattle.data_encoding_meaning.specs.text.Lengths.{alignment};
+ghost use Rattle.data_encoding_meaning.specs.text.Text.{text_of};
 
 use crate::encode::ENCODE_LIMIT;
 use crate::encoding::Encoding;

@@ -1,9 +1,9 @@
 //! Texts in lines.
 
 ghost use Rattle.std.specs.Prelude.{◌≡◌, ℕ, ◌+◌, ◌<◌, ◌≤◌, List, ◌++◌, length, flat_map, IsSome};
-ghost use Rattle.data_encoding_meaning.specs.Bits.{runs};
-ghost use Rattle.data_encoding_meaning.specs.Lengths.{alignment};
-ghost use Rattle.data_encoding_meaning.specs.Text.{padded_text, text_of};
+ghost use Rattle.data_encoding_meaning.specs.text.Bits.{runs};
+ghost use Rattle.data_encoding_meaning.specs.text.Lengths.{alignment};
+ghost use Rattle.data_encoding_meaning.specs.text.Text.{padded_text, text_of};
 
 use crate::encode::ENCODE_LIMIT;
 use crate::encoding::EncodingRef;

@@ -2,8 +2,8 @@
 
 ghost use Rattle.std.specs.Prelude.{◌≡◌, ◌/◌, ◌%◌, ◌^◌, ◌==◌, ◌||◌, ◌<◌, [], length, replicate, take, if◌then◌else◌, is_none, IfOk, IfErr, IfSome, IsTrue, Ok, Err, Some, None};
 ghost use Rattle.std.specs.List.{concat};
-ghost use Rattle.data_encoding_meaning.specs.Base.{IsWidth};
-ghost use Rattle.data_encoding_meaning.specs.Fields.{Fields, base_of, base_by, judgements, meanings_after, no_meanings, width_of, wraps};
+ghost use Rattle.data_encoding_meaning.specs.text.Base.{IsWidth};
+ghost use Rattle.data_encoding_meaning.specs.specification.Fields.{Fields, base_of, base_by, judgements, meanings_after, no_meanings, width_of, wraps};
 ghost use Rattle.data_encoding.specs.PlainTables.{order_by, padding_by};
 ghost use Rattle.data_encoding.specs.Specification.{fields_of_parts};
 

@@ -1,10 +1,10 @@
 //! Whether data has one text only.
 
 ghost use Rattle.std.specs.Prelude.{◌≡◌, ◌==◌, ◌&&◌, ◌↔◌, IsTrue, length, not};
-ghost use Rattle.data_encoding_meaning.specs.Base.{ignores_some, is_padded};
-ghost use Rattle.data_encoding_meaning.specs.Canonical.{IsCanonical, has_one_text};
-ghost use Rattle.data_encoding_meaning.specs.Fields.{IsSpecified};
-ghost use Rattle.data_encoding_meaning.specs.Layout.{translated_bytes};
+ghost use Rattle.data_encoding_meaning.specs.text.Base.{ignores_some, is_padded};
+ghost use Rattle.data_encoding_meaning.specs.laws.Canonical.{IsCanonical, has_one_text};
+ghost use Rattle.data_encoding_meaning.specs.specification.Fields.{IsSpecified};
+ghost use Rattle.data_encoding_meaning.specs.specification.Layout.{translated_bytes};
 
 use crate::encoding::{Encoding, EncodingRef};
 

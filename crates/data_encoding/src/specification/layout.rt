@@ -3,9 +3,9 @@
 ghost use Rattle.std.specs.Prelude.{◌≡◌, ◌+◌, ◌/◌, ◌%◌, ◌==◌, ◌<◌, ◌≤◌, ◌++◌, length, drop, slice_index, if◌then◌else◌, nat_lt, Some, None, unwrap_or, IfSome, IsSome};
 ghost use Rattle.arrayvec.specs.ArrayVec.{array_vec_len};
 ghost use Rattle.data_encoding_meaning.specs.declared.encoding.BitOrder.TheVariants.{MostSignificantFirst, LeastSignificantFirst};
-ghost use Rattle.data_encoding_meaning.specs.Base.{Base};
-ghost use Rattle.data_encoding_meaning.specs.Fields.{IsSpecified};
-ghost use Rattle.data_encoding_meaning.specs.Layout.{layout, order_flag};
+ghost use Rattle.data_encoding_meaning.specs.text.Base.{Base};
+ghost use Rattle.data_encoding_meaning.specs.specification.Fields.{IsSpecified};
+ghost use Rattle.data_encoding_meaning.specs.specification.Layout.{layout, order_flag};
 
 use crate::encoding::{BitOrder, Encoding, EncodingRef, INVALID};
 use crate::plain::padding_of;

@@ -1,7 +1,7 @@
 //! A specification whose texts are a caller's bytes.
 
 ghost use Rattle.std.specs.Prelude.{◌≡◌, IfOk, IfErr, Ok, Err};
-ghost use Rattle.data_encoding_meaning.specs.Fields.{base_of};
+ghost use Rattle.data_encoding_meaning.specs.specification.Fields.{base_of};
 ghost use Rattle.data_encoding.specs.Specification.{fields_of_parts, refusal_of};
 
 use crate::encoding::{BitOrder, Encoding};

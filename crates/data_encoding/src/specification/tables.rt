@@ -1,8 +1,8 @@
 //! What the tables of an encoding say: which bytes are ignored, and which stand for others.
 
 ghost use Rattle.std.specs.Prelude.{◌≡◌, ◌^◌, ◌<◌, ◌≤◌, length, map, is_some, IfSome};
-ghost use Rattle.data_encoding_meaning.specs.Base.{Base, meaning};
-ghost use Rattle.data_encoding_meaning.specs.Layout.{ignored_bytes, is_translated, own_byte, own_character, translated_bytes};
+ghost use Rattle.data_encoding_meaning.specs.text.Base.{Base, meaning};
+ghost use Rattle.data_encoding_meaning.specs.specification.Layout.{ignored_bytes, is_translated, own_byte, own_character, translated_bytes};
 ghost use Rattle.data_encoding.specs.Tables.{HasTables};
 
 use crate::encoding::{IGNORED, MOST_SYMBOLS, PADDING};

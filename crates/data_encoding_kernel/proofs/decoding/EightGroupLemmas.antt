@@ -5,10 +5,10 @@ use Rattle.std.specs.List.{AllByRecursion, range_with_len}
 use Rattle.std.specs.Simd.{first_chunks}
 use Rattle.data_encoding_meaning.specs.declared.encoding.Character.{Character}
 use Rattle.data_encoding_meaning.specs.declared.encoding.BitOrder.{BitOrder}
-use Rattle.data_encoding_meaning.specs.Base.{Base, IsWidth, group_bytes, group_symbols, is_symbol, meaning, IsGroup}
-use Rattle.data_encoding_meaning.specs.Bits.{runs}
+use Rattle.data_encoding_meaning.specs.text.Base.{Base, IsWidth, group_bytes, group_symbols, is_symbol, meaning, IsGroup}
+use Rattle.data_encoding_meaning.specs.text.Bits.{runs}
 use Rattle.data_encoding_kernel.specs.Runs.{IsRun}
-use Rattle.data_encoding_meaning.specs.Fault.{symbol_bytes}
+use Rattle.data_encoding_meaning.specs.decoding.Fault.{symbol_bytes}
 use Rattle.data_encoding_kernel.specs.Tables.{Reads}
 use Rattle.data_encoding_kernel.specs.Words.{digit, word_of}
 use Rattle.data_encoding_kernel.proofs.digits.KernelLemmas.{symbol_bytes-word}

@@ -7,10 +7,10 @@ use Rattle.std.proofs.lemmas.List.Concat.{flat_map-append}
 use Rattle.std.proofs.lemmas.Slice.{take-put_mid}
 use borrow.Rule.Slice.PartMut.{put_mid}
 use Rattle.data_encoding_meaning.specs.declared.encoding.Character.{Character}
-use Rattle.data_encoding_meaning.specs.Base.{Base, IsWidth, meaning, is_symbol, group_bytes, group_symbols, IsGroup}
+use Rattle.data_encoding_meaning.specs.text.Base.{Base, IsWidth, meaning, is_symbol, group_bytes, group_symbols, IsGroup}
 use Rattle.data_encoding_kernel.specs.Runs.{IsLongest, IsRun}
-use Rattle.data_encoding_meaning.specs.Decoding.{run_bytes}
-use Rattle.data_encoding_meaning.specs.Fault.{symbol_bytes}
+use Rattle.data_encoding_meaning.specs.decoding.Decoding.{run_bytes}
+use Rattle.data_encoding_meaning.specs.decoding.Fault.{symbol_bytes}
 use Rattle.data_encoding_kernel.specs.Tables.{HoldsValues}
 use Rattle.data_encoding_meaning.proofs.digits.WidthLemmas.{group_symbols-pos}
 use Rattle.data_encoding_meaning.proofs.grammar.KeptLemmas.{between}

@@ -13,7 +13,7 @@ use Rattle.std.specs.Simd.{first_chunks}
 use Rattle.std.specs.Simd.Lanes.{number_l, digits_l}
 use Rattle.data_encoding_meaning.specs.declared.encoding.BitOrder.{BitOrder}
 use Rattle.data_encoding_meaning.specs.declared.encoding.BitOrder.TheVariants.{MostSignificantFirst, LeastSignificantFirst}
-use Rattle.data_encoding_meaning.specs.Bits.{bits_of, number_of, number_of_low_bits}
+use Rattle.data_encoding_meaning.specs.text.Bits.{bits_of, number_of, number_of_low_bits}
 use Rattle.data_encoding_kernel.specs.Values.{joined}
 use Rattle.data_encoding_kernel.specs.Words.{weight, word_of}
 use Rattle.data_encoding_meaning.proofs.digits.BitLemmas.{length-bits_of, length-pieces, number-append}

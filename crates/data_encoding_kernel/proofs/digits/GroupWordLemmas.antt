@@ -9,7 +9,7 @@ use Rattle.std.specs.Prelude.{flat_map}
 use Rattle.std.specs.List.{AllByRecursion, range_with_len}
 use Rattle.std.specs.Simd.Lanes.{number_l, digits_l, pick_l}
 use Rattle.data_encoding_meaning.specs.declared.encoding.BitOrder.{BitOrder}
-use Rattle.data_encoding_meaning.specs.Bits.{bits_of}
+use Rattle.data_encoding_meaning.specs.text.Bits.{bits_of}
 use Rattle.data_encoding_kernel.specs.Lanes.{group_word, group_words}
 use Rattle.data_encoding_kernel.specs.Words.{word_of, zeros_to}
 use Rattle.data_encoding_meaning.proofs.digits.BitLemmas.{AreBits, AreBits-append, AreBits-flat_map, AreBits-bits_of, number_of-below, length-pieces, length-bits_of, AreBits-zeros}

@@ -8,11 +8,11 @@ use Rattle.std.specs.Prelude.{flat_map}
 use Rattle.std.specs.List.{range_with_len, filter_map, cons_option}
 use Rattle.std.specs.Simd.{first_chunks}
 use Rattle.data_encoding_meaning.specs.declared.encoding.BitOrder.{BitOrder}
-use Rattle.data_encoding_meaning.specs.Base.{Base, meaning, symbol, value_of, IsGroup}
-use Rattle.data_encoding_meaning.specs.Bits.{bits_of, number_of, bits_of_bytes, missing, runs}
-use Rattle.data_encoding_meaning.specs.Fault.{symbol_bytes}
+use Rattle.data_encoding_meaning.specs.text.Base.{Base, meaning, symbol, value_of, IsGroup}
+use Rattle.data_encoding_meaning.specs.text.Bits.{bits_of, number_of, bits_of_bytes, missing, runs}
+use Rattle.data_encoding_meaning.specs.decoding.Fault.{symbol_bytes}
 use Rattle.data_encoding_kernel.specs.Tables.{HoldsValues, Reads, Writes}
-use Rattle.data_encoding_meaning.specs.Text.{plain_text}
+use Rattle.data_encoding_meaning.specs.text.Text.{plain_text}
 use Rattle.data_encoding_kernel.specs.Words.{digit, low_byte, weight, zeros_to, word_of}
 use Rattle.data_encoding_meaning.proofs.digits.BitLemmas.{AreBits, AreBits-flat_map, AreBits-bits_of}
 use Rattle.data_encoding_meaning.proofs.grammar.UnpaddedGroupLemmas.{length-bits_of_bytes, length-bits_of_values}

@@ -11,7 +11,7 @@ use Rattle.std.specs.Simd.Lanes.{number_l}
 use Rattle.std.specs.Simd.{first_chunks}
 use Rattle.data_encoding_meaning.specs.declared.encoding.BitOrder.{BitOrder}
 use Rattle.data_encoding_meaning.specs.declared.encoding.BitOrder.TheVariants.{MostSignificantFirst, LeastSignificantFirst}
-use Rattle.data_encoding_meaning.specs.Bits.{low_bits, number_of_low_bits, bits_of, number_of}
+use Rattle.data_encoding_meaning.specs.text.Bits.{low_bits, number_of_low_bits, bits_of, number_of}
 use Rattle.data_encoding_kernel.specs.Words.{weight, digit, zeros_to, word_of}
 use Rattle.data_encoding_meaning.proofs.lists.EachLemmas.{all_reversed, map-twice}
 use Rattle.data_encoding_meaning.proofs.digits.BitLemmas.{AreBits, AreBits-append, AreBits-left, AreBits-right, AreBits-reverse, length-bits_of, length-pieces, number-low_bits, number-below, length-low_bits, AreBits-zeros, number-append, number-zeros, reverse-zeros}

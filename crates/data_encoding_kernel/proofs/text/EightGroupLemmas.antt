@@ -9,10 +9,10 @@ use Rattle.std.proofs.lemmas.List.Folds.{flat_map-map}
 use Rattle.std.specs.Prelude.{flat_map}
 use Rattle.std.specs.List.{range_with_len}
 use Rattle.data_encoding_meaning.specs.declared.encoding.BitOrder.{BitOrder}
-use Rattle.data_encoding_meaning.specs.Base.{Base, symbol, IsGroup}
+use Rattle.data_encoding_meaning.specs.text.Base.{Base, symbol, IsGroup}
 use Rattle.data_encoding_kernel.specs.Lanes.{group_word, group_words, digits_of}
 use Rattle.data_encoding_kernel.specs.Tables.{Writes}
-use Rattle.data_encoding_meaning.specs.Text.{plain_text}
+use Rattle.data_encoding_meaning.specs.text.Text.{plain_text}
 use Rattle.data_encoding_kernel.specs.Words.{digit, low_byte, weight, word_of}
 use Rattle.data_encoding_kernel.proofs.digits.KernelLemmas.{lowest_bits, plain_text-word}
 use Rattle.data_encoding_kernel.proofs.digits.WordLemmas.{map-range-same}

@@ -5,8 +5,8 @@ use Rattle.std.proofs.Math.Nat.{mul-pos, mul-mod_right, zero-mul}
 use Rattle.std.proofs.lemmas.List.{take_all}
 use Rattle.std.proofs.lemmas.Slice.{take-put_mid}
 use borrow.Rule.Slice.PartMut.{put_mid}
-use Rattle.data_encoding_meaning.specs.Base.{Base, IsGroup}
-use Rattle.data_encoding_meaning.specs.Text.{plain_text}
+use Rattle.data_encoding_meaning.specs.text.Base.{Base, IsGroup}
+use Rattle.data_encoding_meaning.specs.text.Text.{plain_text}
 use Rattle.data_encoding_meaning.proofs.lists.PartLemmas.{IsWhole, IsWhole-same, group-before, length-part, length-rest, one-more, room-rest, size-rest}
 use Rattle.data_encoding_meaning.proofs.lists.WriteLemmas.{length-put_mid}
 use Rattle.data_encoding_meaning.proofs.text.PlainTextLemmas.{plain_text-join, plain_text-nil}

@@ -1,10 +1,10 @@
 -- Worked rows of runs of whole groups.
 use Rattle.std.proofs.Common.{◌≡◌, ℕ, ◌<◌, true, [], ◌∷◌, codes, refl, lit<, arith, lit≤, zero, suc}
-use Rattle.data_encoding_meaning.specs.Base.{meaning, is_symbol}
-use Rattle.data_encoding_meaning.specs.Predefined.{base64_nopad_fields}
+use Rattle.data_encoding_meaning.specs.text.Base.{meaning, is_symbol}
+use Rattle.data_encoding_meaning.specs.specification.Predefined.{base64_nopad_fields}
 use Rattle.std.specs.Prelude.{slice_index}
 use Rattle.data_encoding_kernel.specs.Runs.{IsLongest, IsRun}
-use Rattle.data_encoding_meaning.specs.Decoding.{run_bytes}
+use Rattle.data_encoding_meaning.specs.decoding.Decoding.{run_bytes}
 use Rattle.data_encoding_meaning.proofs.vectors.Examples.{built, Has}
 
 -- a run of one group

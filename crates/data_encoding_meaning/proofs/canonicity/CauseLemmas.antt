@@ -4,9 +4,9 @@ use Rattle.std.proofs.lemmas.Bool.{and_parts, false≢true}
 use Rattle.std.specs.List.{AllByRecursion}
 use Rattle.data_encoding_meaning.specs.declared.encoding.Character.{Character}
 use Rattle.data_encoding_meaning.specs.declared.encoding.Character.TheVariants.{Symbol, Padding, Ignored, Invalid}
-use Rattle.data_encoding_meaning.specs.Base.{Base, meaning, symbol, is_ignored, is_padded, ignores_some}
-use Rattle.data_encoding_meaning.specs.Canonical.{AreTwoTexts, IsCanonical, has_one_text}
-use Rattle.data_encoding_meaning.specs.Layout.{is_translated, own_character, translated_bytes}
+use Rattle.data_encoding_meaning.specs.text.Base.{Base, meaning, symbol, is_ignored, is_padded, ignores_some}
+use Rattle.data_encoding_meaning.specs.laws.Canonical.{AreTwoTexts, IsCanonical, has_one_text}
+use Rattle.data_encoding_meaning.specs.specification.Layout.{is_translated, own_character, translated_bytes}
 use Rattle.data_encoding_meaning.proofs.canonicity.ConcatenatedTextLemmas.{concatenated-second}
 use Rattle.data_encoding_meaning.proofs.canonicity.IgnoredTextLemmas.{ignored-second}
 use Rattle.data_encoding_meaning.proofs.canonicity.OneTextLemmas.{Means-text_of_only}

@@ -2,9 +2,9 @@
 use Rattle.std.proofs.Common.{◌≡◌, ℕ, ◌*◌, ◌%◌, ◌<◌, ◌==◌, true, not, [], ◌∷◌, length, Option, Some, None, is_some, inl, refl, sym, ap, ◌∙◌, arith, length-append, All}
 use Rattle.std.proofs.lemmas.Bool.{false≢true}
 use Rattle.std.proofs.lemmas.List.Elements.{All-from_recursion}
-use Rattle.data_encoding_meaning.specs.Base.{Base, IsWidth, group_bytes, group_symbols, is_padded}
-use Rattle.data_encoding_meaning.specs.Canonical.{ConcatenatedIsSecond}
-use Rattle.data_encoding_meaning.specs.Text.{padded_text}
+use Rattle.data_encoding_meaning.specs.text.Base.{Base, IsWidth, group_bytes, group_symbols, is_padded}
+use Rattle.data_encoding_meaning.specs.laws.Canonical.{ConcatenatedIsSecond}
+use Rattle.data_encoding_meaning.specs.text.Text.{padded_text}
 use Rattle.data_encoding_meaning.proofs.canonicity.OneGroupLemmas.{Means-padded_text, length-zero}
 use Rattle.data_encoding_meaning.proofs.digits.WidthLemmas.{by_width, group_symbols-few, group_symbols-pos}
 use Rattle.data_encoding_meaning.proofs.grammar.JoinLemmas.{Means-join}

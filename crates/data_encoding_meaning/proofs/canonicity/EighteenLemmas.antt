@@ -1,8 +1,8 @@
 -- Which of the eighteen are canonical.
 use Rattle.std.proofs.Common.{not, refl, sym, ap, ◌∙◌, All}
 use Rattle.std.proofs.lemmas.Bool.{false≢true}
-use Rattle.data_encoding_meaning.specs.Canonical.{IsCanonical, has_one_text}
-use Rattle.data_encoding_meaning.specs.Eighteen.{Yields, canonical_fields, second_text_fields}
+use Rattle.data_encoding_meaning.specs.laws.Canonical.{IsCanonical, has_one_text}
+use Rattle.data_encoding_meaning.specs.laws.Eighteen.{Yields, canonical_fields, second_text_fields}
 use Rattle.data_encoding_meaning.proofs.canonicity.TokenLemmas.{canonical-causes}
 use Rattle.data_encoding_meaning.proofs.judgement.YieldLemmas.{yields_all}
 

@@ -1,8 +1,8 @@
 -- An ignored byte gives a second text.
 use Rattle.std.proofs.Common.{not, cond, [], ◌∷◌, refl, sym, ap, ◌∙◌, arith}
-use Rattle.data_encoding_meaning.specs.Base.{Base, group_symbols}
-use Rattle.data_encoding_meaning.specs.Canonical.{IgnoredIsSecond}
-use Rattle.data_encoding_meaning.specs.Grammar.{Means, Positioned}
+use Rattle.data_encoding_meaning.specs.text.Base.{Base, group_symbols}
+use Rattle.data_encoding_meaning.specs.laws.Canonical.{IgnoredIsSecond}
+use Rattle.data_encoding_meaning.specs.text.Grammar.{Means, Positioned}
 use Rattle.data_encoding_meaning.proofs.digits.WidthLemmas.{group_symbols-pos}
 use Rattle.data_encoding_meaning.proofs.grammar.SameBytesLemmas.{bytes-kept_in, Means-same}
 use Rattle.data_encoding_meaning.proofs.lists.RunLemmas.{runs-nil}

@@ -1,10 +1,10 @@
 -- Texts of one group, and what they mean.
 use Rattle.std.proofs.Common.{◌≡◌, ℕ, ◌<◌, ◌≤◌, List, [], ◌∷◌, ◌++◌, length, map, replicate, false, true, Option, Some, None, is_some, refl, sym, ap, ◌∙◌, arith, append-nil, All}
 use Rattle.data_encoding_meaning.specs.declared.encoding.Character.TheVariants.{Symbol, Padding}
-use Rattle.data_encoding_meaning.specs.Base.{Base, IsWidth, meaning, is_ignored, is_padded, group_symbols}
-use Rattle.data_encoding_meaning.specs.Bits.{missing}
-use Rattle.data_encoding_meaning.specs.Grammar.{GroupMeans, Means, PlainMeans, bytes_in, kept}
-use Rattle.data_encoding_meaning.specs.Text.{padded_text, plain_text, text_of, with_padding}
+use Rattle.data_encoding_meaning.specs.text.Base.{Base, IsWidth, meaning, is_ignored, is_padded, group_symbols}
+use Rattle.data_encoding_meaning.specs.text.Bits.{missing}
+use Rattle.data_encoding_meaning.specs.text.Grammar.{GroupMeans, Means, PlainMeans, bytes_in, kept}
+use Rattle.data_encoding_meaning.specs.text.Text.{padded_text, plain_text, text_of, with_padding}
 use Rattle.data_encoding_meaning.proofs.digits.WidthLemmas.{group_bytes-pos, group_symbols-few, group_symbols-pos}
 use Rattle.data_encoding_meaning.proofs.grammar.PositionLemmas.{runs-meanings}
 use Rattle.data_encoding_meaning.proofs.grammar.SameBytesLemmas.{Means-same, bytes-kept_in}

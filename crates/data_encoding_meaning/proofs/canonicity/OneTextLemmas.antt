@@ -6,14 +6,14 @@ use Rattle.std.proofs.lemmas.List.{append-nil, length-map, map-append, nil_from_
 use Rattle.std.proofs.Math.Nat.{mod-eq_of_lt, mod_self, mul-mod_left, mul_comm}
 use Rattle.std.proofs.lemmas.Bool.Decides.{nat_tests}
 use Rattle.data_encoding_meaning.specs.declared.encoding.Character.TheVariants.{Padding}
-use Rattle.data_encoding_meaning.specs.Base.{Base, IsWidth, group_bytes, meaning, is_padded, ignores_some, group_symbols}
-use Rattle.data_encoding_meaning.specs.Bits.{runs}
-use Rattle.data_encoding_meaning.specs.Canonical.{has_one_text}
-use Rattle.data_encoding_meaning.specs.Fault.{sound_bytes}
-use Rattle.data_encoding_meaning.specs.Grammar.{Positioned, GroupMeans, GroupsMean, Means, kept, positioned, is_final, bytes_in, meanings_in}
-use Rattle.data_encoding_meaning.specs.Layout.{own_character, translated_bytes}
-use Rattle.data_encoding_meaning.specs.SameMeaning.{has_one_own_form, own_form}
-use Rattle.data_encoding_meaning.specs.Text.{filled_with, plain_text, text_of, with_padding}
+use Rattle.data_encoding_meaning.specs.text.Base.{Base, IsWidth, group_bytes, meaning, is_padded, ignores_some, group_symbols}
+use Rattle.data_encoding_meaning.specs.text.Bits.{runs}
+use Rattle.data_encoding_meaning.specs.laws.Canonical.{has_one_text}
+use Rattle.data_encoding_meaning.specs.decoding.Fault.{sound_bytes}
+use Rattle.data_encoding_meaning.specs.text.Grammar.{Positioned, GroupMeans, GroupsMean, Means, kept, positioned, is_final, bytes_in, meanings_in}
+use Rattle.data_encoding_meaning.specs.specification.Layout.{own_character, translated_bytes}
+use Rattle.data_encoding_meaning.specs.laws.SameMeaning.{has_one_own_form, own_form}
+use Rattle.data_encoding_meaning.specs.text.Text.{filled_with, plain_text, text_of, with_padding}
 use Rattle.data_encoding_meaning.proofs.canonicity.OwnTextLemmas.{missing-is, own_form-itself, own_form-meaning, paddings_are, plain_is}
 use Rattle.data_encoding_meaning.proofs.digits.WidthLemmas.{group_bits, group_symbols-pos}
 use Rattle.data_encoding_meaning.proofs.grammar.GroupLemmas.{GroupMeans-length, GroupMeans-padding}

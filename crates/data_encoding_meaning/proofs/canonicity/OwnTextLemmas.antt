@@ -9,12 +9,12 @@ use Rattle.std.specs.List.{AllByRecursion}
 use Rattle.data_encoding_meaning.specs.declared.encoding.BitOrder.{BitOrder}
 use Rattle.data_encoding_meaning.specs.declared.encoding.Character.{Character}
 use Rattle.data_encoding_meaning.specs.declared.encoding.Character.TheVariants.{Symbol, Padding, Ignored, Invalid}
-use Rattle.data_encoding_meaning.specs.Base.{Base, IsWidth, meaning, symbol}
-use Rattle.data_encoding_meaning.specs.Bits.{bits_of, bits_of_bytes, missing, number_of, runs}
-use Rattle.data_encoding_meaning.specs.Grammar.{PlainMeans}
-use Rattle.data_encoding_meaning.specs.Layout.{is_translated, own_character, translated_bytes}
-use Rattle.data_encoding_meaning.specs.SameMeaning.{own_form}
-use Rattle.data_encoding_meaning.specs.Text.{filled_with, plain_text}
+use Rattle.data_encoding_meaning.specs.text.Base.{Base, IsWidth, meaning, symbol}
+use Rattle.data_encoding_meaning.specs.text.Bits.{bits_of, bits_of_bytes, missing, number_of, runs}
+use Rattle.data_encoding_meaning.specs.text.Grammar.{PlainMeans}
+use Rattle.data_encoding_meaning.specs.specification.Layout.{is_translated, own_character, translated_bytes}
+use Rattle.data_encoding_meaning.specs.laws.SameMeaning.{own_form}
+use Rattle.data_encoding_meaning.specs.text.Text.{filled_with, plain_text}
 use Rattle.data_encoding_meaning.proofs.canonicity.TranslatedLemmas.{not_translated}
 use Rattle.data_encoding_meaning.proofs.digits.BitLemmas.{length-bits_of, number_of-bits_of}
 use Rattle.data_encoding_meaning.proofs.lists.EachLemmas.{map-twice}

@@ -1,11 +1,11 @@
 -- What the texts of a canonical base tell: how long they are, and in which order they come.
 use Rattle.std.proofs.Common.{◌≡◌, ◌↔◌, ℕ, true, List, length, refl, sym, ap, ◌∙◌}
-use Rattle.data_encoding_meaning.specs.Base.{Base}
-use Rattle.data_encoding_meaning.specs.Canonical.{IsCanonical, has_one_text}
-use Rattle.data_encoding_meaning.specs.Compared.{CompareAlike}
-use Rattle.data_encoding_meaning.specs.Grammar.{Means}
-use Rattle.data_encoding_meaning.specs.Order.{IsOrdered}
-use Rattle.data_encoding_meaning.specs.Text.{text_of}
+use Rattle.data_encoding_meaning.specs.text.Base.{Base}
+use Rattle.data_encoding_meaning.specs.laws.Canonical.{IsCanonical, has_one_text}
+use Rattle.data_encoding_meaning.specs.laws.Compared.{CompareAlike}
+use Rattle.data_encoding_meaning.specs.text.Grammar.{Means}
+use Rattle.data_encoding_meaning.specs.laws.Order.{IsOrdered}
+use Rattle.data_encoding_meaning.specs.text.Text.{text_of}
 use Rattle.data_encoding_meaning.proofs.canonicity.CauseLemmas.{canonical-by}
 use Rattle.data_encoding_meaning.proofs.canonicity.OneTextLemmas.{Means-text_of_only, no_lines-only}
 use Rattle.data_encoding_meaning.proofs.grammar.TightLemmas.{are_bytes-Means}

@@ -6,11 +6,11 @@ use Rattle.std.proofs.lemmas.List.{length-replicate, map-append}
 use Rattle.data_encoding_meaning.specs.declared.encoding.BitOrder.{BitOrder}
 use Rattle.data_encoding_meaning.specs.declared.encoding.BitOrder.TheVariants.{MostSignificantFirst, LeastSignificantFirst}
 use Rattle.data_encoding_meaning.specs.declared.encoding.Character.TheVariants.{Symbol}
-use Rattle.data_encoding_meaning.specs.Base.{Base, IsWidth, meaning, symbol, group_symbols, value_of}
-use Rattle.data_encoding_meaning.specs.Bits.{bits_of, bits_of_bytes}
-use Rattle.data_encoding_meaning.specs.Canonical.{AreTwoTexts, last_bit, trailing_text}
-use Rattle.data_encoding_meaning.specs.Grammar.{PlainMeans}
-use Rattle.data_encoding_meaning.specs.Text.{padded_text, with_padding}
+use Rattle.data_encoding_meaning.specs.text.Base.{Base, IsWidth, meaning, symbol, group_symbols, value_of}
+use Rattle.data_encoding_meaning.specs.text.Bits.{bits_of, bits_of_bytes}
+use Rattle.data_encoding_meaning.specs.laws.Canonical.{AreTwoTexts, last_bit, trailing_text}
+use Rattle.data_encoding_meaning.specs.text.Grammar.{PlainMeans}
+use Rattle.data_encoding_meaning.specs.text.Text.{padded_text, with_padding}
 use Rattle.data_encoding_meaning.proofs.canonicity.ConcatenatedTextLemmas.{partly, zero_byte}
 use Rattle.data_encoding_meaning.proofs.canonicity.OneGroupLemmas.{Means-group, Means-padded_text, length-group, length-zero}
 use Rattle.data_encoding_meaning.proofs.judgement.RuleLemmas.{IsRuled}

@@ -1,9 +1,9 @@
 -- Whether a byte is translated.
 use Rattle.std.proofs.Common.{◌≡◌, ℕ, ◌<◌, ◌==◌, Bool, true, false, not, ◌&&◌, [], length, sym, ap, ◌∙◌, subst, arith}
 use Rattle.std.specs.List.{AllByRecursion}
-use Rattle.data_encoding_meaning.specs.Base.{Base, is_padded, ignores_some}
-use Rattle.data_encoding_meaning.specs.Canonical.{has_one_text}
-use Rattle.data_encoding_meaning.specs.Layout.{translated_bytes}
+use Rattle.data_encoding_meaning.specs.text.Base.{Base, is_padded, ignores_some}
+use Rattle.data_encoding_meaning.specs.laws.Canonical.{has_one_text}
+use Rattle.data_encoding_meaning.specs.specification.Layout.{translated_bytes}
 use Rattle.data_encoding_meaning.proofs.lists.EachLemmas.{at_in_range}
 use Rattle.data_encoding_meaning.proofs.judgement.TranslationLemmas.{is_translated_byte}
 

@@ -5,11 +5,11 @@ use Rattle.std.proofs.Math.Seq.{take-append-add}
 use Rattle.std.proofs.lemmas.List.{append-nil, length-append, length-replicate, take-replicate}
 use Rattle.std.proofs.lemmas.List.Elements.{All-from_recursion}
 use Rattle.data_encoding_meaning.specs.declared.encoding.Character.TheVariants.{Symbol, Padding}
-use Rattle.data_encoding_meaning.specs.Base.{Base, IsWidth, meaning, symbol, group_bytes, group_symbols}
-use Rattle.data_encoding_meaning.specs.Bits.{bits_of, missing, number_of, runs}
-use Rattle.data_encoding_meaning.specs.Canonical.{PaddingIsSecond, SymbolIsSecond, text_ending_in}
-use Rattle.data_encoding_meaning.specs.Grammar.{Means, PlainMeans}
-use Rattle.data_encoding_meaning.specs.Text.{padded_text, plain_text, with_padding}
+use Rattle.data_encoding_meaning.specs.text.Base.{Base, IsWidth, meaning, symbol, group_bytes, group_symbols}
+use Rattle.data_encoding_meaning.specs.text.Bits.{bits_of, missing, number_of, runs}
+use Rattle.data_encoding_meaning.specs.laws.Canonical.{PaddingIsSecond, SymbolIsSecond, text_ending_in}
+use Rattle.data_encoding_meaning.specs.text.Grammar.{Means, PlainMeans}
+use Rattle.data_encoding_meaning.specs.text.Text.{padded_text, plain_text, with_padding}
 use Rattle.data_encoding_meaning.proofs.canonicity.ConcatenatedTextLemmas.{padded-partly, partly, zero_byte}
 use Rattle.data_encoding_meaning.proofs.canonicity.OneGroupLemmas.{Means-fillers, Means-group, Means-padded_text, length-zero, zero_few, zero_some}
 use Rattle.data_encoding_meaning.proofs.canonicity.OwnTextLemmas.{value_below}

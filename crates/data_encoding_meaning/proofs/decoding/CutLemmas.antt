@@ -1,8 +1,8 @@
 -- A text that is cut before a kept byte.
 use Rattle.std.proofs.Common.{◌≡◌, ℕ, zero, suc, ◌+◌, ◌-◌, ◌<◌, ◌≤◌, Bool, true, false, not, cond, List, [], ◌∷◌, ◌++◌, length, take, drop, refl, ap, ◌∙◌, arith}
-use Rattle.data_encoding_meaning.specs.Base.{Base, meaning, is_ignored}
-use Rattle.data_encoding_meaning.specs.Grammar.{Positioned, kept, kept_in, kept_from}
-use Rattle.data_encoding_meaning.specs.Fault.{position_of}
+use Rattle.data_encoding_meaning.specs.text.Base.{Base, meaning, is_ignored}
+use Rattle.data_encoding_meaning.specs.text.Grammar.{Positioned, kept, kept_in, kept_from}
+use Rattle.data_encoding_meaning.specs.decoding.Fault.{position_of}
 use Rattle.data_encoding_meaning.proofs.grammar.KeptLemmas.{kept-more, kept_in-stands}
 
 -- Where a part is cut before a kept byte, the ones before it are kept.

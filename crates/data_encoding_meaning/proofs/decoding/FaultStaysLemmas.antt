@@ -2,12 +2,12 @@
 use Rattle.std.proofs.Common.{◌≡◌, ℕ, ◌+◌, ◌%◌, ◌≤◌, false, List, [], ◌++◌, length, Option, Some, None, refl, sym, ◌∙◌, arith, length-append}
 use Rattle.std.specs.List.{list_any}
 use Rattle.data_encoding_meaning.specs.declared.error.DecodeError.{DecodeError}
-use Rattle.data_encoding_meaning.specs.Base.{Base, IsWidth, group_symbols}
-use Rattle.data_encoding_meaning.specs.Fault.{fault_of, first_after, first_fault, or_else}
-use Rattle.data_encoding_meaning.specs.Grammar.{Positioned, groups, is_final, kept}
-use Rattle.data_encoding_meaning.specs.Laws.{further}
-use Rattle.data_encoding_meaning.specs.Lengths.{length_fault}
-use Rattle.data_encoding_meaning.specs.Pieces.{HasRead, unfinished, whole_groups}
+use Rattle.data_encoding_meaning.specs.text.Base.{Base, IsWidth, group_symbols}
+use Rattle.data_encoding_meaning.specs.decoding.Fault.{fault_of, first_after, first_fault, or_else}
+use Rattle.data_encoding_meaning.specs.text.Grammar.{Positioned, groups, is_final, kept}
+use Rattle.data_encoding_meaning.specs.laws.Laws.{further}
+use Rattle.data_encoding_meaning.specs.text.Lengths.{length_fault}
+use Rattle.data_encoding_meaning.specs.decoding.Pieces.{HasRead, unfinished, whole_groups}
 use Rattle.data_encoding_meaning.proofs.decoding.PieceLemmas.{HasRead-faulty, fault_of-read, or_none}
 use Rattle.data_encoding_meaning.proofs.digits.WidthLemmas.{group_symbols-pos}
 use Rattle.data_encoding_meaning.proofs.grammar.JoinFaultLemmas.{fault-after_whole}

@@ -6,8 +6,8 @@ use Rattle.std.proofs.lemmas.Bool.Decides.{nat_tests}
 use Rattle.std.specs.List.{list_any}
 use Rattle.data_encoding_meaning.proofs.grammar.PositionLemmas.{length-meanings}
 use Rattle.data_encoding_meaning.specs.declared.encoding.Character.{Character}
-use Rattle.data_encoding_meaning.specs.Base.{Base, IsWidth, group_bytes, group_symbols, is_padded, is_padding}
-use Rattle.data_encoding_meaning.specs.Grammar.{GroupMeans, GroupsMean, Means, Positioned, groups, is_final, kept, meanings_in}
+use Rattle.data_encoding_meaning.specs.text.Base.{Base, IsWidth, group_bytes, group_symbols, is_padded, is_padding}
+use Rattle.data_encoding_meaning.specs.text.Grammar.{GroupMeans, GroupsMean, Means, Positioned, groups, is_final, kept, meanings_in}
 use Rattle.data_encoding_meaning.proofs.decoding.WholeLengthLemmas.{joins-unpadded, none_final-joined}
 use Rattle.data_encoding_meaning.proofs.digits.WidthLemmas.{by_width}
 use Rattle.data_encoding_meaning.proofs.grammar.GroupLemmas.{GroupMeans-length, GroupMeans-padding}

@@ -2,11 +2,11 @@
 use Rattle.std.proofs.Common.{◌≡◌, ℕ, zero, suc, ◌+◌, ◌-◌, ◌<◌, ◌≤◌, ◌⊎◌, true, false, List, [], ◌∷◌, ◌++◌, length, set, take, drop, get_or, refl, sym, ap, ◌∙◌, arith, append_assoc, length-append, length-take-le, ⊎_elim, inl, inr}
 use Rattle.std.proofs.Math.Seq.{get_or-append_seam, take-suc}
 use Rattle.std.proofs.lemmas.List.{append-nil, get_or_append_left, get_or-map, length-drop, length-map, length-take, map-append, take_all, take_min, take_more, take_more_set, nil_from_length}
-use Rattle.data_encoding_meaning.specs.Base.{Base, meaning, ignores_some, is_ignored, group_symbols, IsWidth}
-use Rattle.data_encoding_meaning.specs.Decoding.{IsGathered}
-use Rattle.data_encoding_meaning.specs.Fault.{position_of}
-use Rattle.data_encoding_meaning.specs.Grammar.{Positioned, kept, kept_in, kept_from, bytes_in}
-use Rattle.data_encoding_meaning.specs.Partial.{position_after}
+use Rattle.data_encoding_meaning.specs.text.Base.{Base, meaning, ignores_some, is_ignored, group_symbols, IsWidth}
+use Rattle.data_encoding_meaning.specs.decoding.Decoding.{IsGathered}
+use Rattle.data_encoding_meaning.specs.decoding.Fault.{position_of}
+use Rattle.data_encoding_meaning.specs.text.Grammar.{Positioned, kept, kept_in, kept_from, bytes_in}
+use Rattle.data_encoding_meaning.specs.decoding.Partial.{position_after}
 use Rattle.data_encoding_meaning.proofs.digits.WidthLemmas.{group_symbols-pos}
 use Rattle.data_encoding_meaning.proofs.grammar.JoinFaultLemmas.{kept_in-moved, moved}
 use Rattle.data_encoding_meaning.proofs.grammar.PositionLemmas.{bytes-positioned_from, filter-plain, length-by_bytes, length-kept, length-kept_plain, never_ignored}

@@ -1,8 +1,8 @@
 -- The greatest valid length.
 use Rattle.std.proofs.Common.{◌≡◌, ℕ, ◌*◌, ◌/◌, ◌%◌, ◌<◌, ◌≤◌, true, false, arith}
 use Rattle.std.proofs.lemmas.Bool.Decides.{nat_tests}
-use Rattle.data_encoding_meaning.specs.Base.{Base, group_symbols, IsWidth}
-use Rattle.data_encoding_meaning.specs.Lengths.{greatest_valid_count, is_valid_length, greatest_valid_length}
+use Rattle.data_encoding_meaning.specs.text.Base.{Base, group_symbols, IsWidth}
+use Rattle.data_encoding_meaning.specs.text.Lengths.{greatest_valid_count, is_valid_length, greatest_valid_length}
 use Rattle.data_encoding_meaning.proofs.digits.WidthLemmas.{by_width}
 
 -- the greatest number of symbols that are whole groups

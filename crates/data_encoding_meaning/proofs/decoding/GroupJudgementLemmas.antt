@@ -9,11 +9,11 @@ use Rattle.data_encoding_meaning.specs.declared.encoding.Character.{Character}
 use Rattle.data_encoding_meaning.specs.declared.error.GroupFault.{GroupFault}
 use Rattle.data_encoding_meaning.specs.declared.error.DecodeError.{DecodeError}
 use Rattle.data_encoding_meaning.specs.declared.error.DecodeKind.TheVariants.{Length as LengthFault, Padding as PaddingFault}
-use Rattle.data_encoding_meaning.specs.Base.{Base, IsWidth, meaning, is_padded, group_symbols, IsGroup}
-use Rattle.data_encoding_meaning.specs.Decoding.{HasFault, HasSymbols}
-use Rattle.data_encoding_meaning.specs.Fault.{count_before_padding, faulty_at, group_fault, located, symbols_fault}
-use Rattle.data_encoding_meaning.specs.Grammar.{Positioned, positioned_from}
-use Rattle.data_encoding_meaning.specs.Lengths.{is_valid_count, greatest_valid_length, is_valid_length}
+use Rattle.data_encoding_meaning.specs.text.Base.{Base, IsWidth, meaning, is_padded, group_symbols, IsGroup}
+use Rattle.data_encoding_meaning.specs.decoding.Decoding.{HasFault, HasSymbols}
+use Rattle.data_encoding_meaning.specs.decoding.Fault.{count_before_padding, faulty_at, group_fault, located, symbols_fault}
+use Rattle.data_encoding_meaning.specs.text.Grammar.{Positioned, positioned_from}
+use Rattle.data_encoding_meaning.specs.text.Lengths.{is_valid_count, greatest_valid_length, is_valid_length}
 use Rattle.data_encoding_meaning.proofs.digits.SizeLemmas.{IsSmall-group}
 use Rattle.data_encoding_meaning.proofs.grammar.PositionLemmas.{bytes-positioned_from}
 use Rattle.data_encoding_meaning.proofs.grammar.GroupLemmas.{inside-padding}

@@ -1,9 +1,9 @@
 -- Ignored bytes at the front of a part: what stands behind them is what the part has.
 use Rattle.std.proofs.Common.{◌≡◌, ℕ, ◌+◌, ◌-◌, ◌<◌, ◌≤◌, List, [], ◌++◌, length, map, take, drop, refl, sym, ap, ◌∙◌, arith, take-append-drop, take-add}
 use Rattle.std.proofs.lemmas.List.{get_or-drop, length-drop, length-map, nil_from_length}
-use Rattle.data_encoding_meaning.specs.Base.{Base}
-use Rattle.data_encoding_meaning.specs.Decoding.{IsGathered, IsIgnoredFront}
-use Rattle.data_encoding_meaning.specs.Grammar.{Positioned, kept, kept_in, kept_from}
+use Rattle.data_encoding_meaning.specs.text.Base.{Base}
+use Rattle.data_encoding_meaning.specs.decoding.Decoding.{IsGathered, IsIgnoredFront}
+use Rattle.data_encoding_meaning.specs.text.Grammar.{Positioned, kept, kept_in, kept_from}
 use Rattle.data_encoding_meaning.proofs.grammar.KeptLemmas.{kept_from-more, kept_in-append}
 use Rattle.data_encoding_meaning.proofs.grammar.PositionLemmas.{length-by_bytes}
 use Rattle.data_encoding_meaning.proofs.grammar.SameBytesLemmas.{bytes-kept_in}

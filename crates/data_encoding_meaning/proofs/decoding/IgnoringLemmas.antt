@@ -5,10 +5,10 @@ use Rattle.std.proofs.lemmas.List.{length-map, take-map}
 use Rattle.std.specs.List.{cons_option, filter_map, list_any, prefix_len}
 use Rattle.data_encoding_meaning.specs.declared.encoding.Character.{Character}
 use Rattle.data_encoding_meaning.specs.declared.encoding.Character.TheVariants.{Symbol, Padding, Invalid}
-use Rattle.data_encoding_meaning.specs.Base.{Base, meaning, is_symbol, value_of, is_padding, is_ignored, ignores_some, group_symbols, IsWidth}
-use Rattle.data_encoding_meaning.specs.Grammar.{Positioned, bytes_in, meanings_in}
-use Rattle.data_encoding_meaning.specs.Fault.{character_fault, count_before_padding, group_fault}
-use Rattle.data_encoding_meaning.specs.Partial.{ignoring_nothing}
+use Rattle.data_encoding_meaning.specs.text.Base.{Base, meaning, is_symbol, value_of, is_padding, is_ignored, ignores_some, group_symbols, IsWidth}
+use Rattle.data_encoding_meaning.specs.text.Grammar.{Positioned, bytes_in, meanings_in}
+use Rattle.data_encoding_meaning.specs.decoding.Fault.{character_fault, count_before_padding, group_fault}
+use Rattle.data_encoding_meaning.specs.decoding.Partial.{ignoring_nothing}
 use Rattle.data_encoding_meaning.proofs.lists.EachLemmas.{map-twice, all_joined, all_replicate}
 use Rattle.data_encoding_meaning.proofs.lists.EndLemmas.{AllSo, count_before_end, count_before_end-map}
 use Rattle.data_encoding_meaning.proofs.grammar.PositionLemmas.{length-meanings}

@@ -6,11 +6,11 @@ use Rattle.std.proofs.lemmas.List.Concat.{flat_map-append}
 use Rattle.data_encoding_meaning.proofs.decoding.GroupJudgementLemmas.{fault-length}
 use Rattle.data_encoding_meaning.specs.declared.error.DecodeError.{DecodeError}
 use Rattle.data_encoding_meaning.specs.declared.error.DecodeKind.TheVariants.{Length as LengthFault}
-use Rattle.data_encoding_meaning.specs.Base.{Base, meaning, is_ignored, group_symbols}
-use Rattle.data_encoding_meaning.specs.Grammar.{Positioned, positioned_from, kept, groups, is_final, kept_in, kept_from, bytes_in}
-use Rattle.data_encoding_meaning.specs.Lengths.{greatest_valid_length, length_fault, is_valid_length}
-use Rattle.data_encoding_meaning.specs.Fault.{fault_after, fault_at, fault_of, group_fault, position_of, sound_bytes, symbol_bytes, AreSound}
-use Rattle.data_encoding_meaning.specs.Partial.{StopsAt, read_len, is_length_fault, is_sound_run}
+use Rattle.data_encoding_meaning.specs.text.Base.{Base, meaning, is_ignored, group_symbols}
+use Rattle.data_encoding_meaning.specs.text.Grammar.{Positioned, positioned_from, kept, groups, is_final, kept_in, kept_from, bytes_in}
+use Rattle.data_encoding_meaning.specs.text.Lengths.{greatest_valid_length, length_fault, is_valid_length}
+use Rattle.data_encoding_meaning.specs.decoding.Fault.{fault_after, fault_at, fault_of, group_fault, position_of, sound_bytes, symbol_bytes, AreSound}
+use Rattle.data_encoding_meaning.specs.decoding.Partial.{StopsAt, read_len, is_length_fault, is_sound_run}
 use Rattle.data_encoding_meaning.proofs.lists.ListLemmas.{filter-all, length-filter}
 use Rattle.data_encoding_meaning.proofs.lists.RunLemmas.{runs-join, runs-short}
 use Rattle.data_encoding_meaning.proofs.grammar.PositionLemmas.{bytes-positioned_from, length-positioned_from}

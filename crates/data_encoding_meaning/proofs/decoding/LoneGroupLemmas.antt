@@ -6,11 +6,11 @@ use Rattle.data_encoding_meaning.proofs.decoding.GroupJudgementLemmas.{fault-len
 use Rattle.data_encoding_meaning.specs.declared.error.GroupFault.{GroupFault}
 use Rattle.data_encoding_meaning.specs.declared.error.DecodeError.{DecodeError}
 use Rattle.data_encoding_meaning.specs.declared.error.DecodeKind.TheVariants.{Length as LengthFault}
-use Rattle.data_encoding_meaning.specs.Base.{Base, IsWidth, meaning, is_ignored, ignores_some, group_symbols}
-use Rattle.data_encoding_meaning.specs.Fault.{bytes_of_group, fault_after, fault_at, fault_of, group_fault, located, or_else, sound_bytes}
-use Rattle.data_encoding_meaning.specs.Grammar.{Positioned, groups, positioned, positioned_from, bytes_in}
-use Rattle.data_encoding_meaning.specs.Lengths.{greatest_valid_length, is_valid_length, length_fault}
-use Rattle.data_encoding_meaning.specs.Pieces.{fault_in}
+use Rattle.data_encoding_meaning.specs.text.Base.{Base, IsWidth, meaning, is_ignored, ignores_some, group_symbols}
+use Rattle.data_encoding_meaning.specs.decoding.Fault.{bytes_of_group, fault_after, fault_at, fault_of, group_fault, located, or_else, sound_bytes}
+use Rattle.data_encoding_meaning.specs.text.Grammar.{Positioned, groups, positioned, positioned_from, bytes_in}
+use Rattle.data_encoding_meaning.specs.text.Lengths.{greatest_valid_length, is_valid_length, length_fault}
+use Rattle.data_encoding_meaning.specs.decoding.Pieces.{fault_in}
 use Rattle.data_encoding_meaning.proofs.decoding.GreatestLengthLemmas.{greatest-less}
 use Rattle.data_encoding_meaning.proofs.decoding.PieceLemmas.{or_none}
 use Rattle.data_encoding_meaning.proofs.grammar.GroupLemmas.{IsInside, group_fault-inside}

@@ -3,12 +3,12 @@ use Rattle.std.proofs.Common.{◌≡◌, ℕ, ◌+◌, ◌<◌, Bool, true, fals
 use Rattle.std.proofs.Math.Bool.{or-false}
 use Rattle.std.specs.List.{list_any}
 use Rattle.data_encoding_meaning.specs.declared.error.DecodeError.{DecodeError}
-use Rattle.data_encoding_meaning.specs.Base.{Base, IsWidth, group_symbols}
-use Rattle.data_encoding_meaning.specs.Bits.{runs}
-use Rattle.data_encoding_meaning.specs.Grammar.{Positioned, groups, is_final, kept, kept_in}
-use Rattle.data_encoding_meaning.specs.Lengths.{length_fault}
-use Rattle.data_encoding_meaning.specs.Fault.{bytes_of_group, fault_after, fault_of, first_after, first_fault, or_else, sound_after, sound_bytes, AreSound}
-use Rattle.data_encoding_meaning.specs.Pieces.{HasRead, held_fault, unfinished, whole_bytes, whole_groups}
+use Rattle.data_encoding_meaning.specs.text.Base.{Base, IsWidth, group_symbols}
+use Rattle.data_encoding_meaning.specs.text.Bits.{runs}
+use Rattle.data_encoding_meaning.specs.text.Grammar.{Positioned, groups, is_final, kept, kept_in}
+use Rattle.data_encoding_meaning.specs.text.Lengths.{length_fault}
+use Rattle.data_encoding_meaning.specs.decoding.Fault.{bytes_of_group, fault_after, fault_of, first_after, first_fault, or_else, sound_after, sound_bytes, AreSound}
+use Rattle.data_encoding_meaning.specs.decoding.Pieces.{HasRead, held_fault, unfinished, whole_bytes, whole_groups}
 use Rattle.data_encoding_meaning.proofs.digits.WidthLemmas.{group_symbols-pos}
 use Rattle.data_encoding_meaning.proofs.grammar.KeptLemmas.{kept_in-append}
 use Rattle.data_encoding_meaning.proofs.grammar.SoundLemmas.{AreSound-append, AreSound-none, bytes-AreSound, ends_after, fault_after-none, first-AreSound, sound-all}

@@ -7,13 +7,13 @@ use Rattle.std.proofs.lemmas.List.Concat.{flat_map-append}
 use Rattle.std.proofs.Math.Nat.{zero-mod, add-mod, mul-le-mul_left, mul-le-mul_right, mul-mod_left, mod_self}
 use Rattle.std.proofs.lemmas.Nat.{div-add-mod'}
 use Rattle.std.specs.Prelude.{flat_map}
-use Rattle.data_encoding_meaning.specs.Base.{Base, meaning, is_symbol, is_padded, group_bytes, group_symbols, IsWidth}
-use Rattle.data_encoding_meaning.specs.Bits.{runs}
-use Rattle.data_encoding_meaning.specs.Grammar.{Positioned, positioned_from, kept, groups, is_final, Means, kept_in, kept_from, meanings_in}
-use Rattle.data_encoding_meaning.specs.Lengths.{length_fault, most_bytes}
-use Rattle.data_encoding_meaning.specs.Fault.{fault_after, bytes_of_group, fault_of, sound_bytes, AreSound}
-use Rattle.data_encoding_meaning.specs.Partial.{position_after}
-use Rattle.data_encoding_meaning.specs.Decoding.{HasDecodedTo, IsIgnoredFront, run_bytes}
+use Rattle.data_encoding_meaning.specs.text.Base.{Base, meaning, is_symbol, is_padded, group_bytes, group_symbols, IsWidth}
+use Rattle.data_encoding_meaning.specs.text.Bits.{runs}
+use Rattle.data_encoding_meaning.specs.text.Grammar.{Positioned, positioned_from, kept, groups, is_final, Means, kept_in, kept_from, meanings_in}
+use Rattle.data_encoding_meaning.specs.text.Lengths.{length_fault, most_bytes}
+use Rattle.data_encoding_meaning.specs.decoding.Fault.{fault_after, bytes_of_group, fault_of, sound_bytes, AreSound}
+use Rattle.data_encoding_meaning.specs.decoding.Partial.{position_after}
+use Rattle.data_encoding_meaning.specs.decoding.Decoding.{HasDecodedTo, IsIgnoredFront, run_bytes}
 use Rattle.data_encoding_meaning.proofs.digits.WidthLemmas.{group_bits, group_symbols-pos}
 use Rattle.data_encoding_meaning.proofs.lists.RunLemmas.{runs-nil, runs-join, runs-short, flat_map-runs}
 use Rattle.data_encoding_meaning.proofs.lists.EndLemmas.{AllSo}

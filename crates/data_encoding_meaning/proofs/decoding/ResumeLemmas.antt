@@ -5,18 +5,18 @@ use Rattle.std.proofs.lemmas.List.{length-replicate, length-set, take_all}
 use Rattle.data_encoding_meaning.specs.declared.error.GroupFault.{GroupFault}
 use Rattle.data_encoding_meaning.specs.declared.error.DecodeError.{DecodeError}
 use Rattle.data_encoding_meaning.specs.declared.error.DecodePartial.{DecodePartial}
-use Rattle.data_encoding_meaning.specs.Base.{Base, IsWidth, meaning, is_ignored, group_symbols}
-use Rattle.data_encoding_meaning.specs.Decoding.{IsGathered, valid_front, HasDecodedTo}
-use Rattle.data_encoding_meaning.specs.Grammar.{Positioned, Means, is_final}
-use Rattle.data_encoding_meaning.specs.Lengths.{greatest_valid_length, length_fault}
-use Rattle.data_encoding_meaning.specs.Fault.{bytes_of_group, fault_after, fault_of, group_fault, sound_bytes, symbol_bytes}
-use Rattle.data_encoding_meaning.specs.Partial.{StopsAt, is_length_fault, partial_of}
+use Rattle.data_encoding_meaning.specs.text.Base.{Base, IsWidth, meaning, is_ignored, group_symbols}
+use Rattle.data_encoding_meaning.specs.decoding.Decoding.{IsGathered, valid_front, HasDecodedTo}
+use Rattle.data_encoding_meaning.specs.text.Grammar.{Positioned, Means, is_final}
+use Rattle.data_encoding_meaning.specs.text.Lengths.{greatest_valid_length, length_fault}
+use Rattle.data_encoding_meaning.specs.decoding.Fault.{bytes_of_group, fault_after, fault_of, group_fault, sound_bytes, symbol_bytes}
+use Rattle.data_encoding_meaning.specs.decoding.Partial.{StopsAt, is_length_fault, partial_of}
 use Rattle.data_encoding_meaning.proofs.grammar.MeaningLemmas.{sound_bytes-Means}
 use Rattle.data_encoding_meaning.proofs.decoding.GatherLemmas.{HasGathered, gather-ignored, gather-kept, gathered, gathered-few, is-next, next_bytes, none-next, nothing-gathered}
 use Rattle.data_encoding_meaning.proofs.decoding.LastRunLemmas.{last-none, last-sound, last-unsound}
 use Rattle.data_encoding_meaning.proofs.decoding.ProgressLemmas.{IsNext, after-group, at-end, begin, written_len}
 use Rattle.data_encoding_meaning.proofs.decoding.StopLemmas.{IsAtFault, at-fault, fault-partial, sound-front}
-use Rattle.data_encoding_meaning.specs.Laws.{MayBeFollowed, Resumes, further}
+use Rattle.data_encoding_meaning.specs.laws.Laws.{MayBeFollowed, Resumes, further}
 use Rattle.data_encoding_meaning.proofs.grammar.JoinFaultLemmas.{fault-join, sound_bytes-join}
 use Rattle.data_encoding_meaning.proofs.grammar.JoinLemmas.{Means-join}
 use Rattle.data_encoding_meaning.proofs.judgement.RuleLemmas.{IsRuled}

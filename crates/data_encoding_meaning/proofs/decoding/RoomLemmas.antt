@@ -2,9 +2,9 @@
 use Rattle.std.proofs.Common.{◌≡◌, ℕ, ◌+◌, ◌-◌, ◌*◌, ◌/◌, ◌<◌, ◌≤◌, List, [], ◌∷◌, length, take, Option, arith, length-append, length-take-le, mul-add, add-mul, mul-le-mul_left, mul-le-mul_right, le-div_iff_mul-le, flat_map, filter_map}
 use Rattle.std.proofs.lemmas.List.{length-map}
 use Rattle.data_encoding_meaning.proofs.grammar.PositionLemmas.{length-meanings}
-use Rattle.data_encoding_meaning.specs.Base.{Base, value_of}
-use Rattle.data_encoding_meaning.specs.Grammar.{Positioned, meanings_in}
-use Rattle.data_encoding_meaning.specs.Fault.{symbol_bits, bytes_of_group}
+use Rattle.data_encoding_meaning.specs.text.Base.{Base, value_of}
+use Rattle.data_encoding_meaning.specs.text.Grammar.{Positioned, meanings_in}
+use Rattle.data_encoding_meaning.specs.decoding.Fault.{symbol_bits, bytes_of_group}
 use Rattle.data_encoding_meaning.proofs.lists.PartLemmas.{regroup}
 use Rattle.data_encoding_meaning.proofs.lists.RunLemmas.{length-runs}
 use Rattle.data_encoding_meaning.proofs.grammar.UnpaddedGroupLemmas.{length-bits_of_values}

@@ -2,12 +2,12 @@
 use Rattle.std.proofs.Common.{◌≡◌, ℕ, ◌<◌, ◌≤◌, true, false, List, ◌∷◌, length, take, drop, Option, None, is_none, sym, ap, ◌∙◌, arith, length-take-le}
 use Rattle.std.proofs.lemmas.List.{take-map}
 use Rattle.data_encoding_meaning.specs.declared.error.DecodeError.{DecodeError}
-use Rattle.data_encoding_meaning.specs.Base.{Base, group_symbols, IsWidth}
-use Rattle.data_encoding_meaning.specs.Bits.{runs}
-use Rattle.data_encoding_meaning.specs.Grammar.{Positioned, positioned, bytes_in}
-use Rattle.data_encoding_meaning.specs.Lengths.{is_valid_length, greatest_valid_length, length_fault}
-use Rattle.data_encoding_meaning.specs.Fault.{group_fault, fault_of, first_after, fault_after}
-use Rattle.data_encoding_meaning.specs.Partial.{ignoring_nothing, is_sound_run}
+use Rattle.data_encoding_meaning.specs.text.Base.{Base, group_symbols, IsWidth}
+use Rattle.data_encoding_meaning.specs.text.Bits.{runs}
+use Rattle.data_encoding_meaning.specs.text.Grammar.{Positioned, positioned, bytes_in}
+use Rattle.data_encoding_meaning.specs.text.Lengths.{is_valid_length, greatest_valid_length, length_fault}
+use Rattle.data_encoding_meaning.specs.decoding.Fault.{group_fault, fault_of, first_after, fault_after}
+use Rattle.data_encoding_meaning.specs.decoding.Partial.{ignoring_nothing, is_sound_run}
 use Rattle.data_encoding_meaning.proofs.digits.WidthLemmas.{group_symbols-pos}
 use Rattle.data_encoding_meaning.proofs.lists.RunLemmas.{runs-nil, runs-short, runs-first}
 use Rattle.data_encoding_meaning.proofs.grammar.PositionLemmas.{filter-plain, length-positioned_from, bytes-positioned_from}

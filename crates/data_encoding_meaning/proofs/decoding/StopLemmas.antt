@@ -9,13 +9,13 @@ use Rattle.data_encoding_meaning.specs.declared.error.GroupFault.{GroupFault}
 use Rattle.data_encoding_meaning.specs.declared.error.DecodeError.{DecodeError}
 use Rattle.data_encoding_meaning.specs.declared.error.DecodeKind.TheVariants.{Trailing as TrailingFault, Padding as PaddingFault}
 use Rattle.data_encoding_meaning.specs.declared.error.DecodePartial.{DecodePartial}
-use Rattle.data_encoding_meaning.specs.Base.{Base, is_symbol, is_padded, ignores_some, group_symbols, IsWidth}
-use Rattle.data_encoding_meaning.specs.Bits.{runs}
-use Rattle.data_encoding_meaning.specs.Grammar.{Positioned, kept, groups, kept_from, bytes_in, meanings_in}
-use Rattle.data_encoding_meaning.specs.Lengths.{is_valid_count, is_valid_length, length_fault, decoded_len}
-use Rattle.data_encoding_meaning.specs.Fault.{character_fault, count_before_padding, fault_after, fault_at_first, fault_of, faulty_at, group_fault, located, position_of, sound_bytes, sound_groups, symbols_fault, trailing_bits}
-use Rattle.data_encoding_meaning.specs.Partial.{StopsAt, sound_len, read_len, is_length_fault, partial_at, partial_by, partial_of}
-use Rattle.data_encoding_meaning.specs.Decoding.{HasDecodedTo}
+use Rattle.data_encoding_meaning.specs.text.Base.{Base, is_symbol, is_padded, ignores_some, group_symbols, IsWidth}
+use Rattle.data_encoding_meaning.specs.text.Bits.{runs}
+use Rattle.data_encoding_meaning.specs.text.Grammar.{Positioned, kept, groups, kept_from, bytes_in, meanings_in}
+use Rattle.data_encoding_meaning.specs.text.Lengths.{is_valid_count, is_valid_length, length_fault, decoded_len}
+use Rattle.data_encoding_meaning.specs.decoding.Fault.{character_fault, count_before_padding, fault_after, fault_at_first, fault_of, faulty_at, group_fault, located, position_of, sound_bytes, sound_groups, symbols_fault, trailing_bits}
+use Rattle.data_encoding_meaning.specs.decoding.Partial.{StopsAt, sound_len, read_len, is_length_fault, partial_at, partial_by, partial_of}
+use Rattle.data_encoding_meaning.specs.decoding.Decoding.{HasDecodedTo}
 use Rattle.data_encoding_meaning.proofs.digits.WidthLemmas.{group_symbols-pos}
 use Rattle.data_encoding_meaning.proofs.lists.RunLemmas.{runs-nil, runs-append, runs-join, runs-short, flat_map-runs}
 use Rattle.data_encoding_meaning.proofs.grammar.PositionLemmas.{length-kept_plain, length-positioned_from, filter-plain, length-meanings}

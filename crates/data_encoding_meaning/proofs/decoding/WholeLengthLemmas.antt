@@ -2,9 +2,9 @@
 use Rattle.std.proofs.Common.{◌≡◌, ℕ, ◌*◌, ◌/◌, ◌≤◌, true, false, List, [], ◌∷◌, None, Ok, refl, ap, ◌∙◌, arith}
 use Rattle.std.proofs.Math.Nat.{mul-mod_left}
 use Rattle.std.specs.List.{list_any}
-use Rattle.data_encoding_meaning.specs.Base.{Base, IsWidth, group_bytes, group_symbols}
-use Rattle.data_encoding_meaning.specs.Grammar.{Positioned, is_final}
-use Rattle.data_encoding_meaning.specs.Lengths.{decoded_len, most_bytes}
+use Rattle.data_encoding_meaning.specs.text.Base.{Base, IsWidth, group_bytes, group_symbols}
+use Rattle.data_encoding_meaning.specs.text.Grammar.{Positioned, is_final}
+use Rattle.data_encoding_meaning.specs.text.Lengths.{decoded_len, most_bytes}
 use Rattle.data_encoding_meaning.proofs.digits.WidthLemmas.{by_width}
 use Rattle.data_encoding_meaning.proofs.grammar.LengthLemmas.{decoded_len-valid, whole-length}
 use Rattle.data_encoding_meaning.proofs.judgement.RuleLemmas.{IsRuled}

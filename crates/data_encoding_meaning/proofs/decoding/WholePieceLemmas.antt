@@ -6,13 +6,13 @@ use Rattle.std.proofs.lemmas.List.Folds.{list_any-append}
 use Rattle.std.specs.List.{list_any}
 use Rattle.data_encoding_meaning.specs.declared.error.DecodeError.{DecodeError}
 use Rattle.data_encoding_meaning.specs.declared.error.DecodePartial.{DecodePartial}
-use Rattle.data_encoding_meaning.specs.Base.{Base, IsWidth, group_symbols, ignores_some, is_padded}
-use Rattle.data_encoding_meaning.specs.Fault.{first_fault, fault_of, AreSound}
-use Rattle.data_encoding_meaning.specs.Grammar.{Means, Positioned, groups, is_final, kept, meanings_in}
-use Rattle.data_encoding_meaning.specs.Laws.{further}
-use Rattle.data_encoding_meaning.specs.Lengths.{length_fault, is_valid_count, most_bytes}
-use Rattle.data_encoding_meaning.specs.Partial.{partial_of, is_length_fault}
-use Rattle.data_encoding_meaning.specs.Pieces.{HasRead, IsOfWholeGroup, unfinished, whole_bytes, whole_groups, held_fault}
+use Rattle.data_encoding_meaning.specs.text.Base.{Base, IsWidth, group_symbols, ignores_some, is_padded}
+use Rattle.data_encoding_meaning.specs.decoding.Fault.{first_fault, fault_of, AreSound}
+use Rattle.data_encoding_meaning.specs.text.Grammar.{Means, Positioned, groups, is_final, kept, meanings_in}
+use Rattle.data_encoding_meaning.specs.laws.Laws.{further}
+use Rattle.data_encoding_meaning.specs.text.Lengths.{length_fault, is_valid_count, most_bytes}
+use Rattle.data_encoding_meaning.specs.decoding.Partial.{partial_of, is_length_fault}
+use Rattle.data_encoding_meaning.specs.decoding.Pieces.{HasRead, IsOfWholeGroup, unfinished, whole_bytes, whole_groups, held_fault}
 use Rattle.data_encoding_meaning.proofs.decoding.PieceLemmas.{bytes-behind, more, sound, sound_bytes-read, joined, fault_of-read}
 use Rattle.data_encoding_meaning.proofs.decoding.StopLemmas.{fault-partial}
 use Rattle.data_encoding_meaning.proofs.digits.WidthLemmas.{group_symbols-pos}

@@ -7,7 +7,7 @@ use Rattle.std.specs.Prelude.{flat_map}
 use Rattle.std.specs.List.{AllByRecursion}
 use Rattle.data_encoding_meaning.specs.declared.encoding.BitOrder.{BitOrder}
 use Rattle.data_encoding_meaning.specs.declared.encoding.BitOrder.TheVariants.{MostSignificantFirst, LeastSignificantFirst}
-use Rattle.data_encoding_meaning.specs.Bits.{low_bits, number_of_low_bits, bits_of, number_of}
+use Rattle.data_encoding_meaning.specs.text.Bits.{low_bits, number_of_low_bits, bits_of, number_of}
 use Rattle.data_encoding_meaning.proofs.lists.EachLemmas.{all_joined, all_parts, all_reversed, all_replicate}
 
 -- each is 0 or 1

@@ -1,6 +1,6 @@
 -- The sizes of a group.
 use Rattle.std.proofs.Common.{◌≡◌, ◌⊎◌, inl, inr, ℕ, ◌+◌, ◌-◌, ◌*◌, ◌/◌, ◌≤◌, refl, arith}
-use Rattle.data_encoding_meaning.specs.Base.{IsWidth, group_bytes, group_symbols, IsGroup}
+use Rattle.data_encoding_meaning.specs.text.Base.{IsWidth, group_bytes, group_symbols, IsGroup}
 use Rattle.data_encoding_meaning.proofs.digits.WidthLemmas.{by_width}
 
 -- a whole group is small enough for a word

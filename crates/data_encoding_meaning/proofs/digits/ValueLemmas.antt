@@ -4,7 +4,7 @@ use Rattle.std.proofs.lemmas.List.{length-drop, nil_from_length}
 use Rattle.std.specs.Prelude.{flat_map}
 use Rattle.std.specs.List.{AllByRecursion}
 use Rattle.data_encoding_meaning.specs.declared.encoding.BitOrder.{BitOrder}
-use Rattle.data_encoding_meaning.specs.Bits.{bits_of, number_of, runs}
+use Rattle.data_encoding_meaning.specs.text.Bits.{bits_of, number_of, runs}
 use Rattle.data_encoding_meaning.proofs.digits.BitLemmas.{AreBits, AreBits-take, AreBits-drop, bits_of-number_of, number_of-below}
 use Rattle.data_encoding_meaning.proofs.lists.RunLemmas.{runs-first, runs-nil}
 

@@ -1,6 +1,6 @@
 -- The six widths.
 use Rattle.std.proofs.Common.{◌≡◌, ℕ, zero, suc, ◌-◌, ◌*◌, ◌/◌, ◌^◌, ◌<◌, ◌≤◌, refl, arith}
-use Rattle.data_encoding_meaning.specs.Base.{IsWidth, group_bytes, group_symbols}
+use Rattle.data_encoding_meaning.specs.text.Base.{IsWidth, group_bytes, group_symbols}
 
 -- what holds of each of the six
 pub by_width : (P : ℕ → Type 0) → P 1 → P 2 → P 3 → P 4 → P 5 → P 6

@@ -10,11 +10,11 @@ use Rattle.data_encoding_meaning.specs.declared.error.GroupFault.{GroupFault}
 use Rattle.data_encoding_meaning.specs.declared.encoding.Character.{Character}
 use Rattle.data_encoding_meaning.specs.declared.encoding.Character.TheVariants.{Symbol, Padding}
 use Rattle.data_encoding_meaning.specs.declared.error.DecodeError.{DecodeError}
-use Rattle.data_encoding_meaning.specs.Base.{Base, is_padding, is_padded, value_of, group_symbols, IsWidth}
-use Rattle.data_encoding_meaning.specs.Grammar.{Positioned, PlainMeans, GroupMeans, bytes_in, meanings_in}
-use Rattle.data_encoding_meaning.specs.Laws.{further}
-use Rattle.data_encoding_meaning.specs.Lengths.{is_valid_count}
-use Rattle.data_encoding_meaning.specs.Fault.{character_fault, count_before_padding, group_fault, located, padded_fault_at, plain_fault, position_of, symbol_bytes, symbols_fault}
+use Rattle.data_encoding_meaning.specs.text.Base.{Base, is_padding, is_padded, value_of, group_symbols, IsWidth}
+use Rattle.data_encoding_meaning.specs.text.Grammar.{Positioned, PlainMeans, GroupMeans, bytes_in, meanings_in}
+use Rattle.data_encoding_meaning.specs.laws.Laws.{further}
+use Rattle.data_encoding_meaning.specs.text.Lengths.{is_valid_count}
+use Rattle.data_encoding_meaning.specs.decoding.Fault.{character_fault, count_before_padding, group_fault, located, padded_fault_at, plain_fault, position_of, symbol_bytes, symbols_fault}
 use Rattle.data_encoding_meaning.proofs.grammar.LengthLemmas.{widths}
 use Rattle.data_encoding_meaning.proofs.grammar.PositionLemmas.{length-meanings}
 use Rattle.data_encoding_meaning.proofs.grammar.UnpaddedGroupLemmas.{plain_fault-valid, PlainMeans-sound, PlainMeans-valid, PlainMeans-bytes, PlainMeans-no_fault}

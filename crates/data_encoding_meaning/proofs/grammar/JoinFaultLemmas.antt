@@ -4,11 +4,11 @@ use Rattle.std.specs.Prelude.{flat_map}
 use Rattle.std.specs.List.{AllByRecursion}
 use Rattle.std.proofs.lemmas.Bool.Decides.{nat_tests}
 use Rattle.data_encoding_meaning.specs.declared.error.DecodeError.{DecodeError}
-use Rattle.data_encoding_meaning.specs.Base.{Base, IsWidth, ignores_some, group_symbols}
-use Rattle.data_encoding_meaning.specs.Grammar.{Positioned, kept, groups, is_final, Means, kept_in, bytes_in, positioned_from}
-use Rattle.data_encoding_meaning.specs.Lengths.{greatest_valid_count, is_valid_length, length_fault}
-use Rattle.data_encoding_meaning.specs.Fault.{bytes_of_group, fault_after, fault_of, first_after, first_fault, or_else, position_of, sound_after, sound_bytes, group_fault, AreSound}
-use Rattle.data_encoding_meaning.specs.Laws.{MayBeFollowed, further}
+use Rattle.data_encoding_meaning.specs.text.Base.{Base, IsWidth, ignores_some, group_symbols}
+use Rattle.data_encoding_meaning.specs.text.Grammar.{Positioned, kept, groups, is_final, Means, kept_in, bytes_in, positioned_from}
+use Rattle.data_encoding_meaning.specs.text.Lengths.{greatest_valid_count, is_valid_length, length_fault}
+use Rattle.data_encoding_meaning.specs.decoding.Fault.{bytes_of_group, fault_after, fault_of, first_after, first_fault, or_else, position_of, sound_after, sound_bytes, group_fault, AreSound}
+use Rattle.data_encoding_meaning.specs.laws.Laws.{MayBeFollowed, further}
 use Rattle.data_encoding_meaning.proofs.digits.WidthLemmas.{group_symbols-pos}
 use Rattle.data_encoding_meaning.proofs.grammar.GroupLemmas.{group_fault-inside, located-further}
 use Rattle.data_encoding_meaning.proofs.grammar.JoinLemmas.{followed}

@@ -8,10 +8,10 @@ use Rattle.std.proofs.Math.Bool.{and-false}
 use Rattle.std.proofs.lemmas.Bool.Decides.{nat_tests}
 use Rattle.data_encoding_meaning.proofs.grammar.PositionLemmas.{length-meanings, meanings-append}
 use Rattle.data_encoding_meaning.specs.declared.encoding.Character.{Character}
-use Rattle.data_encoding_meaning.specs.Base.{Base, IsWidth, meaning, is_padded, is_padding, group_symbols}
-use Rattle.data_encoding_meaning.specs.Bits.{runs}
-use Rattle.data_encoding_meaning.specs.Grammar.{Positioned, kept, groups, PlainMeans, GroupsMean, Means, is_final, kept_in, bytes_in, meanings_in}
-use Rattle.data_encoding_meaning.specs.Laws.{MayBeFollowed}
+use Rattle.data_encoding_meaning.specs.text.Base.{Base, IsWidth, meaning, is_padded, is_padding, group_symbols}
+use Rattle.data_encoding_meaning.specs.text.Bits.{runs}
+use Rattle.data_encoding_meaning.specs.text.Grammar.{Positioned, kept, groups, PlainMeans, GroupsMean, Means, is_final, kept_in, bytes_in, meanings_in}
+use Rattle.data_encoding_meaning.specs.laws.Laws.{MayBeFollowed}
 use Rattle.data_encoding_meaning.proofs.digits.WidthLemmas.{group_symbols-pos}
 use Rattle.data_encoding_meaning.proofs.grammar.GroupLemmas.{symbols_alone}
 use Rattle.data_encoding_meaning.proofs.grammar.KeptLemmas.{kept_in-append}

@@ -4,10 +4,10 @@ use Rattle.std.proofs.lemmas.List.{length-drop, length-reverse, reverse-append, 
 use Rattle.std.proofs.lemmas.List.Elements.{filter-append, All-filter, All-from_recursion, All-get_or}
 use Rattle.std.proofs.Math.Seq.{take-add}
 use Rattle.std.specs.List.{AllByRecursion}
-use Rattle.data_encoding_meaning.specs.Base.{Base}
-use Rattle.data_encoding_meaning.specs.Grammar.{Positioned, positioned_from, kept, kept_in, kept_from}
-use Rattle.data_encoding_meaning.specs.Fault.{position_of}
-use Rattle.data_encoding_meaning.specs.Partial.{position_after}
+use Rattle.data_encoding_meaning.specs.text.Base.{Base}
+use Rattle.data_encoding_meaning.specs.text.Grammar.{Positioned, positioned_from, kept, kept_in, kept_from}
+use Rattle.data_encoding_meaning.specs.decoding.Fault.{position_of}
+use Rattle.data_encoding_meaning.specs.decoding.Partial.{position_after}
 use Rattle.data_encoding_meaning.proofs.grammar.PositionLemmas.{positioned_from-append}
 
 -- the part of a text between two positions

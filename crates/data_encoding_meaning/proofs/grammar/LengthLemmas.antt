@@ -3,8 +3,8 @@ use Rattle.std.proofs.Common.{◌≡◌, ℕ, ◌*◌, ◌/◌, ◌%◌, ◌==�
 use Rattle.std.proofs.lemmas.Bool.Decides.{nat_tests}
 use Rattle.std.proofs.Math.Nat.{mod-eq_of_lt, mod_self}
 use Rattle.data_encoding_meaning.specs.declared.error.DecodeKind.TheVariants.{Length as LengthFault}
-use Rattle.data_encoding_meaning.specs.Base.{Base, is_padded, ignores_some, group_bytes, group_symbols, IsWidth}
-use Rattle.data_encoding_meaning.specs.Lengths.{decoded_len, greatest_valid_count, greatest_valid_length, is_valid_count, is_valid_length, length_fault, most_bytes}
+use Rattle.data_encoding_meaning.specs.text.Base.{Base, is_padded, ignores_some, group_bytes, group_symbols, IsWidth}
+use Rattle.data_encoding_meaning.specs.text.Lengths.{decoded_len, greatest_valid_count, greatest_valid_length, is_valid_count, is_valid_length, length_fault, most_bytes}
 
 -- the six, for a search
 pub widths : (width : ℕ) → IsWidth width

@@ -6,10 +6,10 @@ use Rattle.std.specs.List.{AllByRecursion}
 use Rattle.std.proofs.lemmas.Nat.{le-div}
 use Rattle.data_encoding_meaning.specs.declared.encoding.Character.{Character}
 use Rattle.data_encoding_meaning.specs.declared.error.DecodeError.{DecodeError}
-use Rattle.data_encoding_meaning.specs.Base.{Base, is_padded, group_symbols, group_bytes, IsWidth}
-use Rattle.data_encoding_meaning.specs.Grammar.{Positioned, kept, groups, GroupMeans, GroupsMean, Means, PlainMeans, is_final, meanings_in}
-use Rattle.data_encoding_meaning.specs.Lengths.{decoded_len, is_valid_length, length_fault, most_bytes}
-use Rattle.data_encoding_meaning.specs.Fault.{bytes_of_group, fault_of, first_fault, sound_bytes, located, AreSound}
+use Rattle.data_encoding_meaning.specs.text.Base.{Base, is_padded, group_symbols, group_bytes, IsWidth}
+use Rattle.data_encoding_meaning.specs.text.Grammar.{Positioned, kept, groups, GroupMeans, GroupsMean, Means, PlainMeans, is_final, meanings_in}
+use Rattle.data_encoding_meaning.specs.text.Lengths.{decoded_len, is_valid_length, length_fault, most_bytes}
+use Rattle.data_encoding_meaning.specs.decoding.Fault.{bytes_of_group, fault_of, first_fault, sound_bytes, located, AreSound}
 use Rattle.data_encoding_meaning.proofs.digits.WidthLemmas.{group_bits, group_symbols-pos}
 use Rattle.data_encoding_meaning.proofs.lists.RunLemmas.{few_runs, flat_map-runs}
 use Rattle.data_encoding_meaning.proofs.grammar.UnpaddedGroupLemmas.{PlainMeans-count, PlainMeans-valid}

@@ -6,10 +6,10 @@ use Rattle.std.specs.List.{filter}
 use Rattle.std.proofs.Math.Nat.{add-zero}
 use Rattle.data_encoding_meaning.specs.declared.encoding.Character.{Character}
 use Rattle.data_encoding_meaning.specs.declared.encoding.Character.TheVariants.{Invalid}
-use Rattle.data_encoding_meaning.specs.Base.{Base, meaning, is_ignored, ignores_some}
-use Rattle.data_encoding_meaning.specs.Grammar.{Positioned, bytes_in, positioned, positioned_from, kept, meanings_in}
-use Rattle.data_encoding_meaning.specs.Fault.{position_of}
-use Rattle.data_encoding_meaning.specs.Bits.{runs}
+use Rattle.data_encoding_meaning.specs.text.Base.{Base, meaning, is_ignored, ignores_some}
+use Rattle.data_encoding_meaning.specs.text.Grammar.{Positioned, bytes_in, positioned, positioned_from, kept, meanings_in}
+use Rattle.data_encoding_meaning.specs.decoding.Fault.{position_of}
+use Rattle.data_encoding_meaning.specs.text.Bits.{runs}
 use Rattle.data_encoding_meaning.proofs.lists.EachLemmas.{map-twice}
 use Rattle.data_encoding_meaning.proofs.lists.ListLemmas.{AllFail, AllFail-list_any, length-filter}
 use Rattle.data_encoding_meaning.proofs.lists.RunLemmas.{runs-map}

@@ -1,9 +1,9 @@
 -- What a text means is decided by what its bytes that are not ignored mean, wherever they stand.
 use Rattle.std.proofs.Common.{◌≡◌, ℕ, Bool, not, List, map, ap, ◌∙◌, subst}
 use Rattle.std.specs.List.{filter}
-use Rattle.data_encoding_meaning.specs.Base.{Base, IsWidth, meaning, is_ignored, group_symbols}
-use Rattle.data_encoding_meaning.specs.Bits.{runs}
-use Rattle.data_encoding_meaning.specs.Grammar.{GroupsMean, Means, Positioned, bytes_in, kept, kept_in, meanings_in, positioned_from}
+use Rattle.data_encoding_meaning.specs.text.Base.{Base, IsWidth, meaning, is_ignored, group_symbols}
+use Rattle.data_encoding_meaning.specs.text.Bits.{runs}
+use Rattle.data_encoding_meaning.specs.text.Grammar.{GroupsMean, Means, Positioned, bytes_in, kept, kept_in, meanings_in, positioned_from}
 use Rattle.data_encoding_meaning.proofs.digits.WidthLemmas.{group_symbols-pos}
 use Rattle.data_encoding_meaning.proofs.grammar.PositionLemmas.{bytes-positioned_from, runs-meanings}
 use Rattle.data_encoding_meaning.proofs.lists.ListLemmas.{map-filter}

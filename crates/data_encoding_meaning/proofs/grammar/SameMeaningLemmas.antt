@@ -7,9 +7,9 @@ use Rattle.data_encoding_meaning.specs.declared.error.GroupFault.{GroupFault}
 use Rattle.data_encoding_meaning.specs.declared.encoding.Character.{Character}
 use Rattle.data_encoding_meaning.specs.declared.error.DecodeKind.{DecodeKind}
 use Rattle.data_encoding_meaning.specs.declared.error.DecodeKind.TheVariants.{Padding as PaddingFault}
-use Rattle.data_encoding_meaning.specs.Base.{Base, IsWidth, meaning, is_ignored, group_symbols}
-use Rattle.data_encoding_meaning.specs.Grammar.{Positioned, Means, groups, is_final, kept, kept_in, meanings_in, positioned_from}
-use Rattle.data_encoding_meaning.specs.Fault.{fault_after, fault_at, fault_of, first_after, located}
+use Rattle.data_encoding_meaning.specs.text.Base.{Base, IsWidth, meaning, is_ignored, group_symbols}
+use Rattle.data_encoding_meaning.specs.text.Grammar.{Positioned, Means, groups, is_final, kept, kept_in, meanings_in, positioned_from}
+use Rattle.data_encoding_meaning.specs.decoding.Fault.{fault_after, fault_at, fault_of, first_after, located}
 use Rattle.data_encoding_meaning.proofs.digits.WidthLemmas.{group_symbols-pos}
 use Rattle.data_encoding_meaning.proofs.lists.EachLemmas.{map-twice}
 use Rattle.data_encoding_meaning.proofs.grammar.SameBytesLemmas.{Means-alike}

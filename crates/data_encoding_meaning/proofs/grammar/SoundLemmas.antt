@@ -8,9 +8,9 @@ use Rattle.std.proofs.Math.Bool.{and-false}
 use Rattle.data_encoding_meaning.specs.declared.error.DecodeError.{DecodeError}
 use Rattle.data_encoding_meaning.specs.declared.encoding.Character.{Character}
 use Rattle.data_encoding_meaning.specs.declared.encoding.Character.TheVariants.{Symbol}
-use Rattle.data_encoding_meaning.specs.Base.{Base, is_padding}
-use Rattle.data_encoding_meaning.specs.Grammar.{Positioned, bytes_in, is_final}
-use Rattle.data_encoding_meaning.specs.Fault.{bytes_of_group, fault_after, first_after, group_fault, or_else, sound_after, AreSound}
+use Rattle.data_encoding_meaning.specs.text.Base.{Base, is_padding}
+use Rattle.data_encoding_meaning.specs.text.Grammar.{Positioned, bytes_in, is_final}
+use Rattle.data_encoding_meaning.specs.decoding.Fault.{bytes_of_group, fault_after, first_after, group_fault, or_else, sound_after, AreSound}
 use Rattle.data_encoding_meaning.proofs.lists.ListLemmas.{list_any-none}
 use Rattle.data_encoding_meaning.proofs.grammar.GroupLemmas.{symbols_alone}
 

@@ -3,10 +3,10 @@ use Rattle.std.proofs.Common.{◌≡◌, ℕ, ◌*◌, false, ◌<◌, List, [],
 use Rattle.std.proofs.lemmas.List.Elements.{All-append, All-from_recursion}
 use Rattle.data_encoding_meaning.specs.declared.encoding.Character.{Character}
 use Rattle.data_encoding_meaning.specs.declared.encoding.Character.TheVariants.{Ignored}
-use Rattle.data_encoding_meaning.specs.Base.{Base, IsWidth, Wrapping, ignores_some, is_ignored, meaning}
-use Rattle.data_encoding_meaning.specs.Grammar.{GroupsMean, Means, groups, kept, meanings_in}
-use Rattle.data_encoding_meaning.specs.Lengths.{most_bytes}
-use Rattle.data_encoding_meaning.specs.Text.{text_of}
+use Rattle.data_encoding_meaning.specs.text.Base.{Base, IsWidth, Wrapping, ignores_some, is_ignored, meaning}
+use Rattle.data_encoding_meaning.specs.text.Grammar.{GroupsMean, Means, groups, kept, meanings_in}
+use Rattle.data_encoding_meaning.specs.text.Lengths.{most_bytes}
+use Rattle.data_encoding_meaning.specs.text.Text.{text_of}
 use Rattle.data_encoding_meaning.proofs.grammar.LengthLemmas.{most_bytes-by, widths}
 use Rattle.data_encoding_meaning.proofs.grammar.PositionLemmas.{length-kept_plain, never_ignored, length-meanings}
 use Rattle.data_encoding_meaning.proofs.grammar.UnpaddedGrammarLemmas.{unpadded-Means}

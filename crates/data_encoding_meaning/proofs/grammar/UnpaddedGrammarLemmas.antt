@@ -9,9 +9,9 @@ use Rattle.std.proofs.Math.Nat.{mul-le-mul_left}
 use Rattle.std.proofs.lemmas.Bool.Decides.{nat_tests}
 use Rattle.data_encoding_meaning.specs.declared.encoding.Character.{Character}
 use Rattle.data_encoding_meaning.specs.declared.encoding.Character.TheVariants.{Symbol}
-use Rattle.data_encoding_meaning.specs.Base.{Base, is_padded, group_bytes, group_symbols, IsWidth}
-use Rattle.data_encoding_meaning.specs.Bits.{bits_of, bits_of_bytes, runs}
-use Rattle.data_encoding_meaning.specs.Grammar.{GroupsMean, Means, PlainMeans, kept, meanings_in}
+use Rattle.data_encoding_meaning.specs.text.Base.{Base, is_padded, group_bytes, group_symbols, IsWidth}
+use Rattle.data_encoding_meaning.specs.text.Bits.{bits_of, bits_of_bytes, runs}
+use Rattle.data_encoding_meaning.specs.text.Grammar.{GroupsMean, Means, PlainMeans, kept, meanings_in}
 use Rattle.data_encoding_meaning.proofs.grammar.GroupLemmas.{GroupMeans-plain, GroupMeans-symbols}
 use Rattle.data_encoding_meaning.proofs.grammar.PositionLemmas.{runs-meanings}
 use Rattle.data_encoding_meaning.proofs.grammar.SoundLemmas.{symbols-not_final}

@@ -8,11 +8,11 @@ use Rattle.std.proofs.lemmas.List.Elements.{All-from_recursion, recursion_from_A
 use Rattle.data_encoding_meaning.specs.declared.encoding.BitOrder.{BitOrder}
 use Rattle.data_encoding_meaning.specs.declared.encoding.Character.{Character}
 use Rattle.data_encoding_meaning.specs.declared.encoding.Character.TheVariants.{Symbol}
-use Rattle.data_encoding_meaning.specs.Base.{Base, is_symbol, value_of, IsWidth}
-use Rattle.data_encoding_meaning.specs.Bits.{bits_of, number_of, bits_of_bytes}
-use Rattle.data_encoding_meaning.specs.Grammar.{PlainMeans}
-use Rattle.data_encoding_meaning.specs.Lengths.{is_valid_count}
-use Rattle.data_encoding_meaning.specs.Fault.{symbol_bits, trailing_bits, symbol_bytes, plain_fault, symbols_fault, trailing_fault}
+use Rattle.data_encoding_meaning.specs.text.Base.{Base, is_symbol, value_of, IsWidth}
+use Rattle.data_encoding_meaning.specs.text.Bits.{bits_of, number_of, bits_of_bytes}
+use Rattle.data_encoding_meaning.specs.text.Grammar.{PlainMeans}
+use Rattle.data_encoding_meaning.specs.text.Lengths.{is_valid_count}
+use Rattle.data_encoding_meaning.specs.decoding.Fault.{symbol_bits, trailing_bits, symbol_bytes, plain_fault, symbols_fault, trailing_fault}
 use Rattle.data_encoding_meaning.proofs.digits.BitLemmas.{AreBits-take, AreBits-flat_map, AreBits-bits_of, length-bits_of, length-pieces, number_of-bits_of}
 use Rattle.data_encoding_meaning.proofs.digits.ValueLemmas.{AreValuesOf-runs}
 use Rattle.data_encoding_meaning.proofs.lists.EachLemmas.{all_replicate, all_weaker}

@@ -8,12 +8,12 @@ use Rattle.std.specs.List.{filter_map, position}
 use Rattle.std.proofs.Math.Bool.{and-false}
 use Rattle.data_encoding_meaning.specs.declared.encoding.Character.{Character}
 use Rattle.data_encoding_meaning.specs.declared.encoding.Character.TheVariants.{Symbol}
-use Rattle.data_encoding_meaning.specs.Base.{Base, meaning, is_symbol, group_symbols, group_bytes, value_of, IsWidth}
-use Rattle.data_encoding_meaning.specs.Bits.{runs}
-use Rattle.data_encoding_meaning.specs.Grammar.{Positioned, bytes_in, is_final, kept_in, meanings_in, positioned_from}
-use Rattle.data_encoding_meaning.specs.Lengths.{is_valid_count}
-use Rattle.data_encoding_meaning.specs.Fault.{bytes_of_group, group_fault, located, plain_fault, symbol_bits, symbol_bytes, trailing_bits, AreSound}
-use Rattle.data_encoding_meaning.specs.Decoding.{run_bytes}
+use Rattle.data_encoding_meaning.specs.text.Base.{Base, meaning, is_symbol, group_symbols, group_bytes, value_of, IsWidth}
+use Rattle.data_encoding_meaning.specs.text.Bits.{runs}
+use Rattle.data_encoding_meaning.specs.text.Grammar.{Positioned, bytes_in, is_final, kept_in, meanings_in, positioned_from}
+use Rattle.data_encoding_meaning.specs.text.Lengths.{is_valid_count}
+use Rattle.data_encoding_meaning.specs.decoding.Fault.{bytes_of_group, group_fault, located, plain_fault, symbol_bits, symbol_bytes, trailing_bits, AreSound}
+use Rattle.data_encoding_meaning.specs.decoding.Decoding.{run_bytes}
 use Rattle.data_encoding_meaning.proofs.digits.WidthLemmas.{group_bits, group_symbols-pos}
 use Rattle.data_encoding_meaning.proofs.lists.EachLemmas.{all_parts}
 use Rattle.data_encoding_meaning.proofs.lists.EndLemmas.{AllSo}

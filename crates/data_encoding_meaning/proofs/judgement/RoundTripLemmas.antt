@@ -7,9 +7,9 @@ use Rattle.std.specs.List.{AllByRecursion}
 use Rattle.data_encoding_meaning.specs.declared.encoding.Character.{Character}
 use Rattle.data_encoding_meaning.specs.declared.encoding.Character.TheVariants.{Symbol, Padding, Ignored, Invalid}
 use Rattle.data_encoding_meaning.specs.declared.refusal.Refusal.TheVariants.{NotAscii, Undefined}
-use Rattle.data_encoding_meaning.specs.Base.{Base, Wrapping, group_symbols, is_ignored, meaning, symbol}
-use Rattle.data_encoding_meaning.specs.Fields.{Judgement, base_of, base_with, defined, ignored_judgements, is_same, judged, judgements, meanings_after, no_meanings, padding_judgements, pair_judgements, symbol_judgements, translated, translation_judgements, width_of, wrapping_judgements, wraps, Require, Define, Translate, IsSpecified}
-use Rattle.data_encoding_meaning.specs.Layout.{column_of, fields_of, is_translated, own_character, separator_of, translated_bytes}
+use Rattle.data_encoding_meaning.specs.text.Base.{Base, Wrapping, group_symbols, is_ignored, meaning, symbol}
+use Rattle.data_encoding_meaning.specs.specification.Fields.{Judgement, base_of, base_with, defined, ignored_judgements, is_same, judged, judgements, meanings_after, no_meanings, padding_judgements, pair_judgements, symbol_judgements, translated, translation_judgements, width_of, wrapping_judgements, wraps, Require, Define, Translate, IsSpecified}
+use Rattle.data_encoding_meaning.specs.specification.Layout.{column_of, fields_of, is_translated, own_character, separator_of, translated_bytes}
 use Rattle.data_encoding_meaning.proofs.tables.EntryLemmas.{apart_test, defined_by, false_or, ignored-is, is_same-self, same-is_same}
 use Rattle.data_encoding_meaning.proofs.judgement.JudgementLemmas.{AreKept, AreKept-join, AreSteps, IsHeld, Judged, after-ok, judged-ok, meanings_after-append, meanings_after-ok, symbols-held}
 use Rattle.data_encoding_meaning.proofs.lists.EachLemmas.{all_parts, all_in_range, at_in_range, passes_at}

@@ -8,8 +8,8 @@ use Rattle.data_encoding_meaning.specs.declared.encoding.Character.{Character}
 use Rattle.data_encoding_meaning.specs.declared.encoding.Character.TheVariants.{Symbol, Padding, Ignored, Invalid}
 use Rattle.data_encoding_meaning.specs.declared.refusal.Refusal.{Refusal}
 use Rattle.data_encoding_meaning.specs.declared.refusal.Refusal.TheVariants.{WrapLength, WrapWidth}
-use Rattle.data_encoding_meaning.specs.Base.{Base, Wrapping, meaning, group_symbols, IsWidth}
-use Rattle.data_encoding_meaning.specs.Fields.{Fields, Judgement, base_of, base_by, base_with, ignored_judgements, judgements, meanings_after, no_meanings, padding_judgements, symbol_judgements, translation_judgements, width_of, wrapping_judgements, wraps, Require, Translate}
+use Rattle.data_encoding_meaning.specs.text.Base.{Base, Wrapping, meaning, group_symbols, IsWidth}
+use Rattle.data_encoding_meaning.specs.specification.Fields.{Fields, Judgement, base_of, base_by, base_with, ignored_judgements, judgements, meanings_after, no_meanings, padding_judgements, symbol_judgements, translation_judgements, width_of, wrapping_judgements, wraps, Require, Translate}
 use Rattle.data_encoding_meaning.proofs.judgement.JudgementLemmas.{AreSteps, Brings, IsHeld, meanings_after-ok, meanings_after-pass, symbols-bring, symbols-held}
 use Rattle.data_encoding_meaning.proofs.lists.EachLemmas.{all_parts, all_joined}
 use Rattle.data_encoding_meaning.proofs.digits.WidthLemmas.{by_width}

@@ -7,8 +7,8 @@ use Rattle.std.proofs.lemmas.List.FromFn.{map-range_with_len_more}
 use Rattle.std.specs.List.{filter, list_all, range_with_len}
 use Rattle.data_encoding_meaning.specs.declared.encoding.Character.{Character}
 use Rattle.data_encoding_meaning.specs.declared.encoding.Character.TheVariants.{Symbol, Padding, Ignored, Invalid}
-use Rattle.data_encoding_meaning.specs.Base.{Base, meaning, symbol}
-use Rattle.data_encoding_meaning.specs.Layout.{is_translated, own_byte, own_character}
+use Rattle.data_encoding_meaning.specs.text.Base.{Base, meaning, symbol}
+use Rattle.data_encoding_meaning.specs.specification.Layout.{is_translated, own_byte, own_character}
 use Rattle.data_encoding_meaning.proofs.lists.EachLemmas.{all_in_range, list_all-cons, list_all-each}
 
 range-more : (n : ℕ) → range_with_len 0 (n + 1) ≡ range_with_len 0 n ++ n ∷ []

@@ -4,9 +4,9 @@ use Rattle.std.proofs.lemmas.List.Elements.{All-from_recursion}
 use Rattle.std.specs.Cmp.{first_so, second_so}
 use Rattle.std.specs.List.{AllByRecursion, list_all}
 use Rattle.data_encoding_meaning.specs.declared.refusal.Refusal.{Refusal}
-use Rattle.data_encoding_meaning.specs.Base.{Base}
-use Rattle.data_encoding_meaning.specs.Eighteen.{Yields}
-use Rattle.data_encoding_meaning.specs.Fields.{Fields, base_of}
+use Rattle.data_encoding_meaning.specs.text.Base.{Base}
+use Rattle.data_encoding_meaning.specs.laws.Eighteen.{Yields}
+use Rattle.data_encoding_meaning.specs.specification.Fields.{Fields, base_of}
 use Rattle.data_encoding_meaning.proofs.judgement.RuleLemmas.{IsRuled, IsRuled-yield}
 
 -- There is a base, and it is so.

@@ -3,7 +3,7 @@ use Rattle.std.proofs.Common.{◌≡◌, ℕ, ◌+◌, ◌-◌, ◌*◌, ◌/◌
 use Rattle.std.proofs.lemmas.List.{length-drop}
 use Rattle.std.proofs.Math.Nat.{mul_left_comm, mul-add-div, mul-le-mul_right, div-eq_of_lt}
 use Rattle.std.proofs.lemmas.Nat.{div-add-mod'}
-use Rattle.data_encoding_meaning.specs.Base.{IsGroup, IsWidth}
+use Rattle.data_encoding_meaning.specs.text.Base.{IsGroup, IsWidth}
 use Rattle.data_encoding_meaning.proofs.digits.SizeLemmas.{IsGroup-same, room-same}
 use Rattle.data_encoding_meaning.proofs.digits.WidthLemmas.{group_bits, group_bytes-pos, group_symbols-pos}
 

@@ -9,7 +9,7 @@ use Rattle.std.specs.Int.{div_ceil}
 use Rattle.std.specs.List.{AllByRecursion}
 use Rattle.std.specs.Prelude.{flat_map}
 use Rattle.std.specs.Simd.{first_chunks}
-use Rattle.data_encoding_meaning.specs.Bits.{runs}
+use Rattle.data_encoding_meaning.specs.text.Bits.{runs}
 use Rattle.data_encoding_meaning.proofs.lists.EachLemmas.{all_joined, all_parts}
 
 -- how many runs there are

@@ -3,7 +3,7 @@ use Rattle.std.proofs.Common.{◌≡◌, ℕ, ◌+◌, ◌*◌, ◌/◌, ◌%◌
 use Rattle.std.proofs.lemmas.List.{append-nil, drop_at, drop-map, length-drop, length-map, take-map}
 use Rattle.std.proofs.Math.Nat.{add-mul, div-add-mod', div-eq_of_lt-le, div-mul-le_self, lt-div-mul-add, mul_comm, mul-mod_left, zero-mul}
 use Rattle.std.specs.Simd.{first_chunks}
-use Rattle.data_encoding_meaning.specs.Bits.{runs}
+use Rattle.data_encoding_meaning.specs.text.Bits.{runs}
 use Rattle.data_encoding_meaning.proofs.lists.RunLemmas.{first_chunks-append, run_count, runs-join, runs-map, runs-nil, runs-short}
 
 abbrev pub whole_runs : {X : Type 0} → ℕ → List X → List (List X)

@@ -6,12 +6,12 @@ use Rattle.std.proofs.lemmas.List.Kept.{AllPairs-cons}
 use Rattle.std.specs.List.{AllByRecursion, list_all}
 use Rattle.data_encoding_meaning.specs.declared.encoding.BitOrder.{BitOrder}
 use Rattle.data_encoding_meaning.specs.declared.encoding.BitOrder.TheVariants.{MostSignificantFirst, LeastSignificantFirst}
-use Rattle.data_encoding_meaning.specs.Base.{Base}
-use Rattle.data_encoding_meaning.specs.Eighteen.{Yields, ordered_fields, unordered_fields}
-use Rattle.data_encoding_meaning.specs.Fields.{Fields, base_of}
-use Rattle.data_encoding_meaning.specs.Layout.{order_flag}
-use Rattle.data_encoding_meaning.specs.Order.{IsOrdered}
-use Rattle.data_encoding_meaning.specs.Predefined.{base32_fields, base32_nopad_fields, base32_nopad_nocase_fields, base32_nopad_visual_fields, base32hex_fields, base32_dnscurve_fields, base64_fields, base64_nopad_fields, base64url_fields, base64url_nopad_fields}
+use Rattle.data_encoding_meaning.specs.text.Base.{Base}
+use Rattle.data_encoding_meaning.specs.laws.Eighteen.{Yields, ordered_fields, unordered_fields}
+use Rattle.data_encoding_meaning.specs.specification.Fields.{Fields, base_of}
+use Rattle.data_encoding_meaning.specs.specification.Layout.{order_flag}
+use Rattle.data_encoding_meaning.specs.laws.Order.{IsOrdered}
+use Rattle.data_encoding_meaning.specs.specification.Predefined.{base32_fields, base32_nopad_fields, base32_nopad_nocase_fields, base32_nopad_visual_fields, base32hex_fields, base32_dnscurve_fields, base64_fields, base64_nopad_fields, base64url_fields, base64url_nopad_fields}
 use Rattle.data_encoding_meaning.proofs.judgement.YieldLemmas.{IsOfBase, yields, yields_all}
 
 -- each is below all that follow

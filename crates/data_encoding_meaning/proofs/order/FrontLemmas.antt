@@ -5,8 +5,8 @@ use Rattle.std.proofs.lemmas.Bool.{cases_lt}
 use Rattle.std.proofs.lemmas.List.{length-reverse, reverse-append, length-drop}
 use Rattle.std.specs.List.{AllByRecursion}
 use Rattle.data_encoding_meaning.specs.declared.encoding.BitOrder.TheVariants.{MostSignificantFirst}
-use Rattle.data_encoding_meaning.specs.Bits.{low_bits, bits_of, number_of, bits_of_bytes}
-use Rattle.data_encoding_meaning.specs.Order.{IsBefore}
+use Rattle.data_encoding_meaning.specs.text.Bits.{low_bits, bits_of, number_of, bits_of_bytes}
+use Rattle.data_encoding_meaning.specs.laws.Order.{IsBefore}
 use Rattle.data_encoding_meaning.proofs.digits.BitLemmas.{AreBits, length-bits_of, number_of-below, number-append, number-zeros, reverse-zeros}
 
 -- the first so many, with zeros after the last

@@ -7,10 +7,10 @@ use Rattle.std.proofs.lemmas.List.{append-nil, take_at, get_or_default, reverse-
 use Rattle.std.proofs.lemmas.List.Elements.{All-from_recursion, All-from_get_or}
 use Rattle.data_encoding_meaning.specs.declared.encoding.BitOrder.{BitOrder}
 use Rattle.data_encoding_meaning.specs.declared.encoding.BitOrder.TheVariants.{MostSignificantFirst, LeastSignificantFirst}
-use Rattle.data_encoding_meaning.specs.Base.{Base, IsWidth, symbol, group_symbols}
-use Rattle.data_encoding_meaning.specs.Bits.{low_bits, bits_of, number_of, bits_of_bytes, missing}
-use Rattle.data_encoding_meaning.specs.Order.{IsBefore, IsOrdered, KeepsOrder, BreaksOrder, IsBroken}
-use Rattle.data_encoding_meaning.specs.Text.{with_padding, plain_text, text_of}
+use Rattle.data_encoding_meaning.specs.text.Base.{Base, IsWidth, symbol, group_symbols}
+use Rattle.data_encoding_meaning.specs.text.Bits.{low_bits, bits_of, number_of, bits_of_bytes, missing}
+use Rattle.data_encoding_meaning.specs.laws.Order.{IsBefore, IsOrdered, KeepsOrder, BreaksOrder, IsBroken}
+use Rattle.data_encoding_meaning.specs.text.Text.{with_padding, plain_text, text_of}
 use Rattle.data_encoding_meaning.proofs.digits.BitLemmas.{length-bits_of, low_bits-add, number_of-bits_of}
 use Rattle.data_encoding_meaning.proofs.digits.WidthLemmas.{by_width}
 use Rattle.data_encoding_meaning.proofs.canonicity.ConcatenatedTextLemmas.{partly}

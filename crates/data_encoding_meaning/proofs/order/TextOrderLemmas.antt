@@ -6,10 +6,10 @@ use Rattle.std.proofs.lemmas.List.{append-nil, drop_all, length-drop}
 use Rattle.std.proofs.lemmas.List.Elements.{recursion_from_All}
 use Rattle.data_encoding_meaning.specs.declared.encoding.BitOrder.{BitOrder}
 use Rattle.data_encoding_meaning.specs.declared.encoding.BitOrder.TheVariants.{MostSignificantFirst}
-use Rattle.data_encoding_meaning.specs.Base.{Base, symbol, group_symbols}
-use Rattle.data_encoding_meaning.specs.Bits.{bits_of, number_of, bits_of_bytes, missing, runs}
-use Rattle.data_encoding_meaning.specs.Order.{IsBefore, IsOrdered, KeepsOrder}
-use Rattle.data_encoding_meaning.specs.Text.{filled_with, with_padding}
+use Rattle.data_encoding_meaning.specs.text.Base.{Base, symbol, group_symbols}
+use Rattle.data_encoding_meaning.specs.text.Bits.{bits_of, number_of, bits_of_bytes, missing, runs}
+use Rattle.data_encoding_meaning.specs.laws.Order.{IsBefore, IsOrdered, KeepsOrder}
+use Rattle.data_encoding_meaning.specs.text.Text.{filled_with, with_padding}
 use Rattle.data_encoding_meaning.proofs.digits.BitLemmas.{AreBits, AreBits-bits_of, AreBits-drop, AreBits-flat_map}
 use Rattle.data_encoding_meaning.proofs.lists.RunLemmas.{runs-append, runs-nil, runs-short}
 use Rattle.data_encoding_meaning.proofs.order.FrontLemmas.{front, front_number, front-long, front-short, front_number-below, length-front, front-compared, before-bytes, IsBeforeBy, IsRestBefore}

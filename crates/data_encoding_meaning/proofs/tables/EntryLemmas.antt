@@ -9,10 +9,10 @@ use Rattle.data_encoding_meaning.specs.declared.encoding.Character.{Character}
 use Rattle.data_encoding_meaning.specs.declared.encoding.Character.TheVariants.{Symbol, Padding, Ignored, Invalid}
 use Rattle.data_encoding_meaning.specs.declared.refusal.Refusal.{Refusal}
 use Rattle.data_encoding_meaning.specs.declared.refusal.Refusal.TheVariants.{NotAscii, Duplicate}
-use Rattle.data_encoding_meaning.specs.Base.{is_ignored}
-use Rattle.data_encoding_meaning.specs.Entries.{meaning_of_entry, is_entry_of, HoldsEntries}
-use Rattle.data_encoding_meaning.specs.Fields.{defined, is_same}
-use Rattle.data_encoding_meaning.specs.Layout.{code_of}
+use Rattle.data_encoding_meaning.specs.text.Base.{is_ignored}
+use Rattle.data_encoding_meaning.specs.specification.Entries.{meaning_of_entry, is_entry_of, HoldsEntries}
+use Rattle.data_encoding_meaning.specs.specification.Fields.{defined, is_same}
+use Rattle.data_encoding_meaning.specs.specification.Layout.{code_of}
 use Rattle.std.proofs.Math.Seq.{take-set-lt}
 use Rattle.data_encoding_meaning.proofs.lists.EachLemmas.{passes_at, list_all-set}
 

@@ -2,7 +2,7 @@
 use Rattle.std.proofs.Common.{◌≡◌, ℕ, ◌<◌, ◌≤◌, ◌==◌, true, not, arith}
 use Rattle.std.proofs.lemmas.Bool.Decides.{nat_tests}
 use Rattle.data_encoding_meaning.specs.declared.encoding.Character.TheVariants.{Symbol}
-use Rattle.data_encoding_meaning.specs.Entries.{is_entry_of, meaning_of_entry}
+use Rattle.data_encoding_meaning.specs.specification.Entries.{is_entry_of, meaning_of_entry}
 use Rattle.data_encoding_meaning.proofs.judgement.RuleLemmas.{is_no_padding, is_within}
 
 -- one entry, and its meaning

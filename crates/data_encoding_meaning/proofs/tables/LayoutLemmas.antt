@@ -4,9 +4,9 @@ use Rattle.std.proofs.lemmas.Bool.Decides.{nat_tests}
 use Rattle.std.specs.Cmp.{first_so, second_so}
 use Rattle.std.specs.List.{list_all, list_any}
 use Rattle.data_encoding_meaning.specs.declared.encoding.Character.TheVariants.{Padding, Ignored, Invalid}
-use Rattle.data_encoding_meaning.specs.Base.{is_ignored}
-use Rattle.data_encoding_meaning.specs.Entries.{is_entry_of, meaning_of_entry}
-use Rattle.data_encoding_meaning.specs.Layout.{code_of}
+use Rattle.data_encoding_meaning.specs.text.Base.{is_ignored}
+use Rattle.data_encoding_meaning.specs.specification.Entries.{is_entry_of, meaning_of_entry}
+use Rattle.data_encoding_meaning.specs.specification.Layout.{code_of}
 use Rattle.data_encoding_meaning.proofs.tables.EntryLemmas.{entry_back, ignored_entry}
 
 pub meaning-ignored : (v : ℕ) → v ≡ 129 → Ignored ≡ meaning_of_entry v

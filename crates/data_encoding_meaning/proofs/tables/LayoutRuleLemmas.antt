@@ -14,11 +14,11 @@ use Rattle.std.specs.List.{list_all, list_any, range_with_len}
 use Rattle.data_encoding_meaning.specs.declared.encoding.BitOrder.TheVariants.{MostSignificantFirst, LeastSignificantFirst}
 use Rattle.data_encoding_meaning.specs.declared.encoding.Character.{Character}
 use Rattle.data_encoding_meaning.specs.declared.encoding.Character.TheVariants.{Symbol, Ignored, Invalid}
-use Rattle.data_encoding_meaning.specs.Base.{Base, Wrapping, group_symbols, ignores_some, is_ignored, meaning, wrapping_by}
-use Rattle.data_encoding_meaning.specs.Entries.{is_entry_of, meaning_of_entry}
-use Rattle.data_encoding_meaning.specs.Fields.{IsSpecified}
-use Rattle.data_encoding_meaning.specs.Layout.{code_of, column_of, layout, separator_of, wrapping_bytes}
-use Rattle.data_encoding_meaning.specs.OneLayout.{IsIgnoredIn, IsLayout, IsLayoutOf, Layouts, TellsWrapping, TellsPadding, entry_in}
+use Rattle.data_encoding_meaning.specs.text.Base.{Base, Wrapping, group_symbols, ignores_some, is_ignored, meaning, wrapping_by}
+use Rattle.data_encoding_meaning.specs.specification.Entries.{is_entry_of, meaning_of_entry}
+use Rattle.data_encoding_meaning.specs.specification.Fields.{IsSpecified}
+use Rattle.data_encoding_meaning.specs.specification.Layout.{code_of, column_of, layout, separator_of, wrapping_bytes}
+use Rattle.data_encoding_meaning.specs.specification.OneLayout.{IsIgnoredIn, IsLayout, IsLayoutOf, Layouts, TellsWrapping, TellsPadding, entry_in}
 use Rattle.data_encoding_meaning.proofs.digits.WidthLemmas.{symbols-few, times_symbols}
 use Rattle.data_encoding_meaning.proofs.lists.EachLemmas.{all-at, list_all-places, none_passes, passes_at}
 use Rattle.data_encoding_meaning.proofs.lists.RepeatLemmas.{get_or-repeats, length-repeats}

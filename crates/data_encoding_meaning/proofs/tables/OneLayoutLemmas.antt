@@ -1,7 +1,7 @@
 -- No two bases have one layout.
 use Rattle.std.proofs.Common.{◌≡◌, ◌^◌, take, Option, Some, None, refl, sym, ap, ◌∙◌, subst, arith}
-use Rattle.data_encoding_meaning.specs.Base.{Base, Wrapping}
-use Rattle.data_encoding_meaning.specs.Layout.{column_of, layout, separator_of}
+use Rattle.data_encoding_meaning.specs.text.Base.{Base, Wrapping}
+use Rattle.data_encoding_meaning.specs.specification.Layout.{column_of, layout, separator_of}
 use Rattle.data_encoding_meaning.proofs.judgement.RuleLemmas.{IsRuled, IsRuledWrapping}
 use Rattle.data_encoding_meaning.proofs.tables.ReadingLemmas.{IsReadAs, is_read_as}
 

@@ -11,10 +11,10 @@ use Rattle.data_encoding_meaning.specs.declared.encoding.BitOrder.TheVariants.{M
 use Rattle.data_encoding_meaning.specs.declared.encoding.Character.{Character}
 use Rattle.data_encoding_meaning.specs.declared.encoding.Character.TheVariants.{Symbol, Padding, Ignored, Invalid}
 use Rattle.data_encoding_meaning.specs.declared.refusal.Refusal.{Refusal}
-use Rattle.data_encoding_meaning.specs.Base.{Base, Wrapping, ignores_some, meaning}
-use Rattle.data_encoding_meaning.specs.Entries.{meaning_of_entry}
-use Rattle.data_encoding_meaning.specs.Fields.{Fields, IsSpecified, base_of}
-use Rattle.data_encoding_meaning.specs.Layout.{code_of, column_of, layout, order_flag, separator_of, wrapping_bytes}
+use Rattle.data_encoding_meaning.specs.text.Base.{Base, Wrapping, ignores_some, meaning}
+use Rattle.data_encoding_meaning.specs.specification.Entries.{meaning_of_entry}
+use Rattle.data_encoding_meaning.specs.specification.Fields.{Fields, IsSpecified, base_of}
+use Rattle.data_encoding_meaning.specs.specification.Layout.{code_of, column_of, layout, order_flag, separator_of, wrapping_bytes}
 use Rattle.data_encoding_meaning.proofs.digits.WidthLemmas.{symbols-few, times_symbols, times-pos}
 use Rattle.data_encoding_meaning.proofs.lists.RepeatLemmas.{length-repeats, take-repeats}
 use Rattle.data_encoding_meaning.proofs.judgement.RuleLemmas.{IsRuled, IsRuledPadding, IsRuledWrapping, IsRuled-yield, is_within}

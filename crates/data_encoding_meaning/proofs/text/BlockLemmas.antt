@@ -3,9 +3,9 @@ use Rattle.std.proofs.Common.{◌≡◌, ℕ, ◌+◌, ◌*◌, ◌/◌, ◌%◌
 use Rattle.std.proofs.Math.Nat.{div-mul-le_self, mul-pos, mul-le-mul_left, mul-mod_left}
 use Rattle.std.proofs.lemmas.Nat.{le-div}
 use Rattle.std.proofs.lemmas.Bool.Decides.{nat_tests}
-use Rattle.data_encoding_meaning.specs.Base.{Base, IsWidth, Wrapping, group_bytes, group_symbols}
-use Rattle.data_encoding_meaning.specs.Lengths.{IsBlockLength, align_by, alignment}
-use Rattle.data_encoding_meaning.specs.Text.{text_of}
+use Rattle.data_encoding_meaning.specs.text.Base.{Base, IsWidth, Wrapping, group_bytes, group_symbols}
+use Rattle.data_encoding_meaning.specs.text.Lengths.{IsBlockLength, align_by, alignment}
+use Rattle.data_encoding_meaning.specs.text.Text.{text_of}
 use Rattle.data_encoding_meaning.proofs.digits.WidthLemmas.{group_bytes-few, group_bytes-pos, group_symbols-few}
 use Rattle.data_encoding_meaning.proofs.judgement.RuleLemmas.{IsRuled}
 use Rattle.data_encoding_meaning.proofs.text.LineLemmas.{alignment-is, alignment-some, are, column-is, groups, padded-fits, short-lines}

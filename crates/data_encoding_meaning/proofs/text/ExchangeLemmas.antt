@@ -4,10 +4,10 @@ use Rattle.std.proofs.lemmas.List.{length-map, map-append}
 use Rattle.std.specs.Prelude.{flat_map}
 use Rattle.std.specs.List.{AllByRecursion}
 use Rattle.data_encoding_meaning.specs.declared.encoding.Character.TheVariants.{Ignored, Padding}
-use Rattle.data_encoding_meaning.specs.Base.{Base, Wrapping, meaning, symbol, group_symbols}
-use Rattle.data_encoding_meaning.specs.Bits.{bits_of_bytes, missing, number_of, runs}
-use Rattle.data_encoding_meaning.specs.SameMeaning.{DifferInSymbols, exchanged}
-use Rattle.data_encoding_meaning.specs.Text.{filled_with, in_lines, padded_text, plain_text, text_of, with_padding}
+use Rattle.data_encoding_meaning.specs.text.Base.{Base, Wrapping, meaning, symbol, group_symbols}
+use Rattle.data_encoding_meaning.specs.text.Bits.{bits_of_bytes, missing, number_of, runs}
+use Rattle.data_encoding_meaning.specs.laws.SameMeaning.{DifferInSymbols, exchanged}
+use Rattle.data_encoding_meaning.specs.text.Text.{filled_with, in_lines, padded_text, plain_text, text_of, with_padding}
 use Rattle.data_encoding_meaning.proofs.lists.EachLemmas.{map-twice}
 use Rattle.data_encoding_meaning.proofs.lists.RepeatLemmas.{map-replicate}
 use Rattle.data_encoding_meaning.proofs.lists.RunLemmas.{runs-map}

@@ -1,10 +1,10 @@
 -- Data that is encoded piece by piece: blocks as they fill, and the rest at the end.
 use Rattle.std.proofs.Common.{[], refl, append-nil, ◌≡◌, ℕ, ◌+◌, ◌%◌, ◌<◌, List, ◌++◌, length, append_assoc, length-append}
 use Rattle.std.proofs.Math.Nat.{mod-add-mod, mod-eq_of_lt, mod_self, zero-add}
-use Rattle.data_encoding_meaning.specs.Base.{Base}
-use Rattle.data_encoding_meaning.specs.Fragments.{HasEncoded}
-use Rattle.data_encoding_meaning.specs.Lengths.{alignment}
-use Rattle.data_encoding_meaning.specs.Text.{text_of}
+use Rattle.data_encoding_meaning.specs.text.Base.{Base}
+use Rattle.data_encoding_meaning.specs.text.Fragments.{HasEncoded}
+use Rattle.data_encoding_meaning.specs.text.Lengths.{alignment}
+use Rattle.data_encoding_meaning.specs.text.Text.{text_of}
 use Rattle.data_encoding_meaning.proofs.judgement.RuleLemmas.{IsRuled}
 use Rattle.data_encoding_meaning.proofs.text.LineLemmas.{text_of-nil}
 use Rattle.data_encoding_meaning.proofs.text.TextJoinLemmas.{text_of-join}

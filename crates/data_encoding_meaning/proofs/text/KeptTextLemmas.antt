@@ -4,10 +4,10 @@ use Rattle.std.proofs.lemmas.List.Elements.{filter-append}
 use Rattle.std.specs.Prelude.{flat_map}
 use Rattle.std.specs.List.{filter}
 use Rattle.data_encoding_meaning.specs.declared.encoding.Character.TheVariants.{Ignored}
-use Rattle.data_encoding_meaning.specs.Base.{Base, Wrapping, meaning, is_ignored, group_symbols}
-use Rattle.data_encoding_meaning.specs.Bits.{missing, runs}
-use Rattle.data_encoding_meaning.specs.Grammar.{kept, bytes_in}
-use Rattle.data_encoding_meaning.specs.Text.{in_lines, padded_text, plain_text, text_of, with_padding}
+use Rattle.data_encoding_meaning.specs.text.Base.{Base, Wrapping, meaning, is_ignored, group_symbols}
+use Rattle.data_encoding_meaning.specs.text.Bits.{missing, runs}
+use Rattle.data_encoding_meaning.specs.text.Grammar.{kept, bytes_in}
+use Rattle.data_encoding_meaning.specs.text.Text.{in_lines, padded_text, plain_text, text_of, with_padding}
 use Rattle.data_encoding_meaning.proofs.grammar.SameBytesLemmas.{bytes-kept_in}
 use Rattle.data_encoding_meaning.proofs.lists.EachLemmas.{all_joined, all_replicate, all_weaker}
 use Rattle.data_encoding_meaning.proofs.lists.ListLemmas.{AllFail, filter-all}

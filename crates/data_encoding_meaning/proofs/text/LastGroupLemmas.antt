@@ -4,9 +4,9 @@ use Rattle.std.proofs.lemmas.Bool.{false≢true}
 use Rattle.std.proofs.lemmas.List.{length-map, map-append}
 use Rattle.std.specs.List.{AllByRecursion}
 use Rattle.data_encoding_meaning.specs.declared.encoding.Character.TheVariants.{Padding}
-use Rattle.data_encoding_meaning.specs.Base.{Base, is_padded, meaning, group_symbols}
-use Rattle.data_encoding_meaning.specs.Grammar.{GroupMeans, PlainMeans}
-use Rattle.data_encoding_meaning.specs.Text.{filled_with}
+use Rattle.data_encoding_meaning.specs.text.Base.{Base, is_padded, meaning, group_symbols}
+use Rattle.data_encoding_meaning.specs.text.Grammar.{GroupMeans, PlainMeans}
+use Rattle.data_encoding_meaning.specs.text.Text.{filled_with}
 use Rattle.data_encoding_meaning.proofs.text.PlainTextLemmas.{filled_count}
 use Rattle.data_encoding_meaning.proofs.lists.EachLemmas.{all_replicate}
 use Rattle.data_encoding_meaning.proofs.lists.RunLemmas.{run_count-short}

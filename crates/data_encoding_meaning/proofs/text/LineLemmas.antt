@@ -4,10 +4,10 @@ use Rattle.std.proofs.Math.Nat.{le-mul_of_pos_right, mul-le-mul_left, mul-le-mul
 use Rattle.std.proofs.lemmas.List.{nil_from_length}
 use Rattle.std.proofs.lemmas.Nat.{mul-le}
 use Rattle.std.specs.List.{AllByRecursion}
-use Rattle.data_encoding_meaning.specs.Base.{Base, IsWidth, Wrapping, group_bytes, group_symbols, is_padded, meaning}
+use Rattle.data_encoding_meaning.specs.text.Base.{Base, IsWidth, Wrapping, group_bytes, group_symbols, is_padded, meaning}
 use Rattle.data_encoding_meaning.specs.declared.encoding.Character.TheVariants.{Ignored}
-use Rattle.data_encoding_meaning.specs.Lengths.{alignment}
-use Rattle.data_encoding_meaning.specs.Text.{in_lines, padded_text, text_of}
+use Rattle.data_encoding_meaning.specs.text.Lengths.{alignment}
+use Rattle.data_encoding_meaning.specs.text.Text.{in_lines, padded_text, text_of}
 use Rattle.data_encoding_meaning.proofs.digits.WidthLemmas.{group_bytes-pos, group_symbols-few, group_symbols-pos}
 use Rattle.data_encoding_meaning.proofs.lists.EachLemmas.{all_weaker}
 use Rattle.data_encoding_meaning.proofs.lists.RunLemmas.{all_ended, ended-short, length-ended, run_count, run_count-few, run_count-some, run_count-whole, runs-reach}

@@ -3,9 +3,9 @@ use Rattle.std.proofs.Common.{◌≡◌, ℕ, ◌+◌, ◌-◌, ◌*◌, ◌<◌
 use Rattle.std.proofs.Math.Nat.{mul_comm}
 use Rattle.std.proofs.lemmas.List.{length-replicate}
 use Rattle.std.specs.List.{AllByRecursion}
-use Rattle.data_encoding_meaning.specs.Base.{Base, symbol, is_padded, group_bytes, group_symbols, IsWidth}
-use Rattle.data_encoding_meaning.specs.Bits.{missing}
-use Rattle.data_encoding_meaning.specs.Text.{filled_with, padded_text, plain_text, text_of, with_padding}
+use Rattle.data_encoding_meaning.specs.text.Base.{Base, symbol, is_padded, group_bytes, group_symbols, IsWidth}
+use Rattle.data_encoding_meaning.specs.text.Bits.{missing}
+use Rattle.data_encoding_meaning.specs.text.Text.{filled_with, padded_text, plain_text, text_of, with_padding}
 use Rattle.data_encoding_meaning.proofs.digits.WidthLemmas.{group_symbols-pos}
 use Rattle.data_encoding_meaning.proofs.lists.EachLemmas.{all_joined, all_replicate}
 use Rattle.data_encoding_meaning.proofs.lists.RunLemmas.{run_count}

@@ -7,9 +7,9 @@ use Rattle.std.proofs.lemmas.Nat.{div-add-mod', mod_below}
 use Rattle.std.proofs.Math.Nat.{add-mod, mul_comm, mod-mod, mod-eq_of_lt, mod_self, div-eq_of_lt-le, div-eq_of_lt, zero-add}
 use Rattle.std.specs.List.{AllByRecursion}
 use Rattle.data_encoding_meaning.specs.declared.encoding.BitOrder.{BitOrder}
-use Rattle.data_encoding_meaning.specs.Base.{Base, symbol}
-use Rattle.data_encoding_meaning.specs.Bits.{number_of, bits_of_bytes, missing, runs}
-use Rattle.data_encoding_meaning.specs.Text.{filled_with, plain_text}
+use Rattle.data_encoding_meaning.specs.text.Base.{Base, symbol}
+use Rattle.data_encoding_meaning.specs.text.Bits.{number_of, bits_of_bytes, missing, runs}
+use Rattle.data_encoding_meaning.specs.text.Text.{filled_with, plain_text}
 use Rattle.data_encoding_meaning.proofs.grammar.UnpaddedGroupLemmas.{length-bits_of_bytes}
 use Rattle.data_encoding_meaning.proofs.lists.RunLemmas.{run_count, run_count-whole, length-runs, runs-join}
 

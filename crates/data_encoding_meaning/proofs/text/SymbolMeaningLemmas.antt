@@ -5,10 +5,10 @@ use Rattle.std.proofs.lemmas.Nat.{mod_below}
 use Rattle.std.specs.Prelude.{All}
 use Rattle.std.specs.List.{AllByRecursion}
 use Rattle.data_encoding_meaning.specs.declared.encoding.Character.TheVariants.{Symbol}
-use Rattle.data_encoding_meaning.specs.Base.{Base, IsWidth, meaning, symbol, is_ignored}
-use Rattle.data_encoding_meaning.specs.Bits.{bits_of, bits_of_bytes, number_of, missing, runs}
-use Rattle.data_encoding_meaning.specs.Grammar.{PlainMeans}
-use Rattle.data_encoding_meaning.specs.Text.{filled_with, plain_text}
+use Rattle.data_encoding_meaning.specs.text.Base.{Base, IsWidth, meaning, symbol, is_ignored}
+use Rattle.data_encoding_meaning.specs.text.Bits.{bits_of, bits_of_bytes, number_of, missing, runs}
+use Rattle.data_encoding_meaning.specs.text.Grammar.{PlainMeans}
+use Rattle.data_encoding_meaning.specs.text.Text.{filled_with, plain_text}
 use Rattle.data_encoding_meaning.proofs.digits.BitLemmas.{AreBits-append, AreBits-flat_map, AreBits-bits_of, AreBits-zeros}
 use Rattle.data_encoding_meaning.proofs.text.PlainTextLemmas.{filled_count}
 use Rattle.data_encoding_meaning.proofs.digits.ValueLemmas.{AreValuesOf, AreValuesOf-runs}

@@ -3,9 +3,9 @@ use Rattle.std.proofs.Common.{◌≡◌, ℕ, ◌-◌, ◌*◌, ◌/◌, ◌%◌
 use Rattle.std.proofs.Math.Nat.{mul-mod_left, mul-mod_right}
 use Rattle.std.proofs.lemmas.List.Concat.{flat_map-append}
 use Rattle.std.proofs.lemmas.Nat.{div-add-mod'}
-use Rattle.data_encoding_meaning.specs.Base.{Base, IsWidth, Wrapping, group_bytes, group_symbols}
-use Rattle.data_encoding_meaning.specs.Lengths.{align_by, alignment}
-use Rattle.data_encoding_meaning.specs.Text.{in_lines, padded_text, plain_text, text_of, with_padding}
+use Rattle.data_encoding_meaning.specs.text.Base.{Base, IsWidth, Wrapping, group_bytes, group_symbols}
+use Rattle.data_encoding_meaning.specs.text.Lengths.{align_by, alignment}
+use Rattle.data_encoding_meaning.specs.text.Text.{in_lines, padded_text, plain_text, text_of, with_padding}
 use Rattle.data_encoding_meaning.proofs.digits.WidthLemmas.{group_bits, group_symbols-pos}
 use Rattle.data_encoding_meaning.proofs.lists.PartLemmas.{regroup, whole-group}
 use Rattle.data_encoding_meaning.proofs.lists.RunLemmas.{runs-join}

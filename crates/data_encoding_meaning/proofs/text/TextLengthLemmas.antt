@@ -2,9 +2,9 @@
 use Rattle.std.proofs.Common.{◌≡◌, ℕ, ◌*◌, ◌/◌, ◌%◌, ◌<◌, Bool, true, false, List, length, Option, Some, None, Ok, is_some, refl, ap, ◌∙◌, arith}
 use Rattle.std.proofs.lemmas.Bool.{lt-ltb}
 use Rattle.std.proofs.lemmas.Bool.Decides.{nat_tests}
-use Rattle.data_encoding_meaning.specs.Base.{Base, IsWidth, Wrapping, is_padded}
-use Rattle.data_encoding_meaning.specs.Lengths.{decoded_len}
-use Rattle.data_encoding_meaning.specs.Text.{padded_text, text_of}
+use Rattle.data_encoding_meaning.specs.text.Base.{Base, IsWidth, Wrapping, is_padded}
+use Rattle.data_encoding_meaning.specs.text.Lengths.{decoded_len}
+use Rattle.data_encoding_meaning.specs.text.Text.{padded_text, text_of}
 use Rattle.data_encoding_meaning.proofs.grammar.LengthLemmas.{decoded_len-valid, is_valid_length-by, most_bytes-by, widths}
 use Rattle.data_encoding_meaning.proofs.lists.RunLemmas.{run_count}
 use Rattle.data_encoding_meaning.proofs.judgement.RuleLemmas.{IsRuled}

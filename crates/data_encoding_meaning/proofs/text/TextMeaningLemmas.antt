@@ -6,10 +6,10 @@ use Rattle.std.proofs.lemmas.List.{append-nil, length-map, map-append}
 use Rattle.std.proofs.lemmas.List.Elements.{All-take, All-drop}
 use Rattle.std.specs.Prelude.{All}
 use Rattle.data_encoding_meaning.specs.declared.encoding.Character.TheVariants.{Padding}
-use Rattle.data_encoding_meaning.specs.Base.{Base, IsWidth, meaning, is_padded, group_bytes, group_symbols}
-use Rattle.data_encoding_meaning.specs.Bits.{missing, runs}
-use Rattle.data_encoding_meaning.specs.Grammar.{GroupsMean, Means, bytes_in, kept}
-use Rattle.data_encoding_meaning.specs.Text.{filled_with, plain_text, text_of, with_padding}
+use Rattle.data_encoding_meaning.specs.text.Base.{Base, IsWidth, meaning, is_padded, group_bytes, group_symbols}
+use Rattle.data_encoding_meaning.specs.text.Bits.{missing, runs}
+use Rattle.data_encoding_meaning.specs.text.Grammar.{GroupsMean, Means, bytes_in, kept}
+use Rattle.data_encoding_meaning.specs.text.Text.{filled_with, plain_text, text_of, with_padding}
 use Rattle.data_encoding_meaning.proofs.digits.WidthLemmas.{by_width, group_bytes-pos, group_symbols-pos}
 use Rattle.data_encoding_meaning.proofs.grammar.GroupLemmas.{GroupMeans-symbols}
 use Rattle.data_encoding_meaning.proofs.grammar.PositionLemmas.{runs-meanings}

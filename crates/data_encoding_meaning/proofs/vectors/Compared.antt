@@ -1,11 +1,11 @@
 -- Worked rows of what the eighteen are, and of texts compared as their data.
 use Rattle.std.proofs.Common.{◌≡◌, ℕ, true, false, List, map, ◌++◌, codes, replicate, Some, is_some, get_or, refl, ap, arith, inl, lit<}
-use Rattle.data_encoding_meaning.specs.Canonical.{has_one_text}
-use Rattle.data_encoding_meaning.specs.Compared.{CompareAlike}
-use Rattle.data_encoding_meaning.specs.Eighteen.{Yields, canonical_fields, second_text_fields, ordered_fields, unordered_fields}
-use Rattle.data_encoding_meaning.specs.Order.{IsBefore}
-use Rattle.data_encoding_meaning.specs.Predefined.{hexlower_fields}
-use Rattle.data_encoding_meaning.specs.Text.{text_of}
+use Rattle.data_encoding_meaning.specs.laws.Canonical.{has_one_text}
+use Rattle.data_encoding_meaning.specs.laws.Compared.{CompareAlike}
+use Rattle.data_encoding_meaning.specs.laws.Eighteen.{Yields, canonical_fields, second_text_fields, ordered_fields, unordered_fields}
+use Rattle.data_encoding_meaning.specs.laws.Order.{IsBefore}
+use Rattle.data_encoding_meaning.specs.specification.Predefined.{hexlower_fields}
+use Rattle.data_encoding_meaning.specs.text.Text.{text_of}
 use Rattle.data_encoding_meaning.proofs.judgement.YieldLemmas.{yields}
 use Rattle.data_encoding_meaning.proofs.vectors.Examples.{Has, by}
 

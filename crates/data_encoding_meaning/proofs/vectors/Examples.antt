@@ -4,11 +4,11 @@ use Rattle.data_encoding_meaning.specs.declared.refusal.Refusal.{Refusal}
 use Rattle.data_encoding_meaning.specs.declared.encoding.BitOrder.TheVariants.{LeastSignificantFirst}
 use Rattle.data_encoding_meaning.specs.declared.error.DecodeError.{DecodeError}
 use Rattle.data_encoding_meaning.specs.declared.error.DecodeKind.{DecodeKind}
-use Rattle.data_encoding_meaning.specs.Base.{Base}
-use Rattle.data_encoding_meaning.specs.Fault.{fault_of, sound_bytes}
-use Rattle.data_encoding_meaning.specs.Fields.{Fields, base_of}
-use Rattle.data_encoding_meaning.specs.Predefined.{unpadded_fields, base64_fields, base64_nopad_fields}
-use Rattle.data_encoding_meaning.specs.Text.{text_of}
+use Rattle.data_encoding_meaning.specs.text.Base.{Base}
+use Rattle.data_encoding_meaning.specs.decoding.Fault.{fault_of, sound_bytes}
+use Rattle.data_encoding_meaning.specs.specification.Fields.{Fields, base_of}
+use Rattle.data_encoding_meaning.specs.specification.Predefined.{unpadded_fields, base64_fields, base64_nopad_fields}
+use Rattle.data_encoding_meaning.specs.text.Text.{text_of}
 
 -- The function has these values.
 abbrev pub Hold : {A B : Type 0} → (A → B) → List (A × B) → Type 0

@@ -1,8 +1,8 @@
 -- Worked rows of the rules that tell a layout.
 use Rattle.std.proofs.Common.{◌≡◌, ℕ, ◌<◌, List, length, replicate, refl, inl, inr, arith, lit<}
-use Rattle.data_encoding_meaning.specs.Layout.{layout}
-use Rattle.data_encoding_meaning.specs.OneLayout.{IsIgnoredIn, IsLayout, IsLayoutOf, TellsLines, TellsPadding, TellsWrapping, entry_in}
-use Rattle.data_encoding_meaning.specs.Predefined.{base64_mime_fields}
+use Rattle.data_encoding_meaning.specs.specification.Layout.{layout}
+use Rattle.data_encoding_meaning.specs.specification.OneLayout.{IsIgnoredIn, IsLayout, IsLayoutOf, TellsLines, TellsPadding, TellsWrapping, entry_in}
+use Rattle.data_encoding_meaning.specs.specification.Predefined.{base64_mime_fields}
 use Rattle.data_encoding_meaning.proofs.tables.LayoutRuleLemmas.{layouts}
 use Rattle.data_encoding_meaning.proofs.vectors.Examples.{Has, built}
 

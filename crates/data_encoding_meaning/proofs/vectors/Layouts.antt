@@ -9,11 +9,11 @@ use Rattle.data_encoding_meaning.specs.declared.encoding.Character.TheVariants.{
 use Rattle.data_encoding_meaning.specs.declared.error.DecodeFault.TheVariants.{Error, OutOfMemory}
 use Rattle.data_encoding_meaning.specs.declared.error.DecodeKind.{DecodeKind}
 use Rattle.data_encoding_meaning.specs.declared.error.DecodeKind.TheVariants.{Length, Symbol, Trailing, Padding}
-use Rattle.data_encoding_meaning.specs.Base.{Base}
-use Rattle.data_encoding_meaning.specs.Fields.{base_of, Require, Define, Translate, is_same, defined, translated, judged, no_meanings, meanings_after, width_of, symbol_judgements, padding_judgements, ignored_judgements, wraps, wrapping_judgements, pair_judgements, translation_judgements, judgements, base_with, base_by, IsSpecified, Judgement}
-use Rattle.data_encoding_meaning.specs.Layout.{layout, fields_of, code_of, order_flag, wrapping_bytes, own_character, own_byte, is_translated, translated_bytes, ignored_bytes, column_of, separator_of}
-use Rattle.data_encoding_meaning.specs.Predefined.{unpadded_fields, padded_fields, translated_fields, hexlower_fields, hexlower_permissive_fields, hexupper_fields, hexupper_permissive_fields, base32_fields, base32_nopad_fields, base32_nopad_nocase_fields, base32_nopad_visual_fields, base32hex_fields, base32hex_nopad_fields, base32_dnssec_fields, base32_dnscurve_fields, base64_fields, base64_nopad_fields, base64_mime_fields, base64_mime_permissive_fields, base64url_fields, base64url_nopad_fields, symbols_alone, mime_fields}
-use Rattle.data_encoding_meaning.specs.Printed.{printed_fault, printed_refusal, printed_kind, printed_error}
+use Rattle.data_encoding_meaning.specs.text.Base.{Base}
+use Rattle.data_encoding_meaning.specs.specification.Fields.{base_of, Require, Define, Translate, is_same, defined, translated, judged, no_meanings, meanings_after, width_of, symbol_judgements, padding_judgements, ignored_judgements, wraps, wrapping_judgements, pair_judgements, translation_judgements, judgements, base_with, base_by, IsSpecified, Judgement}
+use Rattle.data_encoding_meaning.specs.specification.Layout.{layout, fields_of, code_of, order_flag, wrapping_bytes, own_character, own_byte, is_translated, translated_bytes, ignored_bytes, column_of, separator_of}
+use Rattle.data_encoding_meaning.specs.specification.Predefined.{unpadded_fields, padded_fields, translated_fields, hexlower_fields, hexlower_permissive_fields, hexupper_fields, hexupper_permissive_fields, base32_fields, base32_nopad_fields, base32_nopad_nocase_fields, base32_nopad_visual_fields, base32hex_fields, base32hex_nopad_fields, base32_dnssec_fields, base32_dnscurve_fields, base64_fields, base64_nopad_fields, base64_mime_fields, base64_mime_permissive_fields, base64url_fields, base64url_nopad_fields, symbols_alone, mime_fields}
+use Rattle.data_encoding_meaning.specs.decoding.Printed.{printed_fault, printed_refusal, printed_kind, printed_error}
 use Rattle.data_encoding_meaning.specs.declared.encoding.Character.{Character}
 use Rattle.data_encoding_meaning.proofs.vectors.Examples.{Hold, by, Has, octal_fields, reversed, unchecked, ignoring, wrapped, nopad_ignoring_lf_fields, lines_of_8_fields, single_fields}
 

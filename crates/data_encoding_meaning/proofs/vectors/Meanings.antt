@@ -5,17 +5,17 @@ use Rattle.std.proofs.lemmas.List.Elements.{All-from_recursion}
 use Rattle.data_encoding_meaning.specs.declared.encoding.Character.TheVariants.{Symbol as SymbolCharacter}
 use Rattle.data_encoding_meaning.specs.declared.encoding.BitOrder.TheVariants.{LeastSignificantFirst, MostSignificantFirst}
 use Rattle.data_encoding_meaning.specs.declared.error.DecodeKind.TheVariants.{Length as LengthFault, Symbol}
-use Rattle.data_encoding_meaning.specs.Base.{Base, is_padding, IsWidth, meaning}
-use Rattle.data_encoding_meaning.specs.Fault.{fault_of, sound_bytes}
-use Rattle.data_encoding_meaning.specs.Grammar.{Means, positioned_from, groups, PlainMeans, GroupMeans, GroupsMean, meanings_in}
-use Rattle.data_encoding_meaning.specs.Predefined.{unpadded_fields, translated_fields, hexlower_fields, hexlower_permissive_fields, base64_fields, base64_nopad_fields, base64_mime_fields, base64_mime_permissive_fields}
-use Rattle.data_encoding_meaning.specs.Partial.{StopsAt}
-use Rattle.data_encoding_meaning.specs.Lengths.{IsBlockLength}
-use Rattle.data_encoding_meaning.specs.Pieces.{HasRead, HasDecoded, IsOfWholeGroup}
-use Rattle.data_encoding_meaning.specs.Laws.{MayBeFollowed, Resumes}
+use Rattle.data_encoding_meaning.specs.text.Base.{Base, is_padding, IsWidth, meaning}
+use Rattle.data_encoding_meaning.specs.decoding.Fault.{fault_of, sound_bytes}
+use Rattle.data_encoding_meaning.specs.text.Grammar.{Means, positioned_from, groups, PlainMeans, GroupMeans, GroupsMean, meanings_in}
+use Rattle.data_encoding_meaning.specs.specification.Predefined.{unpadded_fields, translated_fields, hexlower_fields, hexlower_permissive_fields, base64_fields, base64_nopad_fields, base64_mime_fields, base64_mime_permissive_fields}
+use Rattle.data_encoding_meaning.specs.decoding.Partial.{StopsAt}
+use Rattle.data_encoding_meaning.specs.text.Lengths.{IsBlockLength}
+use Rattle.data_encoding_meaning.specs.decoding.Pieces.{HasRead, HasDecoded, IsOfWholeGroup}
+use Rattle.data_encoding_meaning.specs.laws.Laws.{MayBeFollowed, Resumes}
 use Rattle.std.proofs.lemmas.List.Kept.{AllPairs-from_increasing}
-use Rattle.data_encoding_meaning.specs.Canonical.{IsCanonical, AreTwoTexts, last_bit, trailing_text, text_ending_in, IgnoredIsSecond, TrailingIsSecond, ConcatenatedIsSecond, SymbolIsSecond, PaddingIsSecond}
-use Rattle.data_encoding_meaning.specs.Order.{IsBefore, KeepsOrder, IsOrdered, BreaksOrder}
+use Rattle.data_encoding_meaning.specs.laws.Canonical.{IsCanonical, AreTwoTexts, last_bit, trailing_text, text_ending_in, IgnoredIsSecond, TrailingIsSecond, ConcatenatedIsSecond, SymbolIsSecond, PaddingIsSecond}
+use Rattle.data_encoding_meaning.specs.laws.Order.{IsBefore, KeepsOrder, IsOrdered, BreaksOrder}
 use Rattle.data_encoding_meaning.proofs.canonicity.OneTextLemmas.{Means-text_of_only}
 use Rattle.data_encoding_meaning.proofs.decoding.ResumeLemmas.{resumed}
 use Rattle.data_encoding_meaning.proofs.grammar.MeaningLemmas.{Means-no_fault, faulty-Means}

@@ -1,7 +1,7 @@
 -- Worked rows of the names and the numbers of the predefined encodings.
 use Rattle.std.proofs.Common.{◌≡◌, [], ◌∷◌, ◌++◌, codes, length, take, Some, None, refl}
-use Rattle.data_encoding_meaning.specs.Named.{IsNamed, IsNumbered, fields_at, fields_named, fields_numbered, listing, name_numbered, names, number_named, predefined}
-use Rattle.data_encoding_meaning.specs.Predefined.{base64_fields, base64url_nopad_fields}
+use Rattle.data_encoding_meaning.specs.specification.Named.{IsNamed, IsNumbered, fields_at, fields_named, fields_numbered, listing, name_numbered, names, number_named, predefined}
+use Rattle.data_encoding_meaning.specs.specification.Predefined.{base64_fields, base64url_nopad_fields}
 use Rattle.data_encoding_meaning.proofs.vectors.Examples.{Has}
 
 names_known :

@@ -9,18 +9,18 @@ use Rattle.data_encoding_meaning.specs.declared.error.DecodeFault.TheVariants.{E
 use Rattle.data_encoding_meaning.specs.declared.error.DecodeKind.{DecodeKind}
 use Rattle.data_encoding_meaning.specs.declared.error.DecodeKind.TheVariants.{Length, Symbol, Trailing, Padding}
 use Rattle.data_encoding_meaning.specs.declared.error.DecodePartial.{DecodePartial}
-use Rattle.data_encoding_meaning.specs.Base.{Base, meaning}
-use Rattle.data_encoding_meaning.specs.Canonical.{has_one_text}
-use Rattle.data_encoding_meaning.specs.Fault.{IsRefusal, bytes_of_group, character_fault, count_before_padding, fault_after, fault_at, fault_at_first, faulty_at, first_after, first_fault, group_fault, located, or_else, padded_fault_at, plain_fault, position_of, sound_after, sound_groups, symbol_bits, symbol_bytes, symbols_fault, trailing_bits, trailing_fault}
-use Rattle.data_encoding_meaning.specs.Fields.{Fields, base_of}
-use Rattle.data_encoding_meaning.specs.Grammar.{Positioned, positioned_from, positioned, kept, groups, is_final, kept_from, kept_in, bytes_in, meanings_in, ends_text}
-use Rattle.data_encoding_meaning.specs.Layout.{layout, fields_of}
-use Rattle.data_encoding_meaning.specs.Lengths.{alignment, decoded_len, greatest_valid_count, is_valid_count, is_valid_length, greatest_valid_length, length_fault, most_bytes, unless_fault, align_by}
-use Rattle.data_encoding_meaning.specs.Partial.{partial_of, position_after, position_after_first, sound_len, ignoring_nothing, is_sound_run, is_length_fault, read_len, partial_at, partial_by}
-use Rattle.data_encoding_meaning.specs.Pieces.{unfinished, whole_bytes, whole_groups, held_fault, held_with, bytes_unless, fault_in}
-use Rattle.data_encoding_meaning.specs.Predefined.{translated_fields, hexlower_fields, hexlower_permissive_fields, hexupper_fields, hexupper_permissive_fields, base32_fields, base32_nopad_fields, base32_nopad_nocase_fields, base32_nopad_visual_fields, base32_dnssec_fields, base32_dnscurve_fields, base64_fields, base64_nopad_fields, base64_mime_fields, base64_mime_permissive_fields}
-use Rattle.data_encoding_meaning.specs.Laws.{further}
-use Rattle.data_encoding_meaning.specs.Text.{text_of}
+use Rattle.data_encoding_meaning.specs.text.Base.{Base, meaning}
+use Rattle.data_encoding_meaning.specs.laws.Canonical.{has_one_text}
+use Rattle.data_encoding_meaning.specs.decoding.Fault.{IsRefusal, bytes_of_group, character_fault, count_before_padding, fault_after, fault_at, fault_at_first, faulty_at, first_after, first_fault, group_fault, located, or_else, padded_fault_at, plain_fault, position_of, sound_after, sound_groups, symbol_bits, symbol_bytes, symbols_fault, trailing_bits, trailing_fault}
+use Rattle.data_encoding_meaning.specs.specification.Fields.{Fields, base_of}
+use Rattle.data_encoding_meaning.specs.text.Grammar.{Positioned, positioned_from, positioned, kept, groups, is_final, kept_from, kept_in, bytes_in, meanings_in, ends_text}
+use Rattle.data_encoding_meaning.specs.specification.Layout.{layout, fields_of}
+use Rattle.data_encoding_meaning.specs.text.Lengths.{alignment, decoded_len, greatest_valid_count, is_valid_count, is_valid_length, greatest_valid_length, length_fault, most_bytes, unless_fault, align_by}
+use Rattle.data_encoding_meaning.specs.decoding.Partial.{partial_of, position_after, position_after_first, sound_len, ignoring_nothing, is_sound_run, is_length_fault, read_len, partial_at, partial_by}
+use Rattle.data_encoding_meaning.specs.decoding.Pieces.{unfinished, whole_bytes, whole_groups, held_fault, held_with, bytes_unless, fault_in}
+use Rattle.data_encoding_meaning.specs.specification.Predefined.{translated_fields, hexlower_fields, hexlower_permissive_fields, hexupper_fields, hexupper_permissive_fields, base32_fields, base32_nopad_fields, base32_nopad_nocase_fields, base32_nopad_visual_fields, base32_dnssec_fields, base32_dnscurve_fields, base64_fields, base64_nopad_fields, base64_mime_fields, base64_mime_permissive_fields}
+use Rattle.data_encoding_meaning.specs.laws.Laws.{further}
+use Rattle.data_encoding_meaning.specs.text.Text.{text_of}
 use Rattle.data_encoding_meaning.proofs.vectors.Examples.{Hold, by, decoded, bytes, fault, octal_fields, reversed, unchecked, nopad_ignoring_lf_fields, lines_of_8_fields, single_fields}
 
 -- one text that those with the same symbols and padding read in different ways

@@ -1,8 +1,8 @@
 -- Worked rows of texts that mean the same.
 use Rattle.std.proofs.Common.{◌≡◌, ℕ, true, false, List, [], ◌∷◌, ◌++◌, map, codes, Option, Some, refl}
-use Rattle.data_encoding_meaning.specs.Fields.{Fields}
-use Rattle.data_encoding_meaning.specs.Predefined.{base32_dnssec_fields, base64_fields, base64_mime_fields, base64_nopad_fields, base64url_fields, hexlower_fields, hexupper_fields, translated_fields}
-use Rattle.data_encoding_meaning.specs.SameMeaning.{DifferInSymbols, exchanged, has_one_own_form, kept_bytes, own_form}
+use Rattle.data_encoding_meaning.specs.specification.Fields.{Fields}
+use Rattle.data_encoding_meaning.specs.specification.Predefined.{base32_dnssec_fields, base64_fields, base64_mime_fields, base64_nopad_fields, base64url_fields, hexlower_fields, hexupper_fields, translated_fields}
+use Rattle.data_encoding_meaning.specs.laws.SameMeaning.{DifferInSymbols, exchanged, has_one_own_form, kept_bytes, own_form}
 use Rattle.data_encoding_meaning.proofs.vectors.Examples.{Has, Hold, by, single_fields, unchecked}
 
 -- two ignored bytes in a row, and one at the end

@@ -2,13 +2,13 @@
 use Rattle.std.proofs.Common.{◌≡◌, true, false, [], ◌∷◌, ◌++◌, map, codes, replicate, refl, lit<, lit≤, inl, inr}
 use Rattle.data_encoding_meaning.specs.declared.encoding.Character.TheVariants.{Symbol as SymbolCharacter, Padding as PaddingCharacter, Ignored, Invalid}
 use Rattle.data_encoding_meaning.specs.declared.error.DecodeKind.TheVariants.{Padding, Trailing}
-use Rattle.data_encoding_meaning.specs.Predefined.{base64_fields, base64_nopad_fields, base64_mime_fields}
-use Rattle.data_encoding_meaning.specs.Grammar.{positioned}
+use Rattle.data_encoding_meaning.specs.specification.Predefined.{base64_fields, base64_nopad_fields, base64_mime_fields}
+use Rattle.data_encoding_meaning.specs.text.Grammar.{positioned}
 use Rattle.data_encoding_meaning.proofs.grammar.MeaningLemmas.{Means-no_fault}
-use Rattle.data_encoding_meaning.specs.Entries.{meaning_of_entry, is_entry_of, HoldsEntries}
-use Rattle.data_encoding_meaning.specs.Base.{IsGroup}
-use Rattle.data_encoding_meaning.specs.Fault.{AreSound}
-use Rattle.data_encoding_meaning.specs.Decoding.{HasDecodedTo, IsDecodedGroup, most_symbols, HasSymbols, HasFault, IsGathered, IsIgnoredFront, valid_front, IsLastRun, HasNoLastRun, HasRoom, IsDecoded}
+use Rattle.data_encoding_meaning.specs.specification.Entries.{meaning_of_entry, is_entry_of, HoldsEntries}
+use Rattle.data_encoding_meaning.specs.text.Base.{IsGroup}
+use Rattle.data_encoding_meaning.specs.decoding.Fault.{AreSound}
+use Rattle.data_encoding_meaning.specs.decoding.Decoding.{HasDecodedTo, IsDecodedGroup, most_symbols, HasSymbols, HasFault, IsGathered, IsIgnoredFront, valid_front, IsLastRun, HasNoLastRun, HasRoom, IsDecoded}
 use Rattle.data_encoding_meaning.proofs.decoding.GroupJudgementLemmas.{HasFault-own}
 use Rattle.data_encoding_meaning.proofs.vectors.Examples.{built, Has, nopad_ignoring_lf_fields}
 

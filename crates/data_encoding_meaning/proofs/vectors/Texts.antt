@@ -2,12 +2,12 @@
 use Rattle.std.proofs.Common.{◌≡◌, ℕ, true, false, List, [], ◌∷◌, ◌++◌, map, codes, replicate, Some, None, refl, lit<, arith, lit≤}
 use Rattle.data_encoding_meaning.specs.declared.encoding.BitOrder.TheVariants.{LeastSignificantFirst, MostSignificantFirst}
 use Rattle.data_encoding_meaning.specs.declared.encoding.Character.TheVariants.{Symbol as SymbolCharacter, Padding as PaddingCharacter, Ignored, Invalid}
-use Rattle.data_encoding_meaning.specs.Base.{is_symbol, is_ignored, is_invalid, is_padding, value_of, group_bytes, group_symbols, IsWidth, meaning, symbol, is_padded, ignores_some, Wrapping}
-use Rattle.data_encoding_meaning.specs.Fields.{Fields}
-use Rattle.data_encoding_meaning.specs.Predefined.{padded_fields, hexlower_fields, hexlower_permissive_fields, hexupper_fields, hexupper_permissive_fields, base32_fields, base32_nopad_fields, base32_nopad_nocase_fields, base32_nopad_visual_fields, base32hex_fields, base32hex_nopad_fields, base32_dnssec_fields, base32_dnscurve_fields, base64_fields, base64_nopad_fields, base64_mime_fields, base64_mime_permissive_fields, base64url_fields, base64url_nopad_fields}
-use Rattle.data_encoding_meaning.specs.Text.{text_of, filled_with, plain_text, with_padding, padded_text, in_lines}
-use Rattle.data_encoding_meaning.specs.Bits.{low_bits, number_of_low_bits, bits_of, number_of, bits_of_bytes, missing, runs}
-use Rattle.data_encoding_meaning.specs.Fragments.{HasEncoded}
+use Rattle.data_encoding_meaning.specs.text.Base.{is_symbol, is_ignored, is_invalid, is_padding, value_of, group_bytes, group_symbols, IsWidth, meaning, symbol, is_padded, ignores_some, Wrapping}
+use Rattle.data_encoding_meaning.specs.specification.Fields.{Fields}
+use Rattle.data_encoding_meaning.specs.specification.Predefined.{padded_fields, hexlower_fields, hexlower_permissive_fields, hexupper_fields, hexupper_permissive_fields, base32_fields, base32_nopad_fields, base32_nopad_nocase_fields, base32_nopad_visual_fields, base32hex_fields, base32hex_nopad_fields, base32_dnssec_fields, base32_dnscurve_fields, base64_fields, base64_nopad_fields, base64_mime_fields, base64_mime_permissive_fields, base64url_fields, base64url_nopad_fields}
+use Rattle.data_encoding_meaning.specs.text.Text.{text_of, filled_with, plain_text, with_padding, padded_text, in_lines}
+use Rattle.data_encoding_meaning.specs.text.Bits.{low_bits, number_of_low_bits, bits_of, number_of, bits_of_bytes, missing, runs}
+use Rattle.data_encoding_meaning.specs.text.Fragments.{HasEncoded}
 use Rattle.data_encoding_meaning.proofs.vectors.Examples.{Hold, by, encoded, Has, octal_fields, reversed, lines_of_8_fields}
 
 abbrev widths : List ℕ

@@ -1,6 +1,6 @@
 //! Steps of a decoder that reads a text in pieces: what it proves of itself one piece at a time.
 
-ghost use Rattle.data_encoding_meaning.specs.Pieces.{AreWhole, CountsGroups, EndsNowhere, HoldsPiece, IsNoLonger, JoinsUnpadded, JudgesGroup, KeepsBytes, KeepsEach, KeepsFault, MeansWhole, ReadsFaulty, ReadsGroup, ReadsNothing, ReadsSound, TellsBytes, TellsEnd, TellsFault};
+ghost use Rattle.data_encoding_meaning.specs.decoding.Pieces.{AreWhole, CountsGroups, EndsNowhere, HoldsPiece, IsNoLonger, JoinsUnpadded, JudgesGroup, KeepsBytes, KeepsEach, KeepsFault, MeansWhole, ReadsFaulty, ReadsGroup, ReadsNothing, ReadsSound, TellsBytes, TellsEnd, TellsFault};
 
 /// A text may be decoded piece by piece, for each encoding that a specification yields: what is
 /// kept of it, and the data of its whole groups, follow from what was kept and the next piece; and

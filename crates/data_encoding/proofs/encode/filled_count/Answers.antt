@@ -1,5 +1,5 @@
 use Rattle.std.proofs.Common.{◌≡◌, ◌≢◌, ℕ, ◌+◌, ◌-◌, ◌*◌, ◌/◌, refl, ◌∙◌, arith}
-use Rattle.data_encoding_meaning.specs.Base.{IsWidth, group_bytes, group_symbols}
+use Rattle.data_encoding_meaning.specs.text.Base.{IsWidth, group_bytes, group_symbols}
 use Rattle.data_encoding_meaning.proofs.digits.WidthLemmas.{by_width}
 use Rattle.data_encoding.proofs.encode.filled_count.Goals as goal
 

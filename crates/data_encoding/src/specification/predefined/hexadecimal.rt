@@ -1,8 +1,8 @@
 //! The encodings of 16 symbols: hexadecimal.
 
 ghost use Rattle.std.specs.Prelude.{◌≡◌, Ok};
-ghost use Rattle.data_encoding_meaning.specs.Fields.{base_of};
-ghost use Rattle.data_encoding_meaning.specs.Predefined.{hexlower_fields, hexlower_permissive_fields, hexupper_fields, hexupper_permissive_fields};
+ghost use Rattle.data_encoding_meaning.specs.specification.Fields.{base_of};
+ghost use Rattle.data_encoding_meaning.specs.specification.Predefined.{hexlower_fields, hexlower_permissive_fields, hexupper_fields, hexupper_permissive_fields};
 
 use crate::encoding::{Encoding, EncodingRef, INVALID};
 use crate::plain::PlainFields;

@@ -1,7 +1,7 @@
 //! The predefined encodings by their names and by their numbers, in one table.
 
 ghost use Rattle.std.specs.Prelude.{◌≡◌, ◌≤◌, ◌↔◌, length, IfSome, None, Some};
-ghost use Rattle.data_encoding_meaning.specs.Named.{fields_named, fields_numbered, listing, name_numbered, number_named, IsNamed, IsNumbered};
+ghost use Rattle.data_encoding_meaning.specs.specification.Named.{fields_named, fields_numbered, listing, name_numbered, number_named, IsNamed, IsNumbered};
 
 use super::{
     base32_dnscurve_ref, base32_dnssec_ref, base32_nopad_nocase_ref, base32_nopad_ref,

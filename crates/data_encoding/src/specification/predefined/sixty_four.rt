@@ -1,8 +1,8 @@
 //! The encodings of 64 symbols.
 
 ghost use Rattle.std.specs.Prelude.{◌≡◌, Ok};
-ghost use Rattle.data_encoding_meaning.specs.Fields.{base_of};
-ghost use Rattle.data_encoding_meaning.specs.Predefined.{base64_fields, base64_mime_fields, base64_mime_permissive_fields, base64_nopad_fields, base64url_fields, base64url_nopad_fields};
+ghost use Rattle.data_encoding_meaning.specs.specification.Fields.{base_of};
+ghost use Rattle.data_encoding_meaning.specs.specification.Predefined.{base64_fields, base64_mime_fields, base64_mime_permissive_fields, base64_nopad_fields, base64url_fields, base64url_nopad_fields};
 
 use crate::encoding::{Encoding, EncodingRef, INVALID};
 use crate::plain::PlainFields;

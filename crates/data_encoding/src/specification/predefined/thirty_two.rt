@@ -1,8 +1,8 @@
 //! The encodings of 32 symbols. Each checks the trailing bits.
 
 ghost use Rattle.std.specs.Prelude.{◌≡◌, Ok};
-ghost use Rattle.data_encoding_meaning.specs.Fields.{base_of};
-ghost use Rattle.data_encoding_meaning.specs.Predefined.{base32_dnscurve_fields, base32_dnssec_fields, base32_fields, base32_nopad_fields, base32_nopad_nocase_fields, base32_nopad_visual_fields, base32hex_fields, base32hex_nopad_fields};
+ghost use Rattle.data_encoding_meaning.specs.specification.Fields.{base_of};
+ghost use Rattle.data_encoding_meaning.specs.specification.Predefined.{base32_dnscurve_fields, base32_dnssec_fields, base32_fields, base32_nopad_fields, base32_nopad_nocase_fields, base32_nopad_visual_fields, base32hex_fields, base32hex_nopad_fields};
 
 use crate::encoding::{Encoding, EncodingRef, INVALID};
 use crate::plain::PlainFields;

@@ -1,7 +1,7 @@
 use Rattle.std.proofs.Common.{◌≡◌, ◌-◌, ◌+◌, ◌*◌, ◌/◌, ◌<◌, ◌≤◌, drop, length, take, ap, ◌∙◌, arith, sym, subst}
 use Rattle.std.proofs.lemmas.List.{take-take}
 use Rattle.std.proofs.lemmas.Nat.{div-add-mod', mul-le}
-use Rattle.data_encoding_meaning.specs.Text.{plain_text}
+use Rattle.data_encoding_meaning.specs.text.Text.{plain_text}
 use Rattle.data_encoding_meaning.proofs.digits.SizeLemmas.{IsSmall-group}
 use Rattle.data_encoding_meaning.proofs.lists.PartLemmas.{IsWhole-same, group-before, groups-within, length-part, length-rest, part-is}
 use Rattle.data_encoding_kernel.proofs.text.PlainGroupLemmas.{IsWhole-turn, groups_fit, next_fits, rest_fits, written-next, written-none, written-rest}

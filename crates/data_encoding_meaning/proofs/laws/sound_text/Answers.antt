@@ -1,5 +1,5 @@
 use Rattle.std.proofs.Common.{subst}
-use Rattle.data_encoding_meaning.specs.Grammar.{Means}
+use Rattle.data_encoding_meaning.specs.text.Grammar.{Means}
 use Rattle.data_encoding_meaning.proofs.grammar.MeaningLemmas.{Means-no_fault, no_fault-Means, sound_bytes-Means}
 use Rattle.data_encoding_meaning.proofs.judgement.RuleLemmas.{IsRuled-yield}
 use Rattle.data_encoding_meaning.proofs.laws.sound_text.Goals as goal

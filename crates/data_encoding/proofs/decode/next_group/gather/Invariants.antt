@@ -1,5 +1,5 @@
 use Rattle.std.proofs.Common.{◌≤◌}
-use Rattle.data_encoding_meaning.specs.Base.{Base}
+use Rattle.data_encoding_meaning.specs.text.Base.{Base}
 use Rattle.data_encoding_kernel.specs.Tables.{HoldsValues}
 use Rattle.data_encoding_meaning.proofs.decoding.GatherLemmas.{HasGathered}
 use Rattle.data_encoding.proofs.decode.next_group.gather.Given as goal

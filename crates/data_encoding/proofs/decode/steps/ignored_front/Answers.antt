@@ -1,6 +1,6 @@
 use Rattle.std.proofs.Common.{take, get_or, ap, ◌∙◌, arith}
 use Rattle.std.proofs.lemmas.Bool.Decides.{nat_tests}
-use Rattle.data_encoding_meaning.specs.Grammar.{kept}
+use Rattle.data_encoding_meaning.specs.text.Grammar.{kept}
 use Rattle.data_encoding_meaning.proofs.decoding.GatherLemmas.{next-ignored}
 use Rattle.data_encoding.proofs.decode.steps.ignored_front.Goals as goal
 

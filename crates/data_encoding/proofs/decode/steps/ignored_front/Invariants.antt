@@ -1,6 +1,6 @@
 use Rattle.std.proofs.Common.{◌≡◌, take, []}
-use Rattle.data_encoding_meaning.specs.Base.{Base}
-use Rattle.data_encoding_meaning.specs.Grammar.{kept}
+use Rattle.data_encoding_meaning.specs.text.Base.{Base}
+use Rattle.data_encoding_meaning.specs.text.Grammar.{kept}
 use Rattle.data_encoding_kernel.specs.Tables.{HoldsValues}
 use Rattle.data_encoding.proofs.decode.steps.ignored_front.Given as goal
 

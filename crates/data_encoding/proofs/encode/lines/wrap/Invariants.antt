@@ -1,5 +1,5 @@
 use Rattle.std.specs.Prelude.{◌++◌, flat_map}
-use Rattle.data_encoding_meaning.specs.Bits.{runs}
+use Rattle.data_encoding_meaning.specs.text.Bits.{runs}
 use Rattle.data_encoding_meaning.proofs.lists.PieceLemmas.{WritesPieces}
 use Rattle.data_encoding.proofs.encode.lines.wrap.Given as goal
 

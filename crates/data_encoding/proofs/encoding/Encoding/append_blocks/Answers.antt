@@ -2,8 +2,8 @@ use Rattle.std.proofs.Common.{◌≡◌, ◌<◌, ◌-◌, ◌*◌, ◌/◌, ◌
 use Rattle.std.proofs.Math.Nat.{mul-mod_left}
 use Rattle.std.proofs.lemmas.Nat.{div-add-mod', mod_below}
 use Rattle.std.specs.String.{string_bytes}
-use Rattle.data_encoding_meaning.specs.Lengths.{alignment}
-use Rattle.data_encoding_meaning.specs.Text.{text_of}
+use Rattle.data_encoding_meaning.specs.text.Lengths.{alignment}
+use Rattle.data_encoding_meaning.specs.text.Text.{text_of}
 use Rattle.data_encoding_meaning.proofs.judgement.RuleLemmas.{IsRuled-yield}
 use Rattle.data_encoding_meaning.proofs.text.FragmentLemmas.{HasEncoded-blocks}
 use Rattle.data_encoding.proofs.encoding.Encoding.append_blocks.Goals as goal

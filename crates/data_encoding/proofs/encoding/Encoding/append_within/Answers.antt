@@ -6,7 +6,7 @@ use Rattle.std.proofs.lemmas.Str.Ascii.{IsAscii-from_all}
 use Rattle.std.specs.Str.{IsUtf8}
 use Rattle.std.specs.String.{string_bytes}
 use borrow.Rule.Slice.PartMut.{put_mid}
-use Rattle.data_encoding_meaning.specs.Text.{text_of}
+use Rattle.data_encoding_meaning.specs.text.Text.{text_of}
 use Rattle.data_encoding_meaning.proofs.lists.WriteLemmas.{put_mid-end}
 use Rattle.data_encoding.proofs.encoding.Encoding.append_within.Goals as goal
 

@@ -1,6 +1,6 @@
 use Rattle.std.proofs.Common.{◌+◌, sym, ap, ◌∙◌, subst}
-use Rattle.data_encoding_meaning.specs.Base.{Base, group_symbols}
-use Rattle.data_encoding_meaning.specs.Lengths.{IsBlockLength}
+use Rattle.data_encoding_meaning.specs.text.Base.{Base, group_symbols}
+use Rattle.data_encoding_meaning.specs.text.Lengths.{IsBlockLength}
 use Rattle.data_encoding.specs.PlainTables.{plain_tables}
 use Rattle.data_encoding.proofs.tables.TableRuleLemmas.{is_base_of}
 use Rattle.data_encoding_meaning.proofs.text.BlockLemmas.{IsBlockLength-group, IsBlockLength-line}

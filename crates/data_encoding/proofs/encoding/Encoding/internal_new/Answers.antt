@@ -1,6 +1,6 @@
 use Rattle.std.proofs.Common.{◌≡◌, Some, sym, ap, ◌∙◌, arith}
 use Rattle.std.proofs.lemmas.Slice.Eq.{bytes_eq-Decides}
-use Rattle.data_encoding_meaning.specs.Layout.{layout}
+use Rattle.data_encoding_meaning.specs.specification.Layout.{layout}
 use Rattle.data_encoding_meaning.proofs.tables.ReadingLemmas.{read-layout}
 use Rattle.data_encoding.proofs.encoding.Encoding.internal_new.Goals as goal
 use Rattle.data_encoding.proofs.encoding.Encoding.internal_new.Goals.{then-implementation-lt514-via-then-implementation-lt514, then-implementation-lt514-via-else-implementation-lt514+then-implementation-gt770}

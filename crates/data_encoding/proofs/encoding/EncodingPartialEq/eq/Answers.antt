@@ -6,7 +6,7 @@ use denote.Enum.Bare.{sameb}
 use Rattle.data_encoding_meaning.specs.contracts.encoding.BitOrder.{the_type}
 use Rattle.data_encoding_meaning.specs.declared.encoding.BitOrder.{BitOrder}
 use Rattle.data_encoding_meaning.specs.declared.encoding.BitOrder.TheVariants.{MostSignificantFirst, LeastSignificantFirst}
-use Rattle.data_encoding_meaning.specs.Layout.{layout}
+use Rattle.data_encoding_meaning.specs.specification.Layout.{layout}
 use Rattle.data_encoding.proofs.tables.EqualityLemmas.{base-Decides, layout-Decides}
 use Rattle.data_encoding.proofs.encoding.EncodingPartialEq.eq.Goals as goal
 

@@ -1,5 +1,5 @@
 use Rattle.std.proofs.Common.{◌≡◌, ℕ, ◌-◌, ◌*◌, ◌/◌, ◌==◌, ◌||◌, Bool, true, false, if◌then◌else◌, refl, sym, ap, ◌∙◌}
-use Rattle.data_encoding_meaning.specs.Base.{IsWidth, group_bytes, group_symbols, is_padded}
+use Rattle.data_encoding_meaning.specs.text.Base.{IsWidth, group_bytes, group_symbols, is_padded}
 use Rattle.data_encoding_meaning.proofs.digits.WidthLemmas.{by_width}
 use Rattle.data_encoding.proofs.tables.TableLemmas.{IsWidth-seen}
 use Rattle.data_encoding.proofs.encoding.EncodingRef.completes_groups.Goals as goal

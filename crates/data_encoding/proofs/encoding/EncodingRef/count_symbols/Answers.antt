@@ -1,6 +1,6 @@
 use Rattle.std.proofs.Common.{◌≡◌, arith}
 use Rattle.std.proofs.lemmas.Bool.Decides.{nat_tests}
-use Rattle.data_encoding_meaning.specs.Base.{group_symbols}
+use Rattle.data_encoding_meaning.specs.text.Base.{group_symbols}
 use Rattle.data_encoding_meaning.proofs.decoding.GroupJudgementLemmas.{few-bits, group-short, length-invalid, padding-invalid, symbols-all, symbols-before}
 use Rattle.data_encoding.proofs.tables.TableLemmas.{HoldsValues-seen, IsWidth-seen}
 use Rattle.data_encoding.proofs.encoding.EncodingRef.count_symbols.Goals as goal

@@ -1,7 +1,7 @@
 use Rattle.std.proofs.Common.{◌≡◌, ℕ, List, ◌≤◌, length, take, sym, ap, ◌∙◌, arith, length-take-le, inr}
-use Rattle.data_encoding_meaning.specs.Base.{Base, group_symbols}
-use Rattle.data_encoding_meaning.specs.Decoding.{valid_front}
-use Rattle.data_encoding_meaning.specs.Lengths.{greatest_valid_length}
+use Rattle.data_encoding_meaning.specs.text.Base.{Base, group_symbols}
+use Rattle.data_encoding_meaning.specs.decoding.Decoding.{valid_front}
+use Rattle.data_encoding_meaning.specs.text.Lengths.{greatest_valid_length}
 use Rattle.data_encoding_meaning.proofs.decoding.GroupJudgementLemmas.{HasFault-some, few-bits, room-symbols}
 use Rattle.data_encoding.proofs.encoding.EncodingRef.decode_last_run.Goals as goal
 

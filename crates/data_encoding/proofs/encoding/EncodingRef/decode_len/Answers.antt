@@ -1,6 +1,6 @@
 use Rattle.std.proofs.Common.{◌≡◌, true, false, sym, ◌∙◌}
-use Rattle.data_encoding_meaning.specs.Base.{ignores_some}
-use Rattle.data_encoding_meaning.specs.Lengths.{is_valid_length}
+use Rattle.data_encoding_meaning.specs.text.Base.{ignores_some}
+use Rattle.data_encoding_meaning.specs.text.Lengths.{is_valid_length}
 use Rattle.data_encoding_meaning.proofs.grammar.LengthLemmas.{decoded_len-invalid, decoded_len-valid, most_bytes-valid}
 use Rattle.data_encoding_meaning.proofs.grammar.MeaningLemmas.{decoded_len-Means, length-Means}
 use Rattle.data_encoding.proofs.tables.TableLemmas.{IsWidth-seen}

@@ -1,5 +1,5 @@
 use Rattle.std.proofs.Common.{sym, subst}
-use Rattle.data_encoding_meaning.specs.Base.{IsWidth}
+use Rattle.data_encoding_meaning.specs.text.Base.{IsWidth}
 use Rattle.data_encoding_meaning.proofs.decoding.ProgressLemmas.{begin}
 use Rattle.data_encoding.proofs.tables.TableLemmas.{Reads-seen}
 use Rattle.data_encoding.proofs.encoding.EncodingRef.decode_long.Goals as goal

@@ -1,6 +1,6 @@
 use Rattle.std.proofs.Common.{arith}
 use Rattle.data_encoding.specs.Steps.{HasStopped}
-use Rattle.data_encoding_meaning.specs.Partial.{StopsAt}
+use Rattle.data_encoding_meaning.specs.decoding.Partial.{StopsAt}
 use Rattle.data_encoding_meaning.proofs.decoding.StopLemmas.{fault-partial, most-partial}
 use Rattle.data_encoding_meaning.proofs.grammar.MeaningLemmas.{no_fault-Means}
 use Rattle.data_encoding.proofs.encoding.EncodingRef.decode_mut.Goals as goal

@@ -1,7 +1,7 @@
 use Rattle.std.proofs.Common.{◌≡◌, ℕ, ◌+◌, ◌*◌, ◌/◌, ◌∙◌, ◌&&◌, Bool, not, nat_lt, length, inl, inr, refl, sym, ap, arith, length-drop, Ok}
 use Rattle.data_encoding_meaning.proofs.decoding.GroupJudgementLemmas.{few-bits}
 use Rattle.data_encoding.proofs.decoding.StepLemmas.{IsUnderWay, after_group, decoded-behind, decoded-none, final-is, final-not, gathered-next, group-stopped, room-next_group, some-group, under_way, written-few}
-use Rattle.data_encoding_meaning.specs.Lengths.{decoded_len}
+use Rattle.data_encoding_meaning.specs.text.Lengths.{decoded_len}
 use Rattle.data_encoding_meaning.proofs.decoding.GatherLemmas.{gathered-few}
 use Rattle.data_encoding_meaning.proofs.digits.SizeLemmas.{IsGroup-same}
 use Rattle.data_encoding_meaning.proofs.lists.WriteLemmas.{length-rewritten_same, rewritten}

@@ -1,5 +1,5 @@
 use Rattle.std.proofs.Common.{◌-◌, ◌≤◌, false, length, drop}
-use Rattle.data_encoding_meaning.specs.Decoding.{HasDecodedTo, IsIgnoredFront}
+use Rattle.data_encoding_meaning.specs.decoding.Decoding.{HasDecodedTo, IsIgnoredFront}
 use Rattle.data_encoding.proofs.encoding.EncodingRef.decode_runs.Given as goal
 
 abbrev pub invariant-loop-goes_on : goal.invariant-loop-goes_on

@@ -1,5 +1,5 @@
 use Rattle.std.proofs.Common.{◌-◌, false, length}
-use Rattle.data_encoding_meaning.specs.Decoding.{HasDecodedTo}
+use Rattle.data_encoding_meaning.specs.decoding.Decoding.{HasDecodedTo}
 use Rattle.data_encoding.proofs.encoding.EncodingRef.decode_steps.Given as goal
 
 abbrev pub invariant-loop-stop : goal.invariant-loop-stop

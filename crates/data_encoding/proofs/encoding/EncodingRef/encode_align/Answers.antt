@@ -1,7 +1,7 @@
 use Rattle.std.proofs.Common.{◌≡◌, ◌≢◌, ℕ, zero, suc, ◌*◌, ◌/◌, ◌<◌, ◌≤◌, List, refl, sym, subst, arith}
-use Rattle.data_encoding_meaning.specs.Base.{IsWidth, wrapping_by}
+use Rattle.data_encoding_meaning.specs.text.Base.{IsWidth, wrapping_by}
 use Rattle.data_encoding.specs.Encoding.{KeepsWrapping}
-use Rattle.data_encoding_meaning.specs.Lengths.{align_by}
+use Rattle.data_encoding_meaning.specs.text.Lengths.{align_by}
 use Rattle.data_encoding_meaning.proofs.digits.WidthLemmas.{group_bytes-pos}
 use Rattle.data_encoding.proofs.tables.TableRuleLemmas.{is_base_of}
 use Rattle.data_encoding_meaning.proofs.text.BlockLemmas.{few-columns}

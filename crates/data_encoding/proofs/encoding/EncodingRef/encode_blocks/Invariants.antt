@@ -1,4 +1,4 @@
-use Rattle.data_encoding_meaning.specs.Text.{text_of}
+use Rattle.data_encoding_meaning.specs.text.Text.{text_of}
 use Rattle.data_encoding_meaning.proofs.lists.PieceLemmas.{WritesPieces}
 use Rattle.data_encoding.proofs.encoding.EncodingRef.encode_blocks.Given as goal
 

@@ -1,10 +1,10 @@
 use Rattle.std.proofs.Common.{◌≡◌, ℕ, ◌+◌, ◌-◌, ◌<◌, ◌≤◌, List, ◌++◌, length, take, drop, sym, ap, ◌∙◌, arith, length-append, length-take-le}
 use Rattle.std.proofs.lemmas.List.{length-drop, take_at}
 use borrow.Rule.Slice.PartMut.{put_mid}
-use Rattle.data_encoding_meaning.specs.Base.{Base}
+use Rattle.data_encoding_meaning.specs.text.Base.{Base}
 use Rattle.data_encoding.specs.Encoding.{EncodingTables, KeepsRules, base_of_tables}
-use Rattle.data_encoding_meaning.specs.Lengths.{alignment}
-use Rattle.data_encoding_meaning.specs.Text.{padded_text, text_of}
+use Rattle.data_encoding_meaning.specs.text.Lengths.{alignment}
+use Rattle.data_encoding_meaning.specs.text.Text.{padded_text, text_of}
 use Rattle.data_encoding_meaning.proofs.lists.PartLemmas.{length-rest}
 use Rattle.data_encoding.proofs.text.LineTableLemmas.{IsRuled-seen, separator-seen}
 use Rattle.data_encoding_meaning.proofs.text.LineLemmas.{text_of-line}

@@ -1,5 +1,5 @@
 use Rattle.std.proofs.Common.{◌++◌, drop, sym, ap, ◌∙◌}
-use Rattle.data_encoding_meaning.specs.Base.{Base}
+use Rattle.data_encoding_meaning.specs.text.Base.{Base}
 use Rattle.data_encoding.proofs.tables.TableLemmas.{Writes-tables}
 use Rattle.data_encoding.proofs.encoding.EncodingRef.encode_padded.Goals as goal
 

@@ -1,6 +1,6 @@
 use Rattle.std.proofs.Common.{◌≡◌, ◌*◌, ◌/◌, true, false, sym, ap, ◌∙◌, subst}
 use Rattle.data_encoding.specs.Encoding.{base_of_tables}
-use Rattle.data_encoding_meaning.specs.Lengths.{greatest_valid_length}
+use Rattle.data_encoding_meaning.specs.text.Lengths.{greatest_valid_length}
 use Rattle.data_encoding.specs.PlainTables.{plain_tables}
 use Rattle.data_encoding_meaning.proofs.grammar.LengthLemmas.{greatest_valid_length-by}
 use Rattle.data_encoding.proofs.encoding.EncodingRef.greatest_valid_length.Goals as goal

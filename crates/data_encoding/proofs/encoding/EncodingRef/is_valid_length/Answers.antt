@@ -1,5 +1,5 @@
 use Rattle.std.proofs.Common.{◌*◌, ◌%◌, ◌==◌, nat_lt, true, false, sym, ap, ◌∙◌}
-use Rattle.data_encoding_meaning.specs.Base.{is_padded}
+use Rattle.data_encoding_meaning.specs.text.Base.{is_padded}
 use Rattle.data_encoding_meaning.proofs.grammar.LengthLemmas.{is_valid_length-by, whole_bits}
 use Rattle.data_encoding.proofs.tables.TableLemmas.{IsWidth-seen}
 use Rattle.data_encoding.proofs.encoding.EncodingRef.is_valid_length.Goals as goal

@@ -1,8 +1,8 @@
 use Rattle.std.proofs.Common.{◌≡◌, ◌<◌, false, length, take, get_or, sym, ◌∙◌, arith}
 use Rattle.std.proofs.lemmas.Bool.Decides.{nat_tests}
 use Rattle.std.proofs.lemmas.List.{take_all}
-use Rattle.data_encoding_meaning.specs.Base.{ignores_some}
-use Rattle.data_encoding_meaning.specs.Grammar.{kept, positioned}
+use Rattle.data_encoding_meaning.specs.text.Base.{ignores_some}
+use Rattle.data_encoding_meaning.specs.text.Grammar.{kept, positioned}
 use Rattle.data_encoding_meaning.proofs.decoding.GatherLemmas.{more-here, none-here, position-here}
 use Rattle.data_encoding_meaning.proofs.grammar.PositionLemmas.{filter-plain, length-kept, position_of-positioned_from}
 use Rattle.data_encoding.proofs.tables.TableLemmas.{HoldsValues-seen}

@@ -1,5 +1,5 @@
 use Rattle.std.proofs.Common.{◌≡◌, ◌+◌, length, take}
-use Rattle.data_encoding_meaning.specs.Grammar.{kept}
+use Rattle.data_encoding_meaning.specs.text.Grammar.{kept}
 use Rattle.data_encoding.proofs.encoding.EncodingRef.kept_position.Given as goal
 
 abbrev pub invariant-loop-position : goal.invariant-loop-position

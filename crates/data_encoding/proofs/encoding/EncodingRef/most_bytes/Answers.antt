@@ -1,6 +1,6 @@
 use Rattle.std.proofs.Common.{◌≡◌, ◌*◌, true, false, sym, ◌∙◌, subst}
 use Rattle.data_encoding.specs.Encoding.{base_of_tables}
-use Rattle.data_encoding_meaning.specs.Lengths.{most_bytes}
+use Rattle.data_encoding_meaning.specs.text.Lengths.{most_bytes}
 use Rattle.data_encoding.specs.PlainTables.{plain_tables}
 use Rattle.data_encoding_meaning.proofs.grammar.LengthLemmas.{most_bytes-by}
 use Rattle.data_encoding.proofs.encoding.EncodingRef.most_bytes.Goals as goal

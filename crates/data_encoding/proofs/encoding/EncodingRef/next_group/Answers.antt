@@ -1,6 +1,6 @@
 use Rattle.std.proofs.Common.{◌≡◌, take, false, sym, ◌∙◌, arith}
 use Rattle.std.proofs.lemmas.List.{take_all}
-use Rattle.data_encoding_meaning.specs.Base.{ignores_some}
+use Rattle.data_encoding_meaning.specs.text.Base.{ignores_some}
 use Rattle.data_encoding_meaning.proofs.decoding.GatherLemmas.{gathered-plain}
 use Rattle.data_encoding_meaning.proofs.digits.SizeLemmas.{IsSmall-group}
 use Rattle.data_encoding.proofs.tables.TableLemmas.{HoldsValues-seen}

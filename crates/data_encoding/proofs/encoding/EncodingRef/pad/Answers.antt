@@ -1,7 +1,7 @@
 use Rattle.std.proofs.Common.{◌-◌, ◌*◌, ◌++◌, is_some, length, sym, ap, ◌∙◌, arith, append-nil}
 use Rattle.std.proofs.lemmas.List.{drop_all}
-use Rattle.data_encoding_meaning.specs.Base.{is_padded}
-use Rattle.data_encoding_meaning.specs.Text.{plain_text}
+use Rattle.data_encoding_meaning.specs.text.Base.{is_padded}
+use Rattle.data_encoding_meaning.specs.text.Text.{plain_text}
 use Rattle.data_encoding_meaning.proofs.lists.PartLemmas.{length-rest}
 use Rattle.data_encoding_meaning.proofs.lists.RunLemmas.{run_count}
 use Rattle.data_encoding.proofs.tables.TableLemmas.{IsWidth-seen}

@@ -1,5 +1,5 @@
 use Rattle.std.proofs.Common.{◌*◌, sym, ap, ◌∙◌}
-use Rattle.data_encoding_meaning.specs.Base.{Base, group_bytes, group_symbols, is_padded}
+use Rattle.data_encoding_meaning.specs.text.Base.{Base, group_bytes, group_symbols, is_padded}
 use Rattle.data_encoding_meaning.proofs.lists.RunLemmas.{run_count}
 use Rattle.data_encoding.proofs.tables.TableLemmas.{IsWidth-seen}
 use Rattle.data_encoding_meaning.proofs.text.PaddedTextLemmas.{length-padded, length-unpadded}

@@ -1,8 +1,8 @@
 use Rattle.std.proofs.Common.{◌≡◌, true, map, nat_lt, ap, sym, ◌∙◌, refl, subst}
 use Rattle.std.specs.List.{list_all}
 use Rattle.data_encoding.specs.declared.specification.Specification.{Specification}
-use Rattle.data_encoding_meaning.specs.Base.{Base, is_ignored, meaning}
-use Rattle.data_encoding_meaning.specs.Layout.{ignored_bytes, own_byte, translated_bytes}
+use Rattle.data_encoding_meaning.specs.text.Base.{Base, is_ignored, meaning}
+use Rattle.data_encoding_meaning.specs.specification.Layout.{ignored_bytes, own_byte, translated_bytes}
 use Rattle.data_encoding.specs.PlainTables.{plain_tables}
 use Rattle.data_encoding.proofs.judgement.FieldLemmas.{specified-is}
 use Rattle.data_encoding_meaning.proofs.judgement.TranslationLemmas.{is_translated_byte, owns-ascii, range-ascii}

@@ -2,9 +2,9 @@ use Rattle.std.proofs.Common.{◌≡◌, ◌-◌, true, length, drop, refl, ◌�
 use Rattle.std.proofs.lemmas.List.{length-drop, take_rest}
 use Rattle.data_encoding_meaning.specs.declared.error.DecodeKind.{DecodeKind}
 use Rattle.data_encoding_meaning.specs.declared.error.DecodeKind.TheVariants.{Length}
-use Rattle.data_encoding_meaning.specs.Fault.{position_of}
-use Rattle.data_encoding_meaning.specs.Grammar.{kept}
-use Rattle.data_encoding_meaning.specs.Partial.{is_length_fault}
+use Rattle.data_encoding_meaning.specs.decoding.Fault.{position_of}
+use Rattle.data_encoding_meaning.specs.text.Grammar.{kept}
+use Rattle.data_encoding_meaning.specs.decoding.Partial.{is_length_fault}
 use Rattle.data_encoding_meaning.proofs.lists.PartLemmas.{length-rest}
 use Rattle.data_encoding_meaning.proofs.lists.WriteLemmas.{drop-put_mid_at, length-put_mid}
 use Rattle.data_encoding.proofs.encoding.EncodingRef.stopped.Goals as goal

@@ -1,8 +1,8 @@
 use Rattle.std.proofs.Common.{◌≡◌, ◌/◌, ◌%◌, ◌^◌, ◌==◌, drop, get_or, take, Ok, refl, sym, ap, ◌∙◌, subst, arith}
 use Rattle.data_encoding.specs.declared.specification.tables.Tables.{Tables}
-use Rattle.data_encoding_meaning.specs.Base.{Base, IsWidth}
-use Rattle.data_encoding_meaning.specs.Fields.{Fields, base_of}
-use Rattle.data_encoding_meaning.specs.Layout.{fields_of}
+use Rattle.data_encoding_meaning.specs.text.Base.{Base, IsWidth}
+use Rattle.data_encoding_meaning.specs.specification.Fields.{Fields, base_of}
+use Rattle.data_encoding_meaning.specs.specification.Layout.{fields_of}
 use Rattle.data_encoding_meaning.proofs.judgement.RoundTripLemmas.{specification-again}
 use Rattle.data_encoding_meaning.proofs.judgement.RuleLemmas.{IsRuled-yield}
 use Rattle.data_encoding_meaning.proofs.tables.ReadingLemmas.{IsReadAs, built-is, built-specified, read-layout}

@@ -1,6 +1,6 @@
 use Rattle.std.proofs.Common.{◌≡◌, ℕ, ◌+◌, ◌*◌, ◌≤◌, List, refl, sym, ◌∙◌, subst, arith}
 use Rattle.data_encoding_meaning.specs.declared.encoding.BitOrder.{BitOrder}
-use Rattle.data_encoding_meaning.specs.Base.{group_bytes, group_symbols, IsGroup}
+use Rattle.data_encoding_meaning.specs.text.Base.{group_bytes, group_symbols, IsGroup}
 use Rattle.data_encoding_kernel.proofs.digits.JoinLemmas.{HasDigits}
 use Rattle.data_encoding_kernel.proofs.lanes.digits.digits.Goals as goal
 

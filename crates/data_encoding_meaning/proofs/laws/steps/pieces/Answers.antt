@@ -1,8 +1,8 @@
 use Rattle.std.proofs.Common.{◌≡◌, false, ◌+◌, ◌<◌, ◌++◌, length, None, sym, ap, ◌∙◌, subst}
 use Rattle.std.proofs.lemmas.List.Elements.{recursion_from_All}
-use Rattle.data_encoding_meaning.specs.Base.{group_symbols, is_ignored, meaning}
-use Rattle.data_encoding_meaning.specs.Grammar.{Positioned}
-use Rattle.data_encoding_meaning.specs.Pieces.{HasRead, held_with, whole_bytes}
+use Rattle.data_encoding_meaning.specs.text.Base.{group_symbols, is_ignored, meaning}
+use Rattle.data_encoding_meaning.specs.text.Grammar.{Positioned}
+use Rattle.data_encoding_meaning.specs.decoding.Pieces.{HasRead, held_with, whole_bytes}
 use Rattle.data_encoding_meaning.proofs.decoding.LoneGroupLemmas.{bytes-alone, fault-alone}
 use Rattle.data_encoding_meaning.proofs.decoding.PieceLemmas.{HasRead-faulty, HasRead-group, HasRead-held, HasRead-nothing, fault_of-read, sound_bytes-read, whole_bytes-group, whole_bytes-grows, whole_bytes-nothing}
 use Rattle.data_encoding_meaning.proofs.decoding.WholePieceLemmas.{ReadsFaulty-whole, ReadsSound-whole, kept-whole}

@@ -1,4 +1,4 @@
-use Rattle.data_encoding_meaning.specs.Grammar.{positioned}
+use Rattle.data_encoding_meaning.specs.text.Grammar.{positioned}
 use Rattle.data_encoding_meaning.proofs.decoding.FinalGroupLemmas.{ends-Means, whole-Means}
 use Rattle.data_encoding_meaning.proofs.decoding.WholeLengthLemmas.{decoded_len-whole, joins-unpadded, most_bytes-few, none_final-joined}
 use Rattle.data_encoding_meaning.proofs.grammar.PositionLemmas.{filter-plain, never_ignored}

@@ -1,5 +1,5 @@
 use Rattle.std.proofs.Common.{◌≡◌, drop, Ok}
-use Rattle.data_encoding_meaning.specs.Fields.{meanings_after, pair_judgements}
+use Rattle.data_encoding_meaning.specs.specification.Fields.{meanings_after, pair_judgements}
 use Rattle.data_encoding.proofs.specification.meanings.Meanings.translate.Given as goal
 
 abbrev pub invariant-loop-index : goal.invariant-loop-index

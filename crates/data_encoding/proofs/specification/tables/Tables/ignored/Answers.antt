@@ -1,7 +1,7 @@
 use Rattle.std.proofs.Common.{◌≡◌, ◌<◌, ◌++◌, ◌∷◌, [], length, ap, sym, ◌∙◌, arith}
 use Rattle.std.proofs.lemmas.Bool.{eq-eqb, ne_eqb}
 use Rattle.std.specs.List.{filter, range_with_len}
-use Rattle.data_encoding_meaning.specs.Base.{is_ignored, meaning}
+use Rattle.data_encoding_meaning.specs.text.Base.{is_ignored, meaning}
 use Rattle.data_encoding_meaning.proofs.judgement.TranslationLemmas.{filter-fails, filter-passes}
 use Rattle.data_encoding.proofs.tables.ReadTableLemmas.{ignored-at}
 use Rattle.data_encoding.proofs.specification.tables.Tables.ignored.Goals as goal

@@ -1,6 +1,6 @@
 use Rattle.std.proofs.Common.{◌≡◌, ◌≤◌, length}
 use Rattle.std.specs.List.{filter, range_with_len}
-use Rattle.data_encoding_meaning.specs.Base.{Base, is_ignored, meaning}
+use Rattle.data_encoding_meaning.specs.text.Base.{Base, is_ignored, meaning}
 use Rattle.data_encoding.specs.Tables.{HasTables}
 use Rattle.data_encoding.proofs.specification.tables.Tables.ignored.Given as goal
 

@@ -1,5 +1,5 @@
 use Rattle.std.proofs.Common.{◌≡◌, ◌++◌, ◌∷◌, [], map, sym, ap, ◌∙◌, arith}
-use Rattle.data_encoding_meaning.specs.Layout.{own_byte}
+use Rattle.data_encoding_meaning.specs.specification.Layout.{own_byte}
 use Rattle.data_encoding_meaning.proofs.judgement.TranslationLemmas.{filter-fails, filter-passes, is_translated_byte, own-more, translated_below}
 use Rattle.data_encoding.proofs.specification.tables.Tables.translations.Goals as goal
 use Rattle.data_encoding.proofs.specification.tables.Tables.translations.Goals.{in-Some, in_default}

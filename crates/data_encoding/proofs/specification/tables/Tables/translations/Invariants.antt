@@ -1,6 +1,6 @@
 use Rattle.std.proofs.Common.{◌≡◌, ◌≤◌, length, map}
-use Rattle.data_encoding_meaning.specs.Base.{Base}
-use Rattle.data_encoding_meaning.specs.Layout.{own_byte}
+use Rattle.data_encoding_meaning.specs.text.Base.{Base}
+use Rattle.data_encoding_meaning.specs.specification.Layout.{own_byte}
 use Rattle.data_encoding.specs.Tables.{HasTables}
 use Rattle.data_encoding_meaning.proofs.judgement.TranslationLemmas.{translated_below}
 use Rattle.data_encoding.proofs.specification.tables.Tables.translations.Given as goal

@@ -5,13 +5,13 @@ use Rattle.std.specs.Simd.{first_chunks}
 use Rattle.data_encoding_meaning.specs.declared.error.DecodeError.{DecodeError}
 use Rattle.data_encoding_meaning.specs.declared.error.DecodeKind.{DecodeKind}
 use Rattle.data_encoding_meaning.specs.declared.error.DecodePartial.{DecodePartial}
-use Rattle.data_encoding_meaning.specs.Base.{Base, meaning, is_ignored, is_padded, ignores_some, group_bytes, group_symbols}
-use Rattle.data_encoding_meaning.specs.Fault.{bytes_of_group, fault_after, fault_at, fault_of, first_fault, or_else, sound_bytes, sound_groups}
-use Rattle.data_encoding_meaning.specs.Fields.{IsSpecified}
-use Rattle.data_encoding_meaning.specs.Grammar.{Means, Positioned, positioned, positioned_from, groups, kept, is_final, bytes_in}
-use Rattle.data_encoding_meaning.specs.Laws.{further}
-use Rattle.data_encoding_meaning.specs.Lengths.{decoded_len, length_fault, most_bytes}
-use Rattle.data_encoding_meaning.specs.Partial.{is_length_fault, partial_of}
+use Rattle.data_encoding_meaning.specs.text.Base.{Base, meaning, is_ignored, is_padded, ignores_some, group_bytes, group_symbols}
+use Rattle.data_encoding_meaning.specs.decoding.Fault.{bytes_of_group, fault_after, fault_at, fault_of, first_fault, or_else, sound_bytes, sound_groups}
+use Rattle.data_encoding_meaning.specs.specification.Fields.{IsSpecified}
+use Rattle.data_encoding_meaning.specs.text.Grammar.{Means, Positioned, positioned, positioned_from, groups, kept, is_final, bytes_in}
+use Rattle.data_encoding_meaning.specs.laws.Laws.{further}
+use Rattle.data_encoding_meaning.specs.text.Lengths.{decoded_len, length_fault, most_bytes}
+use Rattle.data_encoding_meaning.specs.decoding.Partial.{is_length_fault, partial_of}
 
 -- the whole groups of a text so far, and the bytes after the last of them
 abbrev pub whole_groups : Base → List ℕ → List (List Positioned)

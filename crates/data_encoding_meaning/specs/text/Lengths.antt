@@ -2,8 +2,8 @@
 use Rattle.std.specs.Prelude.{ℕ, ◌<◌, ◌≤◌, List, length, ◌-◌, ◌*◌, ◌/◌, ◌%◌, ◌==◌, nat_lt, Bool, not, ◌&&◌, if◌then◌else◌, Option, Some, None, Result, Ok, Err}
 use Rattle.data_encoding_meaning.specs.declared.error.DecodeKind.TheVariants.{Length as LengthFault}
 use Rattle.data_encoding_meaning.specs.declared.error.DecodeError.{DecodeError}
-use Rattle.data_encoding_meaning.specs.Base.{Base, Wrapping, is_padded, ignores_some, group_bytes, group_symbols}
-use Rattle.data_encoding_meaning.specs.Text.{text_of}
+use Rattle.data_encoding_meaning.specs.text.Base.{Base, Wrapping, is_padded, ignores_some, group_bytes, group_symbols}
+use Rattle.data_encoding_meaning.specs.text.Text.{text_of}
 
 -- The symbols of this count are whole bytes and fewer bits than a symbol's; the greatest such
 -- count.

@@ -1,8 +1,8 @@
 -- Which bytes are layouts, and that each is the layout of one base.
 use Rattle.std.specs.Prelude.{◌≡◌, ◌≢◌, ◌⊎◌, ◌↔◌, ℕ, ◌+◌, ◌/◌, ◌%◌, ◌^◌, ◌<◌, ◌≤◌, List, length, slice_index}
-use Rattle.data_encoding_meaning.specs.Base.{Base, IsWidth, group_symbols}
-use Rattle.data_encoding_meaning.specs.Fields.{IsSpecified}
-use Rattle.data_encoding_meaning.specs.Layout.{layout}
+use Rattle.data_encoding_meaning.specs.text.Base.{Base, IsWidth, group_symbols}
+use Rattle.data_encoding_meaning.specs.specification.Fields.{IsSpecified}
+use Rattle.data_encoding_meaning.specs.specification.Layout.{layout}
 
 -- No two bases have one layout.
 abbrev pub OneLayout : Type 0

@@ -3,12 +3,12 @@ use Rattle.std.specs.Prelude.{◌≡◌, ℕ, ◌+◌, ◌-◌, ◌*◌, ◌/◌
 use Rattle.std.specs.List.{list_any}
 use Rattle.data_encoding_meaning.specs.declared.error.DecodePartial.{DecodePartial}
 use Rattle.data_encoding_meaning.specs.declared.error.GroupFault.{GroupFault}
-use Rattle.data_encoding_meaning.specs.Base.{Base, meaning, is_ignored, is_padded, is_padding, group_symbols}
-use Rattle.data_encoding_meaning.specs.Bits.{runs}
-use Rattle.data_encoding_meaning.specs.Grammar.{Means, Positioned, groups, kept, kept_from, bytes_in}
-use Rattle.data_encoding_meaning.specs.Lengths.{greatest_valid_length, is_valid_count}
-use Rattle.data_encoding_meaning.specs.Fault.{bytes_of_group, count_before_padding, fault_after, fault_at, fault_of, group_fault, position_of, sound_bytes, symbol_bytes, symbols_fault, AreSound}
-use Rattle.data_encoding_meaning.specs.Partial.{is_length_fault, position_after}
+use Rattle.data_encoding_meaning.specs.text.Base.{Base, meaning, is_ignored, is_padded, is_padding, group_symbols}
+use Rattle.data_encoding_meaning.specs.text.Bits.{runs}
+use Rattle.data_encoding_meaning.specs.text.Grammar.{Means, Positioned, groups, kept, kept_from, bytes_in}
+use Rattle.data_encoding_meaning.specs.text.Lengths.{greatest_valid_length, is_valid_count}
+use Rattle.data_encoding_meaning.specs.decoding.Fault.{bytes_of_group, count_before_padding, fault_after, fault_at, fault_of, group_fault, position_of, sound_bytes, symbol_bytes, symbols_fault, AreSound}
+use Rattle.data_encoding_meaning.specs.decoding.Partial.{is_length_fault, position_after}
 
 -- the bytes of groups of symbols in a row
 abbrev pub run_bytes : Base → List ℕ → List ℕ

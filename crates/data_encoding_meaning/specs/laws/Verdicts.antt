@@ -1,11 +1,11 @@
 -- Verdicts on texts, and what a text means; texts of different data, and their lengths.
 use Rattle.std.specs.Prelude.{◌≡◌, ◌↔◌, ℕ, ◌<◌, List, length, All, None}
-use Rattle.data_encoding_meaning.specs.Base.{Base}
-use Rattle.data_encoding_meaning.specs.Canonical.{IsCanonical}
-use Rattle.data_encoding_meaning.specs.Fault.{fault_of, sound_bytes}
-use Rattle.data_encoding_meaning.specs.Fields.{IsSpecified}
-use Rattle.data_encoding_meaning.specs.Grammar.{Means}
-use Rattle.data_encoding_meaning.specs.Text.{text_of}
+use Rattle.data_encoding_meaning.specs.text.Base.{Base}
+use Rattle.data_encoding_meaning.specs.laws.Canonical.{IsCanonical}
+use Rattle.data_encoding_meaning.specs.decoding.Fault.{fault_of, sound_bytes}
+use Rattle.data_encoding_meaning.specs.specification.Fields.{IsSpecified}
+use Rattle.data_encoding_meaning.specs.text.Grammar.{Means}
+use Rattle.data_encoding_meaning.specs.text.Text.{text_of}
 
 -- A text means bytes exactly where it has no fault and these are its sound bytes.
 abbrev pub MeansSound : Type 0

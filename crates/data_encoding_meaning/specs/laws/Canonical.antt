@@ -3,12 +3,12 @@ use Rattle.std.specs.Prelude.{◌≡◌, ℕ, ◌-◌, ◌≤◌, ◌/◌, ◌==
 use Rattle.data_encoding_meaning.specs.declared.limits.TheConstants.{DECODE_LIMIT}
 use Rattle.data_encoding_meaning.specs.declared.encoding.BitOrder.{BitOrder}
 use Rattle.data_encoding_meaning.specs.declared.encoding.Character.TheVariants.{Symbol, Padding}
-use Rattle.data_encoding_meaning.specs.Base.{Base, meaning, symbol, is_ignored, is_padded, ignores_some, group_symbols}
-use Rattle.data_encoding_meaning.specs.Bits.{number_of}
-use Rattle.data_encoding_meaning.specs.Fields.{IsSpecified}
-use Rattle.data_encoding_meaning.specs.Grammar.{Means}
-use Rattle.data_encoding_meaning.specs.Layout.{translated_bytes}
-use Rattle.data_encoding_meaning.specs.Text.{padded_text, text_of, with_padding}
+use Rattle.data_encoding_meaning.specs.text.Base.{Base, meaning, symbol, is_ignored, is_padded, ignores_some, group_symbols}
+use Rattle.data_encoding_meaning.specs.text.Bits.{number_of}
+use Rattle.data_encoding_meaning.specs.specification.Fields.{IsSpecified}
+use Rattle.data_encoding_meaning.specs.text.Grammar.{Means}
+use Rattle.data_encoding_meaning.specs.specification.Layout.{translated_bytes}
+use Rattle.data_encoding_meaning.specs.text.Text.{padded_text, text_of, with_padding}
 
 -- No two different texts of at most DECODE_LIMIT bytes mean the same data.
 abbrev pub IsCanonical : Base → Type 0

@@ -3,8 +3,8 @@ use Rattle.std.specs.Prelude.{◌≡◌, ℕ, ◌<◌, Bool, true, false, ◌&&�
 use Rattle.std.specs.List.{enumerate_from, list_any}
 use Rattle.data_encoding_meaning.specs.declared.encoding.Character.{Character}
 use Rattle.data_encoding_meaning.specs.declared.encoding.Character.TheVariants.{Symbol, Padding}
-use Rattle.data_encoding_meaning.specs.Base.{Base, meaning, is_padded, is_padding, is_ignored, group_symbols}
-use Rattle.data_encoding_meaning.specs.Bits.{bits_of_bytes, bits_of, runs}
+use Rattle.data_encoding_meaning.specs.text.Base.{Base, meaning, is_padded, is_padding, is_ignored, group_symbols}
+use Rattle.data_encoding_meaning.specs.text.Bits.{bits_of_bytes, bits_of, runs}
 
 -- a byte of a text, with its position there
 pub record Positioned : Type 0 where

@@ -6,12 +6,12 @@ use Rattle.data_encoding_meaning.specs.declared.encoding.Character.{Character}
 use Rattle.data_encoding_meaning.specs.declared.error.DecodeKind.{DecodeKind}
 use Rattle.data_encoding_meaning.specs.declared.error.DecodeKind.TheVariants.{Length as LengthFault, Symbol as SymbolFault, Trailing as TrailingFault, Padding as PaddingFault}
 use Rattle.data_encoding_meaning.specs.declared.error.DecodeError.{DecodeError}
-use Rattle.data_encoding_meaning.specs.Base.{Base, meaning, is_symbol, value_of, is_padding, is_padded, group_symbols}
-use Rattle.data_encoding_meaning.specs.Bits.{bits_of, number_of, runs}
-use Rattle.data_encoding_meaning.specs.Grammar.{Positioned, bytes_in, groups, is_final, meanings_in}
+use Rattle.data_encoding_meaning.specs.text.Base.{Base, meaning, is_symbol, value_of, is_padding, is_padded, group_symbols}
+use Rattle.data_encoding_meaning.specs.text.Bits.{bits_of, number_of, runs}
+use Rattle.data_encoding_meaning.specs.text.Grammar.{Positioned, bytes_in, groups, is_final, meanings_in}
 use Rattle.data_encoding_meaning.specs.declared.error.DecodeFault.{DecodeFault}
 use Rattle.data_encoding_meaning.specs.declared.error.DecodeFault.TheVariants.{Error, OutOfMemory}
-use Rattle.data_encoding_meaning.specs.Lengths.{is_valid_count, greatest_valid_count, length_fault, most_bytes}
+use Rattle.data_encoding_meaning.specs.text.Lengths.{is_valid_count, greatest_valid_count, length_fault, most_bytes}
 
 -- the bits of the symbols of a group, and those after the last whole byte
 abbrev pub symbol_bits : Base → List Character → List ℕ

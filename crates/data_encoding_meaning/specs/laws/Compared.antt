@@ -1,11 +1,11 @@
 -- Data that is compared by its texts.
 use Rattle.std.specs.Prelude.{◌≡◌, ◌↔◌, ℕ, ◌<◌, List, All, None}
-use Rattle.data_encoding_meaning.specs.Base.{Base}
-use Rattle.data_encoding_meaning.specs.Canonical.{IsCanonical}
-use Rattle.data_encoding_meaning.specs.Fields.{IsSpecified}
-use Rattle.data_encoding_meaning.specs.Grammar.{Means}
-use Rattle.data_encoding_meaning.specs.Order.{IsBefore, IsOrdered}
-use Rattle.data_encoding_meaning.specs.Text.{text_of}
+use Rattle.data_encoding_meaning.specs.text.Base.{Base}
+use Rattle.data_encoding_meaning.specs.laws.Canonical.{IsCanonical}
+use Rattle.data_encoding_meaning.specs.specification.Fields.{IsSpecified}
+use Rattle.data_encoding_meaning.specs.text.Grammar.{Means}
+use Rattle.data_encoding_meaning.specs.laws.Order.{IsBefore, IsOrdered}
+use Rattle.data_encoding_meaning.specs.text.Text.{text_of}
 
 -- Two lists are in order exactly where two others are, and equal exactly where those are.
 pub record CompareAlike (one other first second : List ℕ) : Type 0 where

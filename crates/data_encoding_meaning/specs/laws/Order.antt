@@ -2,8 +2,8 @@
 use Rattle.std.specs.Prelude.{◌≡◌, ℕ, ◌+◌, ◌-◌, ◌*◌, ◌^◌, ◌<◌, ◌⊎◌, List, [], ◌∷◌, All, AllPairs, Some}
 use Rattle.std.specs.Option.{ForSome}
 use Rattle.data_encoding_meaning.specs.declared.encoding.BitOrder.TheVariants.{MostSignificantFirst, LeastSignificantFirst}
-use Rattle.data_encoding_meaning.specs.Base.{Base, symbol}
-use Rattle.data_encoding_meaning.specs.Text.{text_of}
+use Rattle.data_encoding_meaning.specs.text.Base.{Base, symbol}
+use Rattle.data_encoding_meaning.specs.text.Text.{text_of}
 
 -- The first list comes before the second: by their first difference, a proper front first.
 abbrev pub IsBefore : List ℕ → List ℕ → Type 0

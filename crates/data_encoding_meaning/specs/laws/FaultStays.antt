@@ -1,12 +1,12 @@
 -- Faults that stay, whatever follows a text.
 use Rattle.std.specs.Prelude.{◌≡◌, ℕ, ◌≤◌, ◌%◌, List, ◌++◌, length, Some, None}
 use Rattle.data_encoding_meaning.specs.declared.error.DecodeError.{DecodeError}
-use Rattle.data_encoding_meaning.specs.Base.{Base, group_symbols}
-use Rattle.data_encoding_meaning.specs.Fault.{fault_of, first_fault}
-use Rattle.data_encoding_meaning.specs.Fields.{IsSpecified}
-use Rattle.data_encoding_meaning.specs.Grammar.{kept}
-use Rattle.data_encoding_meaning.specs.Lengths.{length_fault}
-use Rattle.data_encoding_meaning.specs.Pieces.{whole_groups}
+use Rattle.data_encoding_meaning.specs.text.Base.{Base, group_symbols}
+use Rattle.data_encoding_meaning.specs.decoding.Fault.{fault_of, first_fault}
+use Rattle.data_encoding_meaning.specs.specification.Fields.{IsSpecified}
+use Rattle.data_encoding_meaning.specs.text.Grammar.{kept}
+use Rattle.data_encoding_meaning.specs.text.Lengths.{length_fault}
+use Rattle.data_encoding_meaning.specs.decoding.Pieces.{whole_groups}
 
 -- The first fault of the whole groups of a text is that of every longer text whose length has none.
 abbrev pub GroupFaultStays : Type 0

@@ -1,10 +1,10 @@
 -- Lengths that tell exactly how many bytes a text means.
 use Rattle.std.specs.Prelude.{◌≡◌, ℕ, false, List, length, None, Ok}
-use Rattle.data_encoding_meaning.specs.Base.{Base, ignores_some}
-use Rattle.data_encoding_meaning.specs.Fields.{IsSpecified}
-use Rattle.data_encoding_meaning.specs.Grammar.{Means}
-use Rattle.data_encoding_meaning.specs.Lengths.{decoded_len, most_bytes}
-use Rattle.data_encoding_meaning.specs.Text.{text_of}
+use Rattle.data_encoding_meaning.specs.text.Base.{Base, ignores_some}
+use Rattle.data_encoding_meaning.specs.specification.Fields.{IsSpecified}
+use Rattle.data_encoding_meaning.specs.text.Grammar.{Means}
+use Rattle.data_encoding_meaning.specs.text.Lengths.{decoded_len, most_bytes}
+use Rattle.data_encoding_meaning.specs.text.Text.{text_of}
 
 -- Without padding and ignored bytes, a text that means data means as many bytes as its length
 -- allows.

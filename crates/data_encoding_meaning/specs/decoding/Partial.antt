@@ -6,10 +6,10 @@ use Rattle.data_encoding_meaning.specs.declared.error.DecodeKind.{DecodeKind}
 use Rattle.data_encoding_meaning.specs.declared.error.DecodeKind.TheVariants.{Length as LengthFault}
 use Rattle.data_encoding_meaning.specs.declared.error.DecodeError.{DecodeError}
 use Rattle.data_encoding_meaning.specs.declared.error.DecodePartial.{DecodePartial}
-use Rattle.data_encoding_meaning.specs.Base.{Base, is_ignored}
-use Rattle.data_encoding_meaning.specs.Grammar.{Positioned, Means, groups}
-use Rattle.data_encoding_meaning.specs.Lengths.{greatest_valid_length}
-use Rattle.data_encoding_meaning.specs.Fault.{fault_of, sound_groups, sound_bytes}
+use Rattle.data_encoding_meaning.specs.text.Base.{Base, is_ignored}
+use Rattle.data_encoding_meaning.specs.text.Grammar.{Positioned, Means, groups}
+use Rattle.data_encoding_meaning.specs.text.Lengths.{greatest_valid_length}
+use Rattle.data_encoding_meaning.specs.decoding.Fault.{fault_of, sound_groups, sound_bytes}
 
 -- the position after the last of these bytes
 abbrev pub position_after_first : List Positioned → ℕ

@@ -1,8 +1,8 @@
 -- Data encoded piece by piece.
 use Rattle.std.specs.Prelude.{◌≡◌, ℕ, ◌<◌, ◌%◌, List, ◌++◌, length}
-use Rattle.data_encoding_meaning.specs.Base.{Base}
-use Rattle.data_encoding_meaning.specs.Text.{text_of}
-use Rattle.data_encoding_meaning.specs.Lengths.{alignment}
+use Rattle.data_encoding_meaning.specs.text.Base.{Base}
+use Rattle.data_encoding_meaning.specs.text.Text.{text_of}
+use Rattle.data_encoding_meaning.specs.text.Lengths.{alignment}
 
 -- To a text that of these bytes was appended, but for the last few, which are held until they fill
 -- a block.

@@ -2,15 +2,15 @@
 use Rattle.std.specs.Prelude.{◌≡◌, ◌↔◌, ℕ, ◌+◌, ◌<◌, ◌%◌, ◌⊎◌, true, false, List, ◌++◌, length, take, drop, All, Option, Some, None, Ok}
 use Rattle.data_encoding_meaning.specs.declared.error.DecodeError.{DecodeError}
 use Rattle.data_encoding_meaning.specs.declared.error.DecodePartial.{DecodePartial}
-use Rattle.data_encoding_meaning.specs.Base.{Base, meaning, is_padded, is_padding}
-use Rattle.data_encoding_meaning.specs.Fault.{fault_of, sound_bytes}
-use Rattle.data_encoding_meaning.specs.Fields.{base_of, IsSpecified}
-use Rattle.data_encoding_meaning.specs.Grammar.{Means, PlainMeans, kept, meanings_in}
-use Rattle.data_encoding_meaning.specs.Layout.{fields_of}
-use Rattle.data_encoding_meaning.specs.Lengths.{alignment, length_fault}
-use Rattle.data_encoding_meaning.specs.Order.{KeepsOrder, IsOrdered, IsBroken}
-use Rattle.data_encoding_meaning.specs.Partial.{partial_of}
-use Rattle.data_encoding_meaning.specs.Text.{text_of}
+use Rattle.data_encoding_meaning.specs.text.Base.{Base, meaning, is_padded, is_padding}
+use Rattle.data_encoding_meaning.specs.decoding.Fault.{fault_of, sound_bytes}
+use Rattle.data_encoding_meaning.specs.specification.Fields.{base_of, IsSpecified}
+use Rattle.data_encoding_meaning.specs.text.Grammar.{Means, PlainMeans, kept, meanings_in}
+use Rattle.data_encoding_meaning.specs.specification.Layout.{fields_of}
+use Rattle.data_encoding_meaning.specs.text.Lengths.{alignment, length_fault}
+use Rattle.data_encoding_meaning.specs.laws.Order.{KeepsOrder, IsOrdered, IsBroken}
+use Rattle.data_encoding_meaning.specs.decoding.Partial.{partial_of}
+use Rattle.data_encoding_meaning.specs.text.Text.{text_of}
 
 -- The base is built from its specification.
 abbrev pub SpecificationAgain : Type 0

@@ -6,7 +6,7 @@ use Rattle.data_encoding_meaning.specs.declared.encoding.Character.{Character}
 use Rattle.data_encoding_meaning.specs.declared.encoding.Character.TheVariants.{Symbol, Padding, Ignored, Invalid}
 use Rattle.data_encoding_meaning.specs.declared.refusal.Refusal.{Refusal}
 use Rattle.data_encoding_meaning.specs.declared.refusal.Refusal.TheVariants.{BadSize, NotAscii, Duplicate, ExtraPadding, WrapLength, WrapWidth, FromTo, Undefined}
-use Rattle.data_encoding_meaning.specs.Base.{Base, group_symbols}
+use Rattle.data_encoding_meaning.specs.text.Base.{Base, group_symbols}
 
 -- what a specification says, with its texts as bytes
 pub record Fields : Type 0 where

@@ -1,10 +1,10 @@
 -- Which of the eighteen are canonical, and which keep the order of data.
 use Rattle.std.specs.Prelude.{◌≡◌, ◌↔◌, true, List, [], ◌∷◌, All, Ok}
-use Rattle.data_encoding_meaning.specs.Base.{Base}
-use Rattle.data_encoding_meaning.specs.Canonical.{IsCanonical, has_one_text}
-use Rattle.data_encoding_meaning.specs.Fields.{Fields, base_of, IsSpecified}
-use Rattle.data_encoding_meaning.specs.Order.{IsOrdered}
-use Rattle.data_encoding_meaning.specs.Predefined.{hexlower_fields, hexlower_permissive_fields, hexupper_fields, hexupper_permissive_fields, base32_fields, base32_nopad_fields, base32_nopad_nocase_fields, base32_nopad_visual_fields, base32hex_fields, base32hex_nopad_fields, base32_dnssec_fields, base32_dnscurve_fields, base64_fields, base64_nopad_fields, base64_mime_fields, base64_mime_permissive_fields, base64url_fields, base64url_nopad_fields}
+use Rattle.data_encoding_meaning.specs.text.Base.{Base}
+use Rattle.data_encoding_meaning.specs.laws.Canonical.{IsCanonical, has_one_text}
+use Rattle.data_encoding_meaning.specs.specification.Fields.{Fields, base_of, IsSpecified}
+use Rattle.data_encoding_meaning.specs.laws.Order.{IsOrdered}
+use Rattle.data_encoding_meaning.specs.specification.Predefined.{hexlower_fields, hexlower_permissive_fields, hexupper_fields, hexupper_permissive_fields, base32_fields, base32_nopad_fields, base32_nopad_nocase_fields, base32_nopad_visual_fields, base32hex_fields, base32hex_nopad_fields, base32_dnssec_fields, base32_dnscurve_fields, base64_fields, base64_nopad_fields, base64_mime_fields, base64_mime_permissive_fields, base64url_fields, base64url_nopad_fields}
 
 -- A base is canonical exactly where it has no cause of a second text.
 abbrev pub CanonicalByCauses : Type 0

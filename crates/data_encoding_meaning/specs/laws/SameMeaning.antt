@@ -1,11 +1,11 @@
 -- Texts that mean the same.
 use Rattle.std.specs.Prelude.{◌≡◌, ◌↔◌, ℕ, Bool, true, ◌&&◌, List, filter, map, not, unwrap_or}
-use Rattle.data_encoding_meaning.specs.Base.{Base, meaning, is_ignored, is_padded, ignores_some}
-use Rattle.data_encoding_meaning.specs.Fault.{fault_of}
-use Rattle.data_encoding_meaning.specs.Fields.{IsSpecified}
-use Rattle.data_encoding_meaning.specs.Grammar.{Means}
-use Rattle.data_encoding_meaning.specs.Layout.{own_character}
-use Rattle.data_encoding_meaning.specs.Text.{text_of}
+use Rattle.data_encoding_meaning.specs.text.Base.{Base, meaning, is_ignored, is_padded, ignores_some}
+use Rattle.data_encoding_meaning.specs.decoding.Fault.{fault_of}
+use Rattle.data_encoding_meaning.specs.specification.Fields.{IsSpecified}
+use Rattle.data_encoding_meaning.specs.text.Grammar.{Means}
+use Rattle.data_encoding_meaning.specs.specification.Layout.{own_character}
+use Rattle.data_encoding_meaning.specs.text.Text.{text_of}
 
 -- the bytes of a text that are not ignored
 abbrev pub kept_bytes : Base → List ℕ → List ℕ

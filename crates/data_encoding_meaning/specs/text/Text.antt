@@ -1,7 +1,7 @@
 -- The text of data (RFC 4648, sections 4 to 8; lines as in RFC 2045, section 6.8).
 use Rattle.std.specs.Prelude.{ℕ, List, ◌++◌, map, length, replicate, flat_map, Option, Some, None}
-use Rattle.data_encoding_meaning.specs.Base.{Base, Wrapping, symbol, group_symbols}
-use Rattle.data_encoding_meaning.specs.Bits.{bits_of_bytes, number_of, missing, runs}
+use Rattle.data_encoding_meaning.specs.text.Base.{Base, Wrapping, symbol, group_symbols}
+use Rattle.data_encoding_meaning.specs.text.Bits.{bits_of_bytes, number_of, missing, runs}
 
 -- the list with the fewest of these at its end that make its length a multiple of the size
 abbrev pub filled_with : ℕ → ℕ → List ℕ → List ℕ

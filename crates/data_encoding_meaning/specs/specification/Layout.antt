@@ -5,8 +5,8 @@ use Rattle.data_encoding_meaning.specs.declared.encoding.BitOrder.{BitOrder}
 use Rattle.data_encoding_meaning.specs.declared.encoding.BitOrder.TheVariants.{MostSignificantFirst, LeastSignificantFirst}
 use Rattle.data_encoding_meaning.specs.declared.encoding.Character.{Character}
 use Rattle.data_encoding_meaning.specs.declared.encoding.Character.TheVariants.{Symbol, Padding, Ignored, Invalid}
-use Rattle.data_encoding_meaning.specs.Base.{Base, Wrapping, meaning, symbol, is_ignored, ignores_some}
-use Rattle.data_encoding_meaning.specs.Fields.{Fields}
+use Rattle.data_encoding_meaning.specs.text.Base.{Base, Wrapping, meaning, symbol, is_ignored, ignores_some}
+use Rattle.data_encoding_meaning.specs.specification.Fields.{Fields}
 
 abbrev pub code_of : Character → ℕ
 code_of (Symbol value) = value

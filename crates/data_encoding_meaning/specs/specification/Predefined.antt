@@ -2,7 +2,7 @@
 use Rattle.std.specs.Prelude.{ℕ, Bool, true, false, List, [], ◌∷◌, codes, Some, None}
 use Rattle.data_encoding_meaning.specs.declared.encoding.BitOrder.{BitOrder}
 use Rattle.data_encoding_meaning.specs.declared.encoding.BitOrder.TheVariants.{MostSignificantFirst, LeastSignificantFirst}
-use Rattle.data_encoding_meaning.specs.Fields.{Fields}
+use Rattle.data_encoding_meaning.specs.specification.Fields.{Fields}
 
 -- symbols alone
 abbrev pub symbols_alone : List ℕ → BitOrder → Bool → Fields

@@ -1,0 +1,9 @@
+pub mod Laws
+pub mod SameMeaning
+pub mod Order
+pub mod Canonical
+pub mod Compared
+pub mod Tight
+pub mod Verdicts
+pub mod Eighteen
+pub mod FaultStays

@@ -1,0 +1,6 @@
+pub mod Fields
+pub mod Entries
+pub mod Layout
+pub mod OneLayout
+pub mod Predefined
+pub mod Named
