@@ -30,30 +30,37 @@ use Rattle.data_encoding_meaning.proofs.decoding.StopLemmas.{IsAtFault, at-fault
 use Rattle.data_encoding_meaning.proofs.grammar.KeptLemmas.{nothing-left}
 use Rattle.data_encoding_meaning.proofs.decoding.IgnoredFrontLemmas.{gathered-behind, nothing-behind}
 
+-- The sizes of a group, as constants of the code.
+pub record Sizes : Type 0 where
+  pub width : ℕ
+  pub bytes : ℕ
+  pub symbols : ℕ
+
 -- A decoding under way: so much was read and written of a text whose length has no fault, into an
--- output of just its size, with the sizes of a group as constants.
-pub record IsUnderWay (base : Base) (text : List ℕ) (w bytes symbols read written : ℕ)
+-- output of just its size.
+pub record IsUnderWay (base : Base) (text : List ℕ) (sizes : Sizes) (read written : ℕ)
     (ended : Bool) (output : List ℕ) : Type 0 where
   pub width : IsWidth base.width
-  pub symbols_is : symbols ≡ group_symbols base.width
-  pub bytes_is : bytes ≡ group_bytes base.width
-  pub w_is : base.width ≡ w
+  pub symbols_is : sizes.symbols ≡ group_symbols base.width
+  pub bytes_is : sizes.bytes ≡ group_bytes base.width
+  pub width_is : base.width ≡ sizes.width
   pub no_fault : length_fault base (length text) ≡ None
   pub size_is : most_bytes base (length text) ≡ length output
   pub so_far : HasDecodedTo base text read written ended output
 
-pub under_way : {base : Base} {text : List ℕ} {w bytes symbols read written : ℕ} {ended : Bool}
-    {output : List ℕ} → IsGroup w bytes symbols → base.width ≡ w
+pub under_way : {base : Base} {text : List ℕ} {width bytes symbols read written : ℕ} {ended : Bool}
+    {output : List ℕ} → IsGroup width bytes symbols → base.width ≡ width
     → decoded_len base (length text) ≡ Ok (length output)
     → HasDecodedTo base text read written ended output
-    → IsUnderWay base text w bytes symbols read written ended output
-under_way {base} {text} {output} g w_is exact so_far =
+    → IsUnderWay base text (record { width = width; bytes = bytes; symbols = symbols }) read written
+    ended output
+under_way {base} {text} {output} g width_is exact so_far =
     let counted = decoded_len-counted base (length text) (length output) exact in
     record {
-      width = subst IsWidth (sym w_is) g.is_width;
-      symbols_is = g.has_symbols ∙ ap group_symbols (sym w_is);
-      bytes_is = g.has_bytes ∙ ap group_bytes (sym w_is);
-      w_is = w_is;
+      width = subst IsWidth (sym width_is) g.is_width;
+      symbols_is = g.has_symbols ∙ ap group_symbols (sym width_is);
+      bytes_is = g.has_bytes ∙ ap group_bytes (sym width_is);
+      width_is = width_is;
       no_fault = counted.0;
       size_is = counted.1;
       so_far = so_far;
@@ -78,8 +85,8 @@ pub final-is : {own base : Base} (count len : ℕ) → own ≡ base → own.conc
 final-is count len same apart padded =
     let joins = ap (λ (b : Base). b.concatenates) same in grind (arith, nat_tests, joins)
 
-module _ {base : Base} {text : List ℕ} {w bytes symbols read written : ℕ} {ended : Bool}
-    {output : List ℕ} (s : IsUnderWay base text w bytes symbols read written ended output) where
+module _ {base : Base} {text : List ℕ} {sizes : Sizes} {read written : ℕ} {ended : Bool}
+    {output : List ℕ} (s : IsUnderWay base text sizes read written ended output) where
   -- where nothing is left, the text means what was written
   pub decoded : kept_from base read text ≡ [] → IsDecoded base text written output
   decoded none =
@@ -103,12 +110,12 @@ module _ {base : Base} {text : List ℕ} {w bytes symbols read written : ℕ} {e
   -- as far as another output of that length holds it
   further : {stop count : ℕ} {final : Bool} {new : List ℕ} → length new ≡ length output
       → HasDecodedTo base text stop count final new
-      → IsUnderWay base text w bytes symbols stop count final new
+      → IsUnderWay base text sizes stop count final new
   further len so_far = record {
     width = s.width;
     symbols_is = s.symbols_is;
     bytes_is = s.bytes_is;
-    w_is = s.w_is;
+    width_is = s.width_is;
     no_fault = s.no_fault;
     size_is = s.size_is ∙ sym len;
     so_far = so_far;
@@ -117,7 +124,7 @@ module _ {base : Base} {text : List ℕ} {w bytes symbols read written : ℕ} {e
   -- the same with other bytes behind what was written
   pub after_none : (rest : List ℕ)
       → length rest ≡ length (take (length output - written) (drop written output))
-      → IsUnderWay base text w bytes symbols read written ended (rewritten written output rest)
+      → IsUnderWay base text sizes read written ended (rewritten written output rest)
   after_none rest rest_len =
       let len = length-rewritten_same written output rest s.so_far.fits rest_len in
       further len
@@ -128,7 +135,7 @@ module _ {base : Base} {text : List ℕ} {w bytes symbols read written : ℕ} {e
 
   -- nothing is left where nothing is gathered
   none-left : (start : ℕ) → start ≤ length text → {group : List ℕ} {span : ℕ}
-      → IsGathered base symbols (take (length text - start) (drop start text)) group span
+      → IsGathered base sizes.symbols (take (length text - start) (drop start text)) group span
       → {empty : Bool} → empty ≡ (length group == 0) → empty ≡ true
       → kept_from base start text ≡ []
   none-left start within {group} {span} is empty_is empty =
@@ -167,7 +174,7 @@ module _ {base : Base} {text : List ℕ} {w bytes symbols read written : ℕ} {e
       ∙ greatest-valid base s.width len)))
 
   module _ {group : List ℕ} {span : ℕ}
-      (is : IsGathered base symbols (take (length text - read) (drop read text)) group span)
+      (is : IsGathered base sizes.symbols (take (length text - read) (drop read text)) group span)
     where
       -- a text that ends there means what was written
       pub decoded-empty : {empty : Bool} → empty ≡ (length group == 0) → empty ≡ true
@@ -187,15 +194,15 @@ module _ {base : Base} {text : List ℕ} {w bytes symbols read written : ℕ} {e
       next some = is-next base s.width text read s.so_far.within found_here some
 
       -- a group has room
-      pub room-next_group : (is_padded base ≡ true → length group ≡ symbols)
-          → w * length group / 8
+      pub room-next_group : (is_padded base ≡ true → length group ≡ sizes.symbols)
+          → sizes.width * length group / 8
           ≤ length (take (length output - written) (drop written output))
       room-next_group whole =
           let few : length group ≤ length text - read =
           omega (arith, gathered-few found_here, found_here.within, length-drop read text) in
           let room = room-group_of (length group) few
           (λ padded. rw (whole padded, s.symbols_is) (mod_self (group_symbols base.width))) in
-          rw (take_rest output written, ← s.w_is) (omega (arith, room, length-drop written output))
+          rw (take_rest output written, ← s.width_is) (omega (arith, room, length-drop written output))
 
       -- A faulty group stops the decoding.
       module _ {fault : GroupFault} (has : HasFault base ended group fault) where
@@ -278,8 +285,8 @@ module _ {base : Base} {text : List ℕ} {w bytes symbols read written : ℕ} {e
             }
 
 -- where no final group came before
-module _ {base : Base} {text : List ℕ} {w bytes symbols read written : ℕ} {output : List ℕ}
-    (s : IsUnderWay base text w bytes symbols read written false output) where
+module _ {base : Base} {text : List ℕ} {sizes : Sizes} {read written : ℕ} {output : List ℕ}
+    (s : IsUnderWay base text sizes read written false output) where
   module _ {skip : ℕ} (front : IsIgnoredFront base (drop read text) skip) where
     abbrev start : ℕ
     start = read + skip
@@ -289,7 +296,7 @@ module _ {base : Base} {text : List ℕ} {w bytes symbols read written : ℕ} {o
 
     -- a run has room
     pub room-next_run : length (take (length text - (read + skip)) (drop (read + skip) text))
-        / symbols * bytes ≤ length (take (length output - written) (drop written output))
+        / sizes.symbols * sizes.bytes ≤ length (take (length output - written) (drop written output))
     room-next_run =
         let dec = group_symbols base.width in
         let count = length (drop start text) / dec in
@@ -316,8 +323,8 @@ module _ {base : Base} {text : List ℕ} {w bytes symbols read written : ℕ} {o
           rw (rest_len, take_rest output written) (omega (arith, most, length-drop written output))
 
       pub after_run : 0 < count
-          → IsUnderWay base text w bytes symbols (read + skip + count * symbols)
-          (written + count * bytes) false (rewritten written output rest)
+          → IsUnderWay base text sizes (read + skip + count * sizes.symbols)
+          (written + count * sizes.bytes) false (rewritten written output rest)
       after_run some =
           let enc = group_bytes base.width in
           let new = rewritten written output rest in
@@ -338,16 +345,16 @@ module _ {base : Base} {text : List ℕ} {w bytes symbols read written : ℕ} {o
 
     -- what is gathered there is gathered from before them
     module _ {group : List ℕ} {span : ℕ}
-        (is : IsGathered base symbols
+        (is : IsGathered base sizes.symbols
         (take (length text - (read + skip)) (drop (read + skip) text)) group span) where
-      found_behind : IsGathered base symbols (drop skip (drop read text)) group span
+      found_behind : IsGathered base sizes.symbols (drop skip (drop read text)) group span
       found_behind = rw (take_rest text start, ← drop-drop skip read text) at is
 
       pub gathered-next : 0 < length group
-          → IsGathered base symbols (take (length text - read) (drop read text)) group (skip + span)
+          → IsGathered base sizes.symbols (take (length text - read) (drop read text)) group (skip + span)
       gathered-next some =
           rw (take_rest text read)
-          (gathered-behind base symbols (drop read text) group skip span front found_behind
+          (gathered-behind base sizes.symbols (drop read text) group skip span front found_behind
           (omega (arith, some, gathered-few found_behind)))
 
       pub decoded-none : {empty : Bool} → empty ≡ (length group == 0) → empty ≡ true
@@ -358,12 +365,12 @@ module _ {base : Base} {text : List ℕ} {w bytes symbols read written : ℕ} {o
 
   -- what a group does
   module _ {group : List ℕ} {span : ℕ}
-      (is : IsGathered base symbols (take (length text - read) (drop read text)) group span)
+      (is : IsGathered base sizes.symbols (take (length text - read) (drop read text)) group span)
       (some : 0 < length group) {count : ℕ} {rest : List ℕ}
       (rest_len : length rest
       ≡ length (take (length output - written) (drop written output)))
       (has : IsDecodedGroup base group count rest) where
-    whole : is_padded base ≡ true → length group ≡ symbols
+    whole : is_padded base ≡ true → length group ≡ sizes.symbols
     whole padded =
         let len = length-map group (meaning base) in
         sym len
@@ -372,12 +379,12 @@ module _ {base : Base} {text : List ℕ} {w bytes symbols read written : ℕ} {o
         padded
         ∙ sym s.symbols_is
 
-    few : w * count / 8 ≤ length rest
-    few = omega (arith, mul-le-mul_left w has.within, room-next_group s is whole, rest_len)
+    few : sizes.width * count / 8 ≤ length rest
+    few = omega (arith, mul-le-mul_left sizes.width has.within, room-next_group s is whole, rest_len)
 
     pub after_group : (stop : ℕ) {final : Bool} → read + span ≡ stop
         → (not base.concatenates && nat_lt count (length group)) ≡ final
-        → IsUnderWay base text w bytes symbols stop (written + w * count / 8) final
+        → IsUnderWay base text sizes stop (written + sizes.width * count / 8) final
         (rewritten written output rest)
     after_group stop {final} place is_final =
         let new = rewritten written output rest in
@@ -385,11 +392,11 @@ module _ {base : Base} {text : List ℕ} {w bytes symbols read written : ℕ} {o
         let same = same_bytes s is in
         further s (length-rewritten_same written output rest s.so_far.fits rest_len)
         (rw (← place, ← is_final, ← has.final, ← same)
-        (after-group base s.width text (w * count / 8) new s.so_far (next s is some)
+        (after-group base s.width text (sizes.width * count / 8) new s.so_far (next s is some)
         (rw (same, has.sound))
         (omega (arith, few, fits))
-        (take-rewritten written output rest s.so_far.fits (w * count / 8)
-        ∙ ap (λ l. take written output ++ l) (rw (← s.w_is, has.bytes, ← same)))))
+        (take-rewritten written output rest s.so_far.fits (sizes.width * count / 8)
+        ∙ ap (λ l. take written output ++ l) (rw (← s.width_is, has.bytes, ← same)))))
 
 -- what is found is a group where it is not empty
 pub some-group : {base : Base} {size : ℕ} {part group : List ℕ} {span : ℕ} {empty : Bool}
