@@ -1,6 +1,6 @@
 //! The symbols of data, group after group.
 
-ghost use Rattle.std.specs.Prelude.{◌≡◌, ℕ, ◌+◌, ◌-◌, ◌*◌, ◌/◌, ◌<◌, ◌≤◌, length, take};
+ghost use Rattle.std.specs.Prelude.{◌≡◌, ℕ, ◌+◌, ◌-◌, ◌*◌, ◌/◌, ◌<◌, ◌≤◌, ◌++◌, length, take, replicate};
 ghost use Rattle.std.proofs.Common.{lit<, lit≤};
 ghost use Rattle.data_encoding_kernel.specs.Tables.{IsTextBy};
 
@@ -137,8 +137,107 @@ impl EncodeTurn for EightGroups {
         input: &[u8],
         output: &mut [u8],
     ) {
-        encode_turns::<OneGroup, G>(symbols, order, input, output);
+        if G::SYMBOLS == 8 && G::BYTES > 1 {
+            encode_turns::<EightInRoom, G>(symbols, order, input, output);
+        } else {
+            encode_by_groups::<G>(symbols, order, input, output);
+        }
     }
+}
+
+// Group by group, with the order as a constant.
+#[inline(always)]
+fn encode_by_groups<G: GroupSize>(
+    symbols: &[u8; 256],
+    order: BitOrder,
+    input: &[u8],
+    output: &mut [u8],
+)
+    requires limit { length input.now ≤ ENCODE_LIMIT }
+    requires exact { length output.old ≡ (8 * length input.now + (G.WIDTH - 1)) / G.WIDTH }
+    ensures { IsTextBy symbols.now G.WIDTH order input.now output.new }
+{
+    match order {
+        BitOrder::MostSignificantFirst => encode_turns::<OneGroup, G>(
+            symbols,
+            BitOrder::MostSignificantFirst,
+            input,
+            output,
+        ),
+        BitOrder::LeastSignificantFirst => encode_turns::<OneGroup, G>(
+            symbols,
+            BitOrder::LeastSignificantFirst,
+            input,
+            output,
+        ),
+    }
+}
+
+/// Eight groups in lanes, with zeros in place of the bytes that are loaded after them. Groups of
+/// eight symbols take longer one by one; those of fewer do not.
+struct EightInRoom;
+
+impl EncodeTurn for EightInRoom {
+    ghost GROUPS = { 8 };
+
+    ghost AHEAD = { 0 };
+
+    ghost some_groups = { lit< tt };
+
+    ghost few_groups = { lit≤ tt };
+
+    const GROUPS: usize = 8;
+
+    const AHEAD: usize = 0;
+
+    #[inline(always)]
+    fn encode<G: GroupSize>(symbols: &[u8; 256], order: BitOrder, input: &[u8], output: &mut [u8]) {
+        encode_in_room::<G>(symbols, order, input, output);
+    }
+
+    // As many as two groups are encoded sooner one by one.
+    #[inline(always)]
+    fn encode_rest<G: GroupSize>(
+        symbols: &[u8; 256],
+        order: BitOrder,
+        input: &[u8],
+        output: &mut [u8],
+    ) {
+        if input.len() > 2 * G::BYTES {
+            encode_in_room::<G>(symbols, order, input, output);
+        } else {
+            encode_by_groups::<G>(symbols, order, input, output);
+        }
+    }
+}
+
+// Writes the text of at most eight groups.
+#[inline(always)]
+fn encode_in_room<G: GroupSize>(
+    symbols: &[u8; 256],
+    order: BitOrder,
+    input: &[u8],
+    output: &mut [u8],
+)
+    requires few { length input.now ≤ 8 * G.BYTES }
+    requires exact { length output.old ≡ (8 * length input.now + (G.WIDTH - 1)) / G.WIDTH }
+    ensures { IsTextBy symbols.now G.WIDTH order input.now output.new }
+{
+    let room = with_zeros(input);
+    let mut text = [0; 64];
+    encode_eight::<G>(symbols, order, &room, &mut text[..8 * G::SYMBOLS]);
+    output.copy_from_slice(&text[..output.len()]);
+}
+
+// The bytes, and zeros after them.
+#[inline(always)]
+fn with_zeros(input: &[u8]) -> [u8; 48]
+    requires { length input.now ≤ 48 }
+    ensures { result ≡ input.now ++ replicate (48 - length input.now) 0 }
+{
+    let mut room = [0; 48];
+    room[..input.len()].copy_from_slice(input);
+    room
 }
 
 /// One group as a word.

@@ -38,7 +38,10 @@ fn word_of_bytes<G: GroupSize>(order: BitOrder, input: &[u8]) -> u64
 {
     let count = G::BYTES;
     let mut word = 0;
-    for index in 0..input.len() {
+    for index in 0..count {
+        if index == input.len() {
+            break;
+        }
         word += (input[index] as u64) << weight_at(order, 8, count, index);
     }
     word
@@ -54,7 +57,10 @@ fn symbols_of_word<G: GroupSize>(symbols: &[u8; 256], order: BitOrder, word: u64
 {
     let width = G::WIDTH;
     let count = G::SYMBOLS;
-    for index in 0..output.len() {
+    for index in 0..count {
+        if index == output.len() {
+            break;
+        }
         let weight = weight_at(order, width, count, index);
         output[index] = symbols[byte_at(word, weight) as usize];
     }

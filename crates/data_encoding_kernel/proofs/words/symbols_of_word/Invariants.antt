@@ -1,4 +1,4 @@
-use Rattle.std.proofs.Common.{◌≡◌, length, map, take, slice_index}
+use Rattle.std.proofs.Common.{◌≡◌, ◌≤◌, length, map, take, slice_index}
 use Rattle.std.specs.List.{range_with_len}
 use Rattle.data_encoding_kernel.specs.Words.{low_byte}
 use Rattle.data_encoding_kernel.proofs.words.symbols_of_word.Given as goal
@@ -11,4 +11,5 @@ invariant-loop-index g l = record {
       k))
       (range_with_len 0 l.index);
   len : length l.output ≡ length l.fn.output;
+  within : l.index ≤ length l.output;
 }

@@ -1,5 +1,5 @@
-use Rattle.std.proofs.Common.{◌+◌, ◌*◌, ◌^◌, ◌<◌, ◌≤◌, take, slice_index, sym, ap, ◌∙◌, arith}
-use Rattle.std.proofs.lemmas.List.{take_more, length-take-le}
+use Rattle.std.proofs.Common.{◌+◌, ◌*◌, ◌^◌, ◌<◌, ◌≤◌, length, take, slice_index, sym, ap, ◌∙◌, arith}
+use Rattle.std.proofs.lemmas.List.{take_all, take_more, length-take-le}
 use Rattle.data_encoding_kernel.specs.Words.{weight, word_of}
 use Rattle.data_encoding_meaning.proofs.digits.SizeLemmas.{IsSmall-group}
 use Rattle.data_encoding_kernel.proofs.digits.WordLemmas.{word_of-nil, word_of-more, shifted-small, shifted-whole}
@@ -8,6 +8,7 @@ use Rattle.data_encoding_kernel.proofs.words.word_of_bytes.Goals as goal
 pub loop-index-init : goal.loop-index-init
 loop-index-init g c = record {
   so_far = sym (word_of-nil c.args.order 8 g.G.GroupSize.BYTES);
+  within = omega arith;
   small = omega arith;
 }
 
@@ -25,6 +26,8 @@ loop-index-preserved g c =
     let input = c.args.input.now in
     let byte = slice_index input index in
     let below : byte < 256 = (c.type_inv.input index).fits in
+    let inside : index < length input =
+    omega (arith, c.loop-index.invariant.within, c.if-index-input.false) in
     let few = IsSmall-group g.G.GroupSize.is_group in
     let fits : c.weight_at.result ≤ 40 = omega (arith, few.few_bytes) in
     let weight_is = c.weight_at.ensures.weight
@@ -37,6 +40,19 @@ loop-index-preserved g c =
           ∙ sym (word_of-more c.args.order 8 g.G.GroupSize.BYTES index (take index input) byte
           (length-take-le index input (omega arith)) (omega arith) below)
           ∙ ap (word_of c.args.order 8 g.G.GroupSize.BYTES)
-          (sym (take_more input index 0 (omega arith)));
+          (sym (take_more input index 0 inside));
+      within = omega (arith, inside);
       small = omega (arith, shifted-small byte c.weight_at.result below fits);
     }
+
+pub bounds-input-index : goal.bounds-input-index
+bounds-input-index g c = omega (arith, c.loop-index.invariant.within, c.if-index-input.false)
+
+pub returns-after-loop-index : goal.returns-after-loop-index
+returns-after-loop-index g c =
+    let index = c.loop-index.index in
+    let input = c.args.input.now in
+    let all : length input ≤ index =
+    omega (arith, c.requires, c.loop-index-test.false, c.loop-index.invariant.within) in
+    c.loop-index.invariant.so_far
+    ∙ ap (word_of c.args.order 8 g.G.GroupSize.BYTES) (take_all index input all)
