@@ -1,6 +1,6 @@
 //! Keys of a fixed size, faults that are told from the bytes of a text, and pairs of data or texts.
 
-ghost use Rattle.std.specs.Prelude.{◌≡◌, ◌↔◌, ◌≤◌, ◌+◌, ◌%◌, ℕ, List, [], ◌∷◌, ◌++◌, length, not, None, Some, Ok, Err, IsTrue, is_some, IfOk, IfSome, OnOk};
+ghost use Rattle.std.specs.Prelude.{◌≡◌, ◌↔◌, ◌≤◌, ◌+◌, ◌%◌, ℕ, List, [], ◌∷◌, ◌++◌, length, None, Some, Ok, Err, IsTrue, is_some, IfOk, IfSome, OnOk};
 ghost use Rattle.std.specs.String.{string_bytes};
 ghost use Rattle.data_encoding.specs.Canonical.{AreTwoTexts};
 ghost use Rattle.data_encoding.specs.Eighteen.{Yields};
@@ -11,6 +11,7 @@ ghost use Rattle.data_encoding.specs.Predefined.{base32hex_nopad_fields, base64_
 ghost use Rattle.data_encoding.specs.Text.{text_of};
 ghost use Rattle.data_encoding.specs.Told.{is_other};
 
+use data_encoding::laws::steps::whole_groups;
 use data_encoding::laws::{
     canonical, eighteen, fault_stays, fault_told, injective, not_canonical, order, tight,
 };
@@ -43,11 +44,11 @@ pub fn key_of(token: &[u8]) -> Option<[u8; 16]>
     }
 }
 
-/// Whether a byte is a lower-case hexadecimal digit.
-fn is_digit(byte: u8) -> bool
-    ensures { Yields (λ base. result ≡ not (is_other base byte)) hexlower_fields }
+// Whether a byte is no symbol.
+fn is_no_symbol(encoding: &Encoding, byte: u8) -> bool
+    ensures { result ≡ is_other encoding.now byte }
 {
-    matches!(byte, b'0'..=b'9' | b'a'..=b'f')
+    encoding.interpret_byte(byte).is_symbol().is_none()
 }
 
 /// Where the first byte is that is no lower-case hexadecimal digit. There HEXLOWER finds the fault
@@ -63,8 +64,7 @@ pub fn first_wrong(text: &[u8]) -> Option<usize>
     eighteen();
     fault_told();
     let encoding = hexlower();
-    text.iter()
-        .position(|byte| encoding.interpret_byte(*byte).is_symbol().is_none())
+    text.iter().position(|byte| is_no_symbol(&encoding, *byte))
 }
 
 /// Whether two keys are equal, which is seen from their texts: those of keys of different length
@@ -97,32 +97,28 @@ pub fn is_digest(text: &[u8]) -> bool
     text.len() == hexlower_permissive().encode_len(20)
 }
 
-/// Where the fault of a text is, from the end of its front on: a front that means data, of whole
-/// groups, has no fault. There is none where the text has no fault, or the front has one.
-pub fn place_behind(
-    alloc: Global,
-    front: &[u8],
-    text: &[u8],
-) -> Result<Option<usize>, AllocError>
+/// How far behind a front of whole groups the fault of a text is: a front that means data has none.
+/// There is no such place where the text has no fault, or the front has one.
+pub fn place_behind(alloc: Global, text: &[u8], len: usize) -> Result<Option<usize>, AllocError>
     requires limit { length text.now ≤ DECODE_LIMIT }
-    requires whole { length front.now % 4 ≡ 0 }
-    requires begins { (after : List ℕ) × (text.now ≡ front.now ++ after) }
+    requires within { len ≤ length text.now }
+    requires whole { len % 4 ≡ 0 }
     ensures { Yields (λ base. IfOk result (λ found. IfSome found (λ place. (kind : DecodeKind)
         × (fault_of base text.now
-        ≡ Some (record { position = length front.now + place; kind = kind })))))
+        ≡ Some (record { position = len + place; kind = kind })))))
         base64_nopad_fields }
 {
     eighteen();
     fault_stays();
+    whole_groups();
     let encoding = base64_nopad();
-    match encoding.decode(alloc, front) {
-        Ok(_) => {}
-        Err(DecodeFault::Error(_)) => return Ok(None),
-        Err(DecodeFault::OutOfMemory) => return Err(AllocError),
-    }
-    match encoding.decode(alloc, text) {
-        Ok(_) => Ok(None),
-        Err(DecodeFault::Error(error)) => Ok(Some(error.position - front.len())),
+    match encoding.decode(alloc, &text[..len]) {
+        Ok(_) => match encoding.decode(alloc, text) {
+            Ok(_) => Ok(None),
+            Err(DecodeFault::Error(error)) => Ok(Some(error.position - len)),
+            Err(DecodeFault::OutOfMemory) => Err(AllocError),
+        },
+        Err(DecodeFault::Error(_)) => Ok(None),
         Err(DecodeFault::OutOfMemory) => Err(AllocError),
     }
 }

@@ -1,15 +1,12 @@
 -- Texts that were received, in two encodings that differ in their symbols alone.
-use Rattle.std.proofs.Common.{◌≡◌, ◌↔◌, ℕ, ◌+◌, ◌^◌, ◌<◌, ◌≤◌, Bool, true, false, not, cond, List, [], ◌∷◌, ◌++◌, length, map, replicate, Option, Some, None, is_some, unwrap_or, All, refl, sym, ap, ◌∙◌, subst, arith, ⊎_elim}
-use Rattle.std.proofs.lemmas.Bool.{cases_lt, false≢true}
-use Rattle.std.proofs.lemmas.List.{get_or_past}
-use Rattle.std.proofs.lemmas.List.Elements.{All-from_get_or, recursion_from_All, All-from_recursion}
+use Rattle.std.proofs.Common.{◌≡◌, ℕ, ◌^◌, ◌<◌, Bool, true, false, not, cond, List, [], ◌∷◌, map, replicate, Option, Some, None, is_some, unwrap_or, refl, sym, ap, ◌∙◌, subst, arith}
+use Rattle.std.proofs.lemmas.List.Elements.{All-from_get_or, recursion_from_All}
 use Rattle.std.proofs.lemmas.List.Folds.{list_any_none}
 use Rattle.std.specs.List.{AllByRecursion, filter, list_all}
 use Rattle.std.specs.Prelude.{flat_map}
 use Rattle.data_encoding_meaning.specs.declared.encoding.Character.{Character}
 use Rattle.data_encoding_meaning.specs.declared.encoding.Character.TheVariants.{Symbol, Padding, Ignored, Invalid}
-use Rattle.data_encoding_meaning.specs.text.Base.{Base, IsWidth, meaning, symbol, is_ignored, is_invalid, is_padded, ignores_some, group_symbols}
-use Rattle.data_encoding_meaning.specs.text.Bits.{runs}
+use Rattle.data_encoding_meaning.specs.text.Base.{Base, IsWidth, meaning, is_ignored, is_invalid, ignores_some, group_symbols}
 use Rattle.data_encoding_meaning.specs.text.Grammar.{GroupsMean, Means, kept, groups, meanings_in}
 use Rattle.data_encoding_meaning.specs.decoding.Fault.{fault_of}
 use Rattle.data_encoding_meaning.specs.laws.SameMeaning.{DifferInSymbols, DifferInSymbolsAlone, IsInvalidInBoth, exchanged, exchanged_text}

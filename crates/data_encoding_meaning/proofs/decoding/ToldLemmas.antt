@@ -1,23 +1,20 @@
 -- The fault of a text without padding and ignored bytes is that of its bytes.
-use Rattle.std.proofs.Common.{◌≡◌, ◌↔◌, ℕ, zero, suc, ◌+◌, ◌-◌, ◌*◌, ◌/◌, ◌%◌, ◌<◌, ◌≤◌, ◌==◌, ◌⊎◌, inl, inr, nat_lt, Bool, true, false, not, ◌&&◌, cond, List, [], ◌∷◌, ◌++◌, length, map, take, drop, Option, Some, None, is_some, refl, sym, ap, ◌∙◌, arith, length-append, take-append-drop, length-take-le, ⊎_elim}
+use Rattle.std.proofs.Common.{◌≡◌, ◌↔◌, ℕ, ◌+◌, ◌-◌, ◌*◌, ◌/◌, ◌%◌, ◌<◌, ◌≤◌, ◌⊎◌, inl, inr, Bool, true, false, not, ◌&&◌, cond, List, [], ◌∷◌, ◌++◌, length, map, take, drop, Option, Some, None, refl, sym, ap, ◌∙◌, arith, length-append, take-append-drop, length-take-le, ⊎_elim}
 use Rattle.std.proofs.lemmas.Bool.{cases_lt}
 use Rattle.std.proofs.lemmas.Bool.Decides.{nat_tests}
-use Rattle.std.proofs.lemmas.List.{length-map, length-drop, map-append, drop_all, take_at, drop_at, append-nil}
+use Rattle.std.proofs.lemmas.List.{length-map, length-drop, map-append, drop_all}
 use Rattle.std.proofs.lemmas.List.Elements.{filter_map-append}
 use Rattle.std.proofs.lemmas.List.Concat.{flat_map-append}
 use Rattle.std.proofs.lemmas.Iterator.Adapters.{position_from-zero}
 use Rattle.std.proofs.Math.Bool.{and-false}
 use Rattle.std.proofs.Math.Seq.{drop-append-add}
-use Rattle.std.specs.Prelude.{flat_map}
-use Rattle.std.specs.List.{AllByRecursion, list_any, filter_map, position, position_from}
+use Rattle.std.specs.List.{list_any, filter_map, position, position_from}
 use Rattle.data_encoding_meaning.specs.declared.encoding.Character.{Character}
-use Rattle.data_encoding_meaning.specs.declared.encoding.Character.TheVariants.{Symbol}
 use Rattle.data_encoding_meaning.specs.declared.error.DecodeError.{DecodeError}
-use Rattle.data_encoding_meaning.specs.declared.error.DecodeKind.{DecodeKind}
 use Rattle.data_encoding_meaning.specs.declared.error.DecodeKind.TheVariants.{Symbol as SymbolFault, Trailing as TrailingFault}
 use Rattle.data_encoding_meaning.specs.text.Base.{Base, IsWidth, meaning, is_padded, is_padding, is_symbol, ignores_some, group_symbols, group_bytes, value_of}
 use Rattle.data_encoding_meaning.specs.text.Bits.{runs}
-use Rattle.data_encoding_meaning.specs.text.Grammar.{Positioned, groups, is_final, kept, meanings_in, positioned_from, bytes_in}
+use Rattle.data_encoding_meaning.specs.text.Grammar.{Positioned, is_final, meanings_in, positioned_from}
 use Rattle.data_encoding_meaning.specs.text.Lengths.{is_valid_count, length_fault}
 use Rattle.data_encoding_meaning.specs.decoding.Fault.{fault_of, fault_after, fault_at_first, faulty_at, first_after, located, or_else, symbol_bits, symbols_fault, trailing_bits}
 use Rattle.data_encoding_meaning.specs.laws.Told.{first_other, is_other, leaves_bits, told_by, told_fault}
@@ -173,13 +170,13 @@ module _ (base : Base) where
       (by first later (leaves_bits base (text ++ after)) (leaves_bits base text)
       (leaves_bits base after) (start + length text) (start + length text + length after)
       (λ none. leaves-behind text after whole bits (from-none (is_other base) start text none)))
-      where
-        by : (o p : Option ℕ) (both here there : Bool) (middle end : ℕ)
-            → (o ≡ None → (both ≡ there) × (here ≡ false))
-            → told_by (or_later o p) both end
-            ≡ or_else (told_by o here middle) (told_by p there end)
-        by None p both here there middle end h = rw ((h refl).0, (h refl).1)
-        by (Some index) p both here there middle end h = refl
+    where
+      by : (o p : Option ℕ) (both here there : Bool) (middle end : ℕ)
+          → (o ≡ None → (both ≡ there) × (here ≡ false))
+          → told_by (or_later o p) both end
+          ≡ or_else (told_by o here middle) (told_by p there end)
+      by None p both here there middle end h = rw ((h refl).0, (h refl).1)
+      by (Some index) p both here there middle end h = refl
 
   -- Bytes in a row, that begin somewhere, are judged as they tell.
   module _ (start : ℕ) (text : List ℕ) (some : 0 < length text) where

@@ -1,5 +1,5 @@
 -- Texts one after the other.
-use Rattle.std.proofs.Common.{◌≡◌, ℕ, ◌⊎◌, flat_map, ◌+◌, ◌%◌, Bool, true, false, not, ◌&&◌, List, [], ◌∷◌, ◌++◌, length, Option, is_some, inl, inr, sym, ap, ◌∙◌, arith, append_assoc, map}
+use Rattle.std.proofs.Common.{◌≡◌, ℕ, ◌⊎◌, flat_map, ◌+◌, ◌%◌, Bool, true, false, not, ◌&&◌, List, [], ◌∷◌, ◌++◌, length, is_some, inl, inr, sym, ap, ◌∙◌, arith, append_assoc, map}
 use Rattle.std.proofs.Math.Nat.{mul-mod_left}
 use Rattle.std.proofs.lemmas.List.Elements.{All-filter, All-map, recursion_from_All}
 use Rattle.std.specs.Prelude.{All}

@@ -1,5 +1,5 @@
 -- Worked rows of the laws: what each says of some data and texts.
-use Rattle.std.proofs.Common.{◌≡◌, ◌↔◌, ℕ, ◌<◌, ◌≤◌, true, false, List, [], ◌∷◌, ◌++◌, length, codes, All, Some, None, Ok, refl, ap, arith, lit<}
+use Rattle.std.proofs.Common.{◌≡◌, ◌↔◌, ℕ, ◌<◌, ◌≤◌, true, false, List, [], ◌∷◌, ◌++◌, length, codes, Some, None, Ok, refl, ap, arith, lit<}
 use Rattle.std.proofs.lemmas.Bool.{false≢true}
 use Rattle.std.proofs.lemmas.List.Elements.{All-from_recursion}
 use Rattle.data_encoding_meaning.specs.declared.encoding.BitOrder.TheVariants.{MostSignificantFirst}
@@ -11,11 +11,11 @@ use Rattle.data_encoding_meaning.specs.text.Grammar.{Means}
 use Rattle.data_encoding_meaning.specs.text.Text.{text_of}
 use Rattle.data_encoding_meaning.specs.decoding.Fault.{fault_of}
 use Rattle.data_encoding_meaning.specs.specification.Fields.{Fields, IsSpecified, base_of}
-use Rattle.data_encoding_meaning.specs.specification.Predefined.{base64_fields, base64_mime_fields, base64_nopad_fields, base64url_fields, hexlower_fields, hexlower_permissive_fields, translated_fields, unpadded_fields}
-use Rattle.data_encoding_meaning.specs.laws.Canonical.{AreTwoTexts, NotCanonical, trailing_text}
+use Rattle.data_encoding_meaning.specs.specification.Predefined.{base64_fields, base64_mime_fields, base64_nopad_fields, base64url_fields, hexlower_fields, hexlower_permissive_fields, translated_fields}
+use Rattle.data_encoding_meaning.specs.laws.Canonical.{AreTwoTexts, NotCanonical}
 use Rattle.data_encoding_meaning.specs.laws.FaultStays.{FaultStays, GroupFaultStays, NoFaultBefore}
 use Rattle.data_encoding_meaning.specs.laws.Laws.{NoOrder, Order}
-use Rattle.data_encoding_meaning.specs.laws.Order.{BreaksOrder, IsBefore, KeepsOrder}
+use Rattle.data_encoding_meaning.specs.laws.Order.{BreaksOrder, KeepsOrder}
 use Rattle.data_encoding_meaning.specs.laws.Rules.{EighteenRules}
 use Rattle.data_encoding_meaning.specs.laws.SameMeaning.{DifferInSymbolsAlone, FaultExchanged, MeansExchanged, SameInBoth}
 use Rattle.data_encoding_meaning.specs.laws.Tight.{LengthOfText}

@@ -1,5 +1,4 @@
 use Rattle.std.proofs.Common.{◌∙◌, sym, ap, is_some, length}
-use Rattle.data_encoding_meaning.specs.text.Base.{ignores_some}
 use Rattle.data_encoding_meaning.specs.laws.Told.{first_other, leaves_bits}
 use Rattle.data_encoding_meaning.proofs.decoding.ToldLemmas.{fault-told, leaves-some, symbol-told, trailing-told, whole-told}
 use Rattle.data_encoding_meaning.proofs.decoding.WholeLengthLemmas.{joins-unpadded}
