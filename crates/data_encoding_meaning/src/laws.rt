@@ -22,8 +22,9 @@ pub fn specification_again()
     ensures { SpecificationAgain }
 {}
 
-/// The rules of each of the eighteen, by names: the width and the order of bits, padding, lines, the
-/// bytes that are ignored, whether trailing bits are checked, and whether texts may be concatenated.
+/// The rules of each of the eighteen, by names: the width and the order of bits, padding, lines,
+/// the bytes that are ignored, whether trailing bits are checked, and whether texts may be
+/// concatenated.
 pub fn eighteen()
     ensures { EighteenRules }
 {}
@@ -173,11 +174,11 @@ pub fn translated()
 /// alone: the text of data in the other is that in the first, with each symbol exchanged for the
 /// other's symbol of the same value, and each padding character for the other's.
 ///
-/// Where specifications yield both, and they check trailing bits alike, concatenate alike and ignore
-/// the same bytes, this is so of any text: exchanged, it means the same data; and it has the same
-/// fault at the same position, if no byte that is invalid in the first means something in the other.
-/// More generally, texts whose bytes mean the same in each, one by one, have the same fault and mean
-/// the same.
+/// Where specifications yield both, and they check trailing bits alike, concatenate alike and
+/// ignore the same bytes, this is so of any text: exchanged, it means the same data; and it has the
+/// same fault at the same position, if no byte that is invalid in the first means something in the
+/// other. More generally, texts whose bytes mean the same in each, one by one, have the same fault
+/// and mean the same.
 pub fn same_but_symbols()
     ensures text { SameButSymbols }
     ensures both { SameInBoth }

@@ -69,8 +69,8 @@ pub fn decode_kept(
     }
 }
 
-/// The fault of a text that begins like this, if it has one so far, whatever follows: that of one of
-/// its whole groups. An unfinished group at the end is not judged.
+/// The fault of a text that begins like this, if it has one so far, whatever follows: that of one
+/// of its whole groups. An unfinished group at the end is not judged.
 pub fn fault_so_far(encoding: &Encoding, front: &[u8], output: &mut [u8]) -> Option<DecodeError>
     requires limit { length front.now ≤ DECODE_LIMIT }
     requires room { length front.now + 7 ≤ length output.old }

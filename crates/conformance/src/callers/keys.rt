@@ -21,8 +21,8 @@ use data_encoding::{
 };
 use std::alloc::{AllocError, Global};
 
-/// The key of 16 bytes that a token in BASE64URL_NOPAD means, where it means as many. No other token
-/// means it.
+/// The key of 16 bytes that a token in BASE64URL_NOPAD means, where it means as many. No other
+/// token means it.
 pub fn key_of(token: &[u8]) -> Option<[u8; 16]>
     ensures text { Yields (λ base. IfSome result (λ key. token.now ≡ text_of base key))
         base64url_nopad_fields }

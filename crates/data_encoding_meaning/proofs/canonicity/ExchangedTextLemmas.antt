@@ -42,7 +42,8 @@ ignores-none base other ruled same none =
     (All-from_get_or (λ m. is_ignored m ≡ false) other.meanings Invalid
     (λ byte within. by byte (ignores other byte) refl)) where
       by : (byte : ℕ) (b : Bool) → ignores other byte ≡ b → b ≡ false
-      by byte true is = sym (ignored-too other base ruled same byte is) ∙ never_ignored base none byte
+      by byte true is =
+          sym (ignored-too other base ruled same byte is) ∙ never_ignored base none byte
       by byte false is = refl
 
 -- what a text that means something holds is not invalid

@@ -96,7 +96,8 @@ module _ {X : Type 0} (test : X → Bool) where
 from-map : {X Y : Type 0} (f : X → Y) (test : Y → Bool) (start : ℕ) (xs : List X)
     → position_from test start (map f xs) ≡ position_from (λ x. test (f x)) start xs
 from-map f test start [] = refl
-from-map f test start (x ∷ xs) = ap (cond (test (f x)) (Some start)) (from-map f test (start + 1) xs)
+from-map f test start (x ∷ xs) =
+    ap (cond (test (f x)) (Some start)) (from-map f test (start + 1) xs)
 
 -- a place behind a front
 drop-past : {X : Type 0} (front back : List X) (len count : ℕ) → length front ≡ len
@@ -144,7 +145,8 @@ module _ (base : Base) where
   leaves-behind text after whole bits all =
       let ms = map (meaning base) text in
       let long : length (symbol_bits base ms) ≡ 8 * whole =
-      symbols-long ms (fail-map text all) ∙ ap (λ n. base.width * n) (length-map text (meaning base))
+      symbols-long ms (fail-map text all)
+      ∙ ap (λ n. base.width * n) (length-map text (meaning base))
       ∙ bits in (
         rw (map-append, trailing-behind ms (map (meaning base) after) whole long),
         rw (trailing-whole ms whole long, and-false base.checks_trailing_bits),
@@ -208,7 +210,8 @@ module _ (base : Base) where
         (located-told first (leaves_bits base text)
         (λ index h. omega (arith, from-within (is_other base) 0 index text h)))
 
-    module _ (unpadded : is_padded base ≡ false) (valid : is_valid_count base.width (length text) ≡ true)
+    module _ (unpadded : is_padded base ≡ false)
+        (valid : is_valid_count base.width (length text) ≡ true)
       where
         judged-told : fault_after false base (positioned_from start text) ≡ told_from start text
         judged-told =

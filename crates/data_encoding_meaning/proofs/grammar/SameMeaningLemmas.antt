@@ -110,7 +110,8 @@ module _ (base like : Base) (padded : is_padded base ≡ is_padded like) where
       ap (ends_text base) (meanings-seen ks js here) in
       (λ i. or_else (fault_after-seen ended ks js here i)
       (first_after (final i) base gs))
-      ∙ ap (or_else (fault_after ended other js)) (first_after-seen (is_final other js) gs hs others)
+      ∙ ap (or_else (fault_after ended other js))
+      (first_after-seen (is_final other js) gs hs others)
 
   -- what symbols mean is decided by the fields that are equal
   plain-alike : (group : List Character) (bytes : List ℕ) → PlainMeans base group bytes
@@ -173,7 +174,8 @@ module _ (base like : Base) (padded : is_padded base ≡ is_padded like) where
         → fault_of base text ≡ fault_of other another
     fault_of-alike ignores =
         let len : length text ≡ length another =
-        sym (length-map text (meaning base)) ∙ ap length same ∙ length-map another (meaning other) in
+        sym (length-map text (meaning base)) ∙ ap length same
+        ∙ length-map another (meaning other) in
         (λ i. or_else (length_fault base (len i)) (first_after false base (groups base text)))
         ∙ (λ i. or_else (length_fault-alike ignores (length another) i)
         (first_after-seen false (groups base text) (groups other another) groups-seen i))

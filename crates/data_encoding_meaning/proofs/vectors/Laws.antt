@@ -43,29 +43,29 @@ keys_differ law base is same =
 lengths_told : LengthOfText → (text : List ℕ)
     → Means (built hexlower_permissive_fields) text (74 ∷ 107 ∷ []) → length text ≡ 4
 lengths_told law text means =
-    law (built hexlower_permissive_fields) (is_yielded hexlower_permissive_fields refl) refl refl text
-    (74 ∷ 107 ∷ []) (0 ∷ 0 ∷ []) means refl
+    law (built hexlower_permissive_fields) (is_yielded hexlower_permissive_fields refl) refl refl
+    text (74 ∷ 107 ∷ []) (0 ∷ 0 ∷ []) means refl
 
 -- the fault of a whole group, with an unfinished one behind it, and what follows
 fault_stayed : GroupFaultStays
     → fault_of (built base64_nopad_fields) (codes "SG!sQ" ++ codes "UI") ≡ Some (at Symbol 2)
 fault_stayed law =
-    law (built base64_nopad_fields) (is_yielded base64_nopad_fields refl) (codes "SG!sQ") (codes "UI")
-    (at Symbol 2) refl refl
+    law (built base64_nopad_fields) (is_yielded base64_nopad_fields refl) (codes "SG!sQ")
+    (codes "UI") (at Symbol 2) refl refl
 
 text_fault_stayed : FaultStays
     → fault_of (built base64_nopad_fields) (codes "SG!s" ++ codes "QUI") ≡ Some (at Symbol 2)
 text_fault_stayed law =
-    law (built base64_nopad_fields) (is_yielded base64_nopad_fields refl) (codes "SG!s") (codes "QUI")
-    (at Symbol 2) refl refl refl
+    law (built base64_nopad_fields) (is_yielded base64_nopad_fields refl) (codes "SG!s")
+    (codes "QUI") (at Symbol 2) refl refl refl
 
 -- behind a sound group, any fault is further on
 none_before : NoFaultBefore → (after : List ℕ) (error : DecodeError)
     → fault_of (built base64_nopad_fields) (codes "SGVs" ++ after) ≡ Some error
     → 4 ≤ error.position
 none_before law after error =
-    law (built base64_nopad_fields) (is_yielded base64_nopad_fields refl) (codes "SGVs") after error refl
-    refl
+    law (built base64_nopad_fields) (is_yielded base64_nopad_fields refl) (codes "SGVs") after error
+    refl refl
 
 -- an encoding without lines that keeps order has the most significant bit first
 order_told : Order → (base : Base) → IsSpecified base → base.wrapping ≡ None → KeepsOrder base
@@ -88,12 +88,13 @@ second_texts : NotCanonical
     × AreTwoTexts (built (translated_fields single_fields (codes "~") (codes "=")))
     (codes "AA==") (codes "AA=~") (0 ∷ [])
 second_texts law =
-    let tilde = translated_fields single_fields (codes "~") (codes "=") in (
+    let tilde = translated_fields single_fields (codes "~") (codes "=") in
+    let unchecked_fields = unchecked base64_nopad_fields in
+    let lower = hexlower_permissive_fields in (
       (law (built base64_mime_fields) (is_yielded base64_mime_fields refl)).0 10 refl,
-      (law (built (unchecked base64_nopad_fields)) (is_yielded (unchecked base64_nopad_fields) refl)).1
-          refl,
+      (law (built unchecked_fields) (is_yielded unchecked_fields refl)).1 refl,
       (law (built base64_fields) (is_yielded base64_fields refl)).2 refl refl,
-      (law (built hexlower_permissive_fields) (is_yielded hexlower_permissive_fields refl)).3 65 10 refl
+      (law (built lower) (is_yielded lower refl)).3 65 10 refl
           (λ same. let no : 97 ≡ 65 = same in omega (arith, no)),
       (law (built tilde) (is_yielded tilde refl)).4 126 61 refl refl
           (λ same. let no : 61 ≡ 126 = same in omega (arith, no)),

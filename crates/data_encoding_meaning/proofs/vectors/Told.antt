@@ -23,7 +23,8 @@ faults_told : Hold (λ text. by (λ base. told_fault base text) base64_nopad_fie
 faults_told = refl
 
 -- which is none where bits are not checked
-faults_unchecked : Hold (λ text. by (λ base. told_fault base text) (unchecked base64_nopad_fields)) (
+faults_unchecked : Hold (λ text.
+    by (λ base. told_fault base text) (unchecked base64_nopad_fields)) (
     (codes "SGVsbG9", Some None)
     ∷ (codes "SGVsb-9", at Symbol 5)
     ∷ [])
