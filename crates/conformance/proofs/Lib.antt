@@ -7,3 +7,4 @@ pub mod StreamedLemmas
 pub mod RewrittenLemmas
 pub mod ResumedLemmas
 pub mod LowerLemmas
+pub mod KeyLemmas

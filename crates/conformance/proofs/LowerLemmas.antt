@@ -1,11 +1,8 @@
 -- Names of BASE32_DNSSEC in lower case.
-use Rattle.std.proofs.Common.{◌≡◌, ◌↔◌, ℕ, ◌+◌, ◌<◌, ◌≤◌, ◌==◌, nat_le, if◌then◌else◌, ◌&&◌, ◌⊎◌, Bool, true, false, IsTrue, List, length, None, unwrap_or, Ok, refl, sym, ap, ◌∙◌, subst, arith, zero-add, ⊎_elim}
+use Rattle.std.proofs.Common.{◌≡◌, ◌↔◌, ℕ, ◌+◌, ◌<◌, ◌≤◌, ◌==◌, nat_le, if◌then◌else◌, ◌&&◌, Bool, true, false, IsTrue, List, length, None, unwrap_or, Ok, sym, ap, ◌∙◌, subst, arith, ⊎_elim}
 use Rattle.std.proofs.lemmas.List.{get_or_past}
 use Rattle.std.proofs.lemmas.Bool.{cases_lt, eqb-true}
 use Rattle.std.proofs.lemmas.Bool.Decides.{nat_tests}
-use Rattle.std.proofs.lemmas.List.Elements.{All-get_or}
-use Rattle.std.proofs.lemmas.List.FromFn.{get_or-range_with_len, length-range_with_len}
-use Rattle.std.proofs.lemmas.List.Sums.{AllPass-from_list_all}
 use Rattle.std.specs.List.{list_all, range_with_len}
 use Rattle.data_encoding.specs.declared.encoding.Character.TheVariants.{Invalid}
 use Rattle.data_encoding.specs.Base.{Base}
@@ -18,7 +15,7 @@ use Rattle.data_encoding.specs.Order.{IsBefore, IsOrdered}
 use Rattle.data_encoding.specs.Predefined.{base32_dnssec_fields}
 use Rattle.data_encoding.specs.SameMeaning.{OwnText, exchanged, has_one_own_form, own_form}
 use Rattle.data_encoding.specs.Text.{text_of}
-use Rattle.conformance.proofs.RewrittenLemmas.{known, specified_by}
+use Rattle.conformance.proofs.RewrittenLemmas.{each_byte, known, specified_by}
 
 -- a byte in lower case, where it is a letter up to V
 abbrev pub lowered : ℕ → ℕ
@@ -48,12 +45,8 @@ module _ (base : Base) (is : base_of base32_dnssec_fields ≡ Ok base) where
   own_lowered byte =
       ⊎_elim {C = lowered byte ≡ exchanged base base byte}
       (λ (low : byte < 128).
-      let each = All-get_or (λ n. is_own base n ≡ true) (range_with_len 0 128) byte 0
-      (omega (arith, low, length-range_with_len 0 128))
-      (AllPass-from_list_all (is_own base) (range_with_len 0 128) computed) in
-      let here = get_or-range_with_len 0 128 byte 0 low ∙ zero-add byte in
       sym (eqb-true (exchanged base base byte) (lowered byte)
-      (sym (ap (is_own base) here) ∙ each)))
+      (each_byte (is_own base) computed byte low)))
       (λ (high : 128 ≤ byte).
       let none = get_or_past base.meanings byte Invalid (omega (arith, high, long)) in
       sym (lowered-other byte (λ low few. omega (arith, high, few)))

@@ -1,5 +1,5 @@
 -- Facts of three of the encodings, which are computed, and what texts have in common.
-use Rattle.std.proofs.Common.{◌≡◌, ◌↔◌, ℕ, zero, suc, ◌+◌, ◌<◌, ◌≤◌, ◌==◌, Bool, true, false, ◌||◌, IsTrue, List, [], ◌∷◌, ◌++◌, length, map, take, drop, get_or, set, None, unwrap_or, Result, Ok, Err, refl, sym, ap, ◌∙◌, subst, arith, zero-add, ⊎_elim}
+use Rattle.std.proofs.Common.{◌≡◌, ◌↔◌, ℕ, zero, suc, ◌+◌, ◌<◌, ◌≤◌, ◌==◌, Bool, true, false, ◌||◌, not, IsTrue, List, [], ◌∷◌, ◌++◌, length, map, is_some, take, drop, get_or, set, unwrap_or, Result, Ok, Err, refl, sym, ap, ◌∙◌, subst, arith, zero-add, ⊎_elim}
 use Rattle.std.proofs.lemmas.List.{append-nil, drop_all, get_or-map, get_or_past, length-map, map_more, take_all}
 use Rattle.std.proofs.lemmas.Bool.{cases_lt}
 use Rattle.std.proofs.lemmas.Bool.Decides.{nat_tests}
@@ -7,16 +7,16 @@ use Rattle.std.proofs.lemmas.List.Elements.{All-get_or}
 use Rattle.std.proofs.lemmas.List.FromFn.{get_or-range_with_len, length-range_with_len}
 use Rattle.std.proofs.lemmas.List.Sums.{AllPass-from_list_all}
 use Rattle.std.specs.List.{list_all, range_with_len}
-use Rattle.data_encoding.specs.declared.encoding.BitOrder.TheVariants.{LeastSignificantFirst}
 use Rattle.data_encoding.specs.declared.encoding.Character.TheVariants.{Invalid}
 use Rattle.data_encoding.specs.declared.specification.meanings.Refusal.{Refusal}
 use Rattle.data_encoding.specs.Layout.{own_character}
-use Rattle.data_encoding.specs.Base.{Base, is_padded, meaning}
+use Rattle.data_encoding.specs.Base.{Base, is_invalid, meaning}
 use Rattle.data_encoding.specs.Fields.{Fields, IsSpecified, base_of}
 use Rattle.data_encoding.specs.Grammar.{Means}
 use Rattle.data_encoding.specs.Laws.{OneMeaning}
 use Rattle.data_encoding.specs.Predefined.{base32_dnssec_fields, base64_fields, base64url_fields}
-use Rattle.data_encoding.specs.SameMeaning.{DifferInSymbols, OwnForm, OwnForms, Translated, exchanged, has_one_own_form}
+use Rattle.data_encoding.specs.Rules.{EighteenRules}
+use Rattle.data_encoding.specs.SameMeaning.{DifferInSymbolsAlone, OwnForm, OwnForms, Translated, exchanged, has_one_own_form}
 use Rattle.conformance.proofs.YieldLemmas.{same_yield}
 
 -- what is known of the base of some fields is computed
@@ -30,6 +30,15 @@ known f otherwise fields base is = sym (ap (got f otherwise) is)
 
 pub specified_by : (fields : Fields) (base : Base) → base_of fields ≡ Ok base → IsSpecified base
 specified_by fields base is = record { fields = fields; yields = is }
+
+-- what is computed of each byte below 128
+pub each_byte : (test : ℕ → Bool) → list_all test (range_with_len 0 128) ≡ true → (byte : ℕ)
+    → byte < 128 → test byte ≡ true
+each_byte test all byte low =
+    let each = All-get_or (λ n. test n ≡ true) (range_with_len 0 128) byte 0
+    (omega (arith, low, length-range_with_len 0 128))
+    (AllPass-from_list_all test (range_with_len 0 128) all) in
+    sym (ap test (get_or-range_with_len 0 128 byte 0 low ∙ zero-add byte)) ∙ each
 
 -- Two names of DNSSEC.
 module _ (base : Base) (is : base_of base32_dnssec_fields ≡ Ok base)
@@ -100,17 +109,22 @@ module _ (base : Base) (one other : List ℕ) where
 -- Base64 and base64url.
 module _ (base url : Base) (is : base_of base64_fields ≡ Ok base)
     (also : base_of base64url_fields ≡ Ok url) where
-  pub differ : DifferInSymbols base url
-  differ = record {
-    width = known (λ b. b.width) 0 base64_fields base is
-        ∙ sym (known (λ b. b.width) 0 base64url_fields url also);
-    order = known (λ b. b.order) LeastSignificantFirst base64_fields base is
-        ∙ sym (known (λ b. b.order) LeastSignificantFirst base64url_fields url also);
-    padded = known is_padded false base64_fields base is
-        ∙ sym (known is_padded false base64url_fields url also);
-    wrapping = known (λ b. b.wrapping) None base64_fields base is
-        ∙ sym (known (λ b. b.wrapping) None base64url_fields url also);
-  }
+  -- by the rules of both
+  pub differ : EighteenRules → DifferInSymbolsAlone base url
+  differ rules =
+      let one = rules.base64 base is in
+      let other = rules.base64url url also in
+      record {
+        in_symbols = record {
+          width = one.width ∙ sym other.width;
+          order = one.order ∙ sym other.order;
+          padded = ap is_some (one.padding ∙ sym other.padding);
+          wrapping = one.wrapping ∙ sym other.wrapping;
+        };
+        checks = one.checks ∙ sym other.checks;
+        concatenates = one.concatenates ∙ sym other.concatenates;
+        ignored = one.ignored ∙ sym other.ignored;
+      }
 
   -- whether a byte is one of the two that differ, or the same in both
   abbrev is_kept : Base → Base → ℕ → Bool
@@ -128,6 +142,9 @@ module _ (base url : Base) (is : base_of base64_fields ≡ Ok base)
   long : length base.meanings ≡ 128
   long = known (λ b. length b.meanings) 0 base64_fields base is
 
+  long_too : length url.meanings ≡ 128
+  long_too = known (λ b. length b.meanings) 0 base64url_fields url also
+
   same_if : (byte : ℕ) → (byte ≡ 43 → ⊥) → (byte ≡ 47 → ⊥) → is_kept base url byte ≡ true
       → byte ≡ exchanged base url byte
   same_if byte plus slash h = grind (arith, nat_tests)
@@ -137,14 +154,36 @@ module _ (base url : Base) (is : base_of base64_fields ≡ Ok base)
   other_byte byte plus slash =
       ⊎_elim {C = byte ≡ exchanged base url byte}
       (λ (low : byte < 128).
-      let each = All-get_or (λ n. is_kept base url n ≡ true) (range_with_len 0 128) byte 0
-      (omega (arith, low, length-range_with_len 0 128))
-      (AllPass-from_list_all (is_kept base url) (range_with_len 0 128) computed) in
-      let here = get_or-range_with_len 0 128 byte 0 low ∙ zero-add byte in
-      same_if byte plus slash (sym (ap (is_kept base url) here) ∙ each))
+      same_if byte plus slash (each_byte (is_kept base url) computed byte low))
       (λ (high : 128 ≤ byte).
       let none = get_or_past base.meanings byte Invalid (omega (arith, high, long)) in
       sym (ap (λ m. unwrap_or (own_character url m) byte) none))
+      (cases_lt byte 128)
+
+  -- whether a byte is one of base64url alone, means something in base64, or nothing in base64url
+  abbrev is_told : Base → Base → ℕ → Bool
+  is_told b u byte =
+      byte == 45 || byte == 95 || not (is_invalid (meaning b byte)) || is_invalid (meaning u byte)
+
+  abbrev are_told : Base → Base → Bool
+  are_told b u = list_all (is_told b u) (range_with_len 0 128)
+
+  told : are_told base url ≡ true
+  told =
+      known (λ b. are_told b url) false base64_fields base is
+      ∙ known (λ u. got (λ b. are_told b u) false (base_of base64_fields)) false base64url_fields
+      url also
+
+  -- any other byte that means nothing in base64 means nothing in base64url
+  pub invalid_byte : (byte : ℕ) → (byte ≡ 45 → ⊥) × (byte ≡ 95 → ⊥)
+      → is_invalid (meaning base byte) ≡ true → is_invalid (meaning url byte) ≡ true
+  invalid_byte byte apart invalid =
+      ⊎_elim {C = is_invalid (meaning url byte) ≡ true}
+      (λ (low : byte < 128).
+      let here = each_byte (is_told base url) told byte low in
+      grind (arith, nat_tests, apart.0, apart.1))
+      (λ (high : 128 ≤ byte).
+      ap is_invalid (get_or_past url.meanings byte Invalid (omega (arith, high, long_too))))
       (cases_lt byte 128)
 
 -- a list of which so many members are exchanged, where they stand

@@ -13,6 +13,7 @@ mod encodings;
 mod ignored;
 mod judge;
 mod judged;
+mod keys;
 mod lanes_decoded;
 mod lanes_encoded;
 mod laws;

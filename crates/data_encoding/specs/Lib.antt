@@ -33,3 +33,5 @@ pub use Rattle.data_encoding_meaning.specs.laws.Eighteen
 pub use Rattle.data_encoding_meaning.specs.laws.Compared
 pub use Rattle.data_encoding_meaning.specs.laws.Tight
 pub use Rattle.data_encoding_meaning.specs.laws.FaultStays
+pub use Rattle.data_encoding_meaning.specs.laws.Rules
+pub use Rattle.data_encoding_meaning.specs.laws.Told

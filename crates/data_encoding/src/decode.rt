@@ -6,10 +6,11 @@ pub(crate) mod next_group;
 pub(crate) mod steps;
 pub(crate) mod text;
 
-ghost use Rattle.std.specs.Prelude.{◌≡◌, ℕ, List, true, ◌+◌, ◌-◌, ◌*◌, ◌/◌, ◌<◌, ◌≤◌, ◌⊎◌, length, take, drop, None, Some, Ok, Err, IfOk, IfErr, IfSome, IsOk, IsOkAnd};
+ghost use Rattle.std.specs.Prelude.{◌≡◌, ℕ, List, true, false, ◌+◌, ◌-◌, ◌*◌, ◌/◌, ◌<◌, ◌≤◌, ◌⊎◌, length, take, drop, None, Some, Ok, Err, IfOk, IfErr, IfSome, IsOk, IsOkAnd};
 ghost use Rattle.data_encoding_meaning.specs.decoding.Decoding.{HasNoLastRun, HasRoom, IsLastRun, IsStop};
 ghost use Rattle.data_encoding.specs.Steps.{fault_of_stop};
 ghost use Rattle.data_encoding_meaning.specs.decoding.Fault.{IsRefusal, fault_of, sound_bytes};
+ghost use Rattle.data_encoding_meaning.specs.text.Base.{ignores_some};
 ghost use Rattle.data_encoding_meaning.specs.text.Grammar.{Means, kept};
 ghost use Rattle.data_encoding_meaning.specs.text.Lengths.{decoded_len};
 ghost use Rattle.data_encoding_meaning.specs.decoding.Partial.{is_length_fault, partial_of};
@@ -61,6 +62,9 @@ impl Encoding {
     /// that were written: those of the groups before the faulty one and, where a last group is too
     /// short and bytes are ignored, of its symbols that stand in a row, where they are valid. What
     /// stands in the output after these is not said.
+    ///
+    /// Without padding and ignored bytes, a text that means data fills the output: what is returned
+    /// is its length.
     pub fn decode_mut(&self, input: &[u8], output: &mut [u8]) -> Result<usize, DecodePartial>
         requires limit { length input.now ≤ DECODE_LIMIT }
         requires exact { decoded_len self.now (length input.now) ≡ Ok (length output.old) }
@@ -76,6 +80,8 @@ impl Encoding {
             × (partial.error.position < length input.now)) }
         ensures most { IfErr result (λ partial. IsOkAnd (decoded_len self.now partial.read)
             (λ most. partial.written ≤ most)) }
+        ensures full { IfOk result (λ n. self.now.padding ≡ None → ignores_some self.now ≡ false
+            → n ≡ length output.new) }
         ensures len { length output.new ≡ length output.old }
     {
         self.by_ref().decode_mut(input, output)
@@ -120,6 +126,9 @@ impl EncodingRef<'_> {
     /// that were written: those of the groups before the faulty one and, where a last group is too
     /// short and bytes are ignored, of its symbols that stand in a row, where they are valid. What
     /// stands in the output after these is not said.
+    ///
+    /// Without padding and ignored bytes, a text that means data fills the output: what is returned
+    /// is its length.
     #[inline(always)]
     pub fn decode_mut(&self, input: &[u8], output: &mut [u8]) -> Result<usize, DecodePartial>
         requires limit { length input.now ≤ DECODE_LIMIT }
@@ -136,6 +145,8 @@ impl EncodingRef<'_> {
             × (partial.error.position < length input.now)) }
         ensures most { IfErr result (λ partial. IsOkAnd (decoded_len self.now partial.read)
             (λ most. partial.written ≤ most)) }
+        ensures full { IfOk result (λ n. self.now.padding ≡ None → ignores_some self.now ≡ false
+            → n ≡ length output.new) }
         ensures len { length output.new ≡ length output.old }
     {
         let mut stop = Stop::new(0, 0, 0, DecodeKind::Length);

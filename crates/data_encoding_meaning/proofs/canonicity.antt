@@ -10,3 +10,5 @@ pub mod TranslatedTextLemmas
 pub mod CauseLemmas
 pub mod TokenLemmas
 pub mod EighteenLemmas
+pub mod ExchangedTextLemmas
+pub mod EighteenRuleLemmas

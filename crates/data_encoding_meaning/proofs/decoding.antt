@@ -17,3 +17,4 @@ pub mod WholeLengthLemmas
 pub mod FinalGroupLemmas
 pub mod LoneGroupLemmas
 pub mod FaultStaysLemmas
+pub mod ToldLemmas

@@ -9,3 +9,5 @@ pub mod Steps
 pub mod Compared
 pub mod SameMeanings
 pub mod Named
+pub mod Told
+pub mod Laws

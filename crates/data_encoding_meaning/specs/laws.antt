@@ -7,3 +7,5 @@ pub mod Tight
 pub mod Verdicts
 pub mod Eighteen
 pub mod FaultStays
+pub mod Told
+pub mod Rules

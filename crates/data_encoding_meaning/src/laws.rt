@@ -9,15 +9,24 @@ ghost use Rattle.data_encoding_meaning.specs.laws.Laws.{JoinDecode, JoinEncode, 
 ghost use Rattle.data_encoding_meaning.specs.laws.Compared.{OrderOfData, OrderOfTexts};
 ghost use Rattle.data_encoding_meaning.specs.laws.Eighteen.{CanonicalByCauses, SixAreCanonical, SixAreOrdered};
 ghost use Rattle.data_encoding_meaning.specs.laws.FaultStays.{FaultStays, GroupFaultStays, NoFaultBefore};
+ghost use Rattle.data_encoding_meaning.specs.laws.Rules.{EighteenRules};
+ghost use Rattle.data_encoding_meaning.specs.laws.Told.{FaultTold, SymbolTold, TrailingTold, WholeTold};
 ghost use Rattle.data_encoding_meaning.specs.laws.Tight.{LengthAgain, LengthOfText, MeansMost};
 ghost use Rattle.data_encoding_meaning.specs.laws.Verdicts.{FixedLength, Injective, MeansSound};
-ghost use Rattle.data_encoding_meaning.specs.laws.SameMeaning.{OwnForm, OwnForms, OwnText, SameButSymbols, SameKeptBytes, Translated};
+ghost use Rattle.data_encoding_meaning.specs.laws.SameMeaning.{FaultExchanged, MeansExchanged, OwnForm, OwnForms, OwnText, SameButSymbols, SameInBoth, SameKeptBytes, Translated};
 
 pub mod steps;
 
 /// Each encoding is built from its own specification.
 pub fn specification_again()
     ensures { SpecificationAgain }
+{}
+
+/// The rules of each of the eighteen, by names: the width and the order of bits, padding, lines,
+/// the bytes that are ignored, whether trailing bits are checked, and whether texts may be
+/// concatenated.
+pub fn eighteen()
+    ensures { EighteenRules }
 {}
 
 /// Data that is encoded in parts has the text of the whole, where the length of each part but the
@@ -94,6 +103,17 @@ pub fn fault_stays()
     ensures behind { NoFaultBefore }
 {}
 
+/// Without padding and ignored bytes, the fault of a text of a valid length is told from its bytes,
+/// for each encoding that a specification yields: it is an invalid symbol exactly at the first byte
+/// that is no symbol; and where each byte is one, trailing bits at the last byte, if bits are left
+/// that are not all zeros, and that is checked. Where a symbol has 1, 2 or 4 bits, none are left.
+pub fn fault_told()
+    ensures told { FaultTold }
+    ensures symbol { SymbolTold }
+    ensures trailing { TrailingTold }
+    ensures whole { WholeTold }
+{}
+
 /// A text that means data is the text of the data, for each encoding that a specification yields
 /// and that is canonical, as six of the eighteen are: those where no byte of a text is padding,
 /// ignored or translated.
@@ -153,6 +173,15 @@ pub fn translated()
 /// Of an encoding that a specification yields, and of another that differs from it in its symbols
 /// alone: the text of data in the other is that in the first, with each symbol exchanged for the
 /// other's symbol of the same value, and each padding character for the other's.
+///
+/// Where specifications yield both, and they check trailing bits alike, concatenate alike and
+/// ignore the same bytes, this is so of any text: exchanged, it means the same data; and it has the
+/// same fault at the same position, if no byte that is invalid in the first means something in the
+/// other. More generally, texts whose bytes mean the same in each, one by one, have the same fault
+/// and mean the same.
 pub fn same_but_symbols()
-    ensures { SameButSymbols }
+    ensures text { SameButSymbols }
+    ensures both { SameInBoth }
+    ensures means { MeansExchanged }
+    ensures fault { FaultExchanged }
 {}

@@ -1,11 +1,12 @@
 //! A caller of a decoder by pieces into buffers, which goes on from what is kept.
 
-ghost use Rattle.std.specs.Prelude.{◌≡◌, ◌+◌, ◌≤◌, ℕ, List, ◌++◌, length, take, OnOk};
+ghost use Rattle.std.specs.Prelude.{◌≡◌, ◌+◌, ◌≤◌, ℕ, List, ◌++◌, length, take, None, Some, IfSome, OnOk};
 ghost use Rattle.data_encoding.specs.Fault.{fault_of, sound_bytes};
 ghost use Rattle.data_encoding.specs.Grammar.{Means};
+ghost use Rattle.data_encoding.specs.Lengths.{length_fault};
 ghost use Rattle.encoding_stream.specs.Pieces.{verdict_of};
 
-use data_encoding::laws::sound_text;
+use data_encoding::laws::{fault_stays, sound_text};
 use data_encoding::{DECODE_LIMIT, DecodeError, Encoding};
 use encoding_stream::BufferDecoder;
 
@@ -66,4 +67,21 @@ pub fn decode_kept(
         last: in_last,
         verdict,
     }
+}
+
+/// The fault of a text that begins like this, if it has one so far, whatever follows: that of one
+/// of its whole groups. An unfinished group at the end is not judged.
+pub fn fault_so_far(encoding: &Encoding, front: &[u8], output: &mut [u8]) -> Option<DecodeError>
+    requires limit { length front.now ≤ DECODE_LIMIT }
+    requires room { length front.now + 7 ≤ length output.old }
+    ensures { IfSome result (λ error. (after : List ℕ)
+        → length_fault encoding.now (length (front.now ++ after)) ≡ None
+        → fault_of encoding.now (front.now ++ after) ≡ Some error) }
+{
+    encoding.bit_width();
+    fault_stays();
+    let mut decoder = BufferDecoder::new(encoding);
+    decoder.most(front.len());
+    decoder.read(front, output);
+    decoder.kept().fault
 }

@@ -1,8 +1,9 @@
 //! Texts that are written otherwise, or compared, and mean the same.
 
-ghost use Rattle.std.specs.Prelude.{◌≡◌, ◌↔◌, ◌<◌, ◌&&◌, ℕ, List, [], ◌∷◌, ◌++◌, Ok, flat_map, is_some, IsTrue, IfOk, IfSome};
+ghost use Rattle.std.specs.Prelude.{◌≡◌, ◌≢◌, ◌↔◌, ◌<◌, ◌&&◌, All, ℕ, List, [], ◌∷◌, ◌++◌, Ok, flat_map, is_some, IsTrue, IfOk, IfSome};
 ghost use Rattle.data_encoding.specs.Base.{Base, is_ignored, meaning};
 ghost use Rattle.data_encoding.specs.Bits.{runs};
+ghost use Rattle.data_encoding.specs.Fault.{fault_of};
 ghost use Rattle.data_encoding.specs.Fields.{base_of};
 ghost use Rattle.data_encoding.specs.Grammar.{Means};
 ghost use Rattle.data_encoding.specs.Order.{IsBefore};
@@ -11,7 +12,7 @@ ghost use Rattle.data_encoding.specs.SameMeaning.{exchanged, kept_bytes, own_for
 ghost use Rattle.data_encoding.specs.Text.{text_of};
 
 use data_encoding::laws::{
-    one_meaning, order, same_but_symbols, same_kept_bytes, translated, unpadded,
+    eighteen, one_meaning, order, same_but_symbols, same_kept_bytes, translated, unpadded,
 };
 use data_encoding::{Encoding, base32_dnssec};
 use std::alloc::{AllocError, Global};
@@ -86,12 +87,21 @@ fn url_byte(byte: u8) -> u8
     }
 }
 
-/// Turns the text of data in base64 into their text in base64url, where it stands.
+/// Turns a text of base64 into one of base64url, where it stands: it means the same data, and the
+/// text of data becomes their text. A text without `-` and `_` has the same fault as before.
 pub fn to_base64url(text: &mut [u8])
-    ensures { (base url : Base) (bytes : List ℕ)
+    ensures text { (base url : Base) (bytes : List ℕ)
         → base_of base64_fields ≡ Ok base → base_of base64url_fields ≡ Ok url
         → text.old ≡ text_of base bytes → text.new ≡ text_of url bytes }
+    ensures means { (base url : Base) (bytes : List ℕ)
+        → base_of base64_fields ≡ Ok base → base_of base64url_fields ≡ Ok url
+        → Means base text.old bytes → Means url text.new bytes }
+    ensures fault { (base url : Base)
+        → base_of base64_fields ≡ Ok base → base_of base64url_fields ≡ Ok url
+        → All (λ byte. byte ≢ 45 × byte ≢ 95) text.old
+        → fault_of base text.old ≡ fault_of url text.new }
 {
+    eighteen();
     same_but_symbols();
     for byte in text.iter_mut() {
         *byte = url_byte(*byte);

@@ -19,7 +19,7 @@ use Rattle.data_encoding_meaning.proofs.digits.WidthLemmas.{group_bits, group_sy
 use Rattle.data_encoding_meaning.proofs.grammar.GroupLemmas.{GroupMeans-length, GroupMeans-padding}
 use Rattle.data_encoding_meaning.proofs.grammar.MeaningLemmas.{sound_bytes-Means}
 use Rattle.data_encoding_meaning.proofs.grammar.PositionLemmas.{bytes-positioned_from, filter-plain}
-use Rattle.data_encoding_meaning.proofs.grammar.SameMeaningLemmas.{Means-translated}
+use Rattle.data_encoding_meaning.proofs.grammar.SameMeaningLemmas.{Means-alike_in}
 use Rattle.data_encoding_meaning.proofs.grammar.TightLemmas.{no_lines-plain}
 use Rattle.data_encoding_meaning.proofs.grammar.UnpaddedGrammarLemmas.{unpadded-Means}
 use Rattle.data_encoding_meaning.proofs.grammar.UnpaddedGroupLemmas.{PlainMeans-count}
@@ -213,7 +213,7 @@ module _ (base : Base) (ruled : IsRuled base) where
       let own_bytes : (one its : List ℕ) → Means base one its
       → sound_bytes base (own_form base one) ≡ its =
       λ one its is. sound_bytes-Means base ruled.is_width (own_form base one) its
-      (Means-translated base ruled.is_width one (own_form base one)
+      (Means-alike_in base base refl ruled.is_width one (own_form base one)
       (own_form-meaning base ruled one) its is) in (
         (λ same.
             own_text base ruled form text bytes means ∙ ap (text_of base) same

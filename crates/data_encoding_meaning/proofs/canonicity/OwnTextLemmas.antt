@@ -56,7 +56,7 @@ module _ (base : Base) (ruled : IsRuled base) where
   own_byte_of byte = unwrap_or (own_character base (meaning base byte)) byte
 
   -- a byte that means something is ASCII
-  ascii : (byte : ℕ) → (meaning base byte ≡ Invalid → ⊥) → byte < 128
+  pub ascii : (byte : ℕ) → (meaning base byte ≡ Invalid → ⊥) → byte < 128
   ascii byte h =
       let past = get_or_past base.meanings byte Invalid in grind (arith, past, ruled.long, h)
 

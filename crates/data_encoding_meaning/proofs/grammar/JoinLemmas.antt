@@ -1,5 +1,5 @@
 -- Texts one after the other.
-use Rattle.std.proofs.Common.{◌≡◌, ℕ, ◌⊎◌, flat_map, ◌+◌, ◌%◌, Bool, true, false, not, ◌&&◌, List, [], ◌∷◌, ◌++◌, length, Option, is_some, inl, inr, sym, ap, ◌∙◌, arith, append_assoc, map}
+use Rattle.std.proofs.Common.{◌≡◌, ℕ, ◌⊎◌, flat_map, ◌+◌, ◌%◌, Bool, true, false, not, ◌&&◌, List, [], ◌∷◌, ◌++◌, length, is_some, inl, inr, sym, ap, ◌∙◌, arith, append_assoc, map}
 use Rattle.std.proofs.Math.Nat.{mul-mod_left}
 use Rattle.std.proofs.lemmas.List.Elements.{All-filter, All-map, recursion_from_All}
 use Rattle.std.specs.Prelude.{All}
@@ -22,7 +22,7 @@ use Rattle.data_encoding_meaning.proofs.grammar.UnpaddedGroupLemmas.{PlainMeans-
 use Rattle.data_encoding_meaning.proofs.lists.EachLemmas.{all_parts}
 use Rattle.data_encoding_meaning.proofs.lists.ListLemmas.{AllFail, list_any-none}
 use Rattle.data_encoding_meaning.proofs.lists.RunLemmas.{flat_map-runs, runs-join}
-use Rattle.data_encoding_meaning.proofs.judgement.RuleLemmas.{IsRuled, IsRuledPadding}
+use Rattle.data_encoding_meaning.proofs.judgement.RuleLemmas.{IsRuled, whole-unpadded}
 use Rattle.data_encoding_meaning.proofs.grammar.LengthLemmas.{widths}
 
 module _ (base : Base) (ruled : IsRuled base) where
@@ -117,16 +117,12 @@ module _ (base : Base) (ruled : IsRuled base) where
         rw (← (length-meanings base (kept base text)))
         (grind (arith, nat_tests, widths base.width width, count, symbols.rest_is_short))
 
-    -- where eight bits are whole symbols there is no padding
-    divided : (o : Option ℕ) → IsRuledPadding base o → 8 % base.width ≡ 0 → is_some o ≡ false
-    divided o is divides = grind (arith, nat_tests)
-
     -- where another text may follow, the groups are whole and none is final
     pub followed : MayBeFollowed base text → Means base text bytes
         → (length (kept base text) % size ≡ 0) × AllFail (is_final base) (groups base text)
     followed (inl follows) means = (whole-padded follows.0 means, none_final follows.1)
     followed (inr divides) means =
-        let unpadded = divided base.padding ruled.padding divides in
+        let unpadded = ap is_some (whole-unpadded base base.padding ruled.padding divides) in
         let symbols = plain unpadded means in (
           whole-plain unpadded divides means,
           none_final-kept (rw symbols.are_symbols (symbols_alone symbols.values)),

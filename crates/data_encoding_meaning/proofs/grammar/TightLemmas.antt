@@ -1,13 +1,13 @@
 -- What a text means is bytes, and how many, where there is no padding and no ignored byte.
-use Rattle.std.proofs.Common.{◌≡◌, ℕ, ◌*◌, false, ◌<◌, List, [], ◌∷◌, length, All, Option, Some, None, is_some, refl, sym, ap, arith, map, slice_index}
+use Rattle.std.proofs.Common.{◌≡◌, ℕ, ◌*◌, false, ◌<◌, ◌≤◌, List, [], ◌∷◌, length, take, All, Option, Some, None, is_some, Ok, refl, sym, ap, arith, map, slice_index, length-take-le}
 use Rattle.std.proofs.lemmas.List.Elements.{All-append, All-from_recursion}
 use Rattle.data_encoding_meaning.specs.declared.encoding.Character.{Character}
 use Rattle.data_encoding_meaning.specs.declared.encoding.Character.TheVariants.{Ignored}
 use Rattle.data_encoding_meaning.specs.text.Base.{Base, IsWidth, Wrapping, ignores_some, is_ignored, meaning}
 use Rattle.data_encoding_meaning.specs.text.Grammar.{GroupsMean, Means, groups, kept, meanings_in}
-use Rattle.data_encoding_meaning.specs.text.Lengths.{most_bytes}
+use Rattle.data_encoding_meaning.specs.text.Lengths.{decoded_len, most_bytes}
 use Rattle.data_encoding_meaning.specs.text.Text.{text_of}
-use Rattle.data_encoding_meaning.proofs.grammar.LengthLemmas.{most_bytes-by, widths}
+use Rattle.data_encoding_meaning.proofs.grammar.LengthLemmas.{decoded_len-counted, most_bytes-by, widths}
 use Rattle.data_encoding_meaning.proofs.grammar.PositionLemmas.{length-kept_plain, never_ignored, length-meanings}
 use Rattle.data_encoding_meaning.proofs.grammar.UnpaddedGrammarLemmas.{unpadded-Means}
 use Rattle.data_encoding_meaning.proofs.grammar.UnpaddedGroupLemmas.{PlainMeans-count}
@@ -51,6 +51,16 @@ most-Means base width unpadded none text bytes means =
     rw (most_bytes-by base (length text) false (ap is_some unpadded))
     (rw (← (length-kept_plain base text none), ← (length-meanings base (kept base text)))
     (omega (arith, count)))
+
+-- so what is decoded to a buffer of exactly the length that is due fills it
+pub full-Means : (base : Base) → IsWidth base.width → base.padding ≡ None
+    → ignores_some base ≡ false → (text output : List ℕ) (count : ℕ)
+    → decoded_len base (length text) ≡ Ok (length output) → count ≤ length output
+    → Means base text (take count output) → count ≡ length output
+full-Means base width unpadded none text output count due within means =
+    let exact = decoded_len-counted base (length text) (length output) due in
+    let most = most-Means base width unpadded none text (take count output) means in
+    omega (arith, length-take-le count output within, most, exact.1)
 
 each-bytes : (base : Base) (gs : List (List Character)) (bytes : List ℕ)
     → GroupsMean base gs bytes → All (λ byte. byte < 256) bytes

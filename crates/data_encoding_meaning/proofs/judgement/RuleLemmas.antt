@@ -29,6 +29,12 @@ IsRuledPadding base None = list_all is_no_padding base.meanings ≡ true
 IsRuledPadding base (Some character) =
     (character < 128) × (meaning base character ≡ Padding) × (not (8 % base.width == 0) ≡ true)
 
+-- where eight bits are whole symbols there is no padding
+pub whole-unpadded : (base : Base) (o : Option ℕ) → IsRuledPadding base o → 8 % base.width ≡ 0
+    → o ≡ None
+whole-unpadded base None is divides = refl
+whole-unpadded base (Some character) is divides = absurd (grind (arith, nat_tests, is.2))
+
 pub record AreLines (base : Base) (lines : Wrapping) : Type 0 where
   pub some : 0 < lines.column
   pub short : lines.column < 256

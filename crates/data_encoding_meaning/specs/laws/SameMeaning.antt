@@ -1,10 +1,10 @@
 -- Texts that mean the same.
-use Rattle.std.specs.Prelude.{◌≡◌, ◌↔◌, ℕ, Bool, true, ◌&&◌, List, filter, map, not, unwrap_or}
-use Rattle.data_encoding_meaning.specs.text.Base.{Base, meaning, is_ignored, is_padded, ignores_some}
+use Rattle.std.specs.Prelude.{◌≡◌, ◌↔◌, ℕ, Bool, true, ◌&&◌, List, All, filter, map, not, unwrap_or}
+use Rattle.data_encoding_meaning.specs.text.Base.{Base, meaning, is_ignored, is_invalid, is_padded, ignores_some}
 use Rattle.data_encoding_meaning.specs.decoding.Fault.{fault_of}
 use Rattle.data_encoding_meaning.specs.specification.Fields.{IsSpecified}
 use Rattle.data_encoding_meaning.specs.text.Grammar.{Means}
-use Rattle.data_encoding_meaning.specs.specification.Layout.{own_character}
+use Rattle.data_encoding_meaning.specs.specification.Layout.{ignored_bytes, own_character}
 use Rattle.data_encoding_meaning.specs.text.Text.{text_of}
 
 -- the bytes of a text that are not ignored
@@ -72,3 +72,42 @@ abbrev pub SameButSymbols : Type 0
 SameButSymbols =
     (base other : Base) → IsSpecified base → DifferInSymbols base other
     → (bytes : List ℕ) → text_of other bytes ≡ map (exchanged base other) (text_of base bytes)
+
+-- They check trailing bits alike, concatenate alike, and ignore the same bytes, too.
+pub record DifferInSymbolsAlone (base other : Base) : Type 0 where
+  pub in_symbols : DifferInSymbols base other
+  pub checks : base.checks_trailing_bits ≡ other.checks_trailing_bits
+  pub concatenates : base.concatenates ≡ other.concatenates
+  pub ignored : ignored_bytes base ≡ ignored_bytes other
+
+-- Then texts whose bytes mean the same in each, one by one, have the same fault, and mean the same.
+abbrev pub SameInBoth : Type 0
+SameInBoth =
+    (base other : Base) → IsSpecified base → IsSpecified other → DifferInSymbolsAlone base other
+    → (text another : List ℕ) → map (meaning base) text ≡ map (meaning other) another
+    → (fault_of base text ≡ fault_of other another)
+    × ((bytes : List ℕ) → Means base text bytes ↔ Means other another bytes)
+
+-- a text with each character exchanged
+abbrev pub exchanged_text : Base → Base → List ℕ → List ℕ
+exchanged_text base other text = map (exchanged base other) text
+
+-- Any text that means data means the same in the other, with each character exchanged.
+abbrev pub MeansExchanged : Type 0
+MeansExchanged =
+    (base other : Base) → IsSpecified base → IsSpecified other → DifferInSymbolsAlone base other
+    → (text bytes : List ℕ) → Means base text bytes
+    → Means other (exchanged_text base other text) bytes
+
+-- No invalid byte of the text means something in the other.
+abbrev pub IsInvalidInBoth : Base → Base → List ℕ → Type 0
+IsInvalidInBoth base other text =
+    All (λ byte. is_invalid (meaning base byte) ≡ true → is_invalid (meaning other byte) ≡ true)
+    text
+
+-- Then a text has the same fault in both, at the same position.
+abbrev pub FaultExchanged : Type 0
+FaultExchanged =
+    (base other : Base) → IsSpecified base → IsSpecified other → DifferInSymbolsAlone base other
+    → (text : List ℕ) → IsInvalidInBoth base other text
+    → fault_of base text ≡ fault_of other (exchanged_text base other text)

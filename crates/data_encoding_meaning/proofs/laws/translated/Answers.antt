@@ -1,14 +1,15 @@
+use Rattle.std.proofs.Common.{refl}
 use Rattle.data_encoding_meaning.proofs.canonicity.OneTextLemmas.{own_form-text, own_forms}
 use Rattle.data_encoding_meaning.proofs.canonicity.OwnTextLemmas.{own_form-meaning}
-use Rattle.data_encoding_meaning.proofs.grammar.SameMeaningLemmas.{fault_of-translated, Means-translated}
+use Rattle.data_encoding_meaning.proofs.grammar.SameMeaningLemmas.{fault_of-alike, Means-alike_in}
 use Rattle.data_encoding_meaning.proofs.judgement.RuleLemmas.{IsRuled-yield}
 use Rattle.data_encoding_meaning.proofs.laws.translated.Goals as goal
 
 pub returns-clause-same : goal.returns-clause-same
 returns-clause-same c = λ base is text other same.
     let width = (IsRuled-yield is.fields base is.yields).is_width in (
-      fault_of-translated base width text other same,
-      Means-translated base width text other same,
+      fault_of-alike base base refl width text other same refl,
+      Means-alike_in base base refl width text other same,
     )
 
 pub returns-clause-own_form : goal.returns-clause-own_form

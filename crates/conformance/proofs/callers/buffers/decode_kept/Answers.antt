@@ -2,7 +2,6 @@ use Rattle.std.proofs.Common.{◌≡◌, [], ◌++◌, take, sym, ap, ◌∙◌,
 use Rattle.encoding_stream.specs.declared.pieces.BufferDecoder.{BufferDecoder}
 use Rattle.data_encoding.specs.Fault.{fault_of, sound_bytes}
 use Rattle.data_encoding.specs.Grammar.{Means}
-use Rattle.data_encoding.specs.Pieces.{whole_bytes}
 use Rattle.encoding_stream.specs.Pieces.{kept_by, verdict_of, Keeps}
 use Rattle.encoding_stream.specs.Reading.{ReadsOn}
 use Rattle.conformance.proofs.StreamedLemmas.{no-fault-ok}

@@ -1,4 +1,4 @@
-use Rattle.std.proofs.Common.{◌≡◌, ap, ◌∙◌, arith}
+use Rattle.std.proofs.Common.{ap, ◌∙◌, arith}
 use Rattle.std.proofs.lemmas.List.{take_all}
 use Rattle.data_encoding.specs.SameMeaning.{kept_bytes}
 use Rattle.conformance.proofs.callers.rewritten.kept.Goals as goal

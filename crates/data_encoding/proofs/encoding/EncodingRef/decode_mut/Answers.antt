@@ -1,8 +1,11 @@
-use Rattle.std.proofs.Common.{arith}
+use Rattle.std.proofs.Common.{◌≡◌, length, Ok, arith}
 use Rattle.data_encoding.specs.Steps.{HasStopped}
+use Rattle.data_encoding_meaning.specs.decoding.Decoding.{IsDecoded}
 use Rattle.data_encoding_meaning.specs.decoding.Partial.{StopsAt}
+use Rattle.data_encoding_meaning.specs.text.Lengths.{decoded_len}
 use Rattle.data_encoding_meaning.proofs.decoding.StopLemmas.{fault-partial, most-partial}
 use Rattle.data_encoding_meaning.proofs.grammar.MeaningLemmas.{no_fault-Means}
+use Rattle.data_encoding_meaning.proofs.grammar.TightLemmas.{full-Means}
 use Rattle.data_encoding.proofs.encoding.EncodingRef.decode_mut.Goals as goal
 use Rattle.data_encoding.proofs.encoding.EncodingRef.decode_mut.Goals.{After-stopped}
 
@@ -38,3 +41,14 @@ pub returns-clause-most : goal.returns-clause-most
 returns-clause-most c =
     most-partial c.args.self.now c.decode_by_order.ensures.width c.args.input.now
     c.stopped.new.output c.stopped.result (stops (goal.at.returns-clause-most c).After-stopped)
+
+pub returns-then-decode_by_order-clause-full : goal.returns-then-decode_by_order-clause-full
+returns-then-decode_by_order-clause-full c unpadded none =
+    let output = c.decode_by_order.new.output in
+    let decoded : IsDecoded c.args.self.now c.args.input.now c.decode_by_order.new.stop.written
+    output =
+    rw c.if-decode_by_order.true at c.decode_by_order.ensures.ends in
+    let due : decoded_len c.args.self.now (length c.args.input.now) ≡ Ok (length output) =
+    rw c.decode_by_order.auto.output c.requires.exact in
+    full-Means c.args.self.now c.decode_by_order.ensures.width unpadded none c.args.input.now output
+    c.decode_by_order.new.stop.written due decoded.fits decoded.means

@@ -1,0 +1,47 @@
+use Rattle.std.proofs.Common.{◌≡◌, ◌%◌, ◌≤◌, ◌+◌, ◌-◌, length, take, drop, Some, ap, ◌∙◌, arith, length-take-le, take-append-drop}
+use Rattle.data_encoding.specs.declared.error.DecodeKind.{DecodeKind}
+use Rattle.data_encoding.specs.Base.{group_symbols}
+use Rattle.data_encoding.specs.Fault.{fault_of}
+use Rattle.data_encoding.specs.Grammar.{kept}
+use Rattle.data_encoding.specs.Predefined.{base64_nopad_fields}
+use Rattle.conformance.proofs.KeyLemmas.{length-kept}
+use Rattle.conformance.proofs.NameLemmas.{yields-seen}
+use Rattle.conformance.proofs.callers.keys.place_behind.Goals as goal
+use Rattle.conformance.proofs.callers.keys.place_behind.Goals.{In-Err-Error-decode}
+
+told : (c : In-Err-Error-decode)
+    → fault_of c.base64_nopad-encoding.result c.args.text.now ≡ Some c.in-Err-Error-decode.error
+told c = rw c.in-Err-Error-decode.field-0-is at c.in-Err-Error-decode.ensures.refusal
+
+behind : (c : In-Err-Error-decode) → c.args.len ≤ c.in-Err-Error-decode.error.position
+behind c =
+    let seen = c.base64_nopad-encoding.result in
+    let yields = c.base64_nopad-encoding.ensures in
+    let text = c.args.text.now in
+    let front = take c.args.len text in
+    let has = c.eighteen.ensures.base64_nopad seen yields in
+    let len : length front ≡ c.args.len = length-take-le c.args.len text c.requires.within in
+    let whole : length (kept seen front) % group_symbols seen.width ≡ 0 =
+    (λ i. length-kept c.whole_groups.ensures.kept seen has.ignores front i
+    % group_symbols (has.width i))
+    ∙ ap (λ n. n % 4) len ∙ c.requires.whole in
+    let past = c.fault_stays.ensures.behind seen
+    (record { fields = base64_nopad_fields; yields = yields }) front (drop c.args.len text)
+    c.in-Err-Error-decode.error whole c.in-Ok.ensures.sound.0
+    (ap (fault_of seen) (take-append-drop c.args.len text) ∙ told c) in
+    omega (arith, past, len)
+
+pub overflow_sub-result : goal.overflow_sub-result
+overflow_sub-result c = behind (goal.at.overflow_sub-result c).In-Err-Error-decode
+
+pub returns-in-Err-Error-decode : goal.returns-in-Err-Error-decode
+returns-in-Err-Error-decode c =
+    let error = c.in-Err-Error-decode.error in
+    let d = (goal.at.returns-in-Err-Error-decode c).In-Err-Error-decode in
+    let place : error.position ≡ c.args.len + (error.position - c.args.len) =
+    omega (arith, behind d) in
+    yields-seen (λ base. (kind : DecodeKind) × (fault_of base c.args.text.now ≡ Some (record {
+      position = c.args.len + (error.position - c.args.len);
+      kind = kind;
+    }))) base64_nopad_fields c.base64_nopad-encoding.result c.base64_nopad-encoding.ensures
+    (error.kind, told d ∙ ap (λ n. Some (record { position = n; kind = error.kind })) place)

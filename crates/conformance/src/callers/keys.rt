@@ -1,0 +1,163 @@
+//! Keys of a fixed size, faults that are told from the bytes of a text, and pairs of data or texts.
+
+ghost use Rattle.std.specs.Prelude.{◌≡◌, ◌↔◌, ◌≤◌, ◌+◌, ◌%◌, ℕ, List, [], ◌∷◌, ◌++◌, length, None, Some, Ok, Err, IsTrue, is_some, IfOk, IfSome, OnOk};
+ghost use Rattle.std.specs.String.{string_bytes};
+ghost use Rattle.data_encoding.specs.Canonical.{AreTwoTexts};
+ghost use Rattle.data_encoding.specs.Eighteen.{Yields};
+ghost use Rattle.data_encoding.specs.Fault.{fault_of};
+ghost use Rattle.data_encoding.specs.Grammar.{Means};
+ghost use Rattle.data_encoding.specs.Order.{BreaksOrder, IsBefore};
+ghost use Rattle.data_encoding.specs.Predefined.{base32hex_nopad_fields, base64_mime_fields, base64_nopad_fields, base64url_nopad_fields, hexlower_fields, hexlower_permissive_fields};
+ghost use Rattle.data_encoding.specs.Text.{text_of};
+ghost use Rattle.data_encoding.specs.Told.{is_other};
+
+use data_encoding::laws::steps::whole_groups;
+use data_encoding::laws::{
+    canonical, eighteen, fault_stays, fault_told, injective, not_canonical, order, tight,
+};
+use data_encoding::{
+    DECODE_LIMIT, DecodeError, DecodeFault, DecodeKind, ENCODE_LIMIT, Encoding, base32hex_nopad,
+    base64_mime, base64_nopad, base64url_nopad, hexlower, hexlower_permissive,
+};
+use std::alloc::{AllocError, Global};
+
+/// The key of 16 bytes that a token in BASE64URL_NOPAD means, where it means as many. No other
+/// token means it.
+pub fn key_of(token: &[u8]) -> Option<[u8; 16]>
+    ensures text { Yields (λ base. IfSome result (λ key. token.now ≡ text_of base key))
+        base64url_nopad_fields }
+    ensures some { Yields (λ base. IsTrue (is_some result)
+        ↔ ((bytes : List ℕ) × Means base token.now bytes × (length bytes ≡ 16)))
+        base64url_nopad_fields }
+{
+    canonical();
+    eighteen();
+    tight();
+    let encoding = base64url_nopad();
+    if token.len() != 22 {
+        return None;
+    }
+    let mut key = [0; 16];
+    match encoding.decode_mut(token, &mut key) {
+        Ok(_) => Some(key),
+        Err(_) => None,
+    }
+}
+
+// Whether a byte is no symbol.
+fn is_no_symbol(encoding: &Encoding, byte: u8) -> bool
+    ensures { result ≡ is_other encoding.now byte }
+{
+    encoding.interpret_byte(byte).is_symbol().is_none()
+}
+
+/// Where the first byte is that is no lower-case hexadecimal digit. There HEXLOWER finds the fault
+/// of a text of an even length; and where each byte is a digit, it has none.
+pub fn first_wrong(text: &[u8]) -> Option<usize>
+    requires even { length text.now % 2 ≡ 0 }
+    ensures symbol { Yields (λ base. (index : ℕ) → (result ≡ Some index)
+        ↔ (fault_of base text.now ≡ Some (record { position = index; kind = DecodeKind.Symbol })))
+        hexlower_fields }
+    ensures none { Yields (λ base. result ≡ None → fault_of base text.now ≡ None)
+        hexlower_fields }
+{
+    eighteen();
+    fault_told();
+    let encoding = hexlower();
+    text.iter().position(|byte| is_no_symbol(&encoding, *byte))
+}
+
+/// Whether two keys are equal, which is seen from their texts: those of keys of different length
+/// differ, too.
+pub fn is_same_key(
+    alloc: Global,
+    encoding: &Encoding,
+    one: &[u8],
+    other: &[u8],
+) -> Result<bool, AllocError>
+    requires limit { length one.now ≤ ENCODE_LIMIT }
+    requires other_limit { length other.now ≤ ENCODE_LIMIT }
+    ensures { IfOk result (λ same. IsTrue same ↔ (one.now ≡ other.now)) }
+{
+    let _width = encoding.bit_width();
+    injective();
+    let text = encoding.encode(alloc, one)?;
+    let other_text = encoding.encode(alloc, other)?;
+    Ok(text.as_bytes() == other_text.as_bytes())
+}
+
+/// Whether a text in hexadecimal digits of either case is that of a digest of 20 bytes, where it
+/// means any data: its length tells.
+pub fn is_digest(text: &[u8]) -> bool
+    ensures { Yields (λ base. (bytes : List ℕ) → Means base text.now bytes
+        → (IsTrue result ↔ (length bytes ≡ 20))) hexlower_permissive_fields }
+{
+    eighteen();
+    tight();
+    text.len() == hexlower_permissive().encode_len(20)
+}
+
+/// How far behind a front of whole groups the fault of a text is: a front that means data has none.
+/// There is no such place where the text has no fault, or the front has one.
+pub fn place_behind(alloc: Global, text: &[u8], len: usize) -> Result<Option<usize>, AllocError>
+    requires limit { length text.now ≤ DECODE_LIMIT }
+    requires within { len ≤ length text.now }
+    requires whole { len % 4 ≡ 0 }
+    ensures { Yields (λ base. IfOk result (λ found. IfSome found (λ place. (kind : DecodeKind)
+        × (fault_of base text.now
+        ≡ Some (record { position = len + place; kind = kind })))))
+        base64_nopad_fields }
+{
+    eighteen();
+    fault_stays();
+    whole_groups();
+    let encoding = base64_nopad();
+    match encoding.decode(alloc, &text[..len]) {
+        Ok(_) => match encoding.decode(alloc, text) {
+            Ok(_) => Ok(None),
+            Err(DecodeFault::Error(error)) => Ok(Some(error.position - len)),
+            Err(DecodeFault::OutOfMemory) => Err(AllocError),
+        },
+        Err(DecodeFault::Error(_)) => Ok(None),
+        Err(DecodeFault::OutOfMemory) => Err(AllocError),
+    }
+}
+
+/// The texts of two data in BASE32HEX_NOPAD, which are in the order of the data.
+pub fn texts_in_order(
+    alloc: Global,
+    one: &[u8],
+    other: &[u8],
+) -> Result<(String, String), AllocError>
+    requires limit { length one.now ≤ ENCODE_LIMIT }
+    requires other_limit { length other.now ≤ ENCODE_LIMIT }
+    requires order { IsBefore one.now other.now }
+    ensures { IfOk result (λ texts. IsBefore (string_bytes texts.0) (string_bytes texts.1)) }
+{
+    eighteen();
+    order();
+    let encoding = base32hex_nopad();
+    let text = encoding.encode(alloc, one)?;
+    let other_text = encoding.encode(alloc, other)?;
+    Ok((text, other_text))
+}
+
+/// Two bytes in order whose texts in BASE64_NOPAD are not.
+pub fn out_of_order() -> (u8, u8)
+    ensures { Yields (λ base. BreaksOrder base (result.0 ∷ []) (result.1 ∷ []))
+        base64_nopad_fields }
+{
+    eighteen();
+    order();
+    let _encoding = base64_nopad();
+    (204, 208)
+}
+
+/// A text of BASE64_MIME that means no bytes and is not empty.
+pub fn other_empty_text() -> &'static [u8]
+    ensures { Yields (λ base. AreTwoTexts base [] result.now []) base64_mime_fields }
+{
+    not_canonical();
+    let _encoding = base64_mime();
+    b"\n"
+}
