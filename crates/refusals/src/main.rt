@@ -2,10 +2,10 @@
 //!
 //! With the word `refused` all memory that the process may have is taken before each call, which
 //! has to be refused then, and to leave everything as it was; with the word `one` a call has to be
-//! refused where one of its allocations was, which tests/c/refused.c sees to; without a word each call
-//! has to succeed. Then there is memory, and the same call has to succeed with the right result. A
-//! line is printed for each call, which also says where it was refused one allocation; the exit
-//! status is 1 where one of them did otherwise.
+//! refused where one of its allocations was, which tests/c/refused.c sees to; without a word each
+//! call has to succeed. Then there is memory, and the same call has to succeed with the right
+//! result. A line is printed for each call, which also says where it was refused one allocation;
+//! the exit status is 1 where one of them did otherwise.
 #![tactic(auto)]
 
 mod decoding;
