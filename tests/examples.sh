@@ -120,7 +120,7 @@ anchors() {
 
 # links PAGE: where its links within the repository lead.
 links() {
-    grep -oE '\]\([^):]+\)' "$1" | sed 's/^](//; s/)$//' | sort -u
+    grep -oE '\]\([^)]+\)' "$1" | sed 's/^](//; s/)$//' | grep -vE '^[a-z]+://' | sort -u
 }
 
 for page in *.md docs/*.md; do

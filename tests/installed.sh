@@ -6,6 +6,7 @@
 program=$(tests/find-program) || exit 1
 install=$(realpath crates/basecode/install.sh)
 changes=$(realpath CHANGELOG.md)
+fpath=$(grep -o 'fpath=([^)]*)' README.md)
 cd "$room" || exit 1
 
 files() {
@@ -74,6 +75,17 @@ is 'bash: no such name' '' "$(completed basecode encode NOPE)"
 is 'bash: nothing behind a list' '' "$(completed basecode list '')"
 is 'bash: nothing behind a name' '' "$(completed basecode encode HEXLOWER '')"
 is 'bash: nothing behind no verb' '' "$(completed basecode recode '')"
+is 'bash: a verb behind an input' 'encode' "$(completed basecode '<' file enc)"
+is 'bash: a verb behind two files' 'encode' "$(completed basecode '<' a:b 2 '>>' err enc)"
+is 'bash: a verb behind a file in parts' 'encode' "$(completed basecode '<' a : b = c enc)"
+is 'bash: a name behind an input' 'HEXUPPER HEXUPPER_PERMISSIVE' \
+    "$(completed basecode encode '<' file HEXU)"
+is 'bash: a name between files' 'HEXUPPER HEXUPPER_PERMISSIVE' \
+    "$(completed basecode 2 '>' err encode '>' out HEXU)"
+is 'bash: nothing behind a name and a file' '' "$(completed basecode encode HEXLOWER '<' file '')"
+is 'bash: no verb for an input' '' "$(completed basecode '<' e)"
+is 'bash: no name for an output' '' "$(completed basecode encode '>' HEXU)"
+is 'bash: nothing for a redirection' '' "$(completed basecode encode '<')"
 
 # typed SHELL SETUP KEYS: types the keys in a shell in a terminal, after the setup, and ends it.
 typed() {
@@ -105,10 +117,12 @@ os.waitpid(child, 0)
 ' "$@"
 }
 
-# Each shell in which completion is tried: what starts it, and what it is told at first.
+# Each shell in which completion is tried: what starts it, and what it is told at first. To zsh this
+# is the line of README.md, for a home that has the folder.
 share=prefix/share
+ln -s prefix .local
 shells="bash --norc --noprofile -i|. $share/bash-completion/completions/basecode
-zsh -f -i|fpath=($share/zsh/site-functions \$fpath); autoload -Uz compinit; compinit -u -D
+zsh -f -i|HOME=$room; $fpath; autoload -Uz compinit; compinit -u -D
 fish --no-config -i|source $share/fish/vendor_completions.d/basecode.fish"
 
 # completes SHELL SETUP PROGRAM: whether a name and a file are completed in a line that is run.
@@ -117,6 +131,9 @@ completes() {
     rm -f typed.output
     typed "$1" "$2" "$3 encode HEXUPPER_\\t<file-w\\t>typed.output"
     is "$shell, typed: $3, a name, a file" 48656C6C6F "$(cat typed.output 2>&1)"
+    rm -f typed.output
+    typed "$1" "$2" "$3 <file-with-a-name >typed.output enc\\t HEXUPPER_\\t"
+    is "$shell, typed: $3, behind files" 48656C6C6F "$(cat typed.output 2>&1)"
 }
 
 printf Hello >file-with-a-name
@@ -158,6 +175,10 @@ if command -v fish >/dev/null; then
     is 'fish: names' 'HEXUPPER HEXUPPER_PERMISSIVE ' "$(offered 'basecode decode HEXU')"
     is 'fish: nothing behind a list' '' "$(offered 'basecode list ')"
     is 'fish: nothing behind a name' '' "$(offered 'basecode encode HEXLOWER ')"
+    is 'fish: a verb behind an input' 'encode ' "$(offered 'basecode < file enc')"
+    is 'fish: names between files' 'HEXUPPER HEXUPPER_PERMISSIVE ' \
+        "$(offered 'basecode 2>err decode >>out HEXU')"
+    is 'fish: nothing behind a name and a file' '' "$(offered 'basecode encode HEXLOWER <file ')"
 else
     skip 'completions of fish: no fish'
 fi

@@ -65,8 +65,10 @@ check 'a hundred words' 2 '' "$usage" 4G $(seq 100)
 check 'no verb' 2 '' "$usage" 4G recode NOPE
 check 'an empty verb' 2 '' "$usage" 4G '' HEXLOWER
 
-# Words that `main` can't take are out of memory, whatever the cause.
-check 'a word that is not UTF-8' 4 '' 'basecode: out of memory' 4G encode $'\xff'
+unknown='basecode: unknown encoding:'
+check 'a name that is not UTF-8' 2 '' "$unknown a\\xffb\\xc3" 4G encode $'a\xffb\xc3'
+check 'a name of other letters' 2 '' "$unknown caf"$'\xc3\xa9' 4G encode $'caf\xc3\xa9'
+check 'a verb that is not UTF-8' 2 '' "$usage" 4G $'\xff' HEXLOWER
 
 long=$(printf '%06000d' 0)
 check 'an unknown name that is long' 2 '' "basecode: unknown encoding: $long" 4G decode "$long"
@@ -90,10 +92,26 @@ if command -v python3 >/dev/null; then
     holds 'a fault in one write' one_write 'basecode: invalid symbol at 1' decode HEXLOWER
     holds 'the usage in one write' one_write "$usage" recode NOPE
     holds 'a name in one write' one_write 'basecode: unknown encoding: NOPE' decode NOPE
-    holds 'no memory in one write' one_write 'basecode: out of memory' encode $'\xff'
     # With 28 bytes before the name and LF behind it, the line has 4096 bytes.
     name=${long::4067}
     holds '4096 bytes in one write' one_write "basecode: unknown encoding: $name" decode "$name"
+
+    # In the least memory in which the program starts, there is none for these words.
+    is 'no memory for the words, in one write' '4 basecode: out of memory True' "$(python3 -c '
+import resource, socket, subprocess, sys
+words = [sys.argv[1], "encode"] + ["a" * 100000] * 15
+for limit in range(3 << 20, 64 << 20, 1 << 18):
+    here, there = socket.socketpair(socket.AF_UNIX, socket.SOCK_SEQPACKET)
+    try:
+        status = subprocess.run(
+            words, stdout=subprocess.DEVNULL, stderr=there,
+            preexec_fn=lambda: resource.setrlimit(resource.RLIMIT_AS, (limit, limit))).returncode
+    except OSError:
+        continue
+    there.close()
+    if status in range(127):
+        print(status, here.recv(65536).decode().strip(), here.recv(1) == b"")
+        break' "$program" <input)"
 else
     skip 'lines in one write: no python3'
 fi

@@ -75,7 +75,8 @@ done
 
 offline=(--no-build-isolation --no-index --no-deps)
 holds 'a wheel' quietly "$python" -m pip wheel "${offline[@]}" --wheel-dir wheels ./bindings/python
-is 'the name of the wheel' 1 "$(ls wheels | grep -c '^data_encoding-.*-cp311-abi3-')"
+version=$(sed -n 's/^## //p' CHANGELOG.md | head -n 1)
+is 'the name of the wheel' 1 "$(ls wheels | grep -c "^data_encoding-$version-cp311-abi3-")"
 holds 'an installed wheel' quietly "$python" -m pip install "${offline[@]}" --no-compile \
     --target site wheels/*.whl
 is 'what is installed' $'__init__.py\n_native.abi3.so\n_native.pyi\npy.typed' \

@@ -1,11 +1,17 @@
 # Completes the words of basecode(1) in fish.
 
+# The words before that at the cursor, without redirections.
+function __basecode_words
+    commandline -pc | string replace -r '\S*$' '' |
+        string replace -ra '[0-9&]*[<>]+[&?]?\s*\S+' '' | string split -n ' '
+end
+
 function __basecode_takes_verb
-    test (count (commandline -opc)) -eq 1
+    test (count (__basecode_words)) -eq 1
 end
 
 function __basecode_takes_name
-    set -l words (commandline -opc)
+    set -l words (__basecode_words)
     test (count $words) -eq 2
     and contains -- $words[2] encode decode canonical
 end

@@ -57,7 +57,7 @@ fn encode<'a>(
     let mut reader = Watch::new(input);
     let mut writer = Watch::new(output);
     let mut faults = Vec::new(alloc);
-    let status = run(&words, &mut reader, &mut writer, &mut faults);
+    let status = run(alloc, &words, &mut reader, &mut writer, &mut faults);
     Ok(Outcome {
         status,
         rest: reader.into_inner(),
@@ -91,7 +91,7 @@ fn decode<'a>(
     let mut reader = Watch::new(input);
     let mut writer = Watch::new(output);
     let mut faults = Vec::new(alloc);
-    let status = run(&words, &mut reader, &mut writer, &mut faults);
+    let status = run(alloc, &words, &mut reader, &mut writer, &mut faults);
     Ok(Outcome {
         status,
         rest: reader.into_inner(),
@@ -126,7 +126,7 @@ fn list<R: Read>(
     let words = vec![in alloc; String::from_str(alloc, "list")?]?;
     let mut writer = Watch::new(output);
     let mut faults = Vec::new(alloc);
-    let status = run(&words, reader, &mut writer, &mut faults);
+    let status = run(alloc, &words, reader, &mut writer, &mut faults);
     if status != 0 {
         return Ok(None);
     }
@@ -142,7 +142,7 @@ fn canonical(alloc: Global, name: &str) -> Result<Option<bool>, AllocError>
     let mut reader = Watch::new(b"".as_slice());
     let mut writer = Watch::new(Vec::new(alloc));
     let mut faults = Vec::new(alloc);
-    let status = run(&words, &mut reader, &mut writer, &mut faults);
+    let status = run(alloc, &words, &mut reader, &mut writer, &mut faults);
     if status != 0 {
         return Ok(None);
     }

@@ -12,9 +12,11 @@ use crate::fault::{exit_status, tell};
 use data_encoding::laws::sound_text;
 use data_encoding::{Encoding, predefined_names};
 use encoding_stream::{StreamFault, Watch, decode_stream, encode_stream};
+use std::alloc::Global;
 use std::io::{Read, Write};
 
-/// Does what the arguments say, and returns the exit status. It takes no memory.
+/// Does what the words say, and returns the exit status. It takes no memory: of the allocator it
+/// makes no use.
 ///
 /// `list` writes the names of the encodings, each followed by LF, and `canonical NAME` whether data
 /// has one text only by an encoding, as `true` or `false` and LF; neither reads anything. `encode
@@ -24,11 +26,12 @@ use std::io::{Read, Write};
 /// A text that has a fault is read to its end too, and the bytes of the groups before the first
 /// faulty one are written and flushed: status 1. So is an input with more bytes than the limit of
 /// its verb, `u64::MAX` and `DECODE_LIMIT`; it is not read to its end, and nothing is flushed.
-/// Wrong arguments are status 2, and then nothing is read or written. A read, a write or a flush
-/// that failed ends the run with status 3. But for wrong arguments, a beginning of what was asked
+/// Wrong words are status 2, and then nothing is read or written. A read, a write or a flush
+/// that failed ends the run with status 3. But for wrong words, a beginning of what was asked
 /// for is written in every case. What went wrong is printed to `faults` as a line; a failure to
 /// print it changes nothing.
 pub fn run<R: Read, W: Write, F: Write>(
+    _alloc: Global,
     words: &[String],
     reader: &mut Watch<R>,
     writer: &mut Watch<W>,

@@ -16,7 +16,7 @@ use data_encoding::laws::steps;
 use data_encoding::{DECODE_LIMIT, DecodeError, Encoding};
 use std::io::{Read, Write};
 
-// The bytes of text that are asked for at a time.
+// The bytes of text that are decoded at a time.
 const CHUNK: usize = 32768;
 
 // The room for what they decode to.
@@ -25,11 +25,12 @@ const ROOM: usize = CHUNK + 8;
 /// Reads a text to the end, writes what it decodes to, and then flushes once. It takes no memory:
 /// its buffers are 64 KiB of the stack.
 ///
-/// The text is read to its end also where it has a fault: the bytes of the groups before the first
-/// faulty one are written, the writer is flushed, and the fault of the whole text is returned. The
-/// first call of the reader or the writer that fails ends it, an interrupted one too. More than
-/// `DECODE_LIMIT` bytes are too long. Where it ends early, a beginning of what the text decodes to
-/// is written, and where a read failed or the input is too long, nothing is flushed.
+/// A read asks for at most 8,192 bytes. The text is read to its end also where it has a fault: the
+/// bytes of the groups before the first faulty one are written, the writer is flushed, and the
+/// fault of the whole text is returned. The first call of the reader or the writer that fails ends
+/// it, an interrupted one too. More than `DECODE_LIMIT` bytes are too long. Where it ends early, a
+/// beginning of what the text decodes to is written, and where a read failed or the input is too
+/// long, nothing is flushed.
 pub fn decode_stream<R: Read, W: Write>(
     encoding: &Encoding,
     reader: &mut Watch<R>,

@@ -14,15 +14,16 @@ use data_encoding::{DecodeError, ENCODE_LIMIT, Encoding};
 use std::io;
 use std::io::{Read, Write};
 
-// The room for the text of what is asked for at a time, which goes out in one call.
+// The room for the text of what is encoded at a time, which goes out in one call.
 const ROOM: usize = 49152;
 
 /// Reads data to the end, writes its text, and then flushes once. It takes no memory: its buffers
 /// are 96 KiB of the stack.
 ///
-/// The first call of the reader or the writer that fails ends it, an interrupted one too. More than
-/// `u64::MAX` bytes are too long. Where it ends early, a beginning of the text of what was read is
-/// written, and where a read failed or the input is too long, nothing is flushed.
+/// A read asks for at most 8,192 bytes. The first call of the reader or the writer that fails ends
+/// it, an interrupted one too. More than `u64::MAX` bytes are too long. Where it ends early, a
+/// beginning of the text of what was read is written, and where a read failed or the input is too
+/// long, nothing is flushed.
 pub fn encode_stream<R: Read, W: Write>(
     encoding: &Encoding,
     reader: &mut Watch<R>,

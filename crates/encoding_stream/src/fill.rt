@@ -1,15 +1,19 @@
 //! Reading as many bytes as a buffer holds.
 
-ghost use Rattle.std.specs.Prelude.{◌≡◌, ℕ, ◌<◌, ◌≤◌, List, length, take, false, is_err, IfOk, OnErr};
-ghost use Rattle.std.specs.Io.KnownBytes.{Consumes, IsAtEnd};
+ghost use Rattle.std.specs.Prelude.{◌≡◌, ℕ, ◌<◌, ◌≤◌, ◌||◌, List, length, take, false, is_err, IfOk, OnErr};
+ghost use Rattle.std.specs.Io.{ReadsAtMost};
+ghost use Rattle.std.specs.Io.KnownBytes.{Consumes, IsAtEnd, ReadConsumes};
 ghost use Rattle.encoding_stream.specs.Watch.{has_failed, inner_of};
 
 use crate::watch::Watch;
 use std::io;
 use std::io::Read;
 
-/// Reads until the buffer is full or the reader is at its end, and returns how many bytes were
-/// read. The first call that fails ends it, an interrupted one too.
+// The most bytes that one read asks for.
+const MOST_READ: usize = 8192;
+
+/// Reads until the buffer is full or the reader is at its end, by reads of at most 8,192 bytes, and
+/// returns how many bytes were read. The first call that fails ends it, an interrupted one too.
 pub(crate) fn fill<R: Read>(reader: &mut Watch<R>, buffer: &mut [u8]) -> io::Result<usize>
     requires works { has_failed reader.old ≡ false }
     ensures bound { IfOk result (λ count. count ≤ length buffer.new) }
@@ -23,11 +27,23 @@ pub(crate) fn fill<R: Read>(reader: &mut Watch<R>, buffer: &mut [u8]) -> io::Res
 {
     let mut filled = 0;
     while filled < buffer.len() {
-        let count = reader.read(&mut buffer[filled..])?;
+        let count = read_once(reader, &mut buffer[filled..])?;
         if count == 0 {
             break;
         }
         filled += count;
     }
     Ok(filled)
+}
+
+// Reads once, and asks for no more than one read may.
+fn read_once<R: Read>(reader: &mut Watch<R>, buf: &mut [u8]) -> io::Result<usize>
+    ensures bound { ReadsAtMost result buf.new }
+    ensures bytes { ReadConsumes (R.remaining (inner_of reader.old))
+        (R.remaining (inner_of reader.new)) result buf.new }
+    ensures failed { has_failed reader.new ≡ (has_failed reader.old || is_err result) }
+    ensures len { length buf.new ≡ length buf.old }
+{
+    let most = buf.len().min(MOST_READ);
+    reader.read(&mut buf[..most])
 }

@@ -1,22 +1,39 @@
 //! Calls that decode.
 
 use crate::hog::Hog;
-use data_encoding::{DecodeKind, Encoding, base64, base64_mime, base64_nopad, hexlower};
+use data_encoding::{
+    DecodeError, DecodeFault, DecodeKind, Encoding, base64, base64_mime, base64_nopad, hexlower,
+};
 use encoding_stream::Decoder;
 
 const TEXT: &[u8] = b"SGVsbG8";
 
-/// `Encoding::decode`.
+/// `Encoding::decode`, which asks for no memory where the length of a text is invalid.
 pub fn decodes(hog: &mut Hog) -> bool {
     hog.fill();
     let first = base64_nopad().decode(hog.alloc, TEXT);
     hog.clear();
+    let is_refused = matches!(first, Err(DecodeFault::OutOfMemory));
     let second = base64_nopad().decode(hog.alloc, TEXT);
-    first.is_err() == hog.is_greedy
+    is_refused == hog.has_refused(true)
+        && first.is_err() == is_refused
         && match second {
             Ok(bytes) => bytes.as_slice() == b"Hello".as_slice(),
             Err(_) => false,
         }
+        && tells_a_length(hog)
+}
+
+// Whether three characters of padded base64 are an invalid length where no memory is left.
+fn tells_a_length(hog: &mut Hog) -> bool {
+    let fault = DecodeError {
+        position: 0,
+        kind: DecodeKind::Length,
+    };
+    hog.fill();
+    let answer = base64().decode(hog.alloc, b"AAB");
+    hog.clear();
+    !hog.has_refused(false) && matches!(answer, Err(DecodeFault::Error(error)) if error == fault)
 }
 
 /// `Decoder::push`.
@@ -50,7 +67,7 @@ fn is_pushed(hog: &mut Hog, encoding: &Encoding, front: &[u8], piece: &[u8]) -> 
     hog.fill();
     let first = decoder.push(piece, &mut output);
     hog.clear();
-    if first.is_err() != (hog.is_greedy && !piece.is_empty()) {
+    if first.is_err() != hog.has_refused(!piece.is_empty()) {
         return false;
     }
     if first.is_err() && (!output.is_empty() || decoder.len() != front.len()) {
@@ -103,5 +120,5 @@ fn is_finished(hog: &mut Hog, text: &[u8], want: Result<&[u8], DecodeKind>) -> b
         }
         (Err(_), _) => false,
     };
-    is_right && held.is_ok() && is_refused == (hog.is_greedy && want.is_ok())
+    is_right && held.is_ok() && is_refused == hog.has_refused(want.is_ok())
 }

@@ -17,7 +17,7 @@ pub fn encodes(hog: &mut Hog) -> bool {
     let first = base64().encode(hog.alloc, HELLO);
     hog.clear();
     let second = base64().encode(hog.alloc, HELLO);
-    first.is_err() == hog.is_greedy
+    first.is_err() == hog.has_refused(true)
         && match second {
             Ok(text) => text.as_str() == "SGVsbG8=",
             Err(_) => false,
@@ -52,7 +52,7 @@ fn is_appended(hog: &mut Hog, encoding: &Encoding, input: &[u8]) -> bool {
     hog.fill();
     let first = encoding.encode_append(input, &mut output);
     hog.clear();
-    if first.is_err() != hog.is_greedy {
+    if first.is_err() != hog.has_refused(true) {
         return false;
     }
     if first.is_err() {
@@ -111,7 +111,7 @@ fn is_encoded(hog: &mut Hog, encoding: &Encoding, input: &[u8], has_block: bool)
     held.is_ok()
         && second.is_ok()
         && is_finalized
-        && first.is_err() == (hog.is_greedy && has_block)
+        && first.is_err() == hog.has_refused(has_block)
         && output.as_str() == want.as_str()
 }
 
@@ -139,5 +139,5 @@ fn is_finalized(hog: &mut Hog, encoding: &Encoding, text: &str) -> bool {
             }
         },
     };
-    is_finalized && held.is_ok() && is_refused == hog.is_greedy && output.as_str() == text
+    is_finalized && held.is_ok() && is_refused == hog.has_refused(true) && output.as_str() == text
 }

@@ -1,9 +1,11 @@
-//! Each public call that takes memory, where none is left.
+//! Each public call that takes memory, where none is left, or one allocation is refused.
 //!
 //! With the word `refused` all memory that the process may have is taken before each call, which
-//! has to be refused then, and to leave everything as it was; without it each call has to succeed.
-//! Then the memory is given back, and the same call has to succeed with the right result. A line is
-//! printed for each call, and the exit status is 1 where one of them did otherwise.
+//! has to be refused then, and to leave everything as it was; with the word `one` a call has to be
+//! refused where one of its allocations was, which tests/c/refused.c sees to; without a word each
+//! call has to succeed. Then there is memory, and the same call has to succeed with the right
+//! result. A line is printed for each call, which also says where it was refused one allocation;
+//! the exit status is 1 where one of them did otherwise.
 #![tactic(auto)]
 
 mod decoding;
@@ -11,47 +13,82 @@ mod encoding;
 mod hog;
 mod specifications;
 
-use hog::Hog;
+use hog::{Hog, Refused};
 use std::process::ExitCode;
 use std::{env, io};
 
-// A call, and whether it did what it has to.
-type Row = (&'static str, bool);
+// A call, whether it did what it has to, and whether it was refused one allocation.
+type Row = (&'static str, bool, bool);
 
 // What each call did.
 fn rows(hog: &mut Hog) -> [Row; 11] {
     [
-        ("encode", encoding::encodes(hog)),
-        ("encode_append", encoding::appends(hog)),
-        ("Encoder::append", encoding::appends_fragments(hog)),
-        ("Encoder::finalize", encoding::finalizes(hog)),
-        ("decode", decoding::decodes(hog)),
-        ("Decoder::push", decoding::pushes(hog)),
-        ("Decoder::finish", decoding::finishes(hog)),
-        ("specification", specifications::specifies(hog)),
-        ("Specification::try_clone", specifications::clones(hog)),
+        ("encode", encoding::encodes(hog), hog.take_refused_one()),
+        (
+            "encode_append",
+            encoding::appends(hog),
+            hog.take_refused_one(),
+        ),
+        (
+            "Encoder::append",
+            encoding::appends_fragments(hog),
+            hog.take_refused_one(),
+        ),
+        (
+            "Encoder::finalize",
+            encoding::finalizes(hog),
+            hog.take_refused_one(),
+        ),
+        ("decode", decoding::decodes(hog), hog.take_refused_one()),
+        (
+            "Decoder::push",
+            decoding::pushes(hog),
+            hog.take_refused_one(),
+        ),
+        (
+            "Decoder::finish",
+            decoding::finishes(hog),
+            hog.take_refused_one(),
+        ),
+        (
+            "specification",
+            specifications::specifies(hog),
+            hog.take_refused_one(),
+        ),
+        (
+            "Specification::try_clone",
+            specifications::clones(hog),
+            hog.take_refused_one(),
+        ),
         (
             "Translate::try_clone",
             specifications::clones_translate(hog),
+            hog.take_refused_one(),
         ),
-        ("Wrap::try_clone", specifications::clones_wrap(hog)),
+        (
+            "Wrap::try_clone",
+            specifications::clones_wrap(hog),
+            hog.take_refused_one(),
+        ),
     ]
 }
 
-// Whether the first word is `refused`.
-fn is_to_refuse(rt: &HostRuntime) -> io::Result<bool> {
+// Which memory is refused, by the first word.
+fn refused_by(rt: &HostRuntime) -> io::Result<Refused> {
     match env::args(rt)?.skip(1).next() {
-        Some(word) => Ok(word.as_str() == "refused"),
-        None => Ok(false),
+        Some(word) if word.as_str() == "refused" => Ok(Refused::All),
+        Some(word) if word.as_str() == "one" => Ok(Refused::One),
+        _ => Ok(Refused::Nothing),
     }
 }
 
 fn main(rt: HostRuntime) -> io::Result<ExitCode> {
-    let mut hog = Hog::new(rt.alloc(), is_to_refuse(&rt)?)?;
+    let mut hog = Hog::new(rt.alloc(), refused_by(&rt)?)?;
     let mut status = 0;
-    for (name, is_right) in rows(&mut hog) {
+    for (name, is_right, is_refused) in rows(&mut hog) {
         let answer = if is_right { "right" } else { "wrong" };
-        println!(rt; "{name}: {answer}")?;
+        let refused = if is_refused { ", refused" } else { "" };
+        println!(rt; "{name}: {answer}{refused}")?;
         if !is_right {
             status = 1;
         }

@@ -1,69 +1,101 @@
 //! Specifications, and their copies.
 
 use crate::hog::Hog;
-use data_encoding::{Specification, base32_nopad_visual, base64_mime};
+use data_encoding::{BitOrder, Encoding, Specification, SpecificationParts, Translate};
 
-// The symbols, and what is translated.
-fn is_visual(specification: &Specification) -> bool {
-    specification.symbols.as_str() == "ABCDEFGHIJKLMNOPQRSTUVWXYZ234567"
-        && specification.translate.from.as_str() == "018l"
-        && specification.translate.to.as_str() == "OIBI"
+const SYMBOLS: &str = "ABCDEFGHIJKLMNOPQRSTUVWXYZ234567";
+
+// An encoding whose specification has five texts that are not empty.
+fn lines_of_base32() -> Option<Encoding> {
+    let parts = SpecificationParts {
+        symbols: SYMBOLS.as_bytes(),
+        bit_order: BitOrder::MostSignificantFirst,
+        check_trailing_bits: true,
+        concatenate: true,
+        padding: None,
+        ignore: b" ",
+        wrap_width: 64,
+        wrap_separator: b"\r\n",
+        translate_from: b"0189",
+        translate_to: b"OIBP",
+    };
+    parts.encoding().ok()
+}
+
+// Whether it is that of the encoding.
+fn is_right(specification: &Specification) -> bool {
+    specification.symbols.as_str() == SYMBOLS
+        && specification.ignore.as_str() == "\n\r "
+        && specification.wrap.width == 64
+        && specification.wrap.separator.as_str() == "\r\n"
+        && is_translated(&specification.translate)
+}
+
+fn is_translated(translate: &Translate) -> bool {
+    translate.from.as_str() == "0189" && translate.to.as_str() == "OIBP"
 }
 
 /// `Encoding::specification`.
 pub fn specifies(hog: &mut Hog) -> bool {
+    let Some(encoding) = lines_of_base32() else {
+        return false;
+    };
     hog.fill();
-    let first = base32_nopad_visual().specification(hog.alloc);
+    let first = encoding.specification(hog.alloc);
     hog.clear();
-    let second = base32_nopad_visual().specification(hog.alloc);
-    first.is_err() == hog.is_greedy
-        && match second {
-            Ok(specification) => is_visual(&specification),
+    first.is_err() == hog.has_refused(true)
+        && match encoding.specification(hog.alloc) {
+            Ok(specification) => is_right(&specification),
             Err(_) => false,
         }
 }
 
+// The specification whose copies are tried.
+fn specification_of(hog: &Hog) -> Option<Specification> {
+    lines_of_base32()?.specification(hog.alloc).ok()
+}
+
 /// `Specification::try_clone`.
 pub fn clones(hog: &mut Hog) -> bool {
-    let Ok(specification) = base32_nopad_visual().specification(hog.alloc) else {
+    let Some(specification) = specification_of(hog) else {
         return false;
     };
     hog.fill();
     let first = specification.try_clone();
     hog.clear();
-    first.is_err() == hog.is_greedy
+    first.is_err() == hog.has_refused(true)
         && match specification.try_clone() {
-            Ok(copy) => is_visual(&copy),
+            Ok(copy) => is_right(&copy) && is_right(&specification),
             Err(_) => false,
         }
 }
 
 /// `Translate::try_clone`.
 pub fn clones_translate(hog: &mut Hog) -> bool {
-    let Ok(specification) = base32_nopad_visual().specification(hog.alloc) else {
+    let Some(specification) = specification_of(hog) else {
         return false;
     };
     hog.fill();
     let first = specification.translate.try_clone();
     hog.clear();
-    first.is_err() == hog.is_greedy
+    first.is_err() == hog.has_refused(true)
         && match specification.translate.try_clone() {
-            Ok(copy) => copy.from.as_str() == "018l" && copy.to.as_str() == "OIBI",
+            Ok(copy) => is_translated(&copy),
             Err(_) => false,
         }
 }
 
 /// `Wrap::try_clone`.
 pub fn clones_wrap(hog: &mut Hog) -> bool {
-    let Ok(specification) = base64_mime().specification(hog.alloc) else {
+    let Some(specification) = specification_of(hog) else {
         return false;
     };
     hog.fill();
     let first = specification.wrap.try_clone();
     hog.clear();
-    first.is_err() == hog.is_greedy
+    first.is_err() == hog.has_refused(true)
         && match specification.wrap.try_clone() {
-            Ok(copy) => copy.width == 76 && copy.separator.as_str() == "\r\n",
+            Ok(copy) => copy.width == 64 && copy.separator.as_str() == "\r\n",
             Err(_) => false,
         }
 }

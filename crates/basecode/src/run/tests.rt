@@ -5,7 +5,7 @@ mod failures;
 mod refusals;
 
 use super::*;
-use std::alloc::{AllocError, Global};
+use std::alloc::AllocError;
 use std::io;
 use std::io::ErrorKind;
 use std::test::Fail;
@@ -148,7 +148,7 @@ fn outcome_with(
     let words = words_of(alloc, line)?;
     let mut reader = Watch::new(reader);
     let mut writer = Watch::new(writer);
-    let status = run(&words, &mut reader, &mut writer, &mut faults);
+    let status = run(alloc, &words, &mut reader, &mut writer, &mut faults);
     Ok(Outcome {
         status,
         read_failed: reader.failed(),

@@ -6,20 +6,22 @@ use std::alloc::Global;
 use std::io;
 use std::io::{ErrorKind, Read, Write};
 
-// Gives at most so many bytes a call. The call after so many good ones is interrupted, and those
-// after it are good again.
+// Gives at most so many bytes a call, and notes the most that it was asked for. The call after so
+// many good ones is interrupted, and those after it are good again.
 #[derive(Drop)]
 pub(super) struct Slow<'a> {
     bytes: &'a [u8],
     most: usize,
     pub(super) good: usize,
     calls: usize,
+    asked: usize,
 }
 
 impl Read for Slow<'_> {
     fn read(&mut self, buf: &mut [u8]) -> io::Result<usize> {
         let call = self.calls;
         self.calls = call.saturating_add(1);
+        self.asked = self.asked.max(buf.len());
         if call == self.good {
             return Err(io::Error::from(ErrorKind::Interrupted));
         }
@@ -97,6 +99,7 @@ impl Write for Narrow {
 pub(super) struct Outcome {
     pub(super) result: Result<(), StreamFault>,
     pub(super) reads: usize,
+    pub(super) asked: usize,
     read_failed: bool,
     write_failed: bool,
     pub(super) writer: Narrow,
@@ -109,11 +112,14 @@ impl Outcome {
         reader: Watch<Slow<'_>>,
         writer: Watch<Narrow>,
     ) -> Outcome {
+        let read_failed = reader.failed();
+        let reader = reader.into_inner();
         Outcome {
             result: answer,
-            read_failed: reader.failed(),
+            read_failed,
             write_failed: writer.failed(),
-            reads: reader.into_inner().calls,
+            reads: reader.calls,
+            asked: reader.asked,
             writer: writer.into_inner(),
         }
     }
@@ -142,5 +148,6 @@ pub(super) fn reader_of(bytes: &[u8], most: usize) -> Slow<'_> {
         most,
         good: usize::MAX,
         calls: 0,
+        asked: 0,
     }
 }

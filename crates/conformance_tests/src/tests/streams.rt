@@ -93,24 +93,26 @@ pub(super) fn written(alloc: Global, encoding: &Encoding, data: &[u8]) -> Result
     Ok(answer)
 }
 
-// The reads and writes of so many bytes where each call takes all that it is given.
+// The reads and writes of so many bytes where each call takes all that it is given, and the most
+// that one read asked for.
 pub(super) fn encode_calls(alloc: Global, encoding: &Encoding, len: &str) -> Result<String, Fail> {
     let bytes = bytes_of_length(alloc, len.parse()?)?;
     let most = (usize::MAX, usize::MAX);
     let got = run_slowly(alloc, Way::Encode, encoding, &bytes, most);
-    let (reads, writes) = (got.reads, got.writer.writes);
-    Ok(format!(in alloc; "{reads} reads, {writes} writes")?)
+    let (reads, asked, writes) = (got.reads, got.asked, got.writer.writes);
+    Ok(format!(in alloc; "{reads} reads of {asked}, {writes} writes")?)
 }
 
-// The reads of a text.
+// The reads of a text, and the most that one asked for.
 pub(super) fn decode_reads(
     alloc: Global,
     encoding: &Encoding,
     text: &[u8],
 ) -> Result<String, Fail> {
     let most = (usize::MAX, usize::MAX);
-    let reads = run_slowly(alloc, Way::Decode, encoding, text, most).reads;
-    Ok(format!(in alloc; "{reads} reads")?)
+    let got = run_slowly(alloc, Way::Decode, encoding, text, most);
+    let (reads, asked) = (got.reads, got.asked);
+    Ok(format!(in alloc; "{reads} reads of {asked}")?)
 }
 
 // Compares what the stream of so many bytes writes with what `encode` returns, where a read gives

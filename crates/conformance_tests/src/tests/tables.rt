@@ -361,21 +361,21 @@ pub(super) const ENCODED_STREAMS: &str = "\
 BASE64_MIME|57000×\0|\
     1000×AAAAAAAAAAAAAAAAAAAAAAAAAAAAAAAAAAAAAAAAAAAAAAAAAAAAAAAAAAAAAAAAAAAAAAAAAAAA←↵";
 
-// How often a stream of so many bytes reads and writes: if the last piece is not full, one read
-// more finds the end.
+// How often a stream of so many bytes reads and writes, and the most that a read asks for: if the
+// last piece is not full, one read more finds the end.
 pub(super) const ENCODE_CALLS: &str = "\
-hex|most|check|||0||||0|1 reads, 0 writes
-hex|most|check|||0||||24575|2 reads, 1 writes
-hex|most|check|||0||||24576|2 reads, 1 writes
-hex|most|check|||0||||98304|5 reads, 4 writes
-base64|most|check|=||76|←↵|||35910|2 reads, 1 writes
-base64|most|check|=||76|←↵|||35911|3 reads, 2 writes
-binary|most|check|||8|dashes|||186|2 reads, 1 writes
-binary|most|check|||8|dashes|||187|3 reads, 2 writes";
+hex|most|check|||0||||0|1 reads of 8192, 0 writes
+hex|most|check|||0||||24575|4 reads of 8192, 1 writes
+hex|most|check|||0||||24576|4 reads of 8192, 1 writes
+hex|most|check|||0||||98304|13 reads of 8192, 4 writes
+base64|most|check|=||76|←↵|||35910|6 reads of 8192, 1 writes
+base64|most|check|=||76|←↵|||35911|7 reads of 8192, 2 writes
+binary|most|check|||8|dashes|||186|2 reads of 186, 1 writes
+binary|most|check|||8|dashes|||187|3 reads of 186, 2 writes";
 
 pub(super) const DECODE_READS: &str = "\
 BASE64_MIME|1000×AAAAAAAAAAAAAAAAAAAAAAAAAAAAAAAAAAAAAAAAAAAAAAAAAAAAAAAAAAAAAAAAAAAAAAAAAAAA←↵|\
-    4 reads";
+    11 reads of 8192";
 
 // The length of data, and the lengths of what the calls of a writer are given, one by one.
 pub(super) const BUFFERED: &str = "\

@@ -8,7 +8,7 @@ pub loop-filled-preserved : goal.loop-filled-preserved
 loop-filled-preserved g c =
     let read = c.in_ok-count.ensures in
     let joined =
-    take-read c.loop-filled.filled c.in_ok-count.count c.loop-filled.buffer c.read.new.buf
+    take-read c.loop-filled.filled c.in_ok-count.count c.loop-filled.buffer c.read_once.new.buf
     c.loop-filled.invariant.inside read.bound.0 in
     record {
       inside = grind (arith, common_steps);
