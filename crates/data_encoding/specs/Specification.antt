@@ -3,6 +3,7 @@ use Rattle.std.specs.Prelude.{◌≡◌, true, [], None}
 use Rattle.std.specs.String.{string_bytes}
 use Rattle.data_encoding_meaning.specs.declared.encoding.BitOrder.TheVariants.{MostSignificantFirst}
 use Rattle.data_encoding_meaning.specs.declared.refusal.Refusal.{Refusal}
+use Rattle.data_encoding.specs.declared.specification.bytes.SpecificationBytes.{SpecificationBytes}
 use Rattle.data_encoding.specs.declared.specification.parts.SpecificationParts.{SpecificationParts}
 use Rattle.data_encoding.specs.declared.specification.Specification.{Specification}
 use Rattle.data_encoding.specs.declared.specification.SpecificationError.{SpecificationError}
@@ -41,6 +42,21 @@ fields_of_parts p = record {
   separator = p.wrap_separator.now;
   from = p.translate_from.now;
   to = p.translate_to.now;
+}
+
+-- what a specification of bytes of its own says
+abbrev pub fields_of_bytes : SpecificationBytes → Fields
+fields_of_bytes s = record {
+  symbols = s.symbols.items;
+  order = s.bit_order;
+  checks_trailing_bits = s.check_trailing_bits;
+  concatenates = s.concatenate;
+  padding = s.padding;
+  ignored = s.ignore.items;
+  column = s.wrap_width;
+  separator = s.wrap_separator.items;
+  from = s.translate_from.items;
+  to = s.translate_to.items;
 }
 
 -- nothing but the most significant bit first, and trailing bits checked

@@ -169,6 +169,20 @@ impl Encoding {
         self.fields.concatenates
     }
 
+    /// Whether texts have padding.
+    pub fn is_padded(&self) -> bool
+        ensures { result ≡ is_padded self.now }
+    {
+        self.fields.is_padded()
+    }
+
+    /// Whether bits that are left after the last byte have to be zeros.
+    pub fn checks_trailing_bits(&self) -> bool
+        ensures { result ≡ self.now.checks_trailing_bits }
+    {
+        self.fields.checks_trailing_bits
+    }
+
     /// What a byte means in a text.
     pub fn interpret_byte(&self, byte: u8) -> Character
         ensures { result ≡ meaning self.now byte }

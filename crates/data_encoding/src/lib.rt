@@ -21,6 +21,7 @@ pub use encode::encoder::Encoder;
 pub use encoding::{BitOrder, Character, Encoding, EncodingRef};
 pub use error::{DecodeError, DecodeFault, DecodeKind, DecodePartial};
 pub use plain::PlainEncoding;
+pub use specification::bytes::SpecificationBytes;
 pub use specification::meanings::Refusal;
 pub use specification::parts::SpecificationParts;
 pub use specification::predefined::{

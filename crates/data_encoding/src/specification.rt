@@ -1,6 +1,7 @@
 //! Specifications of encodings, and why one is refused.
 
 pub(crate) mod builder;
+pub(crate) mod bytes;
 pub(crate) mod canonical;
 pub(crate) mod layout;
 pub mod meanings;
@@ -8,7 +9,7 @@ pub(crate) mod parts;
 pub(crate) mod predefined;
 pub(crate) mod tables;
 
-ghost use Rattle.std.specs.Prelude.{◌≡◌, ◌<◌, ◌++◌, ◌∷◌, [], length, nat_lt, IsTrue, IfOk, IfErr, OnOk, Ok, Err};
+ghost use Rattle.std.specs.Prelude.{◌≡◌, ◌<◌, ◌≤◌, ◌++◌, ◌∷◌, [], length, nat_lt, IsTrue, IfOk, IfErr, OnOk, Ok, Err};
 ghost use Rattle.std.specs.List.{list_all};
 ghost use Rattle.std.specs.String.{string_bytes};
 ghost use Rattle.data_encoding_meaning.specs.specification.Fields.{base_of};
@@ -201,6 +202,7 @@ impl EncodingRef<'_> {
     pub(crate) fn tables(&self) -> Tables<'_>
         ensures tables { HasTables self.now result }
         ensures long { length result.values.now ≡ 128 }
+        ensures few { length result.symbols.now ≤ 64 }
         ensures ascii { IsTrue (list_all (λ symbol. nat_lt symbol 128) result.symbols.now) }
     {
         Tables {

@@ -208,11 +208,11 @@ de_status de_is_canonical(de_number number, bool *canonical);
  * DE_NO_DECODER: a len above DE_DECODE_LIMIT; a count of a whole group or more, or above len; held
  * bytes whose positions do not ascend below len, or of which the encoding ignores one; a fault that
  * is neither 0 nor one of the four statuses DE_INVALID_; with a fault, a count that is not 0, a
- * fault_position that is not below len, and a kind of fault that no whole group has, as far as it
- * is tested: DE_INVALID_LENGTH, and DE_INVALID_PADDING if texts have no padding and a group is of
- * more than one byte of data; with no fault, an ended of 1 if texts may be concatenated. Others may
- * pass that no call has left: then what is decoded is not said, but no call reads or writes outside
- * its arrays, and the position that de_decoder_finish writes is below len, or len with DE_OK. */
+ * fault_position that is not below len, and a kind of fault that no whole group has:
+ * DE_INVALID_LENGTH, DE_INVALID_TRAILING_BITS if none are checked, and DE_INVALID_PADDING if texts
+ * have no padding; with no fault, an ended of 1 if texts may be concatenated. Others may pass that
+ * no call has left: then what is decoded is not said, but no call reads or writes outside its
+ * arrays, and the position that de_decoder_finish writes is below len, or len with DE_OK. */
 typedef struct de_decoder {
     /* How many bytes the text has. */
     size_t len;

@@ -1,7 +1,5 @@
 -- Data that is read and encoded piece by piece.
 use Rattle.std.proofs.Common.{◌≡◌, ℕ, ◌+◌, ◌%◌, ◌<◌, List, [], ◌++◌, Option, None, Some, IfSome, ◌⊎◌, inl, inr, length, refl, sym, ap, ◌∙◌, subst, arith, length-append}
-use Rattle.std.proofs.Math.Nat.{mod-add-mod, mul-mod_left, zero-add, zero-mul}
-use Rattle.std.proofs.lemmas.List.{nil_from_length}
 use Rattle.std.specs.Io.KnownBytes.{Appends, Consumes, IsAtEnd}
 use Rattle.std.proofs.KnownBytes.{Appends-nil, Appends-trans, Consumes-nil, Consumes-trans, Consumes-whole}
 use Rattle.data_encoding.specs.Base.{Base}
@@ -11,25 +9,8 @@ use Rattle.data_encoding.specs.Lengths.{alignment}
 use Rattle.data_encoding.specs.Text.{text_of}
 use Rattle.encoding_stream.specs.Encoded.{EncodesAll, EncodesFront, ReadsMore}
 use Rattle.encoding_stream.specs.Watch.{AppendsFront}
+use Rattle.encoding_stream.proofs.BlockLemmas.{none-whole, text_of-nil, whole-both}
 use Rattle.encoding_stream.proofs.WriteLemmas.{AppendsFront-all, AppendsFront-more, AppendsFront-nothing, AppendsFront-within}
-
--- no bytes are whole blocks
-none-whole : (size : ℕ) → 0 % size ≡ 0
-none-whole size = subst (λ n. n % size ≡ 0) (zero-mul size) (mul-mod_left 0 size)
-
--- the lengths of whole blocks, one behind the other
-whole-both : (m n size : ℕ) → m % size ≡ 0 → n % size ≡ 0 → (m + n) % size ≡ 0
-whole-both m n size one other =
-    sym (mod-add-mod m size n) ∙ ap (λ k. (k + n) % size) one ∙ ap (λ k. k % size) (zero-add n) ∙
-    other
-
-module _ (base : Base) (specified : IsSpecified base) (join : JoinEncode) where
-  -- the text of nothing is nothing
-  text_of-nil : text_of base [] ≡ []
-  text_of-nil =
-      let twice = join base specified [] [] (none-whole (alignment base)) in
-      nil_from_length (text_of base [])
-      (omega (arith, ap length twice, length-append (text_of base []) (text_of base [])))
 
 -- Whole blocks of data were read and counted, and their text was written.
 pub record Encoded (base : Base) (read_old read_new written_old written_new : Option (List ℕ))

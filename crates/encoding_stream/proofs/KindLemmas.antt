@@ -22,21 +22,22 @@ use Rattle.encoding_stream.proofs.SizeLemmas.{by_width}
 symbols-kind : (base : Base) (group : List Character)
     → IfSome (symbols_fault base group) (λ fault. is_of_group base fault.kind ≡ true)
 symbols-kind base group =
-    by (position (λ m. not (is_symbol m)) group)
-    (base.checks_trailing_bits && list_any (λ bit. not (bit == 0)) (trailing_bits base group)) where
-      by : (o : Option ℕ) (trails : Bool)
+    by (position (λ m. not (is_symbol m)) group) base.checks_trailing_bits
+    (list_any (λ bit. not (bit == 0)) (trailing_bits base group)) refl where
+      by : (o : Option ℕ) (checks some : Bool) → base.checks_trailing_bits ≡ checks
           → IfSome (fault_at_first o
-          (cond trails (faulty_at TrailingFault (length group - 1)) None))
+          (cond (checks && some) (faulty_at TrailingFault (length group - 1)) None))
           (λ fault. is_of_group base fault.kind ≡ true)
-      by (Some index) trails = refl
-      by None true = refl
-      by None false = tt
+      by (Some index) checks some is = refl
+      by None true true is = is
+      by None true false is = tt
+      by None false some is = tt
 
 padding-kind : (base : Base) (group : List Character) (bad : Bool) (count : ℕ)
     → is_padded base ≡ true
     → IfSome (cond bad (faulty_at PaddingFault count) (symbols_fault base (take count group)))
     (λ fault. is_of_group base fault.kind ≡ true)
-padding-kind base group true count padded = ap (λ b. b || (group_bytes base.width == 1)) padded
+padding-kind base group true count padded = padded
 padding-kind base group false count padded = symbols-kind base (take count group)
 
 valid-group : (width : ℕ) → IsWidth width → is_valid_count width (group_symbols width) ≡ true
@@ -67,8 +68,7 @@ fault-kind : (base : Base) (ended : Bool) (group : List Positioned)
     → (ended ≡ true → is_padded base ≡ true) → IsWidth base.width
     → length group ≡ group_symbols base.width
     → IfSome (fault_after ended base group) (λ error. is_of_group base error.kind ≡ true)
-fault-kind base true group padded width long =
-    ap (λ b. b || (group_bytes base.width == 1)) (padded refl)
+fault-kind base true group padded width long = padded refl
 fault-kind base false group padded width long =
     let same : length (meanings_in base group) ≡ length group = simp length-map in
     located-kind base group (character_fault base (meanings_in base group))

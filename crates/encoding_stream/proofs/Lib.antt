@@ -1,5 +1,6 @@
 pub mod WriteLemmas
 pub mod ReadLemmas
+pub mod BlockLemmas
 pub mod EncodedLemmas
 pub mod SizeLemmas
 pub mod ReadPieceLemmas

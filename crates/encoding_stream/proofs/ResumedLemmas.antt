@@ -14,7 +14,7 @@ use Rattle.data_encoding.specs.Fields.{IsSpecified}
 use Rattle.data_encoding.specs.Pieces.{unfinished, whole_groups, EndsNowhere, HasRead, JoinsUnpadded}
 use Rattle.encoding_stream.specs.declared.pieces.Kept.{Kept}
 use Rattle.encoding_stream.specs.Pieces.{at_positions, paired, Keeps, NoneIgnored}
-use Rattle.encoding_stream.specs.Resume.{is_of_group, Ascend, MayBeKept}
+use Rattle.encoding_stream.specs.Resume.{is_of_group, Ascend, HasPossibleFault, MayBeKept}
 use Rattle.encoding_stream.proofs.KindLemmas.{group-kind}
 use Rattle.encoding_stream.proofs.OrderLemmas.{first-inside, unfinished-ascends}
 use Rattle.encoding_stream.proofs.PieceLemmas.{positions-bytes, unfinished-kept}
@@ -86,57 +86,65 @@ not-true : (b : Bool) → (b ≡ true → ⊥) → b ≡ false
 not-true true h = absurd (h refl)
 not-true false h = refl
 
+-- This is kept of a text by a decoder of an encoding, which the laws hold of.
+record WasKept (base : Base) (text : List ℕ) (kept : Kept) : Type 0 where
+  pub specified : IsSpecified base
+  pub width : IsWidth base.width
+  pub joins : JoinsUnpadded
+  pub nowhere : EndsNowhere
+  pub keeps : Keeps base kept text
+  pub clear : IsSome kept.fault → kept.count ≡ 0
+  pub positions : kept.count ≤ length kept.positions
+  pub bytes : kept.count ≤ length kept.bytes
+
+none-held : {base : Base} {text : List ℕ} {kept : Kept} {error : DecodeError}
+    → WasKept base text kept → kept.fault ≡ Some error → kept.count ≡ 0
+none-held was some = was.clear (subst IsSome (sym some) refl)
+
 -- What is kept of a text passes the tests of what a caller gives back.
-module _ (base : Base) (is : IsSpecified base) (width : IsWidth base.width)
-    (joins : JoinsUnpadded) (nowhere : EndsNowhere) (text : List ℕ) (len count : ℕ)
-    (positions bytes : List ℕ) (ended : Bool) (h : count ≤ length positions)
-    (k : count ≤ length bytes) where
-  in-order : (fault : Option DecodeError)
-      → HasRead base text len fault (at_positions count positions bytes) ended
-      → (IsSome fault → count ≡ 0) → Ascend 0 len (take count positions)
-  in-order None reads clear =
-      subst (λ n. Ascend 0 n (take count positions)) (sym reads.counted)
+module _ {base : Base} {text : List ℕ} {kept : Kept} (was : WasKept base text kept) where
+  in-order : (fault : Option DecodeError) → kept.fault ≡ fault
+      → Ascend 0 kept.len (take kept.count kept.positions)
+  in-order None none =
+      subst (λ n. Ascend 0 n (take kept.count kept.positions)) (sym was.keeps.counted)
       (subst (Ascend 0 (length text))
-      (ap (λ ks. map (λ (q : Positioned). q.position) ks) (sym (reads.holds refl))
-      ∙ positions-positions count positions bytes h k)
+      (ap (λ ks. map (λ (q : Positioned). q.position) ks) (sym (was.keeps.holds none))
+      ∙ positions-positions kept.count kept.positions kept.bytes was.positions was.bytes)
       (unfinished-ascends base text))
-  in-order (Some error) reads clear =
-      subst (λ n. Ascend 0 len (take n positions)) (sym (clear refl)) tt
+  in-order (Some error) some =
+      subst (λ n. Ascend 0 kept.len (take n kept.positions)) (sym (none-held was some)) tt
 
-  none-ignored : (fault : Option DecodeError)
-      → HasRead base text len fault (at_positions count positions bytes) ended
-      → (IsSome fault → count ≡ 0)
-      → All (λ byte. is_ignored (meaning base byte) ≡ false) (take count bytes)
-  none-ignored None reads clear =
+  none-ignored : (fault : Option DecodeError) → kept.fault ≡ fault
+      → All (λ byte. is_ignored (meaning base byte) ≡ false) (take kept.count kept.bytes)
+  none-ignored None none =
       let P : ℕ → Type 0 = λ byte. is_ignored (meaning base byte) ≡ false in
-      subst (All P) (positions-bytes count positions bytes h k)
-      (All-map P (λ (q : Positioned). q.byte) (at_positions count positions bytes)
-      (subst (NoneIgnored base) (sym (reads.holds refl)) (unfinished-kept base text)))
-  none-ignored (Some error) reads clear =
-      subst (λ n. All (λ byte. is_ignored (meaning base byte) ≡ false) (take n bytes))
-      (sym (clear refl)) (All-nil _)
+      subst (All P)
+      (positions-bytes kept.count kept.positions kept.bytes was.positions was.bytes)
+      (All-map P (λ (q : Positioned). q.byte) (at_positions kept.count kept.positions kept.bytes)
+      (subst (NoneIgnored base) (sym (was.keeps.holds none)) (unfinished-kept base text)))
+  none-ignored (Some error) some =
+      subst (λ n. All (λ byte. is_ignored (meaning base byte) ≡ false) (take n kept.bytes))
+      (sym (none-held was some)) (All-nil _)
 
-  inside : (fault : Option DecodeError)
-      → HasRead base text len fault (at_positions count positions bytes) ended
-      → IfSome fault (λ error. error.position < len)
-  inside fault reads =
-      subst (λ f. IfSome f (λ error. error.position < len)) (sym reads.first)
-      (subst (λ n. IfSome (first_fault base (whole_groups base text)) (λ error. error.position < n))
-      (sym reads.counted) (first-inside base width text))
-
-  kind : (fault : Option DecodeError)
-      → HasRead base text len fault (at_positions count positions bytes) ended
-      → IfSome fault (λ error. is_of_group base error.kind ≡ true)
-  kind fault reads =
-      subst (λ f. IfSome f (λ error. is_of_group base error.kind ≡ true)) (sym reads.first)
-      (group-kind base is joins width text)
-
-  ends : (fault : Option DecodeError)
-      → HasRead base text len fault (at_positions count positions bytes) ended
-      → fault ≡ None → ended ≡ true → base.concatenates ≡ false
-  ends fault reads none final =
-      not-true base.concatenates
-      (λ both. cc (reads.ends none, nowhere base both (whole_groups base text), final))
+  fault-possible : HasPossibleFault base kept
+  fault-possible = record {
+    clear = was.clear;
+    inside =
+        subst (λ f. IfSome f (λ error. error.position < kept.len)) (sym was.keeps.first)
+        (subst
+        (λ n. IfSome (first_fault base (whole_groups base text)) (λ error. error.position < n))
+        (sym was.keeps.counted) (first-inside base was.width text));
+    kind =
+        subst (λ f. IfSome f (λ error. is_of_group base error.kind ≡ true)) (sym was.keeps.first)
+        (group-kind base was.specified was.joins was.width text);
+    ends = λ none final.
+        not-true base.concatenates
+        (λ both. cc (
+          was.keeps.ends none,
+          was.nowhere base both (whole_groups base text),
+          final,
+        ));
+  }
 
 pub may-be-kept : (base : Base) → IsSpecified base → IsWidth base.width → JoinsUnpadded
     → EndsNowhere → (text : List ℕ)
@@ -149,25 +157,20 @@ may-be-kept base is width joins nowhere text kept h k reads limit clear =
     let most = symbols-few base.width width in
     let there : kept.count ≤ length kept.positions = omega (arith, few.0, most, h) in
     let here : kept.count ≤ length kept.bytes = omega (arith, few.0, most, k) in
+    let was : WasKept base text kept = record {
+      specified = is;
+      width = width;
+      joins = joins;
+      nowhere = nowhere;
+      keeps = reads;
+      clear = clear;
+      positions = there;
+      bytes = here;
+    } in
     record {
       limit = omega (arith, reads.counted, limit);
       short = few.0;
-      in_order =
-          in-order base is width joins nowhere text kept.len kept.count kept.positions kept.bytes
-          kept.ended there here kept.fault reads clear;
-      none_ignored =
-          none-ignored base is width joins nowhere text kept.len kept.count kept.positions
-          kept.bytes kept.ended there here kept.fault reads clear;
-      fault = record {
-        clear = clear;
-        inside =
-            inside base is width joins nowhere text kept.len kept.count kept.positions kept.bytes
-            kept.ended there here kept.fault reads;
-        kind =
-            kind base is width joins nowhere text kept.len kept.count kept.positions kept.bytes
-            kept.ended there here kept.fault reads;
-        ends =
-            ends base is width joins nowhere text kept.len kept.count kept.positions kept.bytes
-            kept.ended there here kept.fault reads;
-      };
+      in_order = in-order was kept.fault refl;
+      none_ignored = none-ignored was kept.fault refl;
+      fault = fault-possible was;
     }

@@ -2,12 +2,12 @@
 use Rattle.std.proofs.Common.{◌∙◌, ◌≡◌, ℕ, ◌+◌, ◌≤◌, zero-add, true, false, List, [], ◌∷◌, ◌++◌, map, codes, replicate, Some, None, Result, Ok, Err, refl, zero, suc, sym, ap, subst, lit<, lit≤, arith}
 use Rattle.std.proofs.lemmas.Fmt.{decimal_digit}
 use Rattle.data_encoding.specs.declared.error.DecodeError.{DecodeError}
-use Rattle.data_encoding.specs.declared.error.DecodeKind.TheVariants.{Symbol}
+use Rattle.data_encoding.specs.declared.error.DecodeKind.TheVariants.{Length, Symbol, Trailing, Padding}
 use Rattle.data_encoding.specs.declared.specification.meanings.Refusal.{Refusal}
 use Rattle.data_encoding.specs.Base.{Base}
 use Rattle.data_encoding.specs.Fields.{Fields, base_of}
 use Rattle.data_encoding.specs.Grammar.{positioned_from}
-use Rattle.data_encoding.specs.Predefined.{base64_fields, base64_mime_fields, base64_nopad_fields}
+use Rattle.data_encoding.specs.Predefined.{base64_fields, base64_mime_fields, base64_mime_permissive_fields, base64_nopad_fields}
 use Rattle.data_encoding.specs.Pieces.{whole_bytes}
 use Rattle.std.proofs.lemmas.List.{append-nil}
 use Rattle.encoding_stream.specs.Decoded.{JudgesText, DecodesAll, DecodesFront, DecodesJudged, answer_of}
@@ -17,12 +17,16 @@ use Rattle.encoding_stream.specs.Pieces.{base_of_pieces, paired, at_positions, h
 use Rattle.encoding_stream.specs.declared.pieces.BufferDecoder.{BufferDecoder}
 use Rattle.encoding_stream.specs.declared.decoder.Decoder.{Decoder}
 use Rattle.encoding_stream.specs.declared.error.StreamFault.TheVariants.{Read, Write, Decode, TooLong}
+use Rattle.encoding_stream.specs.declared.blocks.BufferEncoder.{BufferEncoder}
+use Rattle.encoding_stream.specs.declared.kept_data.KeptData.{KeptData}
 use Rattle.encoding_stream.specs.declared.pieces.Kept.{Kept}
 use Rattle.encoding_stream.specs.declared.watch.Watch.{Watch}
 use Rattle.encoding_stream.specs.Appending.{AppendsDecoded}
 use Rattle.encoding_stream.specs.Decoder.{base_of_decoder, decoder_len, StandsAfter}
 use Rattle.encoding_stream.specs.Encoded.{EncodesAll, EncodesFront, ReadsMore}
 use Rattle.encoding_stream.specs.Printed.{printed_stream_fault}
+use Rattle.encoding_stream.specs.Blocks.{after_blocks, base_of_blocks, blocks_len, data_kept, held_data, text_of_blocks, EncodesOn, HasWritten}
+use Rattle.encoding_stream.specs.Resume.{held_bytes, held_positions, is_of_group, Ascend, HasPossibleFault, HoldsNoIgnored, MayBeKept}
 use Rattle.encoding_stream.specs.Specified.{IsBuiltAgain}
 use Rattle.encoding_stream.specs.Watch.{inner_of, has_failed, is_refused, AppendsFront}
 
@@ -264,3 +268,106 @@ stream_faults_printed :
     × (printed_stream_fault (Decode symbol_at_4) ≡ codes "invalid symbol at 4")
 stream_faults_printed =
     (refl, ap (λ four. codes "invalid symbol at " ++ four) (decimal_digit 4 (lit< tt)))
+
+-- positions ascend below the length; not one twice, and not the length
+positions_ascend :
+    Ascend 0 8 (4 ∷ 5 ∷ []) × (Ascend 0 8 (4 ∷ 4 ∷ []) → ⊥) × (Ascend 0 8 (4 ∷ 8 ∷ []) → ⊥)
+positions_ascend = (
+  (lit≤ tt, lit< tt, (lit≤ tt, lit< tt, tt)),
+  λ twice. omega (arith, twice.2.0),
+  λ far. omega (arith, far.2.1),
+)
+
+never : true ≡ false → ⊥
+never is = absurd (cc is)
+
+no_line_end : Has base64_mime_fields (λ base. HoldsNoIgnored base kept_so_far)
+no_line_end zero k h = refl
+no_line_end (suc zero) k h = refl
+no_line_end (suc (suc index)) k h = absurd (omega (arith, h))
+
+-- what is held of `SGVsbG` CR LF; a held line end is ignored
+none_held_ignored :
+    (held_positions kept_so_far ≡ 4 ∷ 5 ∷ []) × (held_bytes kept_so_far ≡ codes "bG")
+    × Has base64_mime_fields (λ base. HoldsNoIgnored base kept_so_far
+    × (HoldsNoIgnored base (record kept_so_far { bytes = 98 ∷ 13 ∷ replicate 6 0 }) → ⊥))
+none_held_ignored =
+    (refl, refl, (no_line_end, λ none. never (none 1 0 (lit< tt))))
+
+-- whole groups have no fault of a length, one of padding only where there is padding, and one of
+-- trailing bits only where these are checked
+kinds_of_groups :
+    Has base64_fields (λ base. (is_of_group base Length ≡ false)
+    × (is_of_group base Symbol ≡ true) × (is_of_group base Trailing ≡ true)
+    × (is_of_group base Padding ≡ true))
+    × Has base64_nopad_fields (λ base. is_of_group base Padding ≡ false)
+    × Has base64_mime_permissive_fields (λ base. is_of_group base Trailing ≡ false)
+kinds_of_groups = ((refl, refl, refl, refl), refl, refl)
+
+-- a symbol at 4 of a text of 8 bytes, of which nothing is held; not where two bytes are held
+fault_possible :
+    Has base64_fields (λ base.
+    HasPossibleFault base (record kept_so_far { fault = Some symbol_at_4; count = 0 })
+    × (HasPossibleFault base (record kept_so_far { fault = Some symbol_at_4 }) → ⊥))
+fault_possible = (
+  record {
+    clear = λ _. refl;
+    inside = lit< tt;
+    kind = refl;
+    ends = λ none. absurd (cc none);
+  },
+  λ both. absurd (omega (arith, both.clear refl)),
+)
+
+-- what is kept of that text passes each test; a text of 5 bytes has none at 5
+may_be_kept :
+    Has base64_mime_fields (λ base. MayBeKept base kept_so_far
+    × (MayBeKept base (record kept_so_far { len = 5 }) → ⊥))
+may_be_kept = (
+  record {
+    limit = lit≤ tt;
+    short = lit< tt;
+    in_order = positions_ascend.0;
+    none_ignored = no_line_end;
+    fault = record {
+      clear = λ some. absurd (cc some);
+      inside = tt;
+      kind = tt;
+      ends = λ _ final. absurd (cc final);
+    };
+  },
+  λ far. omega (arith, far.in_order.2.1),
+)
+
+-- `lo` is held of `hello`
+abbrev data_so_far : KeptData
+data_so_far = record { count = 2; bytes = codes "lo" ++ replicate 187 0 }
+
+-- of five bytes in base64, three are a block, of which the text is written
+blocks_of_data :
+    Has base64_fields (λ base. (blocks_len base 5 ≡ 3)
+    × (text_of_blocks base (codes "hello") ≡ codes "aGVs")
+    × (after_blocks base (codes "hello") ≡ codes "lo")) × (held_data data_so_far ≡ codes "lo")
+blocks_of_data = ((refl, refl, refl), refl)
+
+data_written :
+    Has base64_fields (λ base. HasWritten base data_so_far (codes "hello") (codes "aGVs"))
+data_written = record {
+  encoded = codes "hel";
+  are_bytes = refl;
+  is_aligned = refl;
+  is_short = lit< tt;
+  is_written = refl;
+}
+
+-- a piece of no bytes leaves all as it was
+no_data : (base : Base) → EncodesOn base data_so_far data_so_far [] []
+no_data base = λ bytes before has.
+    subst (λ b. HasWritten base data_so_far b (before ++ [])) (sym (append-nil bytes))
+    (subst (HasWritten base data_so_far bytes) (sym (append-nil before)) has)
+
+-- the encoding of an encoder by pieces, and what it keeps
+base_of_encoding : (base : Base) (encoder : BufferEncoder) → encoder.encoding.now ≡ base
+    → encoder.kept ≡ data_so_far
+    → (base_of_blocks encoder ≡ base) × (data_kept encoder ≡ data_so_far)
+base_of_encoding base encoder is kept_is = (is, kept_is)

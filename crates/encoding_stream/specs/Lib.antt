@@ -1,6 +1,7 @@
 pub mod Watch
 pub mod Specified
 pub mod Printed
+pub mod Blocks
 pub mod Encoded
 pub mod Judged
 pub mod Pieces

@@ -1,9 +1,9 @@
 -- What a decoder may keep of a text.
-use Rattle.std.specs.Prelude.{◌≡◌, ℕ, ◌+◌, ◌<◌, ◌≤◌, ◌==◌, ◌||◌, Bool, true, false, List, [], ◌∷◌, take, All, None, IfSome, IsSome}
+use Rattle.std.specs.Prelude.{◌≡◌, ℕ, ◌+◌, ◌<◌, ◌≤◌, Bool, true, false, List, [], ◌∷◌, take, All, None, IfSome, IsSome}
 use Rattle.data_encoding.specs.declared.decode.TheConstants.{DECODE_LIMIT}
 use Rattle.data_encoding.specs.declared.error.DecodeKind.{DecodeKind}
-use Rattle.data_encoding.specs.declared.error.DecodeKind.TheVariants.{Length, Padding}
-use Rattle.data_encoding.specs.Base.{Base, group_bytes, group_symbols, is_ignored, is_padded, meaning}
+use Rattle.data_encoding.specs.declared.error.DecodeKind.TheVariants.{Length, Symbol, Trailing, Padding}
+use Rattle.data_encoding.specs.Base.{Base, group_symbols, is_ignored, is_padded, meaning}
 use Rattle.encoding_stream.specs.declared.pieces.Kept.{Kept}
 
 -- These positions ascend, from the first of two on, and lie below the second.
@@ -22,12 +22,13 @@ held_bytes kept = take kept.count kept.bytes
 abbrev pub HoldsNoIgnored : Base → Kept → Type 0
 HoldsNoIgnored base kept = All (λ byte. is_ignored (meaning base byte) ≡ false) (held_bytes kept)
 
--- the kinds of fault that a whole group may have, but for those of trailing bits: none of a length,
--- and one of padding only where a text without padding may be short of a group
+-- the kinds of fault that a whole group may have: none of a length, one of trailing bits only where
+-- they are checked, and one of padding only where texts have it
 abbrev pub is_of_group : Base → DecodeKind → Bool
 is_of_group base Length = false
-is_of_group base Padding = is_padded base || group_bytes base.width == 1
-is_of_group base _ = true
+is_of_group base Symbol = true
+is_of_group base Trailing = base.checks_trailing_bits
+is_of_group base Padding = is_padded base
 
 -- There is a fault, which lies in the text, and nothing is held; or there is none, and a group was
 -- final only where texts may not be concatenated.

@@ -88,10 +88,11 @@ impl<'a> BufferDecoder<'a> {
     /// Any numbers may be given, and are tested. `None` if the length of the text is above
     /// `DECODE_LIMIT`; if a whole group is held, or a byte that is ignored, or if the positions of
     /// the held bytes do not ascend below the length; if bytes are held after a fault, if that does
-    /// not lie in the text, or if it is one of the length, or of padding in an encoding of which
-    /// `completes_groups` is false; or if there is none, and a group was final although texts may
-    /// be concatenated. Others may be taken that no decoder keeps: of these it is only sure that
-    /// each call is safe, and that the fault that `finish` returns lies in the text.
+    /// not lie in the text, or if it is one of the length, one of trailing bits in an encoding that
+    /// checks none, or one of padding in an encoding without padding; or if there is none, and a
+    /// group was final although texts may be concatenated. Others may be taken that no decoder
+    /// keeps: of these it is only sure that each call is safe, and that the fault that `finish`
+    /// returns lies in the text.
     pub fn resumed(encoding: &'a Encoding, kept: Kept) -> Option<BufferDecoder<'a>>
         ensures goes_on { IfSome result (GoesOn encoding.now kept) }
         ensures tested { IsSome result → MayBeKept encoding.now kept }

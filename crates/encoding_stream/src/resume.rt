@@ -48,13 +48,14 @@ impl Kept {
     }
 }
 
-// Whether a whole group may have a fault of this kind, as far as its getters tell of an encoding.
+// Whether a whole group may have a fault of this kind.
 fn is_of_group(encoding: &Encoding, kind: DecodeKind) -> bool
     ensures { result ≡ is_of_group encoding.now kind }
 {
     match kind {
         DecodeKind::Length => false,
-        DecodeKind::Padding => encoding.completes_groups(),
-        DecodeKind::Symbol | DecodeKind::Trailing => true,
+        DecodeKind::Symbol => true,
+        DecodeKind::Trailing => encoding.checks_trailing_bits(),
+        DecodeKind::Padding => encoding.is_padded(),
     }
 }

@@ -6,7 +6,8 @@ ghost use Rattle.std.specs.Prelude.{◌≤◌, length};
 use super::judge::{Judge, Judgement};
 use conformance::callers::buffers::decode_kept;
 use data_encoding::{
-    DECODE_LIMIT, DecodeError, DecodeKind, Encoding, base64, base64_mime, base64_nopad, hexlower,
+    DECODE_LIMIT, DecodeError, DecodeKind, Encoding, base64, base64_mime, base64_mime_permissive,
+    base64_nopad, hexlower,
 };
 use encoding_stream::{BufferDecoder, Kept};
 use std::alloc::{AllocError, Global};
@@ -257,5 +258,14 @@ fn refuses_faults_that_no_group_has(rt: HostRuntime) {
     assert!(rt;
         !has_fault(&plain, 7, DecodeKind::Padding),
         "padding without padding"
+    );
+    let hexadecimal = hexlower();
+    assert!(rt; !has_fault(&hexadecimal, 7, DecodeKind::Padding));
+    assert!(rt; has_fault(&hexadecimal, 7, DecodeKind::Trailing));
+    let permissive = base64_mime_permissive();
+    assert!(rt; has_fault(&permissive, 7, DecodeKind::Padding));
+    assert!(rt;
+        !has_fault(&permissive, 7, DecodeKind::Trailing),
+        "trailing bits that are not checked"
     );
 }

@@ -2,9 +2,10 @@
 use Rattle.std.proofs.Common.{◌≡◌, [], ◌∷◌, codes, refl}
 use Rattle.data_encoding_meaning.specs.declared.refusal.Refusal.TheVariants.{WrapWidth}
 use Rattle.data_encoding_meaning.specs.specification.Predefined.{unpadded_fields}
-use Rattle.data_encoding.specs.Specification.{no_fields, specified, refusal_of, fields_of_parts, SameTranslate, SameWrap}
+use Rattle.data_encoding.specs.Specification.{no_fields, specified, refusal_of, fields_of_bytes, fields_of_parts, SameTranslate, SameWrap}
 use Rattle.std.specs.String.{string_bytes}
 use Rattle.data_encoding.specs.declared.specification.Specification.{Specification}
+use Rattle.data_encoding.specs.declared.specification.bytes.SpecificationBytes.{SpecificationBytes}
 use Rattle.data_encoding.specs.declared.specification.parts.SpecificationParts.{SpecificationParts}
 use Rattle.data_encoding.specs.declared.specification.Translate.{Translate as TranslateTexts}
 use Rattle.data_encoding.specs.declared.specification.Wrap.{Wrap}
@@ -25,6 +26,12 @@ copies_same t w = (record { from = refl; to = refl }, record { width = refl; sep
 parts_said : (p : SpecificationParts) → p.symbols.now ≡ codes "01" → p.wrap_width ≡ 8
     → ((fields_of_parts p).symbols ≡ codes "01") × ((fields_of_parts p).column ≡ 8)
 parts_said p symbols column = (symbols, column)
+
+bytes_said : (s : SpecificationBytes) → s.symbols.items ≡ codes "01" → s.wrap_width ≡ 8
+    → s.translate_from.items ≡ codes "l"
+    → ((fields_of_bytes s).symbols ≡ codes "01") × ((fields_of_bytes s).column ≡ 8)
+    × ((fields_of_bytes s).from ≡ codes "l")
+bytes_said s symbols column from = (symbols, column, from)
 
 refusal_told : refusal_of (record { refusal = WrapWidth 4 }) ≡ WrapWidth 4
 refusal_told = refl

@@ -4,7 +4,8 @@ use Rattle.data_encoding.specs.declared.specification.Specification.{Specificati
 use Rattle.data_encoding_meaning.specs.text.Base.{Base, is_ignored, meaning}
 use Rattle.data_encoding_meaning.specs.specification.Layout.{ignored_bytes, own_byte, translated_bytes}
 use Rattle.data_encoding.specs.PlainTables.{plain_tables}
-use Rattle.data_encoding.proofs.judgement.FieldLemmas.{specified-is}
+use Rattle.data_encoding.specs.Specification.{specified}
+use Rattle.data_encoding.proofs.judgement.FieldLemmas.{fields-are}
 use Rattle.data_encoding_meaning.proofs.judgement.TranslationLemmas.{is_translated_byte, owns-ascii, range-ascii}
 use Rattle.data_encoding.proofs.tables.TableLemmas.{padding-seen, symbols-seen}
 use Rattle.data_encoding.proofs.tables.TableRuleLemmas.{separator-ascii}
@@ -57,7 +58,7 @@ returns c =
         to = c.in_ok-ascii_text-5.field-0;
       };
     } in
-    rw (← c.self.view_is) (specified-is s _ c.self.invariant (record {
+    rw (← c.self.view_is) (fields-are (specified s) _ c.self.invariant (record {
       symbols = c.in_ok-ascii_text.ensures ∙ sym has.symbols ∙ ap (λ (b : Base). b.symbols) view;
       order = c.order.ensures;
       checks = refl;

@@ -1,0 +1,161 @@
+//! Data that is encoded piece by piece, into buffers: what is kept of it, and how it is read on.
+
+ghost use Rattle.std.specs.Prelude.{◌≡◌, ℕ, ◌+◌, ◌<◌, ◌≤◌, ◌↔◌, List, [], ◌++◌, length, take, drop, None, IfSome};
+ghost use Rattle.data_encoding.specs.Fields.{IsSpecified};
+ghost use Rattle.data_encoding.specs.Lengths.{alignment};
+ghost use Rattle.data_encoding.specs.Text.{text_of};
+ghost use Rattle.encoding_stream.specs.Specified.{IsBuiltAgain};
+
+use crate::kept_data::KeptData;
+use data_encoding::laws::{join_encode, specification_again};
+use data_encoding::{ENCODE_LIMIT, Encoding};
+
+/// Encodes data that comes in pieces, cut anywhere, into buffers of the caller's.
+///
+/// A block is `encode_align` bytes of data: a group of symbols, or a line. Its text is written once
+/// the block is whole. What is kept of the data is plain numbers: `kept` returns them, and `resumed`
+/// goes on from them.
+#[derive(Clone, Copy, Debug, Drop)]
+pub struct BufferEncoder<'a> {
+    encoding: &'a Encoding,
+    block: usize,
+    kept: KeptData,
+    ghost specified: { IsBuiltAgain encoding.now },
+    ghost block_len: { block ≡ alignment encoding.now },
+    ghost most: { block ≤ 189 },
+    ghost short: { kept.count < block },
+}
+
+impl<'a> BufferEncoder<'a> {
+    ghost use Rattle.encoding_stream.specs.Blocks.{after_blocks, base_of_blocks, data_kept, held_data, text_of_blocks, EncodesOn, HasWritten};
+
+    /// An encoder that has read nothing.
+    pub fn new(encoding: &'a Encoding) -> BufferEncoder<'a>
+        ensures base { base_of_blocks result ≡ encoding.now }
+        ensures nothing { HasWritten encoding.now (data_kept result) [] [] }
+        ensures specified { IsSpecified encoding.now }
+    {
+        join_encode();
+        specification_again();
+        BufferEncoder {
+            encoding,
+            block: encoding.encode_align(),
+            kept: KeptData {
+                count: 0,
+                bytes: [0; 189],
+            },
+        }
+    }
+
+    /// An encoder that goes on from what another of the same encoding kept; `None` if a whole block
+    /// is held, which none keeps. Any other numbers may be given: an encoder that has read the held
+    /// bytes alone keeps them.
+    pub fn resumed(encoding: &'a Encoding, kept: KeptData) -> Option<BufferEncoder<'a>>
+        ensures base { IfSome result (λ encoder. base_of_blocks encoder ≡ encoding.now) }
+        ensures kept { IfSome result (λ encoder. data_kept encoder ≡ kept) }
+        ensures refused { (result ≡ None) ↔ (alignment encoding.now ≤ kept.count) }
+    {
+        let mut encoder = BufferEncoder::new(encoding);
+        if kept.count >= encoder.block {
+            return None;
+        }
+        encoder.kept = kept;
+        Some(encoder)
+    }
+
+    /// What is kept of the data: from it, `resumed` makes this encoder again.
+    pub fn kept(&self) -> KeptData
+        ensures value { result ≡ data_kept self.now }
+        ensures short { result.count < alignment (base_of_blocks self.now) }
+    {
+        self.kept
+    }
+
+    /// The length of the text of the blocks that this many more bytes, at most `ENCODE_LIMIT`, make
+    /// whole: as much room as `read` asks for.
+    pub fn due(&self, len: usize) -> usize
+        requires limit { len ≤ ENCODE_LIMIT }
+        ensures value { (piece : List ℕ) → length piece ≡ len
+            → length (text_of_blocks (base_of_blocks self.now)
+            (held_data (data_kept self.now) ++ piece)) ≡ result }
+    {
+        join_encode();
+        let missing = self.block - self.kept.count;
+        if len < missing {
+            return 0;
+        }
+        let rest = len - missing;
+        self.encoding.encode_len(self.block) + self.encoding.encode_len(rest - rest % self.block)
+    }
+
+    /// Reads a piece, of at most `ENCODE_LIMIT` bytes, writes the text of the blocks that are then
+    /// whole to the front of the output, and returns its length. The output has room for as many
+    /// bytes as `due` returns for the length of the piece; what it has after the text stays.
+    pub fn read(&mut self, piece: &[u8], output: &mut [u8]) -> usize
+        requires limit { length piece.now ≤ ENCODE_LIMIT }
+        requires room { length (text_of_blocks (base_of_blocks self.old)
+            (held_data (data_kept self.old) ++ piece.now)) ≤ length output.old }
+        ensures base { base_of_blocks self.new ≡ base_of_blocks self.old }
+        ensures text { take result output.new ≡ text_of_blocks (base_of_blocks self.old)
+            (held_data (data_kept self.old) ++ piece.now) }
+        ensures held { held_data (data_kept self.new) ≡ after_blocks (base_of_blocks self.old)
+            (held_data (data_kept self.old) ++ piece.now) }
+        ensures encodes { EncodesOn (base_of_blocks self.old) (data_kept self.old)
+            (data_kept self.new) piece.now (take result output.new) }
+        ensures within { result ≤ length output.new }
+        ensures after { drop result output.new ≡ drop result output.old }
+        ensures len { length output.new ≡ length output.old }
+    {
+        join_encode();
+        let missing = self.block - self.kept.count;
+        if piece.len() < missing {
+            self.kept.hold(piece);
+            return 0;
+        }
+        let (first, rest) = piece.split_at(missing);
+        let (blocks, left) = rest.split_at(rest.len() - rest.len() % self.block);
+        let mut full = self.kept;
+        full.hold(first);
+        let one = write_front(self.encoding, &full.bytes[..self.block], output);
+        let others = write_front(self.encoding, blocks, &mut output[one..]);
+        self.kept = KeptData {
+            count: 0,
+            bytes: [0; 189],
+        };
+        self.kept.hold(left);
+        one + others
+    }
+
+    /// Ends the data: writes the text of the held bytes, with padding, and with the separator where
+    /// there are lines, to the front of the output, and returns its length, which is at most that of
+    /// a whole block's. What the output has after the text stays.
+    pub fn finish(&self, output: &mut [u8]) -> usize
+        requires room { length (text_of (base_of_blocks self.now)
+            (held_data (data_kept self.now))) ≤ length output.old }
+        ensures text { take result output.new ≡ text_of (base_of_blocks self.now)
+            (held_data (data_kept self.now)) }
+        ensures whole { (bytes text : List ℕ)
+            → HasWritten (base_of_blocks self.now) (data_kept self.now) bytes text
+            → text_of (base_of_blocks self.now) bytes ≡ text ++ take result output.new }
+        ensures within { result ≤ length output.new }
+        ensures after { drop result output.new ≡ drop result output.old }
+        ensures len { length output.new ≡ length output.old }
+    {
+        join_encode();
+        write_front(self.encoding, &self.kept.bytes[..self.kept.count], output)
+    }
+}
+
+// Writes the text of data to the front of the output, and returns its length.
+fn write_front(encoding: &Encoding, input: &[u8], output: &mut [u8]) -> usize
+    requires limit { length input.now ≤ ENCODE_LIMIT }
+    requires room { length (text_of encoding.now input.now) ≤ length output.old }
+    ensures text { take result output.new ≡ text_of encoding.now input.now }
+    ensures after { drop result output.new ≡ drop result output.old }
+    ensures value { result ≡ length (text_of encoding.now input.now) }
+    ensures len { length output.new ≡ length output.old }
+{
+    let len = encoding.encode_len(input.len());
+    encoding.encode_mut(input, &mut output[..len]);
+    len
+}
