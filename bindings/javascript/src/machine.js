@@ -47,7 +47,7 @@ function instantiated() {
 const aligned = (size) => Math.ceil(size / ALIGNMENT) * ALIGNMENT;
 
 /** The calls of the module. */
-export const { exports: calls } = instantiated();
+export const calls = instantiated().exports;
 
 const { memory } = calls;
 const desk = aligned(Number(calls.__heap_base.value));
