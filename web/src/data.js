@@ -1,5 +1,6 @@
 // The side of the data: as UTF-8 text, or as hexadecimal digits with addresses.
 
+import { decoded } from "./decoded.js";
 import { DIGITS, addressesOf, charactersOf, linesOf } from "./hex.js";
 import { Side } from "./side.js";
 import { characterAt, sentenceOf } from "./words.js";
@@ -17,7 +18,7 @@ const NOT_TEXT =
 /** The widths in characters from which a line has sixteen bytes and their characters, and from which
  * eight have theirs. */
 const WIDE = 78;
-const NARROW = 45;
+const NARROW = 46;
 
 export class DataSide extends Side {
   /**
@@ -62,7 +63,7 @@ export class DataSide extends Side {
 
   #typed(value) {
     if (this.isHex) {
-      const { data, error } = DIGITS.decodePartial(value);
+      const { data, error } = decoded(DIGITS, value);
       this.data = data;
       this.#describe();
       this.#showDigitFault(error, value);

@@ -73,8 +73,9 @@ export class Job {
   /** Decodes a file. */
   decode(file, encoding) {
     const words = `Decoding ${file.name} by ${encoding.name ?? "your own encoding"}`;
-    const name = file.name.replace(/\.(txt|b64|b32|hex)$/i, "");
-    return this.#run(file, new Decoder(encoding), words, name === file.name ? `${name}.bin` : name, encoding);
+    const name = file.name.replace(/\.txt$/i, "");
+    const full = name.includes(".") && name !== file.name ? name : `${name}.bin`;
+    return this.#run(file, new Decoder(encoding), words, full, encoding);
   }
 
   #begin(words, file, name) {

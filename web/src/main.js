@@ -3,6 +3,7 @@
 import { Encoding } from "../../bindings/javascript/src/index.js";
 import { FIRST, ofFields, ofName, read } from "./address.js";
 import { DataSide } from "./data.js";
+import { decoded } from "./decoded.js";
 import { linesOf } from "./elsewhere.js";
 import { GROUPS, factsOf } from "./facts.js";
 import { Job } from "./job.js";
@@ -68,7 +69,7 @@ function encode() {
 
 function decode() {
   const value = text.text;
-  const { data: found, error } = encoding.decodePartial(value);
+  const { data: found, error } = decoded(encoding, value);
   data.show(found);
   describeText();
   if (error === null) {

@@ -1,5 +1,7 @@
 // The shades of a field: a copy of its text lies below it, whose runs have a ground each.
 
+import { meant } from "./words.js";
+
 /** Beyond so many runs the rest has no shade. */
 const MOST_RUNS = 5000;
 
@@ -21,7 +23,7 @@ function runsOf(text, shadeOf, fault) {
   const runs = [];
   let last;
   for (let at = 0; at < text.length && runs.length < MOST_RUNS; at++) {
-    const shade = shadeOf(text[at]);
+    const shade = shadeOf(meant(text[at]));
     const kind = text[at] === "\n" ? `${shade} feed` : shade;
     const isFault = fault !== null && at >= fault.from && at < fault.to;
     const key = isFault ? `${kind} faulty` : kind;
