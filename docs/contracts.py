@@ -33,7 +33,7 @@ APART = {("specification", "predefined", "named")}
 
 # The definitions of these crates are shown with the first call whose clauses name them; those that
 # data_encoding stands on are in docs/DEFINITIONS.md.
-SHOWN = {"encoding_stream", "basecode"}
+SHOWN = {"encoding_stream", "basecode", "data_encoding_calls"}
 
 # The first line of a definition.
 DEFINITION = r"(?:abbrev pub|pub record|pub data) (\w+)"

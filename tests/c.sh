@@ -11,12 +11,7 @@ if ! command -v "$cc" >/dev/null; then
     finish
 fi
 
-lib=$room/lib
-if [ $# = 0 ]; then
-    crates/data_encoding_c/build.sh "$lib" || exit 1
-else
-    ln -s "$(realpath "$1")" "$lib" && lib=$(realpath "$1") || exit 1
-fi
+find_library "$@"
 strict=(-std=c99 -Wall -Wextra -Wpedantic -Werror "-I$lib")
 sanitized=(-g -fsanitize=address,undefined -fno-sanitize-recover=all)
 glue=crates/data_encoding_c/glue

@@ -48,6 +48,25 @@ name_program() {
     PATH=$room/bin:$PATH
 }
 
+# find_library [LIB]: sets `lib` to the path of the library for C, which "$room/lib" names too: LIB,
+# where build.sh left it, or, if no folder is given, one that is built.
+find_library() {
+    if [ $# = 0 ]; then
+        crates/data_encoding_c/build.sh "$room/lib" || exit 1
+    else
+        ln -s "$(realpath "$1")" "$room/lib" || exit 1
+    fi
+    lib=$(realpath "$room/lib") || exit 1
+}
+
+# quietly COMMAND..: what it says is printed if it fails.
+quietly() {
+    "$@" >"$room/said" 2>&1 || {
+        tail -n 60 "$room/said"
+        return 1
+    }
+}
+
 finish() {
     echo "$passed passed, $failed failed"
     [ "$failed" = 0 ]

@@ -56,7 +56,7 @@ unnamed() {
     done
 }
 
-missing=$(unnamed docs/ARCHITECTURE.md crates/{data_encoding{_meaning,_kernel,},encoding_stream}/src/*.rt)
+missing=$(unnamed docs/ARCHITECTURE.md crates/{data_encoding{_meaning,_kernel,_calls,},encoding_stream}/src/*.rt)
 is 'files that docs/ARCHITECTURE.md does not name' '' "$missing"
 modules=$(find crates/{data_encoding{_meaning,_kernel,},encoding_stream}/specs -name '[A-Z]*.antt' ! -name Lib.antt)
 missing=$(unnamed docs/DEFINITIONS.md $modules)

@@ -41,26 +41,13 @@ if [ -z "$python" ]; then
     finish
 fi
 
-lib=$room/lib
-if [ $# = 0 ]; then
-    crates/data_encoding_c/build.sh "$lib" || exit 1
-else
-    ln -s "$(realpath "$1")" "$lib" && lib=$(realpath "$1") || exit 1
-fi
+find_library "$@"
 mkdir "$room/bindings"
 cp -r bindings/python "$room/bindings"
 rm -rf "$room/bindings/python"/{build,src/*.egg-info}
 cd "$room" || exit 1
 export DATA_ENCODING_DIR=$lib
 export PIP_DISABLE_PIP_VERSION_CHECK=1 PIP_ROOT_USER_ACTION=ignore PYTHONDONTWRITEBYTECODE=1
-
-# quietly COMMAND..: what it says is printed if it fails.
-quietly() {
-    "$@" >said 2>&1 || {
-        tail -n 60 said
-        return 1
-    }
-}
 
 include=$("$python" -c 'import sysconfig; print(sysconfig.get_paths()["include"])')
 holds 'the half in C' quietly "$cc" -std=c99 -Wall -Wextra -Wpedantic -Werror "-I$lib" \

@@ -11,12 +11,7 @@ if ! command -v cargo >/dev/null; then
     finish
 fi
 
-lib=$room/lib
-if [ $# = 0 ]; then
-    crates/data_encoding_c/build.sh "$lib" || exit 1
-else
-    ln -s "$(realpath "$1")" "$lib" && lib=$(realpath "$1") || exit 1
-fi
+find_library "$@"
 crate=$room/bamsturk/bindings/rust
 mkdir -p "$crate"
 cp -r bindings/rust/{Cargo.toml,build.rs,rustfmt.toml,src,tests} "$crate"

@@ -25,23 +25,13 @@ if [ -z "$python" ] || ! command -v "${CC:-cc}" >/dev/null; then
     finish
 fi
 
-lib=${1:-$room/lib}
-[ $# != 0 ] || crates/data_encoding_c/build.sh "$lib" || exit 1
-lib=$(realpath "$lib")
+find_library "$@"
 cp -r bindings/python "$room/package"
 rm -rf "$room/package"/{build,src/*.egg-info}
 awk '/^```/ { inside = $0 == "```python"; next } inside' docs/SCALE.md >"$room/parts.py"
 test=$(realpath tests/scale.py)
 cd "$room" || exit 1
 export PIP_DISABLE_PIP_VERSION_CHECK=1 PIP_ROOT_USER_ACTION=ignore PYTHONDONTWRITEBYTECODE=1
-
-# quietly COMMAND..: what it says is printed if it fails.
-quietly() {
-    "$@" >said 2>&1 || {
-        tail -n 60 said
-        return 1
-    }
-}
 
 holds 'the package' quietly env DATA_ENCODING_DIR="$lib" "$python" -m pip install \
     --no-build-isolation --no-index --no-deps --no-compile --target site ./package

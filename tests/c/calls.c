@@ -37,6 +37,7 @@ static void vector(de_number number, const char *data, size_t data_len, const ch
     is(name, DE_OK, de_decode_len(number, len, &written));
     is(name, DE_OK, de_decode(number, text, len, back, written, &decoded));
     is(name, len, decoded.read);
+    is(name, len, decoded.position);
     is(name, data_len, decoded.written);
     holds(name, memcmp(back, data, data_len) == 0);
 }

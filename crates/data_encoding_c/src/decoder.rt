@@ -1,33 +1,24 @@
 //! Calls that decode a text in pieces, by the number of an encoding and by one of a caller's own.
 
-ghost use Rattle.std.specs.Prelude.{◌≡◌, [], None};
+ghost use Rattle.std.specs.Prelude.{[], ◌≡◌};
 ghost use Rattle.data_encoding.specs.Base.{Base};
 ghost use Rattle.data_encoding.specs.Fields.{IsSpecified};
 ghost use Rattle.data_encoding.specs.Plain.{base_of_plain};
-ghost use Rattle.data_encoding.specs.Named.{IsNumbered, fields_numbered};
-ghost use Rattle.data_encoding_c.specs.Pieces.{EndsText, ReadsPiece, StandsAfter, TellsRoom};
+ghost use Rattle.data_encoding_calls.specs.Calls.{ByNumber};
+ghost use Rattle.data_encoding_calls.specs.Pieces.{EndsText, ReadsPiece, StandsAfter, TellsRoom};
 
-use crate::convert::Decoded;
-use crate::pieces::{PlainKept, finish_by, most_by, read_by};
-use crate::status::UNKNOWN_ENCODING;
-use data_encoding::laws::steps::pieces;
-use data_encoding::{PlainEncoding, predefined_numbered};
+use data_encoding::PlainEncoding;
+use data_encoding_calls::{
+    Decoded, PlainKept, held_decoder_finish, held_decoder_most, held_decoder_read,
+    numbered_decoder_finish, numbered_decoder_most, numbered_decoder_read, plain_decoder_new,
+};
 
 /// What is kept of no text, by every encoding.
 #[unsafe(no_mangle)]
 pub extern "C" fn de_plain_decoder_new(decoder: &mut PlainKept)
     ensures { (base : Base) → IsSpecified base → StandsAfter base decoder.new [] }
 {
-    pieces();
-    *decoder = PlainKept {
-        len: 0,
-        count: 0,
-        positions: [0; 8],
-        fault_position: 0,
-        fault: 0,
-        ended: 0,
-        bytes: [0; 8],
-    };
+    plain_decoder_new(decoder);
 }
 
 /// The greatest number of bytes that `len` more of the text may complete.
@@ -38,15 +29,10 @@ pub extern "C" fn de_numbered_decoder_most(
     len: usize,
     most: &mut usize,
 ) -> u32
-    ensures known { (base : Base) → IsNumbered number base
-        → TellsRoom base decoder.now len most.old most.new result }
-    ensures unknown { fields_numbered number ≡ None
-        → (result ≡ UNKNOWN_ENCODING) × (most.new ≡ most.old) }
+    ensures { ByNumber number result (most.new ≡ most.old)
+        (λ base. TellsRoom base decoder.now len most.old most.new result) }
 {
-    let Some(encoding) = predefined_numbered(number) else {
-        return UNKNOWN_ENCODING;
-    };
-    most_by(&encoding.encoding(), decoder, len, most)
+    numbered_decoder_most(number, decoder, len, most)
 }
 
 /// Reads a piece, and writes the bytes of the groups that are then whole to the front of the
@@ -59,17 +45,13 @@ pub extern "C" fn de_numbered_decoder_read(
     output: &mut [u8],
     written: &mut usize,
 ) -> u32
-    ensures known { (base : Base) → IsNumbered number base → ReadsPiece base piece.now
+    ensures { ByNumber number result
+        ((decoder.new ≡ decoder.old) × (output.new ≡ output.old) × (written.new ≡ written.old))
+        (λ base. ReadsPiece base piece.now
         (record { decoder = decoder.old; output = output.old; written = written.old })
-        (record { decoder = decoder.new; output = output.new; written = written.new }) result }
-    ensures unknown { fields_numbered number ≡ None → (result ≡ UNKNOWN_ENCODING)
-        × (decoder.new ≡ decoder.old) × (output.new ≡ output.old)
-        × (written.new ≡ written.old) }
+        (record { decoder = decoder.new; output = output.new; written = written.new }) result) }
 {
-    let Some(encoding) = predefined_numbered(number) else {
-        return UNKNOWN_ENCODING;
-    };
-    read_by(&encoding.encoding(), decoder, piece, output, written)
+    numbered_decoder_read(number, decoder, piece, output, written)
 }
 
 /// Ends the text: writes the bytes of a last group to the front of the output, and tells the
@@ -81,15 +63,10 @@ pub extern "C" fn de_numbered_decoder_finish(
     output: &mut [u8],
     decoded: &mut Decoded,
 ) -> u32
-    ensures known { (base : Base) → IsNumbered number base
-        → EndsText base decoder.now output.old output.new decoded.old decoded.new result }
-    ensures unknown { fields_numbered number ≡ None
-        → (result ≡ UNKNOWN_ENCODING) × (output.new ≡ output.old) × (decoded.new ≡ decoded.old) }
+    ensures { ByNumber number result ((output.new ≡ output.old) × (decoded.new ≡ decoded.old))
+        (λ base. EndsText base decoder.now output.old output.new decoded.old decoded.new result) }
 {
-    let Some(encoding) = predefined_numbered(number) else {
-        return UNKNOWN_ENCODING;
-    };
-    finish_by(&encoding.encoding(), decoder, output, decoded)
+    numbered_decoder_finish(number, decoder, output, decoded)
 }
 
 /// The greatest number of bytes that `len` more of the text may complete.
@@ -102,7 +79,7 @@ pub extern "C" fn de_held_decoder_most(
 ) -> u32
     ensures { TellsRoom (base_of_plain held.now) decoder.now len most.old most.new result }
 {
-    most_by(&held.encoding(), decoder, len, most)
+    held_decoder_most(held, decoder, len, most)
 }
 
 /// Reads a piece, and writes the bytes of the groups that are then whole to the front of the
@@ -119,7 +96,7 @@ pub extern "C" fn de_held_decoder_read(
         (record { decoder = decoder.old; output = output.old; written = written.old })
         (record { decoder = decoder.new; output = output.new; written = written.new }) result }
 {
-    read_by(&held.encoding(), decoder, piece, output, written)
+    held_decoder_read(held, decoder, piece, output, written)
 }
 
 /// Ends the text: writes the bytes of a last group to the front of the output, and tells the
@@ -134,5 +111,5 @@ pub extern "C" fn de_held_decoder_finish(
     ensures { EndsText (base_of_plain held.now) decoder.now output.old output.new decoded.old
         decoded.new result }
 {
-    finish_by(&held.encoding(), decoder, output, decoded)
+    held_decoder_finish(held, decoder, output, decoded)
 }

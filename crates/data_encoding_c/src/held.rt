@@ -1,21 +1,39 @@
-//! Encodings of a caller's own, which it holds as plain data: their tables stand in them, so that a
-//! call builds nothing and copies none.
+//! Calls by an encoding of a caller's own, which it holds as plain data.
 
-ghost use Rattle.std.specs.Prelude.{◌≡◌};
+ghost use Rattle.data_encoding.specs.Fields.{base_of};
 ghost use Rattle.data_encoding.specs.Plain.{base_of_plain};
-ghost use Rattle.data_encoding_c.specs.Calls.{Decodes, Encodes, TellsCanonical, TellsMost, TellsTextLength};
+ghost use Rattle.data_encoding_calls.specs.Held.{Makes, MakesOfLayout, fields_asked};
+ghost use Rattle.data_encoding_calls.specs.Calls.{Decodes, Encodes, TellsCanonical, TellsMost, TellsTextLength, WritesFront};
+ghost use Rattle.data_encoding.specs.Layout.{layout};
 
-use crate::convert::{
-    Decoded, decode_by, decode_len_by, encode_by, encode_len_by, is_canonical_by,
-};
 use data_encoding::PlainEncoding;
+use data_encoding_calls::{
+    Decoded, Form, Made, held_decode, held_decode_len, held_encode, held_encode_len,
+    held_is_canonical, held_layout, held_new, held_read,
+};
+
+/// The encoding that is asked for, or why there is none.
+#[unsafe(no_mangle)]
+pub extern "C" fn de_held_new(
+    form: &Form,
+    symbols: &[u8],
+    ignore: &[u8],
+    separator: &[u8],
+    from: &[u8],
+    to: &[u8],
+) -> Made
+    ensures { Makes (base_of (fields_asked form.now symbols.now ignore.now separator.now from.now
+        to.now)) result }
+{
+    held_new(form, symbols, ignore, separator, from, to)
+}
 
 /// The length of the text of `len` bytes.
 #[unsafe(no_mangle)]
 pub extern "C" fn de_held_encode_len(held: &PlainEncoding, len: usize, text_len: &mut usize) -> u32
     ensures { TellsTextLength (base_of_plain held.now) len text_len.old text_len.new result }
 {
-    encode_len_by(&held.by_ref(), len, text_len)
+    held_encode_len(held, len, text_len)
 }
 
 /// Writes the text of data to the front of the output, and its length to `written`.
@@ -29,7 +47,7 @@ pub extern "C" fn de_held_encode(
     ensures { Encodes (base_of_plain held.now) input.now output.old output.new written.old
         written.new result }
 {
-    encode_by(&held.by_ref(), input, output, written)
+    held_encode(held, input, output, written)
 }
 
 /// The greatest number of bytes that a text of `len` bytes may mean, or the position of the fault
@@ -38,7 +56,7 @@ pub extern "C" fn de_held_encode(
 pub extern "C" fn de_held_decode_len(held: &PlainEncoding, len: usize, most: &mut usize) -> u32
     ensures { TellsMost (base_of_plain held.now) len most.old most.new result }
 {
-    decode_len_by(&held.by_ref(), len, most)
+    held_decode_len(held, len, most)
 }
 
 /// Writes the data that a text means to the front of the output, or as much as stands before its
@@ -53,7 +71,7 @@ pub extern "C" fn de_held_decode(
     ensures { Decodes (base_of_plain held.now) input.now output.old output.new decoded.old
         decoded.new result }
 {
-    decode_by(&held.by_ref(), input, output, decoded)
+    held_decode(held, input, output, decoded)
 }
 
 /// Whether no two different texts decode to the same data.
@@ -61,5 +79,27 @@ pub extern "C" fn de_held_decode(
 pub extern "C" fn de_held_is_canonical(held: &PlainEncoding, answer: &mut bool) -> u32
     ensures { TellsCanonical (base_of_plain held.now) answer.new result }
 {
-    is_canonical_by(&held.by_ref(), answer)
+    held_is_canonical(held, answer)
+}
+
+/// Writes the layout of the encoding to the front of the output, and its length, at most 770, to
+/// `written`.
+#[unsafe(no_mangle)]
+pub extern "C" fn de_held_layout(
+    held: &PlainEncoding,
+    output: &mut [u8],
+    written: &mut usize,
+) -> u32
+    ensures { WritesFront (layout (base_of_plain held.now)) output.old output.new written.old
+        written.new result }
+{
+    held_layout(held, output, written)
+}
+
+/// The encoding of a layout, where the bytes are one.
+#[unsafe(no_mangle)]
+pub extern "C" fn de_held_read(bytes: &[u8]) -> Made
+    ensures { MakesOfLayout bytes.now result }
+{
+    held_read(bytes)
 }

@@ -1,28 +1,20 @@
 //! Calls by the number of a predefined encoding.
 
-ghost use Rattle.std.specs.Prelude.{◌≡◌, None};
-ghost use Rattle.data_encoding.specs.Base.{Base};
-ghost use Rattle.data_encoding_c.specs.Calls.{Decodes, Encodes, TellsCanonical, TellsMost, TellsTextLength};
-ghost use Rattle.data_encoding.specs.Named.{IsNumbered, fields_numbered};
+ghost use Rattle.std.specs.Prelude.{◌≡◌};
+ghost use Rattle.data_encoding_calls.specs.Calls.{ByNumber, Decodes, Encodes, TellsCanonical, TellsMost, TellsTextLength};
 
-use crate::convert::{
-    Decoded, decode_by, decode_len_by, encode_by, encode_len_by, is_canonical_by,
+use data_encoding_calls::{
+    Decoded, numbered_decode, numbered_decode_len, numbered_encode, numbered_encode_len,
+    numbered_is_canonical,
 };
-use crate::status::UNKNOWN_ENCODING;
-use data_encoding::predefined_numbered;
 
 /// The length of the text of `len` bytes.
 #[unsafe(no_mangle)]
 pub extern "C" fn de_numbered_encode_len(number: u32, len: usize, text_len: &mut usize) -> u32
-    ensures known { (base : Base) → IsNumbered number base
-        → TellsTextLength base len text_len.old text_len.new result }
-    ensures unknown { fields_numbered number ≡ None
-        → (result ≡ UNKNOWN_ENCODING) × (text_len.new ≡ text_len.old) }
+    ensures { ByNumber number result (text_len.new ≡ text_len.old)
+        (λ base. TellsTextLength base len text_len.old text_len.new result) }
 {
-    let Some(encoding) = predefined_numbered(number) else {
-        return UNKNOWN_ENCODING;
-    };
-    encode_len_by(&encoding, len, text_len)
+    numbered_encode_len(number, len, text_len)
 }
 
 /// Writes the text of data to the front of the output, and its length to `written`.
@@ -33,30 +25,20 @@ pub extern "C" fn de_numbered_encode(
     output: &mut [u8],
     written: &mut usize,
 ) -> u32
-    ensures known { (base : Base) → IsNumbered number base
-        → Encodes base input.now output.old output.new written.old written.new result }
-    ensures unknown { fields_numbered number ≡ None
-        → (result ≡ UNKNOWN_ENCODING) × (output.new ≡ output.old) × (written.new ≡ written.old) }
+    ensures { ByNumber number result ((output.new ≡ output.old) × (written.new ≡ written.old))
+        (λ base. Encodes base input.now output.old output.new written.old written.new result) }
 {
-    let Some(encoding) = predefined_numbered(number) else {
-        return UNKNOWN_ENCODING;
-    };
-    encode_by(&encoding, input, output, written)
+    numbered_encode(number, input, output, written)
 }
 
 /// The greatest number of bytes that a text of `len` bytes may mean, or the position of the fault
 /// of that length.
 #[unsafe(no_mangle)]
 pub extern "C" fn de_numbered_decode_len(number: u32, len: usize, most: &mut usize) -> u32
-    ensures known { (base : Base) → IsNumbered number base
-        → TellsMost base len most.old most.new result }
-    ensures unknown { fields_numbered number ≡ None
-        → (result ≡ UNKNOWN_ENCODING) × (most.new ≡ most.old) }
+    ensures { ByNumber number result (most.new ≡ most.old)
+        (λ base. TellsMost base len most.old most.new result) }
 {
-    let Some(encoding) = predefined_numbered(number) else {
-        return UNKNOWN_ENCODING;
-    };
-    decode_len_by(&encoding, len, most)
+    numbered_decode_len(number, len, most)
 }
 
 /// Writes the data that a text means to the front of the output, or as much as stands before its
@@ -68,27 +50,17 @@ pub extern "C" fn de_numbered_decode(
     output: &mut [u8],
     decoded: &mut Decoded,
 ) -> u32
-    ensures known { (base : Base) → IsNumbered number base
-        → Decodes base input.now output.old output.new decoded.old decoded.new result }
-    ensures unknown { fields_numbered number ≡ None
-        → (result ≡ UNKNOWN_ENCODING) × (output.new ≡ output.old) × (decoded.new ≡ decoded.old) }
+    ensures { ByNumber number result ((output.new ≡ output.old) × (decoded.new ≡ decoded.old))
+        (λ base. Decodes base input.now output.old output.new decoded.old decoded.new result) }
 {
-    let Some(encoding) = predefined_numbered(number) else {
-        return UNKNOWN_ENCODING;
-    };
-    decode_by(&encoding, input, output, decoded)
+    numbered_decode(number, input, output, decoded)
 }
 
 /// Whether no two different texts decode to the same data.
 #[unsafe(no_mangle)]
 pub extern "C" fn de_numbered_is_canonical(number: u32, answer: &mut bool) -> u32
-    ensures known { (base : Base) → IsNumbered number base
-        → TellsCanonical base answer.new result }
-    ensures unknown { fields_numbered number ≡ None
-        → (result ≡ UNKNOWN_ENCODING) × (answer.new ≡ answer.old) }
+    ensures { ByNumber number result (answer.new ≡ answer.old)
+        (λ base. TellsCanonical base answer.new result) }
 {
-    let Some(encoding) = predefined_numbered(number) else {
-        return UNKNOWN_ENCODING;
-    };
-    is_canonical_by(&encoding, answer)
+    numbered_is_canonical(number, answer)
 }

@@ -1,4 +1,0 @@
-pub mod Status
-pub mod Pieces
-pub mod Calls
-pub mod Held

@@ -1,0 +1,81 @@
+-- A decoding that stops at a fault: its status, and the bytes that are due for what was read.
+use Rattle.std.proofs.Common.{◌≡◌, ℕ, zero, suc, ◌*◌, ◌/◌, ◌<◌, ◌≤◌, Bool, true, false, if◌then◌else◌, List, length, Option, None, Some, Ok, refl, sym, ap, ◌∙◌, arith}
+use Rattle.std.proofs.Math.Nat.{div-mul-le_self, div-zero, le-div_iff_mul-le, mul-le-mul_left, mul-le-mul_right}
+use Rattle.std.proofs.lemmas.Bool.{le-ltb}
+use Rattle.std.specs.Result.{IsOkAnd}
+use Rattle.data_encoding.specs.declared.error.DecodeError.{DecodeError}
+use Rattle.data_encoding.specs.declared.error.DecodePartial.{DecodePartial}
+use Rattle.data_encoding.specs.Base.{Base, group_bytes, group_symbols, is_padded}
+use Rattle.data_encoding.specs.Fault.{fault_of}
+use Rattle.data_encoding.specs.Lengths.{decoded_len, length_fault, most_bytes, unless_fault}
+use Rattle.data_encoding.specs.Partial.{partial_by, partial_of}
+use Rattle.data_encoding_calls.specs.Calls.{decode_status, status_by_len}
+use Rattle.data_encoding_calls.specs.Status.{short_buffer, status_of_fault, too_long}
+
+error_in : Option DecodePartial → Option DecodeError
+error_in None = None
+error_in (Some partial) = Some partial.error
+
+pub some-one : {one other : DecodePartial} → Some one ≡ Some other → one ≡ other
+some-one is = cc
+
+stopped-fault : (base : Base) (text : List ℕ) (o : Option DecodeError)
+    → o ≡ error_in (partial_by base text o)
+unfolding error_in
+stopped-fault base text None = refl
+stopped-fault base text (Some error) = refl
+
+pub fault-stopped : (base : Base) (text : List ℕ) (partial : DecodePartial)
+    → partial_of base text ≡ Some partial → fault_of base text ≡ Some partial.error
+unfolding error_in
+fault-stopped base text partial is =
+    stopped-fault base text (fault_of base text) ∙ ap error_in is
+
+-- the status of a text of whose length so many bytes are due, which are no more than the room
+pub status-known : (base : Base) (text : List ℕ) (room most : ℕ) (fault : Option DecodeError)
+    → length text ≤ 2305843009213693951 → decoded_len base (length text) ≡ Ok most → most ≤ room
+    → fault_of base text ≡ fault → status_of_fault fault ≡ decode_status base text room
+status-known base text room most fault few due fits is =
+    sym (ap (λ (long : Bool). if long then too_long
+    else status_by_len (decoded_len base (length text)) (fault_of base text) room)
+    (le-ltb 2305843009213693951 (length text) few)
+    ∙ ap (λ r. status_by_len r (fault_of base text) room) due
+    ∙ ap (λ (short : Bool). if short then short_buffer else status_of_fault (fault_of base text))
+    (le-ltb room most fits)
+    ∙ ap status_of_fault is)
+
+div-grows : (k m n : ℕ) → m ≤ n → m / k ≤ n / k
+div-grows zero m n few = omega (arith, div-zero m, div-zero n)
+div-grows (suc k) m n few =
+    let less = div-mul-le_self m (suc k) in
+    (le-div_iff_mul-le (omega arith)).1 (omega (arith, less, few))
+
+grows-by : (padded : Bool) (width symbols bytes read len : ℕ) → read ≤ len
+    → (if padded then read / symbols * bytes else width * read / 8)
+    ≤ (if padded then len / symbols * bytes else width * len / 8)
+grows-by true width symbols bytes read len few =
+    mul-le-mul_right bytes (div-grows symbols read len few)
+grows-by false width symbols bytes read len few =
+    div-grows 8 (width * read) (width * len) (mul-le-mul_left width few)
+
+due-unless : (fault : Option DecodeError) (most bytes : ℕ) → unless_fault fault most ≡ Ok bytes
+    → bytes ≡ most
+due-unless None most bytes is = cc
+due-unless (Some error) most bytes is = absurd (cc is)
+
+due-within : (fault : Option DecodeError) (most written : ℕ)
+    → IsOkAnd (unless_fault fault most) (λ n. written ≤ n) → written ≤ most
+due-within None most written is = is
+due-within (Some error) most written is = absurd is
+
+-- a front of a text means no more bytes than are due for the text
+pub front-fits : (base : Base) (read written len most : ℕ) → read ≤ len
+    → decoded_len base len ≡ Ok most → IsOkAnd (decoded_len base read) (λ n. written ≤ n)
+    → written ≤ most
+front-fits base read written len most few due is =
+    let here = due-within (length_fault base read) (most_bytes base read) written is in
+    let grows =
+    grows-by (is_padded base) base.width (group_symbols base.width) (group_bytes base.width) read
+    len few in
+    let all = due-unless (length_fault base len) (most_bytes base len) most due in
+    omega (arith, here, grows, all)

@@ -1,0 +1,56 @@
+use Rattle.std.proofs.Common.{◌≡◌, inr, Some, length, take, drop, sym, ◌∙◌, arith, subst, ap}
+use Rattle.std.proofs.lemmas.List.{length-append, length-take-le, take-append-le}
+use Rattle.data_encoding.specs.Grammar.{Means}
+use Rattle.data_encoding_calls.proofs.DecodeLemmas.{fault-stopped, front-fits, some-one, status-known}
+use Rattle.data_encoding_calls.proofs.convert.decode_by.Goals as goal
+
+pub returns-in-Err-decode_mut-clause-status : goal.returns-in-Err-decode_mut-clause-status
+returns-in-Err-decode_mut-clause-status c =
+    let partial = c.in-Err-decode_mut.partial in
+    c.status_of_kind-in-Err-decode_mut.ensures
+    ∙ status-known c.args.encoding.now c.args.input.now (length c.args.output.now) c.in-Ok.most
+    (Some partial.error) (omega (arith, c.if-input-gt-DECODE_LIMIT.false))
+    (sym c.decode_len.ensures.value ∙ c.in-Ok.is) (omega (arith, c.if-output-most.false))
+    (fault-stopped c.args.encoding.now c.args.input.now partial c.in-Err-decode_mut.ensures.fault)
+
+pub returns-in-Err-decode_mut-clause-within : goal.returns-in-Err-decode_mut-clause-within
+returns-in-Err-decode_mut-clause-within c =
+    let base = c.args.encoding.now in
+    let partial = c.in-Err-decode_mut.partial in
+    let new = c.decode_mut.new.output in
+    let fits =
+    front-fits base partial.read partial.written (length c.args.input.now) c.in-Ok.most
+    (omega (arith, c.in-Err-decode_mut.ensures.bounds.0, c.in-Err-decode_mut.ensures.bounds.1))
+    (sym c.decode_len.ensures.value ∙ c.in-Ok.is) c.in-Err-decode_mut.ensures.most in
+    let all =
+    length-take-le c.in-Ok.most c.args.output.now (omega (arith, c.if-output-most.false)) in
+    inr (omega (
+      arith,
+      fits,
+      all,
+      c.decode_mut.ensures.len,
+      length-append new (drop c.in-Ok.most c.args.output.now),
+    ))
+
+pub returns-in-Err-decode_mut-clause-fault : goal.returns-in-Err-decode_mut-clause-fault
+returns-in-Err-decode_mut-clause-fault c = λ partial most long short due is.
+    let base = c.args.encoding.now in
+    let told = c.in-Err-decode_mut.partial in
+    let new = c.decode_mut.new.output in
+    let same : told ≡ partial = some-one (sym c.in-Err-decode_mut.ensures.fault ∙ is) in
+    let fits =
+    front-fits base told.read told.written (length c.args.input.now) c.in-Ok.most
+    (omega (arith, c.in-Err-decode_mut.ensures.bounds.0, c.in-Err-decode_mut.ensures.bounds.1))
+    (sym c.decode_len.ensures.value ∙ c.in-Ok.is) c.in-Err-decode_mut.ensures.most in
+    let all =
+    length-take-le c.in-Ok.most c.args.output.now (omega (arith, c.if-output-most.false)) in
+    record {
+      read = ap (λ p. p.read) same;
+      written = ap (λ p. p.written) same;
+      position = ap (λ p. p.error.position) same;
+      means =
+          subst (λ bytes. Means base (take told.read c.args.input.now) bytes)
+          (sym (take-append-le told.written new (drop c.in-Ok.most c.args.output.now)
+          (omega (arith, fits, all, c.decode_mut.ensures.len))))
+          c.in-Err-decode_mut.ensures.partial;
+    }

@@ -1,0 +1,15 @@
+use Rattle.std.proofs.Common.{refl, subst}
+use Rattle.data_encoding.specs.Base.{Base}
+use Rattle.data_encoding_calls.specs.Pieces.{EndsText}
+use Rattle.data_encoding_calls.proofs.NumberLemmas.{by-known, by-unknown}
+use Rattle.data_encoding_calls.proofs.decoder.numbered_decoder_finish.Goals as goal
+
+pub returns-in_default : goal.returns-in_default
+returns-in_default c = by-unknown (c.in_default.ensures.unknown.0 refl) (refl, refl)
+
+pub returns : goal.returns
+returns c =
+    let Does = λ (b : Base).
+    EndsText b c.args.decoder.now c.args.output.now c.finish_by.new.output c.args.decoded.now
+    c.finish_by.new.decoded c.finish_by.result in
+    by-known Does c.in-Some.ensures.known (subst Does c.encoding.ensures c.finish_by.ensures)

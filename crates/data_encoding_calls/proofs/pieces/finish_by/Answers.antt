@@ -1,0 +1,108 @@
+use Rattle.std.proofs.Common.{◌≡◌, ◌⊎◌, ◌++◌, List, ℕ, ◌<◌, None, Some, is_some, drop, refl, sym, ap, subst, ◌∙◌, arith, inl, inr}
+use Rattle.data_encoding.specs.Fault.{fault_of}
+use Rattle.encoding_stream.specs.Pieces.{kept_by}
+use Rattle.data_encoding_calls.specs.Pieces.{StandsAfter}
+use Rattle.data_encoding_calls.specs.Status.{status_of_fault}
+use Rattle.data_encoding_calls.proofs.PieceLemmas.{EndsKept, ended, fault-inside, fault-none, fault-some, kind-faulty, kind-own, no-error, none-stands, one-error, told-len}
+use Rattle.data_encoding_calls.proofs.pieces.finish_by.Goals as goal
+
+pub returns-in_default : goal.returns-in_default
+returns-in_default c =
+    let none =
+    none-stands c.args.encoding.now c.args.plain.now c.decoder_of.result c.in_default.is
+    c.decoder_of.ensures.stands in
+    record {
+      verdict = λ _ text stands. absurd (none text stands);
+      bytes = λ _ text stands. absurd (none text stands);
+      position = λ _ text error stands. absurd (none text stands);
+      read = λ _ text stands. absurd (none text stands);
+      end = λ is. absurd (cc is);
+      given = λ known. absurd (known refl);
+      counted = λ known _. absurd (known refl);
+      inside = λ known _ _. absurd (known refl);
+      within = λ _ text stands. absurd (none text stands);
+      behind = refl;
+      len = refl;
+      short = λ is. absurd (cc is);
+      refused = λ _. (refl, refl);
+    }
+
+pub returns-in-Ok : goal.returns-in-Ok
+returns-in-Ok c =
+    let is = c.in-Some.ensures.base in
+    let end = c.finish-written in
+    let now : EndsKept c.args.encoding.now c.args.plain.now c.args.output.now
+    (c.copy_from_slice.new.self ++ drop end.result.0 c.args.output.now) c.len-read.result
+    end.result.0 end.result.1 =
+    ended c.in-Some.ensures.kept end.new.output (rw is at end.ensures.verdict)
+    (rw is at end.ensures.bytes)
+    (omega (arith, end.ensures.few, end.ensures.len)) (omega (arith, c.if-output-written.false))
+    c.copy_from_slice.ensures.after c.len-read.ensures.value in
+    let none : (text : List ℕ) → StandsAfter c.args.encoding.now c.args.plain.now text
+    → fault_of c.args.encoding.now text ≡ None =
+    λ text stands. fault-none (fault_of c.args.encoding.now text) end.result.1 c.in-Ok.field-0
+    c.in-Ok.is (now.verdict_is text stands) in
+    record {
+      verdict = λ _ text stands. sym (ap status_of_fault (none text stands));
+      bytes = λ _ text stands. now.bytes text stands;
+      position = λ _ text error stands found.
+          absurd (no-error (sym (none text stands) ∙ found));
+      read = λ _ text stands. now.read_is text stands;
+      end = λ _. refl;
+      given = λ _. c.decoder_of.ensures.given (ap is_some c.in-Some.is);
+      counted = λ _ _.
+          c.len-read.ensures.value
+          ∙ told-len c.args.plain.now (kept_by c.in-Some.decoder) c.in-Some.ensures.kept;
+      inside = λ _ _ bad. absurd (bad refl);
+      within = λ _ text stands. now.within;
+      behind = now.behind;
+      len = now.len;
+      short = λ short. absurd (omega (arith, short));
+      refused = λ refused. absurd (elim refused [
+        | inl is_none ↦ omega (arith, is_none)
+        | inr is_short ↦ omega (arith, is_short)
+      ]);
+    }
+
+pub returns-in-Err : goal.returns-in-Err
+returns-in-Err c =
+    let is = c.in-Some.ensures.base in
+    let end = c.finish-written in
+    let now : EndsKept c.args.encoding.now c.args.plain.now c.args.output.now
+    (c.copy_from_slice.new.self ++ drop end.result.0 c.args.output.now) c.len-read.result
+    end.result.0 end.result.1 =
+    ended c.in-Some.ensures.kept end.new.output (rw is at end.ensures.verdict)
+    (rw is at end.ensures.bytes)
+    (omega (arith, end.ensures.few, end.ensures.len)) (omega (arith, c.if-output-written.false))
+    c.copy_from_slice.ensures.after c.len-read.ensures.value in
+    let some : (text : List ℕ) → StandsAfter c.args.encoding.now c.args.plain.now text
+    → fault_of c.args.encoding.now text ≡ Some c.in-Err.error =
+    λ text stands. fault-some (fault_of c.args.encoding.now text) end.result.1 c.in-Err.error
+    c.in-Err.is (now.verdict_is text stands) in
+    let own = λ (n : ℕ) (refused : (n ≡ 19) ⊎ (n ≡ 4)) (same : c.status_of_kind.result ≡ n).
+    kind-own c.in-Err.error.kind n refused (sym c.status_of_kind.ensures ∙ same) in
+    record {
+      verdict = λ _ text stands.
+          c.status_of_kind.ensures ∙ sym (ap status_of_fault (some text stands));
+      bytes = λ _ text stands. now.bytes text stands;
+      position = λ _ text error stands found.
+          ap (λ e. e.position) (one-error (sym (some text stands) ∙ found));
+      read = λ _ text stands. now.read_is text stands;
+      end = λ is. absurd (kind-faulty c.in-Err.error.kind (sym c.status_of_kind.ensures ∙ is));
+      given = λ _. c.decoder_of.ensures.given (ap is_some c.in-Some.is);
+      counted = λ _ _.
+          c.len-read.ensures.value
+          ∙ told-len c.args.plain.now (kept_by c.in-Some.decoder) c.in-Some.ensures.kept;
+      inside = λ _ _ _.
+          subst (λ n. c.in-Err.error.position < n) (sym c.len-read.ensures.value)
+          (fault-inside (kept_by c.in-Some.decoder).len end.result.1 c.in-Err.error c.in-Err.is
+          end.ensures.position);
+      within = λ _ text stands. now.within;
+      behind = now.behind;
+      len = now.len;
+      short = λ short. absurd (own 4 (inr refl) short);
+      refused = λ refused. absurd (elim refused [
+        | inl is_none ↦ own 19 (inl refl) is_none
+        | inr is_short ↦ own 4 (inr refl) is_short
+      ]);
+    }

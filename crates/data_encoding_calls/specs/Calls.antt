@@ -1,0 +1,127 @@
+-- What calls return and write.
+use Rattle.std.specs.Prelude.{◌≡◌, ◌↔◌, ◌⊎◌, ℕ, ◌≤◌, nat_lt, Bool, List, ◌++◌, length, take, drop, if◌then◌else◌, Option, Some, None, Result, Ok, Err, IsTrue}
+use Rattle.data_encoding.specs.declared.error.DecodeError.{DecodeError}
+use Rattle.data_encoding.specs.declared.error.DecodePartial.{DecodePartial}
+use Rattle.data_encoding.specs.Base.{Base}
+use Rattle.data_encoding.specs.Canonical.{IsCanonical}
+use Rattle.data_encoding.specs.Fault.{fault_of}
+use Rattle.data_encoding.specs.Grammar.{Means}
+use Rattle.data_encoding.specs.Lengths.{decoded_len}
+use Rattle.data_encoding.specs.Named.{IsNumbered, fields_numbered}
+use Rattle.data_encoding.specs.Partial.{partial_of}
+use Rattle.data_encoding.specs.Text.{text_of}
+use Rattle.data_encoding_calls.specs.declared.convert.Decoded.{Decoded}
+use Rattle.data_encoding_calls.specs.Status.{ok, unknown_encoding, too_long, short_buffer, status_of_kind, status_of_fault}
+
+-- an output with these bytes at its front, and behind them what it held
+abbrev pub over : List ℕ → List ℕ → List ℕ
+over bytes old = bytes ++ drop (length bytes) old
+
+-- the status of bytes that are written into so much room
+abbrev pub front_status : List ℕ → ℕ → ℕ
+front_status bytes room = if nat_lt room (length bytes) then short_buffer else ok
+
+-- the status of a length of data
+abbrev pub encode_len_status : ℕ → ℕ
+encode_len_status len = if nat_lt 36028797018963967 len then too_long else ok
+
+-- the status of an encoding into so much room
+abbrev pub encode_status : Base → List ℕ → ℕ → ℕ
+encode_status base bytes room =
+    if nat_lt 36028797018963967 (length bytes) then too_long
+    else if nat_lt room (length (text_of base bytes)) then short_buffer
+    else ok
+
+abbrev pub status_of_len : Result ℕ DecodeError → ℕ
+status_of_len (Ok most) = ok
+status_of_len (Err error) = status_of_kind error.kind
+
+-- the status of a length of a text
+abbrev pub decode_len_status : Base → ℕ → ℕ
+decode_len_status base len =
+    if nat_lt 2305843009213693951 len then too_long else status_of_len (decoded_len base len)
+
+-- that of a text of which this many bytes are due, or which is refused by its length
+abbrev pub status_by_len : Result ℕ DecodeError → Option DecodeError → ℕ → ℕ
+status_by_len (Err error) fault room = status_of_kind error.kind
+status_by_len (Ok most) fault room =
+    if nat_lt room most then short_buffer else status_of_fault fault
+
+-- the status of a decoding into so much room
+abbrev pub decode_status : Base → List ℕ → ℕ → ℕ
+decode_status base text room =
+    if nat_lt 2305843009213693951 (length text) then too_long
+    else status_by_len (decoded_len base (length text)) (fault_of base text) room
+
+-- A decoding stopped at a fault: what was read means what was written.
+pub record HasStopped (base : Base) (text output : List ℕ) (partial : DecodePartial)
+    (decoded : Decoded) : Type 0 where
+  pub read : decoded.read ≡ partial.read
+  pub written : decoded.written ≡ partial.written
+  pub position : decoded.position ≡ partial.error.position
+  pub means : Means base (take decoded.read text) (take decoded.written output)
+
+-- A call wrote the bytes to the front of the output, or refused and changed nothing.
+pub record WritesFront (bytes output_old output_new : List ℕ)
+    (written_old written_new answer : ℕ) : Type 0 where
+  pub status : answer ≡ front_status bytes (length output_old)
+  pub front : answer ≡ ok → output_new ≡ over bytes output_old
+  pub written : answer ≡ ok → written_new ≡ length bytes
+  pub refused : (answer ≡ ok → ⊥) → (output_new ≡ output_old) × (written_new ≡ written_old)
+
+-- A call told the length of the text of this many bytes, or refused and changed nothing.
+pub record TellsTextLength (base : Base) (len old new answer : ℕ) : Type 0 where
+  pub status : answer ≡ encode_len_status len
+  pub text_length : answer ≡ ok → (bytes : List ℕ) → length bytes ≡ len
+      → length (text_of base bytes) ≡ new
+  pub refused : (answer ≡ ok → ⊥) → new ≡ old
+
+-- A call wrote the text to the front of the output, or refused and changed nothing.
+pub record Encodes (base : Base) (bytes output_old output_new : List ℕ)
+    (written_old written_new answer : ℕ) : Type 0 where
+  pub status : answer ≡ encode_status base bytes (length output_old)
+  pub text : answer ≡ ok → output_new ≡ over (text_of base bytes) output_old
+  pub written : answer ≡ ok → written_new ≡ length (text_of base bytes)
+  pub refused : (answer ≡ ok → ⊥) → (output_new ≡ output_old) × (written_new ≡ written_old)
+
+-- A call told how many bytes a text of this length may mean at most, or where the fault of the
+-- length is, or refused and changed nothing.
+pub record TellsMost (base : Base) (len old new answer : ℕ) : Type 0 where
+  pub status : answer ≡ decode_len_status base len
+  pub value : answer ≡ ok → decoded_len base len ≡ Ok new
+  pub fault : (error : DecodeError) → decoded_len base len ≡ Err error
+      → (answer ≡ too_long → ⊥) → new ≡ error.position
+  pub refused : answer ≡ too_long → new ≡ old
+
+-- A call wrote the data of a text to the front of the output; or stopped at the fault of the text;
+-- or refused, and changed nothing.
+pub record Decodes (base : Base) (text output_old output_new : List ℕ)
+    (decoded_old decoded_new : Decoded) (answer : ℕ) : Type 0 where
+  pub status : answer ≡ decode_status base text (length output_old)
+  pub means : answer ≡ ok → Means base text (take decoded_new.written output_new)
+  pub all : answer ≡ ok → decoded_new.read ≡ length text
+  pub end : answer ≡ ok → decoded_new.position ≡ length text
+  pub refused : (answer ≡ too_long) ⊎ (answer ≡ short_buffer)
+      → (output_new ≡ output_old) × (decoded_new ≡ decoded_old)
+  pub by_length : (error : DecodeError) → (answer ≡ too_long → ⊥)
+      → decoded_len base (length text) ≡ Err error
+      → (output_new ≡ output_old)
+      × (decoded_new ≡ record { read = 0; written = 0; position = error.position })
+  pub fault : (partial : DecodePartial) (most : ℕ)
+      → (answer ≡ too_long → ⊥) → (answer ≡ short_buffer → ⊥)
+      → decoded_len base (length text) ≡ Ok most → partial_of base text ≡ Some partial
+      → HasStopped base text output_new partial decoded_new
+  pub within : (decoded_new ≡ decoded_old) ⊎ (decoded_new.written ≤ length output_new)
+  pub behind : (most : ℕ) → decoded_len base (length text) ≡ Ok most
+      → drop most output_new ≡ drop most output_old
+
+-- A call told whether an encoding is canonical.
+pub record TellsCanonical (base : Base) (canonical : Bool) (answer : ℕ) : Type 0 where
+  pub status : answer ≡ ok
+  pub is_canonical : IsTrue canonical ↔ IsCanonical base
+
+-- A call by this number did what one by the base of its encoding does; or refused a number of none,
+-- and changed nothing.
+pub record ByNumber (number answer : ℕ) (Unchanged : Type 0) (Does : Base → Type 0) : Type 0 where
+  pub known : (base : Base) → IsNumbered number base → Does base
+  pub unknown : fields_numbered number ≡ None → (answer ≡ unknown_encoding) × Unchanged

@@ -1,0 +1,46 @@
+-- Encodings of a caller's own: the specification that is asked for, and what is made of it.
+use Rattle.std.specs.Prelude.{◌≡◌, ℕ, Bool, List, Option, Some, None, if◌then◌else◌, Result, Ok, Err}
+use Rattle.data_encoding.specs.declared.encoding.BitOrder.{BitOrder}
+use Rattle.data_encoding.specs.declared.encoding.BitOrder.TheVariants.{MostSignificantFirst, LeastSignificantFirst}
+use Rattle.data_encoding.specs.declared.specification.meanings.Refusal.{Refusal}
+use Rattle.data_encoding.specs.Base.{Base}
+use Rattle.data_encoding.specs.Fields.{Fields, IsSpecified}
+use Rattle.data_encoding.specs.Layout.{layout}
+use Rattle.data_encoding.specs.Plain.{base_of_plain}
+use Rattle.data_encoding_calls.specs.declared.make.Form.{Form}
+use Rattle.data_encoding_calls.specs.declared.make.Made.{Made}
+use Rattle.data_encoding_calls.specs.Status.{ok, no_encoding, status_of_refusal, detail_of_refusal}
+
+abbrev pub order_asked : Bool → BitOrder
+order_asked least = if least then LeastSignificantFirst else MostSignificantFirst
+
+abbrev pub padding_asked : Bool → ℕ → Option ℕ
+padding_asked has byte = if has then Some byte else None
+
+-- the specification that a caller asks for
+abbrev pub fields_asked : Form → List ℕ → List ℕ → List ℕ → List ℕ → List ℕ → Fields
+fields_asked form symbols ignored separator from to = record {
+  symbols = symbols;
+  order = order_asked form.least_significant_first;
+  checks_trailing_bits = form.check_trailing_bits;
+  concatenates = form.concatenate;
+  padding = padding_asked form.has_padding form.padding;
+  ignored = ignored;
+  column = form.wrap_width;
+  separator = separator;
+  from = from;
+  to = to;
+}
+
+-- What was made of a specification: its encoding, or the status of its refusal.
+abbrev pub Makes : Result Base Refusal → Made → Type 0
+Makes (Ok base) made = (made.status ≡ ok) × (base_of_plain made.held ≡ base)
+Makes (Err refusal) made =
+    (made.status ≡ status_of_refusal refusal) × (made.detail ≡ detail_of_refusal refusal)
+
+-- What was made of bytes: the encoding of which they are the layout, or the status of none.
+pub record MakesOfLayout (bytes : List ℕ) (made : Made) : Type 0 where
+  pub known : (base : Base) → IsSpecified base → layout base ≡ bytes
+      → (made.status ≡ ok) × (base_of_plain made.held ≡ base)
+  pub is_layout : made.status ≡ ok → layout (base_of_plain made.held) ≡ bytes
+  pub status : (made.status ≡ ok → ⊥) → made.status ≡ no_encoding

@@ -1,0 +1,5 @@
+pub mod Status
+pub mod Pieces
+pub mod Calls
+pub mod Held
+pub mod Names

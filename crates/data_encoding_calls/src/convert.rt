@@ -1,0 +1,167 @@
+//! What each call does by an encoding, wherever that comes from.
+
+ghost use Rattle.std.specs.Prelude.{◌≡◌, ◌↔◌, ◌≤◌, ◌⊎◌, ℕ, List, length, take, drop, IsTrue, Ok, Err, Some};
+ghost use Rattle.data_encoding.specs.Canonical.{IsCanonical};
+ghost use Rattle.data_encoding.specs.Grammar.{Means};
+ghost use Rattle.data_encoding.specs.Lengths.{decoded_len};
+ghost use Rattle.data_encoding.specs.Partial.{partial_of};
+ghost use Rattle.data_encoding.specs.Text.{text_of};
+ghost use Rattle.data_encoding_calls.specs.Calls.{decode_len_status, decode_status, encode_len_status, encode_status, over, HasStopped};
+
+use crate::status::{OK, SHORT_BUFFER, TOO_LONG, status_of_kind};
+use data_encoding::{DECODE_LIMIT, DecodeError, DecodePartial, ENCODE_LIMIT, EncodingRef};
+
+/// The length of the text of `len` bytes.
+pub(crate) fn encode_len_by(encoding: &EncodingRef<'_>, len: usize, text_len: &mut usize) -> u32
+    ensures status { result ≡ encode_len_status len }
+    ensures length { result ≡ OK → (bytes : List ℕ) → length bytes ≡ len
+        → length (text_of encoding.now bytes) ≡ text_len.new }
+    ensures refused { (result ≡ OK → ⊥) → text_len.new ≡ text_len.old }
+{
+    if len > ENCODE_LIMIT {
+        return TOO_LONG;
+    }
+    *text_len = encoding.encode_len(len);
+    OK
+}
+
+/// Writes the text of data to the front of the output.
+#[inline(always)]
+pub(crate) fn encode_by(
+    encoding: &EncodingRef<'_>,
+    input: &[u8],
+    output: &mut [u8],
+    written: &mut usize,
+) -> u32
+    ensures status { result ≡ encode_status encoding.now input.now (length output.old) }
+    ensures text { result ≡ OK → output.new ≡ over (text_of encoding.now input.now) output.old }
+    ensures written { result ≡ OK → written.new ≡ length (text_of encoding.now input.now) }
+    ensures refused { (result ≡ OK → ⊥)
+        → (output.new ≡ output.old) × (written.new ≡ written.old) }
+{
+    if input.len() > ENCODE_LIMIT {
+        return TOO_LONG;
+    }
+    let len = encoding.encode_len(input.len());
+    if output.len() < len {
+        return SHORT_BUFFER;
+    }
+    // Nothing is left to do behind the call, so that little is kept over it.
+    *written = len;
+    encoding.encode_mut(input, &mut output[..len]);
+    OK
+}
+
+/// What a decoding tells.
+#[repr(C)]
+#[derive(Clone, Copy, Drop)]
+pub struct Decoded {
+    /// How many bytes of the text were read.
+    pub read: usize,
+
+    /// How many bytes of data they mean, which stand at the front of the output.
+    pub written: usize,
+
+    /// Where the fault of the text is; its length, where it has none.
+    pub position: usize,
+}
+
+/// The greatest number of bytes that a text of `len` bytes may mean, or the position of the fault
+/// of that length.
+pub(crate) fn decode_len_by(encoding: &EncodingRef<'_>, len: usize, most: &mut usize) -> u32
+    ensures status { result ≡ decode_len_status encoding.now len }
+    ensures value { result ≡ OK → decoded_len encoding.now len ≡ Ok most.new }
+    ensures fault { (error : DecodeError) → decoded_len encoding.now len ≡ Err error
+        → (result ≡ TOO_LONG → ⊥) → most.new ≡ error.position }
+    ensures refused { result ≡ TOO_LONG → most.new ≡ most.old }
+{
+    if len > DECODE_LIMIT {
+        return TOO_LONG;
+    }
+    match encoding.decode_len(len) {
+        Ok(bytes) => {
+            *most = bytes;
+            OK
+        }
+        Err(error) => {
+            *most = error.position;
+            status_of_kind(error.kind)
+        }
+    }
+}
+
+/// Writes the data that a text means to the front of the output, of which as many bytes are used as
+/// its length may mean.
+#[inline(always)]
+pub(crate) fn decode_by(
+    encoding: &EncodingRef<'_>,
+    input: &[u8],
+    output: &mut [u8],
+    decoded: &mut Decoded,
+) -> u32
+    ensures status { result ≡ decode_status encoding.now input.now (length output.old) }
+    ensures means { result ≡ OK → Means encoding.now input.now
+        (take decoded.new.written output.new) }
+    ensures all { result ≡ OK → decoded.new.read ≡ length input.now }
+    ensures end { result ≡ OK → decoded.new.position ≡ length input.now }
+    ensures refused { (result ≡ TOO_LONG) ⊎ (result ≡ SHORT_BUFFER)
+        → (output.new ≡ output.old) × (decoded.new ≡ decoded.old) }
+    ensures by_length { (error : DecodeError) → (result ≡ TOO_LONG → ⊥)
+        → decoded_len encoding.now (length input.now) ≡ Err error
+        → (output.new ≡ output.old)
+        × (decoded.new ≡ record { read = 0; written = 0; position = error.position }) }
+    ensures fault { (partial : DecodePartial) (most : ℕ)
+        → (result ≡ TOO_LONG → ⊥) → (result ≡ SHORT_BUFFER → ⊥)
+        → decoded_len encoding.now (length input.now) ≡ Ok most
+        → partial_of encoding.now input.now ≡ Some partial
+        → HasStopped encoding.now input.now output.new partial decoded.new }
+    ensures within { decoded.new ≡ decoded.old ⊎ decoded.new.written ≤ length output.new }
+    ensures behind { (most : ℕ) → decoded_len encoding.now (length input.now) ≡ Ok most
+        → drop most output.new ≡ drop most output.old }
+    ensures len { length output.new ≡ length output.old }
+{
+    if input.len() > DECODE_LIMIT {
+        return TOO_LONG;
+    }
+    let most = match encoding.decode_len(input.len()) {
+        Ok(most) => most,
+        Err(error) => {
+            *decoded = Decoded {
+                read: 0,
+                written: 0,
+                position: error.position,
+            };
+            return status_of_kind(error.kind);
+        }
+    };
+    if output.len() < most {
+        return SHORT_BUFFER;
+    }
+    match encoding.decode_mut(input, &mut output[..most]) {
+        Ok(written) => {
+            *decoded = Decoded {
+                read: input.len(),
+                written,
+                position: input.len(),
+            };
+            OK
+        }
+        Err(partial) => {
+            *decoded = Decoded {
+                read: partial.read,
+                written: partial.written,
+                position: partial.error.position,
+            };
+            status_of_kind(partial.error.kind)
+        }
+    }
+}
+
+/// Whether no two different texts decode to the same data.
+pub(crate) fn is_canonical_by(encoding: &EncodingRef<'_>, answer: &mut bool) -> u32
+    ensures status { result ≡ OK }
+    ensures canonical { IsTrue answer.new ↔ IsCanonical encoding.now }
+{
+    *answer = encoding.is_canonical();
+    OK
+}

@@ -1,0 +1,121 @@
+//! Calls that decode a text in pieces, by the number of an encoding and by one of a caller's own.
+
+ghost use Rattle.std.specs.Prelude.{◌≡◌, []};
+ghost use Rattle.data_encoding.specs.Base.{Base};
+ghost use Rattle.data_encoding.specs.Fields.{IsSpecified};
+ghost use Rattle.data_encoding.specs.Plain.{base_of_plain};
+ghost use Rattle.data_encoding_calls.specs.Calls.{ByNumber};
+ghost use Rattle.data_encoding_calls.specs.Pieces.{EndsText, ReadsPiece, StandsAfter, TellsRoom};
+
+use crate::convert::Decoded;
+use crate::pieces::{PlainKept, finish_by, most_by, read_by};
+use crate::status::UNKNOWN_ENCODING;
+use data_encoding::laws::steps::pieces;
+use data_encoding::{PlainEncoding, predefined_numbered};
+
+/// What is kept of no text, by every encoding.
+pub fn plain_decoder_new(decoder: &mut PlainKept)
+    ensures { (base : Base) → IsSpecified base → StandsAfter base decoder.new [] }
+{
+    pieces();
+    *decoder = PlainKept {
+        len: 0,
+        count: 0,
+        positions: [0; 8],
+        fault_position: 0,
+        fault: 0,
+        ended: 0,
+        bytes: [0; 8],
+    };
+}
+
+/// The greatest number of bytes that `len` more of the text may complete.
+pub fn numbered_decoder_most(number: u32, decoder: &PlainKept, len: usize, most: &mut usize) -> u32
+    ensures { ByNumber number result (most.new ≡ most.old)
+        (λ base. TellsRoom base decoder.now len most.old most.new result) }
+{
+    let Some(encoding) = predefined_numbered(number) else {
+        return UNKNOWN_ENCODING;
+    };
+    most_by(&encoding.encoding(), decoder, len, most)
+}
+
+/// Reads a piece, and writes the bytes of the groups that are then whole to the front of the
+/// output, and their number to `written`.
+pub fn numbered_decoder_read(
+    number: u32,
+    decoder: &mut PlainKept,
+    piece: &[u8],
+    output: &mut [u8],
+    written: &mut usize,
+) -> u32
+    ensures { ByNumber number result
+        ((decoder.new ≡ decoder.old) × (output.new ≡ output.old) × (written.new ≡ written.old))
+        (λ base. ReadsPiece base piece.now
+        (record { decoder = decoder.old; output = output.old; written = written.old })
+        (record { decoder = decoder.new; output = output.new; written = written.new }) result) }
+{
+    let Some(encoding) = predefined_numbered(number) else {
+        return UNKNOWN_ENCODING;
+    };
+    read_by(&encoding.encoding(), decoder, piece, output, written)
+}
+
+/// Ends the text: writes the bytes of a last group to the front of the output, and tells the
+/// verdict on the whole text.
+pub fn numbered_decoder_finish(
+    number: u32,
+    decoder: &PlainKept,
+    output: &mut [u8],
+    decoded: &mut Decoded,
+) -> u32
+    ensures { ByNumber number result ((output.new ≡ output.old) × (decoded.new ≡ decoded.old))
+        (λ base. EndsText base decoder.now output.old output.new decoded.old decoded.new result) }
+{
+    let Some(encoding) = predefined_numbered(number) else {
+        return UNKNOWN_ENCODING;
+    };
+    finish_by(&encoding.encoding(), decoder, output, decoded)
+}
+
+/// The greatest number of bytes that `len` more of the text may complete.
+pub fn held_decoder_most(
+    held: &PlainEncoding,
+    decoder: &PlainKept,
+    len: usize,
+    most: &mut usize,
+) -> u32
+    ensures { TellsRoom (base_of_plain held.now) decoder.now len most.old most.new result }
+{
+    most_by(&held.encoding(), decoder, len, most)
+}
+
+/// Reads a piece, and writes the bytes of the groups that are then whole to the front of the
+/// output, and their number to `written`.
+pub fn held_decoder_read(
+    held: &PlainEncoding,
+    decoder: &mut PlainKept,
+    piece: &[u8],
+    output: &mut [u8],
+    written: &mut usize,
+) -> u32
+    ensures { ReadsPiece (base_of_plain held.now) piece.now
+        (record { decoder = decoder.old; output = output.old; written = written.old })
+        (record { decoder = decoder.new; output = output.new; written = written.new }) result }
+{
+    read_by(&held.encoding(), decoder, piece, output, written)
+}
+
+/// Ends the text: writes the bytes of a last group to the front of the output, and tells the
+/// verdict on the whole text.
+pub fn held_decoder_finish(
+    held: &PlainEncoding,
+    decoder: &PlainKept,
+    output: &mut [u8],
+    decoded: &mut Decoded,
+) -> u32
+    ensures { EndsText (base_of_plain held.now) decoder.now output.old output.new decoded.old
+        decoded.new result }
+{
+    finish_by(&held.encoding(), decoder, output, decoded)
+}

@@ -1,0 +1,60 @@
+//! Encodings of a caller's own, which it holds as plain data: their tables stand in them, so that a
+//! call builds nothing and copies none.
+
+ghost use Rattle.std.specs.Prelude.{◌≡◌};
+ghost use Rattle.data_encoding.specs.Plain.{base_of_plain};
+ghost use Rattle.data_encoding_calls.specs.Calls.{Decodes, Encodes, TellsCanonical, TellsMost, TellsTextLength};
+
+use crate::convert::{
+    Decoded, decode_by, decode_len_by, encode_by, encode_len_by, is_canonical_by,
+};
+use data_encoding::PlainEncoding;
+
+/// The length of the text of `len` bytes.
+pub fn held_encode_len(held: &PlainEncoding, len: usize, text_len: &mut usize) -> u32
+    ensures { TellsTextLength (base_of_plain held.now) len text_len.old text_len.new result }
+{
+    encode_len_by(&held.by_ref(), len, text_len)
+}
+
+/// Writes the text of data to the front of the output, and its length to `written`.
+pub fn held_encode(
+    held: &PlainEncoding,
+    input: &[u8],
+    output: &mut [u8],
+    written: &mut usize,
+) -> u32
+    ensures { Encodes (base_of_plain held.now) input.now output.old output.new written.old
+        written.new result }
+{
+    encode_by(&held.by_ref(), input, output, written)
+}
+
+/// The greatest number of bytes that a text of `len` bytes may mean, or the position of the fault
+/// of that length.
+pub fn held_decode_len(held: &PlainEncoding, len: usize, most: &mut usize) -> u32
+    ensures { TellsMost (base_of_plain held.now) len most.old most.new result }
+{
+    decode_len_by(&held.by_ref(), len, most)
+}
+
+/// Writes the data that a text means to the front of the output, or as much as stands before its
+/// fault.
+pub fn held_decode(
+    held: &PlainEncoding,
+    input: &[u8],
+    output: &mut [u8],
+    decoded: &mut Decoded,
+) -> u32
+    ensures { Decodes (base_of_plain held.now) input.now output.old output.new decoded.old
+        decoded.new result }
+{
+    decode_by(&held.by_ref(), input, output, decoded)
+}
+
+/// Whether no two different texts decode to the same data.
+pub fn held_is_canonical(held: &PlainEncoding, answer: &mut bool) -> u32
+    ensures { TellsCanonical (base_of_plain held.now) answer.new result }
+{
+    is_canonical_by(&held.by_ref(), answer)
+}

@@ -1,0 +1,31 @@
+//! The calls of `data_encoding` for programs in other languages: each is an export of a crate above
+//! this one, with the clause that it has here.
+//!
+//! Nothing checks a caller in another language, so that no call has a condition on lengths: each
+//! tests every length itself, and returns a status.
+#![tactic(auto)]
+
+mod convert;
+mod decoder;
+mod held;
+mod make;
+mod names;
+mod numbered;
+mod pieces;
+mod status;
+mod stored;
+
+pub use convert::Decoded;
+pub use decoder::{
+    held_decoder_finish, held_decoder_most, held_decoder_read, numbered_decoder_finish,
+    numbered_decoder_most, numbered_decoder_read, plain_decoder_new,
+};
+pub use held::{held_decode, held_decode_len, held_encode, held_encode_len, held_is_canonical};
+pub use make::{Form, Made, held_new};
+pub use names::{named_number, numbered_name};
+pub use numbered::{
+    numbered_decode, numbered_decode_len, numbered_encode, numbered_encode_len,
+    numbered_is_canonical,
+};
+pub use pieces::PlainKept;
+pub use stored::{held_layout, held_read};

@@ -1,0 +1,123 @@
+//! An encoding of a caller's own from a specification.
+
+ghost use Rattle.std.specs.Prelude.{◌≡◌};
+ghost use Rattle.data_encoding.specs.Fields.{base_of};
+ghost use Rattle.data_encoding.specs.Plain.{base_of_plain};
+ghost use Rattle.data_encoding_calls.specs.Held.{Makes, fields_asked, order_asked, padding_asked};
+
+use crate::status::{OK, detail_of_refusal, status_of_refusal};
+use data_encoding::{BitOrder, Encoding, PlainEncoding, SpecificationParts, hexlower};
+
+/// What a specification says in numbers.
+#[repr(C)]
+#[derive(Clone, Copy, Drop)]
+pub struct Form {
+    /// The number of characters of a line, or 0.
+    pub wrap_width: usize,
+
+    /// What fills the last group, where there is padding.
+    pub padding: u8,
+
+    /// Whether there is padding.
+    pub has_padding: bool,
+
+    /// Whether the bit of weight 1 comes first.
+    pub least_significant_first: bool,
+
+    /// Whether trailing bits have to be zeros.
+    pub check_trailing_bits: bool,
+
+    /// Whether padded texts that stand one after the other are decoded as one.
+    pub concatenate: bool,
+}
+
+/// What is made of a specification, or of a layout.
+#[repr(C)]
+#[derive(Clone, Copy, Drop)]
+pub struct Made {
+    /// Whether an encoding is made, or why not.
+    pub status: u32,
+
+    /// The byte or the number that a refusal names, or 0.
+    pub detail: usize,
+
+    /// The encoding, where one is made; any other where none is.
+    pub held: PlainEncoding,
+}
+
+/// The encoding that is asked for, or why there is none.
+pub fn held_new(
+    form: &Form,
+    symbols: &[u8],
+    ignore: &[u8],
+    separator: &[u8],
+    from: &[u8],
+    to: &[u8],
+) -> Made
+    ensures { Makes (base_of (fields_asked form.now symbols.now ignore.now separator.now from.now
+        to.now)) result }
+{
+    let parts = SpecificationParts {
+        symbols,
+        bit_order: bit_order(form.least_significant_first),
+        check_trailing_bits: form.check_trailing_bits,
+        concatenate: form.concatenate,
+        padding: padding(form.has_padding, form.padding),
+        ignore,
+        wrap_width: form.wrap_width,
+        wrap_separator: separator,
+        translate_from: from,
+        translate_to: to,
+    };
+    match parts.encoding() {
+        Ok(encoding) => accepted(&encoding),
+        Err(error) => {
+            let refusal = error.refusal();
+            refused(status_of_refusal(refusal), detail_of_refusal(refusal))
+        }
+    }
+}
+
+/// That this encoding is made.
+pub(crate) fn accepted(encoding: &Encoding) -> Made
+    ensures status { result.status ≡ OK }
+    ensures held { base_of_plain result.held ≡ encoding.now }
+{
+    Made {
+        status: OK,
+        detail: 0,
+        held: encoding.to_plain(),
+    }
+}
+
+/// That none is made.
+pub(crate) fn refused(status: u32, detail: usize) -> Made
+    ensures status { result.status ≡ status }
+    ensures detail { result.detail ≡ detail }
+{
+    Made {
+        status,
+        detail,
+        held: hexlower().to_plain(),
+    }
+}
+
+fn bit_order(least_significant_first: bool) -> BitOrder
+    ensures { result ≡ order_asked least_significant_first }
+{
+    if least_significant_first {
+        BitOrder::LeastSignificantFirst
+    } else {
+        BitOrder::MostSignificantFirst
+    }
+}
+
+fn padding(has_padding: bool, padding: u8) -> Option<char>
+    ensures { result ≡ padding_asked has_padding padding }
+{
+    if has_padding {
+        Some(char::from(padding))
+    } else {
+        None
+    }
+}

@@ -1,0 +1,181 @@
+//! A text in pieces: what a caller keeps of it between calls, as plain numbers.
+
+ghost use Rattle.std.specs.Prelude.{◌≡◌, ℕ, List, IfSome, IsSome, Some};
+ghost use Rattle.encoding_stream.specs.Pieces.{base_of_pieces, kept_by};
+ghost use Rattle.data_encoding_calls.specs.Pieces.{kept_told, kind_told, EndsText, MayBeGiven, ReadsPiece, StandsAfter, TellsRoom};
+
+use crate::convert::Decoded;
+use crate::status::{NO_DECODER, OK, SHORT_BUFFER, TOO_LONG, status_of_kind};
+use data_encoding::{DECODE_LIMIT, DecodeError, DecodeKind, Encoding};
+use encoding_stream::{BufferDecoder, Kept};
+
+/// What is kept of a text between its pieces. All zeros is what is kept of no text.
+#[repr(C)]
+#[derive(Clone, Copy, Drop)]
+pub struct PlainKept {
+    /// How many bytes the text has.
+    pub len: usize,
+
+    /// How many bytes of an unfinished group are held.
+    pub count: usize,
+
+    /// Where these stand.
+    pub positions: [usize; 8],
+
+    /// The position of the first fault.
+    pub fault_position: usize,
+
+    /// Its status, or 0.
+    pub fault: u32,
+
+    /// 1 where a group was final.
+    pub ended: u32,
+
+    /// The bytes that are held.
+    pub bytes: [u8; 8],
+}
+
+// The kind of fault that a status tells.
+fn kind_of_status(status: u32) -> Option<DecodeKind>
+    ensures { result ≡ kind_told status }
+{
+    if status == 6 {
+        return Some(DecodeKind::Length);
+    }
+    if status == 7 {
+        return Some(DecodeKind::Symbol);
+    }
+    if status == 8 {
+        return Some(DecodeKind::Trailing);
+    }
+    if status == 9 {
+        return Some(DecodeKind::Padding);
+    }
+    None
+}
+
+// What plain numbers say is kept.
+fn kept_of(plain: &PlainKept) -> Option<Kept>
+    ensures { result ≡ kept_told plain.now }
+{
+    let fault = if plain.fault == 0 {
+        None
+    } else {
+        Some(DecodeError {
+            position: plain.fault_position,
+            kind: kind_of_status(plain.fault)?,
+        })
+    };
+    Some(Kept {
+        len: plain.len,
+        fault,
+        positions: plain.positions,
+        bytes: plain.bytes,
+        count: plain.count,
+        ended: plain.ended == 1,
+    })
+}
+
+// What is kept, as plain numbers.
+fn plain_of(kept: &Kept) -> PlainKept
+    ensures { kept_told result ≡ Some kept.now }
+{
+    let (fault, fault_position) = match kept.fault {
+        Some(error) => (status_of_kind(error.kind), error.position),
+        None => (0, 0),
+    };
+    PlainKept {
+        len: kept.len,
+        count: kept.count,
+        positions: kept.positions,
+        fault_position,
+        fault,
+        ended: kept.ended as u32,
+        bytes: kept.bytes,
+    }
+}
+
+// The decoder that keeps these numbers, where one may.
+fn decoder_of<'a>(encoding: &'a Encoding, plain: &PlainKept) -> Option<BufferDecoder<'a>>
+    ensures base { IfSome result (λ decoder. base_of_pieces decoder ≡ encoding.now) }
+    ensures kept { IfSome result (λ decoder. kept_told plain.now ≡ Some (kept_by decoder)) }
+    ensures given { IsSome result → MayBeGiven encoding.now plain.now }
+    ensures stands { (text : List ℕ) → StandsAfter encoding.now plain.now text → IsSome result }
+{
+    BufferDecoder::resumed(encoding, kept_of(plain)?)
+}
+
+/// How many bytes `len` more of the text may complete.
+pub(crate) fn most_by(encoding: &Encoding, plain: &PlainKept, len: usize, most: &mut usize) -> u32
+    ensures { TellsRoom encoding.now plain.now len most.old most.new result }
+{
+    let Some(decoder) = decoder_of(encoding, plain) else {
+        return NO_DECODER;
+    };
+    if len > DECODE_LIMIT - decoder.len() {
+        return TOO_LONG;
+    }
+    *most = decoder.most(len);
+    OK
+}
+
+/// Reads a piece, and writes the bytes of the groups that are then whole to the front of the
+/// output.
+pub(crate) fn read_by(
+    encoding: &Encoding,
+    plain: &mut PlainKept,
+    piece: &[u8],
+    output: &mut [u8],
+    written: &mut usize,
+) -> u32
+    ensures { ReadsPiece encoding.now piece.now
+        (record { decoder = plain.old; output = output.old; written = written.old })
+        (record { decoder = plain.new; output = output.new; written = written.new }) result }
+{
+    let Some(mut decoder) = decoder_of(encoding, plain) else {
+        return NO_DECODER;
+    };
+    if piece.len() > DECODE_LIMIT - decoder.len() {
+        return TOO_LONG;
+    }
+    let most = decoder.most(piece.len());
+    if output.len() < most {
+        return SHORT_BUFFER;
+    }
+    *written = decoder.read(piece, &mut output[..most]);
+    *plain = plain_of(&decoder.kept());
+    OK
+}
+
+/// Ends the text: writes the bytes of a last group to the front of the output, and tells the
+/// verdict.
+pub(crate) fn finish_by(
+    encoding: &Encoding,
+    plain: &PlainKept,
+    output: &mut [u8],
+    decoded: &mut Decoded,
+) -> u32
+    ensures { EndsText encoding.now plain.now output.old output.new decoded.old decoded.new
+        result }
+{
+    let Some(decoder) = decoder_of(encoding, plain) else {
+        return NO_DECODER;
+    };
+    let mut last = [0; 5];
+    let (written, verdict) = decoder.finish(&mut last);
+    if output.len() < written {
+        return SHORT_BUFFER;
+    }
+    output[..written].copy_from_slice(&last[..written]);
+    let read = decoder.len();
+    let (position, status) = match verdict {
+        Ok(()) => (read, OK),
+        Err(error) => (error.position, status_of_kind(error.kind)),
+    };
+    *decoded = Decoded {
+        read,
+        written,
+        position,
+    };
+    status
+}

@@ -1,0 +1,39 @@
+//! Encodings of a caller's own as bytes that it stores: their layouts, which are judged when they
+//! are read.
+
+ghost use Rattle.data_encoding.specs.Layout.{layout};
+ghost use Rattle.data_encoding.specs.Plain.{base_of_plain};
+ghost use Rattle.data_encoding_calls.specs.Calls.{WritesFront};
+ghost use Rattle.data_encoding_calls.specs.Held.{MakesOfLayout};
+
+use crate::make::{Made, accepted, refused};
+use crate::status::{NO_ENCODING, OK, SHORT_BUFFER};
+use data_encoding::laws::one_layout;
+use data_encoding::{Encoding, PlainEncoding};
+
+/// Writes the layout of the encoding to the front of the output, and its length, at most 770, to
+/// `written`.
+pub fn held_layout(held: &PlainEncoding, output: &mut [u8], written: &mut usize) -> u32
+    ensures { WritesFront (layout (base_of_plain held.now)) output.old output.new written.old
+        written.new result }
+{
+    let bytes = held.by_ref().internal_implementation();
+    let bytes = bytes.as_slice();
+    if output.len() < bytes.len() {
+        return SHORT_BUFFER;
+    }
+    output[..bytes.len()].copy_from_slice(bytes);
+    *written = bytes.len();
+    OK
+}
+
+/// The encoding of a layout, where the bytes are one.
+pub fn held_read(bytes: &[u8]) -> Made
+    ensures { MakesOfLayout bytes.now result }
+{
+    one_layout();
+    match Encoding::internal_new(bytes) {
+        Some(encoding) => accepted(&encoding),
+        None => refused(NO_ENCODING, 0),
+    }
+}
