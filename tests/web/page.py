@@ -148,8 +148,8 @@ class Page(unittest.TestCase):
     # What a person sees.
 
     def shown(self, side: str) -> str:
-        """What the field shows; a carriage return is a symbol there."""
-        return self.find(f"#{side} textarea").get_property("value").replace("\u240d", "\r")
+        """What the field shows; a carriage return is an arrow there."""
+        return self.find(f"#{side} textarea").get_property("value").replace("\u21b5", "\r")
 
     def fault(self, side: str = "text") -> str:
         return self.find(f"#{side}-fault").text
@@ -547,7 +547,7 @@ class Shapes(Page):
         self.clear("text")
         area = self.find("#text textarea")
         self.driver.execute_script("""
-            arguments[0].value = arguments[1].replaceAll('\\r', '\\u240d');
+            arguments[0].value = arguments[1].replaceAll('\\r', '\\u21b5');
             arguments[0].dispatchEvent(new InputEvent('input'));""",
             area, text[:101] + "!" + text[102:])
         self.driver.save_screenshot(PICTURE)

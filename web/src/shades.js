@@ -23,10 +23,9 @@ function runsOf(text, shadeOf, fault) {
   const runs = [];
   let last;
   for (let at = 0; at < text.length && runs.length < MOST_RUNS; at++) {
-    const shade = shadeOf(meant(text[at]));
-    const kind = text[at] === "\n" ? `${shade} feed` : shade;
     const isFault = fault !== null && at >= fault.from && at < fault.to;
-    const key = isFault ? `${kind} faulty` : kind;
+    const shade = isFault ? "faulty" : shadeOf(meant(text[at]));
+    const key = text[at] === "\n" && shade !== "" ? `${shade} feed` : shade;
     if (key !== last || text[at] === "\n") {
       runs.push({ at, key });
     }
@@ -36,11 +35,11 @@ function runsOf(text, shadeOf, fault) {
 }
 
 function run(text, key) {
-  if (key.trim() === "") {
+  if (key === "") {
     return document.createTextNode(text);
   }
   const span = document.createElement("span");
-  span.className = key.trim();
+  span.className = key;
   span.textContent = text;
   return span;
 }

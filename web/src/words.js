@@ -12,8 +12,8 @@ const NAMES = {
   0xfeff: "a byte order mark",
 };
 
-/** A carriage return in a field, which would take it for the end of a line. */
-export const RETURN = "\u240d";
+/** What stands for a carriage return in a field, which would take that for the end of a line. */
+export const RETURN = "\u21b5";
 
 /** The text of a field, as it is, and back. */
 export const shown = (text) => text.replaceAll("\r", RETURN);
