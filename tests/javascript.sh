@@ -3,7 +3,7 @@
 # docs/JAVASCRIPT.md. Nothing is taken from a network.
 #
 # usage: tests/javascript.sh [DIR]: where bindings/javascript/build.sh left the package; it is built
-# if no folder is given.
+# by lanes if no folder is given, so that no crate is proved twice.
 . "$(dirname "$0")/common.bash" || exit 1
 
 if ! command -v node >/dev/null; then
@@ -24,7 +24,7 @@ fi
 
 package=$room/package
 if [ $# = 0 ]; then
-    bindings/javascript/build.sh "$package" || exit 1
+    bindings/javascript/build.sh --lanes "$package" || exit 1
 else
     cp -r "$(realpath "$1")" "$package" || exit 1
 fi
@@ -40,6 +40,11 @@ quietly() {
         return 1
     }
 }
+
+# The lines of the kernel that go by words in a package that is built without --lanes.
+kernel=$OLDPWD/crates/data_encoding_kernel/src
+is 'what goes by words' '2 1' "$(grep -cF 'encode_turns::<EightGroups, G>' "$kernel/encode.rt") \
+$(grep -cF 'if input.len() < eight {' "$kernel/decode.rt")"
 
 wanted="the WebAssembly module is not here: \`bindings/javascript/build.sh DIR\` makes a package with \
 it from the sources of Bamsturk"

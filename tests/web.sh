@@ -3,7 +3,7 @@
 # it shows is compared with the program.
 #
 # usage: tests/web.sh [--picture FILE] [PACKAGE]: PACKAGE is where bindings/javascript/build.sh left
-# the package for JavaScript; it is built if no folder is given. FILE gets the picture of README.md.
+# the package for JavaScript; it is built by lanes if no folder is given. FILE gets the picture of README.md.
 . "$(dirname "$0")/common.bash" || exit 1
 
 picture=
@@ -24,13 +24,17 @@ if ! "$python" -c 'import selenium.webdriver' 2>/dev/null; then
 fi
 
 program=$(tests/find-program) || exit 1
-web/build.sh "$room" "$@" || exit 1
-page=$room/basecode.html
+package=${1:-$room/package}
+if [ $# = 0 ]; then
+    bindings/javascript/build.sh --lanes "$package" || exit 1
+fi
+web/build.sh "$room/page" "$package" || exit 1
+page=$room/page/basecode.html
 
 is 'what the page asks for' "default-src 'none'" \
     "$(grep -o "default-src '[a-z]*'" "$page")"
 is 'addresses in the page' '' "$(grep -oE '(src|href|url)[=(]["'"'"']?(https?:)?//[^ "]*' "$page")"
-is 'one file' basecode.html "$(ls "$room")"
+is 'one file' basecode.html "$(ls "$room/page")"
 
 if PYTHONDONTWRITEBYTECODE=1 "$python" tests/web/page.py "$page" "$program" ${picture:+"$picture"} \
     >"$room/said" 2>&1; then
