@@ -8,6 +8,7 @@ import hashlib
 import json
 import os
 import pathlib
+import shlex
 import shutil
 import subprocess
 import sys
@@ -377,6 +378,38 @@ class Own(Page):
                       "it.bit_order = BitOrder::LeastSignificantFirst;", "python3 -c 'import sys;"):
             self.assertIn(words, lines)
 
+    def line(self, language: str) -> str:
+        """The line that makes the encoding in another language."""
+        lines = self.find("#lines").text.split("\n")
+        return lines[lines.index(language) + 1]
+
+    def test_lines_elsewhere(self) -> None:
+        """The lines of Python and C ask for what the form does."""
+        self.choose("your own")
+        self.fill(symbols="01?'\"%\\\\#", padding="=", ignore="\\x01 x", width="16",
+                  separator="\\r\\n", **{"from": "ab", "to": "0'"})
+        for rule in ("order", "check", "concatenate"):
+            self.find(f"#own-{rule}").click()
+        asked = {"symbols": "01?'\"%\\#", "padding": "=", "ignore": "\x01\n\r x",
+                 "wrap": (16, "\r\n"), "translate": ("ab", "0'"), "least_significant_first": True,
+                 "check_trailing_bits": False, "concatenate": False}
+        made = eval(self.line("Python"), {"Encoding": lambda symbols, **words: {
+            "symbols": symbols, **words}})
+        self.assertEqual(made, asked)
+        shell = shlex.split(self.line("Shell"))
+        self.assertEqual(shell[:2], ["python3", "-c"])
+        self.assertIn(f"({self.line('Python')}.encode(", shell[2])
+        if shutil.which("cc") is None:
+            return
+        source, binary = ROOM / "line.c", ROOM / "line"
+        source.write_text(LINE_IN_C.replace("@LINE@", self.line("C")))
+        include = pathlib.Path(__file__).parents[2] / "crates/data_encoding_c/include"
+        subprocess.run(["cc", "-std=c99", "-Wall", "-Werror", f"-I{include}", source, "-o", binary],
+                       check=True)
+        printed = subprocess.run([binary], capture_output=True, check=True).stdout.decode()
+        self.assertEqual(printed.split("\0")[:-1], [
+            asked["symbols"], asked["ignore"], "\r\n", "ab", "0'", "16 61 1 0 0"])
+
     def test_where_it_is_wrong(self) -> None:
         self.choose("your own")
         for fields, field, message in (
@@ -552,6 +585,31 @@ class Shapes(Page):
             area, text[:101] + "!" + text[102:])
         self.driver.save_screenshot(PICTURE)
 
+
+# Prints what the line asks for, each field followed by a NUL.
+LINE_IN_C = """
+#include "data_encoding.h"
+#include <stdio.h>
+
+de_status de_encoding_new(de_encoding *encoding, const de_specification *it, size_t *detail) {
+    (void)encoding;
+    (void)detail;
+    fwrite(it->symbols, 1, it->symbols_len, stdout), putchar(0);
+    fwrite(it->ignore, 1, it->ignore_len, stdout), putchar(0);
+    fwrite(it->wrap_separator, 1, it->wrap_separator_len, stdout), putchar(0);
+    fwrite(it->translate_from, 1, it->translate_from_len, stdout), putchar(0);
+    fwrite(it->translate_to, 1, it->translate_to_len, stdout), putchar(0);
+    printf("%zu %d %d %d %d", it->wrap_width, it->padding, it->least_significant_first,
+           it->check_trailing_bits, it->concatenate), putchar(0);
+    return DE_OK;
+}
+
+int main(void) {
+    de_encoding encoding;
+    @LINE@
+    return (int)status;
+}
+"""
 
 # The texts whose contrast with what they lie on is below 4.5.
 CONTRAST = """

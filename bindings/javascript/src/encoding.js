@@ -52,6 +52,7 @@ export class Encoding {
   constructor(specification) {
     this.#key =
       specification instanceof calls.Key ? specification : keyOfSpecification(specification);
+    Object.freeze(this);
   }
 
   /** The names of the predefined encodings. */
@@ -165,6 +166,11 @@ export class Encoding {
 
   toString() {
     return this.name ?? `Encoding(${JSON.stringify(this.specification())})`;
+  }
+
+  /** What Node prints of it. */
+  [Symbol.for("nodejs.util.inspect.custom")]() {
+    return this.toString();
   }
 }
 

@@ -2,6 +2,7 @@
 
 import assert from "node:assert/strict";
 import test from "node:test";
+import { inspect } from "node:util";
 
 import * as library from "../src/index.js";
 import { BASE32_DNSCURVE, BASE64, BASE64_MIME } from "../src/index.js";
@@ -184,4 +185,15 @@ test("where data may be cut", () => {
 test("strings", () => {
   const [octal] = OWN;
   assert.match(String(octal), /^Encoding\(\{"symbols":"01234567","padding":"="/);
+  assert.equal(inspect(BASE64), "BASE64");
+});
+
+test("an encoding never changes", () => {
+  assert.throws(() => {
+    BASE64.other = 1;
+  }, TypeError);
+  const asked = { symbols: "01234567", wrap: { width: 8, separator: "\n" } };
+  const encoding = new Encoding(asked);
+  asked.wrap.width = 16;
+  assert.deepEqual(encoding.specification().wrap, { width: 8, separator: "\n" });
 });
