@@ -7,8 +7,8 @@
 # - `sh`: is run as it stands, but that `rt run` runs the program that is tried.
 #
 # tests/interop.sh and tests/scale.sh run those of docs/SCALE.md, tests/library.sh that of
-# docs/LIBRARY.md, tests/c.sh those of docs/C.md, tests/rust.sh and tests/python.sh those of their
-# pages, and tests/contracts.sh has those of docs/CONTRACTS.md.
+# docs/LIBRARY.md, tests/c.sh those of docs/C.md, tests/rust.sh, tests/python.sh and
+# tests/javascript.sh those of their pages, and tests/contracts.sh has those of docs/CONTRACTS.md.
 #
 # usage: tests/examples.sh [PROGRAM]
 . "$(dirname "$0")/common.bash" || exit 1
@@ -68,7 +68,7 @@ try_commands() {
 try_block() {
     case $1:$2 in
     docs/SCALE.md:sh | docs/SCALE.md:python | docs/LIBRARY.md:sh | docs/CONTRACTS.md:rust) ;;
-    docs/C.md:* | docs/RUST.md:* | docs/PYTHON.md:*) ;;
+    docs/C.md:* | docs/RUST.md:* | docs/PYTHON.md:* | docs/JAVASCRIPT.md:*) ;;
     *:text) try_examples "$1" "$3" ;;
     *:sh) try_commands "$1" "$3" ;;
     *:rust)

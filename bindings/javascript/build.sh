@@ -1,0 +1,88 @@
+#!/usr/bin/env bash
+# Proves the library and builds it for WebAssembly, in DIR, which is made: the package for
+# JavaScript, with the module in it as text. In DIR `npm pack` makes one file of it, and from there
+# it can be imported as it is.
+#
+# usage: bindings/javascript/build.sh [--lanes] DIR
+#
+# The calls are those of data_encoding_c. crates.txt lists a crate for one platform, so that this is
+# done in a copy of the crates, in out/, where that crate is one for WebAssembly. There the kernel goes
+# by words in place of lanes, which are taken apart where a processor's vectors are not used: with the
+# same contracts, which are proved again. --lanes leaves it as it is, so that nothing below that crate
+# is proved twice; large data then takes five times as long.
+set -euo pipefail
+
+way=words
+if [ $# = 2 ] && [ "$1" = --lanes ]; then
+    way=lanes
+    shift
+fi
+if [ $# != 1 ] || [ "${1#-}" != "$1" ]; then
+    echo 'usage: bindings/javascript/build.sh [--lanes] DIR' >&2
+    exit 2
+fi
+mkdir -p "$1"
+target=$(realpath "$1")
+here=$(realpath "$(dirname "$0")")
+top=$(realpath "$here/../..")
+crate=data_encoding_c
+room=$here/out/$way
+module=$room/crates/$crate/out/$crate.wasm
+
+# copy_crates: the sources of the crates of this checkout.
+copy_crates() {
+    local folder copy part
+    for folder in "$top"/crates/*/; do
+        copy=$room/crates/$(basename "$folder")
+        mkdir -p "$copy"
+        for part in src specs proofs; do
+            rm -rf "${copy:?}/$part"
+            [ ! -d "$folder/$part" ] || cp -r "$folder/$part" "$copy"
+        done
+    done
+    sed "s/^$crate staticlib:/$crate wasm64:/" "$top/crates.txt" >"$room/crates.txt"
+    cp "$top/HANDLES" "$room/HANDLES"
+}
+
+# put FILE OLD NEW: puts the one text in the place of the other in a file of the copied kernel.
+put() {
+    local file=$room/crates/data_encoding_kernel/src/$1
+    if ! grep -qF "$2" "$file"; then
+        echo "the kernel has no line with \`$2\`: build with --lanes" >&2
+        exit 1
+    fi
+    sed -i "s/$2/$3/" "$file"
+}
+
+# by_words: no turn of eight groups in lanes is taken.
+by_words() {
+    put encode.rt 'encode_turns::<EightGroups, G>' 'encode_turns::<OneGroup, G>'
+    put decode.rt 'if input.len() < eight {' 'if input.len() < eight || true {'
+}
+
+# Nothing is proved again where no source is newer than the module.
+if [ ! -f "$module" ] || [ -n "$(find "$top/crates.txt" "$top"/crates/*/{src,specs,proofs} \
+    -newer "$module" -print -quit 2>/dev/null)" ]; then
+    log=$(mktemp)
+    trap 'rm -f "$log"' EXIT
+    mkdir -p "$room"
+    copy_crates
+    [ "$way" = lanes ] || by_words
+    if ! (cd "$room/crates/$crate" && rt lib) >"$log" 2>&1; then
+        tail -n 20 "$log" >&2
+        echo 'the module was not proved' >&2
+        exit 1
+    fi
+fi
+
+version=$(sed -n 's/^  "version": "\(.*\)",$/\1/p' "$here/package.json")
+mkdir -p "$target/src"
+cp "$here/package.json" "$top/LICENSE" "$target"
+cp "$here"/src/* "$target/src"
+{
+    echo '/** The WebAssembly module, in base64. */'
+    echo "export const MODULE = \"$(base64 -w 0 "$module")\";"
+    echo
+    echo '/** The version of the package and of the module. */'
+    echo "export const VERSION = \"$version\";"
+} >"$target/src/module.js"

@@ -1,0 +1,96 @@
+// What the calls take as data and as texts, and the strings that they give.
+
+const getterOf = (prototype, name) => Object.getOwnPropertyDescriptor(prototype, name).get;
+
+/** The getters of a length that refuse any object but a buffer, of this realm or of another. */
+const BUFFER_LENGTHS = [getterOf(ArrayBuffer.prototype, "byteLength")];
+if (typeof SharedArrayBuffer !== "undefined") {
+  BUFFER_LENGTHS.push(getterOf(SharedArrayBuffer.prototype, "byteLength"));
+}
+
+function bufferLength(value) {
+  for (const getter of BUFFER_LENGTHS) {
+    try {
+      return getter.call(value);
+    } catch {
+      // It is another kind of object.
+    }
+  }
+  return undefined;
+}
+
+/** What kind of value it is, in a word. */
+export function kindOf(value) {
+  return value === null ? "null" : (value?.constructor?.name ?? typeof value);
+}
+
+/** A view of the bytes, whose length stays what it is; undefined where the value has none. */
+function viewOf(value) {
+  if (ArrayBuffer.isView(value)) {
+    return new Uint8Array(value.buffer, value.byteOffset, value.byteLength);
+  }
+  const length = typeof value === "object" && value !== null ? bufferLength(value) : undefined;
+  return length === undefined ? undefined : new Uint8Array(value, 0, length);
+}
+
+/** A view of the bytes of a buffer, or of a view of one. */
+export function bytesOf(value, what) {
+  const view = viewOf(value);
+  if (view === undefined) {
+    throw new TypeError(`${what} has to be a buffer or a view of one, not ${kindOf(value)}`);
+  }
+  return view;
+}
+
+/** A string, or a view of the bytes of a text. */
+export function textOf(value) {
+  if (typeof value === "string") {
+    return value;
+  }
+  const view = viewOf(value);
+  if (view === undefined) {
+    throw new TypeError(
+      `a text has to be a string, a buffer or a view of one, not ${kindOf(value)}`,
+    );
+  }
+  return view;
+}
+
+const encoder = new TextEncoder();
+const decoder = new TextDecoder("latin1");
+
+/** Up to this length a loop over characters takes less time than a call of the platform. */
+const SHORT = 24;
+
+/** A byte of no symbol, which a character that is not ASCII becomes. */
+const NO_SYMBOL = 128;
+
+function writeCharacters(text, output) {
+  for (let at = 0; at < output.length; at++) {
+    const unit = text.charCodeAt(at);
+    output[at] = unit < 128 ? unit : NO_SYMBOL;
+  }
+}
+
+/** Writes a byte for each character of the text to the output, which is as long. */
+export function writeText(text, output) {
+  if (typeof text !== "string") {
+    output.set(text);
+  } else if (text.length <= SHORT) {
+    writeCharacters(text, output);
+  } else {
+    const { read, written } = encoder.encodeInto(text, output);
+    // A character that is not ASCII takes more bytes than it has units.
+    if (read !== text.length || written !== text.length) {
+      writeCharacters(text, output);
+    }
+  }
+}
+
+/** The string of ASCII characters. */
+export function stringOf(bytes) {
+  return bytes.length <= SHORT ? String.fromCharCode(...bytes) : decoder.decode(bytes);
+}
+
+/** The bytes of a string; a character that is not ASCII has several, and none is ASCII. */
+export const utf8 = (text) => encoder.encode(text);

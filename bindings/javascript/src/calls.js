@@ -1,0 +1,204 @@
+// The calls of the module over values of JavaScript: each copies what it reads into the room, and
+// makes a status an error. What is returned as a view is part of the room, until the next call.
+
+import { stringOf, writeText } from "./bytes.js";
+import { DecodeError } from "./errors.js";
+import * as machine from "./machine.js";
+
+const { DECODER, DECODER_SIZE, INPUT, RESULT, TABLES, calls } = machine;
+
+const RESULT_ADDRESS = machine.addressOf(RESULT);
+const DECODER_ADDRESS = machine.addressOf(DECODER);
+const TABLES_ADDRESS = machine.addressOf(TABLES);
+
+const OK = 0;
+const REASONS = { 1: "unknown encoding", 3: "too long", 4: "output too short", 19: "no decoder" };
+const KINDS = { 6: "length", 7: "symbol", 8: "trailing", 9: "padding" };
+
+/** Throws what a refused call is reported by. */
+function refused(status) {
+  const Refusal = status === 3 || status === 4 ? RangeError : Error;
+  throw new Refusal(REASONS[status] ?? `status ${status}`);
+}
+
+function needsOk(status) {
+  if (status !== OK) {
+    refused(status);
+  }
+}
+
+/** The kind of the fault of a text, or undefined where it has none. */
+function faultOf(status) {
+  const kind = KINDS[status];
+  if (kind === undefined) {
+    needsOk(status);
+  }
+  return kind;
+}
+
+/** The calls by the number of a predefined encoding, or by the tables of another. */
+function callsBy(kind) {
+  return {
+    encodeLen: calls[`de_${kind}_encode_len`],
+    encode: calls[`de_${kind}_encode`],
+    decodeLen: calls[`de_${kind}_decode_len`],
+    decode: calls[`de_${kind}_decode`],
+    isCanonical: calls[`de_${kind}_is_canonical`],
+    decoderMost: calls[`de_${kind}_decoder_most`],
+    decoderRead: calls[`de_${kind}_decoder_read`],
+    decoderFinish: calls[`de_${kind}_decoder_finish`],
+  };
+}
+
+const BY_NUMBER = callsBy("numbered");
+const BY_TABLES = callsBy("held");
+
+/** The encoding whose tables are on the desk. */
+let onDesk;
+
+/** What the calls know an encoding by. */
+export class Key {
+  /**
+   * @param {Uint8Array} tables Those of the encoding.
+   * @param {number} [number] That of a predefined encoding, whose calls are by this.
+   */
+  constructor(tables, number) {
+    this.tables = tables;
+    this.number = number;
+    this.calls = number === undefined ? BY_TABLES : BY_NUMBER;
+  }
+
+  /** What a call has as its first argument. */
+  get first() {
+    return this.number ?? this.address;
+  }
+
+  /** The address of the tables, which are then on the desk. */
+  get address() {
+    if (onDesk !== this) {
+      machine.put(TABLES, this.tables);
+      onDesk = this;
+    }
+    return TABLES_ADDRESS;
+  }
+}
+
+/** The length of the text of so many bytes. */
+export function encodeLen(key, length) {
+  needsOk(key.calls.encodeLen(key.first, BigInt(length), RESULT_ADDRESS));
+  return machine.numberIn(RESULT);
+}
+
+/** A view of the text of the data. */
+export function encode(key, data) {
+  const length = encodeLen(key, data.length);
+  const output = machine.reserve(data.length, length);
+  machine.inputPart(data.length).set(data);
+  needsOk(
+    key.calls.encode(key.first, INPUT, BigInt(data.length), BigInt(output), BigInt(length),
+      RESULT_ADDRESS),
+  );
+  return machine.part(output, length);
+}
+
+/** The greatest number of bytes that a text of this length may mean. */
+export function decodeLen(key, length) {
+  const status = key.calls.decodeLen(key.first, BigInt(length), RESULT_ADDRESS);
+  const kind = faultOf(status);
+  const result = machine.numberIn(RESULT);
+  if (kind !== undefined) {
+    throw new DecodeError(kind, result);
+  }
+  return result;
+}
+
+/**
+ * How far a text is decoded: a view of the data of what was read, and the kind and the position of
+ * its fault; the kind is undefined where it has none.
+ */
+export function decode(key, text) {
+  const { length } = text;
+  // A symbol has at most six bits, so that no text means more bytes than it has characters.
+  const output = machine.reserve(length, length);
+  writeText(text, machine.inputPart(length));
+  const status = key.calls.decode(
+    key.first, INPUT, BigInt(length), BigInt(output), BigInt(length), RESULT_ADDRESS,
+  );
+  return verdict(status, output);
+}
+
+/** What a call left of how far it came, with the data in the output. */
+function verdict(status, output) {
+  const kind = faultOf(status);
+  const read = machine.numberIn(RESULT);
+  const data = machine.part(output, machine.numberIn(RESULT + 8));
+  return { data, read, kind, position: machine.numberIn(RESULT + 16) };
+}
+
+export function isCanonical(key) {
+  machine.putNumber(RESULT, 0);
+  needsOk(key.calls.isCanonical(key.first, RESULT_ADDRESS));
+  return machine.byteIn(RESULT) !== 0;
+}
+
+/** What a decoder keeps of no text. */
+export function newDecoder() {
+  calls.de_plain_decoder_new(DECODER_ADDRESS);
+  return machine.copyOf(DECODER, DECODER_SIZE);
+}
+
+/** A view of the data that a piece completes, and what is kept then. */
+export function decoderRead(key, kept, piece) {
+  const length = BigInt(piece.length);
+  const { first } = key;
+  machine.put(DECODER, kept);
+  needsOk(key.calls.decoderMost(first, DECODER_ADDRESS, length, RESULT_ADDRESS));
+  const most = machine.numberIn(RESULT);
+  const output = machine.reserve(piece.length, most);
+  writeText(piece, machine.inputPart(piece.length));
+  needsOk(
+    key.calls.decoderRead(first, DECODER_ADDRESS, INPUT, length, BigInt(output), BigInt(most),
+      RESULT_ADDRESS),
+  );
+  return {
+    data: machine.part(output, machine.numberIn(RESULT)),
+    kept: machine.copyOf(DECODER, DECODER_SIZE),
+  };
+}
+
+/** The greatest number of bytes that a last group may mean. */
+const LAST = 5;
+
+/** The data of a last group, and the verdict on the text. */
+export function decoderFinish(key, kept) {
+  machine.put(DECODER, kept);
+  const output = machine.reserve(0, LAST);
+  const status = key.calls.decoderFinish(
+    key.first, DECODER_ADDRESS, BigInt(output), BigInt(LAST), RESULT_ADDRESS,
+  );
+  return verdict(status, output);
+}
+
+/** The greatest length of the name of a predefined encoding. */
+const NAME = 22;
+
+/** The name of the predefined encoding of a number, or undefined where there is none. */
+export function nameOf(number) {
+  const output = machine.reserve(0, NAME);
+  const status = calls.de_numbered_name(number, BigInt(output), BigInt(NAME), RESULT_ADDRESS);
+  return status === OK
+    ? stringOf(machine.part(output, machine.numberIn(RESULT)))
+    : undefined;
+}
+
+/** The greatest length of a layout. */
+const LAYOUT = 770;
+
+/** A view of the layout of an encoding. */
+export function layoutOf(key) {
+  const output = machine.reserve(0, LAYOUT);
+  needsOk(
+    calls.de_held_layout(key.address, BigInt(output), BigInt(LAYOUT), RESULT_ADDRESS),
+  );
+  return machine.part(output, machine.numberIn(RESULT));
+}

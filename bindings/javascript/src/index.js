@@ -1,0 +1,12 @@
+/**
+ * Base encodings, proved: data as text over an alphabet of symbols, and back.
+ *
+ * @module
+ */
+
+export { Encoding } from "./encoding.js";
+export { DecodeError, SpecificationError } from "./errors.js";
+export { Decoder, Encoder } from "./pieces.js";
+export * from "./predefined.js";
+export { DecoderStream, EncoderStream } from "./streams.js";
+export { VERSION as version } from "./module.js";

@@ -1,0 +1,118 @@
+// The module and its memory: the one file that knows addresses.
+//
+// Behind what the module itself uses lies the desk, with fields of a fixed size, and behind that
+// the room, with the input of a call and then its output. A call is given addresses and lengths of
+// these alone.
+
+import { MODULE } from "./module.js";
+
+/** A module of 13 bytes whose memory has 64-bit addresses. */
+const PROBE = Uint8Array.of(0, 97, 115, 109, 1, 0, 0, 0, 5, 3, 1, 4, 1);
+
+const LACKING =
+  "WebAssembly has no 64-bit memory here: Chromium from 133 on, Firefox from 134 on and Node from " +
+  "24 on have it, and Node 20 and 22 by the flag --experimental-wasm-memory64";
+
+const PAGE = 65536;
+const ALIGNMENT = 16;
+
+/** The fields of the desk, by their distance from its front. */
+export const RESULT = 0;
+export const DECODER = 32;
+export const FORM = 144;
+export const MADE = 160;
+export const TABLES = 960;
+const ROOM = 1744;
+
+/** The sizes of those that are copied. */
+export const DECODER_SIZE = 104;
+export const TABLES_SIZE = 775;
+
+function moduleBytes() {
+  const text = atob(MODULE);
+  const bytes = new Uint8Array(text.length);
+  for (let at = 0; at < text.length; at++) {
+    bytes[at] = text.charCodeAt(at);
+  }
+  return bytes;
+}
+
+function instantiated() {
+  if (typeof WebAssembly === "undefined" || !WebAssembly.validate(PROBE)) {
+    throw new Error(LACKING);
+  }
+  return new WebAssembly.Instance(new WebAssembly.Module(moduleBytes()));
+}
+
+const aligned = (size) => Math.ceil(size / ALIGNMENT) * ALIGNMENT;
+
+/** The calls of the module. */
+export const calls = instantiated().exports;
+
+const { memory } = calls;
+const desk = aligned(Number(calls.__heap_base.value));
+const room = desk + ROOM;
+
+/** Node 20 counts the pages of such a memory by a number, and what came after it by a BigInt. */
+function countOf() {
+  try {
+    memory.grow(0n);
+    return BigInt;
+  } catch {
+    return Number;
+  }
+}
+
+const count = countOf();
+let bytes = new Uint8Array(memory.buffer);
+let fields = new DataView(memory.buffer);
+
+/** The address of a field of the desk. */
+export const addressOf = (field) => BigInt(desk + field);
+
+/** The address of the input. */
+export const INPUT = BigInt(room);
+
+function growTo(size) {
+  try {
+    memory.grow(count(Math.ceil((size - bytes.length) / PAGE)));
+  } catch {
+    throw new RangeError(`the memory of the module can't grow to ${size} bytes`);
+  }
+  bytes = new Uint8Array(memory.buffer);
+  fields = new DataView(memory.buffer);
+}
+
+/** Has the room hold an input and an output of these lengths, and returns where the output is. */
+export function reserve(inputLength, outputLength) {
+  const output = room + aligned(inputLength);
+  if (output + outputLength > bytes.length) {
+    growTo(output + outputLength);
+  }
+  return output;
+}
+
+/** The part of the room from an address on; it is what it is until the next `reserve`. */
+export const part = (address, length) => bytes.subarray(address, address + length);
+
+/** The room for an input of this length, which was reserved. */
+export const inputPart = (length) => part(room, length);
+
+/** The number in a field of the desk. */
+export const numberIn = (field) => Number(fields.getBigUint64(desk + field, true));
+
+export const smallNumberIn = (field) => fields.getUint32(desk + field, true);
+
+export const byteIn = (field) => bytes[desk + field];
+
+/** Writes the bytes to a field of the desk. */
+export function put(field, values) {
+  bytes.set(values, desk + field);
+}
+
+export function putNumber(field, value) {
+  fields.setBigUint64(desk + field, BigInt(value), true);
+}
+
+/** A copy of the bytes of a field of the desk. */
+export const copyOf = (field, length) => bytes.slice(desk + field, desk + field + length);

@@ -1,0 +1,37 @@
+// What the declarations say, for a compiler: nothing of this is run.
+
+import {
+  BASE64,
+  DecodeError,
+  Decoder,
+  DecoderStream,
+  Encoder,
+  EncoderStream,
+  Encoding,
+  SpecificationError,
+  version,
+} from "../src/index.js";
+
+const text: string = BASE64.encode(new Uint8Array([1, 2, 3]));
+const data: Uint8Array = BASE64.decode(text);
+const shared: string = BASE64.encode(new SharedArrayBuffer(3));
+const written: number = BASE64.encodeInto(data, new ArrayBuffer(8));
+const { error, read }: { error: DecodeError | null; read: number } = BASE64.decodePartial(data);
+const kind: "length" | "symbol" | "trailing" | "padding" | undefined = error?.kind;
+const octal = new Encoding({ symbols: "01234567", wrap: { width: 8, separator: "\n" } });
+const order: "most-significant-first" | "least-significant-first" = octal.specification().bitOrder;
+const piece: string = new Encoder(octal).push(data) + new Encoder(octal).finish();
+const bytes: Uint8Array = new Decoder(octal).push(piece);
+const texts: ReadableStream<string> = new EncoderStream(octal).readable;
+const parts: ReadableStream<Uint8Array> = texts.pipeThrough(new DecoderStream(octal));
+
+// @ts-expect-error: a text is no data.
+BASE64.encode("text");
+// @ts-expect-error: there are no such fields.
+new Encoding({ symbols: "01", ingore: " " });
+// @ts-expect-error: an encoding never changes.
+BASE64.name = "other";
+
+export default [
+  text, shared, written, read, kind, order, bytes, parts, version, SpecificationError,
+];

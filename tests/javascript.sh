@@ -1,0 +1,115 @@
+#!/usr/bin/env bash
+# Builds the package for JavaScript, runs its tests, packs and installs it, and runs the blocks of
+# docs/JAVASCRIPT.md. Nothing is taken from a network.
+#
+# usage: tests/javascript.sh [DIR]: where bindings/javascript/build.sh left the package; it is built
+# by lanes if no folder is given, so that no crate is proved twice.
+. "$(dirname "$0")/common.bash" || exit 1
+
+if ! command -v node >/dev/null; then
+    skip 'the package for JavaScript: no node'
+    finish
+fi
+
+# Node 20 and 22 have 64-bit memory by a flag, and Node 24 without one.
+probe='WebAssembly.validate(Uint8Array.of(0, 97, 115, 109, 1, 0, 0, 0, 5, 3, 1, 4, 1)) || process.exit(1)'
+flags=()
+if ! node -e "$probe"; then
+    flags=(--experimental-wasm-memory64)
+    if ! node "${flags[@]}" -e "$probe" 2>/dev/null; then
+        skip "the package for JavaScript: node $(node --version) has no 64-bit memory"
+        finish
+    fi
+fi
+
+package=$room/package
+if [ $# = 0 ]; then
+    bindings/javascript/build.sh --lanes "$package" || exit 1
+else
+    cp -r "$(realpath "$1")" "$package" || exit 1
+fi
+source=$PWD/bindings/javascript
+page=$PWD/docs/JAVASCRIPT.md
+cp -r "$source/tests" "$package"
+cd "$room" || exit 1
+
+# quietly COMMAND..: what it says is printed if it fails.
+quietly() {
+    "$@" >said 2>&1 || {
+        tail -n 60 said
+        return 1
+    }
+}
+
+# The lines of the kernel that go by words in a package that is built without --lanes.
+kernel=$OLDPWD/crates/data_encoding_kernel/src
+is 'what goes by words' '2 1' "$(grep -cF 'encode_turns::<EightGroups, G>' "$kernel/encode.rt") \
+$(grep -cF 'if input.len() < eight {' "$kernel/decode.rt")"
+
+wanted="the WebAssembly module is not here: \`bindings/javascript/build.sh DIR\` makes a package with \
+it from the sources of Bamsturk"
+is 'without the module' "$wanted" \
+    "$(node "${flags[@]}" -e "import('$source/src/index.js').catch((it) => console.log(it.message))")"
+
+holds 'the tests of the package' quietly node "${flags[@]}" --test package/tests/*.test.js
+tried=$(sed -n 's/^# pass //p' said)
+[ "${tried:-0}" -ge 35 ] || fail "the package has fewer than 35 tests: $tried"
+
+# What the module gives, and that it asks for nothing.
+cat >module.mjs <<'END_OF_MODULE'
+import { MODULE } from "./package/src/module.js";
+
+const module = new WebAssembly.Module(Buffer.from(MODULE, "base64"));
+console.log(WebAssembly.Module.imports(module).length, "imports");
+for (const { name } of WebAssembly.Module.exports(module)) {
+  console.log(name);
+}
+END_OF_MODULE
+is 'what the module gives' "0 imports
+__heap_base
+$(sed -n 's/^pub extern "C" fn \(de_[a-z_]*\)(.*/\1/p' "$OLDPWD"/crates/data_encoding_c/src/*.rt | sort)
+memory" "$(node "${flags[@]}" module.mjs | LC_ALL=C sort)"
+
+# names FILE: the names that it exports.
+names() {
+    grep -oE 'export (declare )?(class|const) [A-Za-z0-9_]+' "$1" | sed 's/.* //' | sort
+}
+
+is 'what has a type' \
+    "$(node "${flags[@]}" --input-type=module -e \
+        "console.log(Object.keys(await import('$room/package/src/index.js')).sort().join('\n'))" |
+        sort)" "$(names package/src/index.d.ts)"
+if command -v tsc >/dev/null; then
+    holds 'its types' quietly tsc --strict --noEmit --target es2022 --module nodenext \
+        package/tests/types.ts
+else
+    skip 'the types of the package: no tsc'
+fi
+
+if command -v npm >/dev/null; then
+    export npm_config_offline=true npm_config_update_notifier=false npm_config_cache=$room/cache
+    holds 'a file of the package' quietly npm pack ./package
+    mkdir program
+    echo '{ "name": "program", "private": true, "type": "module" }' >program/package.json
+    holds 'an installed package' quietly npm install --prefix program ./data-encoding-*.tgz
+    is 'what is installed' "LICENSE
+package.json
+$(cd "$source" && printf '%s\n' src/*)" \
+        "$(cd program/node_modules/data-encoding && printf '%s\n' LICENSE package.json src/*)"
+    given=$(cp -r "$source" lacking && cd lacking && rm -rf out && npm pack 2>&1)
+    is 'nothing is packed without the module' 1 "$(grep -cF "Error: $wanted" <<<"$given")"
+else
+    skip 'the package as one file: no npm'
+    mkdir -p program/node_modules
+    cp -r package program/node_modules/data-encoding
+fi
+
+# block KIND: the block of docs/JAVASCRIPT.md of this kind.
+block() {
+    awk -v kind="$1" '/^```/ { inside = $0 == "```" kind; next } inside' "$page"
+}
+
+block js >program/hello.js
+is 'the program of docs/JAVASCRIPT.md' "$(block text)" "$(node "${flags[@]}" program/hello.js 2>&1)"
+
+finish

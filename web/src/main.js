@@ -1,0 +1,222 @@
+// The page: which encoding it has, and which side was typed in last.
+
+import { Encoding } from "../../bindings/javascript/src/index.js";
+import { FIRST, ofFields, ofName, read } from "./address.js";
+import { DataSide } from "./data.js";
+import { decoded } from "./decoded.js";
+import { linesOf } from "./elsewhere.js";
+import { GROUPS, factsOf } from "./facts.js";
+import { Job } from "./job.js";
+import { OwnForm, encodingOf } from "./own.js";
+import { shadesOf } from "./shades.js";
+import { Side, download, say } from "./side.js";
+import { characterAt, characters, sentenceOf } from "./words.js";
+
+/** A file up to this length is shown, and any other converted in pieces. */
+const SHOWN = 1 << 18;
+
+const OWN = "own";
+const find = (selector) => document.querySelector(selector);
+const choice = find("#encoding");
+
+let encoding = Encoding.named("BASE64");
+let isTextLast = false;
+
+const nameOf = () => encoding.name ?? "your own encoding";
+
+const data = new DataSide(find("#data"), {
+  changed: () => {
+    isTextLast = false;
+    encode();
+  },
+  opened: (file) => openData(file),
+  saved: () => download(new Blob([data.data]), "data.bin"),
+});
+
+const text = new Side(find("#text"), {
+  typed: () => {
+    isTextLast = true;
+    decode();
+  },
+  opened: (file) => openText(file),
+  saved: () => download(new Blob([text.text]), "text.txt"),
+  cleared: () => {
+    text.text = "";
+    isTextLast = true;
+    decode();
+  },
+});
+
+const job = new Job(find("#job"));
+const form = new OwnForm(find("#own"), () => takeOwn());
+
+/** What a fault marks: the faulty character, or the rest of a text whose length is the fault. */
+function markOf({ kind, position }, value) {
+  const from = Math.min(position, Math.max(value.length - 1, 0));
+  const to = kind === "length" ? value.length : from + characterAt(value, from).length;
+  return { from, to };
+}
+
+function describeText() {
+  text.size.textContent = characters(text.text.length);
+}
+
+function encode() {
+  text.text = encoding.encode(data.data);
+  text.showFault(null, null);
+  describeText();
+}
+
+function decode() {
+  const value = text.text;
+  const { data: found, error } = decoded(encoding, value);
+  data.show(found);
+  describeText();
+  if (error === null) {
+    text.showFault(null, null);
+    return;
+  }
+  const character = characterAt(value, error.position);
+  const sentence = sentenceOf(error, nameOf(), character, value.length);
+  text.showFault(sentence, value === "" ? null : markOf(error, value));
+}
+
+/** The side that was typed in last gives the other anew. */
+function convert() {
+  if (isTextLast) {
+    decode();
+  } else {
+    encode();
+  }
+}
+
+function termOf([term, said, isCode]) {
+  const group = document.createElement("div");
+  const name = document.createElement("dt");
+  const value = document.createElement("dd");
+  const content = document.createElement(isCode ? "code" : "span");
+  name.textContent = term;
+  content.textContent = said;
+  value.append(content);
+  group.append(name, value);
+  return group;
+}
+
+function lineOf([language, line]) {
+  const name = document.createElement("dt");
+  const value = document.createElement("dd");
+  const code = document.createElement("code");
+  const button = document.createElement("button");
+  name.textContent = language;
+  code.textContent = line;
+  button.type = "button";
+  button.textContent = "Copy";
+  button.setAttribute("aria-label", `Copy the line of ${language}`);
+  button.addEventListener("click", () => copyLine(code));
+  value.append(code, button);
+  return [name, value];
+}
+
+async function copyLine(code) {
+  try {
+    await navigator.clipboard.writeText(code.textContent);
+  } catch {
+    getSelection().selectAllChildren(code);
+    document.execCommand("copy");
+  }
+  say("copied");
+}
+
+/** Takes another encoding. */
+function take(other) {
+  encoding = other;
+  text.shadeOf = shadesOf(encoding.specification());
+  find("#facts").replaceChildren(...factsOf(encoding).map(termOf));
+  find("#lines dl").replaceChildren(...linesOf(encoding).flatMap(lineOf));
+  convert();
+}
+
+/** Takes what the form asks for, or shows where that has a fault. */
+function takeOwn() {
+  const { encoding: made, fault } = encodingOf(form.fields);
+  form.show(fault);
+  find("#sides").inert = made === undefined;
+  history.replaceState(null, "", ofFields(form.fields));
+  if (made !== undefined) {
+    take(made);
+  }
+}
+
+/** Takes what is chosen in the list. */
+function choose() {
+  const isOwn = choice.value === OWN;
+  find("#own").hidden = !isOwn;
+  if (isOwn) {
+    takeOwn();
+  } else {
+    find("#sides").inert = false;
+    history.replaceState(null, "", ofName(choice.value));
+    take(Encoding.named(choice.value));
+  }
+}
+
+/** Takes what the address says. */
+function readAddress() {
+  const said = read(location.hash) ?? { name: "BASE64" };
+  choice.value = said.name ?? OWN;
+  form.fields = said.fields ?? FIRST;
+  find("#own").hidden = said.fields === undefined;
+  if (said.fields === undefined) {
+    find("#sides").inert = false;
+    take(Encoding.named(said.name));
+  } else {
+    takeOwn();
+  }
+}
+
+async function openData(file) {
+  if (file.size > SHOWN) {
+    await job.encode(file, encoding);
+    return;
+  }
+  data.show(new Uint8Array(await file.arrayBuffer()));
+  isTextLast = false;
+  encode();
+}
+
+const decoder = new TextDecoder("utf-8", { ignoreBOM: true });
+
+async function openText(file) {
+  if (file.size > SHOWN) {
+    await job.decode(file, encoding);
+    return;
+  }
+  text.text = decoder.decode(await file.arrayBuffer());
+  isTextLast = true;
+  decode();
+}
+
+function fillChoice() {
+  for (const [name, group] of GROUPS) {
+    const options = document.createElement("optgroup");
+    options.label = name;
+    options.append(...Object.keys(group).map((it) => new Option(it)));
+    choice.append(options);
+  }
+  choice.append(new Option("your own", OWN));
+}
+
+fillChoice();
+data.show(new Uint8Array());
+choice.addEventListener("change", choose);
+addEventListener("hashchange", readAddress);
+document.addEventListener("keydown", (event) => {
+  if (event.key === "F8" && (text.go() || data.go())) {
+    event.preventDefault();
+  }
+});
+for (const kind of ["dragover", "drop"]) {
+  // A file that misses a side does not take the place of the page.
+  addEventListener(kind, (event) => event.preventDefault());
+}
+readAddress();

@@ -1,0 +1,166 @@
+// A side of the page: a field with shades, its size, its fault, and what can be done with it.
+
+import { shade } from "./shades.js";
+import { shown, meant } from "./words.js";
+
+/** Has the reader of the screen say it, and clears it after. */
+export function say(text) {
+  document.querySelector("#said").textContent = text;
+}
+
+/** Offers a blob as a file. */
+export function download(blob, name) {
+  const link = document.createElement("a");
+  link.href = URL.createObjectURL(blob);
+  link.download = name;
+  link.click();
+  // The download begins later.
+  setTimeout(() => URL.revokeObjectURL(link.href), 60_000);
+}
+
+const noShade = () => "";
+
+export class Side {
+  /**
+   * @param {HTMLElement} section
+   * @param {{ typed(value: string): void, opened(file: File): void, cleared(): void,
+   *   saved(): void }} events What is done when something is typed, when a file is opened or
+   *   dropped, and by the buttons.
+   */
+  constructor(section, events) {
+    const find = (selector) => section.querySelector(selector);
+    this.section = section;
+    this.field = find(".field");
+    this.area = find("textarea");
+    this.shades = find(".shades");
+    this.size = find(".size");
+    this.note = find(".note");
+    this.fault = find(".fault");
+    this.goButton = find(".go");
+    this.mark = null;
+    this.shadeOf = noShade;
+    this.area.addEventListener("input", () => events.typed(meant(this.area.value)));
+    this.goButton.addEventListener("click", () => this.go());
+    this.#takeFiles(events.opened, find(".file"), find(".open"));
+    this.#keepReturns();
+    find(".copy").addEventListener("click", () => this.copy());
+    find(".save").addEventListener("click", events.saved);
+    find(".clear").addEventListener("click", () => {
+      events.cleared();
+      this.area.focus();
+    });
+  }
+
+  /** A file is chosen, dropped or pasted. */
+  #takeFiles(opened, input, button) {
+    const take = (files) => {
+      if (files.length > 0) {
+        opened(files[0]);
+      }
+    };
+    button.addEventListener("click", () => input.click());
+    input.addEventListener("change", () => {
+      take(input.files);
+      input.value = "";
+    });
+    const isOver = (event, over) => {
+      if (event.dataTransfer?.types.includes("Files")) {
+        event.preventDefault();
+        this.section.classList.toggle("over", over);
+      }
+    };
+    this.section.addEventListener("dragover", (event) => isOver(event, true));
+    this.section.addEventListener("dragleave", (event) => isOver(event, false));
+    this.section.addEventListener("drop", (event) => {
+      isOver(event, false);
+      take(event.dataTransfer?.files ?? []);
+    });
+    this.area.addEventListener("paste", (event) => {
+      if (event.clipboardData.files.length > 0) {
+        event.preventDefault();
+        take(event.clipboardData.files);
+      }
+    });
+  }
+
+  /** A field takes a carriage return for the end of a line: what is pasted and copied keeps it. */
+  #keepReturns() {
+    this.area.addEventListener("paste", (event) => {
+      const text = event.clipboardData.getData("text/plain");
+      if (text.includes("\r") && !event.defaultPrevented && !this.area.readOnly) {
+        event.preventDefault();
+        document.execCommand("insertText", false, shown(text));
+      }
+    });
+    for (const kind of ["copy", "cut"]) {
+      this.area.addEventListener(kind, (event) => {
+        const { selectionStart, selectionEnd, value, readOnly } = this.area;
+        event.preventDefault();
+        event.clipboardData.setData("text/plain", meant(value.slice(selectionStart, selectionEnd)));
+        if (kind === "cut" && !readOnly) {
+          document.execCommand("delete");
+        }
+      });
+    }
+  }
+
+  /** What the field means. */
+  get text() {
+    return meant(this.area.value);
+  }
+
+  set text(text) {
+    this.area.value = shown(text);
+  }
+
+  /** Whether the field shows this text as it is. */
+  holds(text) {
+    return this.text === text;
+  }
+
+  /** Shows the fault of the field, or that there is none. */
+  showFault(sentence, mark) {
+    this.mark = mark;
+    this.fault.replaceChildren();
+    if (sentence !== null) {
+      const { words, word, character } = sentence;
+      this.fault.append(word === undefined ? words : `${words}: ${word}`);
+      if (character !== undefined) {
+        const code = document.createElement("code");
+        code.textContent = character;
+        this.fault.append(": ", code);
+      }
+    }
+    this.field.classList.toggle("faulty", sentence !== null);
+    this.area.setAttribute("aria-invalid", String(sentence !== null));
+    this.goButton.hidden = mark === null;
+    this.paint();
+  }
+
+  paint() {
+    shade(this.shades, this.area.value, this.shadeOf, this.mark);
+  }
+
+  /** Goes to the fault. */
+  go() {
+    if (this.mark === null) {
+      return false;
+    }
+    const { from, to } = this.mark;
+    this.area.focus({ preventScroll: true });
+    this.area.setSelectionRange(from, Math.min(to, from + 1));
+    this.shades.querySelector(".faulty")?.scrollIntoView({ block: "center", inline: "nearest" });
+    return true;
+  }
+
+  async copy() {
+    try {
+      await navigator.clipboard.writeText(this.text);
+    } catch {
+      // The page may be a file, or the browser may ask for a gesture of its own.
+      this.area.select();
+      document.execCommand("copy");
+    }
+    say("copied");
+  }
+}
