@@ -31,13 +31,13 @@ is 'a number in memory' 2 $?
 benches/calls lib lib 2>/dev/null
 is 'too many libraries' 2 $?
 
-# The tables of README.md have the same rows.
+# The tables of docs/SPEED.md have the same rows.
 rows() {
     cut -d '|' -f 2 | grep -E '^ (encode |decode |)[A-Z0-9_]+ $'
 }
 names=$(sed -n '/names\[NAMES\] = /,/;/p' benches/memory.c | grep -o '"[A-Z0-9_]*"' | tr -d '"')
-is 'the rows of README.md' "$(rows <<<"$table")"$'\n'"$(sed 's/.*/ & /' <<<"$names")" \
-    "$(sed -n '/^## Speed/,/^## What/p' README.md | rows)"
+is 'the rows of docs/SPEED.md' "$(rows <<<"$table")"$'\n'"$(sed 's/.*/ & /' <<<"$names")" \
+    "$(rows <docs/SPEED.md)"
 
 for number in 0.70 0.40 0.50; do
     printf '%s\n' '| data | one | other |' '|---|---|---|' "| encode X | $number | - |" \
