@@ -4,6 +4,7 @@
 # - `text`, and the examples of the manual page: a line with `$ ` and a command, and then what that
 #   prints, on standard output or standard error;
 # - `rust`: stands in the callers, word for word, or in crates/examples;
+# - `antt`: stands in the proofs of the callers, word for word;
 # - `sh`: is run as it stands, but that `rt run` runs the program that is tried.
 #
 # tests/interop.sh and tests/scale.sh run those of docs/SCALE.md, tests/library.sh that of
@@ -18,6 +19,7 @@ name_program "$program"
 mkdir "$room/home"
 callers=$(cat crates/conformance/src/callers.rt crates/conformance/src/callers/*.rt)
 library=$(cat crates/examples/src/*.rt)
+proofs=$(find crates/conformance/proofs -name '*.antt' -exec cat {} +)
 
 # try_examples PAGE BLOCK: a line end that a command doesn't print is not wanted.
 try_examples() {
@@ -75,6 +77,10 @@ try_block() {
         [[ "$callers"$'\n'"$library" == *"$3"* ]]
         is "$1: its function stands in the sources" 0 $?
         ;;
+    *:antt)
+        [[ "$proofs" == *"$3"* ]]
+        is "$1: its proof stands in the callers' proofs" 0 $?
+        ;;
     *) is "$1: a block" 'of a kind that is known here' "$2" ;;
     esac
 }
@@ -112,6 +118,20 @@ functions() {
 
 is 'callers that docs/EXAMPLES.md does not show' '' \
     "$(comm -23 <(functions <<<"$callers") <(functions <docs/EXAMPLES.md))"
+
+# proof_lines: the rows of that page on how long the proofs of the callers are.
+proof_lines() {
+    local file name folder
+    for file in crates/conformance/src/callers.rt crates/conformance/src/callers/*.rt; do
+        folder=crates/conformance/proofs/${file#crates/conformance/src/}
+        functions <"$file" | while read -r name; do
+            echo "| \`$name\` | $(cat "${folder%.rt}/$name"/*.antt 2>/dev/null | wc -l) |"
+        done
+    done
+}
+
+is 'lines of proof that docs/EXAMPLES.md has otherwise' '' \
+    "$(comm -3 <(proof_lines | sort) <(grep -E '^\| `[a-z_0-9]+` \| [0-9]+ \|$' docs/EXAMPLES.md | sort))"
 
 # anchors PAGE: those of its headings.
 anchors() {

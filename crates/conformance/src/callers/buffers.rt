@@ -1,14 +1,17 @@
 //! A caller of a decoder by pieces into buffers, which goes on from what is kept.
 
 ghost use Rattle.std.specs.Prelude.{◌≡◌, ◌+◌, ◌≤◌, ℕ, List, ◌++◌, length, take, None, Some, IfSome, OnOk};
+ghost use Rattle.std.specs.String.{string_bytes};
 ghost use Rattle.data_encoding.specs.Fault.{fault_of, sound_bytes};
 ghost use Rattle.data_encoding.specs.Grammar.{Means};
 ghost use Rattle.data_encoding.specs.Lengths.{length_fault};
+ghost use Rattle.data_encoding.specs.Text.{text_of};
 ghost use Rattle.encoding_stream.specs.Pieces.{verdict_of};
 
 use data_encoding::laws::{fault_stays, sound_text};
-use data_encoding::{DECODE_LIMIT, DecodeError, Encoding};
+use data_encoding::{DECODE_LIMIT, DecodeError, ENCODE_LIMIT, Encoding};
 use encoding_stream::BufferDecoder;
+use std::alloc::AllocError;
 
 /// How many bytes were written to each buffer, and the verdict on the text.
 #[derive(Clone, Copy, Debug, Drop)]
@@ -84,4 +87,25 @@ pub fn fault_so_far(encoding: &Encoding, front: &[u8], output: &mut [u8]) -> Opt
     decoder.most(front.len());
     decoder.read(front, output);
     decoder.kept().fault
+}
+
+/// Writes the text of the data to an output of exactly its length, and appends it to a log. What is
+/// in the output afterwards is known of `encode_mut`, and that it is text by `str::from_utf8`.
+pub fn encode_and_log(
+    encoding: &Encoding,
+    input: &[u8],
+    output: &mut [u8],
+    log: &mut String,
+) -> Result<(), AllocError>
+    requires limit { length input.now ≤ ENCODE_LIMIT }
+    requires exact { length output.old ≡ length (text_of encoding.now input.now) }
+    ensures output { output.new ≡ text_of encoding.now input.now }
+    ensures log { OnOk result
+        (string_bytes log.new ≡ string_bytes log.old ++ text_of encoding.now input.now) }
+{
+    encoding.encode_mut(input, output);
+    match str::from_utf8(output) {
+        Ok(text) => log.push_str(text),
+        Err(_) => unreachable!(),
+    }
 }
