@@ -55,6 +55,7 @@ program 'calls of the shared library' "$cc" "${strict[@]}" tests/c/calls.c "-L$l
 program 'calls with short enums' "$cc" "${strict[@]}" -fshort-enums tests/c/calls.c \
     "$lib/libdata_encoding.a"
 program 'texts in pieces' "$cc" "${strict[@]}" tests/c/pieces.c "$lib/libdata_encoding.a"
+program 'data in pieces' "$cc" "${strict[@]}" tests/c/blocks.c "$lib/libdata_encoding.a"
 program 'what is written to a bool' "$cc" "${strict[@]}" tests/c/bools.c "$glue"/*.c \
     "$lib/libdata_encoding.a" -Wl,--wrap=de_numbered_is_canonical,--wrap=de_held_is_canonical
 program 'two threads' "$cc" "${strict[@]}" tests/c/threads.c "$lib/libdata_encoding.a" -pthread
@@ -66,6 +67,8 @@ if "$cc" "${sanitized[@]}" "$room/empty.c" -o "$room/empty" 2>/dev/null; then
         "$glue"/*.c "$lib/libdata_encoding.a"
     program 'texts in pieces with sanitizers' "$cc" "${strict[@]}" "${sanitized[@]}" \
         tests/c/pieces.c "$glue"/*.c "$lib/libdata_encoding.a"
+    program 'data in pieces with sanitizers' "$cc" "${strict[@]}" "${sanitized[@]}" \
+        tests/c/blocks.c "$glue"/*.c "$lib/libdata_encoding.a"
 else
     skip 'sanitizers: this compiler has none'
 fi
@@ -112,7 +115,8 @@ is 'the marks of null pointers' '' "$(awk '
         if (given != wanted) print call
         marks = ""
     }' "$lib/data_encoding.h")"
-is 'the statuses that may be dropped' de_decoder_new "$(awk '
+is 'the statuses that may be dropped' 'de_decoder_new
+de_encoder_new' "$(awk '
     /^de_status / && marks !~ /DE_NODISCARD/ { sub(/\(.*/, ""); print $2 }
     { marks = $0 }' "$lib/data_encoding.h")"
 

@@ -62,6 +62,39 @@ de_status de_held_decoder_read(const byte *held, de_decoder *decoder, const byte
 de_status de_held_decoder_finish(const byte *held, const de_decoder *decoder, byte *output,
                                  size_t output_len, de_decoded *decoded);
 
+/* What a specification that is given back has: what it says in numbers, and how long its texts are,
+ * which are one after the other. */
+struct text_lengths {
+    size_t symbols;
+    size_t ignore;
+    size_t separator;
+    size_t translate_from;
+    size_t translate_to;
+};
+
+de_status de_numbered_encode_align(de_number number, size_t *align);
+de_status de_numbered_bit_width(de_number number, size_t *width);
+de_status de_numbered_specification(de_number number, struct form *form,
+                                    struct text_lengths *lengths, byte *texts, size_t texts_len);
+de_status de_held_encode_align(const byte *held, size_t *align);
+de_status de_held_bit_width(const byte *held, size_t *width);
+de_status de_held_specification(const byte *held, struct form *form, struct text_lengths *lengths,
+                                byte *texts, size_t texts_len);
+void de_plain_encoder_new(de_encoder *encoder);
+de_status de_numbered_encoder_most(de_number number, const de_encoder *encoder, size_t len,
+                                   size_t *most);
+de_status de_numbered_encoder_read(de_number number, de_encoder *encoder, const byte *input,
+                                   size_t input_len, byte *output, size_t output_len,
+                                   size_t *written);
+de_status de_numbered_encoder_finish(de_number number, const de_encoder *encoder, byte *output,
+                                     size_t output_len, size_t *written);
+de_status de_held_encoder_most(const byte *held, const de_encoder *encoder, size_t len,
+                               size_t *most);
+de_status de_held_encoder_read(const byte *held, de_encoder *encoder, const byte *input,
+                               size_t input_len, byte *output, size_t output_len, size_t *written);
+de_status de_held_encoder_finish(const byte *held, const de_encoder *encoder, byte *output,
+                                 size_t output_len, size_t *written);
+
 /* What marks a de_encoding that was made: eight bytes of no pattern. */
 static const byte made_mark[8] = {0xde, 0x3b, 0x92, 0x67, 0xf4, 0x0d, 0xa8, 0x51};
 
@@ -124,6 +157,7 @@ const char *de_status_text(de_status status) {
         "undefined character",
         "no encoding",
         "no decoder",
+        "no encoder",
     };
     return status < sizeof texts / sizeof *texts ? texts[status] : "unknown status";
 }
@@ -388,4 +422,163 @@ de_status de_encoding_decoder_finish(const de_encoding *encoding, const de_decod
         return DE_NO_ENCODING;
     }
     return de_held_decoder_finish(encoding->tables, decoder, to, output_len, decoded);
+}
+
+de_status de_encode_align(de_number number, size_t *align) {
+    if (align == NULL) {
+        return DE_NULL_POINTER;
+    }
+    return de_numbered_encode_align(number, align);
+}
+
+de_status de_bit_width(de_number number, size_t *width) {
+    if (width == NULL) {
+        return DE_NULL_POINTER;
+    }
+    return de_numbered_bit_width(number, width);
+}
+
+/* What is given back, as it is asked for, where it is. */
+static de_status given_back(de_status status, de_specification *given, const struct form *form,
+                            const struct text_lengths *lengths, const char *texts) {
+    if (status != DE_OK) {
+        return status;
+    }
+    given->symbols = texts;
+    given->symbols_len = lengths->symbols;
+    given->ignore = given->symbols + given->symbols_len;
+    given->ignore_len = lengths->ignore;
+    given->wrap_separator = given->ignore + given->ignore_len;
+    given->wrap_separator_len = lengths->separator;
+    given->wrap_width = form->wrap_width;
+    given->translate_from = given->wrap_separator + given->wrap_separator_len;
+    given->translate_from_len = lengths->translate_from;
+    given->translate_to = given->translate_from + given->translate_from_len;
+    given->translate_to_len = lengths->translate_to;
+    given->padding = form->has_padding ? form->padding : -1;
+    given->least_significant_first = form->least_significant_first;
+    given->check_trailing_bits = form->check_trailing_bits;
+    given->concatenate = form->concatenate;
+    return DE_OK;
+}
+
+de_status de_specification_of(de_number number, de_specification *specification, char *texts,
+                              size_t texts_len) {
+    byte *to = out(texts, texts_len);
+    struct form form = {0, 0, false, false, false, false};
+    struct text_lengths lengths = {0, 0, 0, 0, 0};
+    de_status status;
+    if (specification == NULL || to == NULL) {
+        return DE_NULL_POINTER;
+    }
+    status = de_numbered_specification(number, &form, &lengths, to, texts_len);
+    return given_back(status, specification, &form, &lengths, texts);
+}
+
+de_status de_encoding_specification(const de_encoding *encoding, de_specification *specification,
+                                    char *texts, size_t texts_len) {
+    byte *to = out(texts, texts_len);
+    struct form form = {0, 0, false, false, false, false};
+    struct text_lengths lengths = {0, 0, 0, 0, 0};
+    de_status status;
+    if (encoding == NULL || specification == NULL || to == NULL) {
+        return DE_NULL_POINTER;
+    }
+    if (!is_held(encoding)) {
+        return DE_NO_ENCODING;
+    }
+    status = de_held_specification(encoding->tables, &form, &lengths, to, texts_len);
+    return given_back(status, specification, &form, &lengths, texts);
+}
+
+de_status de_encoding_encode_align(const de_encoding *encoding, size_t *align) {
+    if (encoding == NULL || align == NULL) {
+        return DE_NULL_POINTER;
+    }
+    if (!is_held(encoding)) {
+        return DE_NO_ENCODING;
+    }
+    return de_held_encode_align(encoding->tables, align);
+}
+
+de_status de_encoding_bit_width(const de_encoding *encoding, size_t *width) {
+    if (encoding == NULL || width == NULL) {
+        return DE_NULL_POINTER;
+    }
+    if (!is_held(encoding)) {
+        return DE_NO_ENCODING;
+    }
+    return de_held_bit_width(encoding->tables, width);
+}
+
+de_status de_encoder_new(de_encoder *encoder) {
+    if (encoder == NULL) {
+        return DE_NULL_POINTER;
+    }
+    de_plain_encoder_new(encoder);
+    return DE_OK;
+}
+
+de_status de_encoder_most(de_number number, const de_encoder *encoder, size_t len, size_t *most) {
+    if (encoder == NULL || most == NULL) {
+        return DE_NULL_POINTER;
+    }
+    return de_numbered_encoder_most(number, encoder, len, most);
+}
+
+de_status de_encoder_read(de_number number, de_encoder *encoder, const void *input,
+                          size_t input_len, char *output, size_t output_len, size_t *written) {
+    const byte *from = in(input, input_len);
+    byte *to = out(output, output_len);
+    if (encoder == NULL || from == NULL || to == NULL || written == NULL) {
+        return DE_NULL_POINTER;
+    }
+    return de_numbered_encoder_read(number, encoder, from, input_len, to, output_len, written);
+}
+
+de_status de_encoder_finish(de_number number, const de_encoder *encoder, char *output,
+                            size_t output_len, size_t *written) {
+    byte *to = out(output, output_len);
+    if (encoder == NULL || to == NULL || written == NULL) {
+        return DE_NULL_POINTER;
+    }
+    return de_numbered_encoder_finish(number, encoder, to, output_len, written);
+}
+
+de_status de_encoding_encoder_most(const de_encoding *encoding, const de_encoder *encoder,
+                                   size_t len, size_t *most) {
+    if (encoding == NULL || encoder == NULL || most == NULL) {
+        return DE_NULL_POINTER;
+    }
+    if (!is_held(encoding)) {
+        return DE_NO_ENCODING;
+    }
+    return de_held_encoder_most(encoding->tables, encoder, len, most);
+}
+
+de_status de_encoding_encoder_read(const de_encoding *encoding, de_encoder *encoder,
+                                   const void *input, size_t input_len, char *output,
+                                   size_t output_len, size_t *written) {
+    const byte *from = in(input, input_len);
+    byte *to = out(output, output_len);
+    if (encoding == NULL || encoder == NULL || from == NULL || to == NULL || written == NULL) {
+        return DE_NULL_POINTER;
+    }
+    if (!is_held(encoding)) {
+        return DE_NO_ENCODING;
+    }
+    return de_held_encoder_read(encoding->tables, encoder, from, input_len, to, output_len,
+                                written);
+}
+
+de_status de_encoding_encoder_finish(const de_encoding *encoding, const de_encoder *encoder,
+                                     char *output, size_t output_len, size_t *written) {
+    byte *to = out(output, output_len);
+    if (encoding == NULL || encoder == NULL || to == NULL || written == NULL) {
+        return DE_NULL_POINTER;
+    }
+    if (!is_held(encoding)) {
+        return DE_NO_ENCODING;
+    }
+    return de_held_encoder_finish(encoding->tables, encoder, to, output_len, written);
 }

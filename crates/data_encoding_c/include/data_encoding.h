@@ -130,7 +130,10 @@ enum {
     DE_NO_ENCODING = 18,
 
     /* No call can have left such a de_decoder for the encoding. */
-    DE_NO_DECODER = 19
+    DE_NO_DECODER = 19,
+
+    /* No call can have left such a de_encoder for the encoding. */
+    DE_NO_ENCODER = 20
 };
 
 /* A few words on a status: never null, and valid for ever. */
@@ -259,6 +262,52 @@ DE_EXPORT DE_NODISCARD DE_NONNULL(2, 5)
 de_status de_decoder_finish(de_number number, const de_decoder *decoder, void *output,
                             size_t output_len, de_decoded *decoded);
 
+/* Writes to *align how many bytes of data are a block: a whole group of symbols, or a whole line.
+ * The texts of data may be joined where the length of all but the last is a multiple of it. It is
+ * from 1 to 189. */
+DE_EXPORT DE_NODISCARD DE_NONNULL(2)
+de_status de_encode_align(de_number number, size_t *align);
+
+/* Writes to *width how many bits a symbol has, from 1 to 6. */
+DE_EXPORT DE_NODISCARD DE_NONNULL(2)
+de_status de_bit_width(de_number number, size_t *width);
+
+/* What an encoder keeps of data that comes in pieces: plain numbers, which may be copied, and need
+ * no end. A copy goes on from where it was made. Any numbers may be given: a count of a whole block
+ * or more is refused by DE_NO_ENCODER, and any other is what is kept of the held bytes alone. */
+typedef struct de_encoder {
+    /* The bytes of an unfinished block. */
+    size_t count;
+    unsigned char bytes[189];
+} de_encoder;
+
+/* Makes *encoder one that has read nothing, for any encoding. No other status than DE_OK and
+ * DE_NULL_POINTER is returned, so that it may be dropped. */
+DE_EXPORT DE_NONNULL(1)
+de_status de_encoder_new(de_encoder *encoder);
+
+/* Writes to *most how long the text is that de_encoder_read writes for a piece of len bytes.
+ * DE_NO_ENCODER; DE_TOO_LONG where len is above DE_ENCODE_LIMIT. */
+DE_EXPORT DE_NODISCARD DE_NONNULL(2, 4)
+de_status de_encoder_most(de_number number, const de_encoder *encoder, size_t len, size_t *most);
+
+/* Reads a piece of the data, which may be cut anywhere. Writes the text of the blocks that are then
+ * whole to the front of output, and its length to *written. What the output has after the text
+ * stays. DE_NO_ENCODER, DE_TOO_LONG, DE_SHORT_BUFFER. */
+DE_EXPORT DE_NODISCARD DE_NONNULL(2, 7)
+de_status de_encoder_read(de_number number, de_encoder *encoder, const void *input,
+                          size_t input_len, char *output, size_t output_len, size_t *written);
+
+/* Ends the data: writes the text of the held bytes, with its padding and line end, to the front of
+ * output, and its length to *written: as many as de_encode_len says of encoder->count, and no more
+ * than DE_LAST_TEXT_LIMIT. The texts that were written, one after the other, are the text of all
+ * the data. What the output has after the text stays. The encoder stays as it was. DE_NO_ENCODER,
+ * DE_SHORT_BUFFER. */
+#define DE_LAST_TEXT_LIMIT 510
+DE_EXPORT DE_NODISCARD DE_NONNULL(2, 5)
+de_status de_encoder_finish(de_number number, const de_encoder *encoder, char *output,
+                            size_t output_len, size_t *written);
+
 /* The length of the longest name of a predefined encoding. */
 #define DE_NAME_LIMIT 22
 
@@ -309,6 +358,17 @@ typedef struct de_specification {
 } de_specification;
 
 #define DE_SPECIFICATION {NULL, 0, NULL, 0, NULL, 0, 0, NULL, 0, NULL, 0, -1, false, true, true}
+
+/* As much room as the texts of any specification need. */
+#define DE_TEXTS_LIMIT 703
+
+/* Writes the specification of the encoding to *specification, for which texts is filled from the
+ * front: its pointers point there. From it, also with some of its fields changed, de_encoding_new
+ * makes an encoding; one that is not changed makes this one. What texts has after them stays.
+ * DE_SHORT_BUFFER, which DE_TEXTS_LIMIT bytes avoid. */
+DE_EXPORT DE_NODISCARD DE_NONNULL(2)
+de_status de_specification_of(de_number number, de_specification *specification, char *texts,
+                              size_t texts_len);
 
 /* The length of the tables of an encoding. */
 #define DE_TABLES 775
@@ -366,6 +426,71 @@ de_status de_encoding_decoder_read(const de_encoding *encoding, de_decoder *deco
 DE_EXPORT DE_NODISCARD DE_NONNULL(1, 2, 5)
 de_status de_encoding_decoder_finish(const de_encoding *encoding, const de_decoder *decoder,
                                      void *output, size_t output_len, de_decoded *decoded);
+
+DE_EXPORT DE_NODISCARD DE_NONNULL(1, 2)
+de_status de_encoding_encode_align(const de_encoding *encoding, size_t *align);
+DE_EXPORT DE_NODISCARD DE_NONNULL(1, 2)
+de_status de_encoding_bit_width(const de_encoding *encoding, size_t *width);
+DE_EXPORT DE_NODISCARD DE_NONNULL(1, 2, 4)
+de_status de_encoding_encoder_most(const de_encoding *encoding, const de_encoder *encoder,
+                                   size_t len, size_t *most);
+DE_EXPORT DE_NODISCARD DE_NONNULL(1, 2, 7)
+de_status de_encoding_encoder_read(const de_encoding *encoding, de_encoder *encoder,
+                                   const void *input, size_t input_len, char *output,
+                                   size_t output_len, size_t *written);
+DE_EXPORT DE_NODISCARD DE_NONNULL(1, 2, 5)
+de_status de_encoding_encoder_finish(const de_encoding *encoding, const de_encoder *encoder,
+                                     char *output, size_t output_len, size_t *written);
+DE_EXPORT DE_NODISCARD DE_NONNULL(1, 2)
+de_status de_encoding_specification(const de_encoding *encoding, de_specification *specification,
+                                    char *texts, size_t texts_len);
+
+/* The length of the text of n bytes of data, as de_encode_len says, and how many bytes a text of n
+ * bytes may mean at most, as de_decode_len says where a text has that length: for arrays of a size
+ * that is known when the program is built. n has no effects, and is at most DE_ENCODE_LIMIT, or
+ * DE_DECODE_LIMIT. */
+#define DE_LEN_BITS(n, bits)                                                                       \
+    ((size_t)(n) / (bits) * 8 + ((size_t)(n) % (bits) * 8 + (bits) - 1) / (bits))
+#define DE_DATA_BITS(n, bits) ((size_t)(n) / 8 * (bits) + (size_t)(n) % 8 * (bits) / 8)
+#define DE_LEN_GROUPS(n, bytes, symbols) (((size_t)(n) + (bytes) - 1) / (bytes) * (symbols))
+#define DE_DATA_GROUPS(n, bytes, symbols) ((size_t)(n) / (symbols) * (bytes))
+#define DE_LEN_LINES(len) ((len) + ((len) + 75) / 76 * 2)
+#define DE_HEXLOWER_ENCODED_LEN(n) DE_LEN_BITS(n, 4)
+#define DE_HEXLOWER_DECODED_LEN(n) DE_DATA_BITS(n, 4)
+#define DE_HEXLOWER_PERMISSIVE_ENCODED_LEN(n) DE_LEN_BITS(n, 4)
+#define DE_HEXLOWER_PERMISSIVE_DECODED_LEN(n) DE_DATA_BITS(n, 4)
+#define DE_HEXUPPER_ENCODED_LEN(n) DE_LEN_BITS(n, 4)
+#define DE_HEXUPPER_DECODED_LEN(n) DE_DATA_BITS(n, 4)
+#define DE_HEXUPPER_PERMISSIVE_ENCODED_LEN(n) DE_LEN_BITS(n, 4)
+#define DE_HEXUPPER_PERMISSIVE_DECODED_LEN(n) DE_DATA_BITS(n, 4)
+#define DE_BASE32_ENCODED_LEN(n) DE_LEN_GROUPS(n, 5, 8)
+#define DE_BASE32_DECODED_LEN(n) DE_DATA_GROUPS(n, 5, 8)
+#define DE_BASE32_NOPAD_ENCODED_LEN(n) DE_LEN_BITS(n, 5)
+#define DE_BASE32_NOPAD_DECODED_LEN(n) DE_DATA_BITS(n, 5)
+#define DE_BASE32_NOPAD_NOCASE_ENCODED_LEN(n) DE_LEN_BITS(n, 5)
+#define DE_BASE32_NOPAD_NOCASE_DECODED_LEN(n) DE_DATA_BITS(n, 5)
+#define DE_BASE32_NOPAD_VISUAL_ENCODED_LEN(n) DE_LEN_BITS(n, 5)
+#define DE_BASE32_NOPAD_VISUAL_DECODED_LEN(n) DE_DATA_BITS(n, 5)
+#define DE_BASE32HEX_ENCODED_LEN(n) DE_LEN_GROUPS(n, 5, 8)
+#define DE_BASE32HEX_DECODED_LEN(n) DE_DATA_GROUPS(n, 5, 8)
+#define DE_BASE32HEX_NOPAD_ENCODED_LEN(n) DE_LEN_BITS(n, 5)
+#define DE_BASE32HEX_NOPAD_DECODED_LEN(n) DE_DATA_BITS(n, 5)
+#define DE_BASE32_DNSSEC_ENCODED_LEN(n) DE_LEN_BITS(n, 5)
+#define DE_BASE32_DNSSEC_DECODED_LEN(n) DE_DATA_BITS(n, 5)
+#define DE_BASE32_DNSCURVE_ENCODED_LEN(n) DE_LEN_BITS(n, 5)
+#define DE_BASE32_DNSCURVE_DECODED_LEN(n) DE_DATA_BITS(n, 5)
+#define DE_BASE64_ENCODED_LEN(n) DE_LEN_GROUPS(n, 3, 4)
+#define DE_BASE64_DECODED_LEN(n) DE_DATA_GROUPS(n, 3, 4)
+#define DE_BASE64_NOPAD_ENCODED_LEN(n) DE_LEN_BITS(n, 6)
+#define DE_BASE64_NOPAD_DECODED_LEN(n) DE_DATA_BITS(n, 6)
+#define DE_BASE64_MIME_ENCODED_LEN(n) DE_LEN_LINES(DE_LEN_GROUPS(n, 3, 4))
+#define DE_BASE64_MIME_DECODED_LEN(n) DE_DATA_GROUPS(n, 3, 4)
+#define DE_BASE64_MIME_PERMISSIVE_ENCODED_LEN(n) DE_LEN_LINES(DE_LEN_GROUPS(n, 3, 4))
+#define DE_BASE64_MIME_PERMISSIVE_DECODED_LEN(n) DE_DATA_GROUPS(n, 3, 4)
+#define DE_BASE64URL_ENCODED_LEN(n) DE_LEN_GROUPS(n, 3, 4)
+#define DE_BASE64URL_DECODED_LEN(n) DE_DATA_GROUPS(n, 3, 4)
+#define DE_BASE64URL_NOPAD_ENCODED_LEN(n) DE_LEN_BITS(n, 6)
+#define DE_BASE64URL_NOPAD_DECODED_LEN(n) DE_DATA_BITS(n, 6)
 
 #ifdef __cplusplus
 }

@@ -5,6 +5,8 @@
 #![tactic(auto)]
 
 mod decoder;
+mod encoder;
+mod facts;
 mod held;
 mod names;
 mod numbered;

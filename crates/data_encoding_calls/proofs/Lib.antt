@@ -2,3 +2,4 @@ mod DecodeLemmas
 mod NumberLemmas
 mod NameLemmas
 pub mod PieceLemmas
+mod BlockLemmas

@@ -2,4 +2,6 @@ pub mod Status
 pub mod Pieces
 pub mod Calls
 pub mod Held
+pub mod Facts
+pub mod Blocks
 pub mod Names

@@ -24,6 +24,9 @@ no_encoding = 18
 abbrev pub no_decoder : ℕ
 no_decoder = 19
 
+abbrev pub no_encoder : ℕ
+no_encoder = 20
+
 abbrev pub status_of_kind : DecodeKind → ℕ
 status_of_kind Length = 6
 status_of_kind Symbol = 7

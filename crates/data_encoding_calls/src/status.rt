@@ -26,6 +26,9 @@ pub(crate) const NO_ENCODING: u32 = 18;
 /// No call can have made the decoder for the encoding.
 pub(crate) const NO_DECODER: u32 = 19;
 
+/// No call can have made the encoder for the encoding.
+pub(crate) const NO_ENCODER: u32 = 20;
+
 /// The status of a faulty text.
 pub(crate) fn status_of_kind(kind: DecodeKind) -> u32
     ensures { result ≡ status_of_kind kind }

@@ -169,7 +169,8 @@ reads-cut base specified join held piece block missing size is fills some few fi
     ∙ sym (append_assoc block (take end rest) (drop end rest)) in
     let aligned : length (take end rest) % alignment base ≡ 0 =
     ap (λ n. n % alignment base) (length-take-le end rest inside)
-    ∙ ap (λ n. (length rest - length rest % size) % n) (sym is) ∙ whole-front (length rest) size in
+    ∙ ap (λ n. (length rest - length rest % size) % n) (sym is)
+    ∙ whole-front (length rest) size in
     reads-blocks base specified join held piece block (take end rest) (drop end rest) cut
     (ap length filled ∙ length-append held (take missing piece)
     ∙ omega (arith, length-take-le missing piece few, fills, is))
@@ -189,8 +190,8 @@ pub reads-filled : (encoder : BufferEncoder) → JoinEncode
     → Reads (base_of_blocks encoder) (held_data encoder.kept) piece
     (text_of (base_of_blocks encoder) (take encoder.block full.bytes)
     ++ text_of (base_of_blocks encoder) blocks) left
-reads-filled encoder join piece first rest blocks left full room few first_is rest_is blocks_is left_is
-    held_is counted =
+reads-filled encoder join piece first rest blocks left full room few first_is rest_is blocks_is
+    left_is held_is counted =
     let base = base_of_blocks encoder in
     let held = held_data encoder.kept in
     let size : ℕ = encoder.block in

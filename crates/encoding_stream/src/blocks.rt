@@ -13,8 +13,8 @@ use data_encoding::{ENCODE_LIMIT, Encoding};
 /// Encodes data that comes in pieces, cut anywhere, into buffers of the caller's.
 ///
 /// A block is `encode_align` bytes of data: a group of symbols, or a line. Its text is written once
-/// the block is whole. What is kept of the data is plain numbers: `kept` returns them, and `resumed`
-/// goes on from them.
+/// the block is whole. What is kept of the data is plain numbers: `kept` returns them, and
+/// `resumed` goes on from them.
 #[derive(Clone, Copy, Debug, Drop)]
 pub struct BufferEncoder<'a> {
     encoding: &'a Encoding,
@@ -53,6 +53,8 @@ impl<'a> BufferEncoder<'a> {
     pub fn resumed(encoding: &'a Encoding, kept: KeptData) -> Option<BufferEncoder<'a>>
         ensures base { IfSome result (λ encoder. base_of_blocks encoder ≡ encoding.now) }
         ensures kept { IfSome result (λ encoder. data_kept encoder ≡ kept) }
+        ensures short { IfSome result (λ _. kept.count < alignment encoding.now) }
+        ensures few { IfSome result (λ _. kept.count ≤ 188) }
         ensures refused { (result ≡ None) ↔ (alignment encoding.now ≤ kept.count) }
     {
         let mut encoder = BufferEncoder::new(encoding);
@@ -127,8 +129,8 @@ impl<'a> BufferEncoder<'a> {
     }
 
     /// Ends the data: writes the text of the held bytes, with padding, and with the separator where
-    /// there are lines, to the front of the output, and returns its length, which is at most that of
-    /// a whole block's. What the output has after the text stays.
+    /// there are lines, to the front of the output, and returns its length. What the output has
+    /// after the text stays.
     pub fn finish(&self, output: &mut [u8]) -> usize
         requires room { length (text_of (base_of_blocks self.now)
             (held_data (data_kept self.now))) ≤ length output.old }

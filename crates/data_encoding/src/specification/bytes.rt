@@ -27,7 +27,7 @@ pub struct SpecificationBytes {
     pub concatenate: bool,
 
     /// What fills the last group of a text.
-    pub padding: Option<char>,
+    pub padding: Option<u8>,
 
     /// Bytes that a text may have anywhere, and that mean nothing.
     pub ignore: ArrayVec<u8, 128>,
@@ -55,7 +55,7 @@ impl SpecificationBytes {
             bit_order: self.bit_order,
             check_trailing_bits: self.check_trailing_bits,
             concatenate: self.concatenate,
-            padding: self.padding,
+            padding: character(self.padding),
             ignore: self.ignore.as_slice(),
             wrap_width: self.wrap_width,
             wrap_separator: self.wrap_separator.as_slice(),
@@ -94,7 +94,7 @@ impl EncodingRef<'_> {
             bit_order: self.fields.order(),
             check_trailing_bits: self.fields.checks_trailing_bits,
             concatenate: self.fields.concatenates,
-            padding: character(self.fields.padding_character()),
+            padding: self.fields.padding_character(),
             ignore: tables.ignored(),
             wrap_width: self.fields.column as usize,
             wrap_separator,

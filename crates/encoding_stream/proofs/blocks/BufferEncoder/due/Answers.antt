@@ -12,8 +12,10 @@ returns-then-len-missing c = record {
       let encoder = c.args.self.now in
       let held = held_data encoder.kept in
       let size : length held ≡ encoder.kept.count =
-      length-take-le encoder.kept.count encoder.kept.bytes (omega (arith, encoder.short, encoder.most)) in
-      let none = reads-none (base_of_blocks encoder) (built-again encoder.specified) c.join_encode.ensures
+      length-take-le encoder.kept.count encoder.kept.bytes
+      (omega (arith, encoder.short, encoder.most)) in
+      let none =
+      reads-none (base_of_blocks encoder) (built-again encoder.specified) c.join_encode.ensures
       held piece
       (omega (arith, c.if-len-missing.true, same, size, encoder.short, encoder.block_len)) in
       ap length none.text_is;
@@ -29,11 +31,14 @@ returns c = record {
       let block = held ++ take missing piece in
       let rest = drop missing piece in
       let size : length held ≡ encoder.kept.count =
-      length-take-le encoder.kept.count encoder.kept.bytes (omega (arith, encoder.short, encoder.most)) in
+      length-take-le encoder.kept.count encoder.kept.bytes
+      (omega (arith, encoder.short, encoder.most)) in
       let few : missing ≤ length piece = omega (arith, c.if-len-missing.false, same) in
-      let left : length rest ≡ c.args.len - missing = length-drop missing piece ∙ ap (λ n. n - missing) same in
-      let reads = reads-cut base (built-again encoder.specified) c.join_encode.ensures held piece block
-      missing encoder.block encoder.block_len (omega (arith, size, encoder.short))
+      let left : length rest ≡ c.args.len - missing =
+      length-drop missing piece ∙ ap (λ n. n - missing) same in
+      let reads =
+      reads-cut base (built-again encoder.specified) c.join_encode.ensures held piece block missing
+      encoder.block encoder.block_len (omega (arith, size, encoder.short))
       (omega (arith, encoder.short)) few refl in
       let one = c.encode_len.ensures.length block
       (length-append held (take missing piece)

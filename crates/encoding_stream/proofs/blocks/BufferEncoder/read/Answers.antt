@@ -40,9 +40,9 @@ write_front-one-requires-clause-room c =
     let reads =
     reads-filled encoder c.join_encode.ensures c.args.piece.now c.split_at.result.0.now
     c.split_at.result.1.now c.split_at-2.result.0.now c.split_at-2.result.1.now c.hold-2.new.self
-    (omega arith) (omega (arith, c.if-piece-missing.false)) c.split_at.ensures.front c.split_at.ensures.back
-    c.split_at-2.ensures.front c.split_at-2.ensures.back c.hold-2.ensures.held
-    c.hold-2.ensures.count in
+    (omega arith) (omega (arith, c.if-piece-missing.false)) c.split_at.ensures.front
+    c.split_at.ensures.back c.split_at-2.ensures.front c.split_at-2.ensures.back
+    c.hold-2.ensures.held c.hold-2.ensures.count in
     let room = c.requires.room in
     let all : length (text_of_blocks base (held_data encoder.kept ++ c.args.piece.now))
     ≡ length x + length y =
@@ -58,9 +58,9 @@ write_front-others-requires-clause-room c =
     let reads =
     reads-filled encoder c.join_encode.ensures c.args.piece.now c.split_at.result.0.now
     c.split_at.result.1.now c.split_at-2.result.0.now c.split_at-2.result.1.now c.hold-2.new.self
-    (omega arith) (omega (arith, c.if-piece-missing.false)) c.split_at.ensures.front c.split_at.ensures.back
-    c.split_at-2.ensures.front c.split_at-2.ensures.back c.hold-2.ensures.held
-    c.hold-2.ensures.count in
+    (omega arith) (omega (arith, c.if-piece-missing.false)) c.split_at.ensures.front
+    c.split_at.ensures.back c.split_at-2.ensures.front c.split_at-2.ensures.back
+    c.hold-2.ensures.held c.hold-2.ensures.count in
     let room = c.requires.room in
     let all : length (text_of_blocks base (held_data encoder.kept ++ c.args.piece.now))
     ≡ length x + length y =
@@ -88,9 +88,9 @@ returns c =
     let reads =
     reads-filled encoder c.join_encode.ensures c.args.piece.now c.split_at.result.0.now
     c.split_at.result.1.now c.split_at-2.result.0.now c.split_at-2.result.1.now c.hold-2.new.self
-    (omega arith) (omega (arith, c.if-piece-missing.false)) c.split_at.ensures.front c.split_at.ensures.back
-    c.split_at-2.ensures.front c.split_at-2.ensures.back c.hold-2.ensures.held
-    c.hold-2.ensures.count in
+    (omega arith) (omega (arith, c.if-piece-missing.false)) c.split_at.ensures.front
+    c.split_at.ensures.back c.split_at-2.ensures.front c.split_at-2.ensures.back
+    c.hold-2.ensures.held c.hold-2.ensures.count in
     let room = c.requires.room in
     let all : length (text_of_blocks base (held_data encoder.kept ++ c.args.piece.now))
     ≡ length x + length y =

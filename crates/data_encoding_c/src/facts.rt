@@ -1,0 +1,80 @@
+//! Calls that tell what an encoding is, and the specification that it may be asked for by.
+
+ghost use Rattle.std.specs.Prelude.{◌≡◌};
+ghost use Rattle.data_encoding.specs.Plain.{base_of_plain};
+ghost use Rattle.data_encoding_calls.specs.Calls.{ByNumber};
+ghost use Rattle.data_encoding_calls.specs.Facts.{GivesBack, TellsAlignment, TellsWidth};
+
+use data_encoding::PlainEncoding;
+use data_encoding_calls::{
+    Form, TextLengths, held_bit_width, held_encode_align, held_specification, numbered_bit_width,
+    numbered_encode_align, numbered_specification,
+};
+
+/// The number of bytes of a block: of a whole group of symbols, or of a whole line.
+#[unsafe(no_mangle)]
+pub extern "C" fn de_numbered_encode_align(number: u32, align: &mut usize) -> u32
+    ensures { ByNumber number result (align.new ≡ align.old)
+        (λ base. TellsAlignment base align.new result) }
+{
+    numbered_encode_align(number, align)
+}
+
+/// The number of bytes of a block: of a whole group of symbols, or of a whole line.
+#[unsafe(no_mangle)]
+pub extern "C" fn de_held_encode_align(held: &PlainEncoding, align: &mut usize) -> u32
+    ensures { TellsAlignment (base_of_plain held.now) align.new result }
+{
+    held_encode_align(held, align)
+}
+
+/// The number of bits of a symbol.
+#[unsafe(no_mangle)]
+pub extern "C" fn de_numbered_bit_width(number: u32, width: &mut usize) -> u32
+    ensures { ByNumber number result (width.new ≡ width.old)
+        (λ base. TellsWidth base width.new result) }
+{
+    numbered_bit_width(number, width)
+}
+
+/// The number of bits of a symbol.
+#[unsafe(no_mangle)]
+pub extern "C" fn de_held_bit_width(held: &PlainEncoding, width: &mut usize) -> u32
+    ensures { TellsWidth (base_of_plain held.now) width.new result }
+{
+    held_bit_width(held, width)
+}
+
+/// Writes the specification of the encoding: its texts one after the other to the front of the
+/// output, their lengths, and what it says in numbers.
+#[unsafe(no_mangle)]
+pub extern "C" fn de_numbered_specification(
+    number: u32,
+    form: &mut Form,
+    lengths: &mut TextLengths,
+    texts: &mut [u8],
+) -> u32
+    ensures { ByNumber number result
+        ((form.new ≡ form.old) × (lengths.new ≡ lengths.old) × (texts.new ≡ texts.old))
+        (λ base. GivesBack base
+        (record { form = form.old; lengths = lengths.old; texts = texts.old })
+        (record { form = form.new; lengths = lengths.new; texts = texts.new }) result) }
+{
+    numbered_specification(number, form, lengths, texts)
+}
+
+/// Writes the specification of the encoding: its texts one after the other to the front of the
+/// output, their lengths, and what it says in numbers.
+#[unsafe(no_mangle)]
+pub extern "C" fn de_held_specification(
+    held: &PlainEncoding,
+    form: &mut Form,
+    lengths: &mut TextLengths,
+    texts: &mut [u8],
+) -> u32
+    ensures { GivesBack (base_of_plain held.now)
+        (record { form = form.old; lengths = lengths.old; texts = texts.old })
+        (record { form = form.new; lengths = lengths.new; texts = texts.new }) result }
+{
+    held_specification(held, form, lengths, texts)
+}

@@ -1,0 +1,83 @@
+use Rattle.std.proofs.Common.{◌≡◌, ◌<◌, ◌≤◌, ◌++◌, ℕ, List, length, take, ◌∙◌, refl, sym, ap, subst, arith}
+use Rattle.data_encoding.specs.Lengths.{alignment}
+use Rattle.encoding_stream.specs.Blocks.{after_blocks, held_data, EncodesOn}
+use Rattle.data_encoding_calls.specs.Blocks.{piece_status, piece_text}
+use Rattle.data_encoding_calls.specs.Calls.{front_status}
+use Rattle.data_encoding_calls.specs.Status.{no_encoder, ok, short_buffer, too_long}
+use Rattle.data_encoding_calls.proofs.BlockLemmas.{if-less, if-not, refuses-data, written-len, written-over}
+use Rattle.data_encoding_calls.proofs.blocks.take_by.Goals as goal
+
+pub returns-then-piece-gt-ENCODE_LIMIT : goal.returns-then-piece-gt-ENCODE_LIMIT
+returns-then-piece-gt-ENCODE_LIMIT c =
+    let base = c.args.encoding.now in
+    let kept = c.args.kept.now in
+    let piece = c.args.piece.now in
+    let room : ℕ = length c.args.output.now in
+    let own = if-less kept.count (alignment base) (piece_status base kept piece room) no_encoder
+    c.in-Some.ensures.short in
+    refuses-data base piece _ _ (λ is. cc)
+    (if-less 36028797018963967 (length piece) too_long
+    (front_status (piece_text base kept piece) room)
+    (omega (arith, c.if-piece-gt-ENCODE_LIMIT.true))
+    ∙ own)
+
+pub returns-then-output-due : goal.returns-then-output-due
+returns-then-output-due c =
+    let base = c.args.encoding.now in
+    let kept = c.args.kept.now in
+    let piece = c.args.piece.now in
+    let room : ℕ = length c.args.output.now in
+    let own = if-less kept.count (alignment base) (piece_status base kept piece room) no_encoder
+    c.in-Some.ensures.short in
+    let few =
+    if-not 36028797018963967 (length piece) too_long
+    (front_status (piece_text base kept piece) room)
+    (omega (arith, c.if-piece-gt-ENCODE_LIMIT.false)) in
+    let due : length (piece_text base kept piece) ≡ c.due.result =
+    let value = rw c.in-Some.ensures.base at c.due.ensures.value piece refl in
+    rw c.in-Some.ensures.kept at value in
+    refuses-data base piece _ _ (λ is. cc)
+    (if-less room (length (piece_text base kept piece)) short_buffer ok
+    (omega (arith, due, c.if-output-due.true))
+    ∙ few ∙ own)
+
+pub returns : goal.returns
+returns c =
+    let base = c.args.encoding.now in
+    let kept = c.args.kept.now in
+    let piece = c.args.piece.now in
+    let room : ℕ = length c.args.output.now in
+    let own = if-less kept.count (alignment base) (piece_status base kept piece room) no_encoder
+    c.in-Some.ensures.short in
+    let few =
+    if-not 36028797018963967 (length piece) too_long
+    (front_status (piece_text base kept piece) room)
+    (omega (arith, c.if-piece-gt-ENCODE_LIMIT.false)) in
+    let due : length (piece_text base kept piece) ≡ c.due.result =
+    let value = rw c.in-Some.ensures.base at c.due.ensures.value piece refl in
+    rw c.in-Some.ensures.kept at value in
+    let old = c.args.output.now in
+    let new = c.read.new.output in
+    let text = piece_text base kept piece in
+    let at_base = rw c.in-Some.ensures.base at c.read.ensures.text in
+    let front : take c.read.result new ≡ text = rw c.in-Some.ensures.kept at at_base in
+    let after = c.read.ensures.after in
+    let within = c.read.ensures.within in
+    let held_base = rw c.in-Some.ensures.base at c.read.ensures.held in
+    let held_is : held_data c.kept.result ≡ after_blocks base (held_data kept ++ piece) =
+    ap held_data c.kept.ensures.value ∙ rw c.in-Some.ensures.kept at held_base in
+    let encodes_base = rw c.in-Some.ensures.base at c.read.ensures.encodes in
+    let encodes = rw c.in-Some.ensures.kept at encodes_base in
+    record {
+      status =
+          if-not room (length text) short_buffer ok (omega (arith, due, c.if-output-due.false))
+          ∙ few ∙ own;
+      text = λ _. written-over c.read.result new old text front within after;
+      written = λ _. written-len c.read.result new old text front within after;
+      held = λ _. held_is;
+      encodes = λ _.
+          subst (EncodesOn base kept c.kept.result piece) front
+          (subst (λ k. EncodesOn base kept k piece (take c.read.result new))
+          (sym c.kept.ensures.value) encodes);
+      refused = λ refused. absurd (refused refl);
+    }

@@ -1,0 +1,119 @@
+//! Calls that encode data in pieces, by the number of an encoding and by one of a caller's own.
+
+ghost use Rattle.std.specs.Prelude.{◌≡◌, ◌<◌, []};
+ghost use Rattle.data_encoding.specs.Base.{Base};
+ghost use Rattle.data_encoding.specs.Fields.{IsSpecified};
+ghost use Rattle.data_encoding.specs.Lengths.{alignment};
+ghost use Rattle.data_encoding.specs.Plain.{base_of_plain};
+ghost use Rattle.encoding_stream.specs.Blocks.{HasWritten};
+ghost use Rattle.data_encoding_calls.specs.Blocks.{EncodesPiece, EndsData, TellsDue};
+ghost use Rattle.data_encoding_calls.specs.Calls.{ByNumber};
+
+use crate::blocks::{due_by, end_by, take_by};
+use crate::status::UNKNOWN_ENCODING;
+use data_encoding::laws::join_encode;
+use data_encoding::{PlainEncoding, predefined_numbered};
+use encoding_stream::KeptData;
+
+/// What is kept of no data, by every encoding.
+pub fn plain_encoder_new(encoder: &mut KeptData)
+    ensures { (base : Base) → IsSpecified base → 0 < alignment base
+        → HasWritten base encoder.new [] [] }
+{
+    join_encode();
+    *encoder = KeptData {
+        count: 0,
+        bytes: [0; 189],
+    };
+}
+
+/// The length of the text that `len` more of the data has written.
+pub fn numbered_encoder_most(number: u32, encoder: &KeptData, len: usize, most: &mut usize) -> u32
+    ensures { ByNumber number result (most.new ≡ most.old)
+        (λ base. TellsDue base encoder.now len most.old most.new result) }
+{
+    let Some(encoding) = predefined_numbered(number) else {
+        return UNKNOWN_ENCODING;
+    };
+    due_by(&encoding.encoding(), encoder, len, most)
+}
+
+/// Reads a piece, and writes the text of the blocks that are then whole to the front of the output,
+/// and its length to `written`.
+pub fn numbered_encoder_read(
+    number: u32,
+    encoder: &mut KeptData,
+    piece: &[u8],
+    output: &mut [u8],
+    written: &mut usize,
+) -> u32
+    ensures { ByNumber number result
+        ((encoder.new ≡ encoder.old) × (output.new ≡ output.old) × (written.new ≡ written.old))
+        (λ base. EncodesPiece base piece.now
+        (record { encoder = encoder.old; output = output.old; written = written.old })
+        (record { encoder = encoder.new; output = output.new; written = written.new }) result) }
+{
+    let Some(encoding) = predefined_numbered(number) else {
+        return UNKNOWN_ENCODING;
+    };
+    take_by(&encoding.encoding(), encoder, piece, output, written)
+}
+
+/// Ends the data: writes the text of the held bytes to the front of the output, and its length to
+/// `written`.
+pub fn numbered_encoder_finish(
+    number: u32,
+    encoder: &KeptData,
+    output: &mut [u8],
+    written: &mut usize,
+) -> u32
+    ensures { ByNumber number result ((output.new ≡ output.old) × (written.new ≡ written.old))
+        (λ base. EndsData base encoder.now output.old output.new written.old written.new result) }
+{
+    let Some(encoding) = predefined_numbered(number) else {
+        return UNKNOWN_ENCODING;
+    };
+    end_by(&encoding.encoding(), encoder, output, written)
+}
+
+/// The length of the text that `len` more of the data has written.
+pub fn held_encoder_most(
+    held: &PlainEncoding,
+    encoder: &KeptData,
+    len: usize,
+    most: &mut usize,
+) -> u32
+    ensures { TellsDue (base_of_plain held.now) encoder.now len most.old most.new result }
+{
+    due_by(&held.encoding(), encoder, len, most)
+}
+
+/// Reads a piece, and writes the text of the blocks that are then whole to the front of the output,
+/// and its length to `written`.
+pub fn held_encoder_read(
+    held: &PlainEncoding,
+    encoder: &mut KeptData,
+    piece: &[u8],
+    output: &mut [u8],
+    written: &mut usize,
+) -> u32
+    ensures { EncodesPiece (base_of_plain held.now) piece.now
+        (record { encoder = encoder.old; output = output.old; written = written.old })
+        (record { encoder = encoder.new; output = output.new; written = written.new }) result }
+{
+    take_by(&held.encoding(), encoder, piece, output, written)
+}
+
+/// Ends the data: writes the text of the held bytes to the front of the output, and its length to
+/// `written`.
+pub fn held_encoder_finish(
+    held: &PlainEncoding,
+    encoder: &KeptData,
+    output: &mut [u8],
+    written: &mut usize,
+) -> u32
+    ensures { EndsData (base_of_plain held.now) encoder.now output.old output.new written.old
+        written.new result }
+{
+    end_by(&held.encoding(), encoder, output, written)
+}
