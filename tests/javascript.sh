@@ -12,7 +12,8 @@ if ! command -v node >/dev/null; then
 fi
 
 # Node 20 and 22 have 64-bit memory by a flag, and Node 24 without one.
-probe='WebAssembly.validate(Uint8Array.of(0, 97, 115, 109, 1, 0, 0, 0, 5, 3, 1, 4, 1)) || process.exit(1)'
+probe='const empty = Uint8Array.of(0, 97, 115, 109, 1, 0, 0, 0, 5, 3, 1, 4, 1);
+process.exit(WebAssembly.validate(empty) ? 0 : 1)'
 flags=()
 if ! node -e "$probe"; then
     flags=(--experimental-wasm-memory64)
@@ -46,10 +47,10 @@ kernel=$OLDPWD/crates/data_encoding_kernel/src
 is 'what goes by words' '2 1' "$(grep -cF 'encode_turns::<EightGroups, G>' "$kernel/encode.rt") \
 $(grep -cF 'if input.len() < eight {' "$kernel/decode.rt")"
 
-wanted="the WebAssembly module is not here: \`bindings/javascript/build.sh DIR\` makes a package with \
-it from the sources of Bamsturk"
-is 'without the module' "$wanted" \
-    "$(node "${flags[@]}" -e "import('$source/src/index.js').catch((it) => console.log(it.message))")"
+wanted="the WebAssembly module is not here: \`bindings/javascript/build.sh DIR\` makes a package \
+with it from the sources of Bamsturk"
+is 'without the module' "$wanted" "$(node "${flags[@]}" -e "
+    import('$source/src/index.js').catch((it) => console.log(it.message))")"
 
 holds 'the tests of the package' quietly node "${flags[@]}" --test package/tests/*.test.js
 tried=$(sed -n 's/^# pass //p' said)
@@ -65,9 +66,11 @@ for (const { name } of WebAssembly.Module.exports(module)) {
   console.log(name);
 }
 END_OF_MODULE
+exports=$(sed -n 's/^pub extern "C" fn \(de_[a-z_]*\)(.*/\1/p' \
+    "$OLDPWD"/crates/data_encoding_c/src/*.rt | sort)
 is 'what the module gives' "0 imports
 __heap_base
-$(sed -n 's/^pub extern "C" fn \(de_[a-z_]*\)(.*/\1/p' "$OLDPWD"/crates/data_encoding_c/src/*.rt | sort)
+$exports
 memory" "$(node "${flags[@]}" module.mjs | LC_ALL=C sort)"
 
 # names FILE: the names that it exports.

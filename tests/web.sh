@@ -1,9 +1,10 @@
 #!/usr/bin/env bash
-# Builds the page and drives it in Chromium as a person would, at two widths and in both schemes; what
-# it shows is compared with the program.
+# Builds the page and drives it in Chromium as a person would, at three widths and in both schemes;
+# what it shows is compared with the program.
 #
 # usage: tests/web.sh [--picture FILE] [PACKAGE]: PACKAGE is where bindings/javascript/build.sh left
-# the package for JavaScript; it is built by lanes if no folder is given. FILE gets the picture of README.md.
+# the package for JavaScript; it is built by lanes if no folder is given. FILE gets the picture of
+# README.md.
 . "$(dirname "$0")/common.bash" || exit 1
 
 picture=

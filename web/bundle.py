@@ -1,11 +1,11 @@
 """Writes the page: index.html with the style, and the modules as one script.
 
-usage: bundle.py WEB PACKAGE: the folder of the page, and the package for JavaScript, with the module
-in it, whose files take the place of those in bindings/javascript.
+usage: bundle.py WEB PACKAGE: the folder of the page, and the package for JavaScript, with the
+module in it, whose files take the place of those in bindings/javascript.
 
-A module becomes a function that is called once, and gives what it exports. The modules are written in
-one way: an import names what it takes, or all as one name; an export stands before a declaration, or
-names what it passes on of another module.
+A module becomes a function that is called once, and gives what it exports. The modules are written
+in one way: an import names what it takes, or all as one name; an export comes before a declaration,
+or names what it passes on of another module.
 """
 
 import base64

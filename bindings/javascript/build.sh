@@ -6,10 +6,10 @@
 # usage: bindings/javascript/build.sh [--lanes] DIR
 #
 # The calls are those of data_encoding_c. crates.txt lists a crate for one platform, so that this is
-# done in a copy of the crates, in out/, where that crate is one for WebAssembly. There the kernel goes
-# by words in place of lanes, which are taken apart where a processor's vectors are not used: with the
-# same contracts, which are proved again. --lanes leaves it as it is, so that nothing below that crate
-# is proved twice; large data then takes five times as long.
+# done in a copy of the crates, in out/, where that crate is one for WebAssembly. There the kernel
+# goes by words in place of lanes, which are taken apart where vectors are not used: with the same
+# contracts, which are proved again. --lanes leaves it as it is, so that no crate below that one is
+# proved twice; large data then takes five times as long.
 set -euo pipefail
 
 way=words
@@ -29,16 +29,27 @@ crate=data_encoding_c
 room=$here/out/$way
 module=$room/crates/$crate/out/$crate.wasm
 
-# copy_crates: the sources of the crates of this checkout.
+# is_same CRATE: the copy of this crate is as it is here.
+is_same() {
+    [ "$way" = lanes ] || [ "$1" = data_encoding_meaning ]
+}
+
+# copy_crates: the sources of the crates of this checkout, and what was proved of those that stay as
+# they are.
 copy_crates() {
-    local folder copy part
+    local folder name copy part
     for folder in "$top"/crates/*/; do
-        copy=$room/crates/$(basename "$folder")
-        mkdir -p "$copy"
+        name=$(basename "$folder")
+        copy=$room/crates/$name
+        mkdir -p "$copy/out"
         for part in src specs proofs; do
             rm -rf "${copy:?}/$part"
             [ ! -d "$folder/$part" ] || cp -r "$folder/$part" "$copy"
         done
+        if is_same "$name" && [ -d "$folder/out/rlib" ]; then
+            rm -rf "${copy:?}/out/rlib"
+            cp -r "$folder/out/rlib" "$copy/out"
+        fi
     done
     sed "s/^$crate staticlib:/$crate wasm64:/" "$top/crates.txt" >"$room/crates.txt"
     cp "$top/HANDLES" "$room/HANDLES"

@@ -423,7 +423,8 @@ class Own(Page):
             ({"padding": "", "ignore": "x7"}, "ignore", '"7" has two meanings.'),
             ({"ignore": "", "width": "9", "separator": "-"}, "wrap",
              "A line has a multiple of 8 characters."),
-            ({"width": "264"}, "wrap", "A line and what comes after it have at most 255 characters."),
+            ({"width": "264"}, "wrap",
+             "A line and what comes after it have at most 255 characters."),
             ({"width": "eight"}, "wrap", "The characters of a line are a number."),
             ({"width": "", "separator": "", "from": "ab"}, "translate",
              "Both fields need the same number of characters."),
@@ -574,8 +575,8 @@ class Shapes(Page):
             return
         self.shape(1280, 640)
         self.open("#BASE64_MIME")
-        self.type("data", "A file, a token or a key, as text; and back, with its fault where it is. "
-                  "This one has a line of 76 characters.")
+        self.type("data", "A file, a token or a key, as text; and back, with its fault where it is."
+                  " This one has a line of 76 characters.")
         text = self.shown("text")
         self.clear("text")
         area = self.find("#text textarea")

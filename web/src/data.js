@@ -12,11 +12,11 @@ const isSame = (one, other) =>
   one.length === other.length && one.every((byte, at) => byte === other[at]);
 
 const NOT_TEXT =
-  "These bytes are not text that a field keeps: it is shown as far as it can be, and the hex view " +
-  "has the bytes.";
+  "These bytes are not text that a field keeps: it is shown as far as it can be, and the hex " +
+  "view has the bytes.";
 
-/** The widths in characters from which a line has sixteen bytes and their characters, and from which
- * eight have theirs. */
+/** The widths in characters from which a line has sixteen bytes and their characters, and from
+ * which eight have theirs. */
 const WIDE = 78;
 const NARROW = 46;
 

@@ -9,7 +9,7 @@ function joined(front, back) {
   return bytes;
 }
 
-/** The data of the whole groups before the fault, as the program writes it, and the fault or null. */
+/** The data of the groups before the fault, as the program writes it, and the fault or null. */
 export function decoded(encoding, text) {
   const decoder = new Decoder(encoding);
   const data = decoder.push(text);

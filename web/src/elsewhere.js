@@ -14,14 +14,16 @@ const escaped = (text, quote, other) =>
 const hex = (code) => code.toString(16).padStart(2, "0");
 const SHORT = { 9: "\\t", 10: "\\n", 13: "\\r" };
 
-const inRust = (text) => `"${escaped(text, '"', (it) => SHORT[it] ?? `\\x${hex(it)}`)}"`;
+const otherInRust = (code) => SHORT[code] ?? `\\x${hex(code)}`;
+const inRust = (text) => `"${escaped(text, '"', otherInRust)}"`;
 const inPython = inRust;
 
 /** In C the digits after `\x` have no end: three octal digits have. */
 const octal = (code) => `\\${code.toString(8).padStart(3, "0")}`;
-const inC = (text) => `"${escaped(text, '"', (it) => SHORT[it] ?? octal(it)).replaceAll("?", "\\?")}"`;
-const characterInC = (it) => `'${escaped(it, "'", (code) => SHORT[code] ?? octal(code))}'`;
-const characterInRust = (it) => `'${escaped(it, "'", (code) => SHORT[code] ?? `\\x${hex(code)}`)}'`;
+const otherInC = (code) => SHORT[code] ?? octal(code);
+const inC = (text) => `"${escaped(text, '"', otherInC).replaceAll("?", "\\?")}"`;
+const characterInC = (it) => `'${escaped(it, "'", otherInC)}'`;
+const characterInRust = (it) => `'${escaped(it, "'", otherInRust)}'`;
 
 function rust(asked) {
   const { symbols, padding, ignore, wrap, translate } = asked;

@@ -46,8 +46,8 @@ export function ranges(symbols) {
 
 const yesOrNo = (holds) => (holds ? "yes" : "no");
 
-/** Whether texts without lines sort as their data do: the symbols ascend, padding comes before each,
- * and the most significant bit comes first. */
+/** Whether texts without lines sort as their data do: the symbols ascend, padding comes before
+ * each, and the most significant bit comes first. */
 function isOrdered({ symbols, padding, bitOrder }) {
   const row = [...(padding ?? ""), ...symbols];
   const ascends = row.every((it, at) => at === 0 || row[at - 1] < it);

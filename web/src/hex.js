@@ -22,7 +22,7 @@ export function linesOf(bytes, width) {
 
 const digitsIn = (line) => line.replace(/[^0-9a-f]/gi, "").length;
 
-/** The address of the first byte of each line of a field, whatever stands in the lines. */
+/** The address of the first byte of each line of a field, whatever the lines have. */
 export function addressesOf(value) {
   let digits = 0;
   return value

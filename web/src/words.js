@@ -12,7 +12,7 @@ const NAMES = {
   0xfeff: "a byte order mark",
 };
 
-/** What stands for a carriage return in a field, which would take that for the end of a line. */
+/** What a field has in place of a carriage return, which it would take for the end of a line. */
 export const RETURN = "\u21b5";
 
 /** The text of a field, as it is, and back. */

@@ -77,7 +77,7 @@ export interface Specification {
   /** Whether bits that are left after the last byte have to be zeros, as by default. */
   checkTrailingBits?: boolean;
 
-  /** Whether padded texts that stand one after the other are decoded as one, as by default. */
+  /** Whether padded texts, one after the other, are decoded as one, as by default. */
   concatenate?: boolean;
 }
 

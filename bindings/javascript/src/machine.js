@@ -1,8 +1,8 @@
 // The module and its memory: the one file that knows addresses.
 //
-// Behind what the module itself uses lies the desk, with fields of a fixed size, and behind that
-// the room, with the input of a call and then its output. A call is given addresses and lengths of
-// these alone.
+// After what the module itself uses comes the desk, with fields of a fixed size, and then the room,
+// with the input of a call and after it its output. A call is given addresses and lengths of these
+// alone.
 
 import { MODULE } from "./module.js";
 
@@ -10,8 +10,8 @@ import { MODULE } from "./module.js";
 const PROBE = Uint8Array.of(0, 97, 115, 109, 1, 0, 0, 0, 5, 3, 1, 4, 1);
 
 const LACKING =
-  "WebAssembly has no 64-bit memory here: Chromium from 133 on, Firefox from 134 on and Node from " +
-  "24 on have it, and Node 20 and 22 by the flag --experimental-wasm-memory64";
+  "WebAssembly has no 64-bit memory here: Chromium from 133 on, Firefox from 134 on and Node " +
+  "from 24 on have it, and Node 20 and 22 by the flag --experimental-wasm-memory64";
 
 const PAGE = 65536;
 const ALIGNMENT = 16;

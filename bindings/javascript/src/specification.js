@@ -67,7 +67,7 @@ function fieldsOf(name, value, defaults) {
   return { ...defaults, ...Object.fromEntries(given) };
 }
 
-/** The byte that pads, or -1; 128 stands for any character that is not ASCII. */
+/** The byte that pads, or -1; 128 is any character that is not ASCII. */
 function paddingOf(value) {
   if (value === null) {
     return -1;

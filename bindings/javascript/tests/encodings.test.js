@@ -94,7 +94,8 @@ test("why a specification is refused, and where", () => {
     });
   }
   assert.throws(() => new Encoding({ symbols: "abca" }), { detail: "a" });
-  assert.throws(() => new Encoding({ ...octal, wrap: { width: 9, separator: "-" } }), { detail: 8 });
+  const nine = { width: 9, separator: "-" };
+  assert.throws(() => new Encoding({ ...octal, wrap: nine }), { detail: 8 });
 });
 
 test("fields of another type are a TypeError", () => {
@@ -118,7 +119,8 @@ test("fields of another type are a TypeError", () => {
       "the second text of translate has to be a string, not Number"],
     [{ symbols: "01", bitOrder: "least" },
       'bitOrder has to be "most-significant-first" or "least-significant-first"'],
-    [{ symbols: "01", checkTrailingBits: 1 }, "checkTrailingBits has to be true or false, not Number"],
+    [{ symbols: "01", checkTrailingBits: 1 },
+      "checkTrailingBits has to be true or false, not Number"],
     [{ symbols: "01", concatenate: "no" }, "concatenate has to be true or false, not String"],
   ]) {
     assert.throws(() => new Encoding(asked), { name: "TypeError", message });

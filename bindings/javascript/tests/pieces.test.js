@@ -112,7 +112,8 @@ test("streams", async () => {
 
 test("a stream fails at a fault, once the text has ended", async () => {
   const found = [];
-  const reading = ReadableStream.from(["Zm9v", "Zm!v", "Zm9v"]).pipeThrough(new DecoderStream(BASE64));
+  const pieces = ReadableStream.from(["Zm9v", "Zm!v", "Zm9v"]);
+  const reading = pieces.pipeThrough(new DecoderStream(BASE64));
   await assert.rejects(async () => {
     for await (const piece of reading) {
       found.push(...piece);
