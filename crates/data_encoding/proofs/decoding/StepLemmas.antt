@@ -202,7 +202,8 @@ module _ {base : Base} {text : List ℕ} {sizes : Sizes} {read written : ℕ} {e
           omega (arith, gathered-few found_here, found_here.within, length-drop read text) in
           let room = room-group_of (length group) few
           (λ padded. rw (whole padded, s.symbols_is) (mod_self (group_symbols base.width))) in
-          rw (take_rest output written, ← s.width_is) (omega (arith, room, length-drop written output))
+          rw (take_rest output written, ← s.width_is)
+          (omega (arith, room, length-drop written output))
 
       -- A faulty group stops the decoding.
       module _ {fault : GroupFault} (has : HasFault base ended group fault) where
@@ -296,7 +297,8 @@ module _ {base : Base} {text : List ℕ} {sizes : Sizes} {read written : ℕ} {o
 
     -- a run has room
     pub room-next_run : length (take (length text - (read + skip)) (drop (read + skip) text))
-        / sizes.symbols * sizes.bytes ≤ length (take (length output - written) (drop written output))
+        / sizes.symbols * sizes.bytes
+        ≤ length (take (length output - written) (drop written output))
     room-next_run =
         let dec = group_symbols base.width in
         let count = length (drop start text) / dec in
@@ -351,7 +353,8 @@ module _ {base : Base} {text : List ℕ} {sizes : Sizes} {read written : ℕ} {o
       found_behind = rw (take_rest text start, ← drop-drop skip read text) at is
 
       pub gathered-next : 0 < length group
-          → IsGathered base sizes.symbols (take (length text - read) (drop read text)) group (skip + span)
+          → IsGathered base sizes.symbols (take (length text - read) (drop read text)) group
+          (skip + span)
       gathered-next some =
           rw (take_rest text read)
           (gathered-behind base sizes.symbols (drop read text) group skip span front found_behind
@@ -380,7 +383,13 @@ module _ {base : Base} {text : List ℕ} {sizes : Sizes} {read written : ℕ} {o
         ∙ sym s.symbols_is
 
     few : sizes.width * count / 8 ≤ length rest
-    few = omega (arith, mul-le-mul_left sizes.width has.within, room-next_group s is whole, rest_len)
+    few =
+        omega (
+          arith,
+          mul-le-mul_left sizes.width has.within,
+          room-next_group s is whole,
+          rest_len,
+        )
 
     pub after_group : (stop : ℕ) {final : Bool} → read + span ≡ stop
         → (not base.concatenates && nat_lt count (length group)) ≡ final

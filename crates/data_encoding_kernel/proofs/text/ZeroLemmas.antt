@@ -75,7 +75,8 @@ module _ (base : Base) (bytes : List ℕ) (count : ℕ) (some : 0 < base.width) 
       ∙ ap (λ l. bits ++ l) (replicate-append-replicate (8 * count) _ 0)
 
   -- the first runs are those of the bits, filled up
-  first_runs : take (run_count base.width (length bits)) (runs base.width (bits ++ replicate more 0))
+  first_runs :
+      take (run_count base.width (length bits)) (runs base.width (bits ++ replicate more 0))
       ≡ runs base.width (filled_with 0 base.width bits)
   first_runs =
       let width = base.width in
@@ -121,8 +122,8 @@ plain_text-room base width bytes size count input same some few room exact =
     ∙ ap (λ l. input ++ l) (take-replicate extra (size - length input) 0 (omega (arith, few, room)))
     in
     (λ i. take (exact i) (plain_text base (shown i)))
-    ∙ ap (λ w. take ((8 * length input + (w - 1)) / w) (plain_text base (input ++ replicate extra 0)))
-    (sym same)
+    ∙ ap (λ w. take ((8 * length input + (w - 1)) / w)
+    (plain_text base (input ++ replicate extra 0))) (sym same)
     ∙ plain_text-zeros base input extra (subst (λ w. 0 < w) (sym same) some)
 
 -- the symbols of at most eight groups

@@ -38,7 +38,11 @@ after : (g : Over) (c : After-WIDTH g) {final : Bool}
     → (not c.args.self.now.concatenates
     && nat_lt c.in-Ok.count (length c.next_group-group.result.bytes.now)) ≡ final
     → IsUnderWay c.args.self.now c.args.input.now
-    (record { width = c.WIDTH.result; bytes = g.G.GroupSize.BYTES; symbols = g.G.GroupSize.SYMBOLS })
+    (record {
+      width = c.WIDTH.result;
+      bytes = g.G.GroupSize.BYTES;
+      symbols = g.G.GroupSize.SYMBOLS;
+    })
     (c.args.at.read + c.args.at.ignored + c.next_group-group.result.span)
     (c.args.at.written + c.WIDTH.result * c.in-Ok.count / 8) final
     (rewritten c.args.at.written c.args.output.now c.decode_group.new.output)
