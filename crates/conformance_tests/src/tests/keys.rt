@@ -10,7 +10,10 @@ use std::test::Fail;
 
 #[test]
 fn keys_of_tokens(rt: HostRuntime) {
-    assert_eq!(rt; key_of(b"MDEyMzQ1Njc4OWFiY2Rl_w"), Some(*b"0123456789abcde\xff"));
+    assert_eq!(rt;
+        key_of(b"MDEyMzQ1Njc4OWFiY2Rl_w"),
+        Some(*b"0123456789abcde\xff")
+    );
     assert_eq!(rt; key_of(b"MDEyMzQ1Njc4OWFiY2Rl_x"), None);
     assert_eq!(rt; key_of(b"MDEyMzQ1Njc4OWFiY2Rl+w"), None);
     assert_eq!(rt; key_of(b"MDEyMzQ1Njc4OWFiY2Rl"), None);
@@ -66,7 +69,10 @@ fn faults_so_far(rt: HostRuntime) {
         position: 2,
         kind: DecodeKind::Symbol,
     };
-    assert_eq!(rt; fault_so_far(&base64_nopad(), b"SG!sQ", &mut output), Some(fault));
+    assert_eq!(rt;
+        fault_so_far(&base64_nopad(), b"SG!sQ", &mut output),
+        Some(fault)
+    );
     assert_eq!(rt; fault_so_far(&base64_nopad(), b"SGVs!", &mut output), None);
     assert_eq!(rt; fault_so_far(&hexlower(), b"4", &mut output), None);
 }
