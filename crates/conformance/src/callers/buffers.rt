@@ -2,9 +2,10 @@
 
 ghost use Rattle.std.specs.Prelude.{◌≡◌, ◌+◌, ◌≤◌, ℕ, List, ◌++◌, length, take, None, Some, IfSome, OnOk};
 ghost use Rattle.std.specs.String.{string_bytes};
-ghost use Rattle.data_encoding.specs.Fault.{fault_of, sound_bytes};
+ghost use Rattle.data_encoding.specs.Fault.{fault_of, first_fault, sound_bytes};
 ghost use Rattle.data_encoding.specs.Grammar.{Means};
 ghost use Rattle.data_encoding.specs.Lengths.{length_fault};
+ghost use Rattle.data_encoding.specs.Pieces.{whole_groups};
 ghost use Rattle.data_encoding.specs.Text.{text_of};
 ghost use Rattle.encoding_stream.specs.Pieces.{verdict_of};
 
@@ -77,7 +78,8 @@ pub fn decode_kept(
 pub fn fault_so_far(encoding: &Encoding, front: &[u8], output: &mut [u8]) -> Option<DecodeError>
     requires limit { length front.now ≤ DECODE_LIMIT }
     requires room { length front.now + 7 ≤ length output.old }
-    ensures { IfSome result (λ error. (after : List ℕ)
+    ensures first { result ≡ first_fault encoding.now (whole_groups encoding.now front.now) }
+    ensures stays { IfSome result (λ error. (after : List ℕ)
         → length_fault encoding.now (length (front.now ++ after)) ≡ None
         → fault_of encoding.now (front.now ++ after) ≡ Some error) }
 {

@@ -2,12 +2,13 @@
 
 ghost use Rattle.std.specs.Prelude.{◌≡◌, ◌↔◌, ◌≤◌, ◌+◌, ◌%◌, ℕ, List, [], ◌∷◌, ◌++◌, length, None, Some, Ok, Err, IsTrue, is_some, IfOk, IfSome, OnOk};
 ghost use Rattle.std.specs.String.{string_bytes};
+ghost use Rattle.data_encoding.specs.Base.{is_ignored, meaning};
 ghost use Rattle.data_encoding.specs.Canonical.{AreTwoTexts};
 ghost use Rattle.data_encoding.specs.Eighteen.{Yields};
 ghost use Rattle.data_encoding.specs.Fault.{fault_of};
 ghost use Rattle.data_encoding.specs.Grammar.{Means};
-ghost use Rattle.data_encoding.specs.Order.{BreaksOrder, IsBefore};
-ghost use Rattle.data_encoding.specs.Predefined.{base32hex_nopad_fields, base64_mime_fields, base64_nopad_fields, base64url_nopad_fields, hexlower_fields, hexlower_permissive_fields};
+ghost use Rattle.data_encoding.specs.Order.{IsBefore, KeepsOrder};
+ghost use Rattle.data_encoding.specs.Predefined.{base32hex_nopad_fields, base64_nopad_fields, base64url_nopad_fields, hexlower_fields, hexlower_permissive_fields};
 ghost use Rattle.data_encoding.specs.Text.{text_of};
 ghost use Rattle.data_encoding.specs.Told.{is_other};
 
@@ -17,7 +18,7 @@ use data_encoding::laws::{
 };
 use data_encoding::{
     DECODE_LIMIT, DecodeError, DecodeFault, DecodeKind, ENCODE_LIMIT, Encoding, base32hex_nopad,
-    base64_mime, base64_nopad, base64url_nopad, hexlower, hexlower_permissive,
+    base64_nopad, base64url_nopad, hexlower, hexlower_permissive,
 };
 use std::alloc::{AllocError, Global};
 
@@ -142,22 +143,22 @@ pub fn texts_in_order(
     Ok((text, other_text))
 }
 
-/// Two bytes in order whose texts in BASE64_NOPAD are not.
-pub fn out_of_order() -> (u8, u8)
-    ensures { Yields (λ base. BreaksOrder base (result.0 ∷ []) (result.1 ∷ []))
-        base64_nopad_fields }
+/// Whether data in BASE64_NOPAD may be sorted by their texts: `0` has a greater value than `z`, and
+/// comes before it.
+pub fn is_sorted_by_texts() -> bool
+    ensures { Yields (λ base. IsTrue result ↔ KeepsOrder base) base64_nopad_fields }
 {
     eighteen();
     order();
-    let _encoding = base64_nopad();
-    (204, 208)
+    false
 }
 
-/// A text of BASE64_MIME that means no bytes and is not empty.
-pub fn other_empty_text() -> &'static [u8]
-    ensures { Yields (λ base. AreTwoTexts base [] result.now []) base64_mime_fields }
+/// Whether a byte may be a text of no data, as the empty text is: where it is ignored.
+pub fn is_empty_text(encoding: &Encoding, byte: u8) -> bool
+    ensures value { result ≡ is_ignored (meaning encoding.now byte) }
+    ensures texts { IsTrue result → AreTwoTexts encoding.now [] (byte ∷ []) [] }
 {
+    encoding.bit_width();
     not_canonical();
-    let _encoding = base64_mime();
-    b"\n"
+    encoding.interpret_byte(byte).is_ignored()
 }

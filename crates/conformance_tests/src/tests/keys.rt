@@ -2,7 +2,7 @@
 
 use conformance::callers::buffers::fault_so_far;
 use conformance::callers::keys::{
-    first_wrong, is_digest, is_same_key, key_of, other_empty_text, out_of_order, place_behind,
+    first_wrong, is_digest, is_empty_text, is_same_key, is_sorted_by_texts, key_of, place_behind,
     texts_in_order,
 };
 use data_encoding::{DecodeError, DecodeKind, base32, base64_mime, base64_nopad, hexlower};
@@ -10,7 +10,10 @@ use std::test::Fail;
 
 #[test]
 fn keys_of_tokens(rt: HostRuntime) {
-    assert_eq!(rt; key_of(b"MDEyMzQ1Njc4OWFiY2Rl_w"), Some(*b"0123456789abcde\xff"));
+    assert_eq!(rt;
+        key_of(b"MDEyMzQ1Njc4OWFiY2Rl_w"),
+        Some(*b"0123456789abcde\xff")
+    );
     assert_eq!(rt; key_of(b"MDEyMzQ1Njc4OWFiY2Rl_x"), None);
     assert_eq!(rt; key_of(b"MDEyMzQ1Njc4OWFiY2Rl+w"), None);
     assert_eq!(rt; key_of(b"MDEyMzQ1Njc4OWFiY2Rl"), None);
@@ -51,11 +54,11 @@ fn places_behind_a_front(rt: HostRuntime) -> Result<(), Fail> {
 fn texts_and_data_in_order(rt: HostRuntime) -> Result<(), Fail> {
     let (one, other) = texts_in_order(rt.alloc(), b"a", b"b")?;
     assert!(rt; one.as_bytes() < other.as_bytes());
-    let (one, other) = out_of_order();
-    let text = base64_nopad().encode(rt.alloc(), &[one])?;
-    let other_text = base64_nopad().encode(rt.alloc(), &[other])?;
-    assert!(rt; one < other && other_text.as_bytes() < text.as_bytes());
-    assert_eq!(rt; base64_mime().decode(rt.alloc(), other_empty_text())?.len(), 0);
+    assert!(rt; !is_sorted_by_texts());
+    let text = base64_nopad().encode(rt.alloc(), &[204])?;
+    let other_text = base64_nopad().encode(rt.alloc(), &[208])?;
+    assert!(rt; other_text.as_bytes() < text.as_bytes());
+    assert!(rt; is_empty_text(&base64_mime(), b'\n') && !is_empty_text(&hexlower(), b'\n'));
     Ok(())
 }
 
@@ -66,7 +69,10 @@ fn faults_so_far(rt: HostRuntime) {
         position: 2,
         kind: DecodeKind::Symbol,
     };
-    assert_eq!(rt; fault_so_far(&base64_nopad(), b"SG!sQ", &mut output), Some(fault));
+    assert_eq!(rt;
+        fault_so_far(&base64_nopad(), b"SG!sQ", &mut output),
+        Some(fault)
+    );
     assert_eq!(rt; fault_so_far(&base64_nopad(), b"SGVs!", &mut output), None);
     assert_eq!(rt; fault_so_far(&hexlower(), b"4", &mut output), None);
 }

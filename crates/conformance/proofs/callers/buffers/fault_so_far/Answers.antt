@@ -14,5 +14,9 @@ returns c =
     let keeps : Keeps base c.kept.result front =
     subst (λ kept. Keeps base kept front) (sym c.kept.ensures.value)
     (reads.keeps [] c.new-decoder.ensures.nothing) in
-    so_far c.fault_stays.ensures.groups base c.bit_width.ensures.base front c.kept.result.fault
-    keeps.first
+    record {
+      first = keeps.first;
+      stays =
+          so_far c.fault_stays.ensures.groups base c.bit_width.ensures.base front
+          c.kept.result.fault keeps.first;
+    }
