@@ -28,6 +28,32 @@ sed -i "/println/a ${form//&/\\&};" crates/greeting/src/main.rt
 (cd crates/greeting && rt check) >../output 2>&1
 is 'a length that is not worked out' 1 \
     "$(grep -c '^note: .*it is not proved that what `encode_mut` requires holds' ../output)"
+
+# is_let_go NAME LINE NUMBER: a program that lets an encoder go in this line, its tenth, does not
+# compile, and the check names the line of the number.
+is_let_go() {
+    cat >crates/greeting/src/main.rt <<END
+#![tactic(auto)]
+
+use anyhow::Result;
+use data_encoding::base64;
+
+fn main(rt: HostRuntime) -> Result<()> {
+    let encoding = base64();
+    let mut text = String::new(rt.alloc());
+    let mut encoder = encoding.new_encoder(&mut text);
+    $2
+}
+END
+    (cd crates/greeting && rt check) >../output 2>&1
+    is "$1: it does not compile" 1 $?
+    is "$1: the line" "src/main.rt:$3" \
+        "$(sed -n 's/^\(src[^:]*:[0-9]*\):.*error\[linear-value-let-go\].*`Encoder` is not `Drop`.*/\1/p' \
+            ../output | sort -u)"
+}
+
+is_let_go 'an encoder that is let go' 'encoder.append(b"Hello").is_ok(); Ok(())' 9
+is_let_go 'a `?` where it lives' 'encoder.append(b"Hello")?; encoder.abandon(); Ok(())' 10
 cd "$room" || exit 1
 
 # ends NAME STATUS LINE INPUT: how the program ends, with what line, on that input.

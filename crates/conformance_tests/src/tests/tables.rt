@@ -8,6 +8,11 @@ hex|most|check|||0||||\u{de}\u{ad}\u{be}\u{ef}|deadbeef
 octal|most|check|||0||||Bit|20464564
 octal|most|check|||0||||B|204
 base64|most|check|||0||||B|Qg
+base64|most|check|=||0||||B|Qg==
+base64|most|check|=||0||||it|aXQ=
+BASE64|B|Qg==
+BASE64|it|aXQ=
+binary|most|check|||0||||Bit|010000100110100101110100
 binary|most|check|||0||||S|01010011
 binary|least|check|||0||||S|11001010
 dnscurve|least|check|||0||BCDFGHJKLMNPQRSTUVWXYZ|bcdfghjklmnpqrstuvwxyz|d\u{88}|4321
