@@ -136,6 +136,14 @@ class OnACluster(unittest.TestCase):
         self.assert_one_died(source)
         self.assertTrue(contents("text") == BASE64.encode(self.data).encode())
 
+    def test_by_an_address(self):
+        address = self.cluster.scheduler_address
+        self.assertTrue(address.startswith("tcp://"), address)
+        with Client(address) as client:
+            parts.encode_file(client, BASE64, INPUT, "text")
+            parts.decode_file(client, BASE64, "text", "back")
+        self.assertTrue(contents("back") == self.data)
+
     def try_decoding(self, encoding):
         write("text", encoding.encode(self.data).encode())
         source = Deadly("text")

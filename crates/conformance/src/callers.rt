@@ -21,6 +21,7 @@ use data_encoding::{
 use std::alloc::{AllocError, Global};
 
 pub mod buffers;
+pub mod kept;
 pub mod keys;
 pub mod names;
 pub mod referenced;

@@ -5,6 +5,7 @@ ghost use Rattle.std.specs.Prelude.{◌≤◌, length};
 
 use super::judge::{Judge, Judgement};
 use conformance::callers::buffers::decode_kept;
+use conformance::callers::kept::{encode_kept, fault_within, judges_ends, made_again};
 use data_encoding::{
     DECODE_LIMIT, DecodeError, DecodeKind, Encoding, base64, base64_mime, base64_mime_permissive,
     base64_nopad, hexlower,
@@ -268,4 +269,48 @@ fn refuses_faults_that_no_group_has(rt: HostRuntime) {
         !has_fault(&permissive, 7, DecodeKind::Trailing),
         "trailing bits that are not checked"
     );
+}
+
+// Whether data in two pieces, cut here, have a text in three buffers.
+fn is_encoded(data: (&[u8], &[u8]), wanted: (&[u8], &[u8], &[u8])) -> bool
+    requires first { length data.0.now ≤ 17 }
+    requires second { length data.1.now ≤ 17 }
+{
+    let mut front = [0; 32];
+    let mut next = [0; 32];
+    let mut last = [0; 8];
+    let (first, second) = data;
+    let given = encode_kept(
+        &base64(),
+        first,
+        second,
+        &mut front,
+        &mut next,
+        &mut last,
+    );
+    let Some(lengths) = given else {
+        return false;
+    };
+    let (in_front, in_next, in_last) = wanted;
+    front.get(..lengths.front) == Some(in_front)
+        && next.get(..lengths.next) == Some(in_next)
+        && last.get(..lengths.last) == Some(in_last)
+}
+
+#[test]
+fn goes_on_from_what_is_kept(rt: HostRuntime) {
+    assert!(rt; is_encoded((b"He", b"llo"), (b"", b"SGVs", b"bG8=")));
+    assert!(rt; is_encoded((b"Hello", b""), (b"SGVs", b"", b"bG8=")));
+    assert!(rt; is_encoded((b"", b"Hel"), (b"", b"SGVs", b"")));
+    let kept = Kept {
+        len: 2,
+        fault: None,
+        positions: [1, 0, 0, 0, 0, 0, 0, 0],
+        bytes: *b"!       ",
+        count: 1,
+        ended: false,
+    };
+    assert!(rt; fault_within(&hexlower(), kept, b"0!") == Some(1));
+    assert!(rt; made_again(&base64_mime()) == base64_mime());
+    assert!(rt; judges_ends(&base64_nopad()) && judges_ends(&base64_mime_permissive()));
 }

@@ -1,0 +1,98 @@
+//! Data and texts in pieces, of which a caller keeps numbers and gives them back, and an encoding
+//! that is made again.
+
+ghost use Rattle.std.specs.Prelude.{◌≡◌, ◌<◌, ◌≤◌, ◌++◌, ◌||◌, length, take, IfSome};
+ghost use Rattle.data_encoding.specs.Base.{is_padded};
+ghost use Rattle.data_encoding.specs.Text.{text_of};
+
+use data_encoding::laws::specification_again;
+use data_encoding::{ENCODE_LIMIT, Encoding};
+use encoding_stream::{BufferDecoder, BufferEncoder, Kept};
+
+/// How long the texts are that were written to each buffer.
+#[derive(Clone, Copy, Debug, Drop)]
+pub struct Lengths {
+    /// Of the first piece.
+    pub front: usize,
+
+    /// Of the next piece.
+    pub next: usize,
+
+    /// Of the end of the data.
+    pub last: usize,
+}
+
+/// Encodes data that comes in two pieces, cut anywhere, into three buffers: the second piece is
+/// read by another encoder, which goes on from what the first kept. `None` if a buffer has no room.
+pub fn encode_kept(
+    encoding: &Encoding,
+    piece: &[u8],
+    next_piece: &[u8],
+    front: &mut [u8],
+    next: &mut [u8],
+    last: &mut [u8],
+) -> Option<Lengths>
+    requires limit { length piece.now ≤ ENCODE_LIMIT }
+    requires next_limit { length next_piece.now ≤ ENCODE_LIMIT }
+    ensures { IfSome result (λ lengths. text_of encoding.now (piece.now ++ next_piece.now)
+        ≡ (take lengths.front front.new ++ take lengths.next next.new)
+        ++ take lengths.last last.new) }
+{
+    let mut encoder = BufferEncoder::new(encoding);
+    if front.len() < encoder.due(piece.len()) {
+        return None;
+    }
+    let in_front = encoder.read(piece, front);
+    let kept = encoder.kept();
+    let mut resumed = BufferEncoder::resumed(encoding, kept)?;
+    if next.len() < resumed.due(next_piece.len()) {
+        return None;
+    }
+    let in_next = resumed.read(next_piece, next);
+    let kept = resumed.kept();
+    let ended = BufferEncoder::resumed(encoding, kept)?;
+    if last.len() < encoding.encode_len(kept.count) {
+        return None;
+    }
+    let in_last = ended.finish(last);
+    Some(Lengths {
+        front: in_front,
+        next: in_next,
+        last: in_last,
+    })
+}
+
+/// The position of the fault of a text of which this was kept, if it has one: whatever was kept,
+/// the position lies in a text of that length.
+pub fn fault_within(encoding: &Encoding, kept: Kept, text: &[u8]) -> Option<usize>
+    requires whole { length text.now ≡ kept.len }
+    ensures { IfSome result (λ position. position < length text.now) }
+{
+    let decoder = BufferDecoder::resumed(encoding, kept)?;
+    let mut last = [0; 5];
+    let (_, verdict) = decoder.finish(&mut last);
+    match verdict {
+        Ok(()) => None,
+        Err(error) => Some(error.position),
+    }
+}
+
+/// The encoding again, made of its specification, for which no memory is taken.
+pub fn made_again(encoding: &Encoding) -> Encoding
+    ensures { result ≡ encoding.now }
+{
+    specification_again();
+    encoding.group_len();
+    let given = encoding.specification_bytes();
+    match given.parts().encoding() {
+        Ok(made) => made,
+        Err(_) => unreachable!(),
+    }
+}
+
+/// Whether the end of a text is judged: its padding, or the bits that are left.
+pub fn judges_ends(encoding: &Encoding) -> bool
+    ensures { result ≡ (is_padded encoding.now || encoding.now.checks_trailing_bits) }
+{
+    encoding.is_padded() || encoding.checks_trailing_bits()
+}
