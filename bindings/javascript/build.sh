@@ -48,7 +48,7 @@ copy_crates() {
         done
         if is_same "$name" && [ -d "$folder/out/rlib" ]; then
             rm -rf "${copy:?}/out/rlib"
-            cp -r "$folder/out/rlib" "$copy/out"
+            cp -rl "$folder/out/rlib" "$copy/out"
         fi
     done
     sed "s/^$crate staticlib:/$crate wasm64:/" "$top/crates.txt" >"$room/crates.txt"
