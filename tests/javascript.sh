@@ -89,28 +89,35 @@ else
     skip 'the types of the package: no tsc'
 fi
 
-if command -v npm >/dev/null; then
-    export npm_config_offline=true npm_config_update_notifier=false npm_config_cache=$room/cache
-    holds 'a file of the package' quietly npm pack ./package
-    mkdir program
-    echo '{ "name": "program", "private": true, "type": "module" }' >program/package.json
-    holds 'an installed package' quietly npm install --prefix program ./data-encoding-*.tgz
-    is 'what is installed' "LICENSE
-package.json
-$(cd "$source" && printf '%s\n' src/*)" \
-        "$(cd program/node_modules/data-encoding && printf '%s\n' LICENSE package.json src/*)"
-    given=$(cp -r "$source" lacking && cd lacking && rm -rf out && npm pack 2>&1)
-    is 'nothing is packed without the module' 1 "$(grep -cF "Error: $wanted" <<<"$given")"
-else
-    skip 'the package as one file: no npm'
-    mkdir -p program/node_modules
-    cp -r package program/node_modules/data-encoding
-fi
-
 # block KIND: the block of docs/JAVASCRIPT.md of this kind.
 block() {
     awk -v kind="$1" '/^```/ { inside = $0 == "```" kind; next } inside' "$page"
 }
+
+mkdir program
+echo '{ "name": "program", "private": true, "type": "module" }' >program/package.json
+commands=$(block sh)
+is 'the first command of docs/JAVASCRIPT.md' 'bindings/javascript/build.sh package' \
+    "${commands%%$'\n'*}"
+if command -v npm >/dev/null; then
+    export npm_config_offline=true npm_config_update_notifier=false npm_config_cache=$room/cache
+    ln -s ../package program/package
+    cd program || exit 1
+    holds 'the other commands of docs/JAVASCRIPT.md' quietly bash -ec "${commands#*$'\n'}"
+    cd ..
+    is 'what is installed' "LICENSE
+package.json
+$(cd "$source" && printf '%s\n' src/*)" \
+        "$(cd program/node_modules/data-encoding && printf '%s\n' LICENSE package.json src/*)"
+    mkdir lacking
+    cp -r "$source"/{package.json,src} lacking
+    is 'nothing is packed without the module' 1 \
+        "$(cd lacking && npm pack 2>&1 | grep -cF "Error: $wanted")"
+else
+    skip 'the package as one file: no npm'
+    mkdir program/node_modules
+    cp -r package program/node_modules/data-encoding
+fi
 
 block js >program/hello.js
 is 'the program of docs/JAVASCRIPT.md' "$(block text)" "$(node "${flags[@]}" program/hello.js 2>&1)"

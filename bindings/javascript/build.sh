@@ -6,10 +6,10 @@
 # usage: bindings/javascript/build.sh [--lanes] DIR
 #
 # The calls are those of data_encoding_c. crates.txt lists a crate for one platform, so that this is
-# done in a copy of the crates, in out/, where that crate is one for WebAssembly. There the kernel
-# goes by words in place of lanes, which are taken apart where vectors are not used: with the same
-# contracts, which are proved again. --lanes leaves it as it is, so that no crate below that one is
-# proved twice; large data then takes five times as long.
+# done in a copy of the crates, outside the checkout, where that crate is one for WebAssembly. There
+# the kernel goes by words in place of lanes, which are taken apart where vectors are not used: with
+# the same contracts, which are proved again. --lanes leaves it as it is, so that no crate below that
+# one is proved twice; large data then takes five times as long. The module is kept in out/.
 set -euo pipefail
 
 way=words
@@ -26,8 +26,9 @@ target=$(realpath "$1")
 here=$(realpath "$(dirname "$0")")
 top=$(realpath "$here/../..")
 crate=data_encoding_c
-room=$here/out/$way
-module=$room/crates/$crate/out/$crate.wasm
+module=$here/out/$way.wasm
+room=$(mktemp -d)
+trap 'rm -rf "$room"' EXIT
 
 # is_same CRATE: the copy of this crate is as it is here.
 is_same() {
@@ -43,12 +44,11 @@ copy_crates() {
         copy=$room/crates/$name
         mkdir -p "$copy/out"
         for part in src specs proofs; do
-            rm -rf "${copy:?}/$part"
             [ ! -d "$folder/$part" ] || cp -r "$folder/$part" "$copy"
         done
         if is_same "$name" && [ -d "$folder/out/rlib" ]; then
-            rm -rf "${copy:?}/out/rlib"
-            cp -r "$folder/out/rlib" "$copy/out"
+            cp -rl "$folder/out/rlib" "$copy/out" 2>/dev/null ||
+                cp -r "$folder/out/rlib" "$copy/out"
         fi
     done
     sed "s/^$crate staticlib:/$crate wasm64:/" "$top/crates.txt" >"$room/crates.txt"
@@ -74,16 +74,15 @@ by_words() {
 # Nothing is proved again where no source is newer than the module.
 if [ ! -f "$module" ] || [ -n "$(find "$top/crates.txt" "$top"/crates/*/{src,specs,proofs} \
     -newer "$module" -print -quit 2>/dev/null)" ]; then
-    log=$(mktemp)
-    trap 'rm -f "$log"' EXIT
-    mkdir -p "$room"
     copy_crates
     [ "$way" = lanes ] || by_words
-    if ! (cd "$room/crates/$crate" && rt lib) >"$log" 2>&1; then
-        tail -n 20 "$log" >&2
+    if ! (cd "$room/crates/$crate" && rt lib) >"$room/log" 2>&1; then
+        tail -n 20 "$room/log" >&2
         echo 'the module was not proved' >&2
         exit 1
     fi
+    mkdir -p "$here/out"
+    mv "$room/crates/$crate/out/$crate.wasm" "$module"
 fi
 
 version=$(sed -n 's/^  "version": "\(.*\)",$/\1/p' "$here/package.json")

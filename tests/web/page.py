@@ -435,12 +435,14 @@ class Own(Page):
             self.fill(**fields)
             self.assertEqual(self.find(f"#own-{field}-fault").text, message)
             self.assertTrue(self.find("#sides").get_property("inert"))
+            self.assertFalse(self.find("#lines").is_displayed())
             invalid = self.driver.find_elements(By.CSS_SELECTOR, "#own [aria-invalid=true]")
             self.assertTrue(all(it.get_attribute("aria-describedby") == f"own-{field}-fault"
                                 for it in invalid))
         self.fill(to="01")
         self.assertEqual(self.find("#own").text.count("meaning"), 0)
         self.assertFalse(self.find("#sides").get_property("inert"))
+        self.assertTrue(self.find("#lines").is_displayed())
         self.type("text", "a42")
         self.assertEqual(self.fault(), "")
 

@@ -136,11 +136,18 @@ function take(other) {
   convert();
 }
 
+/** Whether there is an encoding that the page can be used with. */
+function setUsable(isUsable) {
+  find("#sides").inert = !isUsable;
+  find("#facts").hidden = !isUsable;
+  find("#lines").hidden = !isUsable;
+}
+
 /** Takes what the form asks for, or shows where that has a fault. */
 function takeOwn() {
   const { encoding: made, fault } = encodingOf(form.fields);
   form.show(fault);
-  find("#sides").inert = made === undefined;
+  setUsable(made !== undefined);
   history.replaceState(null, "", ofFields(form.fields));
   if (made !== undefined) {
     take(made);
@@ -154,7 +161,7 @@ function choose() {
   if (isOwn) {
     takeOwn();
   } else {
-    find("#sides").inert = false;
+    setUsable(true);
     history.replaceState(null, "", ofName(choice.value));
     take(Encoding.named(choice.value));
   }
@@ -167,7 +174,7 @@ function readAddress() {
   form.fields = said.fields ?? FIRST;
   find("#own").hidden = said.fields === undefined;
   if (said.fields === undefined) {
-    find("#sides").inert = false;
+    setUsable(true);
     take(Encoding.named(said.name));
   } else {
     takeOwn();

@@ -57,10 +57,10 @@ export function textOf(value) {
 }
 
 const encoder = new TextEncoder();
-const decoder = new TextDecoder("latin1");
+const decoder = new TextDecoder();
 
 /** Up to this length a loop over characters takes less time than a call of the platform. */
-const SHORT = 24;
+const SHORT = 16;
 
 /** A byte of no symbol, which a character that is not ASCII becomes. */
 const NO_SYMBOL = 128;
@@ -89,7 +89,7 @@ export function writeText(text, output) {
 
 /** The string of ASCII characters. */
 export function stringOf(bytes) {
-  return bytes.length <= SHORT ? String.fromCharCode(...bytes) : decoder.decode(bytes);
+  return bytes.length <= SHORT ? String.fromCharCode.apply(null, bytes) : decoder.decode(bytes);
 }
 
 /** The bytes of a string; a character that is not ASCII has several, and none is ASCII. */
