@@ -43,10 +43,11 @@ program() {
     begin "$name" run_made "$made" "$@"
 }
 
+# By the calls for this processor, and by those for each.
 run_made() {
     local made=$1
     shift
-    "$@" -o "$made" && "$made"
+    "$@" -o "$made" && "$made" && DE_CPU=baseline "$made"
 }
 
 program 'calls in C' "$cc" "${strict[@]}" tests/c/calls.c "$lib/libdata_encoding.a"
@@ -58,6 +59,16 @@ program 'texts in pieces' "$cc" "${strict[@]}" tests/c/pieces.c "$lib/libdata_en
 program 'data in pieces' "$cc" "${strict[@]}" tests/c/blocks.c "$lib/libdata_encoding.a"
 program 'what is written to a bool' "$cc" "${strict[@]}" tests/c/bools.c "$glue"/*.c \
     "$lib/libdata_encoding.a" -Wl,--wrap=de_numbered_is_canonical,--wrap=de_held_is_canonical
+
+# Which calls are taken: those for x86-64-v3 are replaced here, by some that say so.
+"$cc" "${strict[@]}" -DDE_WIDE tests/c/processors.c "$glue"/*.c "$lib/libdata_encoding.a" \
+    -o "$room/processors"
+missing=$(for feature in abm avx avx2 bmi1 bmi2 f16c fma movbe xsave; do
+    grep -m 1 '^flags' /proc/cpuinfo | grep -qw "$feature" || echo "$feature"
+done)
+holds 'the calls for this processor' "$room/processors" "$([ -n "$missing" ] || echo wide)"
+holds 'the calls for each processor' env DE_CPU=baseline "$room/processors"
+
 program 'two threads' "$cc" "${strict[@]}" tests/c/threads.c "$lib/libdata_encoding.a" -pthread
 begin 'the program of speed' "$cc" -O2 "${strict[@]}" tests/c/speed.c "$lib/libdata_encoding.a" \
     -o "$room/speed"

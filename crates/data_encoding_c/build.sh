@@ -5,8 +5,9 @@
 #
 # usage: crates/data_encoding_c/build.sh [--cpu NAME] DIR
 #
-# NAME is a processor, as x86-64-v3, without which the library does not run then. CC and CFLAGS are
-# those of the half in C (cc, -O2).
+# The library has the calls that read and write bytes twice, for x86-64-v2 and for x86-64-v3, and
+# takes those that the processor runs. With --cpu it has them once, for the processors NAME, without
+# which it does not run then. CC and CFLAGS are those of the half in C (cc, -O2).
 set -euo pipefail
 
 cpu=()
@@ -26,11 +27,36 @@ cc=${CC:-cc}
 log=$(mktemp)
 room=$(mktemp -d)
 trap 'rm -rf "$room" "$log"' EXIT
-if ! rt lib ${cpu[@]+"${cpu[@]}"} >"$log" 2>&1; then
+
+# build OPTION..: proves the library, and leaves what is proved in out/.
+build() {
+    rt lib "$@" >"$log" 2>&1 && return
     tail -n 20 "$log" >&2
     echo 'the library was not proved' >&2
     exit 1
+}
+
+# join_wide OBJECT: what was built for x86-64-v3 in one object, of which no name is seen but those of
+# glue/bytes.h, as de_wide_NAME.
+join_wide() {
+    local name renamed=()
+    for name in $(sed -n 's/^de_status CALL(\([a-z_]*\)).*/\1/p' glue/bytes.h); do
+        renamed+=(--redefine-sym "de_$name=de_wide_$name")
+    done
+    mkdir "$room/wide"
+    (cd "$room/wide" && ar x "$OLDPWD/out/libdata_encoding_c.a" && ld -r -o ../joined.o ./*.o)
+    objcopy "${renamed[@]}" "$room/joined.o" "$room/renamed.o"
+    objcopy -w --keep-global-symbol='de_wide_*' "$room/renamed.o" "$1"
+    rm -r "$room/wide" "$room/joined.o" "$room/renamed.o"
+}
+
+wide=()
+if [ ${#cpu[@]} = 0 ]; then
+    build --cpu=x86-64-v3
+    join_wide "$room/wide.o"
+    wide=(-DDE_WIDE)
 fi
+build ${cpu[@]+"${cpu[@]}"}
 
 header=include/data_encoding.h
 version=$(sed -n 's/^#define DE_VERSION "\(.*\)"$/\1/p' "$header")
@@ -38,7 +64,7 @@ shared=libdata_encoding.so.$(sed -n 's/^#define DE_INTERFACE //p' "$header")
 
 for source in glue/*.c; do
     "$cc" -std=c99 -Wall -Wextra -Wpedantic -Werror -O2 -fPIC -fvisibility=hidden ${CFLAGS:-} \
-        -Iinclude -c "$source" -o "$room/$(basename "$source" .c).o"
+        ${wide[@]+"${wide[@]}"} -Iinclude -c "$source" -o "$room/$(basename "$source" .c).o"
 done
 (cd "$room" && ar x "$OLDPWD/out/libdata_encoding_c.a")
 rm -f "$target/libdata_encoding.a"

@@ -4,6 +4,10 @@
 #define DE_NONNULL(...)
 #include "data_encoding.h"
 
+#ifdef DE_WIDE
+#include <cpuid.h>
+#include <stdlib.h>
+#endif
 #include <string.h>
 
 typedef unsigned char byte;
@@ -18,11 +22,7 @@ struct form {
 };
 
 de_status de_numbered_encode_len(de_number number, size_t len, size_t *text_len);
-de_status de_numbered_encode(de_number number, const byte *input, size_t input_len, byte *output,
-                             size_t output_len, size_t *written);
 de_status de_numbered_decode_len(de_number number, size_t len, size_t *most);
-de_status de_numbered_decode(de_number number, const byte *input, size_t input_len, byte *output,
-                             size_t output_len, de_decoded *decoded);
 de_status de_numbered_is_canonical(de_number number, bool *canonical);
 de_status de_numbered_name(de_number number, byte *output, size_t output_len, size_t *written);
 de_status de_named_number(const byte *name, size_t name_len, de_number *number);
@@ -41,24 +41,15 @@ struct made de_held_new(const struct form *form, const byte *symbols, size_t sym
 struct made de_held_read(const byte *bytes, size_t len);
 de_status de_held_layout(const byte *held, byte *output, size_t output_len, size_t *written);
 de_status de_held_encode_len(const byte *held, size_t len, size_t *text_len);
-de_status de_held_encode(const byte *held, const byte *input, size_t input_len, byte *output,
-                         size_t output_len, size_t *written);
 de_status de_held_decode_len(const byte *held, size_t len, size_t *most);
-de_status de_held_decode(const byte *held, const byte *input, size_t input_len, byte *output,
-                         size_t output_len, de_decoded *decoded);
 de_status de_held_is_canonical(const byte *held, bool *canonical);
 void de_plain_decoder_new(de_decoder *decoder);
 de_status de_numbered_decoder_most(de_number number, const de_decoder *decoder, size_t len,
                                    size_t *most);
-de_status de_numbered_decoder_read(de_number number, de_decoder *decoder, const byte *input,
-                                   size_t input_len, byte *output, size_t output_len,
-                                   size_t *written);
 de_status de_numbered_decoder_finish(de_number number, const de_decoder *decoder, byte *output,
                                      size_t output_len, de_decoded *decoded);
 de_status de_held_decoder_most(const byte *held, const de_decoder *decoder, size_t len,
                                size_t *most);
-de_status de_held_decoder_read(const byte *held, de_decoder *decoder, const byte *input,
-                               size_t input_len, byte *output, size_t output_len, size_t *written);
 de_status de_held_decoder_finish(const byte *held, const de_decoder *decoder, byte *output,
                                  size_t output_len, de_decoded *decoded);
 
@@ -83,17 +74,50 @@ de_status de_held_specification(const byte *held, struct form *form, struct text
 void de_plain_encoder_new(de_encoder *encoder);
 de_status de_numbered_encoder_most(de_number number, const de_encoder *encoder, size_t len,
                                    size_t *most);
-de_status de_numbered_encoder_read(de_number number, de_encoder *encoder, const byte *input,
-                                   size_t input_len, byte *output, size_t output_len,
-                                   size_t *written);
 de_status de_numbered_encoder_finish(de_number number, const de_encoder *encoder, byte *output,
                                      size_t output_len, size_t *written);
 de_status de_held_encoder_most(const byte *held, const de_encoder *encoder, size_t len,
                                size_t *most);
-de_status de_held_encoder_read(const byte *held, de_encoder *encoder, const byte *input,
-                               size_t input_len, byte *output, size_t output_len, size_t *written);
 de_status de_held_encoder_finish(const byte *held, const de_encoder *encoder, byte *output,
                                  size_t output_len, size_t *written);
+
+#define CALL(name) de_##name
+#include "bytes.h"
+#undef CALL
+
+#ifdef DE_WIDE
+/* The same calls as they were built for x86-64-v3. */
+#define CALL(name) de_wide_##name
+#include "bytes.h"
+#undef CALL
+
+/* Whether they run on this processor, and DE_CPU does not ask for the others. */
+static bool is_wide;
+
+/* From how many bytes on they take less time. */
+enum { WIDE_FROM = 64 };
+
+#define BY_PROCESSOR(name, len) (is_wide && (len) >= WIDE_FROM ? de_wide_##name : de_##name)
+
+/* Whether the processor has what x86-64-v3 names, and the system saves the wide registers. */
+static bool has_wide(void) {
+    unsigned a, b, c = 0, d, more = 0;
+    __builtin_cpu_init();
+    if (!__get_cpuid(1, &a, &b, &c, &d) || !__get_cpuid(0x80000001, &a, &b, &more, &d)) {
+        return false;
+    }
+    return (c & bit_MOVBE) != 0 && (c & bit_F16C) != 0 && (more & bit_LZCNT) != 0 &&
+           __builtin_cpu_supports("avx2") && __builtin_cpu_supports("fma") &&
+           __builtin_cpu_supports("bmi") && __builtin_cpu_supports("bmi2");
+}
+
+__attribute__((constructor)) static void choose(void) {
+    const char *asked = getenv("DE_CPU");
+    is_wide = (asked == NULL || strcmp(asked, "baseline") != 0) && has_wide();
+}
+#else
+#define BY_PROCESSOR(name, len) de_##name
+#endif
 
 /* What marks a de_encoding that was made: eight bytes of no pattern. */
 static const byte made_mark[8] = {0xde, 0x3b, 0x92, 0x67, 0xf4, 0x0d, 0xa8, 0x51};
@@ -176,7 +200,7 @@ de_status de_encode(de_number number, const void *input, size_t input_len, char 
     if (from == NULL || to == NULL || written == NULL) {
         return DE_NULL_POINTER;
     }
-    return de_numbered_encode(number, from, input_len, to, output_len, written);
+    return BY_PROCESSOR(numbered_encode, input_len)(number, from, input_len, to, output_len, written);
 }
 
 de_status de_decode_len(de_number number, size_t len, size_t *most) {
@@ -193,7 +217,7 @@ de_status de_decode(de_number number, const char *input, size_t input_len, void 
     if (from == NULL || to == NULL || decoded == NULL) {
         return DE_NULL_POINTER;
     }
-    return de_numbered_decode(number, from, input_len, to, output_len, decoded);
+    return BY_PROCESSOR(numbered_decode, input_len)(number, from, input_len, to, output_len, decoded);
 }
 
 /* What a caller's bool has before the call may be no bool: the answer is taken in one that is. */
@@ -310,7 +334,7 @@ de_status de_encoding_encode(const de_encoding *encoding, const void *input, siz
     if (!is_held(encoding)) {
         return DE_NO_ENCODING;
     }
-    return de_held_encode(encoding->tables, from, input_len, to, output_len, written);
+    return BY_PROCESSOR(held_encode, input_len)(encoding->tables, from, input_len, to, output_len, written);
 }
 
 de_status de_encoding_decode_len(const de_encoding *encoding, size_t len, size_t *most) {
@@ -333,7 +357,7 @@ de_status de_encoding_decode(const de_encoding *encoding, const char *input, siz
     if (!is_held(encoding)) {
         return DE_NO_ENCODING;
     }
-    return de_held_decode(encoding->tables, from, input_len, to, output_len, decoded);
+    return BY_PROCESSOR(held_decode, input_len)(encoding->tables, from, input_len, to, output_len, decoded);
 }
 
 de_status de_encoding_is_canonical(const de_encoding *encoding, bool *canonical) {
@@ -374,7 +398,7 @@ de_status de_decoder_read(de_number number, de_decoder *decoder, const char *inp
     if (decoder == NULL || from == NULL || to == NULL || written == NULL) {
         return DE_NULL_POINTER;
     }
-    return de_numbered_decoder_read(number, decoder, from, input_len, to, output_len, written);
+    return BY_PROCESSOR(numbered_decoder_read, input_len)(number, decoder, from, input_len, to, output_len, written);
 }
 
 de_status de_decoder_finish(de_number number, const de_decoder *decoder, void *output,
@@ -408,7 +432,7 @@ de_status de_encoding_decoder_read(const de_encoding *encoding, de_decoder *deco
     if (!is_held(encoding)) {
         return DE_NO_ENCODING;
     }
-    return de_held_decoder_read(encoding->tables, decoder, from, input_len, to, output_len,
+    return BY_PROCESSOR(held_decoder_read, input_len)(encoding->tables, decoder, from, input_len, to, output_len,
                                 written);
 }
 
@@ -533,7 +557,7 @@ de_status de_encoder_read(de_number number, de_encoder *encoder, const void *inp
     if (encoder == NULL || from == NULL || to == NULL || written == NULL) {
         return DE_NULL_POINTER;
     }
-    return de_numbered_encoder_read(number, encoder, from, input_len, to, output_len, written);
+    return BY_PROCESSOR(numbered_encoder_read, input_len)(number, encoder, from, input_len, to, output_len, written);
 }
 
 de_status de_encoder_finish(de_number number, const de_encoder *encoder, char *output,
@@ -567,7 +591,7 @@ de_status de_encoding_encoder_read(const de_encoding *encoding, de_encoder *enco
     if (!is_held(encoding)) {
         return DE_NO_ENCODING;
     }
-    return de_held_encoder_read(encoding->tables, encoder, from, input_len, to, output_len,
+    return BY_PROCESSOR(held_encoder_read, input_len)(encoding->tables, encoder, from, input_len, to, output_len,
                                 written);
 }
 
