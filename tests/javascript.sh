@@ -42,6 +42,9 @@ quietly() {
     }
 }
 
+is 'the version of the package' "$(sed -n 's/^## //p' "$OLDPWD/CHANGELOG.md" | head -n 1)" \
+    "$(sed -n 's/^  "version": "\(.*\)",$/\1/p' package/package.json)"
+
 # The lines of the kernel that go by words in a package that is built without --lanes.
 kernel=$OLDPWD/crates/data_encoding_kernel/src
 is 'what goes by words' '2 1' "$(grep -cF 'encode_turns::<EightGroups, G>' "$kernel/encode.rt") \

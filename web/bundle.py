@@ -10,6 +10,7 @@ or names what it passes on of another module.
 
 import base64
 import hashlib
+import json
 import pathlib
 import re
 import sys
@@ -96,7 +97,7 @@ def page(web: pathlib.Path, package: pathlib.Path) -> str:
     code = script(web, package)
     if "</script" in code or "<!--" in code:
         sys.exit("the script has what ends one")
-    version = re.search(r'VERSION = "([^"]*)"', (package / "src/module.js").read_text())
+    version = json.loads((package / "package.json").read_text(encoding="utf-8"))["version"]
     policy = "; ".join([
         "default-src 'none'",
         f"script-src {source_of(code)} 'wasm-unsafe-eval'",
@@ -105,7 +106,7 @@ def page(web: pathlib.Path, package: pathlib.Path) -> str:
         "form-action 'none'",
     ])
     text = (web / "index.html").read_text(encoding="utf-8")
-    parts = {"POLICY": policy, "STYLE": style, "SCRIPT": code, "VERSION": version[1]}
+    parts = {"POLICY": policy, "STYLE": style, "SCRIPT": code, "VERSION": version}
     return re.sub(r"@([A-Z]+)@", lambda match: parts[match[1]], text)
 
 

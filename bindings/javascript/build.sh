@@ -89,10 +89,12 @@ version=$(sed -n 's/^  "version": "\(.*\)",$/\1/p' "$here/package.json")
 mkdir -p "$target/src"
 cp "$here/package.json" "$top/LICENSE" "$target"
 cp "$here"/src/* "$target/src"
+
+# section: what the module says its version by: a 0, a length, a name with its length, and a text.
+section() {
+    printf "\\x00\\x$(printf %02x $((8 + ${#version})))\\x07version%s" "$version"
+}
 {
     echo '/** The WebAssembly module, in base64. */'
-    echo "export const MODULE = \"$(base64 -w 0 "$module")\";"
-    echo
-    echo '/** The version of the package and of the module. */'
-    echo "export const VERSION = \"$version\";"
+    echo "export const MODULE = \"$({ cat "$module" && section; } | base64 -w 0)\";"
 } >"$target/src/module.js"

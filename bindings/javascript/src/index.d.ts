@@ -196,7 +196,7 @@ export class DecoderStream extends TransformStream<Text, Uint8Array> {
   constructor(encoding: Encoding);
 }
 
-/** The version of the package and of the module in it. */
+/** The version of the module, and of the package. */
 export const version: string;
 
 export const HEXLOWER: Encoding;

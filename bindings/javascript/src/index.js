@@ -9,4 +9,4 @@ export { DecodeError, SpecificationError } from "./errors.js";
 export { Decoder, Encoder } from "./pieces.js";
 export * from "./predefined.js";
 export { DecoderStream, EncoderStream } from "./streams.js";
-export { VERSION as version } from "./module.js";
+export { version } from "./machine.js";

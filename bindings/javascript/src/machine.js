@@ -37,17 +37,24 @@ function moduleBytes() {
   return bytes;
 }
 
-function instantiated() {
+function compiled() {
   if (typeof WebAssembly === "undefined" || !WebAssembly.validate(PROBE)) {
     throw new Error(LACKING);
   }
-  return new WebAssembly.Instance(new WebAssembly.Module(moduleBytes()));
+  return new WebAssembly.Module(moduleBytes());
 }
 
 const aligned = (size) => Math.ceil(size / ALIGNMENT) * ALIGNMENT;
 
+const module = compiled();
+
+/** The version that the module says it has. */
+export const version = new TextDecoder().decode(
+  WebAssembly.Module.customSections(module, "version")[0],
+);
+
 /** The calls of the module. */
-export const calls = instantiated().exports;
+export const calls = new WebAssembly.Instance(module).exports;
 
 const { memory } = calls;
 const desk = aligned(Number(calls.__heap_base.value));

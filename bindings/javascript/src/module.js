@@ -6,6 +6,3 @@ throw new Error(
 
 /** The WebAssembly module, in base64. */
 export const MODULE = "";
-
-/** The version of the package and of the module. */
-export const VERSION = "";
