@@ -280,14 +280,7 @@ fn is_encoded(data: (&[u8], &[u8]), wanted: (&[u8], &[u8], &[u8])) -> bool
     let mut next = [0; 32];
     let mut last = [0; 8];
     let (first, second) = data;
-    let given = encode_kept(
-        &base64(),
-        first,
-        second,
-        &mut front,
-        &mut next,
-        &mut last,
-    );
+    let given = encode_kept(&base64(), first, second, &mut front, &mut next, &mut last);
     let Some(lengths) = given else {
         return false;
     };
