@@ -42,6 +42,7 @@ if [ -z "$python" ]; then
 fi
 
 find_library "$@"
+version=$(sed -n 's/^## //p' CHANGELOG.md | head -n 1)
 mkdir "$room/bindings"
 cp -r bindings/python "$room/bindings"
 rm -rf "$room/bindings/python"/{build,src/*.egg-info}
@@ -62,7 +63,6 @@ done
 
 offline=(--no-build-isolation --no-index --no-deps)
 holds 'a wheel' quietly "$python" -m pip wheel "${offline[@]}" --wheel-dir wheels ./bindings/python
-version=$(sed -n 's/^## //p' CHANGELOG.md | head -n 1)
 is 'the name of the wheel' 1 "$(ls wheels | grep -c "^data_encoding-$version-cp311-abi3-")"
 holds 'an installed wheel' quietly "$python" -m pip install "${offline[@]}" --no-compile \
     --target site wheels/*.whl
