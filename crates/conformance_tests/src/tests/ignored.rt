@@ -137,3 +137,36 @@ pub(super) fn compare_faults(comparison: &mut Comparison<'_>) -> Result<(), Diff
     }
     Ok(())
 }
+
+// Compares the text with an ignored byte before it, behind it, and between any two of its bytes.
+fn compare_spread(comparison: &mut Comparison<'_>, text: &[u8]) -> Result<(), Differs>
+    requires short { length text.now ≤ 16 }
+{
+    for place in 0..=text.len() {
+        let (front, rest) = text.split_at(place);
+        let mut spread = [b'-'; 17];
+        spread[..place].copy_from_slice(front);
+        spread[place + 1..text.len() + 1].copy_from_slice(rest);
+        comparison.compare(&spread[..text.len() + 1])?;
+    }
+    Ok(())
+}
+
+// Two groups that have any two lengths of padding, and an ignored byte at any place.
+pub(super) fn compare_pairs(comparison: &mut Comparison<'_>) -> Result<(), Differs> {
+    let size = comparison.judge.group_len();
+    if size > 8 {
+        return Err(Differs {});
+    }
+    for symbol in telling_symbols(comparison.judge.symbols) {
+        for first in 0..=size {
+            for second in 0..=size {
+                let mut text = [symbol; 16];
+                pad(&mut text[..size], first);
+                pad(&mut text[size..2 * size], second);
+                compare_spread(comparison, &text[..2 * size])?;
+            }
+        }
+    }
+    Ok(())
+}

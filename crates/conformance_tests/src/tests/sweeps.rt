@@ -3,7 +3,7 @@
 use super::appending::compare_fragments;
 use super::comparison::{Comparison, Differs, Tally};
 use super::each_length::compare_each_length;
-use super::ignored::{compare_faults, compare_ignored};
+use super::ignored::{compare_faults, compare_ignored, compare_pairs};
 use super::judge::Judge;
 use super::lanes_decoded::{compare_few_groups, compare_many_groups};
 use super::lanes_encoded::{compare_counted, compare_equal_bytes};
@@ -182,6 +182,8 @@ octal|most|single|=|-|0||||";
 enum Sweep {
     Bytes,
     Symbols,
+    SymbolsIgnoring,
+    Pairs,
     Ignored,
     Faults,
     Short,
@@ -202,7 +204,9 @@ enum Sweep {
 fn specification_of(alloc: Global, line: &str, sweep: Sweep) -> Result<Specification, Fail> {
     let mut specification = row_of(alloc, line)?.specification;
     match sweep {
-        Sweep::Ignored | Sweep::Faults => specification.ignore.push('-')?,
+        Sweep::SymbolsIgnoring | Sweep::Pairs | Sweep::Ignored | Sweep::Faults => {
+            specification.ignore.push('-')?
+        }
         Sweep::CountedUnwrapped | Sweep::EqualBytes => specification.wrap.width = 0,
         Sweep::Lines(groups, separator) => {
             specification.wrap.width = Judge::of(&specification).group_len().wrapping_mul(groups);
@@ -216,7 +220,8 @@ fn specification_of(alloc: Global, line: &str, sweep: Sweep) -> Result<Specifica
 fn compare_all(comparison: &mut Comparison<'_>, sweep: Sweep) -> Result<(), Differs> {
     match sweep {
         Sweep::Bytes => compare_bytes(comparison),
-        Sweep::Symbols => compare_symbols(comparison),
+        Sweep::Symbols | Sweep::SymbolsIgnoring => compare_symbols(comparison),
+        Sweep::Pairs => compare_pairs(comparison),
         Sweep::Ignored => compare_ignored(comparison),
         Sweep::Faults => compare_faults(comparison),
         Sweep::Short => compare_short(comparison),
@@ -277,6 +282,22 @@ fn short_texts_are_judged_alike(rt: HostRuntime) -> Result<(), Fail> {
 fn padded_texts_are_judged_alike(rt: HostRuntime) -> Result<(), Fail> {
     let counts = counts_of(rt.alloc(), Sweep::Symbols)?;
     assert_eq!(rt; counts, (351_900, 6_176_538, 936_930));
+    Ok(())
+}
+
+// Where a byte is ignored, texts that have none of it are read in another way.
+#[test]
+fn texts_are_judged_alike_without_the_ignored_byte(rt: HostRuntime) -> Result<(), Fail> {
+    let (texts, _, _) = counts_of(rt.alloc(), Sweep::SymbolsIgnoring)?;
+    assert_eq!(rt; texts, 351_900);
+    Ok(())
+}
+
+#[test]
+fn pairs_of_groups_are_judged_alike_ignoring_a_byte(rt: HostRuntime) -> Result<(), Fail> {
+    let tally = sweep_rows(rt.alloc(), &[PADDED], Sweep::Pairs, Tally::zero())?;
+    let counts = (tally.texts, tally.decodings, tally.resumed);
+    assert_eq!(rt; counts, (71_496, 1_386_720, 1_159_344));
     Ok(())
 }
 

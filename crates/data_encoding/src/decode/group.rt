@@ -16,7 +16,6 @@ use data_encoding_meaning::error::{DecodeKind, GroupFault};
 impl EncodingRef<'_> {
     /// Decodes a group to the front of the output, and returns how many symbols it has. It is the
     /// one place where a fault of a group is found, also that a final group ended the text before.
-    // Each caller passes `ended` as a constant.
     #[inline(always)]
     pub(crate) fn decode_group<G: GroupSize>(
         &self,

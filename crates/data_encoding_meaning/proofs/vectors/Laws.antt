@@ -9,7 +9,9 @@ use Rattle.data_encoding_meaning.specs.declared.error.DecodeKind.TheVariants.{Sy
 use Rattle.data_encoding_meaning.specs.text.Base.{Base, ignores_some, is_invalid, meaning}
 use Rattle.data_encoding_meaning.specs.text.Grammar.{Means}
 use Rattle.data_encoding_meaning.specs.text.Text.{text_of}
+use Rattle.data_encoding_meaning.specs.text.Lengths.{most_bytes}
 use Rattle.data_encoding_meaning.specs.decoding.Fault.{fault_of}
+use Rattle.data_encoding_meaning.specs.decoding.Pieces.{IsNoLonger}
 use Rattle.data_encoding_meaning.specs.specification.Fields.{Fields, IsSpecified, base_of}
 use Rattle.data_encoding_meaning.specs.specification.Predefined.{base64_fields, base64_mime_fields, base64_nopad_fields, base64url_fields, hexlower_fields, hexlower_permissive_fields, translated_fields}
 use Rattle.data_encoding_meaning.specs.laws.Canonical.{AreTwoTexts, NotCanonical}
@@ -159,3 +161,7 @@ rules_told law = (
   (law.hexlower (built hexlower_fields) refl).ignores,
   (law.base64_mime (built base64_mime_fields) refl).padding,
 )
+
+-- a text of seven bytes means no more
+no_longer : IsNoLonger → (base : Base) → IsSpecified base → most_bytes base 7 ≤ 7
+no_longer law base is = law base is 7
