@@ -1,3 +1,4 @@
+pub mod Calls
 pub mod Encoder
 pub mod Meanings
 pub mod Encoding

@@ -8,6 +8,7 @@ pub(crate) mod text;
 
 ghost use Rattle.std.specs.Prelude.{◌≡◌, ℕ, List, true, false, ◌+◌, ◌-◌, ◌*◌, ◌/◌, ◌<◌, ◌≤◌, ◌⊎◌, length, take, drop, None, Some, Ok, Err, IfOk, IfErr, IfSome, IsOk, IsOkAnd};
 ghost use Rattle.data_encoding_meaning.specs.decoding.Decoding.{HasNoLastRun, HasRoom, IsLastRun, IsStop};
+ghost use Rattle.data_encoding.specs.Calls.{Decodes};
 ghost use Rattle.data_encoding.specs.Steps.{fault_of_stop};
 ghost use Rattle.data_encoding_meaning.specs.decoding.Fault.{IsRefusal, fault_of, sound_bytes};
 ghost use Rattle.data_encoding_meaning.specs.text.Base.{ignores_some};
@@ -68,21 +69,7 @@ impl Encoding {
     pub fn decode_mut(&self, input: &[u8], output: &mut [u8]) -> Result<usize, DecodePartial>
         requires limit { length input.now ≤ DECODE_LIMIT }
         requires exact { decoded_len self.now (length input.now) ≡ Ok (length output.old) }
-        ensures decoded { IfOk result (λ n. (n ≤ length output.new)
-            × Means self.now input.now (take n output.new)) }
-        ensures sound { IfOk result (λ n. (fault_of self.now input.now ≡ None)
-            × (sound_bytes self.now input.now ≡ take n output.new)) }
-        ensures accepted { (bytes : List ℕ) → Means self.now input.now bytes → IsOk result }
-        ensures fault { IfErr result (λ partial. partial_of self.now input.now ≡ Some partial) }
-        ensures partial { IfErr result (λ partial. Means self.now (take partial.read input.now)
-            (take partial.written output.new)) }
-        ensures bounds { IfErr result (λ partial. (partial.read ≤ partial.error.position)
-            × (partial.error.position < length input.now)) }
-        ensures most { IfErr result (λ partial. IsOkAnd (decoded_len self.now partial.read)
-            (λ most. partial.written ≤ most)) }
-        ensures full { IfOk result (λ n. self.now.padding ≡ None → ignores_some self.now ≡ false
-            → n ≡ length output.new) }
-        ensures len { length output.new ≡ length output.old }
+        ensures { Decodes self.now input.now output.old output.new result }
     {
         self.by_ref().decode_mut(input, output)
     }
@@ -133,21 +120,7 @@ impl EncodingRef<'_> {
     pub fn decode_mut(&self, input: &[u8], output: &mut [u8]) -> Result<usize, DecodePartial>
         requires limit { length input.now ≤ DECODE_LIMIT }
         requires exact { decoded_len self.now (length input.now) ≡ Ok (length output.old) }
-        ensures decoded { IfOk result (λ n. (n ≤ length output.new)
-            × Means self.now input.now (take n output.new)) }
-        ensures sound { IfOk result (λ n. (fault_of self.now input.now ≡ None)
-            × (sound_bytes self.now input.now ≡ take n output.new)) }
-        ensures accepted { (bytes : List ℕ) → Means self.now input.now bytes → IsOk result }
-        ensures fault { IfErr result (λ partial. partial_of self.now input.now ≡ Some partial) }
-        ensures partial { IfErr result (λ partial. Means self.now (take partial.read input.now)
-            (take partial.written output.new)) }
-        ensures bounds { IfErr result (λ partial. (partial.read ≤ partial.error.position)
-            × (partial.error.position < length input.now)) }
-        ensures most { IfErr result (λ partial. IsOkAnd (decoded_len self.now partial.read)
-            (λ most. partial.written ≤ most)) }
-        ensures full { IfOk result (λ n. self.now.padding ≡ None → ignores_some self.now ≡ false
-            → n ≡ length output.new) }
-        ensures len { length output.new ≡ length output.old }
+        ensures { Decodes self.now input.now output.old output.new result }
     {
         let mut stop = Stop::new(0, 0, 0, DecodeKind::Length);
         if self.decode_by_order(input, output, &mut stop) {

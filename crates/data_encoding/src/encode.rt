@@ -7,6 +7,7 @@ pub(crate) mod lines;
 
 ghost use Rattle.std.specs.Prelude.{◌≡◌, All, ℕ, ◌<◌, ◌+◌, ◌-◌, ◌*◌, ◌/◌, ◌≤◌, List, ◌++◌, length, drop, flat_map, IfOk, IsOk, IsSome};
 ghost use Rattle.std.specs.String.{string_bytes};
+ghost use Rattle.data_encoding.specs.Calls.{IsEncodeLen};
 ghost use Rattle.data_encoding_meaning.specs.text.Base.{IsWidth, group_bytes, group_symbols};
 ghost use Rattle.data_encoding_meaning.specs.text.Bits.{runs};
 ghost use Rattle.data_encoding_meaning.specs.specification.Fields.{IsSpecified};
@@ -32,11 +33,7 @@ impl Encoding {
     /// the separators of its lines: at most 263 for each byte.
     pub fn encode_len(&self, len: usize) -> usize
         requires limit { len ≤ ENCODE_LIMIT }
-        ensures length { (bytes : List ℕ) → length bytes ≡ len
-            → length (text_of self.now bytes) ≡ result }
-        ensures most { result ≤ 263 * len }
-        ensures empty { len ≡ 0 → result ≡ 0 }
-        ensures base { IsSpecified self.now }
+        ensures { IsEncodeLen self.now len result }
     {
         self.by_ref().encode_len(len)
     }
@@ -96,11 +93,7 @@ impl EncodingRef<'_> {
     #[inline(always)]
     pub fn encode_len(&self, len: usize) -> usize
         requires limit { len ≤ ENCODE_LIMIT }
-        ensures length { (bytes : List ℕ) → length bytes ≡ len
-            → length (text_of self.now bytes) ≡ result }
-        ensures most { result ≤ 263 * len }
-        ensures empty { len ≡ 0 → result ≡ 0 }
-        ensures base { IsSpecified self.now }
+        ensures { IsEncodeLen self.now len result }
     {
         let count = self.padded_len(len);
         if self.fields.column == 0 {

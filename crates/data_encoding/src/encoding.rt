@@ -1,6 +1,7 @@
 //! Encodings, and the words that describe them.
 
 ghost use Rattle.std.specs.Prelude.{◌≡◌, ◌<◌, ◌≤◌, ◌-◌, ◌==◌, ◌||◌, MatchResult};
+ghost use Rattle.data_encoding.specs.Calls.{IsBitWidth, IsGroupBytes};
 ghost use Rattle.data_encoding_meaning.specs.text.Base.{IsWidth, group_bytes, group_symbols, ignores_some, is_padded, meaning};
 ghost use Rattle.data_encoding_meaning.specs.specification.Fields.{IsSpecified};
 ghost use Rattle.data_encoding_meaning.specs.text.Lengths.{most_bytes};
@@ -77,9 +78,7 @@ impl EncodingRef<'_> {
     /// The number of bits of a symbol, from 1 to 6.
     #[inline(always)]
     pub fn bit_width(&self) -> usize
-        ensures value { result ≡ self.now.width }
-        ensures width { IsWidth result }
-        ensures base { IsSpecified self.now }
+        ensures { IsBitWidth self.now result }
     {
         self.fields.width as usize
     }
@@ -87,10 +86,7 @@ impl EncodingRef<'_> {
     /// The number of bytes of a whole group: 1, 3 or 5.
     #[inline]
     pub fn group_bytes(&self) -> usize
-        ensures value { result ≡ group_bytes self.now.width }
-        ensures some { 0 < result }
-        ensures few { result ≤ 5 }
-        ensures base { IsSpecified self.now }
+        ensures { IsGroupBytes self.now result }
     {
         group_bytes(self.fields.width) as usize
     }
@@ -119,9 +115,7 @@ impl Encoding {
 
     /// The number of bits of a symbol, from 1 to 6.
     pub fn bit_width(&self) -> usize
-        ensures value { result ≡ self.now.width }
-        ensures width { IsWidth result }
-        ensures base { IsSpecified self.now }
+        ensures { IsBitWidth self.now result }
     {
         self.by_ref().bit_width()
     }
@@ -138,10 +132,7 @@ impl Encoding {
 
     /// The number of bytes of a whole group: 1, 3 or 5.
     pub fn group_bytes(&self) -> usize
-        ensures value { result ≡ group_bytes self.now.width }
-        ensures some { 0 < result }
-        ensures few { result ≤ 5 }
-        ensures base { IsSpecified self.now }
+        ensures { IsGroupBytes self.now result }
     {
         self.by_ref().group_bytes()
     }

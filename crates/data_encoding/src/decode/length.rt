@@ -1,6 +1,7 @@
 //! The lengths of texts, and how many bytes they may mean.
 
 ghost use Rattle.std.specs.Prelude.{◌≡◌, ℕ, ◌/◌, List, false, ◌<◌, ◌≤◌, length, IfErr, IsOkAnd};
+ghost use Rattle.data_encoding.specs.Calls.{IsDecodeLen};
 ghost use Rattle.data_encoding_meaning.specs.text.Base.{IsWidth, group_symbols};
 ghost use Rattle.data_encoding_meaning.specs.specification.Fields.{IsSpecified};
 ghost use Rattle.data_encoding_meaning.specs.text.Grammar.{Means};
@@ -18,11 +19,7 @@ impl Encoding {
     /// groups.
     pub fn decode_len(&self, len: usize) -> Result<usize, DecodeError>
         requires limit { len ≤ DECODE_LIMIT }
-        ensures value { result ≡ decoded_len self.now len }
-        ensures position { IfErr result (λ error. error.position < len) }
-        ensures most { (text bytes : List ℕ) → length text ≡ len → Means self.now text bytes
-            → IsOkAnd result (λ most. length bytes ≤ most) }
-        ensures base { IsSpecified self.now }
+        ensures { IsDecodeLen self.now len result }
     {
         self.by_ref().decode_len(len)
     }
@@ -37,11 +34,7 @@ impl EncodingRef<'_> {
     #[inline(always)]
     pub fn decode_len(&self, len: usize) -> Result<usize, DecodeError>
         requires limit { len ≤ DECODE_LIMIT }
-        ensures value { result ≡ decoded_len self.now len }
-        ensures position { IfErr result (λ error. error.position < len) }
-        ensures most { (text bytes : List ℕ) → length text ≡ len → Means self.now text bytes
-            → IsOkAnd result (λ most. length bytes ≤ most) }
-        ensures base { IsSpecified self.now }
+        ensures { IsDecodeLen self.now len result }
     {
         if self.fields.ignores {
             return Ok(self.most_bytes(len));

@@ -18,37 +18,47 @@ stops c =
     ended.stops c.stopped.new.output c.stopped.result
     (omega (arith, c.stopped.auto.output, ended.fits)) c.stopped.ensures.kept c.stopped.ensures.stop
 
-pub returns-clause-accepted : goal.returns-clause-accepted
-returns-clause-accepted c bytes means =
-    let fault = fault-partial c.args.self.now c.args.input.now c.stopped.result
-    (stops (goal.at.returns-clause-accepted c).After-stopped).is_partial in
-    let none = no_fault-Means c.args.self.now c.decode_by_order.ensures.width c.args.input.now bytes
-    means in
-    cc
+pub returns : goal.returns
+returns c =
+    let base = c.args.self.now in
+    let width = c.decode_by_order.ensures.width in
+    let new = c.stopped.new.output in
+    let stops = stops (goal.at.returns c).After-stopped in
+    record {
+      decoded = cc;
+      sound = cc;
+      accepted = λ bytes means.
+      let fault = fault-partial base c.args.input.now c.stopped.result stops.is_partial in
+      let none = no_fault-Means base width c.args.input.now bytes means in
+      cc;
+      fault = stops.is_partial;
+      partial = stops.means;
+      bounds = (stops.read_before, stops.within);
+      most = most-partial base width c.args.input.now new c.stopped.result stops;
+      full = cc;
+      len = cc;
+    }
 
-pub returns-clause-fault : goal.returns-clause-fault
-returns-clause-fault c = (stops (goal.at.returns-clause-fault c).After-stopped).is_partial
-
-pub returns-clause-partial : goal.returns-clause-partial
-returns-clause-partial c = (stops (goal.at.returns-clause-partial c).After-stopped).means
-
-pub returns-clause-bounds : goal.returns-clause-bounds
-returns-clause-bounds c =
-    let stops = stops (goal.at.returns-clause-bounds c).After-stopped in
-    (stops.read_before, stops.within)
-
-pub returns-clause-most : goal.returns-clause-most
-returns-clause-most c =
-    most-partial c.args.self.now c.decode_by_order.ensures.width c.args.input.now
-    c.stopped.new.output c.stopped.result (stops (goal.at.returns-clause-most c).After-stopped)
-
-pub returns-then-decode_by_order-clause-full : goal.returns-then-decode_by_order-clause-full
-returns-then-decode_by_order-clause-full c unpadded none =
+pub returns-then-decode_by_order : goal.returns-then-decode_by_order
+returns-then-decode_by_order c =
+    let base = c.args.self.now in
+    let input = c.args.input.now in
+    let width = c.decode_by_order.ensures.width in
     let output = c.decode_by_order.new.output in
-    let decoded : IsDecoded c.args.self.now c.args.input.now c.decode_by_order.new.stop.written
-    output =
+    let written = c.decode_by_order.new.stop.written in
+    let decoded : IsDecoded base input written output =
     rw c.if-decode_by_order.true at c.decode_by_order.ensures.ends in
-    let due : decoded_len c.args.self.now (length c.args.input.now) ≡ Ok (length output) =
+    let due : decoded_len base (length input) ≡ Ok (length output) =
     rw c.decode_by_order.auto.output c.requires.exact in
-    full-Means c.args.self.now c.decode_by_order.ensures.width unpadded none c.args.input.now output
-    c.decode_by_order.new.stop.written due decoded.fits decoded.means
+    record {
+      decoded = (decoded.fits, decoded.means);
+      sound = (decoded.no_fault, decoded.bytes_are);
+      accepted = λ bytes means. cc;
+      fault = cc;
+      partial = cc;
+      bounds = cc;
+      most = cc;
+      full = λ unpadded none.
+      full-Means base width unpadded none input output written due decoded.fits decoded.means;
+      len = cc;
+    }

@@ -1,0 +1,56 @@
+-- What the calls promise that an encoding has by value and by reference.
+use Rattle.std.specs.Prelude.{◌≡◌, ℕ, ◌*◌, ◌<◌, ◌≤◌, false, List, length, take, Option, None, Some, Result, Ok, IfOk, IfErr, IsOk, IsOkAnd}
+use Rattle.data_encoding_meaning.specs.declared.error.DecodeError.{DecodeError}
+use Rattle.data_encoding_meaning.specs.declared.error.DecodePartial.{DecodePartial}
+use Rattle.data_encoding_meaning.specs.text.Base.{Base, IsWidth, group_bytes, ignores_some}
+use Rattle.data_encoding_meaning.specs.text.Grammar.{Means}
+use Rattle.data_encoding_meaning.specs.text.Lengths.{decoded_len}
+use Rattle.data_encoding_meaning.specs.text.Text.{text_of}
+use Rattle.data_encoding_meaning.specs.decoding.Fault.{fault_of, sound_bytes}
+use Rattle.data_encoding_meaning.specs.decoding.Partial.{partial_of}
+use Rattle.data_encoding_meaning.specs.specification.Fields.{IsSpecified}
+
+-- The number of bits of a symbol.
+pub record IsBitWidth (encoding : Base) (count : ℕ) : Type 0 where
+  pub value : count ≡ encoding.width
+  pub width : IsWidth count
+  pub base : IsSpecified encoding
+
+-- The number of bytes of a whole group.
+pub record IsGroupBytes (encoding : Base) (count : ℕ) : Type 0 where
+  pub value : count ≡ group_bytes encoding.width
+  pub some : 0 < count
+  pub few : count ≤ 5
+  pub base : IsSpecified encoding
+
+-- The length of the text of this many bytes.
+pub record IsEncodeLen (encoding : Base) (len count : ℕ) : Type 0 where
+  pub length : (bytes : List ℕ) → length bytes ≡ len → length (text_of encoding bytes) ≡ count
+  pub most : count ≤ 263 * len
+  pub empty : len ≡ 0 → count ≡ 0
+  pub base : IsSpecified encoding
+
+-- The greatest number of bytes that a text of this length may mean, or the fault of the length.
+pub record IsDecodeLen (encoding : Base) (len : ℕ) (count : Result ℕ DecodeError) : Type 0 where
+  pub value : count ≡ decoded_len encoding len
+  pub position : IfErr count (λ error. error.position < len)
+  pub most : (text bytes : List ℕ) → length text ≡ len → Means encoding text bytes
+      → IsOkAnd count (λ most. length bytes ≤ most)
+  pub base : IsSpecified encoding
+
+-- The data of a text was written to the front of the output, which held `old` and now holds `new`;
+-- or the text has a fault, and what was read before it means what was written.
+pub record Decodes (base : Base) (text old new : List ℕ) (answer : Result ℕ DecodePartial)
+    : Type 0 where
+  pub decoded : IfOk answer (λ n. (n ≤ length new) × Means base text (take n new))
+  pub sound : IfOk answer (λ n. (fault_of base text ≡ None) × (sound_bytes base text ≡ take n new))
+  pub accepted : (bytes : List ℕ) → Means base text bytes → IsOk answer
+  pub fault : IfErr answer (λ partial. partial_of base text ≡ Some partial)
+  pub partial : IfErr answer (λ partial. Means base (take partial.read text)
+      (take partial.written new))
+  pub bounds : IfErr answer (λ partial. (partial.read ≤ partial.error.position)
+      × (partial.error.position < length text))
+  pub most : IfErr answer (λ partial. IsOkAnd (decoded_len base partial.read)
+      (λ most. partial.written ≤ most))
+  pub full : IfOk answer (λ n. base.padding ≡ None → ignores_some base ≡ false → n ≡ length new)
+  pub len : length new ≡ length old
