@@ -35,6 +35,10 @@ APART = {("specification", "predefined", "named")}
 # data_encoding stands on are in docs/DEFINITIONS.md.
 SHOWN = {"encoding_stream", "basecode", "data_encoding_calls"}
 
+# What calls of several types promise alike: each field of these records is told as a clause.
+RECORDS = TOP / "crates/data_encoding/specs/Calls.antt"
+RECORD_NAMES = re.findall(r"^pub record (\w+)", RECORDS.read_text(), re.MULTILINE)
+
 # The first line of a definition.
 DEFINITION = r"(?:abbrev pub|pub record|pub data) (\w+)"
 
@@ -125,6 +129,12 @@ def clauses(block):
         label = method + (head[2] or head[3] or head[1])
         one = " ".join(text[head.end():end - 1].split())
         found[label] = f"{found[label]} ; {one}" if label in found else one
+    name = found.get("ensures", "").split(" ")[0]
+    record = name in RECORD_NAMES and re.search(rf"^pub record {name} (?:.+\n?)*", text, re.MULTILINE)
+    if record:
+        del found["ensures"]
+        for field in re.finditer(r"^  pub (\w+) : (.+(?:\n   .+)*)", record[0], re.MULTILINE):
+            found[field[1]] = " ".join(field[2].split())
     return found
 
 
@@ -266,7 +276,7 @@ def complete(call, known, told_of):
     for key in [key for key in known if key in call.imports and key[2] in named]:
         comment, lines = known[key]
         labels = [label for label, text in texts.items() if text == key[2]]
-        if labels:
+        if labels or key[2] in RECORD_NAMES:
             call.block += [""] + lines
             words.update((label, " ".join(line[2:].strip() for line in comment))
                          for label in labels if comment)

@@ -1,5 +1,5 @@
 -- What the calls promise that an encoding has by value and by reference.
-use Rattle.std.specs.Prelude.{◌≡◌, ℕ, ◌*◌, ◌<◌, ◌≤◌, false, List, length, take, Option, None, Some, Result, Ok, IfOk, IfErr, IsOk, IsOkAnd}
+use Rattle.std.specs.Prelude.{◌≡◌, ℕ, ◌*◌, ◌<◌, ◌≤◌, false, List, length, take, None, Some, Result, IfOk, IfErr, IsOk, IsOkAnd}
 use Rattle.data_encoding_meaning.specs.declared.error.DecodeError.{DecodeError}
 use Rattle.data_encoding_meaning.specs.declared.error.DecodePartial.{DecodePartial}
 use Rattle.data_encoding_meaning.specs.text.Base.{Base, IsWidth, group_bytes, ignores_some}
@@ -40,7 +40,7 @@ pub record IsDecodeLen (encoding : Base) (len : ℕ) (count : Result ℕ DecodeE
 
 -- The data of a text was written to the front of the output, which held `old` and now holds `new`;
 -- or the text has a fault, and what was read before it means what was written.
-pub record Decodes (base : Base) (text old new : List ℕ) (answer : Result ℕ DecodePartial)
+pub record DecodesText (base : Base) (text old new : List ℕ) (answer : Result ℕ DecodePartial)
     : Type 0 where
   pub decoded : IfOk answer (λ n. (n ≤ length new) × Means base text (take n new))
   pub sound : IfOk answer (λ n. (fault_of base text ≡ None) × (sound_bytes base text ≡ take n new))

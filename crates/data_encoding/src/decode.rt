@@ -8,7 +8,7 @@ pub(crate) mod text;
 
 ghost use Rattle.std.specs.Prelude.{◌≡◌, ℕ, List, true, false, ◌+◌, ◌-◌, ◌*◌, ◌/◌, ◌<◌, ◌≤◌, ◌⊎◌, length, take, drop, None, Some, Ok, Err, IfOk, IfErr, IfSome, IsOk, IsOkAnd};
 ghost use Rattle.data_encoding_meaning.specs.decoding.Decoding.{HasNoLastRun, HasRoom, IsLastRun, IsStop};
-ghost use Rattle.data_encoding.specs.Calls.{Decodes};
+ghost use Rattle.data_encoding.specs.Calls.{DecodesText};
 ghost use Rattle.data_encoding.specs.Steps.{fault_of_stop};
 ghost use Rattle.data_encoding_meaning.specs.decoding.Fault.{IsRefusal, fault_of, sound_bytes};
 ghost use Rattle.data_encoding_meaning.specs.text.Base.{ignores_some};
@@ -69,7 +69,7 @@ impl Encoding {
     pub fn decode_mut(&self, input: &[u8], output: &mut [u8]) -> Result<usize, DecodePartial>
         requires limit { length input.now ≤ DECODE_LIMIT }
         requires exact { decoded_len self.now (length input.now) ≡ Ok (length output.old) }
-        ensures { Decodes self.now input.now output.old output.new result }
+        ensures { DecodesText self.now input.now output.old output.new result }
     {
         self.by_ref().decode_mut(input, output)
     }
@@ -120,7 +120,7 @@ impl EncodingRef<'_> {
     pub fn decode_mut(&self, input: &[u8], output: &mut [u8]) -> Result<usize, DecodePartial>
         requires limit { length input.now ≤ DECODE_LIMIT }
         requires exact { decoded_len self.now (length input.now) ≡ Ok (length output.old) }
-        ensures { Decodes self.now input.now output.old output.new result }
+        ensures { DecodesText self.now input.now output.old output.new result }
     {
         let mut stop = Stop::new(0, 0, 0, DecodeKind::Length);
         if self.decode_by_order(input, output, &mut stop) {
@@ -162,7 +162,7 @@ impl EncodingRef<'_> {
         }
     }
 
-    // Decodes the greatest front of valid length of the rest of a text as it stands, and returns
+    // DecodesText the greatest front of valid length of the rest of a text as it stands, and returns
     // how many bytes it means; nothing where it has a fault.
     #[cold]
     #[inline(never)]

@@ -22,7 +22,7 @@ returns-then-not-is_valid_length c =
       value = cc;
       position = c.greatest_valid_length.ensures.less (cc);
       most = λ text bytes h means.
-      rw (h, fault) at (decoded_len-Means seen width text bytes means);
+          rw (h, fault) at (decoded_len-Means seen width text bytes means);
       base = rw (← c.self.view_is) (is_base_of _ c.self.invariant);
     }
 
@@ -36,7 +36,7 @@ returns-then-self c =
       value = ap Ok c.most_bytes.ensures ∙ sym (decoded_len-ignored seen c.args.len some);
       position = cc;
       most = λ text bytes h means.
-      rw (h, ← c.most_bytes.ensures) at (length-Means seen width text bytes means);
+          rw (h, ← c.most_bytes.ensures) at (length-Means seen width text bytes means);
       base = rw (← c.self.view_is) (is_base_of _ c.self.invariant);
     }
 

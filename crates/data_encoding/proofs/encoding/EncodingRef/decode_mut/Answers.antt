@@ -28,9 +28,9 @@ returns c =
       decoded = cc;
       sound = cc;
       accepted = λ bytes means.
-      let fault = fault-partial base c.args.input.now c.stopped.result stops.is_partial in
-      let none = no_fault-Means base width c.args.input.now bytes means in
-      cc;
+          let fault = fault-partial base c.args.input.now c.stopped.result stops.is_partial in
+          let none = no_fault-Means base width c.args.input.now bytes means in
+          cc;
       fault = stops.is_partial;
       partial = stops.means;
       bounds = (stops.read_before, stops.within);
@@ -59,6 +59,6 @@ returns-then-decode_by_order c =
       bounds = cc;
       most = cc;
       full = λ unpadded none.
-      full-Means base width unpadded none input output written due decoded.fits decoded.means;
+          full-Means base width unpadded none input output written due decoded.fits decoded.means;
       len = cc;
     }

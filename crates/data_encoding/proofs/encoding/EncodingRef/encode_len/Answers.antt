@@ -24,13 +24,13 @@ returns-then-self-eq0 c =
     let seen = c.args.self.now in
     let unwrapped = unwrapped-seen _ c.self.invariant seen c.self.view_is c.if-self-eq0.true in
     let counted : (bytes : List ℕ) → length bytes ≡ c.args.len
-        → length (text_of seen bytes) ≡ c.padded_len-count.result =
+    → length (text_of seen bytes) ≡ c.padded_len-count.result =
     λ bytes h. ap length (text_of-unwrapped seen bytes unwrapped)
     ∙ c.padded_len-count.ensures.length bytes h in
     record {
       length = counted;
       most = least seen c.args.len c.padded_len-count.result counted
-      (IsRuled-seen _ c.self.invariant seen c.self.view_is);
+          (IsRuled-seen _ c.self.invariant seen c.self.view_is);
       empty = c.padded_len-count.ensures.empty;
       base = rw (← c.self.view_is) (is_base_of _ c.self.invariant);
     }
@@ -45,8 +45,8 @@ returns c =
     let lines : c.div_ceil.result ≡ run_count e.column count =
     c.div_ceil.ensures ∙ div_ceil-runs e.column count (are seen ruled _ wrapping).some in
     let counted : (bytes : List ℕ) → length bytes ≡ c.args.len
-        → length (text_of seen bytes)
-        ≡ count + c.div_ceil.result * c.line_separator_len.result =
+    → length (text_of seen bytes)
+    ≡ count + c.div_ceil.result * c.line_separator_len.result =
     λ bytes h. length-lines seen ruled _ wrapping bytes
     ∙ ap (λ n. n + run_count e.column n * length e.separator)
     (c.padded_len-count.ensures.length bytes h)

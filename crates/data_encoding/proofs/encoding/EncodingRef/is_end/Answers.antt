@@ -1,4 +1,4 @@
-use Rattle.std.proofs.Common.{◌-◌, length, refl, arith}
+use Rattle.std.proofs.Common.{◌-◌, length, refl}
 use borrow.Rule.Slice.PartMut.{mid_of, put_same}
 use Rattle.data_encoding.proofs.decoding.StepLemmas.{decoded-empty, group-stopped, some-group, under_way}
 use Rattle.data_encoding.proofs.encoding.EncodingRef.is_end.Goals as goal
