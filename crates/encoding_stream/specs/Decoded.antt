@@ -32,9 +32,9 @@ pub record DecodesFront (base : Base)
       (sound_bytes base all))
 
 -- what a stream answers of a text with this fault, or none
-abbrev pub answer_of : Option DecodeError → Result (Unit {0}) StreamFault
-answer_of None = Ok _
-answer_of (Some error) = Err (Decode error)
+abbrev pub result_of : Option DecodeError → Result (Unit {0}) StreamFault
+result_of None = Ok _
+result_of (Some error) = Err (Decode error)
 
 -- What was returned is Ok, or a fault of the text, only where all was read and decoded.
 pub record DecodesJudged (base : Base) (result : Result (Unit {0}) StreamFault)
@@ -49,7 +49,7 @@ abbrev pub JudgesText :
     Base → Result (Unit {0}) StreamFault → Option (List ℕ) → Bool → Bool → Type 0
 JudgesText base result remaining read_failed write_failed =
     IfSome remaining (λ text. length text ≤ DECODE_LIMIT → read_failed ≡ false
-    → write_failed ≡ false → result ≡ answer_of (fault_of base text))
+    → write_failed ≡ false → result ≡ result_of (fault_of base text))
 
 -- A beginning of these bytes was written, and all of them unless that failed: the last of each text
 -- of which this is kept.

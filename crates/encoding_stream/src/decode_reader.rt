@@ -3,7 +3,7 @@
 ghost use Rattle.std.specs.Prelude.{◌≡◌, ℕ, ◌≤◌, ◌↔◌, List, length, false, Err, IfSome, IsTrue, None, OnOk, Some};
 ghost use Rattle.std.specs.Io.KnownBytes.{IsAtEnd};
 ghost use Rattle.data_encoding.specs.Fault.{fault_of};
-ghost use Rattle.encoding_stream.specs.Decoded.{answer_of, JudgesText, DecodesFront, DecodesJudged, EndsText};
+ghost use Rattle.encoding_stream.specs.Decoded.{result_of, JudgesText, DecodesFront, DecodesJudged, EndsText};
 ghost use Rattle.encoding_stream.specs.Encoded.{ReadsMore};
 ghost use Rattle.encoding_stream.specs.Pieces.{base_of_pieces, Keeps};
 ghost use Rattle.encoding_stream.specs.Watch.{has_failed, inner_of};
@@ -96,7 +96,7 @@ fn end<W: Write>(
         (W.contents (inner_of writer.new)) }
     ensures verdict { (text : List ℕ) → Keeps (base_of_pieces pieces.now) pieces.now.kept text
         → has_failed writer.new ≡ false
-        → result ≡ answer_of (fault_of (base_of_pieces pieces.now) text) }
+        → result ≡ result_of (fault_of (base_of_pieces pieces.now) text) }
     ensures write { IsTrue (has_failed writer.new) → result ≡ Err StreamFault.Write }
 {
     let (written, verdict) = pieces.finish(output);

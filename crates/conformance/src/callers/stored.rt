@@ -51,7 +51,7 @@ pub fn show_nothing<W: fmt::Write>(encoding: &Encoding, f: &mut fmt::Formatter<W
 }
 
 /// Appends the text of the data to what the string holds.
-pub fn write_behind(encoding: &Encoding, input: &[u8], output: &mut String) -> fmt::Result
+pub fn write_at_end(encoding: &Encoding, input: &[u8], output: &mut String) -> fmt::Result
     ensures { OnOk result (string_bytes output.new
         ≡ string_bytes output.old ++ text_of encoding.now input.now) }
 {

@@ -2,7 +2,7 @@
 
 use conformance::callers::stored::{
     encoded_at_second_try, finalized, is_stored_alike, restored, show_nothing, stands_for_some,
-    write_behind,
+    write_at_end,
 };
 use data_encoding::{Encoding, base32, base64, base64_mime, hexlower};
 use std::alloc::Global;
@@ -49,7 +49,7 @@ fn is_finalized(encoding: &Encoding, byte: u8, output: &mut String) -> bool {
 // Whether the texts are appended to the words.
 fn grows(alloc: Global) -> Result<bool, Fail> {
     let mut output = String::from_str(alloc, "Payload: ")?;
-    let is_ok = write_behind(&hexlower(), b"Hello", &mut output).is_ok();
+    let is_ok = write_at_end(&hexlower(), b"Hello", &mut output).is_ok();
     encoded_at_second_try(&base32(), b"Hello", b" world", &mut output)?;
     encoded_at_second_try(&base64_mime(), b"", b"", &mut output)?;
     let is_last = is_finalized(&base64(), b'!', &mut output);

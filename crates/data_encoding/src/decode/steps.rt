@@ -120,18 +120,18 @@ impl EncodingRef<'_> {
         let mut at = Reached {
             read,
             written,
-            ignored: self.ignored_behind(read, input),
+            ignored: self.count_ignored(read, input),
         };
         let mut goes_on = true;
         while goes_on {
-            let next = self.decode_run_behind::<L, O, G>(values, look_up, at, input, output);
+            let next = self.decode_run_after_ignored::<L, O, G>(values, look_up, at, input, output);
             if next.read == at.read {
                 return next;
             }
             at = Reached {
                 read: next.read,
                 written: next.written,
-                ignored: self.ignored_behind(next.read, input),
+                ignored: self.count_ignored(next.read, input),
             };
             goes_on = at.ignored != 0;
         }
@@ -141,7 +141,7 @@ impl EncodingRef<'_> {
     /// A run of whole groups that are symbols alone, behind bytes that are ignored: these are read
     /// only where the run has a group. Where the text has no look-up, the run finds its own.
     #[inline(always)]
-    pub(crate) fn decode_run_behind<L: LookUp, O: ConstantOrder, G: GroupSize>(
+    pub(crate) fn decode_run_after_ignored<L: LookUp, O: ConstantOrder, G: GroupSize>(
         &self,
         values: &[u8; 256],
         look_up: Option<&L>,
@@ -179,7 +179,7 @@ impl EncodingRef<'_> {
 
     // How many bytes are ignored behind what was read.
     #[inline(always)]
-    fn ignored_behind(&self, read: usize, input: &[u8]) -> usize
+    fn count_ignored(&self, read: usize, input: &[u8]) -> usize
         requires within { read ≤ length input.now }
         ensures { IsIgnoredFront self.now (drop read input.now) result }
     {

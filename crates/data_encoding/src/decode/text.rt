@@ -114,7 +114,7 @@ impl EncodingRef<'_> {
         requires exact { decoded_len self.now (length input.now) ≡ Ok (length output.old) }
         ensures { HasEnded self.now input.now output.new stop.new result }
     {
-        let at = self.decode_run_behind::<Rows, O, G>(
+        let at = self.decode_run_after_ignored::<Rows, O, G>(
             &self.fields.values,
             None,
             Reached {
