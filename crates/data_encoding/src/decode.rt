@@ -53,9 +53,9 @@ impl Stop {
 }
 
 impl Encoding {
-    /// Writes the data that the text means to the start of `output`, and returns its length.
-    /// `output` is exactly as long as `decode_len` of the text's length. The text has at most
-    /// `DECODE_LIMIT` bytes.
+    /// Writes the data that the text means to the start of `output`, and returns the length of the
+    /// data. `output` has exactly the length that `decode_len` returns for the text, which has at
+    /// most `DECODE_LIMIT` bytes.
     ///
     /// Concatenated padded texts decode as one, if the encoding allows it. A text that means
     /// nothing has one fault. The prefix of it that was read means the bytes that were written:
@@ -118,9 +118,9 @@ impl Encoding {
 }
 
 impl EncodingRef<'_> {
-    /// Writes the data that the text means to the start of `output`, and returns its length.
-    /// `output` is exactly as long as `decode_len` of the text's length. The text has at most
-    /// `DECODE_LIMIT` bytes.
+    /// Writes the data that the text means to the start of `output`, and returns the length of the
+    /// data. `output` has exactly the length that `decode_len` returns for the text, which has at
+    /// most `DECODE_LIMIT` bytes.
     ///
     /// Concatenated padded texts decode as one, if the encoding allows it. A text that means
     /// nothing has one fault. The prefix of it that was read means the bytes that were written:

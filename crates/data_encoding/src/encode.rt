@@ -55,8 +55,8 @@ impl Encoding {
         self.by_ref().encode_align()
     }
 
-    /// Writes the text of the data to `output`, which is exactly as long: `encode_len` of the
-    /// length of the data, which is at most `ENCODE_LIMIT`.
+    /// Writes the text of the data, of at most `ENCODE_LIMIT` bytes, to `output`, which has exactly
+    /// the length that `encode_len` returns for the data.
     pub fn encode_mut(&self, input: &[u8], output: &mut [u8])
         requires limit { length input.now ≤ ENCODE_LIMIT }
         requires exact { length output.old ≡ length (text_of self.now input.now) }
@@ -142,8 +142,8 @@ impl EncodingRef<'_> {
         group_bytes(self.fields.width) as usize
     }
 
-    /// Writes the text of the data to `output`, which is exactly as long: `encode_len` of the
-    /// length of the data, which is at most `ENCODE_LIMIT`.
+    /// Writes the text of the data, of at most `ENCODE_LIMIT` bytes, to `output`, which has exactly
+    /// the length that `encode_len` returns for the data.
     #[inline(always)]
     pub fn encode_mut(&self, input: &[u8], output: &mut [u8])
         requires limit { length input.now ≤ ENCODE_LIMIT }
