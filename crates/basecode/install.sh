@@ -6,7 +6,7 @@
 #        crates/basecode/install.sh --remove PREFIX
 #
 # The program is the one that `rt run` or `rt ci` built in out/. With --cpu one is proved and built
-# for the x86-64 processors NAME, which is x86-64, x86-64-v2 or x86-64-v3; out/basecode is unchanged.
+# for the processors NAME, which is x86-64, x86-64-v2 or x86-64-v3; out/basecode is unchanged.
 # Folders that were created are left when the files are removed. If DESTDIR is set, everything is
 # installed below that folder, as packages need it.
 set -eu

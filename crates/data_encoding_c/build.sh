@@ -1,7 +1,7 @@
 #!/usr/bin/env bash
 # Proves the library and builds it for programs in C. Writes these files to DIR, which is created:
 # libdata_encoding.a; libdata_encoding.so, a link to the file with the number of the interface in
-# its name; data_encoding.h; and the files of package/, by which pkg-config and CMake find the others.
+# its name; data_encoding.h; and the files of package/, by which pkg-config and CMake find these.
 #
 # usage: crates/data_encoding_c/build.sh [--cpu NAME] DIR
 #
