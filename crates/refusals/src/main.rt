@@ -1,11 +1,4 @@
-//! Each public call that takes memory, where none is left, or one allocation is refused.
-//!
-//! With the word `refused` all memory that the process may have is taken before each call, which
-//! has to be refused then, and to leave everything as it was; with the word `one` a call has to be
-//! refused where one of its allocations was, which tests/c/refused.c sees to; without a word each
-//! call has to succeed. Then there is memory, and the same call has to succeed with the right
-//! result. A line is printed for each call, which also says where it was refused one allocation;
-//! the exit status is 1 where one of them did otherwise.
+//! Each public call that allocates, if no memory is left, or if one allocation is refused.
 #![tactic(auto)]
 
 mod decoding;
@@ -17,7 +10,7 @@ use hog::{Hog, Refused};
 use std::process::ExitCode;
 use std::{env, io};
 
-// A call, whether it did what it has to, and whether it was refused one allocation.
+// A call, whether it did what it must, and whether one of its allocations was refused.
 type Row = (&'static str, bool, bool);
 
 // What each call did.
@@ -73,7 +66,7 @@ fn rows(hog: &mut Hog) -> [Row; 11] {
     ]
 }
 
-// Which memory is refused, by the first word.
+// Which allocations are refused, by the first argument.
 fn refused_by(rt: &HostRuntime) -> io::Result<Refused> {
     match env::args(rt)?.skip(1).next() {
         Some(word) if word.as_str() == "refused" => Ok(Refused::All),
