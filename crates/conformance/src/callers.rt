@@ -179,8 +179,9 @@ pub fn is_one_text(
     Ok(bytes.as_slice() == others.as_slice())
 }
 
-/// Returns the data of a text that is used in its place, such as a token or a name: no other text
-/// has the same data. Returns `None` if the encoding is not canonical, or the text means no data.
+/// Returns the data of a text that may be used instead of it, such as a token or a name: no other
+/// text has the same data. Returns `None` if the encoding is not canonical, or the text means no
+/// data.
 pub fn data_of_token(
     alloc: Global,
     encoding: &Encoding,

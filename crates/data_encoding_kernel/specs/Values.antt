@@ -26,7 +26,7 @@ pub record HoldsRows (values : List ℕ) (rows : Rows) : Type 0 where
   pub seventh : IsRow values 96 rows.seventh
   pub eighth : IsRow values 112 rows.eighth
 
--- the entry in a row at the lowest four bits of a byte
+-- the entry of a row at the lowest four bits of a byte
 abbrev pub in_row : List ℕ → ℕ → ℕ → ℕ
 in_row values start byte = slice_index values (start + byte % 16)
 

@@ -170,7 +170,7 @@ fn is_alike(
     Ok(sweep.compare_all(draw).is_ok())
 }
 
-// The same for a few groups, and for so many that the affine form of a table is looked for.
+// The same for a few groups, and for as many as the affine form of a table is looked for in.
 fn compare_lengths(
     alloc: Global,
     specification: &Specification,
