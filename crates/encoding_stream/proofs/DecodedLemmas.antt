@@ -13,7 +13,7 @@ use Rattle.data_encoding.specs.declared.error.DecodeError.{DecodeError}
 use Rattle.encoding_stream.specs.declared.error.StreamFault.{StreamFault}
 use Rattle.encoding_stream.specs.declared.error.StreamFault.TheVariants.{Decode, Read, TooLong, Write}
 use Rattle.encoding_stream.specs.declared.pieces.Kept.{Kept}
-use Rattle.encoding_stream.specs.Decoded.{answer_of, DecodesFront, EndsText}
+use Rattle.encoding_stream.specs.Decoded.{result_of, DecodesFront, EndsText}
 use Rattle.encoding_stream.specs.Encoded.{ReadsMore}
 use Rattle.encoding_stream.specs.Pieces.{verdict_of, Keeps}
 use Rattle.encoding_stream.specs.Reading.{ReadsOn}
@@ -199,19 +199,19 @@ not-both false is works = cc
 
 -- what is answered for a verdict
 pub answers-ok : (fault : Option DecodeError) (value : Unit {0})
-    → Ok value ≡ verdict_of fault → Ok tt ≡ answer_of fault
+    → Ok value ≡ verdict_of fault → Ok tt ≡ result_of fault
 answers-ok None value is = refl
 answers-ok (Some error) value is = cc
 
 pub answers-error : (fault : Option DecodeError) (error : DecodeError)
-    → Err error ≡ verdict_of fault → Err (Decode error) ≡ answer_of fault
+    → Err error ≡ verdict_of fault → Err (Decode error) ≡ result_of fault
 answers-error None error is = cc
 answers-error (Some other) error is = cc
 
 -- what is answered where a writer has failed, and else
 module _ (failed : Bool) (result : Result (Unit {0}) StreamFault) (fault : Option DecodeError)
     (write : IsTrue failed → result ≡ Err Write)
-    (judged : failed ≡ false → result ≡ answer_of fault) where
+    (judged : failed ≡ false → result ≡ result_of fault) where
   pub end-ok : {P : Type 0} → (failed ≡ false → fault ≡ None → P) → OnOk result P
   end-ok {P} holds = by-cases failed fault refl refl
     where
@@ -219,9 +219,9 @@ module _ (failed : Bool) (result : Result (Unit {0}) StreamFault) (fault : Optio
       by-cases true f is same =
           subst (λ r. OnOk r P) (sym (write is)) tt
       by-cases false None is same =
-          subst (λ r. OnOk r P) (sym (judged is ∙ ap answer_of same)) (holds is same)
+          subst (λ r. OnOk r P) (sym (judged is ∙ ap result_of same)) (holds is same)
       by-cases false (Some error) is same =
-          subst (λ r. OnOk r P) (sym (judged is ∙ ap answer_of same)) tt
+          subst (λ r. OnOk r P) (sym (judged is ∙ ap result_of same)) tt
 
   pub end-error : (error : DecodeError) → result ≡ Err (Decode error)
       → (failed ≡ false) × (fault ≡ Some error)
@@ -231,18 +231,18 @@ module _ (failed : Bool) (result : Result (Unit {0}) StreamFault) (fault : Optio
           → (failed ≡ false) × (fault ≡ Some error)
       by-cases true f is same =
           let no = sym told ∙ write is in cc
-      by-cases false None is same = let no = sym told ∙ judged is ∙ ap answer_of same in cc
+      by-cases false None is same = let no = sym told ∙ judged is ∙ ap result_of same in cc
       by-cases false (Some other) is same =
-          let here = sym told ∙ judged is ∙ ap answer_of same in (is, cc)
+          let here = sym told ∙ judged is ∙ ap result_of same in (is, cc)
 
   pub end-write : result ≡ Err Write → IsTrue failed
   end-write told = by-cases failed fault refl refl
     where
       by-cases : (b : Bool) (f : Option DecodeError) → failed ≡ b → fault ≡ f → IsTrue failed
       by-cases true f is same = is
-      by-cases false None is same = let no = sym told ∙ judged is ∙ ap answer_of same in cc
+      by-cases false None is same = let no = sym told ∙ judged is ∙ ap result_of same in cc
       by-cases false (Some other) is same =
-          let no = sym told ∙ judged is ∙ ap answer_of same in cc
+          let no = sym told ∙ judged is ∙ ap result_of same in cc
 
   pub end-other : (result ≡ Err Read → ⊥) × (result ≡ Err TooLong → ⊥)
   end-other = by-cases failed fault refl refl
@@ -252,6 +252,6 @@ module _ (failed : Bool) (result : Result (Unit {0}) StreamFault) (fault : Optio
       by-cases true f is same =
           let here = write is in (λ told. cc, λ told. cc)
       by-cases false None is same =
-          let here = judged is ∙ ap answer_of same in (λ told. cc, λ told. cc)
+          let here = judged is ∙ ap result_of same in (λ told. cc, λ told. cc)
       by-cases false (Some other) is same =
-          let here = judged is ∙ ap answer_of same in (λ told. cc, λ told. cc)
+          let here = judged is ∙ ap result_of same in (λ told. cc, λ told. cc)

@@ -10,7 +10,7 @@ use Rattle.data_encoding.specs.Grammar.{positioned_from}
 use Rattle.data_encoding.specs.Predefined.{base64_fields, base64_mime_fields, base64_mime_permissive_fields, base64_nopad_fields}
 use Rattle.data_encoding.specs.Pieces.{whole_bytes}
 use Rattle.std.proofs.lemmas.List.{append-nil}
-use Rattle.encoding_stream.specs.Decoded.{JudgesText, DecodesAll, DecodesFront, DecodesJudged, answer_of}
+use Rattle.encoding_stream.specs.Decoded.{JudgesText, DecodesAll, DecodesFront, DecodesJudged, result_of}
 use Rattle.encoding_stream.specs.Judged.{fault_with_held, next_group, EndsFaulty, EndsSound, JudgesFaulty, JudgesSound}
 use Rattle.encoding_stream.specs.Reading.{whole_len, AppendsPiece, AreWholeGroups, CompletesNothing, HasNoLastBytes, ReadsAllGroups, ReadsOn}
 use Rattle.encoding_stream.specs.Pieces.{base_of_pieces, paired, at_positions, held, NoneIgnored, Keeps, FillsGroups, GoesOn, bytes_due, kept_by, most_completed, verdict_of}
@@ -106,7 +106,7 @@ decoded_front = record {
 }
 
 answers :
-    (answer_of None ≡ Ok _) × (answer_of (Some symbol_at_4) ≡ Err (Decode symbol_at_4))
+    (result_of None ≡ Ok _) × (result_of (Some symbol_at_4) ≡ Err (Decode symbol_at_4))
     × (verdict_of None ≡ Ok _) × (verdict_of (Some symbol_at_4) ≡ Err symbol_at_4)
 answers = (refl, refl, refl, refl)
 
