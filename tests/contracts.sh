@@ -23,7 +23,9 @@ sees() {
 }
 
 encode=crates/data_encoding/src/encode.rt
-sees 'a clause that changed' $encode '263 \* len }' '264 * len }'
+sees 'a clause that changed' $encode '{ result ≤ 189 }' '{ result ≤ 190 }'
+sees 'a record of clauses that changed' crates/data_encoding/specs/Calls.antt \
+    'count ≤ 263 \* len' 'count ≤ 264 * len'
 sees 'a clause that is gone' $encode '^        ensures ascii .*' ''
 sees 'a call that is new' $encode '    fn padded_len' '    pub fn padded_len'
 sees 'a call that is gone' $encode 'pub fn encode_align' 'fn encode_align'
