@@ -117,27 +117,25 @@ while IFS= read -r -d '' block; do
 done < <(sed -n '/^\.EX$/,/^\.EE$/ { s/\\-/-/g; s/\\e/\\/g; s/^\.EE$/\x00/; /^\.EX$/d; p }' \
     crates/basecode/basecode.1)
 
-# functions: the names of the public functions in what is read.
-functions() {
-    sed -nE 's/^pub fn ([a-z_0-9]+).*/\1/p' | sort
-}
-
-is 'callers that docs/EXAMPLES.md does not show' '' \
-    "$(comm -23 <(functions <<<"$callers") <(functions <docs/EXAMPLES.md))"
-
-# proof_lines: the rows of that page on how long the proofs of the callers are.
-proof_lines() {
+# caller_rows: the callers, each with its file and how many lines its proof has.
+caller_rows() {
     local file name folder
     for file in crates/conformance/src/callers.rt crates/conformance/src/callers/*.rt; do
         folder=crates/conformance/proofs/${file#crates/conformance/src/}
-        functions <"$file" | while read -r name; do
-            echo "| \`$name\` | $(cat "${folder%.rt}/$name"/*.antt 2>/dev/null | wc -l) |"
+        sed -nE 's/^pub fn ([a-z_0-9]+).*/\1/p' "$file" | while read -r name; do
+            echo "../$file $name $(cat "${folder%.rt}/$name"/*.antt 2>/dev/null | wc -l)"
         done
     done
 }
 
-is 'lines of proof that docs/EXAMPLES.md has otherwise' '' \
-    "$(comm -3 <(proof_lines | sort) <(grep -E '^\| `[a-z_0-9]+` \| [0-9]+ \|$' docs/EXAMPLES.md | sort))"
+# page_rows: those that docs/EXAMPLES.md lists below the links to the files.
+page_rows() {
+    sed -nE 's/^### \[.*\]\((.*)\)$/\1/p; s/^\| `([a-z_0-9]+)` \| .* \| ([0-9]+) \|$/\1 \2/p' \
+        docs/EXAMPLES.md | awk '/^\.\./ { file = $0; next } { print file, $0 }'
+}
+
+is 'callers that docs/EXAMPLES.md lists otherwise' '' \
+    "$(comm -3 <(caller_rows | sort) <(page_rows | sort))"
 
 # anchors PAGE: those of its headings.
 anchors() {
