@@ -139,7 +139,7 @@ is 'callers that docs/EXAMPLES.md lists otherwise' '' \
 
 # anchors PAGE: those of its headings.
 anchors() {
-    sed -nE 's/^#+ (.*)/\1/p' "$1" | tr 'A-Z ' 'a-z-' | sed 's/[^a-z0-9_-]//g'
+    sed -nE 's/\]\([^)]*\)//g; s/^#+ (.*)/\1/p' "$1" | tr 'A-Z ' 'a-z-' | sed 's/[^a-z0-9_-]//g'
 }
 
 # links PAGE: where its links within the repository lead.
