@@ -2,14 +2,13 @@
 """Makes docs/CONTRACTS.md from the sources: each public call with its clauses.
 
 usage: docs/contracts.py           writes the file anew
-       docs/contracts.py --check   writes nothing; status 1 where the file isn't what would be
-                                   written, a clause has no words, or one that docs/PROVED.md
-                                   shows isn't that of the sources
+       docs/contracts.py --check   writes nothing; status 1 if the file isn't what would be written,
+                                   or a clause has no words
 
 The words on a clause are written in docs/CONTRACTS.md itself, by hand, and are kept as long as the
-clause reads the same, and the definitions that are shown with it. A new clause has the words of one
+clause reads the same, and the definitions that are shown with it. A new clause gets the words of one
 that reads the same at another call. A clause that is one name of specs/, as those of the laws are,
-has the words of the comment above that definition. What stands above the first call of a crate is
+gets the words of the comment above that definition. The text above the first call of a crate is
 kept, and so is the order of the calls.
 """
 import re
@@ -19,20 +18,19 @@ from pathlib import Path
 
 TOP = Path(__file__).resolve().parent.parent
 PAGE = TOP / "docs/CONTRACTS.md"
-PROVED = TOP / "docs/PROVED.md"
 MISSING = "(no words yet)"
 COLUMNS = 110
 
-# What a crate passes on of the crates below it is told with its own calls, and theirs are not told
-# apart.
+# What a crate passes on of the crates below it is listed with its own calls, and these crates have no
+# section of their own.
 PASSED_ON = {"data_encoding": ("data_encoding_meaning", "data_encoding_kernel")}
 
-# The functions of these modules are told together, but for those of these.
+# The functions of these modules have one entry, except those of the modules of APART.
 TOGETHER = {("specification", "predefined"): "The predefined encodings"}
 APART = {("specification", "predefined", "named")}
 
-# The definitions of these crates are shown with the first call whose clauses name them; those that
-# data_encoding stands on are in docs/DEFINITIONS.md.
+# The definitions of these crates are shown with the first call whose clauses name them; those of
+# data_encoding are in docs/DEFINITIONS.md.
 SHOWN = {"encoding_stream", "basecode", "data_encoding_calls"}
 
 # What calls of several types promise alike: each field of these records is told as a clause.
@@ -42,15 +40,12 @@ RECORD_NAMES = re.findall(r"^pub record (\w+)", RECORDS.read_text(), re.MULTILIN
 # The first line of a definition.
 DEFINITION = r"(?:abbrev pub|pub record|pub data) (\w+)"
 
-# docs/PROVED.md shows at least so many clauses.
-LEAST_SHOWN = 50
-
 # Items of an `impl` that promise nothing to a caller.
 SILENT = {"laws", "is_infallible"}
 
 
 class Call:
-    """A public call, or several that are told together."""
+    """A public call, or several with one entry."""
 
     def __init__(self, title, summary, block):
         self.title = title
@@ -139,7 +134,7 @@ def clauses(block):
 
 
 def public_names(root):
-    """What the root file of a crate hands out: names, and modules."""
+    """What the root file of a crate exports: names, and modules."""
     text = re.sub(r"//.*", "", root.read_text())
     names = set()
     for used in re.findall(r"^pub use (.*?);", text, re.MULTILINE | re.DOTALL):
@@ -148,7 +143,7 @@ def public_names(root):
 
 
 def public_modules(folder, text, prefix):
-    """The modules that a file hands out, by their paths, and those within them."""
+    """The modules that a file exports, by their paths, and those within them."""
     found = set()
     for name in re.findall(r"^pub mod (\w+);", text, re.MULTILINE):
         found.add(prefix + name)
@@ -267,9 +262,9 @@ def names_in(text):
 
 
 def complete(call, known, told_of):
-    """Adds definitions to the block: those that are whole clauses, of which the words are
-    answered, and those of the crates in `SHOWN` that are named, by it or by one of these, and were
-    not told of before."""
+    """Adds definitions to the block: those that are whole clauses, and returns the words on these;
+    and those of the crates in `SHOWN` that it or one of these names, and that are in no block so
+    far."""
     words = {}
     texts = clauses(call.block)
     named = names_in(" ".join(texts.values()))
@@ -314,7 +309,7 @@ class Page:
                 self.read(section.split("`")[1], entry)
 
     def read(self, crate, entry):
-        """Reads what is told of a call."""
+        """Reads the entry of a call."""
         title = entry.split("\n")[0]
         self.places[crate, title] = len(self.places)
         block, _, rest = entry.partition("```rust\n")[2].partition("\n```\n")
@@ -334,7 +329,7 @@ class Page:
         return words if was == claim else MISSING
 
     def intro(self, crate):
-        """What stands above the first call of a crate."""
+        """The text above the first call of a crate."""
         section = self.text.partition(f"\n## `{crate}`\n")[2]
         return re.split(r"^##", section, flags=re.MULTILINE)[0].strip("\n")
 
@@ -343,7 +338,7 @@ class Page:
 
 
 def told(crate, call, words, old, missing):
-    """A call as the page tells it."""
+    """The entry of a call."""
     lines = [f"### {call.title}", ""]
     if call.summary:
         lines += textwrap.wrap(call.summary, COLUMNS) + [""]
@@ -381,40 +376,12 @@ def page(crates, old, missing):
     return re.sub(r"\n{3,}", "\n\n", "\n".join(lines)).rstrip("\n") + "\n"
 
 
-def may_be_shown(calls):
-    """What a row of docs/PROVED.md may show of each call, by its title: a clause in one line, or, where
-    it is one name of specs/, that definition."""
-    found = {}
-    for call in calls:
-        texts = found.setdefault(call.title, set())
-        claimed = claims(call.block)
-        for label, text in clauses(call.block).items():
-            name = "" if label == "ensures" else f"{label} "
-            texts.update(f"{name}{{ {clause} }}" for clause in text.split(" ; "))
-            # The definition stands there without its name and type.
-            texts.add(claimed[label].partition(f"{text} ; abbrev pub {text} : Type 0 ")[2])
-    return found
-
-
-def not_shown_so(crates):
-    """The rows of docs/PROVED.md that show a clause as it isn't, or too few of them."""
-    lines = [line for line in PROVED.read_text().split("\n")
-             if line.startswith("|") and not line.startswith(("| Call |", "|---"))]
-    rows = [re.fullmatch(r"\| (.+?) \| `(.+?)` \| .+ \|", line) for line in lines]
-    known = may_be_shown(call for calls in crates.values() for call in calls)
-    wrong = [f"docs/PROVED.md: not in the sources: {line}" for line, row in zip(lines, rows)
-             if not row or row[2].replace("\\|", "|") not in known.get(row[1], ())]
-    if len(rows) < LEAST_SHOWN:
-        wrong.append(f"docs/PROVED.md: {len(rows)} clauses")
-    return wrong
-
-
 def main():
     old = Page(PAGE.read_text())
     crates = all_calls()
     missing = []
     new = page(crates, old, missing)
-    wrong = [f"no words: {line}" for line in missing] + not_shown_so(crates)
+    wrong = [f"no words: {line}" for line in missing]
     if "--check" not in sys.argv[1:]:
         PAGE.write_text(new)
         print("".join(f"{line}\n" for line in wrong), end="")

@@ -1,6 +1,6 @@
 #!/usr/bin/env bash
 # Builds the library for programs in C, calls it from C and C++ by the programs of tests/c/, which
-# run side by side, installs it, and tries the blocks of docs/C.md.
+# run side by side, installs it, and tries the blocks of docs/C.md and README.md.
 #
 # usage: tests/c.sh [LIB]: where build.sh left the library; it is built where no folder is given.
 . "$(dirname "$0")/common.bash" || exit 1
@@ -191,13 +191,10 @@ is 'too many words' 2 "$(status "$install" "$lib" prefix other)"
 is 'no library' 1 "$(status "$install" prefix prefix)"
 is 'nothing was installed' '644 lib/other' "$(files "$room/prefix")"
 
-# block KIND: the blocks of docs/C.md of this kind.
-block() {
-    awk -v kind="$1" '/^```/ { inside = $0 == "```" kind; next } inside' docs/C.md
-}
-
-mapfile -t commands < <(block sh)
-block c >"$room/hello.c"
+mapfile -t commands < <(block docs/C.md sh)
+block README.md c >"$room/hello.c"
+is 'the program of README.md' SGVsbG8= "$(in_room bash -c "${commands[1]} && ./hello" 2>&1)"
+block docs/C.md c >"$room/hello.c"
 is 'the commands of docs/C.md' 4 "${#commands[@]}"
 is 'the first of docs/C.md' 'crates/data_encoding_c/build.sh lib' "${commands[0]}"
 is 'the third of docs/C.md' 'crates/data_encoding_c/install.sh lib /usr/local' "${commands[2]}"
@@ -238,17 +235,17 @@ by_cmake() {
 if command -v cmake >/dev/null; then
     mkdir "$room/cmake"
     cp "$room/hello.c" "$room/cmake"
-    block cmake >"$room/cmake/CMakeLists.txt"
+    block docs/C.md cmake >"$room/cmake/CMakeLists.txt"
     is 'CMake' SGVsbG8= "$(by_cmake "$lib")"
     is 'CMake, of an installed library' SGVsbG8= "$(by_cmake "$moved")"
     is 'CMake takes the shared library' 1 \
         "$(readelf -d "$room/built/hello" | grep -c "NEEDED.*\[libdata_encoding\.so\.$interface\]")"
-    block cmake | sed 's/::data_encoding/::static/' >"$room/cmake/CMakeLists.txt"
+    block docs/C.md cmake | sed 's/::data_encoding/::static/' >"$room/cmake/CMakeLists.txt"
     is 'CMake, of the static library' SGVsbG8= "$(by_cmake "$moved")"
     is 'CMake takes the static library' 0 \
         "$(readelf -d "$room/built/hello" | grep -c 'NEEDED.*libdata_encoding')"
     for refused in "${version%.*}.99" 0.99 99.1; do
-        block cmake | sed "s/data_encoding 0.1/data_encoding $refused/" \
+        block docs/C.md cmake | sed "s/data_encoding 0.1/data_encoding $refused/" \
             >"$room/cmake/CMakeLists.txt"
         is "CMake: no version $refused" 1 "$(by_cmake "$moved" |
             grep -c 'compatible with requested version')"

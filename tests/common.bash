@@ -67,6 +67,18 @@ quietly() {
     }
 }
 
+# block PAGE KIND [HEADING]: the code blocks of that kind, or only those below the heading.
+block() {
+    awk -v kind="$2" -v heading="${3-}" '
+        /^```/ {
+            fenced = !fenced
+            inside = fenced && $0 == "```" kind && (heading == "" || heading == under)
+            next
+        }
+        inside
+        !fenced && /^#+ / { under = $0; sub(/^#+ /, "", under) }' "$1"
+}
+
 finish() {
     echo "$passed passed, $failed failed"
     [ "$failed" = 0 ]

@@ -1,24 +1,29 @@
 #!/usr/bin/env bash
-# Fails where docs/CONTRACTS.md is not what docs/contracts.py makes of the sources, or a table of
-# docs/PROVED.md shows a clause otherwise, and where that would not see a change. Other pages have to
-# agree: docs/COMING_FROM.md names no call that is not there, docs/ARCHITECTURE.md names each file,
-# and docs/DEFINITIONS.md each module.
+# Fails if docs/CONTRACTS.md is not what docs/contracts.py makes of the sources, docs/PROVED.md not what
+# docs/proved.py makes of that page, or a picture not what docs/pictures.py draws, and if a change would
+# not be found. Other pages have to agree: docs/COMING_FROM.md names no call that is not there,
+# docs/ARCHITECTURE.md names each file, and docs/DEFINITIONS.md each module.
 . "$(dirname "$0")/common.bash" || exit 1
 
-holds 'the pages are what the sources say' docs/contracts.py --check
+# check FOLDER: whether the pages there are what the sources there say.
+check() {
+    "$1/docs/contracts.py" --check && "$1/docs/proved.py" --check && "$1/docs/pictures.py" --check
+}
 
-# sees NAME FILE OLD NEW: a copy in which OLD, a line of FILE, became NEW is found out.
+holds 'the pages are what the sources say' check .
+
+# sees NAME FILE OLD NEW: a copy in which OLD, in a line of FILE, became NEW is refused.
 sees() {
     rm -rf "$room/copy"
     mkdir -p "$room/copy/docs"
-    cp docs/contracts.py docs/CONTRACTS.md docs/PROVED.md "$room/copy/docs"
+    cp docs/*.py docs/*.svg docs/CONTRACTS.md docs/PROVED.md "$room/copy/docs"
     cp crates.txt "$room/copy"
     find crates -path '*/out' -prune -o \( -path '*/src/*' -o -path '*/specs/*' \) -type f -print0 |
         xargs -0 cp --parents -t "$room/copy"
     sed -i "s~$3~$4~" "$room/copy/$2"
     cmp -s "$2" "$room/copy/$2"
     is "$1: an edit" 1 $?
-    "$room/copy/docs/contracts.py" --check >/dev/null
+    check "$room/copy" >/dev/null
     is "$1" 1 $?
 }
 
@@ -33,13 +38,12 @@ sees 'a definition that changed' crates/encoding_stream/specs/Encoded.antt \
     'pub at_end : IsAtEnd read_new' 'pub at_end : IsAtEnd read_old'
 sees 'a law that changed' crates/data_encoding_meaning/specs/laws/Laws.antt '→ one ≡ other' '→ other ≡ one'
 
-sees 'a clause that docs/PROVED.md shows otherwise' docs/PROVED.md \
-    'IfOk result (λ bytes. Means self.now input.now bytes.items)' \
-    'IfOk result (λ bytes. Means self.now bytes.items input.now)'
-sees 'a law that docs/PROVED.md shows otherwise' docs/PROVED.md '→ one ≡ other' '→ other ≡ one'
-sees 'a clause of another call' docs/PROVED.md '`Encoding::encode_mut` | `text' \
-    '`Encoding::encode` | `text'
-sees 'a row of docs/PROVED.md that is none' docs/PROVED.md '| `run` | `failed' '| `run` `failed'
+sees 'a line of docs/PROVED.md that was edited' docs/PROVED.md '^- \[`run`\]' '- [`ran`]'
+sees 'a crate that uses another less' crates.txt '^examples: anyhow data_encoding .*' 'examples: anyhow data_encoding'
+sees 'a call of docs/way.svg that is gone' crates/encoding_stream/src/runs.rt 'self.decode_run(' 'self.decode_part('
+sees 'a call that docs/PROVED.md lists and there is not' docs/PROVED.md '^run: status' 'runs: status'
+sees 'a clause that docs/PROVED.md lists and there is not' docs/PROVED.md '^run: status' 'run: state'
+sees 'words on a clause that changed' docs/CONTRACTS.md '^- \*text\*: Afterwards' '- *text*: Then'
 
 # Calls of the last column are named as the page names them.
 unknown=$(sed -n '/^## The Rust crate/,$ s/^| .* | //p' docs/COMING_FROM.md |

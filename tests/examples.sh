@@ -3,13 +3,14 @@
 #
 # - `text`, and the examples of the manual page: a line with `$ ` and a command, and then what that
 #   prints, on standard output or standard error;
-# - `rust`: stands in the callers, word for word, or in crates/examples;
-# - `antt`: stands in the proofs of the callers, word for word;
-# - `sh`: is run as it stands, but that `rt run` runs the program that is tried.
+# - `rust`: is part of the callers or of crates/examples, word for word;
+# - `antt`: is part of the callers' proofs, word for word;
+# - `sh`: is run as it is, except that `rt run` runs the program that is tried.
 #
-# tests/interop.sh and tests/scale.sh run those of docs/SCALE.md, tests/library.sh that of
-# docs/LIBRARY.md, tests/c.sh those of docs/C.md, tests/rust.sh, tests/python.sh and
-# tests/javascript.sh those of their pages, and tests/contracts.sh has those of docs/CONTRACTS.md.
+# tests/interop.sh and tests/scale.sh run those of docs/SCALE.md, and tests/contracts.sh has those of
+# docs/CONTRACTS.md. Of docs/LIBRARY.md, docs/C.md, docs/RUST.md, docs/PYTHON.md and
+# docs/JAVASCRIPT.md the tests of these names run the programs, and those of the same languages in
+# README.md, which have at most eight lines each.
 #
 # usage: tests/examples.sh [PROGRAM]
 . "$(dirname "$0")/common.bash" || exit 1
@@ -42,11 +43,13 @@ try_examples() {
     done <<<"$2"$'\nEND'
 }
 
-# Stands for `rt run -- WORD..` in a block that is run, which would prove the program once more.
+# Replaces `rt run -- WORD..` in a block that is run, which would prove the program once more.
 rt() {
-    [ "$1 $2" = 'run --' ] || return 2
-    shift 2
-    basecode "$@"
+    case $* in
+    version) command rt version ;;
+    'run -- '*) basecode "${@:3}" ;;
+    *) return 2 ;;
+    esac
 }
 export -f rt
 
@@ -68,18 +71,21 @@ try_commands() {
 
 # try_block PAGE KIND BLOCK
 try_block() {
+    [ "$1" != README.md ] || [ "$(wc -l <<<"$3")" -le 8 ]
+    is "$1: a block of at most eight lines: $3" 0 $?
     case $1:$2 in
+    README.md:rust | README.md:python | README.md:c | README.md:js) ;;
     docs/SCALE.md:sh | docs/SCALE.md:python | docs/LIBRARY.md:sh | docs/CONTRACTS.md:rust) ;;
     docs/C.md:* | docs/RUST.md:* | docs/PYTHON.md:* | docs/JAVASCRIPT.md:*) ;;
     *:text) try_examples "$1" "$3" ;;
     *:sh) try_commands "$1" "$3" ;;
     *:rust)
         [[ "$callers"$'\n'"$library" == *"$3"* ]]
-        is "$1: its function stands in the sources" 0 $?
+        is "$1: its function is in the sources" 0 $?
         ;;
     *:antt)
         [[ "$proofs" == *"$3"* ]]
-        is "$1: its proof stands in the callers' proofs" 0 $?
+        is "$1: its proof is in the callers' proofs" 0 $?
         ;;
     *) is "$1: a block" 'of a kind that is known here' "$2" ;;
     esac
@@ -111,31 +117,29 @@ while IFS= read -r -d '' block; do
 done < <(sed -n '/^\.EX$/,/^\.EE$/ { s/\\-/-/g; s/\\e/\\/g; s/^\.EE$/\x00/; /^\.EX$/d; p }' \
     crates/basecode/basecode.1)
 
-# functions: the names of the public functions in what is read.
-functions() {
-    sed -nE 's/^pub fn ([a-z_0-9]+).*/\1/p' | sort
-}
-
-is 'callers that docs/EXAMPLES.md does not show' '' \
-    "$(comm -23 <(functions <<<"$callers") <(functions <docs/EXAMPLES.md))"
-
-# proof_lines: the rows of that page on how long the proofs of the callers are.
-proof_lines() {
+# caller_rows: the callers, each with its file and how many lines its proof has.
+caller_rows() {
     local file name folder
     for file in crates/conformance/src/callers.rt crates/conformance/src/callers/*.rt; do
         folder=crates/conformance/proofs/${file#crates/conformance/src/}
-        functions <"$file" | while read -r name; do
-            echo "| \`$name\` | $(cat "${folder%.rt}/$name"/*.antt 2>/dev/null | wc -l) |"
+        sed -nE 's/^pub fn ([a-z_0-9]+).*/\1/p' "$file" | while read -r name; do
+            echo "../$file $name $(cat "${folder%.rt}/$name"/*.antt 2>/dev/null | wc -l)"
         done
     done
 }
 
-is 'lines of proof that docs/EXAMPLES.md has otherwise' '' \
-    "$(comm -3 <(proof_lines | sort) <(grep -E '^\| `[a-z_0-9]+` \| [0-9]+ \|$' docs/EXAMPLES.md | sort))"
+# page_rows: those that docs/EXAMPLES.md lists below the links to the files.
+page_rows() {
+    sed -nE 's/^### \[.*\]\((.*)\)$/\1/p; s/^\| `([a-z_0-9]+)` \| .* \| ([0-9]+) \|$/\1 \2/p' \
+        docs/EXAMPLES.md | awk '/^\.\./ { file = $0; next } { print file, $0 }'
+}
+
+is 'callers that docs/EXAMPLES.md lists otherwise' '' \
+    "$(comm -3 <(caller_rows | sort) <(page_rows | sort))"
 
 # anchors PAGE: those of its headings.
 anchors() {
-    sed -nE 's/^#+ (.*)/\1/p' "$1" | tr 'A-Z ' 'a-z-' | sed 's/[^a-z0-9_-]//g'
+    sed -nE 's/\]\([^)]*\)//g; s/^#+ (.*)/\1/p' "$1" | tr 'A-Z ' 'a-z-' | sed 's/[^a-z0-9_-]//g'
 }
 
 # links PAGE: where its links within the repository lead.
@@ -154,8 +158,8 @@ for page in *.md docs/*.md; do
 done >"$room/lost"
 is 'links that lead nowhere' '' "$(cat "$room/lost")"
 
-[ "$(wc -w <README.md)" -le 1500 ]
-is 'README.md has at most 1,500 words' 0 $?
+[ "$(wc -w <README.md)" -le 1200 ]
+is 'README.md has at most 1,200 words' 0 $?
 is 'the table of README.md has each encoding, canonical or not' \
     "$(for name in $(basecode list); do
         echo "$name $(basecode canonical "$name" | sed 's/true/yes/; s/false/no/')"

@@ -31,6 +31,7 @@ else
 fi
 source=$PWD/bindings/javascript
 page=$PWD/docs/JAVASCRIPT.md
+readme=$PWD/README.md
 cp -r "$source/tests" "$package"
 cd "$room" || exit 1
 
@@ -92,14 +93,9 @@ else
     skip 'the types of the package: no tsc'
 fi
 
-# block KIND: the block of docs/JAVASCRIPT.md of this kind.
-block() {
-    awk -v kind="$1" '/^```/ { inside = $0 == "```" kind; next } inside' "$page"
-}
-
 mkdir program
 echo '{ "name": "program", "private": true, "type": "module" }' >program/package.json
-commands=$(block sh)
+commands=$(block "$page" sh)
 is 'the first command of docs/JAVASCRIPT.md' 'bindings/javascript/build.sh package' \
     "${commands%%$'\n'*}"
 if command -v npm >/dev/null; then
@@ -122,7 +118,9 @@ else
     cp -r package program/node_modules/data-encoding
 fi
 
-block js >program/hello.js
-is 'the program of docs/JAVASCRIPT.md' "$(block text)" "$(node "${flags[@]}" program/hello.js 2>&1)"
+block "$page" js >program/hello.js
+is 'the program of docs/JAVASCRIPT.md' "$(block "$page" text)" "$(node "${flags[@]}" program/hello.js 2>&1)"
+block "$readme" js >program/hello.js
+is 'the program of README.md' SGVsbG8= "$(node "${flags[@]}" program/hello.js 2>&1)"
 
 finish

@@ -9,7 +9,7 @@ BAMSTURK=$PWD
 export BAMSTURK
 
 # The block of sh on the page.
-way=$(sed -n '/^```sh$/,/^```$/ { /^```/d; p }' docs/LIBRARY.md)
+way=$(block docs/LIBRARY.md sh)
 is 'the page has one block of sh' 1 "$(grep -c '^```sh$' docs/LIBRARY.md)"
 
 mkdir "$room/mine"
@@ -18,6 +18,8 @@ bash -e -c "$way" >../output 2>../log
 is 'the way in' 0 $?
 is 'what it prints' "$(grep -o '`SGVsbG8=`' "$BAMSTURK/docs/LIBRARY.md" | tr -d '`')" \
     "$(tail -n 1 ../output)"
+is 'the program of README.md' "$(cat crates/greeting/src/main.rt)" \
+    "$(block "$BAMSTURK/README.md" rust Rattle)"
 # One line a unit that was checked, and all of them say so.
 is 'it is proved' logic=proved "$(cat ../output ../log | grep -o '^logic=[a-z]*' | sort -u)"
 

@@ -89,13 +89,8 @@ else
     skip 'the types of the package: no mypy'
 fi
 
-# block KIND: the block of docs/PYTHON.md of this kind.
 page=$OLDPWD/docs/PYTHON.md
-block() {
-    awk -v kind="$1" '/^```/ { inside = $0 == "```" kind; next } inside' "$page"
-}
-
-commands=$(block sh)
+commands=$(block "$page" sh)
 is 'the first command of docs/PYTHON.md' 'crates/data_encoding_c/build.sh /opt/bamsturk' \
     "${commands%%$'\n'*}"
 commands=${commands#*$'\n'}
@@ -106,8 +101,11 @@ python3() {
 export -f python3
 export python PIP_NO_INDEX=1
 holds 'the commands of docs/PYTHON.md' quietly bash -ec "$commands"
-block python >hello.py
-is 'the program of docs/PYTHON.md' "$(block text)" \
+block "$page" python >hello.py
+is 'the program of docs/PYTHON.md' "$(block "$page" text)" \
+    "$(env -u PYTHONPATH environment/bin/python3 hello.py 2>&1)"
+block "$OLDPWD/README.md" python >hello.py
+is 'the program of README.md' SGVsbG8= \
     "$(env -u PYTHONPATH environment/bin/python3 hello.py 2>&1)"
 
 finish

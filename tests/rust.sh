@@ -1,7 +1,7 @@
 #!/usr/bin/env bash
 # Builds the crate for Rust over the library for C, and runs its tests, with each set of features;
-# a program whose other crates depend on data-encoding; and the blocks of docs/RUST.md. Nothing is
-# taken from a network, and nothing is written into bindings/.
+# a program whose other crates depend on data-encoding; and the blocks of docs/RUST.md and
+# README.md. Nothing is taken from a network, and nothing is written into bindings/.
 #
 # usage: tests/rust.sh [LIB]: where build.sh left the library; it is built if no folder is given.
 . "$(dirname "$0")/common.bash" || exit 1
@@ -74,11 +74,6 @@ else
     skip "the size of an encoding: no $cc"
 fi
 
-# block KIND: the block of docs/RUST.md of this kind.
-block() {
-    awk -v kind="$1" '/^```/ { inside = $0 == "```" kind; next } inside' docs/RUST.md
-}
-
 # new_package NAME VERSION: a package that depends on this version of data-encoding; what else its
 # Cargo.toml says is read from standard input.
 new_package() {
@@ -124,10 +119,10 @@ new_package program 2.11 <<END
 between = { path = "../between" }
 macros = { path = "../macros" }
 
-$(block toml | sed "s:\"bamsturk/:\"$room/bamsturk/:")
+$(block docs/RUST.md toml | sed "s:\"bamsturk/:\"$room/bamsturk/:")
 END
 {
-    block rust
+    block docs/RUST.md rust
     cat <<'END'
 
 #[test]
@@ -144,9 +139,13 @@ fn of_the_macro() {
 END
 } >"$room/program/src/main.rs"
 is 'the commands of docs/RUST.md' 'crates/data_encoding_c/build.sh /opt/bamsturk
-export DATA_ENCODING_DIR=/opt/bamsturk' "$(block sh)"
+export DATA_ENCODING_DIR=/opt/bamsturk' "$(block docs/RUST.md sh)"
 holds 'a program in the place of data-encoding' cargo_in "$room/program" test
 is 'the tests of that program' 2 "$(grep -c '^test .* ok$' "$room/said")"
+mkdir "$room/program/examples"
+block README.md rust Rust >"$room/program/examples/hello.rs"
+holds 'the program of README.md' cargo_in "$room/program" run --quiet --example hello
+is 'what the program of README.md prints' SGVsbG8= "$(cat "$room/said")"
 holds 'the program of docs/RUST.md' cargo_in "$room/program" run --quiet
 is 'what the program of docs/RUST.md prints' $'SGVsbG8=\n220644==\ninvalid symbol at 5' \
     "$(cat "$room/said")"
