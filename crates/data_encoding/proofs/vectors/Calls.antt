@@ -17,7 +17,7 @@ lengths_counted :
     Has base64_fields (λ base. (count : ℕ) (most : Result ℕ DecodeError) → IsEncodeLen base 5 count
     → IsDecodeLen base 5 most
     → (count ≡ 8) × (most ≡ Err (record { position = 4; kind = LengthFault })))
-lengths_counted = λ count most text data. (sym (text.length (codes "hello") refl), data.value)
+lengths_counted = λ count most text bytes. (sym (text.length (codes "hello") refl), bytes.value)
 
 -- `4f` decodes to a byte, and `4G` has a fault at 1
 text_answered :
@@ -26,6 +26,6 @@ text_answered :
     × ((partial : DecodePartial) → DecodesText base (codes "4G") old new (Err partial)
     → partial.error.position ≡ 1))
 text_answered = λ old new. (
-      (λ n answer. sym answer.sound.1),
-      (λ partial answer. let fault = answer.fault in cc),
-    )
+  (λ n answer. sym answer.sound.1),
+  (λ partial answer. let fault = answer.fault in cc),
+)
