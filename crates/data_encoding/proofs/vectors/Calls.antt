@@ -1,5 +1,5 @@
 -- Worked rows: what calls promise of an encoding, by value and by reference.
-use Rattle.std.proofs.Common.{◌≡◌, ℕ, List, [], ◌∷◌, codes, take, Result, Ok, Err, refl, sym}
+use Rattle.std.proofs.Common.{◌≡◌, ℕ, List, [], ◌∷◌, codes, take, Option, None, Some, Result, Ok, Err, refl, sym, ap}
 use Rattle.data_encoding_meaning.specs.declared.error.DecodeError.{DecodeError}
 use Rattle.data_encoding_meaning.specs.declared.error.DecodeKind.TheVariants.{Length as LengthFault}
 use Rattle.data_encoding_meaning.specs.declared.error.DecodePartial.{DecodePartial}
@@ -19,6 +19,10 @@ lengths_counted :
     → (count ≡ 8) × (most ≡ Err (record { position = 4; kind = LengthFault })))
 lengths_counted = λ count most text bytes. (sym (text.length (codes "hello") refl), bytes.value)
 
+position_in : Option DecodePartial → ℕ
+position_in None = 0
+position_in (Some partial) = partial.error.position
+
 -- `4f` decodes to a byte, and `4G` has a fault at 1
 text_answered :
     Has hexlower_fields (λ base. (old new : List ℕ) → ((n : ℕ)
@@ -27,5 +31,5 @@ text_answered :
     → partial.error.position ≡ 1))
 text_answered = λ old new. (
   (λ n answer. sym answer.sound.1),
-  (λ partial answer. let fault = answer.fault in cc),
+  (λ partial answer. sym (ap position_in answer.fault)),
 )
