@@ -22,7 +22,7 @@ pub extern "C" fn de_plain_decoder_new(decoder: &mut PlainKept)
     plain_decoder_new(decoder);
 }
 
-/// Returns the greatest number of bytes that `len` more bytes of the text may complete.
+/// Writes the greatest number of bytes that `len` more bytes of the text may complete to `most`.
 #[unsafe(no_mangle)]
 pub extern "C" fn de_numbered_decoder_most(
     number: u32,
@@ -70,7 +70,7 @@ pub extern "C" fn de_numbered_decoder_finish(
     numbered_decoder_finish(number, decoder, output, decoded)
 }
 
-/// Returns the greatest number of bytes that `len` more bytes of the text may complete.
+/// Writes the greatest number of bytes that `len` more bytes of the text may complete to `most`.
 #[unsafe(no_mangle)]
 pub extern "C" fn de_held_decoder_most(
     held: &PlainEncoding,

@@ -26,7 +26,7 @@ pub extern "C" fn de_plain_encoder_new(encoder: &mut KeptData)
     plain_encoder_new(encoder);
 }
 
-/// Returns the length of the text that `len` more bytes of the data complete.
+/// Writes the length of the text that `len` more bytes of the data complete to `most`.
 #[unsafe(no_mangle)]
 pub extern "C" fn de_numbered_encoder_most(
     number: u32,
@@ -74,7 +74,7 @@ pub extern "C" fn de_numbered_encoder_finish(
     numbered_encoder_finish(number, encoder, output, written)
 }
 
-/// Returns the length of the text that `len` more bytes of the data complete.
+/// Writes the length of the text that `len` more bytes of the data complete to `most`.
 #[unsafe(no_mangle)]
 pub extern "C" fn de_held_encoder_most(
     held: &PlainEncoding,

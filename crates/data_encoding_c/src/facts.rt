@@ -1,4 +1,4 @@
-//! Calls that return facts about an encoding, and a specification from which it can be built.
+//! Facts about an encoding, and a specification from which it can be built.
 
 ghost use Rattle.std.specs.Prelude.{◌≡◌};
 ghost use Rattle.data_encoding.specs.Plain.{base_of_plain};
@@ -11,7 +11,8 @@ use data_encoding_calls::{
     numbered_encode_align, numbered_specification,
 };
 
-/// Returns the number of bytes in a block: in a whole group of symbols, or in a whole line.
+/// Writes the number of bytes in a block, which is a whole group of symbols or a whole line, to
+/// `align`.
 #[unsafe(no_mangle)]
 pub extern "C" fn de_numbered_encode_align(number: u32, align: &mut usize) -> u32
     ensures { ByNumber number result (align.new ≡ align.old)
@@ -20,7 +21,8 @@ pub extern "C" fn de_numbered_encode_align(number: u32, align: &mut usize) -> u3
     numbered_encode_align(number, align)
 }
 
-/// Returns the number of bytes in a block: in a whole group of symbols, or in a whole line.
+/// Writes the number of bytes in a block, which is a whole group of symbols or a whole line, to
+/// `align`.
 #[unsafe(no_mangle)]
 pub extern "C" fn de_held_encode_align(held: &PlainEncoding, align: &mut usize) -> u32
     ensures { TellsAlignment (base_of_plain held.now) align.new result }
@@ -28,7 +30,7 @@ pub extern "C" fn de_held_encode_align(held: &PlainEncoding, align: &mut usize) 
     held_encode_align(held, align)
 }
 
-/// Returns the number of bits of a symbol.
+/// Writes the number of bits of a symbol to `width`.
 #[unsafe(no_mangle)]
 pub extern "C" fn de_numbered_bit_width(number: u32, width: &mut usize) -> u32
     ensures { ByNumber number result (width.new ≡ width.old)
@@ -37,7 +39,7 @@ pub extern "C" fn de_numbered_bit_width(number: u32, width: &mut usize) -> u32
     numbered_bit_width(number, width)
 }
 
-/// Returns the number of bits of a symbol.
+/// Writes the number of bits of a symbol to `width`.
 #[unsafe(no_mangle)]
 pub extern "C" fn de_held_bit_width(held: &PlainEncoding, width: &mut usize) -> u32
     ensures { TellsWidth (base_of_plain held.now) width.new result }

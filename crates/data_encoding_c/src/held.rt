@@ -28,7 +28,7 @@ pub extern "C" fn de_held_new(
     held_new(form, symbols, ignore, separator, from, to)
 }
 
-/// Returns the length of the text of `len` bytes.
+/// Writes the length of the text of `len` bytes to `text_len`.
 #[unsafe(no_mangle)]
 pub extern "C" fn de_held_encode_len(held: &PlainEncoding, len: usize, text_len: &mut usize) -> u32
     ensures { TellsTextLength (base_of_plain held.now) len text_len.old text_len.new result }
@@ -50,8 +50,8 @@ pub extern "C" fn de_held_encode(
     held_encode(held, input, output, written)
 }
 
-/// Returns the greatest number of bytes that a text of `len` bytes may mean, or the position of the
-/// fault of that length.
+/// Writes the greatest number of bytes that a text of `len` bytes may mean to `most`, or the
+/// position of the fault of that length.
 #[unsafe(no_mangle)]
 pub extern "C" fn de_held_decode_len(held: &PlainEncoding, len: usize, most: &mut usize) -> u32
     ensures { TellsMost (base_of_plain held.now) len most.old most.new result }
@@ -73,7 +73,7 @@ pub extern "C" fn de_held_decode(
     held_decode(held, input, output, decoded)
 }
 
-/// Whether no two different texts decode to the same data.
+/// Sets `answer` to whether no two different texts decode to the same data.
 #[unsafe(no_mangle)]
 pub extern "C" fn de_held_is_canonical(held: &PlainEncoding, answer: &mut bool) -> u32
     ensures { TellsCanonical (base_of_plain held.now) answer.new result }

@@ -8,7 +8,7 @@ use data_encoding_calls::{
     numbered_is_canonical,
 };
 
-/// Returns the length of the text of `len` bytes.
+/// Writes the length of the text of `len` bytes to `text_len`.
 #[unsafe(no_mangle)]
 pub extern "C" fn de_numbered_encode_len(number: u32, len: usize, text_len: &mut usize) -> u32
     ensures { ByNumber number result (text_len.new ≡ text_len.old)
@@ -31,8 +31,8 @@ pub extern "C" fn de_numbered_encode(
     numbered_encode(number, input, output, written)
 }
 
-/// Returns the greatest number of bytes that a text of `len` bytes may mean, or the position of the
-/// fault of that length.
+/// Writes the greatest number of bytes that a text of `len` bytes may mean to `most`, or the
+/// position of the fault of that length.
 #[unsafe(no_mangle)]
 pub extern "C" fn de_numbered_decode_len(number: u32, len: usize, most: &mut usize) -> u32
     ensures { ByNumber number result (most.new ≡ most.old)
@@ -55,7 +55,7 @@ pub extern "C" fn de_numbered_decode(
     numbered_decode(number, input, output, decoded)
 }
 
-/// Whether no two different texts decode to the same data.
+/// Sets `answer` to whether no two different texts decode to the same data.
 #[unsafe(no_mangle)]
 pub extern "C" fn de_numbered_is_canonical(number: u32, answer: &mut bool) -> u32
     ensures { ByNumber number result (answer.new ≡ answer.old)

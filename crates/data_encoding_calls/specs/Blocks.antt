@@ -26,7 +26,7 @@ piece_status base kept piece room =
     if nat_lt 36028797018963967 (length piece) then too_long
     else front_status (piece_text base kept piece) room
 
--- A call returned the length of the text that this many more bytes complete, or refused.
+-- A call wrote the length of the text that this many more bytes complete, or refused.
 pub record TellsDue (base : Base) (kept : KeptData) (len old new answer : ℕ) : Type 0 where
   pub status : answer ≡ if_kept base kept (encode_len_status len)
   pub value : answer ≡ ok → (piece : List ℕ) → length piece ≡ len

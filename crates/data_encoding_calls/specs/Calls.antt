@@ -70,7 +70,7 @@ pub record WritesFront (bytes output_old output_new : List ℕ)
   pub written : answer ≡ ok → written_new ≡ length bytes
   pub refused : (answer ≡ ok → ⊥) → (output_new ≡ output_old) × (written_new ≡ written_old)
 
--- A call returned the length of the text of this many bytes, or refused and changed nothing.
+-- A call wrote the length of the text of this many bytes, or refused and changed nothing.
 pub record TellsTextLength (base : Base) (len old new answer : ℕ) : Type 0 where
   pub status : answer ≡ encode_len_status len
   pub text_length : answer ≡ ok → (bytes : List ℕ) → length bytes ≡ len
@@ -85,8 +85,8 @@ pub record Encodes (base : Base) (bytes output_old output_new : List ℕ)
   pub written : answer ≡ ok → written_new ≡ length (text_of base bytes)
   pub refused : (answer ≡ ok → ⊥) → (output_new ≡ output_old) × (written_new ≡ written_old)
 
--- A call returned the most bytes that a text of this length may mean, or the position of the
--- length's fault, or refused and changed nothing.
+-- A call wrote the most bytes that a text of this length may mean, or the position of the length's
+-- fault, or refused and changed nothing.
 pub record TellsMost (base : Base) (len old new answer : ℕ) : Type 0 where
   pub status : answer ≡ decode_len_status base len
   pub value : answer ≡ ok → decoded_len base len ≡ Ok new
@@ -116,7 +116,7 @@ pub record Decodes (base : Base) (text output_old output_new : List ℕ)
   pub behind : (most : ℕ) → decoded_len base (length text) ≡ Ok most
       → drop most output_new ≡ drop most output_old
 
--- A call returned whether an encoding is canonical.
+-- A call wrote whether an encoding is canonical.
 pub record TellsCanonical (base : Base) (canonical : Bool) (answer : ℕ) : Type 0 where
   pub status : answer ≡ ok
   pub is_canonical : IsTrue canonical ↔ IsCanonical base

@@ -1,4 +1,4 @@
--- What calls return about an encoding.
+-- What calls write about an encoding.
 use Rattle.std.specs.Prelude.{◌≡◌, ℕ, List, ◌++◌, length}
 use Rattle.data_encoding.specs.Base.{Base}
 use Rattle.data_encoding.specs.Fields.{Fields}
@@ -10,12 +10,12 @@ use Rattle.data_encoding_calls.specs.Calls.{front_status, over}
 use Rattle.data_encoding_calls.specs.Held.{fields_asked}
 use Rattle.data_encoding_calls.specs.Status.{ok}
 
--- A call returned the number of bytes of data in a block.
+-- A call wrote the number of bytes of data in a block.
 pub record TellsAlignment (base : Base) (new answer : ℕ) : Type 0 where
   pub status : answer ≡ ok
   pub value : new ≡ alignment base
 
--- A call returned the number of bits of a symbol.
+-- A call wrote the number of bits of a symbol.
 pub record TellsWidth (base : Base) (new answer : ℕ) : Type 0 where
   pub status : answer ≡ ok
   pub value : new ≡ base.width
@@ -35,13 +35,13 @@ pub record AsksFor (fields : Fields) (form : Form) (lengths : TextLengths) : Typ
   pub from : lengths.translate_from ≡ length fields.from
   pub to : lengths.translate_to ≡ length fields.to
 
--- What a call that returns a specification may change.
+-- What a call that writes a specification may change.
 pub record SpecificationPlaces : Type 0 where
   pub form : Form
   pub lengths : TextLengths
   pub texts : List ℕ
 
--- A call returned the specification of an encoding, or refused and changed nothing.
+-- A call wrote the specification of an encoding, or refused and changed nothing.
 pub record GivesBack (base : Base) (old new : SpecificationPlaces) (answer : ℕ) : Type 0 where
   pub status : answer ≡ front_status (texts_of (fields_of base)) (length old.texts)
   pub texts : answer ≡ ok → new.texts ≡ over (texts_of (fields_of base)) old.texts

@@ -14,7 +14,7 @@ pub record WritesName (number : ℕ) (output_old output_new : List ℕ)
       × (output_new ≡ output_old) × (written_new ≡ written_old)
   pub fits : 22 ≤ length output_old → answer ≡ short_buffer → ⊥
 
--- A call returned the number of this name, or refused and changed nothing.
+-- A call wrote the number of this name, or refused and changed nothing.
 pub record FindsNumber (name : List ℕ) (old new answer : ℕ) : Type 0 where
   pub known : (found : ℕ) → number_named name ≡ Some found → (answer ≡ ok) × (new ≡ found)
   pub unknown : number_named name ≡ None → (answer ≡ unknown_encoding) × (new ≡ old)

@@ -74,7 +74,7 @@ piece_status base kept len room =
     else if nat_lt room (most_completed base kept len) then short_buffer
     else ok
 
--- A call returned how many bytes this many more bytes of the text may complete, or refused.
+-- A call wrote how many bytes this many more bytes of the text may complete, or refused.
 pub record TellsRoom (base : Base) (plain : PlainKept) (len old new answer : ℕ) : Type 0 where
   pub status : (text : List ℕ) (stands : StandsAfter base plain text)
       → answer ≡ length_status stands.kept len

@@ -6,7 +6,7 @@ use crate::status::{NO_ENCODER, OK, SHORT_BUFFER, TOO_LONG};
 use data_encoding::{ENCODE_LIMIT, Encoding};
 use encoding_stream::{BufferEncoder, KeptData};
 
-/// Returns the length of the text that `len` more bytes of the data complete.
+/// Writes the length of the text that `len` more bytes of the data complete to `most`.
 pub(crate) fn due_by(encoding: &Encoding, kept: &KeptData, len: usize, most: &mut usize) -> u32
     ensures { TellsDue encoding.now kept.now len most.old most.new result }
 {

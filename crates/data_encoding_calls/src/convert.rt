@@ -11,7 +11,7 @@ ghost use Rattle.data_encoding_calls.specs.Calls.{decode_len_status, decode_stat
 use crate::status::{OK, SHORT_BUFFER, TOO_LONG, status_of_kind};
 use data_encoding::{DECODE_LIMIT, DecodeError, DecodePartial, ENCODE_LIMIT, EncodingRef};
 
-/// Returns the length of the text of `len` bytes.
+/// Writes the length of the text of `len` bytes to `text_len`.
 pub(crate) fn encode_len_by(encoding: &EncodingRef<'_>, len: usize, text_len: &mut usize) -> u32
     ensures status { result ≡ encode_len_status len }
     ensures length { result ≡ OK → (bytes : List ℕ) → length bytes ≡ len
@@ -66,8 +66,8 @@ pub struct Decoded {
     pub position: usize,
 }
 
-/// Returns the greatest number of bytes that a text of `len` bytes may mean, or the position of the
-/// fault of that length.
+/// Writes the greatest number of bytes that a text of `len` bytes may mean to `most`, or the
+/// position of the fault of that length.
 pub(crate) fn decode_len_by(encoding: &EncodingRef<'_>, len: usize, most: &mut usize) -> u32
     ensures status { result ≡ decode_len_status encoding.now len }
     ensures value { result ≡ OK → decoded_len encoding.now len ≡ Ok most.new }
@@ -157,7 +157,7 @@ pub(crate) fn decode_by(
     }
 }
 
-/// Whether no two different texts decode to the same data.
+/// Sets `answer` to whether no two different texts decode to the same data.
 pub(crate) fn is_canonical_by(encoding: &EncodingRef<'_>, answer: &mut bool) -> u32
     ensures status { result ≡ OK }
     ensures canonical { IsTrue answer.new ↔ IsCanonical encoding.now }

@@ -30,7 +30,7 @@ pub fn plain_decoder_new(decoder: &mut PlainKept)
     };
 }
 
-/// Returns the greatest number of bytes that `len` more bytes of the text may complete.
+/// Writes the greatest number of bytes that `len` more bytes of the text may complete to `most`.
 pub fn numbered_decoder_most(number: u32, decoder: &PlainKept, len: usize, most: &mut usize) -> u32
     ensures { ByNumber number result (most.new ≡ most.old)
         (λ base. TellsRoom base decoder.now len most.old most.new result) }
@@ -79,7 +79,7 @@ pub fn numbered_decoder_finish(
     finish_by(&encoding.encoding(), decoder, output, decoded)
 }
 
-/// Returns the greatest number of bytes that `len` more bytes of the text may complete.
+/// Writes the greatest number of bytes that `len` more bytes of the text may complete to `most`.
 pub fn held_decoder_most(
     held: &PlainEncoding,
     decoder: &PlainKept,

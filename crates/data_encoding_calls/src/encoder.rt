@@ -28,7 +28,7 @@ pub fn plain_encoder_new(encoder: &mut KeptData)
     };
 }
 
-/// Returns the length of the text that `len` more bytes of the data complete.
+/// Writes the length of the text that `len` more bytes of the data complete to `most`.
 pub fn numbered_encoder_most(number: u32, encoder: &KeptData, len: usize, most: &mut usize) -> u32
     ensures { ByNumber number result (most.new ≡ most.old)
         (λ base. TellsDue base encoder.now len most.old most.new result) }
@@ -77,7 +77,7 @@ pub fn numbered_encoder_finish(
     end_by(&encoding.encoding(), encoder, output, written)
 }
 
-/// Returns the length of the text that `len` more bytes of the data complete.
+/// Writes the length of the text that `len` more bytes of the data complete to `most`.
 pub fn held_encoder_most(
     held: &PlainEncoding,
     encoder: &KeptData,

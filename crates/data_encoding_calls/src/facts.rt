@@ -35,7 +35,8 @@ pub struct TextLengths {
     pub translate_to: usize,
 }
 
-/// Returns the number of bytes in a block: in a whole group of symbols, or in a whole line.
+/// Writes the number of bytes in a block, which is a whole group of symbols or a whole line, to
+/// `align`.
 pub fn numbered_encode_align(number: u32, align: &mut usize) -> u32
     ensures { ByNumber number result (align.new ≡ align.old)
         (λ base. TellsAlignment base align.new result) }
@@ -47,7 +48,8 @@ pub fn numbered_encode_align(number: u32, align: &mut usize) -> u32
     OK
 }
 
-/// Returns the number of bytes in a block: in a whole group of symbols, or in a whole line.
+/// Writes the number of bytes in a block, which is a whole group of symbols or a whole line, to
+/// `align`.
 pub fn held_encode_align(held: &PlainEncoding, align: &mut usize) -> u32
     ensures { TellsAlignment (base_of_plain held.now) align.new result }
 {
@@ -55,7 +57,7 @@ pub fn held_encode_align(held: &PlainEncoding, align: &mut usize) -> u32
     OK
 }
 
-/// Returns the number of bits of a symbol.
+/// Writes the number of bits of a symbol to `width`.
 pub fn numbered_bit_width(number: u32, width: &mut usize) -> u32
     ensures { ByNumber number result (width.new ≡ width.old)
         (λ base. TellsWidth base width.new result) }
@@ -67,7 +69,7 @@ pub fn numbered_bit_width(number: u32, width: &mut usize) -> u32
     OK
 }
 
-/// Returns the number of bits of a symbol.
+/// Writes the number of bits of a symbol to `width`.
 pub fn held_bit_width(held: &PlainEncoding, width: &mut usize) -> u32
     ensures { TellsWidth (base_of_plain held.now) width.new result }
 {

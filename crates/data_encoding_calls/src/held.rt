@@ -10,7 +10,7 @@ use crate::convert::{
 };
 use data_encoding::PlainEncoding;
 
-/// Returns the length of the text of `len` bytes.
+/// Writes the length of the text of `len` bytes to `text_len`.
 pub fn held_encode_len(held: &PlainEncoding, len: usize, text_len: &mut usize) -> u32
     ensures { TellsTextLength (base_of_plain held.now) len text_len.old text_len.new result }
 {
@@ -30,8 +30,8 @@ pub fn held_encode(
     encode_by(&held.by_ref(), input, output, written)
 }
 
-/// Returns the greatest number of bytes that a text of `len` bytes may mean, or the position of the
-/// fault of that length.
+/// Writes the greatest number of bytes that a text of `len` bytes may mean to `most`, or the
+/// position of the fault of that length.
 pub fn held_decode_len(held: &PlainEncoding, len: usize, most: &mut usize) -> u32
     ensures { TellsMost (base_of_plain held.now) len most.old most.new result }
 {
@@ -51,7 +51,7 @@ pub fn held_decode(
     decode_by(&held.by_ref(), input, output, decoded)
 }
 
-/// Whether no two different texts decode to the same data.
+/// Sets `answer` to whether no two different texts decode to the same data.
 pub fn held_is_canonical(held: &PlainEncoding, answer: &mut bool) -> u32
     ensures { TellsCanonical (base_of_plain held.now) answer.new result }
 {

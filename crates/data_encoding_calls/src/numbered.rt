@@ -9,7 +9,7 @@ use crate::convert::{
 use crate::status::UNKNOWN_ENCODING;
 use data_encoding::predefined_numbered;
 
-/// Returns the length of the text of `len` bytes.
+/// Writes the length of the text of `len` bytes to `text_len`.
 pub fn numbered_encode_len(number: u32, len: usize, text_len: &mut usize) -> u32
     ensures { ByNumber number result (text_len.new ≡ text_len.old)
         (λ base. TellsTextLength base len text_len.old text_len.new result) }
@@ -31,8 +31,8 @@ pub fn numbered_encode(number: u32, input: &[u8], output: &mut [u8], written: &m
     encode_by(&encoding, input, output, written)
 }
 
-/// Returns the greatest number of bytes that a text of `len` bytes may mean, or the position of the
-/// fault of that length.
+/// Writes the greatest number of bytes that a text of `len` bytes may mean to `most`, or the
+/// position of the fault of that length.
 pub fn numbered_decode_len(number: u32, len: usize, most: &mut usize) -> u32
     ensures { ByNumber number result (most.new ≡ most.old)
         (λ base. TellsMost base len most.old most.new result) }
@@ -54,7 +54,7 @@ pub fn numbered_decode(number: u32, input: &[u8], output: &mut [u8], decoded: &m
     decode_by(&encoding, input, output, decoded)
 }
 
-/// Whether no two different texts decode to the same data.
+/// Sets `answer` to whether no two different texts decode to the same data.
 pub fn numbered_is_canonical(number: u32, answer: &mut bool) -> u32
     ensures { ByNumber number result (answer.new ≡ answer.old)
         (λ base. TellsCanonical base answer.new result) }

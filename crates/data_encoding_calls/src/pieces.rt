@@ -105,7 +105,7 @@ fn decoder_of<'a>(encoding: &'a Encoding, plain: &PlainKept) -> Option<BufferDec
     BufferDecoder::resumed(encoding, kept_of(plain)?)
 }
 
-/// Returns how many bytes `len` more bytes of the text may complete.
+/// Writes how many bytes `len` more bytes of the text may complete to `most`.
 pub(crate) fn most_by(encoding: &Encoding, plain: &PlainKept, len: usize, most: &mut usize) -> u32
     ensures { TellsRoom encoding.now plain.now len most.old most.new result }
 {

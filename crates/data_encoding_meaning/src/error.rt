@@ -16,7 +16,7 @@ pub enum DecodeKind {
     /// A byte is no symbol.
     Symbol,
 
-    /// Bits that are left after the last byte of data are not zero.
+    /// Bits left after the last byte of data are not zeros.
     Trailing,
 
     /// The number of padding characters is wrong.

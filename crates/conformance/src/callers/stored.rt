@@ -16,7 +16,7 @@ use std::alloc::AllocError;
 use std::fmt;
 use std::fmt::Display;
 
-/// Returns the encoding again, from its layout.
+/// Returns the encoding again, from its layout, which always gives one.
 pub fn restored(encoding: &Encoding) -> Option<Encoding>
     ensures { result ≡ Some encoding.now }
 {

@@ -37,8 +37,8 @@ pub(crate) struct Reached {
 }
 
 impl EncodingRef<'_> {
-    /// Decodes the rest of a text. Not inlined: with the search in the same function, the loop over
-    /// lanes was slower by a fifth.
+    /// Decodes the rest of a text, and returns whether it has no fault. Not inlined: with the
+    /// search in the same function, the loop over lanes was slower by a fifth.
     #[inline(never)]
     pub(crate) fn decode_from<L: LookUp, O: ConstantOrder, G: GroupSize>(
         &self,
@@ -59,7 +59,8 @@ impl EncodingRef<'_> {
         self.decode_steps::<L, O, G>(values, Some(look_up), input, output, stop)
     }
 
-    /// Decodes step by step, up to the end of the text.
+    /// Decodes step by step, up to the end of the text or its first fault, and returns whether it
+    /// has none.
     #[inline(always)]
     pub(crate) fn decode_steps<L: LookUp, O: ConstantOrder, G: GroupSize>(
         &self,

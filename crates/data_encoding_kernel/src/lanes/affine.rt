@@ -118,7 +118,7 @@ fn agrees_in_row(affine: &Affine, values: &[u8; 256], row: usize) -> bool
     are_below(128, found.simd_eq(entries).select(u8x16::splat(0), moved))
 }
 
-// The entries found for bytes: `$in_row` is the look-up in a row of sixteen.
+// The entries found for bytes: `$in_row` looks them up in sixteen entries.
 macro_rules! found_by_rows {
     ($affine:ident, $bytes:ident, $in_row:ident, $lanes:ident) => {{
         let rows = $bytes >> $lanes::splat(4);

@@ -177,7 +177,7 @@ pairs_of_texts = (
       (lit< tt) (lit≤ tt) (lit≤ tt) refl refl refl refl,
 )
 
--- that each cause there may be gives such a pair
+-- that each possible cause gives such a pair
 causes_of_texts :
     Has base64_mime_permissive_fields (λ base.
     IgnoredIsSecond base × TrailingIsSecond base × ConcatenatedIsSecond base)

@@ -57,7 +57,7 @@ partial_at base text error =
       error = error;
     }
 
--- the same for a fault that there may be
+-- how far a text was read and written, given its fault if it has one
 abbrev pub partial_by : Base → List ℕ → Option DecodeError → Option DecodePartial
 partial_by base text None = None
 partial_by base text (Some error) = Some (partial_at base text error)

@@ -13,7 +13,7 @@ MeansSound =
     (base : Base) → IsSpecified base → (text bytes : List ℕ)
     → Means base text bytes ↔ ((fault_of base text ≡ None) × (sound_bytes base text ≡ bytes))
 
--- Different data have different texts.
+-- Different data has different texts.
 abbrev pub Injective : Type 0
 Injective =
     (base : Base) → IsSpecified base → (bytes others : List ℕ)

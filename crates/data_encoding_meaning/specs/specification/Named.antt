@@ -48,7 +48,7 @@ abbrev pub fields_numbered : ℕ → Option Fields
 fields_numbered number =
     slice_index_or (map (λ (entry : List ℕ × Fields). Some entry.1) predefined) number None
 
--- the same for a number that there may be
+-- the specification of a number, if there is a number and it has one
 abbrev pub fields_at : Option ℕ → Option Fields
 fields_at None = None
 fields_at (Some number) = fields_numbered number

@@ -89,7 +89,7 @@ pub fn predefined(name: &str) -> Option<EncodingRef<'static>>
 }
 
 /// Returns the predefined encoding with this number, from 0 to 17, in the order of
-/// `predefined_names`.
+/// `predefined_names`, or `None` for any other number.
 pub fn predefined_numbered(number: u32) -> Option<EncodingRef<'static>>
     ensures known { IfSome result (IsNumbered number) }
     ensures unknown { (result ≡ None) ↔ (fields_numbered number ≡ None) }
@@ -97,7 +97,8 @@ pub fn predefined_numbered(number: u32) -> Option<EncodingRef<'static>>
     with_predefined!(encoding_at, number)
 }
 
-/// Returns the name of the predefined encoding with this number. It has at most 22 bytes.
+/// Returns the name of the predefined encoding with this number, or `None` if there is none. A name
+/// has at most 22 bytes.
 pub fn predefined_name(number: u32) -> Option<&'static str>
     ensures known { IfSome result (λ name. name_numbered number ≡ Some name.now) }
     ensures unknown { result ≡ None → name_numbered number ≡ None }
