@@ -1,6 +1,6 @@
-/* The calls of data_encoding.h over those that are proved, which take no null pointer. */
+/* The calls of data_encoding.h over those that are proved, which accept no null pointer. */
 
-/* What tests a pointer would be dropped here by a compiler that takes it that it is not null. */
+/* A compiler that assumes that a pointer is not null would remove the tests here. */
 #define DE_NONNULL(...)
 #include "data_encoding.h"
 
@@ -27,7 +27,7 @@ de_status de_numbered_is_canonical(de_number number, bool *canonical);
 de_status de_numbered_name(de_number number, byte *output, size_t output_len, size_t *written);
 de_status de_named_number(const byte *name, size_t name_len, de_number *number);
 
-/* What the library returns of an encoding that is asked for. */
+/* What the library returns for a specification. */
 struct made {
     de_status status;
     size_t detail;
@@ -53,8 +53,7 @@ de_status de_held_decoder_most(const byte *held, const de_decoder *decoder, size
 de_status de_held_decoder_finish(const byte *held, const de_decoder *decoder, byte *output,
                                  size_t output_len, de_decoded *decoded);
 
-/* What a specification that is given back has: what it says in numbers, and how long its texts are,
- * which are one after the other. */
+/* How long the texts of a specification that is returned are, which follow each other. */
 struct text_lengths {
     size_t symbols;
     size_t ignore;
@@ -91,10 +90,10 @@ de_status de_held_encoder_finish(const byte *held, const de_encoder *encoder, by
 #include "bytes.h"
 #undef CALL
 
-/* Whether they run on this processor, and DE_CPU does not ask for the others. */
+/* Whether this processor runs them, and DE_CPU does not ask for the others. */
 static bool is_wide;
 
-/* From how many bytes on they take less time. */
+/* From how many bytes on they are faster. */
 enum { WIDE_FROM = 64 };
 
 #define BY_PROCESSOR(name, len) (is_wide && (len) >= WIDE_FROM ? de_wide_##name : de_##name)
@@ -119,14 +118,14 @@ __attribute__((constructor)) static void choose(void) {
 #define BY_PROCESSOR(name, len) de_##name
 #endif
 
-/* What marks a de_encoding that was made: eight bytes of no pattern. */
+/* The mark of a de_encoding that was made: eight arbitrary bytes. */
 static const byte made_mark[8] = {0xde, 0x3b, 0x92, 0x67, 0xf4, 0x0d, 0xa8, 0x51};
 
-/* What no bytes are read from, and written to. */
+/* Empty arrays to read from and to write to. */
 static const byte no_bytes[1];
 static byte no_room[1];
 
-/* What is read of these bytes, no bytes for a null pointer, or NULL where they are missing. */
+/* The bytes, or an empty array for a null pointer with the length 0; NULL if they are missing. */
 static const byte *in(const void *bytes, size_t len) {
     if (bytes != NULL) {
         return (const byte *)bytes;
@@ -134,7 +133,7 @@ static const byte *in(const void *bytes, size_t len) {
     return len == 0 ? no_bytes : NULL;
 }
 
-/* The same of what is written to. */
+/* The same for bytes that are written to. */
 static byte *out(void *bytes, size_t len) {
     if (bytes != NULL) {
         return (byte *)bytes;
@@ -146,7 +145,7 @@ static bool is_held(const de_encoding *encoding) {
     return memcmp(encoding->made, made_mark, sizeof made_mark) == 0;
 }
 
-/* Where an encoding is made, it is stored. */
+/* An encoding that was made is stored. */
 static de_status stored(de_encoding *encoding, const struct made *made) {
     if (made->status == DE_OK) {
         memcpy(encoding->made, made_mark, sizeof made_mark);
@@ -220,7 +219,7 @@ de_status de_decode(de_number number, const char *input, size_t input_len, void 
     return BY_PROCESSOR(numbered_decode, input_len)(number, from, input_len, to, output_len, decoded);
 }
 
-/* What a caller's bool has before the call may be no bool: the answer is taken in one that is. */
+/* A caller's bool may be uninitialized before the call: the result is written to another. */
 de_status de_is_canonical(de_number number, bool *canonical) {
     bool answer = false;
     de_status status;
@@ -462,7 +461,7 @@ de_status de_bit_width(de_number number, size_t *width) {
     return de_numbered_bit_width(number, width);
 }
 
-/* What is given back, as it is asked for, where it is. */
+/* After DE_OK, writes the specification that was returned to *given. */
 static de_status given_back(de_status status, de_specification *given, const struct form *form,
                             const struct text_lengths *lengths, const char *texts) {
     if (status != DE_OK) {

@@ -1,15 +1,15 @@
 /* Base encodings, proved: data as text over an alphabet of symbols, and back.
  *
  * C99, and C++. Each function returns a status, tests every length itself, and can be called by
- * any number of threads at once, also with one encoding.
+ * any number of threads at once, also with the same encoding.
  *
- * What a caller owes, and nothing checks: a pointer points to as many bytes as the length after it
- * says, or to a value of its type; what a call writes to overlaps nothing else that it is given;
- * nothing writes to any of these while the call runs; and a de_encoding is one that de_encoding_new
- * or de_encoding_read made, or a copy of it. A pointer to bytes may be null where its length is 0.
- * Any other null pointer is refused by DE_NULL_POINTER (but see DE_NONNULL).
+ * What a caller has to ensure, and nothing checks: a pointer points to as many bytes as the length
+ * after it says, or to a value of its type; the memory that a call writes to overlaps no other
+ * argument; nothing else writes to the arguments during the call; and a de_encoding was made by
+ * de_encoding_new or de_encoding_read, or is a copy of one. A pointer to bytes may be null if its
+ * length is 0. Any other null pointer is refused with DE_NULL_POINTER (but see DE_NONNULL).
  *
- * Lengths are in bytes. No text that is written ends in a NUL. No call takes memory.
+ * Lengths are in bytes. No text is terminated by a NUL. No call allocates.
  */
 #ifndef DATA_ENCODING_H
 #define DATA_ENCODING_H
@@ -28,14 +28,14 @@ extern "C" {
 #define DE_VERSION_PATCH 0
 #define DE_VERSION "0.1.0"
 
-/* The number in the name of the shared library, which is raised where programs that were built with
- * it before do not run with it. */
+/* The number in the name of the shared library, which is raised when programs that were built with
+ * an earlier one no longer run with it. */
 #define DE_INTERFACE 0
 
-/* What a compiler is told of the calls. A program may define each of these before it includes this
- * header, also as nothing. */
+/* Attributes of the calls. A program may define each of these before it includes this header, also
+ * as nothing. */
 
-/* A shared library gives the call, also one that is made of the static library. */
+/* A shared library exports the call, also one that is made from the static library. */
 #ifndef DE_EXPORT
 #ifdef __GNUC__
 #define DE_EXPORT __attribute__((visibility("default")))
@@ -44,7 +44,7 @@ extern "C" {
 #endif
 #endif
 
-/* A compiler warns where the status is dropped. */
+/* A compiler warns if the status is unused. */
 #ifndef DE_NODISCARD
 #if defined(__GNUC__)
 #define DE_NODISCARD __attribute__((warn_unused_result))
@@ -55,9 +55,9 @@ extern "C" {
 #endif
 #endif
 
-/* A compiler warns where one of these parameters, counted from 1, is a null pointer. It may also
- * take it that none is, and leave out what the program does about one that is: a program that relies
- * on DE_NULL_POINTER defines this as nothing. */
+/* A compiler warns if one of these parameters, counted from 1, is a null pointer. It may also
+ * assume that none is, and remove tests for one: a program that relies on DE_NULL_POINTER defines
+ * this as nothing. */
 #ifndef DE_NONNULL
 #ifdef __GNUC__
 #define DE_NONNULL(...) __attribute__((nonnull(__VA_ARGS__)))
@@ -66,8 +66,7 @@ extern "C" {
 #endif
 #endif
 
-/* The version of the library, as DE_VERSION is that of the header: never null, and valid for
- * ever. */
+/* The version of the library, as DE_VERSION is that of the header: never null, and always valid. */
 DE_EXPORT
 const char *de_version(void);
 
@@ -75,8 +74,8 @@ const char *de_version(void);
 #define DE_ENCODE_LIMIT (SIZE_MAX / 512)
 #define DE_DECODE_LIMIT (SIZE_MAX / 8)
 
-/* What happened. After any but DE_OK, and the four of a faulty text, a call has changed nothing
- * (but *detail, where it names one). */
+/* What happened. After any but DE_OK and the four of a faulty text, a call has changed nothing
+ * (except *detail, if the status uses it). */
 typedef uint32_t de_status;
 enum {
     DE_OK = 0,
@@ -84,23 +83,23 @@ enum {
     /* No predefined encoding has the number, or the name. */
     DE_UNKNOWN_ENCODING = 1,
 
-    /* A pointer is null that must not be. */
+    /* A pointer that must not be null is null. */
     DE_NULL_POINTER = 2,
 
     /* The data is longer than DE_ENCODE_LIMIT, or the text than DE_DECODE_LIMIT. */
     DE_TOO_LONG = 3,
 
-    /* The output has no room: de_encode_len and de_decode_len say how much is needed. */
+    /* The output is too short: de_encode_len and de_decode_len say how much is needed. */
     DE_SHORT_BUFFER = 4,
 
-    /* The text has a fault: its length is that of no text; a byte is no symbol; bits that are left
-     * after the last byte are not zeros; the number of padding characters is wrong. */
+    /* The text has a fault: no text has its length; a byte is no symbol; bits that are left after
+     * the last byte are not zeros; the number of padding characters is wrong. */
     DE_INVALID_LENGTH = 6,
     DE_INVALID_SYMBOL = 7,
     DE_INVALID_TRAILING_BITS = 8,
     DE_INVALID_PADDING = 9,
 
-    /* A specification is refused, by de_encoding_new alone. In this order are judged: */
+    /* A specification is refused, by de_encoding_new alone. It is judged in this order: */
 
     /* There are not 2, 4, 8, 16, 32 or 64 symbols. */
     DE_SYMBOL_COUNT = 10,
@@ -111,7 +110,7 @@ enum {
     /* The byte `detail` is given two meanings. */
     DE_DUPLICATE = 12,
 
-    /* There is padding, and no text needs any. */
+    /* There is padding, but no text needs any. */
     DE_EXTRA_PADDING = 13,
 
     /* The width of lines or the length of their separator is over 255. */
@@ -136,7 +135,7 @@ enum {
     DE_NO_ENCODER = 20
 };
 
-/* A few words on a status: never null, and valid for ever. */
+/* A few words on a status: never null, and always valid. */
 DE_EXPORT
 const char *de_status_text(de_status status);
 
@@ -163,7 +162,7 @@ enum {
     DE_BASE64URL_NOPAD = 17
 };
 
-/* How far a text was decoded, where its status is DE_OK or that of a faulty text. */
+/* How far a text was decoded, if the status is DE_OK or that of a faulty text. */
 typedef struct de_decoded {
     /* How many bytes of the text were read: of a faulty text, those before its first faulty group
      * or some more, which mean what was written. */
@@ -178,25 +177,25 @@ typedef struct de_decoded {
 } de_decoded;
 
 /* Writes to *text_len how long the text of len bytes is, with its padding and line ends.
- * DE_TOO_LONG where len is above DE_ENCODE_LIMIT. */
+ * DE_TOO_LONG if len is above DE_ENCODE_LIMIT. */
 DE_EXPORT DE_NODISCARD DE_NONNULL(3)
 de_status de_encode_len(de_number number, size_t len, size_t *text_len);
 
-/* Writes the text of the data to the front of output, and its length to *written. What stands in
- * the output after the text stays. DE_TOO_LONG, DE_SHORT_BUFFER. */
+/* Writes the text of the data to the start of output, and its length to *written. The rest of the
+ * output is unchanged. DE_TOO_LONG, DE_SHORT_BUFFER. */
 DE_EXPORT DE_NODISCARD DE_NONNULL(6)
 de_status de_encode(de_number number, const void *input, size_t input_len, char *output,
                     size_t output_len, size_t *written);
 
-/* Writes to *most how many bytes a text of len bytes may mean at most. Where no text has this
- * length, DE_INVALID_LENGTH, and *most is the greatest valid length below it. DE_TOO_LONG. */
+/* Writes to *most how many bytes a text of len bytes may mean at most. If no text has this length,
+ * DE_INVALID_LENGTH, and *most is the greatest valid length below it. DE_TOO_LONG. */
 DE_EXPORT DE_NODISCARD DE_NONNULL(3)
 de_status de_decode_len(de_number number, size_t len, size_t *most);
 
-/* Writes the data that the text means to the front of output, which has room for as many bytes as
+/* Writes the data that the text means to the start of output, which has room for as many bytes as
  * de_decode_len says, and to *decoded how far it came. A text that means nothing has one fault: one
- * of the four statuses DE_INVALID_. Then what was read means what was written; what the output has
- * after these, within what de_decode_len says, is not said. Where the length alone is the fault,
+ * of the four statuses DE_INVALID_. Then what was read means what was written; the bytes after
+ * that, within the room that de_decode_len says, are unspecified. If the length alone is the fault,
  * nothing is read. DE_TOO_LONG, DE_SHORT_BUFFER. */
 DE_EXPORT DE_NODISCARD DE_NONNULL(6)
 de_status de_decode(de_number number, const char *input, size_t input_len, void *output,
@@ -207,20 +206,20 @@ DE_EXPORT DE_NODISCARD DE_NONNULL(2)
 de_status de_is_canonical(de_number number, bool *canonical);
 
 /* What a decoder keeps of a text that comes in pieces: plain numbers, which may be copied, and need
- * no end. A copy goes on from where it was made. Any numbers may be given. These are refused by
- * DE_NO_DECODER: a len above DE_DECODE_LIMIT; a count of a whole group or more, or above len; held
- * bytes whose positions do not ascend below len, or of which the encoding ignores one; a fault that
- * is neither 0 nor one of the four statuses DE_INVALID_; with a fault, a count that is not 0, a
- * fault_position that is not below len, and a kind of fault that no whole group has:
+ * no cleanup. A copy goes on from where it was made. Any numbers may be given. These are refused
+ * with DE_NO_DECODER: a len above DE_DECODE_LIMIT; a count of a whole group or more, or above len;
+ * held bytes whose positions do not ascend below len, or of which the encoding ignores one; a fault
+ * that is neither 0 nor one of the four statuses DE_INVALID_; with a fault, a count that is not 0,
+ * a fault_position that is not below len, and a kind of fault that no whole group has:
  * DE_INVALID_LENGTH, DE_INVALID_TRAILING_BITS if none are checked, and DE_INVALID_PADDING if texts
- * have no padding; with no fault, an ended of 1 if texts may be concatenated. Others may pass that
- * no call has left: then what is decoded is not said, but no call reads or writes outside its
- * arrays, and the position that de_decoder_finish writes is below len, or len with DE_OK. */
+ * have no padding; with no fault, an ended of 1 if texts may be concatenated. Other numbers that no
+ * call has left may pass: then what is decoded is unspecified, but no call reads or writes outside
+ * its arrays, and the position that de_decoder_finish writes is below len, or len with DE_OK. */
 typedef struct de_decoder {
     /* How many bytes the text has. */
     size_t len;
 
-    /* The bytes of an unfinished group, and where they stand in the text. */
+    /* The bytes of an unfinished group, and their positions in the text. */
     size_t count;
     size_t positions[8];
 
@@ -233,38 +232,37 @@ typedef struct de_decoder {
     unsigned char bytes[8];
 } de_decoder;
 
-/* Makes *decoder one that has read nothing, for any encoding. No other status than DE_OK and
- * DE_NULL_POINTER is returned, so that it may be dropped. */
+/* Makes *decoder one that has read nothing, for any encoding. No status but DE_OK and
+ * DE_NULL_POINTER is returned, so that it may be ignored. */
 DE_EXPORT DE_NONNULL(1)
 de_status de_decoder_new(de_decoder *decoder);
 
 /* Writes to *most how many bytes len more bytes of the text may complete at most: no more than
- * len + 7, and none after a fault. DE_NO_DECODER; DE_TOO_LONG where the text has more than
+ * len + 7, and none after a fault. DE_NO_DECODER; DE_TOO_LONG if the text has more than
  * DE_DECODE_LIMIT bytes with them. */
 DE_EXPORT DE_NODISCARD DE_NONNULL(2, 4)
 de_status de_decoder_most(de_number number, const de_decoder *decoder, size_t len, size_t *most);
 
 /* Reads a piece of the text, which may be cut anywhere. Writes the data of the groups that are then
- * whole, up to the first faulty one, to the front of output, which has room for as many bytes as
- * de_decoder_most says, and their number to *written. A fault is reported at the end. What the output
- * has behind the data, within that room, is not said; what it has behind that room stays.
- * DE_NO_DECODER, DE_TOO_LONG, DE_SHORT_BUFFER. */
+ * whole, up to the first faulty one, to the start of output, which has room for as many bytes as
+ * de_decoder_most says, and their number to *written. A fault is reported at the end. The bytes of
+ * the output after the data, within that room, are unspecified; those after that room are
+ * unchanged. DE_NO_DECODER, DE_TOO_LONG, DE_SHORT_BUFFER. */
 DE_EXPORT DE_NODISCARD DE_NONNULL(2, 7)
 de_status de_decoder_read(de_number number, de_decoder *decoder, const char *input,
                           size_t input_len, void *output, size_t output_len, size_t *written);
 
-/* Ends the text: writes the data of a last group, at most 5 bytes, to the front of output, and to
- * *decoded the length of the text, how many bytes were written, and the position of the fault,
- * which is that length where there is none. What the output has behind these bytes stays. The
- * status is the verdict that de_decode has on the whole text. The decoder stays as it was.
- * DE_NO_DECODER, DE_SHORT_BUFFER. */
+/* Ends the text: writes the data of a last group, at most 5 bytes, to the start of output, and to
+ * *decoded the length of the text, how many bytes were written, and the position of the fault, or
+ * that length if there is none. The rest of the output is unchanged, and so is the decoder. The
+ * status is the one that de_decode returns for the whole text. DE_NO_DECODER, DE_SHORT_BUFFER. */
 DE_EXPORT DE_NODISCARD DE_NONNULL(2, 5)
 de_status de_decoder_finish(de_number number, const de_decoder *decoder, void *output,
                             size_t output_len, de_decoded *decoded);
 
 /* Writes to *align how many bytes of data are a block: a whole group of symbols, or a whole line.
- * The texts of data may be joined where the length of all but the last is a multiple of it. It is
- * from 1 to 189. */
+ * The texts of pieces of data may be joined if the length of all but the last is a multiple of it.
+ * It is from 1 to 189. */
 DE_EXPORT DE_NODISCARD DE_NONNULL(2)
 de_status de_encode_align(de_number number, size_t *align);
 
@@ -273,36 +271,36 @@ DE_EXPORT DE_NODISCARD DE_NONNULL(2)
 de_status de_bit_width(de_number number, size_t *width);
 
 /* What an encoder keeps of data that comes in pieces: plain numbers, which may be copied, and need
- * no end. A copy goes on from where it was made. Any numbers may be given: a count of a whole block
- * or more is refused by DE_NO_ENCODER, and any other is what is kept of the held bytes alone. */
+ * no cleanup. A copy goes on from where it was made. Any numbers may be given: a count of a whole
+ * block or more is refused with DE_NO_ENCODER; any other means that the held bytes were read and no
+ * more. */
 typedef struct de_encoder {
     /* The bytes of an unfinished block. */
     size_t count;
     unsigned char bytes[189];
 } de_encoder;
 
-/* Makes *encoder one that has read nothing, for any encoding. No other status than DE_OK and
- * DE_NULL_POINTER is returned, so that it may be dropped. */
+/* Makes *encoder one that has read nothing, for any encoding. No status but DE_OK and
+ * DE_NULL_POINTER is returned, so that it may be ignored. */
 DE_EXPORT DE_NONNULL(1)
 de_status de_encoder_new(de_encoder *encoder);
 
 /* Writes to *most how long the text is that de_encoder_read writes for a piece of len bytes.
- * DE_NO_ENCODER; DE_TOO_LONG where len is above DE_ENCODE_LIMIT. */
+ * DE_NO_ENCODER; DE_TOO_LONG if len is above DE_ENCODE_LIMIT. */
 DE_EXPORT DE_NODISCARD DE_NONNULL(2, 4)
 de_status de_encoder_most(de_number number, const de_encoder *encoder, size_t len, size_t *most);
 
 /* Reads a piece of the data, which may be cut anywhere. Writes the text of the blocks that are then
- * whole to the front of output, and its length to *written. What the output has after the text
- * stays. DE_NO_ENCODER, DE_TOO_LONG, DE_SHORT_BUFFER. */
+ * whole to the start of output, and its length to *written. The rest of the output is unchanged.
+ * DE_NO_ENCODER, DE_TOO_LONG, DE_SHORT_BUFFER. */
 DE_EXPORT DE_NODISCARD DE_NONNULL(2, 7)
 de_status de_encoder_read(de_number number, de_encoder *encoder, const void *input,
                           size_t input_len, char *output, size_t output_len, size_t *written);
 
-/* Ends the data: writes the text of the held bytes, with its padding and line end, to the front of
- * output, and its length to *written: as many as de_encode_len says of encoder->count, and no more
- * than DE_LAST_TEXT_LIMIT. The texts that were written, one after the other, are the text of all
- * the data. What the output has after the text stays. The encoder stays as it was. DE_NO_ENCODER,
- * DE_SHORT_BUFFER. */
+/* Ends the data: writes the text of the held bytes, with its padding and line end, to the start of
+ * output, and its length to *written: what de_encode_len says of encoder->count, and no more than
+ * DE_LAST_TEXT_LIMIT. The texts that were written, joined, are the text of all the data. The rest
+ * of the output is unchanged, and so is the encoder. DE_NO_ENCODER, DE_SHORT_BUFFER. */
 #define DE_LAST_TEXT_LIMIT 510
 DE_EXPORT DE_NODISCARD DE_NONNULL(2, 5)
 de_status de_encoder_finish(de_number number, const de_encoder *encoder, char *output,
@@ -311,18 +309,18 @@ de_status de_encoder_finish(de_number number, const de_encoder *encoder, char *o
 /* The length of the longest name of a predefined encoding. */
 #define DE_NAME_LIMIT 22
 
-/* Writes the name of the encoding, as "BASE64_NOPAD" that of DE_BASE64_NOPAD, to the front of
- * output, and its length to *written. What stands in the output after the name stays.
- * DE_SHORT_BUFFER, which DE_NAME_LIMIT bytes avoid. */
+/* Writes the name of the encoding, such as "BASE64_NOPAD" for DE_BASE64_NOPAD, to the start of
+ * output, and its length to *written. The rest of the output is unchanged. DE_SHORT_BUFFER, which
+ * DE_NAME_LIMIT bytes avoid. */
 DE_EXPORT DE_NODISCARD DE_NONNULL(4)
 de_status de_name(de_number number, char *output, size_t output_len, size_t *written);
 
-/* Writes the number of the encoding of this name to *number. DE_UNKNOWN_ENCODING, also where the
- * name is in lower case. */
+/* Writes the number of the encoding of this name to *number. DE_UNKNOWN_ENCODING, also if the name
+ * is in lower case. */
 DE_EXPORT DE_NODISCARD DE_NONNULL(3)
 de_status de_number_named(const char *name, size_t name_len, de_number *number);
 
-/* What an encoding is asked for by. DE_SPECIFICATION is one with nothing but the defaults. */
+/* What an encoding is built from. DE_SPECIFICATION has only the defaults. */
 typedef struct de_specification {
     /* The symbols in order of value: 2, 4, 8, 16, 32 or 64 ASCII characters. */
     const char *symbols;
@@ -332,40 +330,40 @@ typedef struct de_specification {
     const char *ignore;
     size_t ignore_len;
 
-    /* What follows each line of wrap_width characters; there are lines where both are not 0. */
+    /* What follows each line of wrap_width characters; there are lines if neither length is 0. */
     const char *wrap_separator;
     size_t wrap_separator_len;
     size_t wrap_width;
 
-    /* Bytes that mean what others mean: each of the first what the one of the second at its
-     * position means. */
+    /* Bytes that mean what others mean: each byte of the first text what the byte of the second at
+     * its position means. */
     const char *translate_from;
     size_t translate_from_len;
     const char *translate_to;
     size_t translate_to_len;
 
-    /* What fills the last group of a text; below 0, nothing does. */
+    /* The character that fills the last group of a text, or below 0 for none. */
     int padding;
 
-    /* Whether the bit of weight 1 comes first, in place of that of weight 128. */
+    /* Whether the bit of weight 1 comes first, instead of that of weight 128. */
     bool least_significant_first;
 
     /* Whether bits that are left after the last byte have to be zeros. */
     bool check_trailing_bits;
 
-    /* Whether padded texts that stand one after the other are decoded as one. */
+    /* Whether joined padded texts are decoded as one. */
     bool concatenate;
 } de_specification;
 
 #define DE_SPECIFICATION {NULL, 0, NULL, 0, NULL, 0, 0, NULL, 0, NULL, 0, -1, false, true, true}
 
-/* As much room as the texts of any specification need. */
+/* The room that the texts of any specification fit in. */
 #define DE_TEXTS_LIMIT 703
 
-/* Writes the specification of the encoding to *specification, for which texts is filled from the
- * front: its pointers point there. From it, also with some of its fields changed, de_encoding_new
- * makes an encoding; one that is not changed makes this one. What texts has after them stays.
- * DE_SHORT_BUFFER, which DE_TEXTS_LIMIT bytes avoid. */
+/* Writes the specification of the encoding to *specification, and its texts, to which it points, to
+ * the start of texts. de_encoding_new makes this encoding from it, or another if some of its fields
+ * are changed. The rest of texts is unchanged. DE_SHORT_BUFFER, which DE_TEXTS_LIMIT bytes
+ * avoid. */
 DE_EXPORT DE_NODISCARD DE_NONNULL(2)
 de_status de_specification_of(de_number number, de_specification *specification, char *texts,
                               size_t texts_len);
@@ -374,16 +372,16 @@ de_status de_specification_of(de_number number, de_specification *specification,
 #define DE_TABLES 775
 
 /* An encoding of a caller's own: plain bytes, which may be copied within the program, and need no
- * end. They are trusted, and not judged again: bytes from elsewhere are read by de_encoding_read.
- * One that was not made is refused by DE_NO_ENCODING, unless its eight bytes `made` are by chance
- * those of one that was. */
+ * cleanup. They are trusted, and not validated again: read bytes from elsewhere by
+ * de_encoding_read. One that was not made by a call is refused with DE_NO_ENCODING, unless its
+ * eight bytes `made` are by chance those of one that was. */
 typedef struct de_encoding {
     unsigned char made[8];
     unsigned char tables[DE_TABLES];
 } de_encoding;
 
-/* Writes the encoding that is asked for to *encoding; or, after DE_DUPLICATE, DE_WRAP_WIDTH and
- * DE_UNDEFINED, what these name to *detail, if that is not null. */
+/* Writes the encoding that is built from the specification to *encoding; or, with DE_DUPLICATE,
+ * DE_WRAP_WIDTH and DE_UNDEFINED, what these name to *detail, if that is not null. */
 DE_EXPORT DE_NODISCARD DE_NONNULL(1, 2)
 de_status de_encoding_new(de_encoding *encoding, const de_specification *specification,
                           size_t *detail);
@@ -391,19 +389,19 @@ de_status de_encoding_new(de_encoding *encoding, const de_specification *specifi
 /* The greatest length of a layout. */
 #define DE_LAYOUT_LIMIT 770
 
-/* Writes the layout of the encoding to the front of output, and its length to *written: bytes that
- * say all of it, to be stored or sent. What stands in the output after them stays.
+/* Writes the layout of the encoding to the start of output, and its length to *written: bytes that
+ * describe it completely, to be stored or sent. The rest of the output is unchanged.
  * DE_SHORT_BUFFER, which DE_LAYOUT_LIMIT bytes avoid. */
 DE_EXPORT DE_NODISCARD DE_NONNULL(1, 4)
 de_status de_encoding_layout(const de_encoding *encoding, void *output, size_t output_len,
                              size_t *written);
 
-/* Writes the encoding of a layout to *encoding. Any bytes may be given: DE_NO_ENCODING where they
- * are no layout. */
+/* Writes the encoding of a layout to *encoding. Any bytes may be given: DE_NO_ENCODING if they are
+ * no layout. */
 DE_EXPORT DE_NODISCARD DE_NONNULL(1)
 de_status de_encoding_read(de_encoding *encoding, const void *layout, size_t len);
 
-/* The same calls by such an encoding. DE_NO_ENCODING. */
+/* The same calls with such an encoding. DE_NO_ENCODING. */
 DE_EXPORT DE_NODISCARD DE_NONNULL(1, 3)
 de_status de_encoding_encode_len(const de_encoding *encoding, size_t len, size_t *text_len);
 DE_EXPORT DE_NODISCARD DE_NONNULL(1, 6)
@@ -446,8 +444,8 @@ de_status de_encoding_specification(const de_encoding *encoding, de_specificatio
                                     char *texts, size_t texts_len);
 
 /* The length of the text of n bytes of data, as de_encode_len says, and how many bytes a text of n
- * bytes may mean at most, as de_decode_len says where a text has that length: for arrays of a size
- * that is known when the program is built. n has no effects, and is at most DE_ENCODE_LIMIT, or
+ * bytes may mean at most, as de_decode_len says if a text has that length: for arrays of a size
+ * that is known at compile time. n has no side effects, and is at most DE_ENCODE_LIMIT, or
  * DE_DECODE_LIMIT. */
 #define DE_LEN_BITS(n, bits)                                                                       \
     ((size_t)(n) / (bits) * 8 + ((size_t)(n) % (bits) * 8 + (bits) - 1) / (bits))
