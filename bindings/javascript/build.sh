@@ -55,7 +55,7 @@ copy_crates() {
     cp "$top/HANDLES" "$room/HANDLES"
 }
 
-# put FILE OLD NEW: puts the one text in the place of the other in a file of the copied kernel.
+# put FILE OLD NEW: replaces one text by the other in a file of the copied kernel.
 put() {
     local file=$room/crates/data_encoding_kernel/src/$1
     if ! grep -qF "$2" "$file"; then

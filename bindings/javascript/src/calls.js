@@ -83,7 +83,7 @@ export class Key {
   }
 }
 
-/** The length of the text of so many bytes. */
+/** The length of the text of that many bytes. */
 export function encodeLen(key, length) {
   needsOk(key.calls.encodeLen(key.first, BigInt(length), RESULT_ADDRESS));
   return machine.numberIn(RESULT);

@@ -19,7 +19,7 @@ function lengthOf(value) {
   return value;
 }
 
-/** Writes the bytes to the front of the output, and returns how many there are. */
+/** Writes the bytes to the start of the output, and returns how many there are. */
 function copyTo(output, bytes) {
   if (output.length < bytes.length) {
     throw new RangeError("output too short");
@@ -90,7 +90,7 @@ export class Encoding {
     return calls.layoutOf(this.#key).slice();
   }
 
-  /** Data may be cut after each multiple of so many bytes: the texts of the parts, joined, are the
+  /** Data may be cut at multiples of this many bytes: the texts of the pieces, joined, are the
    * text of the whole. */
   get encodeAlign() {
     return alignmentOf(calls.layoutOf(this.#key));
@@ -113,7 +113,7 @@ export class Encoding {
     return stringOf(calls.encode(this.#key, bytesOf(data, "data")));
   }
 
-  /** Writes the text of the data to the front of the output, and returns its length. */
+  /** Writes the text of the data to the start of the output, and returns its length. */
   encodeInto(data, output) {
     const target = bytesOf(output, "the output");
     return copyTo(target, calls.encode(this.#key, bytesOf(data, "data")));
@@ -128,7 +128,7 @@ export class Encoding {
     return found.data.slice();
   }
 
-  /** Writes the data that the text means to the front of the output, and returns its length. */
+  /** Writes the data that the text means to the start of the output, and returns its length. */
   decodeInto(text, output) {
     const target = bytesOf(output, "the output");
     const found = calls.decode(this.#key, textOf(text));
@@ -145,7 +145,7 @@ export class Encoding {
     return { data: error?.data ?? found.data.slice(), read: found.read, error };
   }
 
-  /** The length of the text of so many bytes. */
+  /** The length of the text of that many bytes. */
   encodeLen(length) {
     const found = calls.encodeLen(this.#key, lengthOf(length));
     if (!Number.isSafeInteger(found)) {
@@ -154,7 +154,7 @@ export class Encoding {
     return found;
   }
 
-  /** The greatest number of bytes that a text of so many characters may mean. */
+  /** The greatest number of bytes that a text of that many characters may mean. */
   decodeLen(length) {
     return calls.decodeLen(this.#key, lengthOf(length));
   }

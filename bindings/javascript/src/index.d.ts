@@ -114,7 +114,7 @@ export class Encoding {
   readonly layout: Uint8Array;
 
   /**
-   * Data may be cut after each multiple of so many bytes: the texts of the parts, joined, are the
+   * Data may be cut at multiples of this many bytes: the texts of the pieces, joined, are the
    * text of the whole.
    */
   readonly encodeAlign: number;
@@ -129,7 +129,7 @@ export class Encoding {
   encode(data: Bytes): string;
 
   /**
-   * Writes the text of the data to the front of the output, and returns its length. A RangeError
+   * Writes the text of the data to the start of the output, and returns its length. A RangeError
    * where the output is too short, which then stays as it was.
    */
   encodeInto(data: Bytes, output: Bytes): number;
@@ -138,7 +138,7 @@ export class Encoding {
   decode(text: Text): Uint8Array;
 
   /**
-   * Writes the data that the text means to the front of the output, and returns its length. After a
+   * Writes the data that the text means to the start of the output, and returns its length. After a
    * DecodeError, and a RangeError where the output is too short, the output stays as it was.
    */
   decodeInto(text: Text, output: Bytes): number;
@@ -146,11 +146,11 @@ export class Encoding {
   /** How far the text is decoded: all of it, or as far as what was read means something. */
   decodePartial(text: Text): Partial;
 
-  /** The length of the text of so many bytes. */
+  /** The length of the text of that many bytes. */
   encodeLen(length: number): number;
 
   /**
-   * The greatest number of bytes that a text of so many characters may mean; a DecodeError where no
+   * The greatest number of bytes that a text of that many characters may mean; a DecodeError if no
    * text has this length.
    */
   decodeLen(length: number): number;

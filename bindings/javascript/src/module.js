@@ -1,4 +1,4 @@
-// build.sh puts the module in the place of this file.
+// build.sh replaces this file by the module.
 throw new Error(
   "the WebAssembly module is not here: `bindings/javascript/build.sh DIR` makes a package with " +
     "it from the sources of Bamsturk",

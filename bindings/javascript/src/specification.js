@@ -184,7 +184,7 @@ export function keyOfLayout(layout) {
   return machine.smallNumberIn(MADE) === OK ? new Key(tables()) : undefined;
 }
 
-// A layout has 256 symbols, again and again; what each byte means; the padding; the bits of a
+// A layout has 256 symbols, repeated; what each byte means; the padding; the bits of a
 // symbol and flags; and the lines.
 const MEANINGS = 256;
 const PADDING = 512;
@@ -233,7 +233,7 @@ export function specificationOf(layout) {
   };
 }
 
-/** Data may be cut after each multiple of so many bytes. */
+/** Data may be cut at multiples of this many bytes. */
 export function alignmentOf(layout) {
   const bits = layout[FLAGS] & BIT_WIDTH;
   const width = layout[LINES] ?? 0;

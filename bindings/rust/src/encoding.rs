@@ -18,7 +18,7 @@ const BUFFER_LEN: usize = 510;
 /// An encoding: how data is written as text, and which texts are data.
 ///
 /// Two encodings are equal if they write the same texts and decode the same texts to the same data,
-/// that is, if their layouts are equal. A clone takes no memory.
+/// that is, if their layouts are equal. A clone does not allocate.
 #[derive(Clone)]
 pub struct Encoding(Source);
 
@@ -246,7 +246,7 @@ impl Encoding {
         self.with(|encoding| ffi::decode_len(encoding, len))
     }
 
-    /// Writes the data that the text means to the front of the output, and returns its length. What
+    /// Writes the data that the text means to the start of the output, and returns its length. What
     /// the output has after the data is not specified.
     ///
     /// # Panics

@@ -173,7 +173,7 @@ pub(crate) fn encode_len(encoding: Handle<'_>, len: usize) -> usize {
     text_len
 }
 
-/// Writes the text of the data to the front of the output, and returns it.
+/// Writes the text of the data to the start of the output, and returns it.
 ///
 /// # Panics
 ///
@@ -206,7 +206,7 @@ pub(crate) fn encode_append(encoding: Handle<'_>, input: &[u8], len: usize, outp
     }
 }
 
-/// Writes the text of the data to the front of the output, and returns its length: so many bytes
+/// Writes the text of the data to the start of the output, and returns its length: that many bytes
 /// of the output are then initialized.
 ///
 /// # Safety
@@ -257,7 +257,7 @@ pub(crate) fn decode_len(encoding: Handle<'_>, len: usize) -> Result<usize, Deco
     }
 }
 
-/// Writes the data that the text means to the front of the output, and returns its length.
+/// Writes the data that the text means to the start of the output, and returns its length.
 ///
 /// # Panics
 ///
@@ -294,8 +294,8 @@ pub(crate) fn decode_new(
     Ok(output)
 }
 
-/// Writes the data that the text means to the front of the output, and returns its length: so many
-/// bytes of the output are then initialized.
+/// Writes the data that the text means to the start of the output, and returns its length: that
+/// many bytes of the output are then initialized.
 ///
 /// # Safety
 ///

@@ -2,7 +2,7 @@
 //!
 //! | Bytes | Hold |
 //! |---|---|
-//! | 0 to 255 | the symbols in order of value, again and again |
+//! | 0 to 255 | the symbols in order of value, repeated |
 //! | 256 to 511 | what each byte means: the value of a symbol, or one of the constants below |
 //! | 512 | the padding character, or `INVALID` |
 //! | 513 | the bits of a symbol, and flags |

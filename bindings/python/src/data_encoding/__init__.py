@@ -211,7 +211,7 @@ class Encoding(Calls):
 
     @property
     def encode_align(self) -> int:
-        """Data may be cut after each multiple of so many bytes: the texts of the parts, joined,
+        """Data may be cut at multiples of this many bytes: the texts of the pieces, joined,
         are the text of the whole."""
         layout = self._layout()
         bits = layout[_FLAGS] & _BIT_WIDTH
@@ -339,7 +339,7 @@ class Encoding(Calls):
         return BASE64URL_NOPAD
 
 
-# The fields of a layout: 256 symbols, again and again; what each byte means; the padding; the bits
+# The fields of a layout: 256 symbols, repeated; what each byte means; the padding; the bits
 # of a symbol and flags; and the lines.
 _MEANINGS = 256
 _PADDING = 512

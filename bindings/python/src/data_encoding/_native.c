@@ -339,7 +339,7 @@ static bool overlap(const struct input *input, const Py_buffer *output) {
     return from < to + (size_t)output->len && to < from + input->len;
 }
 
-/* Writes the data to the front of the output, and returns its length. */
+/* Writes the data to the start of the output, and returns its length. */
 static PyObject *decode_to(const encoding *it, const struct input *input, Py_buffer *output) {
     de_status status;
     de_decoded decoded = {0, 0, 0};
@@ -646,9 +646,9 @@ static PyMethodDef encoding_methods[] = {
      "of the output, which has room for as many bytes as `decode_len` says, and returns how many "
      "these are. A DecodeError if it means nothing."},
     {"encode_len", encode_len, METH_O,
-     "encode_len($self, len, /)\n--\n\nThe length of the text of so many bytes."},
+     "encode_len($self, len, /)\n--\n\nThe length of the text of that many bytes."},
     {"decode_len", decode_len, METH_O,
-     "decode_len($self, len, /)\n--\n\nHow many bytes a text of so many characters means at most. "
+     "decode_len($self, len, /)\n--\n\nHow many bytes a text of that many characters means at most. "
      "A DecodeError if no text has this length."},
     {"is_canonical", is_canonical, METH_NOARGS,
      "is_canonical($self, /)\n--\n\nWhether no two different texts decode to the same data."},
