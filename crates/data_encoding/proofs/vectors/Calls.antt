@@ -19,7 +19,7 @@ lengths_counted :
     → (count ≡ 8) × (most ≡ Err (record { position = 4; kind = LengthFault })))
 lengths_counted = λ count most text bytes. (sym (text.length (codes "hello") refl), bytes.value)
 
-position_in : Option DecodePartial → ℕ
+abbrev position_in : Option DecodePartial → ℕ
 position_in None = 0
 position_in (Some partial) = partial.error.position
 
