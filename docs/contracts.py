@@ -271,8 +271,11 @@ def complete(call, known, told_of):
     for key in [key for key in known if key in call.imports and key[2] in named]:
         comment, lines = known[key]
         labels = [label for label, text in texts.items() if text == key[2]]
-        if labels or key[2] in RECORD_NAMES:
+        if key[2] in RECORD_NAMES and key in told_of:
+            words["ensures"] = f"What {told_of[key]} ensures."
+        elif labels or key[2] in RECORD_NAMES:
             call.block += [""] + lines
+            told_of[key] = call.title
             words.update((label, " ".join(line[2:].strip() for line in comment))
                          for label in labels if comment)
         elif key[0] in SHOWN and key not in told_of:
@@ -280,7 +283,7 @@ def complete(call, known, told_of):
             for other in [key] + [it for it in known if it[0] == key[0] and it[2] in below]:
                 if other not in told_of:
                     call.block += [""] + known[other][0] + known[other][1]
-                    told_of.add(other)
+                    told_of[other] = call.title
     return words
 
 
@@ -366,7 +369,7 @@ def all_calls():
 def page(crates, old, missing):
     """The page anew."""
     known = definitions()
-    told_of = set()
+    told_of = {}
     lines = [old.text.partition("\n## ")[0].strip("\n"), ""]
     for crate, calls in crates.items():
         lines += [f"## `{crate}`", "", old.intro(crate), ""]
