@@ -51,8 +51,8 @@ abbrev pub most_completed : Base → Kept → ℕ → ℕ
 most_completed base kept len =
     if is_some kept.fault then 0 else bytes_due base (kept.count + len)
 
--- Bytes of a piece, after some that are held, fill groups and leave others held; the groups have at
--- most this many bytes.
+-- Bytes of a piece, after some that are held, fill groups and leave others held; no more bytes were
+-- written than the groups have.
 pub record FillsGroups (base : Base) (old len new written : ℕ) : Type 0 where
   pub groups : ℕ
   pub symbols : groups * group_symbols base.width + new ≤ old + len

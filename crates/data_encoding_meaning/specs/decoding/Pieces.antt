@@ -73,7 +73,8 @@ HoldsPiece =
     → HasRead base (text ++ piece) (len + length piece) None (held_with base len held piece) ended
     × (whole_bytes base (text ++ piece) ≡ whole_bytes base text)
 
--- A piece that completes exactly one group has it judged, and decoded if it has no fault.
+-- A piece that completes one group, and leaves nothing after it, has it judged, and decoded if it
+-- has no fault.
 abbrev pub ReadsGroup : Type 0
 ReadsGroup =
     (base : Base) → IsSpecified base → (text piece : List ℕ) (len : ℕ)
