@@ -171,7 +171,7 @@ typedef struct de_decoded {
     /* How many bytes were written. */
     size_t written;
 
-    /* The position of the faulty byte, from 0; for an invalid length where no byte is ignored, the
+    /* The position of the faulty byte, from 0; for an invalid length if no byte is ignored, the
      * greatest valid length below it; after DE_OK, the length of the text. */
     size_t position;
 } de_decoded;
