@@ -1,9 +1,9 @@
 #!/usr/bin/env python3
-"""Draws docs/crates.svg, the crates over those that they use, and docs/way.svg, the way of data and of a
-text through their functions.
+"""Draws docs/crates.svg, the crates over those that they use, and docs/way.svg, the way of data and of
+a text through their functions.
 
-usage: docs/pictures.py           writes the pictures anew
-       docs/pictures.py --check   writes nothing; status 1 if a picture isn't what would be drawn
+usage: docs/pictures.py           draws the pictures anew
+       docs/pictures.py --check   draws nothing; status 1 if a picture isn't what would be drawn
 
 The crates are those of crates.txt, each with its modules. The functions of a way are listed here: each
 has to be in its file, and be called by one that is listed before it.
@@ -17,8 +17,12 @@ from xml.sax.saxutils import escape
 TOP = Path(__file__).resolve().parent.parent
 
 # A package and what it is built over, which crates.txt does not have.
-PACKAGES = {"bindings/rust": "data_encoding_c", "bindings/python": "data_encoding_c",
-            "bindings/javascript": "data_encoding_c", "web": "bindings/javascript"}
+PACKAGES = {
+    "bindings/rust": "data_encoding_c",
+    "bindings/python": "data_encoding_c",
+    "bindings/javascript": "data_encoding_c",
+    "web": "bindings/javascript",
+}
 
 # The functions that are passed, by their files. After `<` and `>` a row goes left and right.
 ENCODING = ("data → text, in lines", """
@@ -48,7 +52,8 @@ STYLE = """
   .paper { fill: #ffffff } .ink { fill: #1f2328 } .dim { fill: #59636e }
   .box { fill: #f0f4f8; stroke: #59636e } .band { fill: none; stroke: #b8c0c8 }
   .line { stroke: #59636e; fill: none }
-  .name { font: bold 14px monospace } .text { font: 12px monospace } .title { font: bold 15px sans-serif }
+  .name { font: bold 14px monospace } .text { font: 12px monospace }
+  .title { font: bold 15px sans-serif }
   @media (prefers-color-scheme: dark) {
     .paper { fill: #0d1117 } .ink { fill: #e6edf3 } .dim { fill: #a3adb8 }
     .box { fill: #1c2733; stroke: #a3adb8 } .band { stroke: #47525e } .line { stroke: #a3adb8 }
@@ -71,6 +76,13 @@ class Picture:
                            f'rx="6" class="{kind}"/>')
         self.height = max(self.height, y + height + 12)
 
+    def labelled(self, x, y, width, height, name, lines):
+        """A box around its middle, with a name and lines below it."""
+        self.box(x - width / 2, y, width, height)
+        self.text(x, y + 18, name, "name ink")
+        for number, line in enumerate(lines):
+            self.text(x, y + 35 + 15 * number, line, "text dim")
+
     def arrow(self, x, y, to_x, to_y):
         self.shapes.append(f'<path d="M{x:.0f} {y:.0f} L{to_x:.0f} {to_y:.0f}" class="line" '
                            'marker-end="url(#head)"/>')
@@ -82,7 +94,7 @@ class Picture:
             f"<title>{escape(self.title)}</title>", f"<style>{STYLE}</style>",
             '<defs><marker id="head" viewBox="0 0 8 8" refX="7" refY="4" markerWidth="8" '
             'markerHeight="8" orient="auto"><path d="M0 1 L7 4 L0 7" class="line"/></marker></defs>',
-            f'<rect width="100%" height="100%" class="paper"/>', *self.shapes, "</svg>", ""])
+            '<rect width="100%" height="100%" class="paper"/>', *self.shapes, "</svg>", ""])
 
 
 def uses():
@@ -130,32 +142,35 @@ def placed(row, below, width, paper):
     return {name: start + at * (width + 12) + width / 2 for at, name in enumerate(order)}
 
 
-def crates():
-    picture, used = Picture("The crates, each over those that it uses", 1000), uses()
-    # What another of them is over is not drawn.
-    drawn = {name: {it for it in all_used if not any(it in below_all(used, other) for other in all_used)}
-             for name, all_used in used.items()}
-    rank_of, middle, boxes = ranks(used), {}, {}
+def direct(used):
+    """What each uses, without what another of these is over."""
+    return {name: {it for it in below if not any(it in below_all(used, other) for other in below)}
+            for name, below in used.items()}
+
+
+def rows_of_crates(below, paper):
+    """The rows from below: the middles of the boxes, and the width, height and lines of a row."""
+    rank_of, middle, rows = ranks(below), {}, []
     for rank in range(max(rank_of.values()) + 1):
-        row = {name: drawn[name] for name in used if rank_of[name] == rank}
-        width = min(420, picture.width / len(row) - 12)
-        middle |= placed(row, middle, width, picture.width)
+        row = {name: below[name] for name in below if rank_of[name] == rank}
+        width = min(420, paper / len(row) - 12)
+        middle |= placed(row, middle, width, paper)
         lines = {it: textwrap.wrap(", ".join(modules(it)), int(width / 7.6)) for it in row}
-        height = 28 + 15 * max(len(it) for it in lines.values())
-        boxes[rank] = width, height, lines
+        rows.append((width, 28 + 15 * max(map(len, lines.values())), lines))
+    return middle, rows
+
+
+def crates():
+    picture, below = Picture("The crates, each over those that it uses", 1000), direct(uses())
+    middle, rows = rows_of_crates(below, picture.width)
     top, places = 12, {}
-    for rank in sorted(boxes, reverse=True):
-        width, height, lines = boxes[rank]
+    for width, height, lines in reversed(rows):
         for name, words in lines.items():
             places[name] = top, top + height
-            picture.box(middle[name] - width / 2, top, width, height)
-            picture.text(middle[name], top + 19, name, "name ink")
-            for number, line in enumerate(words):
-                picture.text(middle[name], top + 36 + 15 * number, line, "text dim")
+            picture.labelled(middle[name], top, width, height, name, words)
         top += height + 34
-    for name in used:
-        for it in sorted(drawn[name]):
-            picture.arrow(middle[name], places[name][1], middle[it], places[it][0])
+    for name, it in sorted((name, it) for name in below for it in below[name]):
+        picture.arrow(middle[name], places[name][1], middle[it], places[it][0])
     return picture.svg()
 
 
@@ -181,7 +196,7 @@ def rows_of(way, wrong):
         crate, _, file = place.partition("/")
         for name in names.split():
             body = bodies(TOP / "crates" / crate / "src" / file, name)
-            if not body or (before and not re.search(rf"\b{name}(::<|\()", before)):
+            if not body or (before and not re.search(rf"(?<!fn )\b{name}(::<|\()", before)):
                 wrong.append(f"docs/pictures.py: no call of {name} of {place}")
             before += body
         rows.append((crate, side, file, names.split()))
@@ -210,13 +225,9 @@ def draw_way(picture, rows, boxes, bands):
     last = {}
     for (_, side, _, _), (crate, left, top, width, file, lines) in zip(rows, boxes):
         x, y = left + width / 2, bands[crate] + top
-        picture.box(left, y, width, height_of(lines))
-        picture.text(x, y + 17, file, "name ink")
-        for number, line in enumerate(lines):
-            picture.text(x, y + 34 + 15 * number, line, "text dim")
-        for it in side or "<":
-            if it in last:
-                picture.arrow(*last[it], x, y)
+        picture.labelled(x, y, width, height_of(lines), file, lines)
+        if (side or "<") in last:
+            picture.arrow(*last[side or "<"], x, y)
         last |= {it: (x, y + height_of(lines)) for it in side or "<>"}
 
 

@@ -19,6 +19,8 @@ import re
 import sys
 import textwrap
 
+sys.dont_write_bytecode = True  # The folder of the pages gets no cache of contracts.py.
+
 from contracts import COLUMNS, MISSING, PAGE as CONTRACTS, TOP, Page
 
 PROVED = TOP / "docs/PROVED.md"

@@ -51,8 +51,7 @@ unknown=$(sed -n '/^## The Rust crate/,$ s/^| .* | //p' docs/COMING_FROM.md |
     while read -r call; do grep -qF "### \`$call\`" docs/CONTRACTS.md || echo "$call"; done)
 is 'calls that are unknown' '' "$unknown"
 
-# unnamed PAGE FILE..: the files that the page does not name, without their suffix where it names
-# modules so.
+# unnamed PAGE FILE..: the files that the page does not name, with or without their suffix.
 unnamed() {
     local page=$1 file name
     shift

@@ -1,6 +1,6 @@
 #!/usr/bin/env bash
-# Fails where docs/DEFINITIONS.md does not name a definition of specs/, where a definition has no
-# worked row and is not said to have none, and where a row that the page names is not there.
+# Fails if docs/DEFINITIONS.md does not name a definition of specs/, if a definition has no worked row
+# and is not listed as one without, or if a row that the page names is not there.
 . "$(dirname "$0")/common.bash" || exit 1
 
 page=docs/DEFINITIONS.md

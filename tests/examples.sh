@@ -160,6 +160,11 @@ is 'links that lead nowhere' '' "$(cat "$room/lost")"
 
 [ "$(wc -w <README.md)" -le 1200 ]
 is 'README.md has at most 1,200 words' 0 $?
+# Of docs/SPEED.md, the medians for 1,024 bytes of the encodings that README.md has.
+is 'the table of speed of README.md' \
+    "$(sed -nE 's/^\| ([A-Z0-9_]+) \| [^|]* \| [^|]* \| ([0-9.]+)\(.* ([0-9.]+)\([^|]* \|$/| \1 | \2 | \3 |/p' \
+        docs/SPEED.md | grep -v DNSCURVE)" \
+    "$(grep -E '^\| [A-Z0-9_]+ \| 0\.[0-9]+ \| 0\.[0-9]+ \|$' README.md)"
 is 'the table of README.md has each encoding, canonical or not' \
     "$(for name in $(basecode list); do
         echo "$name $(basecode canonical "$name" | sed 's/true/yes/; s/false/no/')"
