@@ -59,6 +59,20 @@ find_library() {
     lib=$(realpath "$room/lib") || exit 1
 }
 
+# find_python: sets `python` to the first Python for which `lacking PYTHON`, which is the test's own,
+# prints nothing; where there is none, `python` is empty, and `missing` what the last one lacks.
+find_python() {
+    local found
+    python=
+    missing=
+    for found in python3 /usr/bin/python3; do
+        if [ -z "$python" ] && command -v "$found" >/dev/null; then
+            missing=$(lacking "$found")
+            [ -n "$missing" ] || python=$found
+        fi
+    done
+}
+
 # quietly COMMAND..: what it says is printed if it fails.
 quietly() {
     "$@" >"$room/said" 2>&1 || {

@@ -29,13 +29,7 @@ if ! command -v "$cc" >/dev/null; then
     skip "the package for Python: no $cc"
     finish
 fi
-python=
-for found in python3 /usr/bin/python3; do
-    if [ -z "$python" ] && command -v "$found" >/dev/null; then
-        missing=$(lacking "$found")
-        [ -n "$missing" ] || python=$found
-    fi
-done
+find_python
 if [ -z "$python" ]; then
     skip "the package for Python: no ${missing:-python3}"
     finish

@@ -13,13 +13,7 @@ import setuptools, distributed, pip, sysconfig, wheel
 open(sysconfig.get_paths()["include"] + "/Python.h")' 2>&1 | tail -n 1
 }
 
-python=
-for found in python3 /usr/bin/python3; do
-    if [ -z "$python" ] && command -v "$found" >/dev/null; then
-        missing=$(lacking "$found")
-        [ -n "$missing" ] || python=$found
-    fi
-done
+find_python
 if [ -z "$python" ] || ! command -v "${CC:-cc}" >/dev/null; then
     skip "the cluster of docs/SCALE.md: ${missing:-no python3 or no ${CC:-cc}}"
     finish

@@ -11,18 +11,10 @@
 # installed below that folder, as packages need it.
 set -eu
 
-usage() {
-    echo 'usage: install.sh [--cpu NAME] PREFIX, or install.sh --remove PREFIX' >&2
-    exit 2
-}
-
-# absolute FOLDER: its path from the root.
-absolute() {
-    case $1 in
-    /*) echo "$1" ;;
-    *) echo "$PWD/$1" ;;
-    esac
-}
+words='install.sh [--cpu NAME] PREFIX, or install.sh --remove PREFIX'
+# This script may be called through a symbolic link.
+here=$(dirname "$(readlink -f "$0")")
+. "$here/../install-common.sh"
 
 # Each line: a file of this folder, its mode, and where it goes below PREFIX.
 files() {
@@ -90,8 +82,7 @@ esac
 
 prefix=${DESTDIR:+$(absolute "$DESTDIR")}$(absolute "$1")
 
-# This script may be called through a symbolic link.
-cd "$(dirname "$(readlink -f "$0")")"
+cd "$here"
 program=out/basecode${cpu:+-$cpu}
 if [ -n "$cpu" ]; then build; fi
 if [ "$remove" = no ] && [ ! -x "$program" ]; then

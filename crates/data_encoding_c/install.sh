@@ -9,18 +9,10 @@
 # installed below that folder, as packages need it.
 set -eu
 
-usage() {
-    echo 'usage: install.sh DIR PREFIX, or install.sh --remove PREFIX' >&2
-    exit 2
-}
-
-# absolute FOLDER: its path from the root.
-absolute() {
-    case $1 in
-    /*) echo "$1" ;;
-    *) echo "$PWD/$1" ;;
-    esac
-}
+words='install.sh DIR PREFIX, or install.sh --remove PREFIX'
+# This script may be called through a symbolic link.
+here=$(dirname "$(readlink -f "$0")")
+. "$here/../install-common.sh"
 
 # Each line: a file of DIR, its mode, and where it goes below PREFIX.
 files() {
@@ -61,8 +53,7 @@ case $1 in
 esac
 prefix=${DESTDIR:+$(absolute "$DESTDIR")}$(absolute "$2")
 
-# This script may be called through a symbolic link.
-header=$(dirname "$(readlink -f "$0")")/include/data_encoding.h
+header=$here/include/data_encoding.h
 shared=libdata_encoding.so.$(sed -n 's/^#define DE_INTERFACE //p' "$header")
 link=$prefix/lib/libdata_encoding.so
 if [ -z "$dir" ]; then

@@ -178,7 +178,8 @@ class Calls(unittest.TestCase):
 
         data = bytes(1 << 25)
         text = BASE64.encode(data)
-        calls: Any = ((BASE64.encode, data), (BASE64.decode, text), (Decoder(BASE64).decode, text))
+        calls: Any = ((BASE64.encode, data), (BASE64.decode, text),
+                      (Encoder(BASE64).encode, data), (Decoder(BASE64).decode, text))
         interval = sys.getswitchinterval()
         thread = threading.Thread(target=count)
         thread.start()
@@ -468,6 +469,46 @@ class Pieces(unittest.TestCase):
             encoder = Encoder(encoding)
             text = "".join(encoder.encode(data[i : i + 1]) for i in range(len(data)))
             self.assertEqual(text + encoder.encode(b"", final=True), whole)
+
+    def test_encoder_of_buffers(self) -> None:
+        data = memoryview(bytes(range(200)))
+        others: List[Any] = [data, data[::2], data[::-3], array.array("H", [1, 2])]
+        for piece in others:
+            encoder = Encoder(BASE64)
+            text = encoder.encode(b"a") + encoder.encode(piece) + encoder.encode(b"", final=True)
+            self.assertEqual(text, BASE64.encode(b"a" + piece.tobytes()))
+
+    def test_refused_pieces(self) -> None:
+        """An encoder stays as it was."""
+        encoder = Encoder(BASE64)
+        encoder.encode(b"f")
+        wrong: Any
+        for wrong in ("o", None, 5):
+            self.assertRaises(TypeError, encoder.encode, wrong)
+            self.assertRaises(TypeError, encoder.encode, wrong, True)
+        self.assertEqual(encoder.encode(b"oo", final=True), "Zm9v")
+
+    def test_bytes_of_no_encoder(self) -> None:
+        """The library refuses a whole block, and so does the module what is longer than any."""
+        blocks = ((BASE64, 3), (Encoding.base64_mime(), 57), (OWN[0], 3), (OWN[4], 127))
+        for encoding, block in blocks:
+            self.assertEqual(encoding._encoder_read(bytes(block - 1), b""), ("", bytes(block - 1)))
+            for size in (block, block + 1, 189, 190, 1000):
+                with self.assertRaises(ValueError) as refused:
+                    encoding._encoder_read(bytes(size), b"")
+                self.assertEqual(str(refused.exception), "no encoder")
+                self.assertRaises(ValueError, encoding._encoder_finish, bytes(size))
+        self.assertRaises(ValueError, BASE64._encoder_finish, bytearray(1))
+
+    def test_copies_of_an_encoder(self) -> None:
+        for encoding in (BASE64, OWN[4]):
+            encoder = Encoder(encoding)
+            self.assertEqual(encoder.encode(b"Hi"), "")
+            pickled = pickle.loads(pickle.dumps(encoder))
+            others = [copy.copy(encoder), copy.deepcopy(encoder), pickled]
+            self.assertEqual(encoder.encode(b"!", final=True), encoding.encode(b"Hi!"))
+            for other in others:
+                self.assertEqual(other.encode(b"?", final=True), encoding.encode(b"Hi?"))
 
     def test_encoder_is_incremental(self) -> None:
         encoder = Encoder(BASE64)

@@ -475,16 +475,16 @@ class Encoder(codecs.IncrementalEncoder):
     def __init__(self, encoding: Encoding, errors: str = "strict") -> None:
         super().__init__(errors)
         self._encoding = _encoding(encoding)
-        self._align = encoding.encode_align
         self._held = b""
 
     # The base class encodes text as bytes.
     def encode(self, input: _Bytes, final: bool = False) -> str:  # type: ignore[override]
         """The text of what is whole with this piece. With `final` the data ends with it."""
-        data = b"".join((self._held, input))
-        cut = len(data) if final else len(data) - len(data) % self._align
-        text = self._encoding.encode(data[:cut])
-        self._held = data[cut:]
+        text, held = self._encoding._encoder_read(self._held, input)
+        if final:
+            text += self._encoding._encoder_finish(held)
+            held = b""
+        self._held = held
         return text
 
     def reset(self) -> None:
@@ -501,9 +501,10 @@ class Encoder(codecs.IncrementalEncoder):
         state = _number(state)
         marked = state.to_bytes((state.bit_length() + 7) // 8, "big") if state > 0 else b""
         held = marked[1:]
-        if state != 0 and (marked[:1] != b"\1" or not 0 < len(held) < self._align):
+        if state != 0 and (marked[:1] != b"\1" or not held):
             raise ValueError("no encoder")
-        self._held = held
+        # A whole block is refused here.
+        _, self._held = self._encoding._encoder_read(held, b"")
 
 
 class Decoder(codecs.IncrementalDecoder):

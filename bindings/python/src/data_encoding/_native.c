@@ -49,6 +49,12 @@ static de_status most_of_piece(const encoding *it, const de_decoder *decoder, si
                              : de_encoding_decoder_most(&it->tables, decoder, len, result);
 }
 
+static de_status text_of_piece(const encoding *it, const de_encoder *encoder, size_t len,
+                               size_t *result) {
+    return it->is_predefined ? de_encoder_most(it->number, encoder, len, result)
+                             : de_encoding_encoder_most(&it->tables, encoder, len, result);
+}
+
 /* Bytes that are read: those of an object, or of a copy of what it has. */
 struct input {
     const char *start;
@@ -178,6 +184,18 @@ static de_status write_piece(const encoding *it, de_decoder *decoder, const stru
     return status;
 }
 
+static de_status write_blocks(const encoding *it, de_encoder *encoder, const struct input *input,
+                              char *output, size_t *len) {
+    PyThreadState *thread = let_others_run(input);
+    de_status status =
+        it->is_predefined
+            ? de_encoder_read(it->number, encoder, input->start, input->len, output, *len, len)
+            : de_encoding_encoder_read(&it->tables, encoder, input->start, input->len, output,
+                                       *len, len);
+    run_again(thread);
+    return status;
+}
+
 /* Raises that a call was refused. */
 static PyObject *refused(de_status status) {
     PyErr_SetString(PyExc_ValueError, de_status_text(status));
@@ -220,29 +238,40 @@ static void raise_fault(de_status status, size_t position, PyObject *data) {
     Py_XDECREF(module);
 }
 
-/* The text of the data. */
-static PyObject *encode_input(const encoding *it, const struct input *input) {
-    char small[SMALL];
-    char *output = small;
-    size_t len;
-    PyObject *text;
-    de_status status = text_len(it, input->len, &len);
-    if (status != DE_OK) {
-        return refused(status);
+/* Room for a text: `small`, which has SMALL bytes, or memory. NULL where there is none. */
+static char *room_for(size_t len, char *small) {
+    char *output = len <= SMALL ? small : PyMem_Malloc(len);
+    if (output == NULL) {
+        PyErr_NoMemory();
     }
-    if (len > SMALL) {
-        output = PyMem_Malloc(len);
-        if (output == NULL) {
-            return PyErr_NoMemory();
-        }
-    }
-    status = write_text(it, input, output, &len);
-    text = status == DE_OK ? PyUnicode_DecodeASCII(output, (Py_ssize_t)len, NULL)
-                           : refused(status);
+    return output;
+}
+
+/* The text in the room, which is given back, or NULL where the status refuses it. */
+static PyObject *text_in(char *output, size_t len, const char *small, de_status status) {
+    PyObject *text = status == DE_OK ? PyUnicode_DecodeASCII(output, (Py_ssize_t)len, NULL)
+                                     : refused(status);
     if (output != small) {
         PyMem_Free(output);
     }
     return text;
+}
+
+/* The text of the data. */
+static PyObject *encode_input(const encoding *it, const struct input *input) {
+    char small[SMALL];
+    char *output;
+    size_t len;
+    de_status status = text_len(it, input->len, &len);
+    if (status != DE_OK) {
+        return refused(status);
+    }
+    output = room_for(len, small);
+    if (output == NULL) {
+        return NULL;
+    }
+    status = write_text(it, input, output, &len);
+    return text_in(output, len, small, status);
 }
 
 static PyObject *encode(PyObject *self, PyObject *object) {
@@ -544,6 +573,73 @@ static PyObject *decoder_finish(PyObject *self, PyObject *kept) {
                          (Py_ssize_t)decoded.position);
 }
 
+/* What an encoder keeps is a bytes object: those of an unfinished block. */
+
+static bool take_encoder(de_encoder *encoder, PyObject *held) {
+    Py_ssize_t count = PyBytes_Check(held) ? PyBytes_Size(held) : -1;
+    if (count < 0 || (size_t)count > sizeof encoder->bytes) {
+        refused(DE_NO_ENCODER);
+        return false;
+    }
+    memset(encoder, 0, sizeof *encoder);
+    encoder->count = (size_t)count;
+    memcpy(encoder->bytes, PyBytes_AsString(held), encoder->count);
+    return true;
+}
+
+/* The text of the blocks that the piece completes, and the bytes that are held then. */
+static PyObject *read_data(const encoding *it, de_encoder *encoder, const struct input *input) {
+    char small[SMALL];
+    char *output;
+    size_t len;
+    PyObject *text;
+    de_status status = text_of_piece(it, encoder, input->len, &len);
+    if (status != DE_OK) {
+        return refused(status);
+    }
+    output = room_for(len, small);
+    if (output == NULL) {
+        return NULL;
+    }
+    status = write_blocks(it, encoder, input, output, &len);
+    text = text_in(output, len, small, status);
+    return text == NULL ? NULL
+                        : Py_BuildValue("Ny#", text, (const char *)encoder->bytes,
+                                        (Py_ssize_t)encoder->count);
+}
+
+/* Refuses what the library refuses. */
+static PyObject *encoder_read(PyObject *self, PyObject *arguments) {
+    struct input input;
+    de_encoder encoder;
+    PyObject *held;
+    PyObject *object;
+    PyObject *read;
+    if (!PyArg_ParseTuple(arguments, "OO", &held, &object) || !take_encoder(&encoder, held) ||
+        !take_data(&input, object)) {
+        return NULL;
+    }
+    read = read_data(encoding_of(self), &encoder, &input);
+    release(&input);
+    return read;
+}
+
+/* The text of the held bytes. */
+static PyObject *encoder_finish(PyObject *self, PyObject *held) {
+    const encoding *it = encoding_of(self);
+    char output[DE_LAST_TEXT_LIMIT];
+    de_encoder encoder;
+    de_status status;
+    size_t len;
+    if (!take_encoder(&encoder, held)) {
+        return NULL;
+    }
+    status = it->is_predefined
+                 ? de_encoder_finish(it->number, &encoder, output, sizeof output, &len)
+                 : de_encoding_encoder_finish(&it->tables, &encoder, output, sizeof output, &len);
+    return text_in(output, len, output, status);
+}
+
 /* Raises why there is no such encoding. */
 static PyObject *refused_specification(de_status status, size_t detail) {
     const char *text = de_status_text(status);
@@ -657,6 +753,8 @@ static PyMethodDef encoding_methods[] = {
     {"_decoder_held", decoder_held, METH_O, NULL},
     {"_decoder_read", decoder_read, METH_VARARGS, NULL},
     {"_decoder_finish", decoder_finish, METH_O, NULL},
+    {"_encoder_read", encoder_read, METH_VARARGS, NULL},
+    {"_encoder_finish", encoder_finish, METH_O, NULL},
     {"_specified", specified, METH_VARARGS | METH_CLASS, NULL},
     {"_of_layout", of_layout, METH_O | METH_CLASS, NULL},
     {NULL, NULL, 0, NULL},

@@ -1,0 +1,14 @@
+# What both install.sh share. Each sets `words`, by which it is called, and then reads this file.
+
+usage() {
+    echo "usage: $words" >&2
+    exit 2
+}
+
+# absolute FOLDER: its path from the root.
+absolute() {
+    case $1 in
+    /*) echo "$1" ;;
+    *) echo "$PWD/$1" ;;
+    esac
+}
