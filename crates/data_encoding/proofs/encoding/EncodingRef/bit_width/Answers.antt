@@ -6,9 +6,10 @@ use Rattle.data_encoding.proofs.encoding.EncodingRef.bit_width.Goals as goal
 
 pub returns : goal.returns
 returns c =
+    let seen = c.args.self.now in
     let value = ap (λ (b : Base). b.width) c.self.view_is in
     record {
       value = value;
-      width = subst IsWidth (sym value) (IsWidth-seen _ c.self.invariant c.args.self.now c.self.view_is);
+      width = subst IsWidth (sym value) (IsWidth-seen _ c.self.invariant seen c.self.view_is);
       base = rw (← c.self.view_is) (is_base_of _ c.self.invariant);
     }
