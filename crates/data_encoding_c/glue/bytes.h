@@ -1,4 +1,4 @@
-/* The calls that read and write bytes, by the names that CALL makes of theirs. */
+/* The calls that read and write bytes, under the names that CALL makes. */
 
 de_status CALL(numbered_encode)(de_number number, const byte *input, size_t input_len, byte *output,
                                 size_t output_len, size_t *written);

@@ -1,6 +1,6 @@
-/* The calls of data_encoding.h over those that are proved, which accept no null pointer. */
+/* The calls of data_encoding.h, on top of the proved ones, which take no null pointers. */
 
-/* A compiler that assumes that a pointer is not null would remove the tests here. */
+/* Without this, a compiler could assume that pointers are not null, and remove the tests. */
 #define DE_NONNULL(...)
 #include "data_encoding.h"
 
@@ -27,7 +27,7 @@ de_status de_numbered_is_canonical(de_number number, bool *canonical);
 de_status de_numbered_name(de_number number, byte *output, size_t output_len, size_t *written);
 de_status de_named_number(const byte *name, size_t name_len, de_number *number);
 
-/* What the library returns for a specification. */
+/* What the library returns for an encoding that is asked for. */
 struct made {
     de_status status;
     size_t detail;
@@ -53,7 +53,8 @@ de_status de_held_decoder_most(const byte *held, const de_decoder *decoder, size
 de_status de_held_decoder_finish(const byte *held, const de_decoder *decoder, byte *output,
                                  size_t output_len, de_decoded *decoded);
 
-/* How long the texts of a specification that is returned are, which follow each other. */
+/* The numbers of a specification that is returned, and the lengths of its texts, which are one
+ * after another. */
 struct text_lengths {
     size_t symbols;
     size_t ignore;
@@ -85,20 +86,20 @@ de_status de_held_encoder_finish(const byte *held, const de_encoder *encoder, by
 #undef CALL
 
 #ifdef DE_WIDE
-/* The same calls as they were built for x86-64-v3. */
+/* The same calls, built for x86-64-v3. */
 #define CALL(name) de_wide_##name
 #include "bytes.h"
 #undef CALL
 
-/* Whether this processor runs them, and DE_CPU does not ask for the others. */
+/* Whether they run on this processor, and DE_CPU does not ask for the others. */
 static bool is_wide;
 
-/* From how many bytes on they are faster. */
+/* From this many bytes on they take less time. */
 enum { WIDE_FROM = 64 };
 
 #define BY_PROCESSOR(name, len) (is_wide && (len) >= WIDE_FROM ? de_wide_##name : de_##name)
 
-/* Whether the processor has what x86-64-v3 names, and the system saves the wide registers. */
+/* Whether the processor has the features of x86-64-v3, and the system saves the wide registers. */
 static bool has_wide(void) {
     unsigned a, b, c = 0, d, more = 0;
     __builtin_cpu_init();
@@ -118,14 +119,14 @@ __attribute__((constructor)) static void choose(void) {
 #define BY_PROCESSOR(name, len) de_##name
 #endif
 
-/* The mark of a de_encoding that was made: eight arbitrary bytes. */
+/* The mark of a de_encoding that was made: eight bytes without a pattern. */
 static const byte made_mark[8] = {0xde, 0x3b, 0x92, 0x67, 0xf4, 0x0d, 0xa8, 0x51};
 
-/* Empty arrays to read from and to write to. */
+/* Where no bytes are read from, and written to. */
 static const byte no_bytes[1];
 static byte no_room[1];
 
-/* The bytes, or an empty array for a null pointer with the length 0; NULL if they are missing. */
+/* The bytes to read: none for a null pointer of length 0, or NULL if they are missing. */
 static const byte *in(const void *bytes, size_t len) {
     if (bytes != NULL) {
         return (const byte *)bytes;
@@ -133,7 +134,7 @@ static const byte *in(const void *bytes, size_t len) {
     return len == 0 ? no_bytes : NULL;
 }
 
-/* The same for bytes that are written to. */
+/* The same for bytes to write to. */
 static byte *out(void *bytes, size_t len) {
     if (bytes != NULL) {
         return (byte *)bytes;
@@ -145,7 +146,7 @@ static bool is_held(const de_encoding *encoding) {
     return memcmp(encoding->made, made_mark, sizeof made_mark) == 0;
 }
 
-/* An encoding that was made is stored. */
+/* Stores an encoding, if one was made. */
 static de_status stored(de_encoding *encoding, const struct made *made) {
     if (made->status == DE_OK) {
         memcpy(encoding->made, made_mark, sizeof made_mark);
@@ -219,7 +220,7 @@ de_status de_decode(de_number number, const char *input, size_t input_len, void 
     return BY_PROCESSOR(numbered_decode, input_len)(number, from, input_len, to, output_len, decoded);
 }
 
-/* A caller's bool may be uninitialized before the call: the result is written to another. */
+/* What a caller's bool has before the call may be no bool: the answer is taken in one that is. */
 de_status de_is_canonical(de_number number, bool *canonical) {
     bool answer = false;
     de_status status;
@@ -461,7 +462,7 @@ de_status de_bit_width(de_number number, size_t *width) {
     return de_numbered_bit_width(number, width);
 }
 
-/* After DE_OK, writes the specification that was returned to *given. */
+/* Fills in the specification that is returned, if there is one. */
 static de_status given_back(de_status status, de_specification *given, const struct form *form,
                             const struct text_lengths *lengths, const char *texts) {
     if (status != DE_OK) {

@@ -1,15 +1,16 @@
-/* Base encodings, proved: data as text over an alphabet of symbols, and back.
+/* Base encodings with proofs: data as text over an alphabet of symbols, and back.
  *
- * C99, and C++. Each function returns a status, tests every length itself, and can be called by
- * any number of threads at once, also with the same encoding.
+ * C99, and C++. Each function returns a status, tests every length itself, and can be called by any
+ * number of threads at once, even with the same encoding.
  *
- * What a caller has to ensure, and nothing checks: a pointer points to as many bytes as the length
- * after it says, or to a value of its type; the memory that a call writes to overlaps no other
- * argument; nothing else writes to the arguments during the call; and a de_encoding was made by
- * de_encoding_new or de_encoding_read, or is a copy of one. A pointer to bytes may be null if its
- * length is 0. Any other null pointer is refused with DE_NULL_POINTER (but see DE_NONNULL).
+ * The caller must ensure the following, which nothing checks: a pointer points to as many bytes as
+ * the length after it says, or to a value of its type; memory that a call writes to does not
+ * overlap any other argument; nothing writes to any argument while the call runs; and a de_encoding
+ * was made by de_encoding_new or de_encoding_read, or is a copy of one that was. A pointer to bytes
+ * may be null if its length is 0. For any other null pointer the status is DE_NULL_POINTER (but see
+ * DE_NONNULL).
  *
- * Lengths are in bytes. No text is terminated by a NUL. No call allocates.
+ * Lengths are in bytes. No text that is written ends in a NUL. No call allocates memory.
  */
 #ifndef DATA_ENCODING_H
 #define DATA_ENCODING_H
@@ -28,14 +29,14 @@ extern "C" {
 #define DE_VERSION_PATCH 0
 #define DE_VERSION "0.1.0"
 
-/* The number in the name of the shared library, which is raised when programs that were built with
- * an earlier one no longer run with it. */
+/* The number in the name of the shared library. It is increased if programs that were built with an
+ * earlier library do not run with the new one. */
 #define DE_INTERFACE 0
 
-/* Attributes of the calls. A program may define each of these before it includes this header, also
- * as nothing. */
+/* Attributes of the calls for the compiler. A program may define each of these before it includes
+ * this header, even as nothing. */
 
-/* A shared library exports the call, also one that is made from the static library. */
+/* A shared library exports the call, even one that is linked from the static library. */
 #ifndef DE_EXPORT
 #ifdef __GNUC__
 #define DE_EXPORT __attribute__((visibility("default")))
@@ -44,7 +45,7 @@ extern "C" {
 #endif
 #endif
 
-/* A compiler warns if the status is unused. */
+/* The compiler warns if the status is ignored. */
 #ifndef DE_NODISCARD
 #if defined(__GNUC__)
 #define DE_NODISCARD __attribute__((warn_unused_result))
@@ -55,9 +56,9 @@ extern "C" {
 #endif
 #endif
 
-/* A compiler warns if one of these parameters, counted from 1, is a null pointer. It may also
- * assume that none is, and remove tests for one: a program that relies on DE_NULL_POINTER defines
- * this as nothing. */
+/* The compiler warns if one of these parameters, counted from 1, is a null pointer. It may also
+ * assume that none is, and remove what the program does about null pointers. A program that relies
+ * on DE_NULL_POINTER defines this as nothing. */
 #ifndef DE_NONNULL
 #ifdef __GNUC__
 #define DE_NONNULL(...) __attribute__((nonnull(__VA_ARGS__)))
@@ -66,7 +67,8 @@ extern "C" {
 #endif
 #endif
 
-/* The version of the library, as DE_VERSION is that of the header: never null, and always valid. */
+/* The version of the library, as DE_VERSION is that of the header. It is never null, and always
+ * valid. */
 DE_EXPORT
 const char *de_version(void);
 
@@ -74,8 +76,8 @@ const char *de_version(void);
 #define DE_ENCODE_LIMIT (SIZE_MAX / 512)
 #define DE_DECODE_LIMIT (SIZE_MAX / 8)
 
-/* What happened. After any but DE_OK and the four of a faulty text, a call has changed nothing
- * (except *detail, if the status uses it). */
+/* The outcome of a call. After any status but DE_OK and the four of a faulty text, the call has
+ * changed nothing (except *detail, if the status sets it). */
 typedef uint32_t de_status;
 enum {
     DE_OK = 0,
@@ -89,19 +91,19 @@ enum {
     /* The data is longer than DE_ENCODE_LIMIT, or the text than DE_DECODE_LIMIT. */
     DE_TOO_LONG = 3,
 
-    /* The output is too short: de_encode_len and de_decode_len say how much is needed. */
+    /* The output is too short: de_encode_len and de_decode_len return how much is needed. */
     DE_SHORT_BUFFER = 4,
 
-    /* The text has a fault: no text has its length; a byte is no symbol; bits that are left after
-     * the last byte are not zeros; the number of padding characters is wrong. */
+    /* The text has a fault: no text has its length; a byte is no symbol; bits left after the last
+     * byte are not zeros; the number of padding characters is wrong. */
     DE_INVALID_LENGTH = 6,
     DE_INVALID_SYMBOL = 7,
     DE_INVALID_TRAILING_BITS = 8,
     DE_INVALID_PADDING = 9,
 
-    /* A specification is refused, by de_encoding_new alone. It is judged in this order: */
+    /* A specification is refused, by de_encoding_new only. These are judged in this order: */
 
-    /* There are not 2, 4, 8, 16, 32 or 64 symbols. */
+    /* The number of symbols is not 2, 4, 8, 16, 32 or 64. */
     DE_SYMBOL_COUNT = 10,
 
     /* A character is not ASCII. */
@@ -110,13 +112,13 @@ enum {
     /* The byte `detail` is given two meanings. */
     DE_DUPLICATE = 12,
 
-    /* There is padding, but no text needs any. */
+    /* There is padding, but no text needs it. */
     DE_EXTRA_PADDING = 13,
 
-    /* The width of lines or the length of their separator is over 255. */
+    /* The width of lines or the length of their separator is above 255. */
     DE_WRAP_LENGTH = 14,
 
-    /* The width of lines is no multiple of `detail`. */
+    /* The width of lines is not a multiple of `detail`. */
     DE_WRAP_WIDTH = 15,
 
     /* The two texts of a translation differ in length. */
@@ -125,17 +127,17 @@ enum {
     /* A byte is translated to the byte `detail`, which has no meaning. */
     DE_UNDEFINED = 17,
 
-    /* The bytes are no layout; or the de_encoding was not made, as its mark shows. */
+    /* The bytes are no layout, or the de_encoding was not made, as its mark shows. */
     DE_NO_ENCODING = 18,
 
-    /* No call can have left such a de_decoder for the encoding. */
+    /* The numbers are not those of a de_decoder for this encoding. */
     DE_NO_DECODER = 19,
 
-    /* No call can have left such a de_encoder for the encoding. */
+    /* The numbers are not those of a de_encoder for this encoding. */
     DE_NO_ENCODER = 20
 };
 
-/* A few words on a status: never null, and always valid. */
+/* A short description of a status. It is never null, and always valid. */
 DE_EXPORT
 const char *de_status_text(de_status status);
 
@@ -164,19 +166,19 @@ enum {
 
 /* How far a text was decoded, if the status is DE_OK or that of a faulty text. */
 typedef struct de_decoded {
-    /* How many bytes of the text were read: of a faulty text, those before its first faulty group
-     * or some more, which mean what was written. */
+    /* How many bytes of the text were read. For a faulty text, these are the bytes before its first
+     * faulty group, or some more; they mean what was written. */
     size_t read;
 
     /* How many bytes were written. */
     size_t written;
 
-    /* The position of the faulty byte, from 0; for an invalid length if no byte is ignored, the
-     * greatest valid length below it; after DE_OK, the length of the text. */
+    /* The position of the faulty byte, from 0. For an invalid length, if no byte is ignored, it is
+     * the greatest valid length below that one. After DE_OK it is the length of the text. */
     size_t position;
 } de_decoded;
 
-/* Writes to *text_len how long the text of len bytes is, with its padding and line ends.
+/* Writes the length of the text of len bytes, with its padding and line ends, to *text_len.
  * DE_TOO_LONG if len is above DE_ENCODE_LIMIT. */
 DE_EXPORT DE_NODISCARD DE_NONNULL(3)
 de_status de_encode_len(de_number number, size_t len, size_t *text_len);
@@ -187,16 +189,16 @@ DE_EXPORT DE_NODISCARD DE_NONNULL(6)
 de_status de_encode(de_number number, const void *input, size_t input_len, char *output,
                     size_t output_len, size_t *written);
 
-/* Writes to *most how many bytes a text of len bytes may mean at most. If no text has this length,
- * DE_INVALID_LENGTH, and *most is the greatest valid length below it. DE_TOO_LONG. */
+/* Writes the most bytes that a text of len bytes may mean to *most. If no text has this length, the
+ * status is DE_INVALID_LENGTH, and *most is the greatest valid length below it. DE_TOO_LONG. */
 DE_EXPORT DE_NODISCARD DE_NONNULL(3)
 de_status de_decode_len(de_number number, size_t len, size_t *most);
 
 /* Writes the data that the text means to the start of output, which has room for as many bytes as
- * de_decode_len says, and to *decoded how far it came. A text that means nothing has one fault: one
- * of the four statuses DE_INVALID_. Then what was read means what was written; the bytes after
- * that, within the room that de_decode_len says, are unspecified. If the length alone is the fault,
- * nothing is read. DE_TOO_LONG, DE_SHORT_BUFFER. */
+ * de_decode_len returns, and how far the text was decoded to *decoded. A text that means nothing
+ * has one fault, which is one of the four statuses DE_INVALID_. Then what was read means what was
+ * written; within the length that de_decode_len returns, the rest of the output is unspecified. If
+ * the length alone is the fault, nothing is read. DE_TOO_LONG, DE_SHORT_BUFFER. */
 DE_EXPORT DE_NODISCARD DE_NONNULL(6)
 de_status de_decode(de_number number, const char *input, size_t input_len, void *output,
                     size_t output_len, de_decoded *decoded);
@@ -205,16 +207,17 @@ de_status de_decode(de_number number, const char *input, size_t input_len, void 
 DE_EXPORT DE_NODISCARD DE_NONNULL(2)
 de_status de_is_canonical(de_number number, bool *canonical);
 
-/* What a decoder keeps of a text that comes in pieces: plain numbers, which may be copied, and need
- * no cleanup. A copy goes on from where it was made. Any numbers may be given. These are refused
- * with DE_NO_DECODER: a len above DE_DECODE_LIMIT; a count of a whole group or more, or above len;
- * held bytes whose positions do not ascend below len, or of which the encoding ignores one; a fault
- * that is neither 0 nor one of the four statuses DE_INVALID_; with a fault, a count that is not 0,
- * a fault_position that is not below len, and a kind of fault that no whole group has:
- * DE_INVALID_LENGTH, DE_INVALID_TRAILING_BITS if none are checked, and DE_INVALID_PADDING if texts
- * have no padding; with no fault, an ended of 1 if texts may be concatenated. Other numbers that no
- * call has left may pass: then what is decoded is unspecified, but no call reads or writes outside
- * its arrays, and the position that de_decoder_finish writes is below len, or len with DE_OK. */
+/* What a decoder keeps of a text that comes in pieces: plain numbers, which may be copied and need
+ * no cleanup. A copy continues from where it was made. Any numbers may be passed. DE_NO_DECODER
+ * refuses these: a len above DE_DECODE_LIMIT; a count of a whole group or more, or above len; held
+ * bytes whose positions do not ascend or are not below len, or of which the encoding ignores one; a
+ * fault that is neither 0 nor one of the four statuses DE_INVALID_; with a fault, a count that is
+ * not 0, a fault_position that is not below len, or a kind of fault that no whole group has:
+ * DE_INVALID_LENGTH, DE_INVALID_TRAILING_BITS if they are not checked, and DE_INVALID_PADDING if
+ * texts have no padding; without a fault, an ended of 1 if texts may be concatenated. Other numbers
+ * that no call has written may pass. What is decoded is then unspecified, but no call reads or
+ * writes outside its arrays, and the position that de_decoder_finish writes is below len, or is len
+ * with DE_OK. */
 typedef struct de_decoder {
     /* How many bytes the text has. */
     size_t len;
@@ -232,60 +235,60 @@ typedef struct de_decoder {
     unsigned char bytes[8];
 } de_decoder;
 
-/* Makes *decoder one that has read nothing, for any encoding. No status but DE_OK and
- * DE_NULL_POINTER is returned, so that it may be ignored. */
+/* Makes *decoder a decoder that has read nothing, for any encoding. The status is DE_OK or
+ * DE_NULL_POINTER, so it may be ignored. */
 DE_EXPORT DE_NONNULL(1)
 de_status de_decoder_new(de_decoder *decoder);
 
-/* Writes to *most how many bytes len more bytes of the text may complete at most: no more than
- * len + 7, and none after a fault. DE_NO_DECODER; DE_TOO_LONG if the text has more than
- * DE_DECODE_LIMIT bytes with them. */
+/* Writes the most bytes that len more bytes of the text may complete to *most: no more than len +
+ * 7, and none after a fault. DE_NO_DECODER; DE_TOO_LONG if the text then has more than
+ * DE_DECODE_LIMIT bytes. */
 DE_EXPORT DE_NODISCARD DE_NONNULL(2, 4)
 de_status de_decoder_most(de_number number, const de_decoder *decoder, size_t len, size_t *most);
 
 /* Reads a piece of the text, which may be cut anywhere. Writes the data of the groups that are then
  * whole, up to the first faulty one, to the start of output, which has room for as many bytes as
- * de_decoder_most says, and their number to *written. A fault is reported at the end. The bytes of
- * the output after the data, within that room, are unspecified; those after that room are
- * unchanged. DE_NO_DECODER, DE_TOO_LONG, DE_SHORT_BUFFER. */
+ * de_decoder_most returns, and their number to *written. A fault is reported at the end. Within
+ * that room, the output after the data is unspecified; beyond it, the output is unchanged.
+ * DE_NO_DECODER, DE_TOO_LONG, DE_SHORT_BUFFER. */
 DE_EXPORT DE_NODISCARD DE_NONNULL(2, 7)
 de_status de_decoder_read(de_number number, de_decoder *decoder, const char *input,
                           size_t input_len, void *output, size_t output_len, size_t *written);
 
-/* Ends the text: writes the data of a last group, at most 5 bytes, to the start of output, and to
- * *decoded the length of the text, how many bytes were written, and the position of the fault, or
- * that length if there is none. The rest of the output is unchanged, and so is the decoder. The
- * status is the one that de_decode returns for the whole text. DE_NO_DECODER, DE_SHORT_BUFFER. */
+/* Ends the text. Writes the data of a last group, at most 5 bytes, to the start of output. Writes
+ * to *decoded the length of the text, the number of bytes written, and the position of the fault,
+ * or the length if there is none. The rest of the output is unchanged. The status is that of
+ * de_decode for the whole text. The decoder is unchanged. DE_NO_DECODER, DE_SHORT_BUFFER. */
 DE_EXPORT DE_NODISCARD DE_NONNULL(2, 5)
 de_status de_decoder_finish(de_number number, const de_decoder *decoder, void *output,
                             size_t output_len, de_decoded *decoded);
 
-/* Writes to *align how many bytes of data are a block: a whole group of symbols, or a whole line.
- * The texts of pieces of data may be joined if the length of all but the last is a multiple of it.
- * It is from 1 to 189. */
+/* Writes the number of bytes of data in a block, which is a whole group of symbols or a whole line,
+ * to *align. The texts of pieces of data may be joined if the length of each piece but the last is
+ * a multiple of it. It is from 1 to 189. */
 DE_EXPORT DE_NODISCARD DE_NONNULL(2)
 de_status de_encode_align(de_number number, size_t *align);
 
-/* Writes to *width how many bits a symbol has, from 1 to 6. */
+/* Writes the number of bits of a symbol, from 1 to 6, to *width. */
 DE_EXPORT DE_NODISCARD DE_NONNULL(2)
 de_status de_bit_width(de_number number, size_t *width);
 
-/* What an encoder keeps of data that comes in pieces: plain numbers, which may be copied, and need
- * no cleanup. A copy goes on from where it was made. Any numbers may be given: a count of a whole
- * block or more is refused with DE_NO_ENCODER; any other means that the held bytes were read and no
- * more. */
+/* What an encoder keeps of data that comes in pieces: plain numbers, which may be copied and need
+ * no cleanup. A copy continues from where it was made. Any numbers may be passed: DE_NO_ENCODER
+ * refuses a count of a whole block or more; any others are what is kept after just the held
+ * bytes. */
 typedef struct de_encoder {
     /* The bytes of an unfinished block. */
     size_t count;
     unsigned char bytes[189];
 } de_encoder;
 
-/* Makes *encoder one that has read nothing, for any encoding. No status but DE_OK and
- * DE_NULL_POINTER is returned, so that it may be ignored. */
+/* Makes *encoder an encoder that has read nothing, for any encoding. The status is DE_OK or
+ * DE_NULL_POINTER, so it may be ignored. */
 DE_EXPORT DE_NONNULL(1)
 de_status de_encoder_new(de_encoder *encoder);
 
-/* Writes to *most how long the text is that de_encoder_read writes for a piece of len bytes.
+/* Writes the length of the text that de_encoder_read writes for a piece of len bytes to *most.
  * DE_NO_ENCODER; DE_TOO_LONG if len is above DE_ENCODE_LIMIT. */
 DE_EXPORT DE_NODISCARD DE_NONNULL(2, 4)
 de_status de_encoder_most(de_number number, const de_encoder *encoder, size_t len, size_t *most);
@@ -297,10 +300,10 @@ DE_EXPORT DE_NODISCARD DE_NONNULL(2, 7)
 de_status de_encoder_read(de_number number, de_encoder *encoder, const void *input,
                           size_t input_len, char *output, size_t output_len, size_t *written);
 
-/* Ends the data: writes the text of the held bytes, with its padding and line end, to the start of
- * output, and its length to *written: what de_encode_len says of encoder->count, and no more than
- * DE_LAST_TEXT_LIMIT. The texts that were written, joined, are the text of all the data. The rest
- * of the output is unchanged, and so is the encoder. DE_NO_ENCODER, DE_SHORT_BUFFER. */
+/* Ends the data. Writes the text of the bytes held, with its padding and line end, to the start of
+ * output, and its length to *written: what de_encode_len returns for encoder->count, and at most
+ * DE_LAST_TEXT_LIMIT. The texts that were written, one after another, are the text of all the data.
+ * The rest of the output is unchanged, and so is the encoder. DE_NO_ENCODER, DE_SHORT_BUFFER. */
 #define DE_LAST_TEXT_LIMIT 510
 DE_EXPORT DE_NODISCARD DE_NONNULL(2, 5)
 de_status de_encoder_finish(de_number number, const de_encoder *encoder, char *output,
@@ -310,60 +313,61 @@ de_status de_encoder_finish(de_number number, const de_encoder *encoder, char *o
 #define DE_NAME_LIMIT 22
 
 /* Writes the name of the encoding, such as "BASE64_NOPAD" for DE_BASE64_NOPAD, to the start of
- * output, and its length to *written. The rest of the output is unchanged. DE_SHORT_BUFFER, which
- * DE_NAME_LIMIT bytes avoid. */
+ * output, and its length to *written. The rest of the output is unchanged. DE_SHORT_BUFFER, but not
+ * for DE_NAME_LIMIT bytes or more. */
 DE_EXPORT DE_NODISCARD DE_NONNULL(4)
 de_status de_name(de_number number, char *output, size_t output_len, size_t *written);
 
-/* Writes the number of the encoding of this name to *number. DE_UNKNOWN_ENCODING, also if the name
- * is in lower case. */
+/* Writes the number of the encoding with this name to *number. DE_UNKNOWN_ENCODING, even if the
+ * name is known but in lower case. */
 DE_EXPORT DE_NODISCARD DE_NONNULL(3)
 de_status de_number_named(const char *name, size_t name_len, de_number *number);
 
-/* What an encoding is built from. DE_SPECIFICATION has only the defaults. */
+/* A specification of an encoding. DE_SPECIFICATION is one with the defaults. */
 typedef struct de_specification {
     /* The symbols in order of value: 2, 4, 8, 16, 32 or 64 ASCII characters. */
     const char *symbols;
     size_t symbols_len;
 
-    /* Bytes that a text may have anywhere, and that mean nothing. */
+    /* Bytes that may be anywhere in a text and mean nothing. */
     const char *ignore;
     size_t ignore_len;
 
-    /* What follows each line of wrap_width characters; there are lines if neither length is 0. */
+    /* The separator that follows each line of wrap_width characters; there are lines if neither
+     * length is 0. */
     const char *wrap_separator;
     size_t wrap_separator_len;
     size_t wrap_width;
 
-    /* Bytes that mean what others mean: each byte of the first text what the byte of the second at
-     * its position means. */
+    /* A translation: each byte of the first text means what the byte of the second at its position
+     * means. */
     const char *translate_from;
     size_t translate_from_len;
     const char *translate_to;
     size_t translate_to_len;
 
-    /* The character that fills the last group of a text, or below 0 for none. */
+    /* The character that fills the last group of a text; below 0 there is no padding. */
     int padding;
 
     /* Whether the bit of weight 1 comes first, instead of that of weight 128. */
     bool least_significant_first;
 
-    /* Whether bits that are left after the last byte have to be zeros. */
+    /* Whether bits left after the last byte must be zeros. */
     bool check_trailing_bits;
 
-    /* Whether joined padded texts are decoded as one. */
+    /* Whether concatenated padded texts are decoded as one. */
     bool concatenate;
 } de_specification;
 
 #define DE_SPECIFICATION {NULL, 0, NULL, 0, NULL, 0, 0, NULL, 0, NULL, 0, -1, false, true, true}
 
-/* The room that the texts of any specification fit in. */
+/* The room that the texts of any specification need. */
 #define DE_TEXTS_LIMIT 703
 
-/* Writes the specification of the encoding to *specification, and its texts, to which it points, to
- * the start of texts. de_encoding_new makes this encoding from it, or another if some of its fields
- * are changed. The rest of texts is unchanged. DE_SHORT_BUFFER, which DE_TEXTS_LIMIT bytes
- * avoid. */
+/* Writes the specification of the encoding to *specification, and its texts to the start of texts,
+ * to which the pointers of the specification point. de_encoding_new makes this encoding from it, or
+ * another if some of its fields are changed. The rest of texts is unchanged. DE_SHORT_BUFFER, but
+ * not for DE_TEXTS_LIMIT bytes or more. */
 DE_EXPORT DE_NODISCARD DE_NONNULL(2)
 de_status de_specification_of(de_number number, de_specification *specification, char *texts,
                               size_t texts_len);
@@ -371,17 +375,17 @@ de_status de_specification_of(de_number number, de_specification *specification,
 /* The length of the tables of an encoding. */
 #define DE_TABLES 775
 
-/* An encoding of a caller's own: plain bytes, which may be copied within the program, and need no
- * cleanup. They are trusted, and not validated again: read bytes from elsewhere by
- * de_encoding_read. One that was not made by a call is refused with DE_NO_ENCODING, unless its
- * eight bytes `made` are by chance those of one that was. */
+/* An encoding of the caller: plain bytes, which may be copied within the program and need no
+ * cleanup. They are trusted, and not judged again; de_encoding_read reads bytes from elsewhere.
+ * DE_NO_ENCODING refuses an encoding that was not made, unless its eight bytes `made` happen to be
+ * those of one that was. */
 typedef struct de_encoding {
     unsigned char made[8];
     unsigned char tables[DE_TABLES];
 } de_encoding;
 
-/* Writes the encoding that is built from the specification to *encoding; or, with DE_DUPLICATE,
- * DE_WRAP_WIDTH and DE_UNDEFINED, what these name to *detail, if that is not null. */
+/* Writes the encoding that is asked for to *encoding. After DE_DUPLICATE, DE_WRAP_WIDTH and
+ * DE_UNDEFINED, writes the byte or the number to *detail instead, if that is not null. */
 DE_EXPORT DE_NODISCARD DE_NONNULL(1, 2)
 de_status de_encoding_new(de_encoding *encoding, const de_specification *specification,
                           size_t *detail);
@@ -389,15 +393,15 @@ de_status de_encoding_new(de_encoding *encoding, const de_specification *specifi
 /* The greatest length of a layout. */
 #define DE_LAYOUT_LIMIT 770
 
-/* Writes the layout of the encoding to the start of output, and its length to *written: bytes that
- * describe it completely, to be stored or sent. The rest of the output is unchanged.
- * DE_SHORT_BUFFER, which DE_LAYOUT_LIMIT bytes avoid. */
+/* Writes the layout of the encoding, which describes it completely and may be stored or sent, to
+ * the start of output, and its length to *written. The rest of the output is unchanged.
+ * DE_SHORT_BUFFER, but not for DE_LAYOUT_LIMIT bytes or more. */
 DE_EXPORT DE_NODISCARD DE_NONNULL(1, 4)
 de_status de_encoding_layout(const de_encoding *encoding, void *output, size_t output_len,
                              size_t *written);
 
-/* Writes the encoding of a layout to *encoding. Any bytes may be given: DE_NO_ENCODING if they are
- * no layout. */
+/* Writes the encoding with this layout to *encoding. Any bytes may be passed: DE_NO_ENCODING if
+ * they are no layout. */
 DE_EXPORT DE_NODISCARD DE_NONNULL(1)
 de_status de_encoding_read(de_encoding *encoding, const void *layout, size_t len);
 
@@ -443,10 +447,10 @@ DE_EXPORT DE_NODISCARD DE_NONNULL(1, 2)
 de_status de_encoding_specification(const de_encoding *encoding, de_specification *specification,
                                     char *texts, size_t texts_len);
 
-/* The length of the text of n bytes of data, as de_encode_len says, and how many bytes a text of n
- * bytes may mean at most, as de_decode_len says if a text has that length: for arrays of a size
- * that is known at compile time. n has no side effects, and is at most DE_ENCODE_LIMIT, or
- * DE_DECODE_LIMIT. */
+/* The length of the text of n bytes of data, as de_encode_len returns it, and the most bytes that a
+ * text of n bytes may mean, as de_decode_len returns it if a text has that length. They are for
+ * arrays whose size is known at compile time. n has no side effects, and is at most DE_ENCODE_LIMIT
+ * or DE_DECODE_LIMIT. */
 #define DE_LEN_BITS(n, bits)                                                                       \
     ((size_t)(n) / (bits) * 8 + ((size_t)(n) % (bits) * 8 + (bits) - 1) / (bits))
 #define DE_DATA_BITS(n, bits) ((size_t)(n) / 8 * (bits) + (size_t)(n) % 8 * (bits) / 8)
