@@ -5,10 +5,10 @@
 #        crates/basecode/install.sh --cpu NAME PREFIX
 #        crates/basecode/install.sh --remove PREFIX
 #
-# The program is the one that `rt run` or `rt ci` left in out/. With --cpu it is one that is proved
-# and built for the x86-64 processors NAME, which is x86-64, x86-64-v2 or x86-64-v3; out/basecode
-# stays as it is. Folders that are made stay when the files are removed. Where DESTDIR is set,
-# everything goes below that folder, as packages want it.
+# The program is the one that `rt run` or `rt ci` built in out/. With --cpu one is proved and built
+# for the processors NAME, which is x86-64, x86-64-v2 or x86-64-v3; out/basecode is unchanged.
+# Folders that were created are left when the files are removed. If DESTDIR is set, everything is
+# installed below that folder, as packages need it.
 set -eu
 
 usage() {
@@ -35,7 +35,7 @@ completions/basecode.fish 644 share/fish/vendor_completions.d/basecode.fish
 LINES
 }
 
-# Puts the program of out/ back, where there was one, with what `rt run` notes of it.
+# Puts the program of out/ back, if there was one, with the notes of `rt run` about it.
 put_back() {
     for file in basecode basecode.stamp; do
         rm -f "out/$file"
@@ -43,8 +43,8 @@ put_back() {
     done
 }
 
-# Builds the program for the processors, as out/basecode-NAME. It may not run on this one, so that
-# the status of `rt run` tells nothing, but what was built does.
+# Builds the program for the processors, as out/basecode-NAME. It may not run on this one, so the
+# status of `rt run` is ignored: whether the program was built is tested instead.
 build() {
     mkdir -p out
     for file in basecode basecode.stamp; do
@@ -90,7 +90,7 @@ esac
 
 prefix=${DESTDIR:+$(absolute "$DESTDIR")}$(absolute "$1")
 
-# This script may be called by a symbolic link.
+# This script may be called through a symbolic link.
 cd "$(dirname "$(readlink -f "$0")")"
 program=out/basecode${cpu:+-$cpu}
 if [ -n "$cpu" ]; then build; fi

@@ -1,13 +1,13 @@
 #!/usr/bin/env bash
-# Proves the library and builds it for programs in C, in DIR, which is made: libdata_encoding.a;
-# libdata_encoding.so, a link to the file with the number of the interface in its name;
-# data_encoding.h; and the files of package/, by which pkg-config and CMake find these.
+# Proves the library and builds it for programs in C. Writes these files to DIR, which is created:
+# libdata_encoding.a; libdata_encoding.so, a link to the file with the number of the interface in
+# its name; data_encoding.h; and the files of package/, by which pkg-config and CMake find these.
 #
 # usage: crates/data_encoding_c/build.sh [--cpu NAME] DIR
 #
 # The library has the calls that read and write bytes twice, for x86-64-v2 and for x86-64-v3, and
-# takes those that the processor runs. With --cpu it has them once, for the processors NAME, without
-# which it does not run then. CC and CFLAGS are those of the half in C (cc, -O2).
+# runs those that the processor supports. With --cpu it has them once, for the processors NAME, and
+# runs on these only. CC and CFLAGS are for the half in C (cc, -O2).
 set -euo pipefail
 
 cpu=()
@@ -28,7 +28,7 @@ log=$(mktemp)
 room=$(mktemp -d)
 trap 'rm -rf "$room" "$log"' EXIT
 
-# build OPTION..: proves the library, and leaves what is proved in out/.
+# build OPTION..: proves the library, and builds it in out/.
 build() {
     rt lib "$@" >"$log" 2>&1 && return
     tail -n 20 "$log" >&2
@@ -36,8 +36,8 @@ build() {
     exit 1
 }
 
-# join_wide OBJECT: what was built for x86-64-v3 in one object, of which no name is seen but those of
-# glue/bytes.h, as de_wide_NAME.
+# join_wide OBJECT: links what was built for x86-64-v3 into one object, which exports only the names
+# of glue/bytes.h, as de_wide_NAME.
 join_wide() {
     local name renamed=()
     for name in $(sed -n 's/^de_status CALL(\([a-z_]*\)).*/\1/p' glue/bytes.h); do
@@ -69,7 +69,7 @@ done
 (cd "$room" && ar x "$OLDPWD/out/libdata_encoding_c.a")
 rm -f "$target/libdata_encoding.a"
 ar crs "$target/libdata_encoding.a" "$room"/*.o
-# The proved half has names too that the header does not have: they stay inside.
+# The proved half also has names that the header does not have; they are not exported.
 {
     echo '{ global:'
     sed -n '/^DE_EXPORT/ { n; s/.*[ *]\(de_[a-z_]*\)(.*/    \1;/p; }' "$header"

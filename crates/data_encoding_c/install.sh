@@ -4,9 +4,9 @@
 # usage: crates/data_encoding_c/install.sh DIR PREFIX
 #        crates/data_encoding_c/install.sh --remove PREFIX
 #
-# DIR is where build.sh left the library. What is below PREFIX may be moved later. Folders that are
-# made stay when the files are removed. Where DESTDIR is set, everything goes below that folder, as
-# packages want it.
+# DIR is the folder in which build.sh built the library. What is below PREFIX may be moved later.
+# Folders that were created are left when the files are removed. If DESTDIR is set, everything is
+# installed below that folder, as packages need it.
 set -eu
 
 usage() {
@@ -34,7 +34,8 @@ data_encoding-config-version.cmake 644 lib/cmake/data_encoding
 LINES
 }
 
-# put FILE MODE FOLDER: in DIR the files that name the folders of the others are beside these.
+# put FILE MODE FOLDER: installs a file. Those that name folders are beside the others in DIR, but
+# not below PREFIX, and are changed.
 put() {
     mkdir -p "$prefix/$3"
     install -m "$2" "$dir/$1" "$prefix/$3/$1"
@@ -60,7 +61,7 @@ case $1 in
 esac
 prefix=${DESTDIR:+$(absolute "$DESTDIR")}$(absolute "$2")
 
-# This script may be called by a symbolic link.
+# This script may be called through a symbolic link.
 header=$(dirname "$(readlink -f "$0")")/include/data_encoding.h
 shared=libdata_encoding.so.$(sed -n 's/^#define DE_INTERFACE //p' "$header")
 link=$prefix/lib/libdata_encoding.so

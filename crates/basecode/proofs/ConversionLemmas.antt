@@ -1,4 +1,4 @@
--- What a run of known words over known bytes has done.
+-- What a run with known arguments on known bytes has done.
 use Rattle.std.proofs.Common.{◌≡◌, ℕ, ◌<◌, ◌≤◌, List, [], ◌∷◌, ◌++◌, length, take, codes, Bool, true, false, Option, None, Some, IsSome, is_some, Result, Ok, Err, IfErr, inl, inr, refl, sym, ap, ◌∙◌, subst, arith, append-nil, length-append}
 use Rattle.std.proofs.lemmas.Bool.{true≢false}
 use Rattle.std.specs.Io.KnownBytes.{Consumes, IsAtEnd}
@@ -37,7 +37,7 @@ read_more limit old new read =
 
 module _ (words : List (List ℕ)) (read_old read_new written_old written_new : Option (List ℕ))
   where
-    -- a conversion by a stream is the answer that the words ask for
+    -- a conversion by a stream is the answer that the arguments ask for
     pub done_conversion : SoundMeans → (verb : Verb) (base : Base)
         → Asks words (Conversion verb) base
         → Converts verb base read_old read_new written_old written_new
@@ -83,7 +83,7 @@ module _ (words : List (List ℕ)) (read_old read_new written_old written_new : 
     refused_conversion verb base (Err Read) asked explains ends = absurd (omega (arith, ends))
     refused_conversion verb base (Err Write) asked explains ends = absurd (omega (arith, ends))
 
--- what decoding tells of a fault explains it
+-- what decoding reports of a fault explains it
 pub explained : (base : Base) (read_old read_new written_old written_new : Option (List ℕ))
     (outcome : Result (Unit {0}) StreamFault)
     → ((error : DecodeError) → outcome ≡ Err (Faulty error)
@@ -101,7 +101,7 @@ abbrev is_encode : Verb → Bool
 is_encode Encode = true
 is_encode Decode = false
 
--- a run of two words over known bytes
+-- a run with two arguments on known bytes
 module _ (name input rest held output : List ℕ) where
   -- only the length of an input to be encoded is refused
   pub not_encoded : Refused (codes "encode" ∷ name ∷ []) (Some input) (Some rest) (Some held)
@@ -148,7 +148,7 @@ module _ (name input rest held output : List ℕ) where
         done.written
         ∙ ap (λ text. held ++ text) (answers.is_answer ∙ ap (text_of base) read)
 
-    -- a beginning of the text was written
+    -- a prefix of the text was written
     pub encoded_front : Begun (codes "encode" ∷ name ∷ []) (Some input) (Some rest) (Some held)
         (Some output)
         → (count : ℕ) × (output ≡ held ++ take count (text_of base input))
@@ -166,7 +166,7 @@ module _ (name input rest held output : List ℕ) where
           done.written,
         )
 
-    -- a beginning of the sound bytes was written
+    -- a prefix of the sound bytes was written
     pub decoded_front : Begun (codes "decode" ∷ name ∷ []) (Some input) (Some rest) (Some held)
         (Some output)
         → (count : ℕ) × (output ≡ held ++ take count (sound_bytes base input))

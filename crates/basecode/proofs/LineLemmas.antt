@@ -1,11 +1,11 @@
--- What is printed of a fault.
+-- What is printed for a fault.
 use Rattle.std.proofs.Common.{◌≡◌, ℕ, List, [], ◌∷◌, ◌++◌, codes, Option, None, Some, IfSome, ap, subst, ◌∙◌}
 use Rattle.std.proofs.lemmas.Fmt.{contents_after_writes}
 use Rattle.std.specs.Fmt.{WritesText, ◌++?◌}
 use Rattle.std.specs.Io.KnownBytes.{Appends}
 use Rattle.basecode.specs.Faults.{line_of}
 
--- what was written of a fault is the line
+-- what was written for a fault is the line
 pub line_written : (old new text : Option (List ℕ))
     → IfSome (Some (codes "basecode: ") ++? (text ++? Some (10 ∷ []))) (Appends old new)
     → IfSome text (λ shown. Appends old new (line_of shown))
@@ -15,7 +15,7 @@ line_written old new (Some shown) written = written
 module _ {L : Type 0} (took : L → List ℕ → L → Type 0) (held : L → List ℕ)
     (keeps : (before : L) (bytes : List ℕ) (after : L) → took before bytes after
     → held after ≡ held before ++ bytes) where
-  -- What a buffer holds that was empty, and that is sent, is the line.
+  -- What is in a buffer that was empty, and that is sent, is the line.
   pub line_sent : (before after : L) → held before ≡ []
       → (text : Option (List ℕ))
       → WritesText took before (Some (codes "basecode: ") ++? (text ++? Some (10 ∷ []))) after

@@ -1,4 +1,4 @@
--- Worked rows of the program: its names, its words, and what a run has done.
+-- Worked rows of the program: its names, its arguments, and what a run has done.
 use Rattle.std.proofs.Common.{◌≡◌, ℕ, true, false, take, sym, Result, List, [], ◌∷◌, ◌++◌, map, codes, length, Option, Some, None, Ok, Err, refl, inl, inr}
 use Rattle.std.specs.Borrow.{Bor}
 use Rattle.data_encoding.specs.declared.error.DecodeError.{DecodeError}
@@ -126,7 +126,7 @@ told_in base asks = (
       (tells, OfQuestion base asks refl tells),
 )
 
--- what a question is answered, with nothing read, by what is so
+-- the answer to a question, with nothing read
 told :
     Has hexlower_fields (λ base.
     (IsCanonical base → TellsCanonical base (codes "true" ++ 10 ∷ [])
@@ -135,7 +135,7 @@ told :
     × Replies question hello hello (codes "false" ++ 10 ∷ [])))
 told = told_in _ asked_whether
 
--- the line of an answer, and what the list is answered, with nothing read
+-- the line of an answer, and the reply to `list`, with nothing read
 replied :
     (truth true ≡ codes "true" ++ 10 ∷ []) × (truth false ≡ codes "false" ++ 10 ∷ [])
     × Replies (codes "list" ∷ []) hello hello listing
@@ -163,7 +163,7 @@ begun_in base asks front whole =
     record { verb = Encode; base = base; asked = asks; begins = begins } in
     (begins, answer, record { is_begun = inl answer })
 
--- a beginning of a text, and of a reply
+-- a prefix of a text, and of a reply
 begun :
     Has base64_fields (λ base.
     Begins Encode base hello (Some (codes "lo")) nothing (Some (codes "SG"))
@@ -213,7 +213,7 @@ refused :
     × AskConversion words_back)
 refused = refused_in _ asked_back refl refl
 
--- no words are wrong as a whole, and of these two the name alone
+-- without arguments the usage is wrong, and of these two arguments only the name is
 wrong_words : IsWrong [] Usage
 wrong_words = λ word name h. let e = h in cc
 

@@ -1,4 +1,4 @@
--- Lemmas on the words of a command line.
+-- Lemmas on the arguments of a command line.
 use Rattle.std.proofs.Common.{◌↔◌, ◌≡◌, ℕ, ◌<◌, ◌≤◌, List, [], ◌∷◌, length, ◌++◌, codes, get_or, is_some, IsSome, Bool, true, false, Option, None, Some, option_map, ap, subst, refl, sym, ◌∙◌, arith, string_bytes, inl, inr}
 use Rattle.std.proofs.lemmas.Bool.{false≢true}
 use Rattle.std.proofs.lemmas.Option.{none-some, same_Some}
@@ -30,7 +30,7 @@ two_is (a ∷ []) x y least below first second = absurd (omega arith)
 two_is (a ∷ b ∷ []) x y least below first second = λ i. sym first i ∷ sym second i ∷ []
 two_is (a ∷ b ∷ c ∷ xs) x y least below first second = absurd (omega arith)
 
--- the bytes of two words
+-- the bytes of two arguments
 pub texts_of_two : (words : List (String Global)) (x y : String Global)
     → 2 ≤ length words → length words < 3 → x ≡ get_or words 0 x → y ≡ get_or words 1 y
     → texts words ≡ string_bytes x ∷ string_bytes y ∷ []
@@ -65,12 +65,12 @@ no_fields (Some v) (Some f) task none both_is = none-some _ (sym none)
 no_fields (Some v) None task none both_is = none-some _ both_is
 no_fields None f task none both_is = none-some _ both_is
 
--- the names are asked for by one word
+-- the names are asked for by one argument
 names_by_two : (t : Option Task) → option_map Of t ≡ Some Names → ⊥
 names_by_two (Some task) is = absurd (none-some _ (sym (ap task_in is)))
 names_by_two None is = absurd (none-some _ is)
 
--- A request that asks this of an encoding asks it of its base.
+-- A request that asks this about an encoding asks it about its base.
 pub Asks-request : (words : List (List ℕ)) (request : Requested) (task : Asked) (ask : Ask)
     → request ≡ OfRequested task → task.ask ≡ ask → AreRequest words request
     → Asks words ask task.encoding
@@ -91,11 +91,11 @@ module _ (word name : List ℕ) (ask : Ask) (base : Base)
       ≡ Some (record { ask = ask; fields = asked.fields })
   is_task = sym (task_in-Of (both (ask_of word) (fields_named name))) ∙ ap task_in asked.is_request
 
-  -- what two words ask
+  -- what two arguments ask
   ask_asked : (given : Ask) → ask_of word ≡ Some given → ask ≡ given
   ask_asked given is = both_ask _ _ given _ is is_task
 
-  -- the base that two words ask about
+  -- the base that two arguments ask about
   pub base_asked : (named : Base) → IsNamed name named → base ≡ named
   base_asked named known =
       let same = both_fields _ _ known.fields _ known.is_known is_task in
@@ -113,14 +113,14 @@ name_requested word name ListRequested are unknown =
 name_requested word name (OfRequested task) are unknown =
     name_asked word name task.ask task.encoding are unknown
 
--- the conversion that two words ask for
+-- the conversion that two arguments ask for
 pub verb_asked : (word name : List ℕ) (verb : Verb) (base : Base)
     → Asks (word ∷ name ∷ []) (Conversion verb) base
     → (given : Verb) → ask_of word ≡ Some (Conversion given) → verb ≡ given
 verb_asked word name verb base asked given is =
     ap (verb_in given) (ask_asked word name (Conversion verb) base asked (Conversion given) is)
 
--- two words that ask for a conversion
+-- two arguments that ask for a conversion
 module _ (word name : List ℕ) (given : Verb) (asks : ask_of word ≡ Some (Conversion given)) where
   -- no reply is asked for
   no_reply : (old new : Option (List ℕ)) (output : List ℕ)
@@ -131,12 +131,12 @@ module _ (word name : List ℕ) (given : Verb) (asks : ask_of word ≡ Some (Con
   no_reply old new output (OfNames is keeps listed) =
       names_by_two (both (ask_of word) (fields_named name)) is
 
-  -- what holds of the verb that is asked for holds of this one
+  -- what holds for the verb that is asked for holds for this one
   pub same_verb : (P : Verb → Type 0) (verb : Verb) (base : Base)
       → Asks (word ∷ name ∷ []) (Conversion verb) base → P verb → P given
   same_verb P verb base asked = subst P (verb_asked word name verb base asked given asks)
 
-  -- and what holds of the base too, of the base of that name
+  -- and what holds for the base too, for the base with that name
   pub same_task : (P : Verb → Base → Type 0) (verb : Verb) (other : Base)
       → Asks (word ∷ name ∷ []) (Conversion verb) other → P verb other
       → (base : Base) → IsNamed name base → P given base
@@ -144,7 +144,7 @@ module _ (word name : List ℕ) (given : Verb) (asks : ask_of word ≡ Some (Con
       same_verb (λ v. P v base) verb other asked
       (subst (P verb) (base_asked word name (Conversion verb) other asked base known) holds)
 
-  -- what fulfils the words was read to its end
+  -- what fulfils the arguments was read to its end
   pub fulfilled_whole : (old new : Option (List ℕ)) (output : List ℕ)
       → Fulfils (word ∷ name ∷ []) old new output → IsAtEnd new
   fulfilled_whole old new output (ByAnswer verb other asked answers) = answers.at_end
@@ -171,7 +171,7 @@ module _ (word name : List ℕ) (given : Verb) (asks : ask_of word ≡ Some (Con
         | inr reply ↦ absurd (no_reply read_old read_new reply.output reply.replies)
       ]
 
--- the words ask whether data has one text only, by the encoding of a name
+-- the arguments ask whether data has one text only, in the encoding with a name
 module _ (name : List ℕ) (base : Base) (known : IsNamed name base) where
   fulfilled_told : (old new : Option (List ℕ)) (output : List ℕ)
       → Fulfils (codes "canonical" ∷ name ∷ []) old new output → TellsCanonical base output
@@ -184,7 +184,7 @@ module _ (name : List ℕ) (base : Base) (known : IsNamed name base) where
   fulfilled_told old new output (ByReply (OfNames is keeps listed)) =
       absurd (names_by_two (both (Some Question) (fields_named name)) is)
 
-  -- what was written tells it
+  -- what was written says so
   pub canonical_told : (old new : Option (List ℕ)) (line : List ℕ)
       → Done (codes "canonical" ∷ name ∷ []) old new (Some []) (Some line)
       → TellsCanonical base line
@@ -192,7 +192,7 @@ module _ (name : List ℕ) (base : Base) (known : IsNamed name base) where
       subst (TellsCanonical base) (sym done.written)
       (fulfilled_told old new done.output done.fulfils)
 
--- and a line is read as it was told
+-- and a line is read as it was written
 pub line_read : (base : Base) (line : List ℕ) → TellsCanonical base line
     → (line ≡ truth true) ↔ IsCanonical base
 line_read base line (inl (is, shown)) = (λ same. is, λ is_so. shown)
@@ -201,7 +201,7 @@ line_read base line (inr (is_not, shown)) =
       false_line : truth false ≡ truth true → ⊥
       false_line same = cc
 
--- what is printed of a name that is not known
+-- what is printed for a name that is not known
 pub printed_name : (word name : List ℕ) (fault : WordFault) → IsWrong (word ∷ name ∷ []) fault
     → IsSome (ask_of word) → printed_word_fault fault ≡ codes "unknown encoding: " ++ name
 printed_name word name Usage wrong some =

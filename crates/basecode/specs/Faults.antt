@@ -1,4 +1,4 @@
--- What faults in the words print, and the exit statuses.
+-- What is printed of wrong arguments and of faults, and the exit statuses.
 use Rattle.std.specs.Prelude.{ℕ, List, [], ◌∷◌, ◌++◌, codes, Result, Ok, Err}
 use Rattle.encoding_stream.specs.declared.error.StreamFault.{StreamFault}
 use Rattle.encoding_stream.specs.declared.error.StreamFault.TheVariants.{Decode, TooLong, Read, Write}
@@ -11,7 +11,7 @@ printed_word_fault Usage =
     codes "usage: basecode list OR encode NAME OR decode NAME OR canonical NAME"
 printed_word_fault (UnknownName name) = codes "unknown encoding: " ++ name.now
 
--- the line that is printed of a fault
+-- the line that is printed for a fault
 abbrev pub line_of : List ℕ → List ℕ
 line_of text = codes "basecode: " ++ text ++ 10 ∷ []
 
@@ -22,7 +22,7 @@ status_of TooLong = 1
 status_of Read = 3
 status_of Write = 3
 
--- the same of a whole conversion
+-- the exit status of a whole conversion
 abbrev pub status_after : Result (Unit {0}) StreamFault → ℕ
 status_after (Ok done) = 0
 status_after (Err fault) = status_of fault

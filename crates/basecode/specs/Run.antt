@@ -22,7 +22,7 @@ abbrev pub IsAnswer : Verb → Base → List ℕ → List ℕ → Type 0
 IsAnswer Encode base input output = output ≡ text_of base input
 IsAnswer Decode base input output = Means base input output
 
--- The input was read to its end, and this is its answer.
+-- The input was read to its end, and the output is its answer.
 pub record Answers (verb : Verb) (base : Base) (old new : Option (List ℕ)) (output : List ℕ)
     : Type 0 where
   pub input : List ℕ
@@ -30,8 +30,8 @@ pub record Answers (verb : Verb) (base : Base) (old new : Option (List ℕ)) (ou
   pub at_end : IsAtEnd new
   pub is_answer : IsAnswer verb base input output
 
--- A stream has read the input to its end and written its text, or the sound bytes of a text that
--- has no fault.
+-- A stream has read the input to its end and written its text, or the sound bytes of a text without
+-- a fault.
 abbrev pub Converts : Verb → Base → Option (List ℕ) → Option (List ℕ) → Option (List ℕ)
     → Option (List ℕ) → Type 0
 Converts Encode base read_old read_new written_old written_new =
@@ -39,7 +39,7 @@ Converts Encode base read_old read_new written_old written_new =
 Converts Decode base read_old read_new written_old written_new =
     DecodesAll base None read_old read_new written_old written_new
 
--- Of what was read, a beginning of its text, or of its sound bytes, was written.
+-- A prefix of the text, or of the sound bytes, of what was read was written.
 abbrev pub Begins : Verb → Base → Option (List ℕ) → Option (List ℕ) → Option (List ℕ)
     → Option (List ℕ) → Type 0
 Begins Encode base read_old read_new written_old written_new =
@@ -47,7 +47,7 @@ Begins Encode base read_old read_new written_old written_new =
 Begins Decode base read_old read_new written_old written_new =
     DecodesFront base read_old read_new written_old written_new
 
--- What a fault of an input tells: the whole text has it, and its sound bytes were written; or more
+-- What a fault of an input says: the whole text has it and its sound bytes were written, or more
 -- than the limit was read.
 abbrev pub Explains : Verb → Base → Option (List ℕ) → Option (List ℕ) → Option (List ℕ)
     → Option (List ℕ) → StreamFault → Type 0
@@ -62,13 +62,13 @@ abbrev pub truth : Bool → List ℕ
 truth true = codes "true" ++ 10 ∷ []
 truth false = codes "false" ++ 10 ∷ []
 
--- The line is `true` where no two texts mean the same data, and else `false`.
+-- The line is `true` if no two texts mean the same data, and `false` otherwise.
 abbrev pub TellsCanonical : Base → List ℕ → Type 0
 TellsCanonical base line =
     (IsCanonical base × (line ≡ truth true)) ⊎ ((¬ IsCanonical base) × (line ≡ truth false))
 
--- With nothing read, the output is what the words ask for: whether data has one text only, or the
--- names.
+-- Nothing was read, and the output is what the arguments ask for: whether data has one text only,
+-- or the names.
 pub data Replies (words : List (List ℕ)) (old new : Option (List ℕ)) (output : List ℕ)
     : Type 0 where
   OfQuestion : (base : Base) → Asks words Question base → Keeps old new
@@ -76,21 +76,21 @@ pub data Replies (words : List (List ℕ)) (old new : Option (List ℕ)) (output
   OfNames : request_of words ≡ Some Names → Keeps old new → output ≡ listing
       → Replies words old new output
 
--- The output is what the words ask for: the answer to what was read, or a reply.
+-- The output is what the arguments ask for: the answer to what was read, or a reply.
 pub data Fulfils (words : List (List ℕ)) (old new : Option (List ℕ)) (output : List ℕ)
     : Type 0 where
   ByAnswer : (verb : Verb) (base : Base) → Asks words (Conversion verb) base
       → Answers verb base old new output → Fulfils words old new output
   ByReply : Replies words old new output → Fulfils words old new output
 
--- What the words ask for was written.
+-- What the arguments ask for was written.
 pub record Done (words : List (List ℕ))
     (read_old read_new written_old written_new : Option (List ℕ)) : Type 0 where
   pub output : List ℕ
   pub fulfils : Fulfils words read_old read_new output
   pub written : Appends written_old written_new output
 
--- The words ask for a conversion, which has begun.
+-- The arguments ask for a conversion, and a prefix of its output was written.
 pub record BeginsAnswer (words : List (List ℕ))
     (read_old read_new written_old written_new : Option (List ℕ)) : Type 0 where
   pub verb : Verb
@@ -98,27 +98,27 @@ pub record BeginsAnswer (words : List (List ℕ))
   pub asked : Asks words (Conversion verb) base
   pub begins : Begins verb base read_old read_new written_old written_new
 
--- The words ask for a reply, of which a beginning was written.
+-- The arguments ask for a reply, and a prefix of it was written.
 pub record BeginsReply (words : List (List ℕ))
     (read_old read_new written_old written_new : Option (List ℕ)) : Type 0 where
   pub output : List ℕ
   pub replies : Replies words read_old read_new output
   pub written : AppendsFront written_old written_new output
 
--- A beginning of what the words ask for was written.
+-- A prefix of what the arguments ask for was written.
 pub record Begun (words : List (List ℕ))
     (read_old read_new written_old written_new : Option (List ℕ)) : Type 0 where
   pub is_begun : BeginsAnswer words read_old read_new written_old written_new
       ⊎ BeginsReply words read_old read_new written_old written_new
 
--- A text that was to be decoded was read to its end and has a fault; its sound bytes were written.
+-- A text to decode was read to its end and has a fault; its sound bytes were written.
 pub record DecodesFaulty (verb : Verb) (base : Base)
     (read_old read_new written_old written_new : Option (List ℕ)) : Type 0 where
   pub error : DecodeError
   pub is_decoding : verb ≡ Decode
   pub decodes : DecodesAll base (Some error) read_old read_new written_old written_new
 
--- The words ask for a conversion of an input that is too long, or whose text has a fault.
+-- The arguments ask for a conversion of an input that is too long, or whose text has a fault.
 pub record Refused (words : List (List ℕ))
     (read_old read_new written_old written_new : Option (List ℕ)) : Type 0 where
   pub verb : Verb
@@ -127,7 +127,7 @@ pub record Refused (words : List (List ℕ))
   pub reason : ReadsMore (limit_of verb) read_old read_new
       ⊎ DecodesFaulty verb base read_old read_new written_old written_new
 
--- The words ask for a conversion.
+-- The arguments ask for a conversion.
 pub record AskConversion (words : List (List ℕ)) : Type 0 where
   pub verb : Verb
   pub base : Base

@@ -1,4 +1,4 @@
--- The words of a command line, and what they ask for.
+-- The arguments of a command line, and what they ask for.
 use Rattle.std.specs.Prelude.{◌≡◌, ℕ, ◌-◌, ◌/◌, ◌^◌, List, [], ◌∷◌, map, codes, bytes_eq, string_bytes, if◌then◌else◌, Option, Some, None, IsSome, option_map, Ok}
 use Rattle.std.specs.declared.string.String.{String}
 use Rattle.std.specs.declared.alloc.Global.{Global}
@@ -14,11 +14,11 @@ use Rattle.basecode.specs.declared.fault.WordFault.{WordFault}
 use Rattle.basecode.specs.declared.fault.WordFault.TheVariants.{Usage, UnknownName}
 use Rattle.data_encoding.specs.Named.{fields_named}
 
--- the bytes of the words
+-- the bytes of the arguments
 abbrev pub texts : List (String Global) → List (List ℕ)
 texts words = map string_bytes words
 
--- what a word asks of an encoding
+-- what an argument asks about an encoding
 abbrev pub ask_of : List ℕ → Option Ask
 ask_of word =
     if bytes_eq word (codes "encode") then Some (Conversion Encode)
@@ -31,35 +31,35 @@ pub record Task : Type 0 where
   pub ask : Ask
   pub fields : Fields
 
--- a task, where something is asked and there is a specification
+-- a task, if something is asked and the specification is known
 abbrev pub both : Option Ask → Option Fields → Option Task
 both (Some ask) (Some fields) = Some (record { ask = ask; fields = fields })
 both (Some ask) None = None
 both None fields = None
 
--- what the words ask for: the names, or a task
+-- what the arguments ask for: the names, or a task
 pub data Request : Type 0 where
   Names : Request
   Of : Task → Request
 
--- One word is right, `list`, and two are: what is asked, and a known name.
+-- One argument must be `list`; two must be a verb and a known name.
 abbrev pub request_of : List (List ℕ) → Option Request
 request_of (word ∷ []) = if bytes_eq word (codes "list") then Some Names else None
 request_of (word ∷ name ∷ []) = option_map Of (both (ask_of word) (fields_named name))
 request_of _ = None
 
--- The words ask this of the base that is built from a specification.
+-- The arguments ask this about the base that is built from a specification.
 pub record Asks (words : List (List ℕ)) (ask : Ask) (base : Base) : Type 0 where
   pub fields : Fields
   pub is_request : request_of words ≡ Some (Of (record { ask = ask; fields = fields }))
   pub is_built : base_of fields ≡ Ok base
 
--- The words are such a request.
+-- The arguments are this request.
 abbrev pub AreRequest : List (List ℕ) → Requested → Type 0
 AreRequest words ListRequested = request_of words ≡ Some Names
 AreRequest words (OfRequested task) = Asks words task.ask task.encoding
 
--- A name is wrong only where something is asked of it, and else all the words are.
+-- A name is unknown only if something is asked about it; otherwise the usage is wrong.
 abbrev pub IsWrong : List (List ℕ) → WordFault → Type 0
 IsWrong words Usage = (word name : List ℕ) → words ≡ word ∷ name ∷ [] → ask_of word ≡ None
 IsWrong words (UnknownName given) =

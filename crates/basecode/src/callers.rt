@@ -1,4 +1,5 @@
-//! Small callers, each proved from the clauses of what it calls: what these let a user conclude.
+//! Small callers, each proved from the clauses of what it calls. They show what users can conclude
+//! from these.
 
 ghost use Rattle.std.specs.Prelude.{◌≡◌, ◌≢◌, ◌-◌, ◌^◌, ◌+◌, ◌++◌, ◌<◌, ◌≤◌, ◌↔◌, ℕ, List, [], ◌∷◌, codes, length, string_bytes, take, IfOk, IfSome, IsSome, IsTrue, None, OnOk, false};
 ghost use Rattle.std.specs.Io.KnownBytes.{Keeps};
@@ -18,7 +19,7 @@ use encoding_stream::Watch;
 use std::alloc::{AllocError, Global};
 use std::io::Read;
 
-/// A run over bytes in memory: its exit status, what it did not read, and what its output holds.
+/// A run over bytes in memory: its exit status, what it did not read, and what its output has.
 #[derive(Debug, Drop)]
 struct Outcome<'a> {
     status: u8,
@@ -26,7 +27,7 @@ struct Outcome<'a> {
     output: Vec<u8>,
 }
 
-// Two words.
+// Two arguments.
 fn words_of(alloc: Global, verb: &str, name: &str) -> Result<Vec<String>, AllocError>
     ensures { IfOk result (λ words. texts words.items ≡ verb.now ∷ name.now ∷ []) }
 {
@@ -35,7 +36,7 @@ fn words_of(alloc: Global, verb: &str, name: &str) -> Result<Vec<String>, AllocE
     Ok(vec![in alloc; verb, name]?)
 }
 
-// Encodes bytes in memory, after those of the output.
+// Encodes bytes in memory, and appends their text to the output.
 fn encode<'a>(
     alloc: Global,
     name: &str,
@@ -65,7 +66,7 @@ fn encode<'a>(
     })
 }
 
-// Decodes a text in memory, after the bytes of the output.
+// Decodes a text in memory, and appends its data to the output.
 fn decode<'a>(
     alloc: Global,
     name: &str,
@@ -99,7 +100,7 @@ fn decode<'a>(
     })
 }
 
-// Encodes five bytes in memory, after a sign.
+// Encodes five bytes in memory, and appends their text to a prompt.
 fn encode_hello(alloc: Global) -> Result<Option<Vec<u8>>, AllocError>
     ensures { IfOk result (λ output. IfSome output (λ bytes.
         bytes.items ≡ codes "> 48656c6c6f")) }
@@ -111,7 +112,7 @@ fn encode_hello(alloc: Global) -> Result<Option<Vec<u8>>, AllocError>
     Ok(Some(outcome.output))
 }
 
-// The names, after the bytes of the output, where they were written; nothing is read.
+// Appends the names to the output, if they could be written; nothing is read.
 fn list<R: Read>(
     alloc: Global,
     reader: &mut Watch<R>,
@@ -133,7 +134,7 @@ fn list<R: Read>(
     Ok(Some(writer.into_inner()))
 }
 
-// Whether no two texts mean the same data, by the encoding of a name, where that was printed.
+// Whether no two texts mean the same data in the encoding with this name, if that was printed.
 fn canonical(alloc: Global, name: &str) -> Result<Option<bool>, AllocError>
     ensures { IfOk result (λ found. IfSome found (λ answer. (base : Base) → IsNamed name.now base
         → (IsTrue answer ↔ IsCanonical base))) }
@@ -150,7 +151,7 @@ fn canonical(alloc: Global, name: &str) -> Result<Option<bool>, AllocError>
     Ok(Some(line.as_slice() == b"true\n".as_slice()))
 }
 
-// What is printed of two words, and nothing where they are right.
+// What is printed for two arguments, or nothing if they are valid.
 fn told(alloc: Global, verb: &str, name: &str) -> Result<String, AllocError>
     ensures no_verb { IfOk result (λ line. ask_of verb.now ≡ None → string_bytes line
         ≡ codes "usage: basecode list OR encode NAME OR decode NAME OR canonical NAME") }
@@ -170,7 +171,7 @@ mod tests {
     use super::*;
     use std::test::Fail;
 
-    // No clause says that memory is found.
+    // No clause says that memory is available.
     #[test]
     fn memory_is_found(rt: HostRuntime) -> Result<(), Fail> {
         assert!(rt; encode_hello(rt.alloc())?.is_some());

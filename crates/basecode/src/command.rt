@@ -1,4 +1,4 @@
-//! What the words of a command line ask for.
+//! What the arguments of a command line ask for.
 
 ghost use Rattle.std.specs.Prelude.{◌≡◌, ◌↔◌, [], ◌∷◌, IfErr, IfOk, IsErr, None};
 ghost use Rattle.basecode.specs.Words.{AreRequest, Asks, IsWrong, ask_of, request_of, texts};
@@ -16,37 +16,37 @@ pub enum Verb {
     Decode,
 }
 
-/// What a word asks of an encoding.
+/// What an argument asks about an encoding.
 #[derive(Clone, Copy, Debug, PartialEq, Eq)]
 pub enum Ask {
-    /// What is printed of an input.
+    /// To convert an input.
     Conversion(Verb),
 
     /// Whether data has one text only.
     Question,
 }
 
-/// What is asked of an encoding.
+/// What is asked about an encoding.
 #[derive(Debug, Drop)]
 pub struct Task {
     /// What is asked.
     pub ask: Ask,
 
-    /// The encoding of which it is asked.
+    /// The encoding that it is asked about.
     pub encoding: Encoding,
 }
 
-/// What the words ask for.
+/// What the arguments ask for.
 #[derive(Debug, Drop)]
 pub enum Request {
     /// The names of the encodings.
     List,
 
-    /// Something of an encoding.
+    /// Something about an encoding.
     Of(Task),
 }
 
-// What a word asks of an encoding.
+// What an argument asks about an encoding.
 fn ask_named(word: &str) -> Option<Ask>
     ensures { result ≡ ask_of word.now }
 {
@@ -58,7 +58,7 @@ fn ask_named(word: &str) -> Option<Ask>
     }
 }
 
-/// What the words ask for.
+/// Returns what the arguments ask for.
 ///
 /// Their number and the first of them are judged before the name.
 pub fn request_named(words: &[String]) -> Result<Request, WordFault<'_>>
@@ -76,7 +76,7 @@ pub fn request_named(words: &[String]) -> Result<Request, WordFault<'_>>
     }
 }
 
-// What two words ask for.
+// What two arguments ask for.
 fn task_named<'a>(word: &str, name: &'a str) -> Result<Task, WordFault<'a>>
     ensures asked { IfOk result (λ task. Asks (word.now ∷ name.now ∷ []) task.ask task.encoding) }
     ensures wrong { IsErr result ↔ (request_of (word.now ∷ name.now ∷ []) ≡ None) }

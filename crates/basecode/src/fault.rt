@@ -1,4 +1,4 @@
-//! What goes wrong, what is printed of it, and the exit status.
+//! Faults, the lines that are printed for them, and the exit statuses.
 
 ghost use Rattle.std.specs.Prelude.{◌≡◌, IfSome, OnOk, Some};
 ghost use Rattle.std.specs.Io.KnownBytes.{Appends};
@@ -10,16 +10,17 @@ use std::fmt::Write as _;
 use std::io::Write;
 use std::{fmt, io};
 
-// The most bytes of a line that goes out in one write: a pipe keeps as many together.
+// The most bytes of a line that is written in one call: a pipe takes as many without mixing them
+// with others.
 const LINE_LIMIT: usize = 4096;
 
-/// What is wrong with the words of a command line.
+/// What is wrong with the arguments of a command line.
 #[derive(Clone, Copy, Debug)]
 pub enum WordFault<'a> {
-    /// Their number is wrong, or the first of them is no verb.
+    /// Their number is wrong, or the first is not a verb.
     Usage,
 
-    /// This is the name of no encoding.
+    /// No encoding has this name.
     UnknownName(&'a str),
 }
 
@@ -36,8 +37,8 @@ impl fmt::Display for WordFault<'_> {
     }
 }
 
-/// The exit status of a conversion that this fault ends: 1 where the text has a fault or the input
-/// is too long, and 3 where a read, a write or a flush failed.
+/// Returns the exit status of a conversion that ends with this fault: 1 if the text has a fault or
+/// the input is too long, and 3 if a read, a write or a flush failed.
 pub fn exit_status(fault: StreamFault) -> u8
     ensures { result ≡ status_of fault }
 {
@@ -47,8 +48,9 @@ pub fn exit_status(fault: StreamFault) -> u8
     }
 }
 
-/// Prints a line on what went wrong: in one write where it has at most 4096 bytes, and else in
-/// pieces. It takes no memory. After an error a part of the line may be printed.
+/// Prints a line about a fault: in one write if it has at most 4096 bytes, and in several
+/// otherwise. Nothing is allocated. If an error is returned, a prefix of the line may have been
+/// printed.
 pub fn tell<F: Write, D: fmt::Display>(faults: &mut F, fault: &D) -> io::Result<()>
     ensures { OnOk result (IfSome (D.output fault.now) (λ text.
         Appends (F.contents faults.old) (F.contents faults.new) (line_of text))) }

@@ -1,12 +1,12 @@
 //! `basecode`: standard input as text over an alphabet of symbols, and back.
 //!
 //! `basecode encode NAME` reads bytes and writes their text, and `basecode decode NAME` reads a
-//! text and writes the bytes that it means, by the encoding of that name: one of the eighteen
-//! predefined encodings of `data_encoding`, in upper case, as `BASE64_MIME`. `basecode list` writes
-//! these names, each as a line, and `basecode canonical NAME` writes `true` where data has one text
-//! only, and else `false`. The exit status is 0 where that was done, 1 where the input has a fault
-//! or is too long, 2 where the words are wrong, 3 where a read, a write or a flush failed, and 4
-//! where memory ran out for the words.
+//! text and writes the bytes that it means, in the encoding with that name: one of the eighteen
+//! predefined encodings of `data_encoding`, in upper case, such as `BASE64_MIME`. `basecode list`
+//! writes these names, each on a line, and `basecode canonical NAME` writes `true` if data has one
+//! text only, and `false` otherwise. The exit status is 0 if that was done, 1 if the input has a
+//! fault or is too long, 2 if the usage is wrong, 3 if a read, a write or a flush failed, and 4 if
+//! memory ran out for the arguments.
 #![tactic(auto)]
 
 mod callers;
@@ -21,7 +21,7 @@ pub use run::run;
 use std::process::ExitCode;
 use words::words_of;
 
-// The exit status where memory ran out for the words.
+// The exit status if memory runs out for the arguments.
 const OUT_OF_MEMORY: u8 = 4;
 
 fn main(rt: HostRuntime) -> ExitCode {

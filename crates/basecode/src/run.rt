@@ -15,21 +15,21 @@ use encoding_stream::{StreamFault, Watch, decode_stream, encode_stream};
 use std::alloc::Global;
 use std::io::{Read, Write};
 
-/// Does what the words say, and returns the exit status. It takes no memory: of the allocator it
-/// makes no use.
+/// Does what the arguments ask for, and returns the exit status. Nothing is allocated: the
+/// allocator is not used.
 ///
-/// `list` writes the names of the encodings, each followed by LF, and `canonical NAME` whether data
-/// has one text only by an encoding, as `true` or `false` and LF; neither reads anything. `encode
-/// NAME` and `decode NAME` read the input to its end and write, as it comes, its text, or the bytes
-/// that it means. What is written is flushed once: status 0.
+/// `list` writes the names of the encodings, each followed by LF. `canonical NAME` writes whether
+/// data has one text only in an encoding, as `true` or `false` and LF. Neither reads anything.
+/// `encode NAME` and `decode NAME` read the input to its end and write, as it comes, its text or
+/// the bytes that it means. What is written is flushed once, and the status is 0.
 ///
-/// A text that has a fault is read to its end too, and the bytes of the groups before the first
-/// faulty one are written and flushed: status 1. So is an input with more bytes than the limit of
-/// its verb, `u64::MAX` and `DECODE_LIMIT`; it is not read to its end, and nothing is flushed.
-/// Wrong words are status 2, and then nothing is read or written. A read, a write or a flush
-/// that failed ends the run with status 3. But for wrong words, a beginning of what was asked
-/// for is written in every case. What went wrong is printed to `faults` as a line; a failure to
-/// print it changes nothing.
+/// A text with a fault is read to its end too, the bytes of the groups before the first faulty one
+/// are written and flushed, and the status is 1. An input with more bytes than the limit of its
+/// verb, `u64::MAX` or `DECODE_LIMIT`, also has status 1; it is not read to its end, and nothing is
+/// flushed. If the usage is wrong, the status is 2, and nothing is read or written. A read, a write
+/// or a flush that fails ends the run with status 3. Unless the usage is wrong, a prefix of what
+/// was asked for is written in every case. A line about the fault is printed to `faults`; a failure
+/// to print it has no effect.
 pub fn run<R: Read, W: Write, F: Write>(
     _alloc: Global,
     words: &[String],
@@ -73,7 +73,7 @@ pub fn run<R: Read, W: Write, F: Write>(
     }
 }
 
-// Whether data has one text only by the encoding, as a line.
+// Whether data has one text only in the encoding, as a line.
 fn truth_of(encoding: &Encoding) -> &'static [u8]
     ensures { TellsCanonical encoding.now result.now }
 {
@@ -84,7 +84,7 @@ fn truth_of(encoding: &Encoding) -> &'static [u8]
     }
 }
 
-// The exit status of what was done, whose fault is printed.
+// Returns the exit status of an outcome, and prints its fault.
 fn settle<F: Write>(outcome: Result<(), StreamFault>, faults: &mut F) -> u8
     ensures { result ≡ status_after outcome }
 {

@@ -1,4 +1,4 @@
-//! The words of the command line, as text.
+//! The arguments of the command line, as text.
 
 ghost use Rattle.std.specs.Prelude.{◌≡◌, string_bytes, IfOk};
 ghost use Rattle.std.specs.Str.{IsUtf8};
@@ -7,11 +7,12 @@ use std::alloc::{AllocError, Global};
 use std::env::{Env, FillError};
 use std::fmt::Write;
 
-// The bytes that a word is read into at first.
+// The size of the first buffer for an argument.
 const FIRST_LEN: usize = 256;
 
-/// The words of the command line, without the name of the program. In one that is not UTF-8 each
-/// byte that belongs to no character is written as `\xff`: no verb and no name has a backslash.
+/// Returns the arguments of the command line, without the name of the program. In an argument that
+/// is not UTF-8, each byte that belongs to no character is written as `\x` and its two hexadecimal
+/// digits; no verb and no name has a backslash.
 pub fn words_of(rt: &HostRuntime) -> Result<Vec<String>, AllocError> {
     let mut words = Vec::new(rt.alloc());
     for index in 1..usize::MAX {
@@ -23,7 +24,7 @@ pub fn words_of(rt: &HostRuntime) -> Result<Vec<String>, AllocError> {
     Ok(words)
 }
 
-// The bytes of a word, and nothing behind the last.
+// The bytes of an argument, or `None` after the last.
 fn word_at(rt: &HostRuntime, index: usize) -> Result<Option<Vec<u8>>, AllocError> {
     let mut bytes = vec![in rt.alloc(); 0; FIRST_LEN]?;
     for _ in 0..usize::BITS {
@@ -39,7 +40,7 @@ fn word_at(rt: &HostRuntime, index: usize) -> Result<Option<Vec<u8>>, AllocError
     Err(AllocError)
 }
 
-// A word as text: the same bytes, if they are UTF-8.
+// An argument as text: the same bytes, if they are UTF-8.
 fn shown(alloc: Global, word: &[u8]) -> Result<String, AllocError>
     ensures { IfOk result (λ text. IsUtf8 word.now → string_bytes text ≡ word.now) }
 {
@@ -49,7 +50,7 @@ fn shown(alloc: Global, word: &[u8]) -> Result<String, AllocError>
     }
 }
 
-// What is UTF-8 of these bytes, and the others as `\xff`.
+// The bytes that are UTF-8 as they are, and the others as `\x` and their two hexadecimal digits.
 fn escaped(alloc: Global, word: &[u8]) -> Result<String, AllocError> {
     let mut text = String::new(alloc);
     for chunk in word.utf8_chunks() {

@@ -1,4 +1,4 @@
--- What a decoding answers to a text with a known fault.
+-- What a decoding returns for a text with a known fault.
 use Rattle.std.proofs.Common.{IfOk, IfErr, ◌⊎◌, inl, inr, length, ◌≡◌, ℕ, List, codes, Option, Some, None, Result, Ok, Err, refl, sym, ap, ◌∙◌}
 use Rattle.data_encoding.specs.declared.error.DecodeError.{DecodeError}
 use Rattle.data_encoding.specs.declared.error.DecodeKind.{DecodeKind}
@@ -16,7 +16,7 @@ use Rattle.data_encoding.specs.Predefined.{hexlower_fields}
 abbrev pub at : DecodeKind → ℕ → DecodeError
 at kind position = record { position = position; kind = kind }
 
--- faults by what some fields yield, which is computed
+-- faults in what is built from some fields, which are computed
 fault_by : Result Base Refusal → List ℕ → Option DecodeError
 fault_by (Ok base) text = fault_of base text
 fault_by (Err refusal) text = None
@@ -55,7 +55,7 @@ pub refused_len : (o : Option DecodeError) (len : ℕ) (error : DecodeError)
 refused_len None len error h = cc
 refused_len (Some fault) len error h = cc
 
--- a fault is no lack of memory
+-- a fault is not a lack of memory
 pub no_error : {A : Type 0} (result : Result A DecodeFault) (fault : DecodeFault)
     (error : DecodeError) → fault ≡ Error error → result ≡ Err fault → result ≡ Err OutOfMemory → ⊥
 no_error result fault error is h k = cc
@@ -66,7 +66,7 @@ module _ (base : Base) (text : List ℕ) (error : DecodeError) where
   fault-length h = ap (λ o. or_else o (first_fault base (groups base text))) h
 
   module _ {A : Type 0} (Q : A → Type 0) where
-    -- the fault is answered, where memory is found
+    -- the fault is returned, if there is memory
     pub refused : (result : Result A DecodeFault) → fault_of base text ≡ Some error
         → IfOk result (λ a. (fault_of base text ≡ None) × Q a)
         → IfErr result (IsRefusal base text)
@@ -76,7 +76,7 @@ module _ (base : Base) (text : List ℕ) (error : DecodeError) where
         inl (ap (λ e. Err (Error e)) (same_fault (fault_of base text) error other f k))
     refused (Err OutOfMemory) f h k = inr refl
 
-    -- and without memory, where the length has it
+    -- and without memory, if it is that of the length
     pub refused-length : (result : Result A DecodeFault)
         → length_fault base (length text) ≡ Some error
         → IfOk result (λ a. (fault_of base text ≡ None) × Q a)

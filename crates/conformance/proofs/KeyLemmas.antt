@@ -1,4 +1,4 @@
--- Texts of BASE64URL_NOPAD and HEXLOWER, and what is kept where nothing is ignored.
+-- Texts of BASE64URL_NOPAD and HEXLOWER, and what is kept if nothing is ignored.
 use Rattle.std.proofs.Common.{◌≡◌, ◌==◌, ◌&&◌, ◌%◌, not, cond, ℕ, true, false, List, ◌++◌, length, Option, Some, None, IfSome, is_some, sym, ap, ◌∙◌, arith}
 use Rattle.std.proofs.lemmas.Bool.Decides.{nat_tests}
 use Rattle.std.proofs.lemmas.List.{length-map}
@@ -15,7 +15,7 @@ use Rattle.data_encoding.specs.Lengths.{greatest_valid_length, is_valid_count, l
 use Rattle.data_encoding.specs.Pieces.{KeepsEach, whole_groups}
 use Rattle.data_encoding.specs.Rules.{HasRules, plain_rules}
 
--- where nothing is ignored, as much is kept as the text is long
+-- if nothing is ignored, as many bytes are kept as the text has
 pub length-kept : KeepsEach → (base : Base) → ignores_some base ≡ false → (text : List ℕ)
     → length (kept base text) ≡ length text
 length-kept law base none text =

@@ -1,4 +1,4 @@
--- A list of bytes in lines, each with a CR LF after it.
+-- A list of bytes in lines, each followed by CR LF.
 use Rattle.std.proofs.Common.{◌≡◌, ℕ, zero, suc, ◌+◌, ◌-◌, ◌*◌, ◌/◌, ◌<◌, ◌≤◌, Bool, true, false, List, [], ◌∷◌, ◌++◌, cond, length, filter, take, drop, take-add, refl, sym, ap, ◌∙◌, arith, ⊎_elim}
 use Rattle.std.proofs.Math.Nat.{add-div_left, div-eq_of_lt, lt-div-mul-add, suc-mul, zero-mul}
 use Rattle.std.specs.Prelude.{flat_map}

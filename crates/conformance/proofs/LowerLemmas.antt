@@ -17,7 +17,7 @@ use Rattle.data_encoding.specs.SameMeaning.{OwnText, exchanged, has_one_own_form
 use Rattle.data_encoding.specs.Text.{text_of}
 use Rattle.conformance.proofs.RewrittenLemmas.{each_byte, known, specified_by}
 
--- a byte in lower case, where it is a letter up to V
+-- a byte in lower case, if it is a letter up to V
 abbrev pub lowered : ℕ → ℕ
 lowered byte = if nat_le 65 byte && nat_le byte 86 then byte + 32 else byte
 
@@ -28,7 +28,7 @@ pub lowered-other : (byte : ℕ) → (65 ≤ byte → byte ≤ 86 → ⊥) → b
 lowered-other byte apart = grind (arith, nat_tests)
 
 module _ (base : Base) (is : base_of base32_dnssec_fields ≡ Ok base) where
-  -- whether a byte stands for what it is in lower case
+  -- whether a byte is translated to what it is in lower case
   abbrev is_own : Base → ℕ → Bool
   is_own b byte = exchanged b b byte == lowered byte
 

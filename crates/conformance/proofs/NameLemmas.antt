@@ -1,4 +1,4 @@
--- What is known of the base that fields have, and of texts in order.
+-- Facts about the base that fields have, and about texts in order.
 use Rattle.std.proofs.Common.{◌≡◌, ◌==◌, ℕ, true, arith, Option, Some, None, Result, Ok, Err, subst}
 use Rattle.std.proofs.lemmas.Bool.Decides.{nat_tests}
 use Rattle.data_encoding.specs.declared.error.DecodeError.{DecodeError}
@@ -9,13 +9,13 @@ use Rattle.data_encoding.specs.Fields.{Fields, base_of}
 use Rattle.data_encoding.specs.Lengths.{unless_fault}
 use Rattle.conformance.proofs.YieldLemmas.{same_yield}
 
--- what is so of one base is so of each that the fields have
+-- what holds for one base holds for each that the fields have
 pub yields-seen : (P : Base → Type 0) (fields : Fields) (seen : Base)
     → base_of fields ≡ Ok seen → P seen → Yields P fields
 yields-seen P fields seen is h base other =
     subst P (same_yield (base_of fields) seen base is other) h
 
--- There is a base, and it is so.
+-- There is a base, and the property holds for it.
 abbrev pub IsOfBase : (Base → Type 0) → Result Base Refusal → Type 0
 IsOfBase P (Ok base) = P base
 IsOfBase P (Err refusal) = ⊥
@@ -25,7 +25,7 @@ pub computed : (P : Base → Type 0) (fields : Fields) (seen : Base) → base_of
     → IsOfBase P (base_of fields) → P seen
 computed P fields seen is h = subst (IsOfBase P) is h
 
--- a length without a fault means so many bytes
+-- a length without a fault means this many bytes
 pub counted : (o : Option DecodeError) (len count : ℕ) → unless_fault o len ≡ Ok count
     → len ≡ count
 counted None len count h = cc

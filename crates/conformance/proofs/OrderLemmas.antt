@@ -44,7 +44,7 @@ compared =
     same_from_slice_cmp_tested nat_cmp is_lt is_before refl (λ _ _. refl) (λ _ _. refl)
     (λ x y xs ys o h. grind (arith, nat_tests))
 
--- what `<` tells
+-- what follows from `<`
 pub less-IsBefore : (xs ys : List ℕ) (result : Bool)
     → result ≡ is_some_and is_lt (slice_partial_cmp (λ x y. Some (nat_cmp x y)) xs ys)
     → (result ≡ true) ↔ IsBefore xs ys

@@ -10,13 +10,13 @@ use Rattle.data_encoding.specs.Laws.{JoinDecode, JoinFault, MayBeFollowed, Resum
 use Rattle.data_encoding.specs.Lengths.{length_fault}
 use Rattle.data_encoding.specs.Predefined.{base64_mime_fields}
 
--- a front of an output that was written to
+-- a prefix of an output that was written to
 pub front-kept : (n len : ℕ) (output rest : List ℕ) → length output ≡ len
     → take n (take len (output ++ rest)) ≡ take n output
 front-kept n len output rest is =
     ap (take n) (subst (λ m. take m (output ++ rest) ≡ output) is (take-append_seam output rest))
 
--- a test of the base, where there is one
+-- a test of the base, if there is one
 tested : (Base → Bool) → Result Base Refusal → Bool
 tested test (Ok base) = test base
 tested test (Err refusal) = false
@@ -51,7 +51,7 @@ module _ (base : Base) (is : base_of base64_mime_fields ≡ Ok base) where
         inl (sym (ap (tested (λ base. base.concatenates)) is) ∙ joining_computed),
       )
 
--- behind a piece that means data nothing is left of it
+-- after a piece that means data nothing of it is left
 module _ (base : Base) (is : IsSpecified base) (join : JoinDecode) (fault : JoinFault) where
   pub joined-resumes : (piece next bytes : List ℕ) → MayBeFollowed base piece
       → Means base piece bytes → Resumes base piece next (length piece) bytes

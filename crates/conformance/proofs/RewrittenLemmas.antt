@@ -1,4 +1,4 @@
--- Facts of three of the encodings, which are computed, and what texts have in common.
+-- Facts about three of the encodings, which are computed, and what texts have in common.
 use Rattle.std.proofs.Common.{◌≡◌, ◌↔◌, ℕ, zero, suc, ◌+◌, ◌<◌, ◌≤◌, ◌==◌, Bool, true, false, ◌||◌, not, IsTrue, List, [], ◌∷◌, ◌++◌, length, map, is_some, take, drop, get_or, set, unwrap_or, Result, Ok, Err, refl, sym, ap, ◌∙◌, subst, arith, zero-add, ⊎_elim}
 use Rattle.std.proofs.lemmas.List.{append-nil, drop_all, get_or-map, get_or_past, length-map, map_more, take_all}
 use Rattle.std.proofs.lemmas.Bool.{cases_lt}
@@ -19,7 +19,7 @@ use Rattle.data_encoding.specs.Rules.{EighteenRules}
 use Rattle.data_encoding.specs.SameMeaning.{DifferInSymbolsAlone, OwnForm, OwnForms, Translated, exchanged, has_one_own_form}
 use Rattle.conformance.proofs.YieldLemmas.{same_yield}
 
--- what is known of the base of some fields is computed
+-- what is known about the base of some fields is computed
 abbrev pub got : {X : Type 0} → (Base → X) → X → Result Base Refusal → X
 got f otherwise (Ok base) = f base
 got f otherwise (Err refusal) = otherwise
@@ -31,7 +31,7 @@ known f otherwise fields base is = sym (ap (got f otherwise) is)
 pub specified_by : (fields : Fields) (base : Base) → base_of fields ≡ Ok base → IsSpecified base
 specified_by fields base is = record { fields = fields; yields = is }
 
--- what is computed of each byte below 128
+-- what is computed for each byte below 128
 pub each_byte : (test : ℕ → Bool) → list_all test (range_with_len 0 128) ≡ true → (byte : ℕ)
     → byte < 128 → test byte ≡ true
 each_byte test all byte low =
@@ -46,7 +46,7 @@ module _ (base : Base) (is : base_of base32_dnssec_fields ≡ Ok base)
   one_own_form : has_one_own_form base ≡ true
   one_own_form = known has_one_own_form false base32_dnssec_fields base is
 
-  -- they mean the same data exactly where their bytes mean the same
+  -- they mean the same data if and only if their bytes mean the same
   same_data : (one other bytes others : List ℕ) → Means base one bytes
       → Means base other others
       → (map (meaning base) one ≡ map (meaning base) other) ↔ (bytes ≡ others)
@@ -64,7 +64,7 @@ module _ (base : Base) (is : base_of base32_dnssec_fields ≡ Ok base)
 
   module _ (encoding : Base) (yields : base_of base32_dnssec_fields ≡ Ok encoding)
       (one other : List ℕ) where
-    -- so whether their bytes mean the same tells it
+    -- so it depends on whether their bytes mean the same
     pub same_name : (result : Bool)
         → IsTrue result ↔ (map (meaning encoding) one ≡ map (meaning encoding) other)
         → (bytes others : List ℕ) → Means base one bytes → Means base other others
@@ -160,7 +160,7 @@ module _ (base url : Base) (is : base_of base64_fields ≡ Ok base)
       sym (ap (λ m. unwrap_or (own_character url m) byte) none))
       (cases_lt byte 128)
 
-  -- whether a byte is one of base64url alone, means something in base64, or nothing in base64url
+  -- whether a byte is only in base64url, means something in base64, or nothing in base64url
   abbrev is_told : Base → Base → ℕ → Bool
   is_told b u byte =
       byte == 45 || byte == 95 || not (is_invalid (meaning b byte)) || is_invalid (meaning u byte)
@@ -186,7 +186,7 @@ module _ (base url : Base) (is : base_of base64_fields ≡ Ok base)
       ap is_invalid (get_or_past url.meanings byte Invalid (omega (arith, high, long_too))))
       (cases_lt byte 128)
 
--- a list of which so many members are exchanged, where they stand
+-- a list in which this many members are exchanged, in place
 module _ (f : ℕ → ℕ) where
   abbrev pub exchanged_to : ℕ → List ℕ → List ℕ
   exchanged_to index xs = map f (take index xs) ++ drop index xs

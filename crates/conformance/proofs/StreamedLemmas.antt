@@ -1,4 +1,4 @@
--- What is decoded of a text that comes in pieces.
+-- What is decoded from a text that comes in pieces.
 use Rattle.std.proofs.Common.{refl, subst, Option, None, Some, Result, OnOk, ◌≡◌, ℕ, ◌+◌, ◌<◌, List, [], ◌∷◌, ◌++◌, flat_map, get_or, length, take, sym, ap, ◌∙◌, append-nil, append_assoc}
 use Rattle.std.proofs.lemmas.Grind.{flat_map-append}
 use Rattle.std.proofs.lemmas.List.{take_more}
@@ -17,7 +17,7 @@ joined-more f xs i d h =
     ∙ flat_map-append f (take i xs) (get_or xs i d ∷ [])
     ∙ ap (λ l. flat_map f (take i xs) ++ l) (append-nil (f (get_or xs i d)))
 
--- what a drained buffer was appended is handed on behind what was decoded before
+-- what was appended to a drained buffer is appended to what was decoded before
 pub handed-on : (before old new buffer output : List ℕ) → AppendsDecoded old new [] buffer
     → output ≡ before ++ old → output ++ buffer ≡ before ++ new
 handed-on before old new buffer output appends is =
@@ -26,7 +26,7 @@ handed-on before old new buffer output appends is =
     ∙ ap (λ l. before ++ (old ++ l)) appends.appended
     ∙ ap (λ l. before ++ l) (sym appends.decoded)
 
--- what holds of a text without a fault holds where the verdict is Ok
+-- what holds for a text without a fault holds if the verdict is Ok
 pub no-fault-ok : (P : Type 0) (fault : Option DecodeError)
     (verdict : Result (Unit {0}) DecodeError)
     → verdict ≡ verdict_of fault → (fault ≡ None → P) → OnOk verdict P

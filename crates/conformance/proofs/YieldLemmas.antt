@@ -1,4 +1,4 @@
--- What a specification yields.
+-- What is built from a specification.
 use Rattle.std.proofs.Common.{◌≡◌, ℕ, zero, suc, List, length, Option, Some, None, Result, Ok, Err, refl, sym, ap, ◌∙◌}
 use Rattle.data_encoding.specs.declared.encoding.Character.{Character}
 use Rattle.data_encoding.specs.declared.specification.meanings.Refusal.{Refusal}

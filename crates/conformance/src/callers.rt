@@ -28,19 +28,19 @@ pub mod referenced;
 pub mod stored;
 pub mod streamed;
 
-/// Why data did not come back.
+/// The reason why data did not come back.
 #[derive(Debug, Drop)]
 pub enum Trouble {
     /// No encoding is built from the specification.
     Refused(SpecificationError),
 
-    /// The data, or their text, are too long for one call.
+    /// The data, or its text, is too long for one call.
     TooLong,
 
     /// The text has a fault.
     Fault(DecodeError),
 
-    /// No memory was found.
+    /// Memory ran out.
     OutOfMemory,
 }
 
@@ -55,7 +55,7 @@ impl From<AllocError> for Trouble {
     }
 }
 
-/// The data again, by way of their text.
+/// Returns the data again, by way of its text.
 pub fn there_and_back(
     alloc: Global,
     specification: &Specification,
@@ -88,7 +88,7 @@ pub fn there_and_back(
     }
 }
 
-/// What is returned of a text with a byte that is no symbol, at position 1.
+/// Decodes a text with a byte that is no symbol, at position 1.
 pub fn no_symbol(alloc: Global) -> Result<Vec<u8>, DecodeFault>
     ensures { (result ≡ Err (DecodeFault.Error (record { position = 1; kind = DecodeKind.Symbol })))
         ⊎ (result ≡ Err DecodeFault.OutOfMemory) }
@@ -96,14 +96,15 @@ pub fn no_symbol(alloc: Global) -> Result<Vec<u8>, DecodeFault>
     hexlower().decode(alloc, b"4G")
 }
 
-/// What is returned of a text of an odd length: its length is judged before memory is asked for.
+/// Decodes a text of an odd length, which is judged before memory is allocated.
 pub fn odd_length(alloc: Global) -> Result<Vec<u8>, DecodeFault>
     ensures { result ≡ Err (DecodeFault.Error (record { position = 2; kind = DecodeKind.Length })) }
 {
     hexlower().decode(alloc, b"4G4")
 }
 
-/// The symbols of the encoding that is asked for, where there is one: those that were asked for.
+/// Returns the symbols of the encoding that is asked for, if there is one: they are those that were
+/// asked for.
 pub fn symbols_of(
     alloc: Global,
     specification: &Specification,
@@ -119,8 +120,8 @@ pub fn symbols_of(
     }
 }
 
-/// Whether `decode_len` refuses the length of the text, and `decode` the text, with the same fault:
-/// wherever the length has one.
+/// Whether `decode_len` refuses the length of the text and `decode` the text with the same fault:
+/// they do if the length has one.
 pub fn is_refused_alike(alloc: Global, encoding: &Encoding, text: &[u8]) -> bool
     requires limit { length text.now ≤ DECODE_LIMIT }
     ensures { result ≡ is_some (length_fault encoding.now (length text.now)) }
@@ -135,8 +136,8 @@ pub fn is_refused_alike(alloc: Global, encoding: &Encoding, text: &[u8]) -> bool
     }
 }
 
-/// Whether what is built from the specification of the encoding is the other: where the two are
-/// equal.
+/// Whether the encoding that is built from the specification of the one is equal to the other: it
+/// is if the two are equal.
 pub fn is_yielded_again(
     alloc: Global,
     encoding: &Encoding,
@@ -153,8 +154,8 @@ pub fn is_yielded_again(
     }
 }
 
-/// Whether an encoding is canonical, and two texts decode to the same bytes: where it is, and they
-/// are the same text. An error is that of decoding one of them.
+/// Whether an encoding is canonical and two texts decode to the same bytes: that is so exactly if
+/// the encoding is canonical and they are the same text. An error is that of decoding one of them.
 pub fn is_one_text(
     alloc: Global,
     encoding: &Encoding,
@@ -178,8 +179,9 @@ pub fn is_one_text(
     Ok(bytes.as_slice() == others.as_slice())
 }
 
-/// The data of a text that may stand for them, as a token or a name does: no other text has the
-/// same data. There are none where the encoding is not canonical, or the text means none.
+/// Returns the data of a text that may be used instead of it, such as a token or a name: no other
+/// text has the same data. Returns `None` if the encoding is not canonical, or the text means no
+/// data.
 pub fn data_of_token(
     alloc: Global,
     encoding: &Encoding,
@@ -204,9 +206,9 @@ pub fn data_of_token(
     }
 }
 
-/// Appends the text of data that come in two fragments: that of the fragments joined.
+/// Appends the text of data that comes in two pieces: that of the pieces joined.
 ///
-/// Where memory ran out, the text of some blocks may have been appended.
+/// If memory runs out, the text of some blocks may have been appended.
 pub fn encoded_in_two(
     encoding: &Encoding,
     one: &[u8],

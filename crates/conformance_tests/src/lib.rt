@@ -1,4 +1,4 @@
-//! Tests over the public calls of the libraries, and of the callers of `conformance`.
+//! Tests of the public calls of the libraries, and of the callers of `conformance`.
 #![tactic(auto)]
 
 #[cfg(test)]

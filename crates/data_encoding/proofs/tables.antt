@@ -1,4 +1,4 @@
--- The tables of an encoding and the base that they stand for.
+-- The tables of an encoding and the base that they describe.
 pub mod TableLemmas
 pub mod TableRuleLemmas
 pub mod PlainLemmas

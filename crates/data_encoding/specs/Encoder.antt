@@ -11,19 +11,19 @@ use Rattle.data_encoding_meaning.specs.text.Base.{Base}
 use Rattle.data_encoding_meaning.specs.text.Fragments.{HasEncoded}
 use Rattle.data_encoding_meaning.specs.text.Text.{text_of}
 
--- the encoding
+-- the encoding of an encoder
 abbrev pub base_of_encoder : Encoder → Base
 base_of_encoder encoder = encoder.encoding
 
--- which text is appended to
+-- the name of the text that the encoder appends to
 abbrev pub output_name : Encoder → GName
 output_name encoder = encoder.output.ghost_name
 
--- that text so far
+-- the text as it is so far
 abbrev pub written : Encoder → List ℕ
 written encoder = string_bytes encoder.output.now
 
--- what fills no block yet
+-- the bytes that do not fill a block yet
 abbrev pub held : Encoder → List ℕ
 held encoder = encoder.held.items
 
@@ -32,23 +32,24 @@ abbrev pub HasTaken : Encoder → List ℕ → List ℕ → Type 0
 HasTaken encoder before bytes =
     HasEncoded (base_of_encoder encoder) before bytes (written encoder) (held encoder)
 
--- The text, what is held and the encoding are as before.
+-- The text, the bytes held and the encoding are as before.
 pub record IsUnchanged (old new : Encoder) : Type 0 where
   pub written : written new ≡ written old
   pub held : held new ≡ held old
   pub base : base_of_encoder new ≡ base_of_encoder old
   pub output : output_name new ≡ output_name old
 
--- the text that an encoder appends to which was handed back
+-- the name of the text of the encoder that is returned, if one is
 abbrev pub name_handed_back : Result (Unit {0}) Encoder → maybe.Option GName
 name_handed_back (Ok _) = maybe.none
 name_handed_back (Err encoder) = maybe.some (output_name encoder)
 
+-- the type of the text that is appended to
 abbrev string_type : RattleType
 string_type = string.the_row global.the_row ghosts
 
--- The text ends with the text of all that the encoder was handed; or it is what the encoder that is
--- handed back leaves.
+-- The text ends with the text of all bytes that the encoder has taken; or it is as the returned
+-- encoder leaves it.
 abbrev pub Finalizes : Encoder → Result (Unit {0}) Encoder → Fml
 Finalizes encoder result =
     follows_so string_type string_type (output_name encoder) (name_handed_back result)

@@ -5,7 +5,7 @@ use Rattle.data_encoding_meaning.specs.declared.encoding.BitOrder.{BitOrder}
 use Rattle.data_encoding_meaning.specs.text.Base.{Base, IsWidth, ignores_some, group_symbols, wrapping_by}
 use Rattle.data_encoding_meaning.specs.specification.Entries.{meaning_of_entry, is_entry_of}
 
--- the tables, by which an encoding encodes and decodes
+-- the tables by which an encoding encodes and decodes
 pub record EncodingTables : Type 0 where
   pub symbols : List ℕ
   pub values : List ℕ
@@ -18,6 +18,7 @@ pub record EncodingTables : Type 0 where
   pub column : ℕ
   pub separator : List ℕ
 
+-- the base that the tables of an encoding describe
 abbrev pub base_of_tables : EncodingTables → Base
 base_of_tables e = record {
   width = e.width;
@@ -30,7 +31,8 @@ base_of_tables e = record {
   wrapping = wrapping_by e.column e.separator;
 }
 
--- Without padding no byte means it; and padding is only where eight bits are no whole symbols.
+-- Without a padding character no byte means padding. With one, it is ASCII and means padding, and
+-- eight bits are not whole symbols.
 abbrev pub KeepsPadding : Option ℕ → ℕ → List ℕ → Type 0
 KeepsPadding None width values = IsTrue (list_all (λ v. not (v == 130)) (take 128 values))
 KeepsPadding (Some character) width values =
@@ -44,8 +46,8 @@ KeepsWrapping (suc n) separator width values =
     × (0 < length separator) × (length separator < 256)
     × IsTrue (list_all (λ byte. slice_index values byte == 129) separator)
 
--- A symbol has one to six bits, and no bits can be left over where eight are whole symbols. The
--- symbols are ASCII, and fill their table again and again. Each has its own value; any other byte
+-- A symbol has one to six bits, and trailing bits are checked if eight bits are whole symbols. The
+-- symbols are ASCII, and are repeated to fill their table. Each has its own value; any other byte
 -- has the value of a symbol, or 128 to 130; each from 128 on has 128.
 pub record KeepsRules (e : EncodingTables) : Type 0 where
   pub is_width : IsWidth e.width

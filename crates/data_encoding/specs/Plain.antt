@@ -4,6 +4,6 @@ use Rattle.data_encoding_meaning.specs.text.Base.{Base}
 use Rattle.data_encoding.specs.Encoding.{base_of_tables}
 use Rattle.data_encoding.specs.PlainTables.{plain_tables}
 
--- the encoding
+-- the encoding of a `PlainEncoding`
 abbrev pub base_of_plain : PlainEncoding → Base
 base_of_plain plain = base_of_tables (plain_tables plain.fields)

@@ -5,14 +5,15 @@ use Rattle.data_encoding_meaning.specs.declared.encoding.BitOrder.TheVariants.{M
 use Rattle.data_encoding.specs.declared.plain.PlainFields.{PlainFields}
 use Rattle.data_encoding.specs.Encoding.{EncodingTables}
 
+-- the order of the bits, by a flag
 abbrev pub order_by : Bool → BitOrder
 order_by least = if least then LeastSignificantFirst else MostSignificantFirst
 
--- a padding character is ASCII
+-- the padding character, or none if the entry is not ASCII
 abbrev pub padding_by : ℕ → Option ℕ
 padding_by entry = if nat_lt entry 128 then Some entry else None
 
--- the tables that plain fields stand for
+-- the tables that plain fields describe
 abbrev pub plain_tables : PlainFields → EncodingTables
 plain_tables f = record {
   symbols = f.symbols;

@@ -1,4 +1,4 @@
--- What a `Display` shows.
+-- What a `Display` prints.
 use Rattle.std.specs.Prelude.{ℕ, List}
 use Rattle.data_encoding.specs.declared.encode.display.Display.{Display}
 use Rattle.data_encoding_meaning.specs.text.Text.{text_of}

@@ -1,4 +1,4 @@
--- What a `Specification` says, with its texts as bytes.
+-- What a `Specification` asks for, with its texts as bytes.
 use Rattle.std.specs.Prelude.{◌≡◌, true, [], None}
 use Rattle.std.specs.String.{string_bytes}
 use Rattle.data_encoding_meaning.specs.declared.encoding.BitOrder.TheVariants.{MostSignificantFirst}
@@ -11,6 +11,7 @@ use Rattle.data_encoding.specs.declared.specification.Translate.{Translate}
 use Rattle.data_encoding.specs.declared.specification.Wrap.{Wrap}
 use Rattle.data_encoding_meaning.specs.specification.Fields.{Fields}
 
+-- what a specification asks for
 abbrev pub specified : Specification → Fields
 specified s = record {
   symbols = string_bytes s.symbols;
@@ -25,11 +26,11 @@ specified s = record {
   to = string_bytes s.translate.to;
 }
 
--- why no base is built from a specification
+-- the reason why no base is built from a specification
 abbrev pub refusal_of : SpecificationError → Refusal
 refusal_of error = error.refusal
 
--- what a specification of borrowed bytes says
+-- what a specification of borrowed bytes asks for
 abbrev pub fields_of_parts : SpecificationParts → Fields
 fields_of_parts p = record {
   symbols = p.symbols.now;
@@ -44,7 +45,7 @@ fields_of_parts p = record {
   to = p.translate_to.now;
 }
 
--- what a specification of bytes of its own says
+-- what a specification of its own bytes asks for
 abbrev pub fields_of_bytes : SpecificationBytes → Fields
 fields_of_bytes s = record {
   symbols = s.symbols.items;
@@ -59,7 +60,7 @@ fields_of_bytes s = record {
   to = s.translate_to.items;
 }
 
--- nothing but the most significant bit first, and trailing bits checked
+-- an empty specification: the most significant bit first, and trailing bits checked
 abbrev pub no_fields : Fields
 no_fields = record {
   symbols = [];
@@ -74,11 +75,12 @@ no_fields = record {
   to = [];
 }
 
--- copies have the same texts
+-- Two translations have the same texts.
 pub record SameTranslate (one other : Translate) : Type 0 where
   pub from : string_bytes one.from ≡ string_bytes other.from
   pub to : string_bytes one.to ≡ string_bytes other.to
 
+-- Two line settings have the same width and separator.
 pub record SameWrap (one other : Wrap) : Type 0 where
   pub width : one.width ≡ other.width
   pub separator : string_bytes one.separator ≡ string_bytes other.separator

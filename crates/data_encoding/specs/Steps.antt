@@ -10,11 +10,12 @@ use Rattle.data_encoding_meaning.specs.text.Grammar.{kept}
 use Rattle.data_encoding_meaning.specs.decoding.Partial.{StopsAt, is_length_fault}
 use Rattle.data_encoding_meaning.specs.decoding.Decoding.{HasDecodedTo, HasRoom, IsDecoded, IsStop}
 
+-- the fault of the group at which a decoding stopped
 abbrev pub fault_of_stop : Stop → GroupFault
 fault_of_stop stop = record { index = stop.index; kind = stop.kind }
 
--- A decoding stopped before a faulty group: what is reported of that group says how the decoding of
--- the text stopped.
+-- A decoding stopped before a faulty group; what is reported of that group is what is reported of
+-- the text.
 pub record HasStopped (base : Base) (text output : List ℕ) (stop : Stop) : Type 0 where
   pub within : stop.read ≤ length text
   pub fits : stop.written ≤ length output
@@ -27,12 +28,13 @@ pub record HasStopped (base : Base) (text output : List ℕ) (stop : Stop) : Typ
       new partial
       → StopsAt base text new partial
 
--- Where the steps over a text ended: at its end without a fault, or at a faulty group.
+-- The steps over a text ended: at its end without a fault, or at a faulty group.
 abbrev pub HasEnded : Base → List ℕ → List ℕ → Stop → Bool → Type 0
 HasEnded base text output stop true = IsDecoded base text stop.written output
 HasEnded base text output stop false = HasStopped base text output stop
 
--- How a step from a position left a text: it is further on and more is left, or the steps ended.
+-- How a step from a position left a text: more was read and there is more to read, or the steps
+-- ended.
 abbrev pub HasStepped : Base → List ℕ → ℕ → List ℕ → Stop → Step → Type 0
 HasStepped base text read output stop More =
     (read < stop.read) × HasDecodedTo base text stop.read stop.written false output

@@ -1,10 +1,10 @@
--- Tables that serve a base: what the loops over groups look up.
+-- The tables of a base that its layout and its specification are made from.
 use Rattle.std.specs.Prelude.{◌≡◌, map}
 use Rattle.data_encoding.specs.declared.specification.tables.Tables.{Tables}
 use Rattle.data_encoding_meaning.specs.text.Base.{Base}
 use Rattle.data_encoding_meaning.specs.specification.Entries.{meaning_of_entry}
 
--- They have the symbols, the meanings and the padding character of the base.
+-- The tables have the symbols, the meanings and the padding character of the base.
 pub record HasTables (base : Base) (tables : Tables) : Type 0 where
   pub symbols : base.symbols ≡ tables.symbols.now
   pub meanings : base.meanings ≡ map meaning_of_entry tables.values.now

@@ -29,7 +29,7 @@ pub const DECODE_LIMIT: usize = limits::DECODE_LIMIT;
 const _: () = prove!(DECODE_LIMIT == 2305843009213693951);
 
 // Where a decoding stopped: how far it had read and written, and what is wrong with which byte of
-// the next group. Single fields go by registers.
+// the next group. The fields are scalars, so that they stay in registers.
 #[derive(Clone, Copy, Drop)]
 pub(crate) struct Stop {
     pub(crate) read: usize,
@@ -53,18 +53,19 @@ impl Stop {
 }
 
 impl Encoding {
-    /// Writes the data that the text means to the front of `output`, which has exactly
-    /// `decode_len` of the text's length, and returns how many bytes they are. The text has at most
-    /// `DECODE_LIMIT` bytes.
+    /// Writes the data that the text means to the start of `output`, and returns the length of the
+    /// data. `output` has exactly the length that `decode_len` returns for the text, which has at
+    /// most `DECODE_LIMIT` bytes.
     ///
-    /// Concatenated padded texts decode as one, where the encoding allows it. A text that means
-    /// nothing has one fault. Of it, the beginning that was read means the bytes
-    /// that were written: those of the groups before the faulty one and, where a last group is too
-    /// short and bytes are ignored, of its symbols that stand in a row, where they are valid. What
-    /// stands in the output after these is not said.
+    /// Concatenated padded texts decode as one, if the encoding allows it. A text that means
+    /// nothing has one fault. The prefix of it that was read means the bytes that were written:
+    /// those of the groups before the faulty one. If the last group is too short, which it can be
+    /// only if bytes are ignored, the longest prefix of valid length of what is left is read too,
+    /// unless it has an ignored byte or a fault. Output bytes after those that were written are
+    /// unspecified.
     ///
-    /// Without padding and ignored bytes, a text that means data fills the output: what is returned
-    /// is its length.
+    /// Without padding and ignored bytes, a text that means data fills the output: the length of
+    /// `output` is returned.
     pub fn decode_mut(&self, input: &[u8], output: &mut [u8]) -> Result<usize, DecodePartial>
         requires limit { length input.now ≤ DECODE_LIMIT }
         requires exact { decoded_len self.now (length input.now) ≡ Ok (length output.old) }
@@ -87,12 +88,12 @@ impl Encoding {
         self.by_ref().decode_mut(input, output)
     }
 
-    /// The data that the text, of at most `DECODE_LIMIT` bytes, means.
+    /// Returns the data that the text means. The text has at most `DECODE_LIMIT` bytes.
     ///
-    /// Concatenated padded texts decode as one, where the encoding allows it. A text that means
-    /// nothing has one fault: its length is judged first; then the first faulty group decides, its
-    /// padding before its symbols. Out of memory is reported only for a text of a valid length that
-    /// may mean one byte or more.
+    /// Concatenated padded texts decode as one, if the encoding allows it. A text that means
+    /// nothing has one fault: its length is judged first; after that the first faulty group
+    /// decides, its padding before its symbols. Out of memory is reported only for a text of a
+    /// valid length that may mean one byte or more.
     pub fn decode(&self, alloc: Global, input: &[u8]) -> Result<Vec<u8>, DecodeFault>
         requires limit { length input.now ≤ DECODE_LIMIT }
         ensures means { IfOk result (λ bytes. Means self.now input.now bytes.items) }
@@ -117,18 +118,19 @@ impl Encoding {
 }
 
 impl EncodingRef<'_> {
-    /// Writes the data that the text means to the front of `output`, which has exactly
-    /// `decode_len` of the text's length, and returns how many bytes they are. The text has at most
-    /// `DECODE_LIMIT` bytes.
+    /// Writes the data that the text means to the start of `output`, and returns the length of the
+    /// data. `output` has exactly the length that `decode_len` returns for the text, which has at
+    /// most `DECODE_LIMIT` bytes.
     ///
-    /// Concatenated padded texts decode as one, where the encoding allows it. A text that means
-    /// nothing has one fault. Of it, the beginning that was read means the bytes
-    /// that were written: those of the groups before the faulty one and, where a last group is too
-    /// short and bytes are ignored, of its symbols that stand in a row, where they are valid. What
-    /// stands in the output after these is not said.
+    /// Concatenated padded texts decode as one, if the encoding allows it. A text that means
+    /// nothing has one fault. The prefix of it that was read means the bytes that were written:
+    /// those of the groups before the faulty one. If the last group is too short, which it can be
+    /// only if bytes are ignored, the longest prefix of valid length of what is left is read too,
+    /// unless it has an ignored byte or a fault. Output bytes after those that were written are
+    /// unspecified.
     ///
-    /// Without padding and ignored bytes, a text that means data fills the output: what is returned
-    /// is its length.
+    /// Without padding and ignored bytes, a text that means data fills the output: the length of
+    /// `output` is returned.
     #[inline(always)]
     pub fn decode_mut(&self, input: &[u8], output: &mut [u8]) -> Result<usize, DecodePartial>
         requires limit { length input.now ≤ DECODE_LIMIT }
@@ -156,7 +158,7 @@ impl EncodingRef<'_> {
         Err(self.stopped(input, output, stop))
     }
 
-    // What is reported of a faulty group: only after a group that is too short may more be read.
+    // What is reported of a faulty group. More is read only after a group that is too short.
     #[inline(always)]
     fn stopped(&self, input: &[u8], output: &mut [u8], stop: Stop) -> DecodePartial
         requires limit { length input.now ≤ DECODE_LIMIT }
@@ -189,8 +191,8 @@ impl EncodingRef<'_> {
         }
     }
 
-    // Decodes the greatest front of valid length of the rest of a text as it stands, and returns
-    // how many bytes it means; nothing where it has a fault.
+    // Decodes the longest prefix of valid length of the rest of a text, without ignoring any byte,
+    // and returns how many bytes it means, or `None` if it has a fault.
     #[cold]
     #[inline(never)]
     fn decode_front(&self, rest: &[u8], output: &mut [u8]) -> Option<usize>

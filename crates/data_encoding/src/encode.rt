@@ -28,8 +28,8 @@ pub const ENCODE_LIMIT: usize = limits::ENCODE_LIMIT;
 const _: () = prove!(ENCODE_LIMIT == 36028797018963967);
 
 impl Encoding {
-    /// The length of the text of `len` bytes of data, at most `ENCODE_LIMIT`, with its padding and
-    /// the separators of its lines: at most 263 for each byte.
+    /// Returns the length of the text of `len` bytes of data, at most `ENCODE_LIMIT`, with its
+    /// padding and the separators of its lines. It is at most 263 for each byte.
     pub fn encode_len(&self, len: usize) -> usize
         requires limit { len ≤ ENCODE_LIMIT }
         ensures length { (bytes : List ℕ) → length bytes ≡ len
@@ -41,10 +41,11 @@ impl Encoding {
         self.by_ref().encode_len(len)
     }
 
-    /// The bytes of data of a whole group of symbols, or of a whole line.
+    /// Returns the number of bytes of data in a whole group of symbols, or in a whole line. It is
+    /// from 1 to 189.
     ///
-    /// The texts of data may be joined where the length of all but the last is a multiple of it. It
-    /// is from 1 to 189.
+    /// The texts of pieces of data may be joined if the length of each piece but the last is a
+    /// multiple of it.
     pub fn encode_align(&self) -> usize
         ensures value { result ≡ alignment self.now }
         ensures some { 0 < result }
@@ -54,8 +55,8 @@ impl Encoding {
         self.by_ref().encode_align()
     }
 
-    /// Writes the text of the data into `output`, which has exactly its length: `encode_len` of the
-    /// data's, which is at most `ENCODE_LIMIT`.
+    /// Writes the text of the data, of at most `ENCODE_LIMIT` bytes, to `output`, which has exactly
+    /// the length that `encode_len` returns for the data.
     pub fn encode_mut(&self, input: &[u8], output: &mut [u8])
         requires limit { length input.now ≤ ENCODE_LIMIT }
         requires exact { length output.old ≡ length (text_of self.now input.now) }
@@ -65,7 +66,7 @@ impl Encoding {
         self.by_ref().encode_mut(input, output);
     }
 
-    /// Does what `encode_mut` does, on the same conditions, and returns the output as text.
+    /// The same as `encode_mut`, on the same conditions, but returns the output as text.
     pub fn encode_mut_str<'a>(&self, input: &[u8], output: &'a mut [u8]) -> &'a str
         requires limit { length input.now ≤ ENCODE_LIMIT }
         requires exact { length output.old ≡ length (text_of self.now input.now) }
@@ -75,10 +76,11 @@ impl Encoding {
         unsafe { str::from_utf8_unchecked(output) }
     }
 
-    /// The text of the data, of at most `ENCODE_LIMIT` bytes: its symbols, and padding that fills
-    /// the last group; in lines, where the encoding has them, each followed by the separator.
+    /// Returns the text of the data, of at most `ENCODE_LIMIT` bytes: its symbols, with padding
+    /// that fills the last group. If the encoding has lines, the text is in lines, each followed by
+    /// the separator.
     ///
-    /// The only error is that memory ran out, which is never reported for no data.
+    /// Returns an error only if memory runs out, and never for no data.
     pub fn encode(&self, alloc: Global, input: &[u8]) -> Result<String, AllocError>
         requires limit { length input.now ≤ ENCODE_LIMIT }
         ensures text { IfOk result (λ text. string_bytes text ≡ text_of self.now input.now) }
@@ -91,8 +93,8 @@ impl Encoding {
 }
 
 impl EncodingRef<'_> {
-    /// The length of the text of `len` bytes of data, at most `ENCODE_LIMIT`, with its padding and
-    /// the separators of its lines: at most 263 for each byte.
+    /// Returns the length of the text of `len` bytes of data, at most `ENCODE_LIMIT`, with its
+    /// padding and the separators of its lines. It is at most 263 for each byte.
     #[inline(always)]
     pub fn encode_len(&self, len: usize) -> usize
         requires limit { len ≤ ENCODE_LIMIT }
@@ -123,10 +125,11 @@ impl EncodingRef<'_> {
         symbol_count(self.fields.width, len)
     }
 
-    /// The bytes of data of a whole group of symbols, or of a whole line.
+    /// Returns the number of bytes of data in a whole group of symbols, or in a whole line. It is
+    /// from 1 to 189.
     ///
-    /// The texts of data may be joined where the length of all but the last is a multiple of it. It
-    /// is from 1 to 189.
+    /// The texts of pieces of data may be joined if the length of each piece but the last is a
+    /// multiple of it.
     pub(crate) fn encode_align(&self) -> usize
         ensures value { result ≡ alignment self.now }
         ensures some { 0 < result }
@@ -139,8 +142,8 @@ impl EncodingRef<'_> {
         group_bytes(self.fields.width) as usize
     }
 
-    /// Writes the text of the data into `output`, which has exactly its length: `encode_len` of the
-    /// data's, which is at most `ENCODE_LIMIT`.
+    /// Writes the text of the data, of at most `ENCODE_LIMIT` bytes, to `output`, which has exactly
+    /// the length that `encode_len` returns for the data.
     #[inline(always)]
     pub fn encode_mut(&self, input: &[u8], output: &mut [u8])
         requires limit { length input.now ≤ ENCODE_LIMIT }
@@ -164,7 +167,7 @@ impl EncodingRef<'_> {
         }
     }
 
-    // The symbols, and the padding.
+    // Writes the symbols and the padding.
     #[inline(always)]
     fn encode_padded<G: GroupSize>(&self, input: &[u8], output: &mut [u8])
         requires width { self.now.width ≡ G.WIDTH }
@@ -202,8 +205,8 @@ impl EncodingRef<'_> {
     }
 }
 
-// The number of symbols of `len` bytes. What is divided by is a constant, since a division by a
-// variable takes as long as a group.
+// The number of symbols of `len` bytes. The divisor is a constant, since a division by a variable
+// takes as long as encoding a group.
 fn symbol_count(width: u8, len: usize) -> usize
     requires width { IsWidth width }
     requires limit { len ≤ ENCODE_LIMIT }

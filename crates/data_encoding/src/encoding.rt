@@ -1,4 +1,4 @@
-//! Encodings, and the words that describe them.
+//! Encodings, and the terms that describe them.
 
 ghost use Rattle.std.specs.Prelude.{◌≡◌, ◌<◌, ◌≤◌, ◌-◌, ◌==◌, ◌||◌, MatchResult};
 ghost use Rattle.data_encoding_meaning.specs.text.Base.{IsWidth, group_bytes, group_symbols, ignores_some, is_padded, meaning};
@@ -10,20 +10,20 @@ pub use data_encoding_meaning::encoding::{BitOrder, Character};
 use std::alloc::AllocError;
 use std::marker::Model;
 
-// The entries of a byte that means nothing, of one that is ignored, and of padding.
+// The entries of a byte that is invalid, of one that is ignored, and of padding.
 pub(crate) const INVALID: u8 = 128;
 
 pub(crate) const IGNORED: u8 = 129;
 
 pub(crate) const PADDING: u8 = 130;
 
-// The most symbols, and so the least number that is no value.
+// The greatest number of symbols, and so the least entry that is not a value.
 pub(crate) const MOST_SYMBOLS: u8 = 64;
 
-// The number of ASCII characters, of which a text has no others.
+// The number of ASCII characters; a text has no others.
 pub(crate) const ASCII: u8 = 128;
 
-/// An encoding: how data is written as text, and which texts are data.
+/// An encoding: how data is written as text, and which texts mean data.
 #[derive(Debug, Drop)]
 pub struct Encoding {
     pub(crate) fields: PlainFields,
@@ -42,9 +42,9 @@ impl Model for Encoding {
     ghost invariant = { λ encoding. KeepsRules (plain_tables encoding.fields) };
 }
 
-/// An encoding whose tables stand elsewhere: in an [`Encoding`], in a
-/// [`PlainEncoding`](crate::PlainEncoding) or, of a predefined encoding, in the program. It is one
-/// pointer: making one copies nothing.
+/// An encoding by reference: its tables are in an [`Encoding`], in a
+/// [`PlainEncoding`](crate::PlainEncoding) or, for a predefined encoding, in the program. It is one
+/// pointer, and nothing is copied to make one.
 #[derive(Debug, Drop)]
 pub struct EncodingRef<'a> {
     pub(crate) fields: &'a PlainFields,
@@ -64,7 +64,7 @@ impl<'a> Model for EncodingRef<'a> {
 }
 
 impl EncodingRef<'_> {
-    /// A copy of the tables.
+    /// Returns a copy of the encoding, with its tables.
     #[inline]
     pub fn encoding(&self) -> Encoding
         ensures { result ≡ self.now }
@@ -74,7 +74,7 @@ impl EncodingRef<'_> {
         }
     }
 
-    /// The number of bits of a symbol, from 1 to 6.
+    /// Returns the number of bits of a symbol, from 1 to 6.
     #[inline(always)]
     pub fn bit_width(&self) -> usize
         ensures value { result ≡ self.now.width }
@@ -84,7 +84,7 @@ impl EncodingRef<'_> {
         self.fields.width as usize
     }
 
-    /// The number of bytes of a whole group: 1, 3 or 5.
+    /// Returns the number of bytes in a whole group: 1, 3 or 5.
     #[inline]
     pub fn group_bytes(&self) -> usize
         ensures value { result ≡ group_bytes self.now.width }
@@ -107,7 +107,7 @@ impl EncodingRef<'_> {
 }
 
 impl Encoding {
-    /// The encoding by reference.
+    /// Returns the encoding by reference.
     #[inline(always)]
     pub fn by_ref(&self) -> EncodingRef<'_>
         ensures { result ≡ self.now }
@@ -117,7 +117,7 @@ impl Encoding {
         }
     }
 
-    /// The number of bits of a symbol, from 1 to 6.
+    /// Returns the number of bits of a symbol, from 1 to 6.
     pub fn bit_width(&self) -> usize
         ensures value { result ≡ self.now.width }
         ensures width { IsWidth result }
@@ -126,7 +126,7 @@ impl Encoding {
         self.by_ref().bit_width()
     }
 
-    /// The number of symbols of a whole group, the fewest of which the bits are whole bytes: 2, 4
+    /// Returns the number of symbols in a whole group, the fewest whose bits are whole bytes: 2, 4
     /// or 8.
     pub fn group_len(&self) -> usize
         ensures value { result ≡ group_symbols self.now.width }
@@ -136,7 +136,7 @@ impl Encoding {
         group_symbols(self.fields.width) as usize
     }
 
-    /// The number of bytes of a whole group: 1, 3 or 5.
+    /// Returns the number of bytes in a whole group: 1, 3 or 5.
     pub fn group_bytes(&self) -> usize
         ensures value { result ≡ group_bytes self.now.width }
         ensures some { 0 < result }
@@ -155,14 +155,14 @@ impl Encoding {
         self.by_ref().completes_groups()
     }
 
-    /// Whether a byte is ignored.
+    /// Whether some byte is ignored.
     pub fn ignores_bytes(&self) -> bool
         ensures { result ≡ ignores_some self.now }
     {
         self.fields.ignores
     }
 
-    /// Whether a text may go on after a padded group. Without padding any text may.
+    /// Whether a text may continue after a padded group. Without padding every text may.
     pub fn concatenates(&self) -> bool
         ensures { result ≡ self.now.concatenates }
     {
@@ -176,14 +176,14 @@ impl Encoding {
         self.fields.is_padded()
     }
 
-    /// Whether bits that are left after the last byte have to be zeros.
+    /// Whether bits left after the last byte must be zeros.
     pub fn checks_trailing_bits(&self) -> bool
         ensures { result ≡ self.now.checks_trailing_bits }
     {
         self.fields.checks_trailing_bits
     }
 
-    /// What a byte means in a text.
+    /// Returns what a byte means in a text.
     pub fn interpret_byte(&self, byte: u8) -> Character
         ensures { result ≡ meaning self.now byte }
     {
@@ -226,7 +226,7 @@ pub(crate) fn group_symbols(width: u8) -> u8
     group_bytes(width) * 8 / width
 }
 
-// A copy takes no memory, and is never refused.
+// A copy does not allocate, and never fails.
 impl Clone for Encoding {
     ghost use Rattle.std.specs.Prelude.{◌≡◌};
 
@@ -260,7 +260,7 @@ impl PartialEq for Encoding {
         ensures same { IsTrue result ↔ (layout self.now ≡ layout other.now) }
         ensures base { IsTrue result ↔ (self.now ≡ other.now) }
     {
-        // The small fields first: encodings mostly differ there.
+        // The small fields first, since most encodings differ there.
         let one = (
             self.fields.width,
             self.fields.order(),
@@ -277,7 +277,7 @@ impl PartialEq for Encoding {
             other.fields.padding_character(),
             other.fields.column,
         );
-        // At most 64 symbols repeat, and no byte from 128 on has a value.
+        // The first 64 symbols determine the table, and no byte from 128 on has a value.
         one == another
             && self.fields.symbols[..MOST_SYMBOLS as usize]
                 == other.fields.symbols[..MOST_SYMBOLS as usize]

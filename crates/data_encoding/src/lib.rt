@@ -1,7 +1,7 @@
-//! Base encodings, proved: data as text over an alphabet of symbols, and back.
+//! Base encodings with proofs: data as text over an alphabet of symbols, and back.
 //!
-//! What an encoding means is stated by the definitions of `specs/`: `text_of` is the text of data,
-//! `Means` says which texts mean which data, and `fault_of` is the one fault of any other text. The
+//! The definitions of `specs/` state what an encoding means: `text_of` is the text of data, `Means`
+//! says which texts mean which data, and `fault_of` is the one fault of any other text. The
 //! contracts of the public calls compare with them.
 #![tactic(auto)]
 

@@ -1,4 +1,4 @@
-//! The tables of an encoding as plain data, which cross to C.
+//! The tables of an encoding as plain data, which can be passed to C.
 
 ghost use Rattle.std.specs.Prelude.{◌≡◌, ◌≤◌, length, is_some, take};
 ghost use Rattle.data_encoding.specs.Encoding.{KeepsRules};
@@ -6,18 +6,18 @@ ghost use Rattle.data_encoding.specs.PlainTables.{order_by, padding_by, plain_ta
 
 use crate::encoding::{BitOrder, Encoding, EncodingRef};
 
-// The tables of an encoding, with numbers in place of what does not cross to C.
+// The tables of an encoding, with numbers for the types that C does not have.
 #[repr(C)]
 #[derive(Clone, Copy, Debug, Drop)]
 pub struct PlainFields {
-    // The symbols in order of value, again and again.
+    // The symbols in order of value, repeated to fill the table.
     pub(crate) symbols: [u8; 256],
 
-    // The value of each symbol and of each byte that is translated to it; 128 for a byte that is
-    // nothing, 129 for one that is ignored, and 130 for padding.
+    // The value of each symbol and of each byte that is translated to it; 128 for an invalid byte,
+    // 129 for an ignored one, and 130 for padding.
     pub(crate) values: [u8; 256],
 
-    // What follows each line, at the front, and its length.
+    // The separator of lines, followed by zeros, and its length.
     pub(crate) separator: [u8; 255],
     pub(crate) separator_len: u8,
 
@@ -32,10 +32,10 @@ pub struct PlainFields {
     pub(crate) least_significant_first: bool,
     pub(crate) checks_trailing_bits: bool,
 
-    // Whether a text may go on after a padded group.
+    // Whether a text may continue after a padded group.
     pub(crate) concatenates: bool,
 
-    // Whether a byte is ignored, as the table of values tells.
+    // Whether some byte is ignored, by the table of values.
     pub(crate) ignores: bool,
 }
 
@@ -68,7 +68,7 @@ impl PlainFields {
         self.padding < 128
     }
 
-    // What follows each line.
+    // The separator of lines.
     #[inline(always)]
     pub(crate) fn line_separator(&self) -> &[u8]
         ensures value { result.now ≡ take self.now.separator_len self.now.separator }
@@ -77,7 +77,7 @@ impl PlainFields {
         &self.separator[..self.separator_len as usize]
     }
 
-    // The length of what follows each line.
+    // The length of the separator.
     #[inline(always)]
     pub(crate) fn line_separator_len(&self) -> usize
         ensures value { result ≡ length (take self.now.separator_len self.now.separator) }
@@ -87,7 +87,7 @@ impl PlainFields {
     }
 }
 
-// The padding character of its entry.
+// The padding character that the entry means.
 #[inline(always)]
 pub(crate) fn padding_of(entry: u8) -> Option<u8>
     ensures { result ≡ padding_by entry }
@@ -106,7 +106,7 @@ pub struct PlainEncoding {
 impl PlainEncoding {
     ghost use Rattle.data_encoding.specs.Plain.{base_of_plain};
 
-    /// The encoding by reference.
+    /// Returns the encoding by reference.
     #[inline(always)]
     pub fn by_ref(&self) -> EncodingRef<'_>
         ensures { result ≡ base_of_plain self.now }
@@ -116,7 +116,7 @@ impl PlainEncoding {
         }
     }
 
-    /// The encoding, with a copy of the tables.
+    /// Returns the encoding, with a copy of the tables.
     pub fn encoding(&self) -> Encoding
         ensures { result ≡ base_of_plain self.now }
     {
@@ -127,7 +127,7 @@ impl PlainEncoding {
 impl Encoding {
     ghost use Rattle.data_encoding.specs.Plain.{base_of_plain};
 
-    /// The encoding as plain data.
+    /// Returns the encoding as plain data.
     pub fn to_plain(&self) -> PlainEncoding
         ensures { base_of_plain result ≡ self.now }
     {

@@ -1,4 +1,4 @@
-//! Specifications of encodings, and why one is refused.
+//! Specifications of encodings, and the reasons why one is refused.
 
 pub(crate) mod builder;
 pub(crate) mod bytes;
@@ -26,27 +26,27 @@ use std::alloc::{AllocError, Global};
 use std::error::Error;
 use std::fmt;
 
-/// Bytes that mean what others mean: each of `from` what the one of `to` at its position means.
+/// A translation: each byte of `from` means what the byte of `to` at its position means.
 #[derive(Debug, Drop)]
 pub struct Translate {
     /// The bytes that are translated.
     pub from: String,
 
-    /// What each of them stands for.
+    /// What each of them is translated to.
     pub to: String,
 }
 
 /// Lines of text.
 #[derive(Debug, Drop)]
 pub struct Wrap {
-    /// The number of characters of a line, or 0 where the text is not cut into lines.
+    /// The number of characters of a line, or 0 if the text is not cut into lines.
     pub width: usize,
 
-    /// What follows each line, or nothing where the text is not cut into lines.
+    /// The separator that follows each line, or nothing if the text is not cut into lines.
     pub separator: String,
 }
 
-/// How an encoding is asked for.
+/// A specification, from which an encoding is built.
 #[derive(Debug, Drop)]
 pub struct Specification {
     /// The symbols, in order of value: 2, 4, 8, 16, 32 or 64 ASCII characters.
@@ -55,36 +55,36 @@ pub struct Specification {
     /// Which bit of a byte comes first.
     pub bit_order: BitOrder,
 
-    /// Whether bits that are left after the last byte have to be zeros.
+    /// Whether bits left after the last byte must be zeros.
     pub check_trailing_bits: bool,
 
-    /// Whether concatenated padded texts are decoded as one. Where it is false, a text ends with
-    /// its first padded group. Without padding it has no effect.
+    /// Whether concatenated padded texts are decoded as one. If not, a text ends with its first
+    /// padded group. Without padding this has no effect.
     pub concatenate: bool,
 
-    /// What fills the last group of a text.
+    /// The character that fills the last group of a text.
     pub padding: Option<char>,
 
-    /// Bytes that a text may have anywhere, and that mean nothing.
+    /// Bytes that may be anywhere in a text and mean nothing.
     pub ignore: String,
 
     /// The lines of a text.
     pub wrap: Wrap,
 
-    /// Bytes that mean what others mean.
+    /// Bytes that are translated to others.
     pub translate: Translate,
 }
 
-/// Why no encoding is built from a specification.
+/// The reason why no encoding is built from a specification.
 #[derive(Clone, Copy, Debug)]
 pub struct SpecificationError {
     pub(crate) refusal: Refusal,
 }
 
 impl Specification {
-    /// A specification with no symbols, the most significant bit first, trailing bits checked, and
-    /// texts concatenated: no padding, nothing ignored, no lines and no translation. It takes no
-    /// memory.
+    /// Returns a specification with no symbols, the most significant bit first, trailing bits
+    /// checked, and texts concatenated: no padding, nothing ignored, no lines and no translation.
+    /// Nothing is allocated.
     pub fn new(alloc: Global) -> Specification
         ensures { specified result ≡ no_fields }
     {
@@ -106,12 +106,12 @@ impl Specification {
         }
     }
 
-    /// The encoding that is asked for, or the first reason why there is none.
+    /// Returns the encoding that is asked for, or the first reason why there is none.
     ///
-    /// It takes no memory. Judged in turn are the number of symbols, the symbols, the padding, the
-    /// ignored bytes, the lines where there are some, and the translations, each of which may use
-    /// what an earlier one defined. Where eight bits are whole symbols, trailing bits are checked
-    /// whatever is asked.
+    /// Nothing is allocated. The number of symbols, the symbols, the padding, the ignored bytes,
+    /// the lines if there are any, and the translations are judged in this order; each translation
+    /// may use what an earlier one defined. If eight bits are whole symbols, trailing bits are
+    /// always checked.
     pub fn encoding(&self) -> Result<Encoding, SpecificationError>
         ensures yields { IfOk result (λ base. base_of (specified self.now) ≡ Ok base) }
         ensures refused { IfErr result
@@ -132,7 +132,7 @@ impl Specification {
         parts.encoding()
     }
 
-    /// A copy, which says the same. The only error is that memory ran out.
+    /// Returns a copy of the specification. Returns an error only if memory runs out.
     pub fn try_clone(&self) -> Result<Specification, AllocError>
         ensures { IfOk result (λ copy. specified copy ≡ specified self.now) }
     {
@@ -150,7 +150,7 @@ impl Specification {
 }
 
 impl SpecificationError {
-    /// The first judgement that failed, with the byte or the number that shows it.
+    /// Returns the first judgement that failed, with the byte or the number that shows it.
     pub fn refusal(&self) -> Refusal
         ensures { result ≡ refusal_of self.now }
     {
@@ -159,9 +159,10 @@ impl SpecificationError {
 }
 
 impl Encoding {
-    /// A specification that builds the encoding again. The only error is that memory ran out.
+    /// Returns a specification from which the encoding can be built again. Returns an error only if
+    /// memory runs out.
     ///
-    /// Its ignored bytes are in order; and so are its translations, one for each byte that means a
+    /// Its ignored bytes are in order. So are its translations, one for each byte that means a
     /// symbol or padding and is another byte.
     pub fn specification(&self, alloc: Global) -> Result<Specification, AllocError>
         ensures { IfOk result (λ specification. specified specification ≡ fields_of self.now) }
@@ -171,9 +172,10 @@ impl Encoding {
 }
 
 impl EncodingRef<'_> {
-    /// A specification that builds the encoding again. The only error is that memory ran out.
+    /// Returns a specification from which the encoding can be built again. Returns an error only if
+    /// memory runs out.
     ///
-    /// Its ignored bytes are in order; and so are its translations, one for each byte that means a
+    /// Its ignored bytes are in order. So are its translations, one for each byte that means a
     /// symbol or padding and is another byte.
     pub fn specification(&self, alloc: Global) -> Result<Specification, AllocError>
         ensures { IfOk result (λ specification. specified specification ≡ fields_of self.now) }
@@ -198,7 +200,7 @@ impl EncodingRef<'_> {
         })
     }
 
-    // The tables, of which a symbol has one entry each.
+    // The tables, with one entry for each symbol.
     pub(crate) fn tables(&self) -> Tables<'_>
         ensures tables { HasTables self.now result }
         ensures long { length result.values.now ≡ 128 }
@@ -221,7 +223,7 @@ fn push_ascii(text: &mut String, byte: u8) -> Result<(), AllocError>
     text.push(char::from(byte))
 }
 
-// ASCII characters as text.
+// Returns ASCII characters as text.
 fn ascii_text(alloc: Global, bytes: &[u8]) -> Result<String, AllocError>
     requires { IsTrue (list_all (λ byte. nat_lt byte 128) bytes.now) }
     ensures { IfOk result (λ text. string_bytes text ≡ bytes.now) }
@@ -234,7 +236,7 @@ fn ascii_text(alloc: Global, bytes: &[u8]) -> Result<String, AllocError>
 }
 
 impl Translate {
-    /// A copy with the same texts. The only error is that memory ran out.
+    /// Returns a copy with the same texts. Returns an error only if memory runs out.
     pub fn try_clone(&self) -> Result<Translate, AllocError>
         ensures { IfOk result (λ copy. SameTranslate copy self.now) }
     {
@@ -246,7 +248,7 @@ impl Translate {
 }
 
 impl Wrap {
-    /// A copy with the same width and text. The only error is that memory ran out.
+    /// Returns a copy with the same width and separator. Returns an error only if memory runs out.
     pub fn try_clone(&self) -> Result<Wrap, AllocError>
         ensures { IfOk result (λ copy. SameWrap copy self.now) }
     {

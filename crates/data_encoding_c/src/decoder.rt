@@ -1,4 +1,5 @@
-//! Calls that decode a text in pieces, by the number of an encoding and by one of a caller's own.
+//! Calls that decode a text in pieces, with the number of a predefined encoding or with an encoding
+//! of the caller.
 
 ghost use Rattle.std.specs.Prelude.{[], ◌≡◌};
 ghost use Rattle.data_encoding.specs.Base.{Base};
@@ -13,7 +14,7 @@ use data_encoding_calls::{
     numbered_decoder_finish, numbered_decoder_most, numbered_decoder_read, plain_decoder_new,
 };
 
-/// What is kept of no text, by every encoding.
+/// Sets what is kept of the empty text, for every encoding.
 #[unsafe(no_mangle)]
 pub extern "C" fn de_plain_decoder_new(decoder: &mut PlainKept)
     ensures { (base : Base) → IsSpecified base → StandsAfter base decoder.new [] }
@@ -21,7 +22,7 @@ pub extern "C" fn de_plain_decoder_new(decoder: &mut PlainKept)
     plain_decoder_new(decoder);
 }
 
-/// The greatest number of bytes that `len` more of the text may complete.
+/// Writes the greatest number of bytes that `len` more bytes of the text may complete to `most`.
 #[unsafe(no_mangle)]
 pub extern "C" fn de_numbered_decoder_most(
     number: u32,
@@ -35,7 +36,7 @@ pub extern "C" fn de_numbered_decoder_most(
     numbered_decoder_most(number, decoder, len, most)
 }
 
-/// Reads a piece, and writes the bytes of the groups that are then whole to the front of the
+/// Reads a piece, and writes the bytes of the groups that are then whole to the start of the
 /// output, and their number to `written`.
 #[unsafe(no_mangle)]
 pub extern "C" fn de_numbered_decoder_read(
@@ -54,7 +55,7 @@ pub extern "C" fn de_numbered_decoder_read(
     numbered_decoder_read(number, decoder, piece, output, written)
 }
 
-/// Ends the text: writes the bytes of a last group to the front of the output, and tells the
+/// Ends the text: writes the bytes of a last group to the start of the output, and returns the
 /// verdict on the whole text.
 #[unsafe(no_mangle)]
 pub extern "C" fn de_numbered_decoder_finish(
@@ -69,7 +70,7 @@ pub extern "C" fn de_numbered_decoder_finish(
     numbered_decoder_finish(number, decoder, output, decoded)
 }
 
-/// The greatest number of bytes that `len` more of the text may complete.
+/// Writes the greatest number of bytes that `len` more bytes of the text may complete to `most`.
 #[unsafe(no_mangle)]
 pub extern "C" fn de_held_decoder_most(
     held: &PlainEncoding,
@@ -82,7 +83,7 @@ pub extern "C" fn de_held_decoder_most(
     held_decoder_most(held, decoder, len, most)
 }
 
-/// Reads a piece, and writes the bytes of the groups that are then whole to the front of the
+/// Reads a piece, and writes the bytes of the groups that are then whole to the start of the
 /// output, and their number to `written`.
 #[unsafe(no_mangle)]
 pub extern "C" fn de_held_decoder_read(
@@ -99,7 +100,7 @@ pub extern "C" fn de_held_decoder_read(
     held_decoder_read(held, decoder, piece, output, written)
 }
 
-/// Ends the text: writes the bytes of a last group to the front of the output, and tells the
+/// Ends the text: writes the bytes of a last group to the start of the output, and returns the
 /// verdict on the whole text.
 #[unsafe(no_mangle)]
 pub extern "C" fn de_held_decoder_finish(

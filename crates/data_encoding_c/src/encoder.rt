@@ -1,4 +1,5 @@
-//! Calls that encode data in pieces, by the number of an encoding and by one of a caller's own.
+//! Calls that encode data in pieces, with the number of a predefined encoding or with an encoding
+//! of the caller.
 
 ghost use Rattle.std.specs.Prelude.{[], ◌<◌, ◌≡◌};
 ghost use Rattle.data_encoding.specs.Base.{Base};
@@ -16,7 +17,7 @@ use data_encoding_calls::{
 };
 use encoding_stream::KeptData;
 
-/// What is kept of no data, by every encoding.
+/// Sets what is kept of no data, for every encoding.
 #[unsafe(no_mangle)]
 pub extern "C" fn de_plain_encoder_new(encoder: &mut KeptData)
     ensures { (base : Base) → IsSpecified base → 0 < alignment base
@@ -25,7 +26,7 @@ pub extern "C" fn de_plain_encoder_new(encoder: &mut KeptData)
     plain_encoder_new(encoder);
 }
 
-/// The length of the text that `len` more of the data has written.
+/// Writes the length of the text that `len` more bytes of the data complete to `most`.
 #[unsafe(no_mangle)]
 pub extern "C" fn de_numbered_encoder_most(
     number: u32,
@@ -39,7 +40,7 @@ pub extern "C" fn de_numbered_encoder_most(
     numbered_encoder_most(number, encoder, len, most)
 }
 
-/// Reads a piece, and writes the text of the blocks that are then whole to the front of the output,
+/// Reads a piece, and writes the text of the blocks that are then whole to the start of the output,
 /// and its length to `written`.
 #[unsafe(no_mangle)]
 pub extern "C" fn de_numbered_encoder_read(
@@ -58,7 +59,7 @@ pub extern "C" fn de_numbered_encoder_read(
     numbered_encoder_read(number, encoder, piece, output, written)
 }
 
-/// Ends the data: writes the text of the held bytes to the front of the output, and its length to
+/// Ends the data: writes the text of the bytes held to the start of the output, and its length to
 /// `written`.
 #[unsafe(no_mangle)]
 pub extern "C" fn de_numbered_encoder_finish(
@@ -73,7 +74,7 @@ pub extern "C" fn de_numbered_encoder_finish(
     numbered_encoder_finish(number, encoder, output, written)
 }
 
-/// The length of the text that `len` more of the data has written.
+/// Writes the length of the text that `len` more bytes of the data complete to `most`.
 #[unsafe(no_mangle)]
 pub extern "C" fn de_held_encoder_most(
     held: &PlainEncoding,
@@ -86,7 +87,7 @@ pub extern "C" fn de_held_encoder_most(
     held_encoder_most(held, encoder, len, most)
 }
 
-/// Reads a piece, and writes the text of the blocks that are then whole to the front of the output,
+/// Reads a piece, and writes the text of the blocks that are then whole to the start of the output,
 /// and its length to `written`.
 #[unsafe(no_mangle)]
 pub extern "C" fn de_held_encoder_read(
@@ -103,7 +104,7 @@ pub extern "C" fn de_held_encoder_read(
     held_encoder_read(held, encoder, piece, output, written)
 }
 
-/// Ends the data: writes the text of the held bytes to the front of the output, and its length to
+/// Ends the data: writes the text of the bytes held to the start of the output, and its length to
 /// `written`.
 #[unsafe(no_mangle)]
 pub extern "C" fn de_held_encoder_finish(

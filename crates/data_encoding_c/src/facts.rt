@@ -1,4 +1,4 @@
-//! Calls that tell what an encoding is, and the specification that it may be asked for by.
+//! Facts about an encoding, and a specification from which it can be built.
 
 ghost use Rattle.std.specs.Prelude.{◌≡◌};
 ghost use Rattle.data_encoding.specs.Plain.{base_of_plain};
@@ -11,7 +11,8 @@ use data_encoding_calls::{
     numbered_encode_align, numbered_specification,
 };
 
-/// The number of bytes of a block: of a whole group of symbols, or of a whole line.
+/// Writes the number of bytes in a block, which is a whole group of symbols or a whole line, to
+/// `align`.
 #[unsafe(no_mangle)]
 pub extern "C" fn de_numbered_encode_align(number: u32, align: &mut usize) -> u32
     ensures { ByNumber number result (align.new ≡ align.old)
@@ -20,7 +21,8 @@ pub extern "C" fn de_numbered_encode_align(number: u32, align: &mut usize) -> u3
     numbered_encode_align(number, align)
 }
 
-/// The number of bytes of a block: of a whole group of symbols, or of a whole line.
+/// Writes the number of bytes in a block, which is a whole group of symbols or a whole line, to
+/// `align`.
 #[unsafe(no_mangle)]
 pub extern "C" fn de_held_encode_align(held: &PlainEncoding, align: &mut usize) -> u32
     ensures { TellsAlignment (base_of_plain held.now) align.new result }
@@ -28,7 +30,7 @@ pub extern "C" fn de_held_encode_align(held: &PlainEncoding, align: &mut usize) 
     held_encode_align(held, align)
 }
 
-/// The number of bits of a symbol.
+/// Writes the number of bits of a symbol to `width`.
 #[unsafe(no_mangle)]
 pub extern "C" fn de_numbered_bit_width(number: u32, width: &mut usize) -> u32
     ensures { ByNumber number result (width.new ≡ width.old)
@@ -37,7 +39,7 @@ pub extern "C" fn de_numbered_bit_width(number: u32, width: &mut usize) -> u32
     numbered_bit_width(number, width)
 }
 
-/// The number of bits of a symbol.
+/// Writes the number of bits of a symbol to `width`.
 #[unsafe(no_mangle)]
 pub extern "C" fn de_held_bit_width(held: &PlainEncoding, width: &mut usize) -> u32
     ensures { TellsWidth (base_of_plain held.now) width.new result }
@@ -45,8 +47,8 @@ pub extern "C" fn de_held_bit_width(held: &PlainEncoding, width: &mut usize) -> 
     held_bit_width(held, width)
 }
 
-/// Writes the specification of the encoding: its texts one after the other to the front of the
-/// output, their lengths, and what it says in numbers.
+/// Writes the specification of the encoding: its texts one after another to the start of the
+/// output, their lengths, and its numbers.
 #[unsafe(no_mangle)]
 pub extern "C" fn de_numbered_specification(
     number: u32,
@@ -63,8 +65,8 @@ pub extern "C" fn de_numbered_specification(
     numbered_specification(number, form, lengths, texts)
 }
 
-/// Writes the specification of the encoding: its texts one after the other to the front of the
-/// output, their lengths, and what it says in numbers.
+/// Writes the specification of the encoding: its texts one after another to the start of the
+/// output, their lengths, and its numbers.
 #[unsafe(no_mangle)]
 pub extern "C" fn de_held_specification(
     held: &PlainEncoding,

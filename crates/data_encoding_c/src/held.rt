@@ -1,4 +1,4 @@
-//! Calls by an encoding of a caller's own, which it holds as plain data.
+//! Calls with an encoding of the caller, which it holds as plain data.
 
 ghost use Rattle.data_encoding.specs.Fields.{base_of};
 ghost use Rattle.data_encoding.specs.Plain.{base_of_plain};
@@ -12,7 +12,7 @@ use data_encoding_calls::{
     held_is_canonical, held_layout, held_new, held_read,
 };
 
-/// The encoding that is asked for, or why there is none.
+/// Returns the encoding that is asked for, or the reason why there is none.
 #[unsafe(no_mangle)]
 pub extern "C" fn de_held_new(
     form: &Form,
@@ -28,7 +28,7 @@ pub extern "C" fn de_held_new(
     held_new(form, symbols, ignore, separator, from, to)
 }
 
-/// The length of the text of `len` bytes.
+/// Writes the length of the text of `len` bytes to `text_len`.
 #[unsafe(no_mangle)]
 pub extern "C" fn de_held_encode_len(held: &PlainEncoding, len: usize, text_len: &mut usize) -> u32
     ensures { TellsTextLength (base_of_plain held.now) len text_len.old text_len.new result }
@@ -36,7 +36,7 @@ pub extern "C" fn de_held_encode_len(held: &PlainEncoding, len: usize, text_len:
     held_encode_len(held, len, text_len)
 }
 
-/// Writes the text of data to the front of the output, and its length to `written`.
+/// Writes the text of data to the start of the output, and its length to `written`.
 #[unsafe(no_mangle)]
 pub extern "C" fn de_held_encode(
     held: &PlainEncoding,
@@ -50,8 +50,8 @@ pub extern "C" fn de_held_encode(
     held_encode(held, input, output, written)
 }
 
-/// The greatest number of bytes that a text of `len` bytes may mean, or the position of the fault
-/// of that length.
+/// Writes the greatest number of bytes that a text of `len` bytes may mean to `most`, or the
+/// position of the fault of that length.
 #[unsafe(no_mangle)]
 pub extern "C" fn de_held_decode_len(held: &PlainEncoding, len: usize, most: &mut usize) -> u32
     ensures { TellsMost (base_of_plain held.now) len most.old most.new result }
@@ -59,8 +59,7 @@ pub extern "C" fn de_held_decode_len(held: &PlainEncoding, len: usize, most: &mu
     held_decode_len(held, len, most)
 }
 
-/// Writes the data that a text means to the front of the output, or as much as stands before its
-/// fault.
+/// Writes the data that a text means to the start of the output, or the data before its fault.
 #[unsafe(no_mangle)]
 pub extern "C" fn de_held_decode(
     held: &PlainEncoding,
@@ -74,7 +73,7 @@ pub extern "C" fn de_held_decode(
     held_decode(held, input, output, decoded)
 }
 
-/// Whether no two different texts decode to the same data.
+/// Sets `answer` to whether no two different texts decode to the same data.
 #[unsafe(no_mangle)]
 pub extern "C" fn de_held_is_canonical(held: &PlainEncoding, answer: &mut bool) -> u32
     ensures { TellsCanonical (base_of_plain held.now) answer.new result }
@@ -82,7 +81,7 @@ pub extern "C" fn de_held_is_canonical(held: &PlainEncoding, answer: &mut bool) 
     held_is_canonical(held, answer)
 }
 
-/// Writes the layout of the encoding to the front of the output, and its length, at most 770, to
+/// Writes the layout of the encoding to the start of the output, and its length, at most 770, to
 /// `written`.
 #[unsafe(no_mangle)]
 pub extern "C" fn de_held_layout(
@@ -96,7 +95,7 @@ pub extern "C" fn de_held_layout(
     held_layout(held, output, written)
 }
 
-/// The encoding of a layout, where the bytes are one.
+/// Returns the encoding with this layout, if the bytes are one.
 #[unsafe(no_mangle)]
 pub extern "C" fn de_held_read(bytes: &[u8]) -> Made
     ensures { MakesOfLayout bytes.now result }

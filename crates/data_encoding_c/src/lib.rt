@@ -1,7 +1,7 @@
 //! The encodings for programs in C: one export for each call of `data_encoding_calls`, with its
 //! clause.
 //!
-//! `include/data_encoding.h` says what is asked of pointers.
+//! `include/data_encoding.h` states the conditions on pointers.
 #![tactic(auto)]
 
 mod decoder;

@@ -1,4 +1,4 @@
-//! Calls by the number of a predefined encoding.
+//! Calls with the number of a predefined encoding.
 
 ghost use Rattle.std.specs.Prelude.{◌≡◌};
 ghost use Rattle.data_encoding_calls.specs.Calls.{ByNumber, Decodes, Encodes, TellsCanonical, TellsMost, TellsTextLength};
@@ -8,7 +8,7 @@ use data_encoding_calls::{
     numbered_is_canonical,
 };
 
-/// The length of the text of `len` bytes.
+/// Writes the length of the text of `len` bytes to `text_len`.
 #[unsafe(no_mangle)]
 pub extern "C" fn de_numbered_encode_len(number: u32, len: usize, text_len: &mut usize) -> u32
     ensures { ByNumber number result (text_len.new ≡ text_len.old)
@@ -17,7 +17,7 @@ pub extern "C" fn de_numbered_encode_len(number: u32, len: usize, text_len: &mut
     numbered_encode_len(number, len, text_len)
 }
 
-/// Writes the text of data to the front of the output, and its length to `written`.
+/// Writes the text of data to the start of the output, and its length to `written`.
 #[unsafe(no_mangle)]
 pub extern "C" fn de_numbered_encode(
     number: u32,
@@ -31,8 +31,8 @@ pub extern "C" fn de_numbered_encode(
     numbered_encode(number, input, output, written)
 }
 
-/// The greatest number of bytes that a text of `len` bytes may mean, or the position of the fault
-/// of that length.
+/// Writes the greatest number of bytes that a text of `len` bytes may mean to `most`, or the
+/// position of the fault of that length.
 #[unsafe(no_mangle)]
 pub extern "C" fn de_numbered_decode_len(number: u32, len: usize, most: &mut usize) -> u32
     ensures { ByNumber number result (most.new ≡ most.old)
@@ -41,8 +41,7 @@ pub extern "C" fn de_numbered_decode_len(number: u32, len: usize, most: &mut usi
     numbered_decode_len(number, len, most)
 }
 
-/// Writes the data that a text means to the front of the output, or as much as stands before its
-/// fault.
+/// Writes the data that a text means to the start of the output, or the data before its fault.
 #[unsafe(no_mangle)]
 pub extern "C" fn de_numbered_decode(
     number: u32,
@@ -56,7 +55,7 @@ pub extern "C" fn de_numbered_decode(
     numbered_decode(number, input, output, decoded)
 }
 
-/// Whether no two different texts decode to the same data.
+/// Sets `answer` to whether no two different texts decode to the same data.
 #[unsafe(no_mangle)]
 pub extern "C" fn de_numbered_is_canonical(number: u32, answer: &mut bool) -> u32
     ensures { ByNumber number result (answer.new ≡ answer.old)

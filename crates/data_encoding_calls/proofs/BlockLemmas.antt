@@ -28,7 +28,7 @@ refuses-data base piece places answer refused status = record {
   refused = λ _. refl;
 }
 
--- What was written to the front of an output, and what stays after it.
+-- What was written to the start of an output, and what follows it unchanged.
 module _ (written : ℕ) (new old text : List ℕ) (front : take written new ≡ text)
     (within : written ≤ length new) (after : drop written new ≡ drop written old) where
   pub written-len : written ≡ length text

@@ -31,7 +31,7 @@ unfolding error_in
 fault-stopped base text partial is =
     stopped-fault base text (fault_of base text) ∙ ap error_in is
 
--- the status of a text of whose length so many bytes are due, which are no more than the room
+-- the status of a text for whose length this many bytes are due, which the room holds
 pub status-known : (base : Base) (text : List ℕ) (room most : ℕ) (fault : Option DecodeError)
     → length text ≤ 2305843009213693951 → decoded_len base (length text) ≡ Ok most → most ≤ room
     → fault_of base text ≡ fault → status_of_fault fault ≡ decode_status base text room
@@ -68,7 +68,7 @@ due-within : (fault : Option DecodeError) (most written : ℕ)
 due-within None most written is = is
 due-within (Some error) most written is = absurd is
 
--- a front of a text means no more bytes than are due for the text
+-- a prefix of a text means no more bytes than are due for the text
 pub front-fits : (base : Base) (read written len most : ℕ) → read ≤ len
     → decoded_len base len ≡ Ok most → IsOkAnd (decoded_len base read) (λ n. written ≤ n)
     → written ≤ most

@@ -1,4 +1,4 @@
--- A name is text.
+-- A name is UTF-8.
 use Rattle.std.proofs.Common.{◌≡◌, ℕ, nat_lt, Bool, true, List, [], get_or, length, Some, refl, sym, subst, arith}
 use Rattle.std.specs.List.{list_all}
 use Rattle.std.specs.Str.{IsUtf8, bytes_eq}

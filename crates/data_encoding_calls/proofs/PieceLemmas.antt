@@ -17,7 +17,7 @@ use Rattle.data_encoding_calls.specs.declared.pieces.PlainKept.{PlainKept}
 use Rattle.data_encoding_calls.specs.Pieces.{fault_told, kept_told, kept_with, piece_status, Places, ReadsPiece, StandsAfter}
 use Rattle.data_encoding_calls.specs.Status.{ok, short_buffer, status_of_kind, too_long}
 
--- where no decoder goes on, it was told no text
+-- if no decoder continues, it was given no text
 pub none-stands : (base : Base) (plain : PlainKept) (found : Option BufferDecoder)
     → found ≡ None → ((text : List ℕ) → StandsAfter base plain text → IsSome found)
     → (text : List ℕ) → StandsAfter base plain text → ⊥
@@ -28,7 +28,7 @@ none-stands base plain found is law text stands =
 one-kept : {a b : Kept} → Some a ≡ Some b → a ≡ b
 one-kept is = cc
 
--- the length of the text that the numbers tell
+-- the length of the text that the numbers describe
 told-by : (plain : PlainKept) (fault : Option (Option DecodeError)) (kept : Kept)
     → kept_with plain fault ≡ Some kept → kept.len ≡ plain.len
 told-by plain None kept told = absurd (cc told)
@@ -39,13 +39,13 @@ pub told-len : (plain : PlainKept) (kept : Kept) → kept_told plain ≡ Some ke
 told-len plain kept told =
     told-by plain (fault_told plain.fault plain.fault_position) kept told
 
--- the position of a fault, where a clause says that it is in the text
+-- the position of a fault, if a clause says that it is in the text
 pub fault-inside : (len : ℕ) (verdict : Result (Unit {0}) DecodeError) (error : DecodeError)
     → verdict ≡ Err error → IfErr verdict (λ e. e.position < len) → error.position < len
 fault-inside len verdict error is inside =
     subst (λ v. IfErr v (λ e. e.position < len)) is inside
 
--- a decoder that goes on keeps what the caller does
+-- a decoder that continues keeps what the caller does
 pub stands-kept : (base : Base) (plain : PlainKept) (kept : Kept) (text : List ℕ)
     → kept_told plain ≡ Some kept → (stands : StandsAfter base plain text)
     → (stands.kept ≡ kept) × Keeps base kept text
@@ -98,7 +98,7 @@ refuses base piece places answer refused status = record {
   refused = λ _. refl;
 }
 
--- what a verdict says of the fault
+-- what a verdict says about the fault
 pub fault-none : (fault : Option DecodeError) (verdict : Result (Unit {0}) DecodeError)
     (nothing : Unit {0}) → verdict ≡ Ok nothing → verdict ≡ verdict_of fault → fault ≡ None
 fault-none None verdict nothing is told = refl
@@ -134,7 +134,7 @@ kind-faulty Symbol is = omega (arith, is)
 kind-faulty Trailing is = omega (arith, is)
 kind-faulty Padding is = omega (arith, is)
 
--- What a copy to the front of an output leaves there.
+-- What a copy to the start of an output leaves there.
 record IsFront (written : ℕ) (last old new : List ℕ) : Type 0 where
   pub front : take written new ≡ take written last
   pub within : written ≤ length new
@@ -176,7 +176,7 @@ pub record EndsKept (base : Base) (plain : PlainKept) (old new : List ℕ) (read
   pub behind : drop written new ≡ drop written old
   pub len : length new ≡ length old
 
--- by what a decoder that keeps these numbers makes of the text
+-- what a decoder that keeps these numbers makes of the text
 module _ {base : Base} {plain : PlainKept} {kept : Kept} (told : kept_told plain ≡ Some kept) where
   pub ended : (last : List ℕ) {copied output : List ℕ} {read written : ℕ}
       {verdict : Result (Unit {0}) DecodeError}

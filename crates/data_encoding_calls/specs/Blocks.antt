@@ -1,4 +1,4 @@
--- Data in pieces: what calls make of what a caller keeps of it.
+-- Data in pieces: what calls do with what a caller keeps of it.
 use Rattle.std.specs.Prelude.{◌≡◌, ℕ, nat_lt, List, ◌++◌, length, if◌then◌else◌}
 use Rattle.data_encoding.specs.Base.{Base}
 use Rattle.data_encoding.specs.Lengths.{alignment}
@@ -8,25 +8,25 @@ use Rattle.encoding_stream.specs.Blocks.{after_blocks, held_data, text_of_blocks
 use Rattle.data_encoding_calls.specs.Calls.{encode_len_status, front_status, over}
 use Rattle.data_encoding_calls.specs.Status.{ok, too_long, no_encoder}
 
--- the text that a piece has written
+-- the text that is written for a piece
 abbrev pub piece_text : Base → KeptData → List ℕ → List ℕ
 piece_text base kept piece = text_of_blocks base (held_data kept ++ piece)
 
--- that of the held bytes
+-- the text of the bytes held
 abbrev pub last_text : Base → KeptData → List ℕ
 last_text base kept = text_of base (held_data kept)
 
--- this status where less than a block is held, and else that of an encoder that keeps no such data
+-- this status if less than a block is held, or that of numbers that no encoder keeps
 abbrev pub if_kept : Base → KeptData → ℕ → ℕ
 if_kept base kept status = if nat_lt kept.count (alignment base) then status else no_encoder
 
--- the status of a piece, for whose text there is this much room
+-- the status of a piece whose text has this much room
 abbrev pub piece_status : Base → KeptData → List ℕ → ℕ → ℕ
 piece_status base kept piece room =
     if nat_lt 36028797018963967 (length piece) then too_long
     else front_status (piece_text base kept piece) room
 
--- A call told how long the text is that this many bytes more have written, or refused.
+-- A call wrote the length of the text that this many more bytes complete, or refused.
 pub record TellsDue (base : Base) (kept : KeptData) (len old new answer : ℕ) : Type 0 where
   pub status : answer ≡ if_kept base kept (encode_len_status len)
   pub value : answer ≡ ok → (piece : List ℕ) → length piece ≡ len
@@ -34,13 +34,13 @@ pub record TellsDue (base : Base) (kept : KeptData) (len old new answer : ℕ) :
   pub refused : (answer ≡ ok → ⊥) → new ≡ old
 
 -- What a call that reads a piece of data may change: the caller's encoder, the output, and the
--- number of bytes that were written.
+-- number of bytes written.
 pub record DataPlaces : Type 0 where
   pub encoder : KeptData
   pub output : List ℕ
   pub written : ℕ
 
--- A call read a piece of data, and wrote the text of the blocks that are then whole to the front of
+-- A call read a piece of data and wrote the text of the blocks that are then whole to the start of
 -- the output, or refused and changed nothing.
 pub record EncodesPiece (base : Base) (piece : List ℕ) (old new : DataPlaces) (answer : ℕ)
     : Type 0 where
@@ -54,8 +54,8 @@ pub record EncodesPiece (base : Base) (piece : List ℕ) (old new : DataPlaces) 
       → EncodesOn base old.encoder new.encoder piece (piece_text base old.encoder piece)
   pub refused : (answer ≡ ok → ⊥) → new ≡ old
 
--- A call wrote the text of the held bytes to the front of the output, with which the text of the
--- data is whole, or refused and changed nothing.
+-- A call wrote the text of the bytes held to the start of the output, which completes the text of
+-- the data, or refused and changed nothing.
 pub record EndsData (base : Base) (kept : KeptData) (output_old output_new : List ℕ)
     (written_old written_new answer : ℕ) : Type 0 where
   pub status : answer

@@ -1,4 +1,4 @@
--- Encodings of a caller's own: the specification that is asked for, and what is made of it.
+-- Encodings of the caller: the specification that is asked for, and what is made from it.
 use Rattle.std.specs.Prelude.{◌≡◌, ℕ, Bool, List, Option, Some, None, if◌then◌else◌, Result, Ok, Err}
 use Rattle.data_encoding.specs.declared.encoding.BitOrder.{BitOrder}
 use Rattle.data_encoding.specs.declared.encoding.BitOrder.TheVariants.{MostSignificantFirst, LeastSignificantFirst}
@@ -11,9 +11,11 @@ use Rattle.data_encoding_calls.specs.declared.make.Form.{Form}
 use Rattle.data_encoding_calls.specs.declared.make.Made.{Made}
 use Rattle.data_encoding_calls.specs.Status.{ok, no_encoding, status_of_refusal, detail_of_refusal}
 
+-- the order of bits that a caller asks for
 abbrev pub order_asked : Bool → BitOrder
 order_asked least = if least then LeastSignificantFirst else MostSignificantFirst
 
+-- the padding that a caller asks for
 abbrev pub padding_asked : Bool → ℕ → Option ℕ
 padding_asked has byte = if has then Some byte else None
 
@@ -32,13 +34,14 @@ fields_asked form symbols ignored separator from to = record {
   to = to;
 }
 
--- What was made of a specification: its encoding, or the status of its refusal.
+-- What was made from a specification: its encoding, or the status of its refusal.
 abbrev pub Makes : Result Base Refusal → Made → Type 0
 Makes (Ok base) made = (made.status ≡ ok) × (base_of_plain made.held ≡ base)
 Makes (Err refusal) made =
     (made.status ≡ status_of_refusal refusal) × (made.detail ≡ detail_of_refusal refusal)
 
--- What was made of bytes: the encoding of which they are the layout, or the status of none.
+-- What was made from bytes: the encoding that has them as its layout, or the status for bytes that
+-- are no layout.
 pub record MakesOfLayout (bytes : List ℕ) (made : Made) : Type 0 where
   pub known : (base : Base) → IsSpecified base → layout base ≡ bytes
       → (made.status ≡ ok) × (base_of_plain made.held ≡ base)

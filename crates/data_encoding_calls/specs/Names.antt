@@ -1,10 +1,10 @@
--- What the calls that go by the names of the predefined encodings return and write.
+-- What calls about the names of the predefined encodings return and write.
 use Rattle.std.specs.Prelude.{◌≡◌, ℕ, ◌≤◌, List, length, Option, Some, None}
 use Rattle.data_encoding.specs.Named.{name_numbered, number_named}
 use Rattle.data_encoding_calls.specs.Calls.{WritesFront}
 use Rattle.data_encoding_calls.specs.Status.{ok, unknown_encoding, short_buffer}
 
--- A call wrote the name of this number to the front of the output, or refused and changed nothing;
+-- A call wrote the name of this number to the start of the output, or refused and changed nothing;
 -- no name has more than 22 bytes.
 pub record WritesName (number : ℕ) (output_old output_new : List ℕ)
     (written_old written_new answer : ℕ) : Type 0 where
@@ -14,7 +14,7 @@ pub record WritesName (number : ℕ) (output_old output_new : List ℕ)
       × (output_new ≡ output_old) × (written_new ≡ written_old)
   pub fits : 22 ≤ length output_old → answer ≡ short_buffer → ⊥
 
--- A call told the number of this name, or refused and changed nothing.
+-- A call wrote the number of this name, or refused and changed nothing.
 pub record FindsNumber (name : List ℕ) (old new answer : ℕ) : Type 0 where
   pub known : (found : ℕ) → number_named name ≡ Some found → (answer ≡ ok) × (new ≡ found)
   pub unknown : number_named name ≡ None → (answer ≡ unknown_encoding) × (new ≡ old)

@@ -6,27 +6,35 @@ use Rattle.data_encoding.specs.declared.error.DecodeError.{DecodeError}
 use Rattle.data_encoding.specs.declared.specification.meanings.Refusal.{Refusal}
 use Rattle.data_encoding.specs.declared.specification.meanings.Refusal.TheVariants.{BadSize, NotAscii, Duplicate, ExtraPadding, WrapLength, WrapWidth, FromTo, Undefined}
 
+-- the call did what was asked
 abbrev pub ok : ℕ
 ok = 0
 
+-- no encoding has this number or this name
 abbrev pub unknown_encoding : ℕ
 unknown_encoding = 1
 
+-- the input is longer than one call takes
 abbrev pub too_long : ℕ
 too_long = 3
 
+-- the output is too short
 abbrev pub short_buffer : ℕ
 short_buffer = 4
 
+-- the bytes are no layout
 abbrev pub no_encoding : ℕ
 no_encoding = 18
 
+-- the numbers are not those of a decoder of this encoding
 abbrev pub no_decoder : ℕ
 no_decoder = 19
 
+-- the numbers are not those of an encoder of this encoding
 abbrev pub no_encoder : ℕ
 no_encoder = 20
 
+-- the status of a kind of fault
 abbrev pub status_of_kind : DecodeKind → ℕ
 status_of_kind Length = 6
 status_of_kind Symbol = 7

@@ -6,7 +6,7 @@ use crate::status::{NO_ENCODER, OK, SHORT_BUFFER, TOO_LONG};
 use data_encoding::{ENCODE_LIMIT, Encoding};
 use encoding_stream::{BufferEncoder, KeptData};
 
-/// The length of the text that `len` more of the data has written.
+/// Writes the length of the text that `len` more bytes of the data complete to `most`.
 pub(crate) fn due_by(encoding: &Encoding, kept: &KeptData, len: usize, most: &mut usize) -> u32
     ensures { TellsDue encoding.now kept.now len most.old most.new result }
 {
@@ -20,7 +20,7 @@ pub(crate) fn due_by(encoding: &Encoding, kept: &KeptData, len: usize, most: &mu
     OK
 }
 
-/// Reads a piece, and writes the text of the blocks that are then whole to the front of the output.
+/// Reads a piece, and writes the text of the blocks that are then whole to the start of the output.
 pub(crate) fn take_by(
     encoding: &Encoding,
     kept: &mut KeptData,
@@ -46,7 +46,7 @@ pub(crate) fn take_by(
     OK
 }
 
-/// Ends the data: writes the text of the held bytes to the front of the output.
+/// Ends the data: writes the text of the bytes held to the start of the output.
 pub(crate) fn end_by(
     encoding: &Encoding,
     kept: &KeptData,

@@ -1,4 +1,4 @@
-//! What each call does by an encoding, wherever that comes from.
+//! What each call does with an encoding, however the caller gave it.
 
 ghost use Rattle.std.specs.Prelude.{◌≡◌, ◌↔◌, ◌≤◌, ◌⊎◌, ℕ, List, length, take, drop, IsTrue, Ok, Err, Some};
 ghost use Rattle.data_encoding.specs.Canonical.{IsCanonical};
@@ -11,7 +11,7 @@ ghost use Rattle.data_encoding_calls.specs.Calls.{decode_len_status, decode_stat
 use crate::status::{OK, SHORT_BUFFER, TOO_LONG, status_of_kind};
 use data_encoding::{DECODE_LIMIT, DecodeError, DecodePartial, ENCODE_LIMIT, EncodingRef};
 
-/// The length of the text of `len` bytes.
+/// Writes the length of the text of `len` bytes to `text_len`.
 pub(crate) fn encode_len_by(encoding: &EncodingRef<'_>, len: usize, text_len: &mut usize) -> u32
     ensures status { result ≡ encode_len_status len }
     ensures length { result ≡ OK → (bytes : List ℕ) → length bytes ≡ len
@@ -25,7 +25,7 @@ pub(crate) fn encode_len_by(encoding: &EncodingRef<'_>, len: usize, text_len: &m
     OK
 }
 
-/// Writes the text of data to the front of the output.
+/// Writes the text of data to the start of the output.
 #[inline(always)]
 pub(crate) fn encode_by(
     encoding: &EncodingRef<'_>,
@@ -46,28 +46,28 @@ pub(crate) fn encode_by(
     if output.len() < len {
         return SHORT_BUFFER;
     }
-    // Nothing is left to do behind the call, so that little is kept over it.
+    // Nothing follows the call, so that little is kept across it.
     *written = len;
     encoding.encode_mut(input, &mut output[..len]);
     OK
 }
 
-/// What a decoding tells.
+/// What a decoding returns.
 #[repr(C)]
 #[derive(Clone, Copy, Drop)]
 pub struct Decoded {
     /// How many bytes of the text were read.
     pub read: usize,
 
-    /// How many bytes of data they mean, which stand at the front of the output.
+    /// How many bytes of data they mean. These are at the start of the output.
     pub written: usize,
 
-    /// Where the fault of the text is; its length, where it has none.
+    /// The position of the fault of the text, or its length if it has none.
     pub position: usize,
 }
 
-/// The greatest number of bytes that a text of `len` bytes may mean, or the position of the fault
-/// of that length.
+/// Writes the greatest number of bytes that a text of `len` bytes may mean to `most`, or the
+/// position of the fault of that length.
 pub(crate) fn decode_len_by(encoding: &EncodingRef<'_>, len: usize, most: &mut usize) -> u32
     ensures status { result ≡ decode_len_status encoding.now len }
     ensures value { result ≡ OK → decoded_len encoding.now len ≡ Ok most.new }
@@ -90,8 +90,8 @@ pub(crate) fn decode_len_by(encoding: &EncodingRef<'_>, len: usize, most: &mut u
     }
 }
 
-/// Writes the data that a text means to the front of the output, of which as many bytes are used as
-/// its length may mean.
+/// Writes the data that a text means to the start of the output, of which only as many bytes are
+/// used as the length of the text may mean.
 #[inline(always)]
 pub(crate) fn decode_by(
     encoding: &EncodingRef<'_>,
@@ -157,7 +157,7 @@ pub(crate) fn decode_by(
     }
 }
 
-/// Whether no two different texts decode to the same data.
+/// Sets `answer` to whether no two different texts decode to the same data.
 pub(crate) fn is_canonical_by(encoding: &EncodingRef<'_>, answer: &mut bool) -> u32
     ensures status { result ≡ OK }
     ensures canonical { IsTrue answer.new ↔ IsCanonical encoding.now }

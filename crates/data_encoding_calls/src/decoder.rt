@@ -1,4 +1,5 @@
-//! Calls that decode a text in pieces, by the number of an encoding and by one of a caller's own.
+//! Calls that decode a text in pieces, with the number of a predefined encoding or with an encoding
+//! of the caller.
 
 ghost use Rattle.std.specs.Prelude.{◌≡◌, []};
 ghost use Rattle.data_encoding.specs.Base.{Base};
@@ -13,7 +14,7 @@ use crate::status::UNKNOWN_ENCODING;
 use data_encoding::laws::steps::pieces;
 use data_encoding::{PlainEncoding, predefined_numbered};
 
-/// What is kept of no text, by every encoding.
+/// Sets what is kept of the empty text, for every encoding.
 pub fn plain_decoder_new(decoder: &mut PlainKept)
     ensures { (base : Base) → IsSpecified base → StandsAfter base decoder.new [] }
 {
@@ -29,7 +30,7 @@ pub fn plain_decoder_new(decoder: &mut PlainKept)
     };
 }
 
-/// The greatest number of bytes that `len` more of the text may complete.
+/// Writes the greatest number of bytes that `len` more bytes of the text may complete to `most`.
 pub fn numbered_decoder_most(number: u32, decoder: &PlainKept, len: usize, most: &mut usize) -> u32
     ensures { ByNumber number result (most.new ≡ most.old)
         (λ base. TellsRoom base decoder.now len most.old most.new result) }
@@ -40,7 +41,7 @@ pub fn numbered_decoder_most(number: u32, decoder: &PlainKept, len: usize, most:
     most_by(&encoding.encoding(), decoder, len, most)
 }
 
-/// Reads a piece, and writes the bytes of the groups that are then whole to the front of the
+/// Reads a piece, and writes the bytes of the groups that are then whole to the start of the
 /// output, and their number to `written`.
 pub fn numbered_decoder_read(
     number: u32,
@@ -61,7 +62,7 @@ pub fn numbered_decoder_read(
     read_by(&encoding.encoding(), decoder, piece, output, written)
 }
 
-/// Ends the text: writes the bytes of a last group to the front of the output, and tells the
+/// Ends the text: writes the bytes of a last group to the start of the output, and returns the
 /// verdict on the whole text.
 pub fn numbered_decoder_finish(
     number: u32,
@@ -78,7 +79,7 @@ pub fn numbered_decoder_finish(
     finish_by(&encoding.encoding(), decoder, output, decoded)
 }
 
-/// The greatest number of bytes that `len` more of the text may complete.
+/// Writes the greatest number of bytes that `len` more bytes of the text may complete to `most`.
 pub fn held_decoder_most(
     held: &PlainEncoding,
     decoder: &PlainKept,
@@ -90,7 +91,7 @@ pub fn held_decoder_most(
     most_by(&held.encoding(), decoder, len, most)
 }
 
-/// Reads a piece, and writes the bytes of the groups that are then whole to the front of the
+/// Reads a piece, and writes the bytes of the groups that are then whole to the start of the
 /// output, and their number to `written`.
 pub fn held_decoder_read(
     held: &PlainEncoding,
@@ -106,7 +107,7 @@ pub fn held_decoder_read(
     read_by(&held.encoding(), decoder, piece, output, written)
 }
 
-/// Ends the text: writes the bytes of a last group to the front of the output, and tells the
+/// Ends the text: writes the bytes of a last group to the start of the output, and returns the
 /// verdict on the whole text.
 pub fn held_decoder_finish(
     held: &PlainEncoding,

@@ -1,4 +1,5 @@
-//! Calls that encode data in pieces, by the number of an encoding and by one of a caller's own.
+//! Calls that encode data in pieces, with the number of a predefined encoding or with an encoding
+//! of the caller.
 
 ghost use Rattle.std.specs.Prelude.{◌≡◌, ◌<◌, []};
 ghost use Rattle.data_encoding.specs.Base.{Base};
@@ -15,7 +16,7 @@ use data_encoding::laws::join_encode;
 use data_encoding::{PlainEncoding, predefined_numbered};
 use encoding_stream::KeptData;
 
-/// What is kept of no data, by every encoding.
+/// Sets what is kept of no data, for every encoding.
 pub fn plain_encoder_new(encoder: &mut KeptData)
     ensures { (base : Base) → IsSpecified base → 0 < alignment base
         → HasWritten base encoder.new [] [] }
@@ -27,7 +28,7 @@ pub fn plain_encoder_new(encoder: &mut KeptData)
     };
 }
 
-/// The length of the text that `len` more of the data has written.
+/// Writes the length of the text that `len` more bytes of the data complete to `most`.
 pub fn numbered_encoder_most(number: u32, encoder: &KeptData, len: usize, most: &mut usize) -> u32
     ensures { ByNumber number result (most.new ≡ most.old)
         (λ base. TellsDue base encoder.now len most.old most.new result) }
@@ -38,7 +39,7 @@ pub fn numbered_encoder_most(number: u32, encoder: &KeptData, len: usize, most: 
     due_by(&encoding.encoding(), encoder, len, most)
 }
 
-/// Reads a piece, and writes the text of the blocks that are then whole to the front of the output,
+/// Reads a piece, and writes the text of the blocks that are then whole to the start of the output,
 /// and its length to `written`.
 pub fn numbered_encoder_read(
     number: u32,
@@ -59,7 +60,7 @@ pub fn numbered_encoder_read(
     take_by(&encoding.encoding(), encoder, piece, output, written)
 }
 
-/// Ends the data: writes the text of the held bytes to the front of the output, and its length to
+/// Ends the data: writes the text of the bytes held to the start of the output, and its length to
 /// `written`.
 pub fn numbered_encoder_finish(
     number: u32,
@@ -76,7 +77,7 @@ pub fn numbered_encoder_finish(
     end_by(&encoding.encoding(), encoder, output, written)
 }
 
-/// The length of the text that `len` more of the data has written.
+/// Writes the length of the text that `len` more bytes of the data complete to `most`.
 pub fn held_encoder_most(
     held: &PlainEncoding,
     encoder: &KeptData,
@@ -88,7 +89,7 @@ pub fn held_encoder_most(
     due_by(&held.encoding(), encoder, len, most)
 }
 
-/// Reads a piece, and writes the text of the blocks that are then whole to the front of the output,
+/// Reads a piece, and writes the text of the blocks that are then whole to the start of the output,
 /// and its length to `written`.
 pub fn held_encoder_read(
     held: &PlainEncoding,
@@ -104,7 +105,7 @@ pub fn held_encoder_read(
     take_by(&held.encoding(), encoder, piece, output, written)
 }
 
-/// Ends the data: writes the text of the held bytes to the front of the output, and its length to
+/// Ends the data: writes the text of the bytes held to the start of the output, and its length to
 /// `written`.
 pub fn held_encoder_finish(
     held: &PlainEncoding,

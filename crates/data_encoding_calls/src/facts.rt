@@ -1,5 +1,5 @@
-//! What an encoding is: its block, the bits of its symbols, and the specification that it may be
-//! asked for by.
+//! Facts about an encoding: its block, the bits of its symbols, and a specification from which it
+//! can be built.
 
 ghost use Rattle.std.specs.Prelude.{◌≡◌};
 ghost use Rattle.data_encoding.specs.Plain.{base_of_plain};
@@ -19,23 +19,24 @@ use data_encoding::{
 #[repr(C)]
 #[derive(Clone, Copy, Drop)]
 pub struct TextLengths {
-    /// Of the symbols.
+    /// The length of the symbols.
     pub symbols: usize,
 
-    /// Of the bytes that are ignored.
+    /// The number of ignored bytes.
     pub ignore: usize,
 
-    /// Of what follows each line.
+    /// The length of the separator.
     pub separator: usize,
 
-    /// Of the bytes that are translated.
+    /// The number of translated bytes.
     pub translate_from: usize,
 
-    /// Of what they stand for.
+    /// The number of bytes that they are translated to.
     pub translate_to: usize,
 }
 
-/// The number of bytes of a block: of a whole group of symbols, or of a whole line.
+/// Writes the number of bytes in a block, which is a whole group of symbols or a whole line, to
+/// `align`.
 pub fn numbered_encode_align(number: u32, align: &mut usize) -> u32
     ensures { ByNumber number result (align.new ≡ align.old)
         (λ base. TellsAlignment base align.new result) }
@@ -47,7 +48,8 @@ pub fn numbered_encode_align(number: u32, align: &mut usize) -> u32
     OK
 }
 
-/// The number of bytes of a block: of a whole group of symbols, or of a whole line.
+/// Writes the number of bytes in a block, which is a whole group of symbols or a whole line, to
+/// `align`.
 pub fn held_encode_align(held: &PlainEncoding, align: &mut usize) -> u32
     ensures { TellsAlignment (base_of_plain held.now) align.new result }
 {
@@ -55,7 +57,7 @@ pub fn held_encode_align(held: &PlainEncoding, align: &mut usize) -> u32
     OK
 }
 
-/// The number of bits of a symbol.
+/// Writes the number of bits of a symbol to `width`.
 pub fn numbered_bit_width(number: u32, width: &mut usize) -> u32
     ensures { ByNumber number result (width.new ≡ width.old)
         (λ base. TellsWidth base width.new result) }
@@ -67,7 +69,7 @@ pub fn numbered_bit_width(number: u32, width: &mut usize) -> u32
     OK
 }
 
-/// The number of bits of a symbol.
+/// Writes the number of bits of a symbol to `width`.
 pub fn held_bit_width(held: &PlainEncoding, width: &mut usize) -> u32
     ensures { TellsWidth (base_of_plain held.now) width.new result }
 {
@@ -75,8 +77,8 @@ pub fn held_bit_width(held: &PlainEncoding, width: &mut usize) -> u32
     OK
 }
 
-/// Writes the specification of the encoding: its texts one after the other to the front of the
-/// output, their lengths, and what it says in numbers.
+/// Writes the specification of the encoding: its texts one after another to the start of the
+/// output, their lengths, and its numbers.
 pub fn numbered_specification(
     number: u32,
     form: &mut Form,
@@ -95,8 +97,8 @@ pub fn numbered_specification(
     specification_by(&encoding, form, lengths, texts)
 }
 
-/// Writes the specification of the encoding: its texts one after the other to the front of the
-/// output, their lengths, and what it says in numbers.
+/// Writes the specification of the encoding: its texts one after another to the start of the
+/// output, their lengths, and its numbers.
 pub fn held_specification(
     held: &PlainEncoding,
     form: &mut Form,
@@ -138,7 +140,7 @@ fn specification_by(
     OK
 }
 
-// The texts, one after the other.
+// The texts, one after another.
 fn joined(given: &SpecificationBytes) -> ArrayVec<u8, 703>
     ensures { result.items ≡ texts_of (fields_of_bytes given.now) }
 {
@@ -161,7 +163,7 @@ fn joined(given: &SpecificationBytes) -> ArrayVec<u8, 703>
     bytes
 }
 
-// What the specification says in numbers.
+// The numbers of the specification.
 fn form_of(given: &SpecificationBytes) -> Form
     ensures { fields_asked result given.now.symbols.items given.now.ignore.items
         given.now.wrap_separator.items given.now.translate_from.items given.now.translate_to.items

@@ -1,5 +1,5 @@
-//! Encodings of a caller's own, which it holds as plain data: their tables stand in them, so that a
-//! call builds nothing and copies none.
+//! Encodings of the caller, which it holds as plain data. Their tables are in that data, so that a
+//! call neither builds nor copies them.
 
 ghost use Rattle.std.specs.Prelude.{◌≡◌};
 ghost use Rattle.data_encoding.specs.Plain.{base_of_plain};
@@ -10,14 +10,14 @@ use crate::convert::{
 };
 use data_encoding::PlainEncoding;
 
-/// The length of the text of `len` bytes.
+/// Writes the length of the text of `len` bytes to `text_len`.
 pub fn held_encode_len(held: &PlainEncoding, len: usize, text_len: &mut usize) -> u32
     ensures { TellsTextLength (base_of_plain held.now) len text_len.old text_len.new result }
 {
     encode_len_by(&held.by_ref(), len, text_len)
 }
 
-/// Writes the text of data to the front of the output, and its length to `written`.
+/// Writes the text of data to the start of the output, and its length to `written`.
 pub fn held_encode(
     held: &PlainEncoding,
     input: &[u8],
@@ -30,16 +30,15 @@ pub fn held_encode(
     encode_by(&held.by_ref(), input, output, written)
 }
 
-/// The greatest number of bytes that a text of `len` bytes may mean, or the position of the fault
-/// of that length.
+/// Writes the greatest number of bytes that a text of `len` bytes may mean to `most`, or the
+/// position of the fault of that length.
 pub fn held_decode_len(held: &PlainEncoding, len: usize, most: &mut usize) -> u32
     ensures { TellsMost (base_of_plain held.now) len most.old most.new result }
 {
     decode_len_by(&held.by_ref(), len, most)
 }
 
-/// Writes the data that a text means to the front of the output, or as much as stands before its
-/// fault.
+/// Writes the data that a text means to the start of the output, or the data before its fault.
 pub fn held_decode(
     held: &PlainEncoding,
     input: &[u8],
@@ -52,7 +51,7 @@ pub fn held_decode(
     decode_by(&held.by_ref(), input, output, decoded)
 }
 
-/// Whether no two different texts decode to the same data.
+/// Sets `answer` to whether no two different texts decode to the same data.
 pub fn held_is_canonical(held: &PlainEncoding, answer: &mut bool) -> u32
     ensures { TellsCanonical (base_of_plain held.now) answer.new result }
 {

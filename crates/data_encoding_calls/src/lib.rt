@@ -1,7 +1,7 @@
-//! The calls of `data_encoding` for programs in other languages: each is an export of a crate above
-//! this one, with the clause that it has here.
+//! The calls of `data_encoding` for programs in other languages: the crate above this one exports
+//! each of them, with the same clause.
 //!
-//! Nothing checks a caller in another language, so that no call has a condition on lengths: each
+//! Nothing checks a caller in another language. So no call has a condition on lengths: each call
 //! tests every length itself, and returns a status.
 #![tactic(auto)]
 

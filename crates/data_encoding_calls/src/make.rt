@@ -1,4 +1,4 @@
-//! An encoding of a caller's own from a specification.
+//! An encoding of the caller, made from a specification.
 
 ghost use Rattle.std.specs.Prelude.{◌≡◌};
 ghost use Rattle.data_encoding.specs.Fields.{base_of};
@@ -8,14 +8,14 @@ ghost use Rattle.data_encoding_calls.specs.Held.{Makes, fields_asked, order_aske
 use crate::status::{OK, detail_of_refusal, status_of_refusal};
 use data_encoding::{BitOrder, Encoding, PlainEncoding, SpecificationParts, hexlower};
 
-/// What a specification says in numbers.
+/// The numbers of a specification.
 #[repr(C)]
 #[derive(Clone, Copy, Drop)]
 pub struct Form {
     /// The number of characters of a line, or 0.
     pub wrap_width: usize,
 
-    /// What fills the last group, where there is padding.
+    /// The character that fills the last group, if there is padding.
     pub padding: u8,
 
     /// Whether there is padding.
@@ -24,28 +24,28 @@ pub struct Form {
     /// Whether the bit of weight 1 comes first.
     pub least_significant_first: bool,
 
-    /// Whether trailing bits have to be zeros.
+    /// Whether trailing bits must be zeros.
     pub check_trailing_bits: bool,
 
-    /// Whether padded texts that stand one after the other are decoded as one.
+    /// Whether concatenated padded texts are decoded as one.
     pub concatenate: bool,
 }
 
-/// What is made of a specification, or of a layout.
+/// What is made from a specification or a layout.
 #[repr(C)]
 #[derive(Clone, Copy, Drop)]
 pub struct Made {
-    /// Whether an encoding is made, or why not.
+    /// Whether an encoding was made, or the reason why not.
     pub status: u32,
 
     /// The byte or the number that a refusal names, or 0.
     pub detail: usize,
 
-    /// The encoding, where one is made; any other where none is.
+    /// The encoding, if one was made, or any other.
     pub held: PlainEncoding,
 }
 
-/// The encoding that is asked for, or why there is none.
+/// Returns the encoding that is asked for, or the reason why there is none.
 pub fn held_new(
     form: &Form,
     symbols: &[u8],
@@ -78,7 +78,7 @@ pub fn held_new(
     }
 }
 
-/// That this encoding is made.
+/// The result with this encoding.
 pub(crate) fn accepted(encoding: &Encoding) -> Made
     ensures status { result.status ≡ OK }
     ensures held { base_of_plain result.held ≡ encoding.now }
@@ -90,7 +90,7 @@ pub(crate) fn accepted(encoding: &Encoding) -> Made
     }
 }
 
-/// That none is made.
+/// The result without an encoding.
 pub(crate) fn refused(status: u32, detail: usize) -> Made
     ensures status { result.status ≡ status }
     ensures detail { result.detail ≡ detail }

@@ -1,4 +1,4 @@
-//! Calls by the number of a predefined encoding.
+//! Calls with the number of a predefined encoding.
 
 ghost use Rattle.std.specs.Prelude.{◌≡◌};
 ghost use Rattle.data_encoding_calls.specs.Calls.{ByNumber, Decodes, Encodes, TellsCanonical, TellsMost, TellsTextLength};
@@ -9,7 +9,7 @@ use crate::convert::{
 use crate::status::UNKNOWN_ENCODING;
 use data_encoding::predefined_numbered;
 
-/// The length of the text of `len` bytes.
+/// Writes the length of the text of `len` bytes to `text_len`.
 pub fn numbered_encode_len(number: u32, len: usize, text_len: &mut usize) -> u32
     ensures { ByNumber number result (text_len.new ≡ text_len.old)
         (λ base. TellsTextLength base len text_len.old text_len.new result) }
@@ -20,7 +20,7 @@ pub fn numbered_encode_len(number: u32, len: usize, text_len: &mut usize) -> u32
     encode_len_by(&encoding, len, text_len)
 }
 
-/// Writes the text of data to the front of the output, and its length to `written`.
+/// Writes the text of data to the start of the output, and its length to `written`.
 pub fn numbered_encode(number: u32, input: &[u8], output: &mut [u8], written: &mut usize) -> u32
     ensures { ByNumber number result ((output.new ≡ output.old) × (written.new ≡ written.old))
         (λ base. Encodes base input.now output.old output.new written.old written.new result) }
@@ -31,8 +31,8 @@ pub fn numbered_encode(number: u32, input: &[u8], output: &mut [u8], written: &m
     encode_by(&encoding, input, output, written)
 }
 
-/// The greatest number of bytes that a text of `len` bytes may mean, or the position of the fault
-/// of that length.
+/// Writes the greatest number of bytes that a text of `len` bytes may mean to `most`, or the
+/// position of the fault of that length.
 pub fn numbered_decode_len(number: u32, len: usize, most: &mut usize) -> u32
     ensures { ByNumber number result (most.new ≡ most.old)
         (λ base. TellsMost base len most.old most.new result) }
@@ -43,8 +43,7 @@ pub fn numbered_decode_len(number: u32, len: usize, most: &mut usize) -> u32
     decode_len_by(&encoding, len, most)
 }
 
-/// Writes the data that a text means to the front of the output, or as much as stands before its
-/// fault.
+/// Writes the data that a text means to the start of the output, or the data before its fault.
 pub fn numbered_decode(number: u32, input: &[u8], output: &mut [u8], decoded: &mut Decoded) -> u32
     ensures { ByNumber number result ((output.new ≡ output.old) × (decoded.new ≡ decoded.old))
         (λ base. Decodes base input.now output.old output.new decoded.old decoded.new result) }
@@ -55,7 +54,7 @@ pub fn numbered_decode(number: u32, input: &[u8], output: &mut [u8], decoded: &m
     decode_by(&encoding, input, output, decoded)
 }
 
-/// Whether no two different texts decode to the same data.
+/// Sets `answer` to whether no two different texts decode to the same data.
 pub fn numbered_is_canonical(number: u32, answer: &mut bool) -> u32
     ensures { ByNumber number result (answer.new ≡ answer.old)
         (λ base. TellsCanonical base answer.new result) }

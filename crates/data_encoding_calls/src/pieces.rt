@@ -9,7 +9,7 @@ use crate::status::{NO_DECODER, OK, SHORT_BUFFER, TOO_LONG, status_of_kind};
 use data_encoding::{DECODE_LIMIT, DecodeError, DecodeKind, Encoding};
 use encoding_stream::{BufferDecoder, Kept};
 
-/// What is kept of a text between its pieces. All zeros is what is kept of no text.
+/// What is kept of a text between its pieces. For the empty text this is all zeros.
 #[repr(C)]
 #[derive(Clone, Copy, Drop)]
 pub struct PlainKept {
@@ -19,23 +19,23 @@ pub struct PlainKept {
     /// How many bytes of an unfinished group are held.
     pub count: usize,
 
-    /// Where these stand.
+    /// The positions of these bytes in the text.
     pub positions: [usize; 8],
 
     /// The position of the first fault.
     pub fault_position: usize,
 
-    /// Its status, or 0.
+    /// The status of the first fault, or 0.
     pub fault: u32,
 
-    /// 1 where a group was final.
+    /// 1 if a group was final.
     pub ended: u32,
 
-    /// The bytes that are held.
+    /// The bytes held.
     pub bytes: [u8; 8],
 }
 
-// The kind of fault that a status tells.
+// The kind of fault that has this status.
 fn kind_of_status(status: u32) -> Option<DecodeKind>
     ensures { result ≡ kind_told status }
 {
@@ -54,7 +54,7 @@ fn kind_of_status(status: u32) -> Option<DecodeKind>
     None
 }
 
-// What plain numbers say is kept.
+// What the plain numbers describe as kept.
 fn kept_of(plain: &PlainKept) -> Option<Kept>
     ensures { result ≡ kept_told plain.now }
 {
@@ -95,7 +95,7 @@ fn plain_of(kept: &Kept) -> PlainKept
     }
 }
 
-// The decoder that keeps these numbers, where one may.
+// The decoder that keeps these numbers, if there can be one.
 fn decoder_of<'a>(encoding: &'a Encoding, plain: &PlainKept) -> Option<BufferDecoder<'a>>
     ensures base { IfSome result (λ decoder. base_of_pieces decoder ≡ encoding.now) }
     ensures kept { IfSome result (λ decoder. kept_told plain.now ≡ Some (kept_by decoder)) }
@@ -105,7 +105,7 @@ fn decoder_of<'a>(encoding: &'a Encoding, plain: &PlainKept) -> Option<BufferDec
     BufferDecoder::resumed(encoding, kept_of(plain)?)
 }
 
-/// How many bytes `len` more of the text may complete.
+/// Writes how many bytes `len` more bytes of the text may complete to `most`.
 pub(crate) fn most_by(encoding: &Encoding, plain: &PlainKept, len: usize, most: &mut usize) -> u32
     ensures { TellsRoom encoding.now plain.now len most.old most.new result }
 {
@@ -119,7 +119,7 @@ pub(crate) fn most_by(encoding: &Encoding, plain: &PlainKept, len: usize, most: 
     OK
 }
 
-/// Reads a piece, and writes the bytes of the groups that are then whole to the front of the
+/// Reads a piece, and writes the bytes of the groups that are then whole to the start of the
 /// output.
 pub(crate) fn read_by(
     encoding: &Encoding,
@@ -147,7 +147,7 @@ pub(crate) fn read_by(
     OK
 }
 
-/// Ends the text: writes the bytes of a last group to the front of the output, and tells the
+/// Ends the text: writes the bytes of a last group to the start of the output, and returns the
 /// verdict.
 pub(crate) fn finish_by(
     encoding: &Encoding,

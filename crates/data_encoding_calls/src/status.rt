@@ -1,4 +1,4 @@
-//! What a call returns: a number for each thing that can happen.
+//! What a call returns: a number for each possible outcome.
 
 ghost use Rattle.std.specs.Prelude.{◌≡◌};
 ghost use Rattle.data_encoding_calls.specs.Status.{detail_of_refusal, status_of_kind, status_of_refusal};
@@ -11,22 +11,22 @@ pub(crate) const OK: u32 = 0;
 /// No encoding has this number.
 pub(crate) const UNKNOWN_ENCODING: u32 = 1;
 
-/// A pointer is null that must not be.
+/// A pointer that must not be null is null.
 pub(crate) const NULL_POINTER: u32 = 2;
 
-/// Data or a text is longer than is taken in one call.
+/// Data or a text is longer than one call takes.
 pub(crate) const TOO_LONG: u32 = 3;
 
-/// The output has no room.
+/// The output is too short.
 pub(crate) const SHORT_BUFFER: u32 = 4;
 
 /// The bytes are no layout.
 pub(crate) const NO_ENCODING: u32 = 18;
 
-/// No call can have made the decoder for the encoding.
+/// The numbers are not those of a decoder of this encoding.
 pub(crate) const NO_DECODER: u32 = 19;
 
-/// No call can have made the encoder for the encoding.
+/// The numbers are not those of an encoder of this encoding.
 pub(crate) const NO_ENCODER: u32 = 20;
 
 /// The status of a faulty text.

@@ -1,5 +1,5 @@
-//! Encodings of a caller's own as bytes that it stores: their layouts, which are judged when they
-//! are read.
+//! Encodings of the caller as bytes to be stored: their layouts, which are judged when they are
+//! read.
 
 ghost use Rattle.data_encoding.specs.Layout.{layout};
 ghost use Rattle.data_encoding.specs.Plain.{base_of_plain};
@@ -11,7 +11,7 @@ use crate::status::{NO_ENCODING, OK, SHORT_BUFFER};
 use data_encoding::laws::one_layout;
 use data_encoding::{Encoding, PlainEncoding};
 
-/// Writes the layout of the encoding to the front of the output, and its length, at most 770, to
+/// Writes the layout of the encoding to the start of the output, and its length, at most 770, to
 /// `written`.
 pub fn held_layout(held: &PlainEncoding, output: &mut [u8], written: &mut usize) -> u32
     ensures { WritesFront (layout (base_of_plain held.now)) output.old output.new written.old
@@ -27,7 +27,7 @@ pub fn held_layout(held: &PlainEncoding, output: &mut [u8], written: &mut usize)
     OK
 }
 
-/// The encoding of a layout, where the bytes are one.
+/// Returns the encoding with this layout, if the bytes are one.
 pub fn held_read(bytes: &[u8]) -> Made
     ensures { MakesOfLayout bytes.now result }
 {

@@ -10,12 +10,12 @@ joined order half size lane =
     (lane % 2 ^ half * 2 ^ weight order size 2 0 + lane / 2 ^ half * 2 ^ weight order size 2 1)
     % 2 ^ (half + half)
 
--- Sixteen entries of a table, from this one on.
+-- The row is sixteen entries of a table, from this one on.
 abbrev pub IsRow : List ℕ → ℕ → List ℕ → Type 0
 IsRow values start row =
     (k : ℕ) → k < 16 → slice_index row k ≡ slice_index values (start + k)
 
--- The rows of the lower half of a table.
+-- The rows are the lower half of a table.
 pub record HoldsRows (values : List ℕ) (rows : Rows) : Type 0 where
   pub first : IsRow values 0 rows.first
   pub second : IsRow values 16 rows.second
@@ -26,10 +26,10 @@ pub record HoldsRows (values : List ℕ) (rows : Rows) : Type 0 where
   pub seventh : IsRow values 96 rows.seventh
   pub eighth : IsRow values 112 rows.eighth
 
--- the entry at the lowest four bits of a byte, in the row from this entry on
+-- the entry of a row at the lowest four bits of a byte
 abbrev pub in_row : List ℕ → ℕ → ℕ → ℕ
 in_row values start byte = slice_index values (start + byte % 16)
 
--- what the first gives where the bit is set that a shift makes the highest, and else the second
+-- the first function of a byte if the bit that a shift makes the highest is set, or else the second
 abbrev pub chosen_by : ℕ → (ℕ → ℕ) → (ℕ → ℕ) → ℕ → ℕ
 chosen_by up f g byte = if nat_le 128 (byte * 2 ^ up % 2 ^ 8) then f byte else g byte

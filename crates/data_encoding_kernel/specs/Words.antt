@@ -13,15 +13,15 @@ weight LeastSignificantFirst size count index = size * index
 abbrev pub digit : BitOrder → ℕ → ℕ → ℕ → ℕ → ℕ
 digit order size count word index = word / 2 ^ weight order size count index % 2 ^ size
 
--- a digit, with what stands above it in the byte that begins there
+-- a digit, with the bits above it up to eight in all
 abbrev pub low_byte : BitOrder → ℕ → ℕ → ℕ → ℕ → ℕ
 low_byte order size count word index = word / 2 ^ weight order size count index % 2 ^ 8
 
--- the list with zeros up to this length
+-- the bits, followed by zeros up to this length
 abbrev pub zeros_to : ℕ → List ℕ → List ℕ
 zeros_to len bits = bits ++ replicate (len - length bits) 0
 
--- the word of these digits, and then zeros
+-- the word of these digits, followed by zeros
 abbrev pub word_of : BitOrder → ℕ → ℕ → List ℕ → ℕ
 word_of order size count digits =
     number_of order (zeros_to (size * count) (flat_map (bits_of order size) digits))

@@ -1,4 +1,4 @@
-//! Runs of whole groups that are symbols alone, decoded without a judgement.
+//! Runs of whole groups of symbols only, which are decoded without a judgement.
 
 ghost use Rattle.std.specs.Prelude.{◌≡◌, ℕ, ◌*◌, ◌/◌, ◌≤◌, List, length, IsTrue, IfSome};
 ghost use Rattle.data_encoding_kernel.specs.Runs.{IsLongestBy, IsRunBy};
@@ -11,10 +11,10 @@ use crate::turn::{DecodeTurn, Lanes};
 use crate::words::{decode_symbols, entry_of};
 use data_encoding_meaning::encoding::BitOrder;
 
-/// Decodes whole groups in a row, from the front of the input to the front of the output, up to the
-/// first that has a byte that is no symbol, and returns how many they are. What the output holds
-/// after their bytes is not said. Without a look-up, one is prepared where there are eight groups.
-// Part of its caller, since a call costs more than a short text.
+/// Decodes whole groups from the start of the input to the start of the output, up to the first
+/// group with a byte that is no symbol, and returns their number. Output bytes after theirs are
+/// unspecified. If there is no look-up and the input has eight groups, one is prepared.
+// Inlined, since a call costs more than decoding a short text.
 #[inline(always)]
 pub fn decode_run<L: LookUp, O: ConstantOrder, G: GroupSize>(
     values: &[u8; 256],
@@ -48,7 +48,7 @@ pub fn decode_run<L: LookUp, O: ConstantOrder, G: GroupSize>(
     count
 }
 
-// By lanes, where there are eight groups, and else four at a time.
+// In lanes if there are eight groups, or else four at a time.
 #[inline(always)]
 fn decode_by_several<L: LookUp, O: ConstantOrder, G: GroupSize>(
     values: &[u8; 256],
@@ -65,7 +65,8 @@ fn decode_by_several<L: LookUp, O: ConstantOrder, G: GroupSize>(
     if input.len() < eight {
         return decode_by_fours::<G>(values, O::ORDER, input, output);
     }
-    // Padded groups may follow one another: then the eight are not decoded in vain.
+    // The eighth group may be padded, in padded texts that follow one another; then decoding eight
+    // would be wasted.
     if 8 % G::WIDTH != 0 && entry_of(values, input[eight - 1]) >= 128 {
         return 0;
     }
@@ -77,7 +78,8 @@ fn decode_by_several<L: LookUp, O: ConstantOrder, G: GroupSize>(
     }
 }
 
-// By rows of the table. Not inlined, so that shorter texts do not pay for the room that lanes take.
+// By rows of the table. Not inlined, so that shorter texts do not pay for the stack that lanes
+// take.
 #[inline(never)]
 fn decode_by_lanes<O: ConstantOrder, G: GroupSize>(
     values: &[u8; 256],
@@ -94,7 +96,7 @@ fn decode_by_lanes<O: ConstantOrder, G: GroupSize>(
     decode_turns::<Lanes<Rows>, G>(&lanes, O::ORDER, input, output)
 }
 
-// Turn after turn; the groups of a turn with a byte that is no symbol are left.
+// Decodes one turn after another, up to the first with a byte that is no symbol.
 #[inline(always)]
 fn decode_turns<T: DecodeTurn, G: GroupSize>(
     turn: &T,
@@ -126,7 +128,8 @@ fn decode_turns<T: DecodeTurn, G: GroupSize>(
     count * groups
 }
 
-// Four groups at a time, tested together; the four with a byte that is no symbol are left.
+// Decodes four groups at a time and tests them together, up to the first four with a byte that is
+// no symbol.
 #[inline(always)]
 fn decode_by_fours<G: GroupSize>(
     values: &[u8; 256],
@@ -139,7 +142,8 @@ fn decode_by_fours<G: GroupSize>(
     ensures within { result ≤ length input.now / G.SYMBOLS }
 {
     let four = 4 * G::SYMBOLS;
-    // Padded groups may follow one another: then the four are not decoded in vain.
+    // The fourth group may be padded, in padded texts that follow one another; then decoding four
+    // would be wasted.
     if 8 % G::WIDTH != 0 && input.len() >= four && entry_of(values, input[four - 1]) >= 128 {
         return 0;
     }

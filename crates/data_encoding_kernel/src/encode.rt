@@ -10,7 +10,7 @@ use crate::words::encode_group;
 use data_encoding_meaning::encoding::BitOrder;
 use data_encoding_meaning::limits::ENCODE_LIMIT;
 
-// The order is a constant from here on: each digit then stands at a known bit of its word.
+// The order is a constant from here on, so that each digit is at a known bit of its word.
 #[inline(always)]
 pub fn encode_plain<G: GroupSize>(
     symbols: &[u8; 256],
@@ -38,7 +38,8 @@ pub fn encode_plain<G: GroupSize>(
     }
 }
 
-// Turn after turn, while there are as many bytes as one loads, and then what is left.
+// Encodes one turn after another, while the input has as many bytes as a turn loads, and then the
+// rest.
 #[inline(always)]
 fn encode_turns<T: EncodeTurn, G: GroupSize>(
     symbols: &[u8; 256],
@@ -74,7 +75,7 @@ fn encode_turns<T: EncodeTurn, G: GroupSize>(
     );
 }
 
-/// What encodes whole groups by one turn of a loop, in each turn as many, and then what is left.
+/// A way to encode a fixed number of whole groups in each turn of a loop, and then the rest.
 trait EncodeTurn {
     ghost GROUPS: { ℕ };
 
@@ -86,7 +87,7 @@ trait EncodeTurn {
 
     const GROUPS: usize;
 
-    // A turn loads `AHEAD * (BYTES - 1)` bytes after its groups too.
+    // A turn also loads `AHEAD * (BYTES - 1)` bytes after its groups.
     const AHEAD: usize;
 
     fn encode<G: GroupSize>(symbols: &[u8; 256], order: BitOrder, input: &[u8], output: &mut [u8])
@@ -95,7 +96,7 @@ trait EncodeTurn {
         ensures { IsTextBy symbols.now G.WIDTH order (take (GROUPS * G.BYTES) input.now)
             output.new };
 
-    // What is left after the last turn: fewer bytes than one loads.
+    // Encodes the rest after the last turn: fewer bytes than a turn loads.
     fn encode_rest<G: GroupSize>(
         symbols: &[u8; 256],
         order: BitOrder,
@@ -129,7 +130,7 @@ impl EncodeTurn for EightGroups {
         encode_eight::<G>(symbols, order, input, output);
     }
 
-    // Not inlined, so that the loop over eight groups, where the time goes, is small code.
+    // Not inlined, so that the loop over eight groups, which takes most of the time, is small.
     #[inline(never)]
     fn encode_rest<G: GroupSize>(
         symbols: &[u8; 256],
@@ -173,8 +174,8 @@ fn encode_by_groups<G: GroupSize>(
     }
 }
 
-/// Eight groups in lanes, with zeros in place of the bytes that are loaded after them. Groups of
-/// eight symbols take longer one by one; those of fewer do not.
+/// Eight groups in lanes, with zeros for the bytes that would be loaded after them. One by one,
+/// groups of eight symbols take longer; groups of fewer do not.
 struct EightInRoom;
 
 impl EncodeTurn for EightInRoom {
@@ -195,7 +196,7 @@ impl EncodeTurn for EightInRoom {
         encode_in_room::<G>(symbols, order, input, output);
     }
 
-    // As many as two groups are encoded sooner one by one.
+    // Up to two groups are encoded faster one by one.
     #[inline(always)]
     fn encode_rest<G: GroupSize>(
         symbols: &[u8; 256],
@@ -229,7 +230,7 @@ fn encode_in_room<G: GroupSize>(
     output.copy_from_slice(&text[..output.len()]);
 }
 
-// The bytes, and zeros after them.
+// Returns the bytes, followed by zeros.
 #[inline(always)]
 fn with_zeros(input: &[u8]) -> [u8; 48]
     requires { length input.now ≤ 48 }
@@ -261,7 +262,7 @@ impl EncodeTurn for OneGroup {
         encode_group::<G>(symbols, order, input, output);
     }
 
-    // The last group, perhaps shorter, or none.
+    // The last group, which may be shorter or empty.
     #[inline(always)]
     fn encode_rest<G: GroupSize>(
         symbols: &[u8; 256],

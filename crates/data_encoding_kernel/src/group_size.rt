@@ -4,8 +4,8 @@ ghost use Rattle.std.specs.Prelude.{ℕ, refl};
 ghost use Rattle.std.proofs.Common.{lit<, lit≤};
 ghost use Rattle.data_encoding_meaning.specs.text.Base.{IsGroup};
 
-/// Calls a method with the type of a width, from 1 to 6, as its last type argument. The width is
-/// then a constant, and with it the sizes of a group: loops over a group are unrolled.
+/// Calls a method with the type of a width, from 1 to 6, as its last type argument. The width and
+/// the sizes of a group are then constants, and loops over a group are unrolled.
 #[macro_export]
 macro_rules! call_by_width {
     ($width:expr, $this:ident.$call:ident::<$($order:ident)?>($($argument:expr),*)) => {
@@ -20,8 +20,8 @@ macro_rules! call_by_width {
     };
 }
 
-/// The width, and how many bytes a whole group has, as how many symbols: constants, so that loops
-/// over a group are unrolled.
+/// The width of a symbol, and the numbers of bytes and of symbols in a whole group: constants, so
+/// that loops over a group are unrolled.
 pub trait GroupSize {
     ghost WIDTH: { ℕ };
 

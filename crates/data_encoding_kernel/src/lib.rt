@@ -1,8 +1,8 @@
-//! Groups of bytes and of symbols by tables, a width and an order of bits: the inner loops of
-//! encoding and decoding, with a group in a word of 64 bits, and eight groups in lanes.
+//! The inner loops of encoding and decoding: groups of bytes and of symbols, by a table, a width
+//! and an order of bits, with one group in a word of 64 bits or eight groups in lanes.
 //!
-//! Nothing here knows an encoding. What the loops promise is said of each base that encodes or
-//! decodes with such a table (`Writes`, `Reads`).
+//! No encoding is known here. The contracts of the loops are about each base that encodes or
+//! decodes with the given table (`Writes`, `Reads`).
 #![tactic(auto)]
 
 pub mod decode;

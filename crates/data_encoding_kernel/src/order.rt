@@ -5,8 +5,8 @@ ghost use Rattle.data_encoding_meaning.specs.declared.encoding.BitOrder.TheVaria
 
 use data_encoding_meaning::encoding::BitOrder;
 
-/// Which bit comes first: a constant, so that each digit stands at a known bit of its word, in the
-/// functions that are not part of their callers too.
+/// The order of bits as a constant, so that each digit is at a known bit of its word even in
+/// functions that are not inlined.
 pub trait ConstantOrder {
     ghost ORDER: { BitOrder };
 

@@ -10,7 +10,7 @@ use crate::lanes::look_up::LookUp;
 use crate::words::decode_entries;
 use data_encoding_meaning::encoding::BitOrder;
 
-/// What decodes several whole groups by one turn of a loop, in each turn as many.
+/// A way to decode a fixed number of whole groups in each turn of a loop.
 pub trait DecodeTurn {
     ghost GROUPS: { ℕ };
 
@@ -20,7 +20,7 @@ pub trait DecodeTurn {
 
     const GROUPS: usize;
 
-    // `false`, and any bytes, where some byte of the input is no symbol.
+    // Returns `false`, with any output, if a byte of the input is no symbol.
     fn decode<G: GroupSize>(&self, order: BitOrder, input: &[u8], output: &mut [u8]) -> bool
         requires symbols { length input.now ≡ GROUPS * G.SYMBOLS }
         requires exact { length output.old ≡ GROUPS * G.BYTES }
@@ -28,7 +28,7 @@ pub trait DecodeTurn {
             → IsRunBy values G.WIDTH order input.now GROUPS output.old output.new };
 }
 
-/// Eight groups in lanes. The look-up is no reference, so that it stays in registers.
+/// Eight groups in lanes. The look-up is held by value, so that it stays in registers.
 #[derive(Clone, Copy, Drop)]
 pub struct Lanes<L> {
     pub look_up: L,
@@ -65,7 +65,7 @@ impl DecodeTurn for [u8; 256] {
     }
 }
 
-// Four whole groups; `false`, and any bytes, where some byte of the input is no symbol.
+// Decodes four whole groups. Returns `false`, with any output, if a byte of the input is no symbol.
 #[inline(always)]
 fn decode_four_groups<G: GroupSize>(
     values: &[u8; 256],

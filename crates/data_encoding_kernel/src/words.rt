@@ -10,7 +10,8 @@ ghost use Rattle.data_encoding_kernel.specs.Words.{weight, digit, low_byte, word
 use crate::group_size::GroupSize;
 use data_encoding_meaning::encoding::BitOrder;
 
-/// How many bits of a word of `count` digits, each of `size` bits, are below this one.
+/// Returns how many bits of a word are below the digit at `index`, of `count` digits of `size` bits
+/// each.
 pub fn weight_at(order: BitOrder, size: usize, count: usize, index: usize) -> usize
     requires inside { index < count }
     requires fits { size * count ≤ 64 }
@@ -23,7 +24,7 @@ pub fn weight_at(order: BitOrder, size: usize, count: usize, index: usize) -> us
     }
 }
 
-// The eight bits of the word from this one on.
+// The eight bits of the word from `weight` on.
 fn byte_at(word: u64, weight: usize) -> u8
     requires { weight < 64 }
     ensures { result ≡ word / 2 ^ weight % 2 ^ 8 }
@@ -31,7 +32,7 @@ fn byte_at(word: u64, weight: usize) -> u8
     ((word >> weight) & 0xff) as u8
 }
 
-// The bytes as a word, with zeros for those that are missing.
+// The bytes as a word, with zeros for missing ones.
 fn word_of_bytes<G: GroupSize>(order: BitOrder, input: &[u8]) -> u64
     requires few { length input.now ≤ G.BYTES }
     ensures { result ≡ word_of order 8 G.BYTES input.now }
@@ -47,8 +48,8 @@ fn word_of_bytes<G: GroupSize>(order: BitOrder, input: &[u8]) -> u64
     word
 }
 
-// Writes the symbols of the first digits of a word. The table has a symbol for each byte, so that a
-// byte is its index, and no mask of the width is needed.
+// Writes the symbols of the first digits of a word. The table has a symbol for each byte, so a byte
+// is an index into it, and no mask of the width is needed.
 fn symbols_of_word<G: GroupSize>(symbols: &[u8; 256], order: BitOrder, word: u64, output: &mut [u8])
     requires few { length output.old ≤ G.SYMBOLS }
     ensures { output.new
@@ -66,7 +67,7 @@ fn symbols_of_word<G: GroupSize>(symbols: &[u8; 256], order: BitOrder, word: u64
     }
 }
 
-/// Writes the text of a group of bytes, or of the fewer that are left.
+/// Writes the text of a group of bytes, which may be shorter.
 #[inline]
 pub fn encode_group<G: GroupSize>(
     symbols: &[u8; 256],
@@ -82,15 +83,15 @@ pub fn encode_group<G: GroupSize>(
     symbols_of_word::<G>(symbols, order, word, output);
 }
 
-/// What a table says of a byte.
+/// Returns the entry of a byte.
 pub fn entry_of(values: &[u8; 256], byte: u8) -> u8
     ensures { result ≡ slice_index values.now byte }
 {
     values[byte as usize]
 }
 
-// The values of the symbols as a word, with zeros for those that are missing, and the bits that any
-// entry has: an entry that is no value has its highest bit, and spoils the word.
+// The values of the symbols as a word, with zeros for missing ones, and all entries combined by OR.
+// An entry that is not a value has its highest bit set, and the word is then meaningless.
 fn word_of_symbols<G: GroupSize>(values: &[u8; 256], order: BitOrder, input: &[u8]) -> (u64, u8)
     requires few { length input.now ≤ G.SYMBOLS }
     ensures word { ((k : ℕ) → k < length input.now
@@ -150,9 +151,9 @@ fn bytes_of_word<G: GroupSize>(order: BitOrder, word: u64, output: &mut [u8])
     }
 }
 
-/// Writes the bytes of a group of symbols, or of the fewer that are left, without the bits after
-/// the last whole byte, and returns the bits that any entry has: the highest, and any bytes are
-/// written, where some byte of the input is no symbol.
+/// Writes the bytes of a group of symbols, which may be shorter, without the bits after the last
+/// whole byte, and returns all entries combined by OR. If a byte of the input is no symbol, the
+/// result is 128 or more, and any bytes are written.
 #[inline(always)]
 pub fn decode_entries<G: GroupSize>(
     values: &[u8; 256],
@@ -172,9 +173,9 @@ pub fn decode_entries<G: GroupSize>(
     entries
 }
 
-/// Writes the bytes of a group of symbols, or of the fewer that are left, without the bits after
-/// the last whole byte; `false`, and any bytes, where some byte of the input is no symbol.
-// Part of its callers, with the order as a constant, so that every shift is one.
+/// Writes the bytes of a group of symbols, which may be shorter, without the bits after the last
+/// whole byte. Returns `false`, with any output, if a byte of the input is no symbol.
+// Inlined, with the order as a constant, so that every shift is by a constant.
 #[inline(always)]
 pub fn decode_symbols<G: GroupSize>(
     values: &[u8; 256],
@@ -206,7 +207,7 @@ pub fn decode_symbols<G: GroupSize>(
     entries < 128
 }
 
-/// The position of the first byte that is no symbol, or the length.
+/// Returns the position of the first byte that is no symbol, or the length.
 #[inline(always)]
 pub fn symbol_position(values: &[u8; 256], input: &[u8]) -> usize
     ensures before { (k : ℕ) → k < result

@@ -1,4 +1,4 @@
--- Lists: what every element has, positions, and lists cut into parts.
+-- Lists: what every element has, positions, and lists cut into pieces.
 pub mod RunLemmas
 pub mod ListLemmas
 pub mod PartLemmas

@@ -16,7 +16,7 @@ pub enum BitOrder {
 /// What a byte of a text means.
 #[derive(Clone, Copy, Debug, PartialEq, Eq)]
 pub enum Character {
-    /// A symbol, which stands for the bits of its value.
+    /// A symbol, which means the bits of its value.
     Symbol {
         /// The value, below the number of symbols.
         value: usize,
@@ -25,15 +25,15 @@ pub enum Character {
     /// Padding, which fills the last group of a text.
     Padding,
 
-    /// Ignored, as a line end may be.
+    /// Ignored, as line ends often are.
     Ignored,
 
-    /// Nothing: no text that has such a byte can be decoded.
+    /// Nothing: a text with such a byte cannot be decoded.
     Invalid,
 }
 
 impl Character {
-    /// The value, where it is a symbol.
+    /// The value, if it is a symbol.
     pub fn is_symbol(self) -> Option<usize>
         ensures { result ≡ value_of self }
     {
@@ -57,7 +57,7 @@ impl Character {
         matches!(self, Character::Ignored)
     }
 
-    /// Whether it is nothing.
+    /// Whether it is invalid.
     pub fn is_invalid(self) -> bool
         ensures { result ≡ is_invalid self }
     {

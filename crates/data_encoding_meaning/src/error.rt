@@ -1,4 +1,4 @@
-//! Faults of texts: what is wrong, where, and what is printed of it.
+//! Faults of texts: what is wrong, at which position, and how it is displayed.
 
 ghost use Rattle.std.specs.Prelude.{Some};
 ghost use Rattle.data_encoding_meaning.specs.decoding.Printed.{printed_error, printed_fault, printed_kind};
@@ -10,27 +10,27 @@ use std::fmt;
 /// What is wrong with a text.
 #[derive(Clone, Copy, Debug, PartialEq, Eq)]
 pub enum DecodeKind {
-    /// The length is that of no text.
+    /// No text has this length.
     Length,
 
     /// A byte is no symbol.
     Symbol,
 
-    /// Bits that are left after the last byte of data are not zero.
+    /// Bits left after the last byte of data are not zeros.
     Trailing,
 
     /// The number of padding characters is wrong.
     Padding,
 }
 
-/// What is wrong with a text, and where.
+/// What is wrong with a text, and at which position.
 #[derive(Clone, Copy, Debug, PartialEq, Eq)]
 pub struct DecodeError {
-    /// The position of the faulty byte in the text, from 0; for an invalid length where no byte is
-    /// ignored, the greatest valid length below it.
+    /// The position of the faulty byte in the text, from 0. For an invalid length, if no byte is
+    /// ignored, it is the greatest valid length below that one.
     pub position: usize,
 
-    /// What is wrong there.
+    /// What is wrong at this position.
     pub kind: DecodeKind,
 }
 
@@ -40,14 +40,14 @@ pub struct GroupFault {
     /// The index of the faulty byte in the group.
     pub index: usize,
 
-    /// What is wrong there.
+    /// What is wrong at this index.
     pub kind: DecodeKind,
 }
 
-/// How far a text was decoded that has a fault.
+/// How far a text with a fault was decoded.
 #[derive(Clone, Copy, Debug, PartialEq, Eq)]
 pub struct DecodePartial {
-    /// How many bytes of the text were read: they mean the bytes that were written.
+    /// How many bytes of the text were read; they mean the bytes that were written.
     pub read: usize,
 
     /// How many bytes of the output were written.
@@ -63,7 +63,7 @@ pub enum DecodeFault {
     /// The text has a fault.
     Error(DecodeError),
 
-    /// No memory was found for the data.
+    /// Memory for the data ran out.
     OutOfMemory,
 }
 

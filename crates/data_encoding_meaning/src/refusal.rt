@@ -3,7 +3,7 @@
 /// Why a specification is refused, with the byte or the number that shows it.
 #[derive(Clone, Copy, Debug)]
 pub enum Refusal {
-    /// There are not 2, 4, 8, 16, 32 or 64 symbols.
+    /// The number of symbols is not 2, 4, 8, 16, 32 or 64.
     BadSize,
 
     /// A character is not ASCII.
@@ -12,13 +12,13 @@ pub enum Refusal {
     /// The byte is given two meanings.
     Duplicate(u8),
 
-    /// There is padding, and no text needs any.
+    /// There is padding, but no text needs it.
     ExtraPadding,
 
-    /// The width of lines or the length of the separator is over 255.
+    /// The width of lines or the length of the separator is above 255.
     WrapLength,
 
-    /// The width of lines is no multiple of this.
+    /// The width of lines is not a multiple of this.
     WrapWidth(u8),
 
     /// The texts of a translation differ in length.

@@ -22,14 +22,14 @@ use Rattle.encoding_stream.proofs.ReadLemmas.{take-read}
 pub none-whole : (size : ℕ) → 0 % size ≡ 0
 none-whole size = subst (λ n. n % size ≡ 0) (zero-mul size) (mul-mod_left 0 size)
 
--- the lengths of whole blocks, one behind the other
+-- the lengths of whole blocks, one after another
 pub whole-both : (m n size : ℕ) → m % size ≡ 0 → n % size ≡ 0 → (m + n) % size ≡ 0
 whole-both m n size one other =
     sym (mod-add-mod m size n) ∙ ap (λ k. (k + n) % size) one ∙ ap (λ k. k % size) (zero-add n) ∙
     other
 
 module _ (base : Base) (specified : IsSpecified base) (join : JoinEncode) where
-  -- the text of nothing is nothing
+  -- the text of no data is empty
   pub text_of-nil : text_of base [] ≡ []
   text_of-nil =
       let twice = join base specified [] [] (none-whole (alignment base)) in
@@ -52,7 +52,7 @@ module _ (base : Base) (whole left : List ℕ) (aligned : length whole % alignme
       ap (blocks_len base) (length-append whole left)
       ∙ whole-len (length whole) (length left) (alignment base) aligned short
 
-  -- the text of whole blocks, and what is after them
+  -- the text of whole blocks, and what follows them
   pub blocks-text : text_of_blocks base (whole ++ left) ≡ text_of base whole
   blocks-text =
       ap (λ n. text_of base (take n (whole ++ left))) cut
@@ -72,7 +72,7 @@ module _ (base : Base) (specified : IsSpecified base) (join : JoinEncode) where
     is_written = sym (text_of-nil base specified join);
   }
 
-  -- whole blocks more were written, of what was held and a piece
+  -- more whole blocks were written, of what was held and a piece
   pub encoded-on : (held piece whole left bytes before : List ℕ)
       → held ++ piece ≡ whole ++ left → length whole % alignment base ≡ 0
       → length left < alignment base → HasEncoded base [] bytes before held
@@ -91,7 +91,7 @@ module _ (base : Base) (specified : IsSpecified base) (join : JoinEncode) where
         ∙ sym (join base specified has.encoded whole has.is_aligned);
   }
 
-  -- the held bytes are encoded at the end
+  -- the bytes held are encoded at the end
   pub encoded-last : (held bytes text : List ℕ) → HasEncoded base [] bytes text held
       → text_of base bytes ≡ text ++ text_of base held
   encoded-last held bytes text has =
@@ -101,7 +101,7 @@ module _ (base : Base) (specified : IsSpecified base) (join : JoinEncode) where
 pub built-again : {base : Base} → IsBuiltAgain base → IsSpecified base
 built-again {base} is = record { fields = fields_of base; yields = is.yields }
 
--- What becomes of a piece: the text that is written, and the bytes that are then held.
+-- The effect of a piece: the text that is written, and the bytes that are then held.
 pub record Reads (base : Base) (held piece text left : List ℕ) : Type 0 where
   pub text_is : text_of_blocks base (held ++ piece) ≡ text
   pub left_is : after_blocks base (held ++ piece) ≡ left
@@ -127,7 +127,7 @@ module _ (base : Base) (specified : IsSpecified base) (join : JoinEncode) where
       (reads-whole held piece [] (held ++ piece) refl (none-whole (alignment base))
       (omega (arith, short, length-append held piece)))
 
-  -- a block that the front of the piece fills, the whole blocks after it, and the rest
+  -- a block that a prefix of the piece fills, the whole blocks after it, and the rest
   pub reads-blocks : (held piece block blocks left : List ℕ)
       → held ++ piece ≡ (block ++ blocks) ++ left → length block ≡ alignment base
       → length blocks % alignment base ≡ 0 → length left < alignment base
@@ -146,7 +146,8 @@ whole-front n size =
     let is : n - n % size ≡ n / size * size = omega (arith, div-add-mod' n size) in
     ap (λ k. k % size) is ∙ mul-mod_left (n / size) size
 
--- the same of a piece that is cut where the block is full, and where the last whole one ends
+-- the same for a piece that is cut at the end of the block that it fills, and at the end of the
+-- last whole one
 pub reads-cut : (base : Base) → IsSpecified base → JoinEncode
     → (held piece block : List ℕ) (missing size : ℕ) → size ≡ alignment base
     → length held + missing ≡ size → 0 < missing → missing ≤ length piece
@@ -177,7 +178,7 @@ reads-cut base specified join held piece block missing size is fills some few fi
     aligned
     (omega (arith, length-drop end rest, below, is, div-add-mod' (length rest) size))
 
--- the same by what an encoder holds, once a part of the piece has filled its block
+-- the same for what an encoder holds, once a prefix of the piece has filled its block
 pub reads-filled : (encoder : BufferEncoder) → JoinEncode
     → (piece first rest blocks left : List ℕ) (full : KeptData)
     → length encoder.kept.bytes ≡ 189 → encoder.block - encoder.kept.count ≤ length piece
@@ -217,7 +218,7 @@ reads-filled encoder join piece first rest blocks left full room few first_is re
     (drop missing piece)))
     (sym (blocks_is ∙ ap (λ l. take (length l - length l % size) l) rest_is)) reads)
 
--- After two texts were written to the front of an output, one after the other.
+-- Two texts were written to the start of an output, one after another.
 module _ (mid part : List ℕ) (a b : ℕ) (inside : a ≤ length mid)
     (same : length part ≡ length mid - a) (few : b ≤ length part) where
   pub both-written : take (a + b) (put_mid a (length mid - a) mid part)

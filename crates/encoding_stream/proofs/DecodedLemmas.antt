@@ -13,7 +13,7 @@ use Rattle.data_encoding.specs.declared.error.DecodeError.{DecodeError}
 use Rattle.encoding_stream.specs.declared.error.StreamFault.{StreamFault}
 use Rattle.encoding_stream.specs.declared.error.StreamFault.TheVariants.{Decode, Read, TooLong, Write}
 use Rattle.encoding_stream.specs.declared.pieces.Kept.{Kept}
-use Rattle.encoding_stream.specs.Decoded.{answer_of, DecodesFront, EndsText}
+use Rattle.encoding_stream.specs.Decoded.{result_of, DecodesFront, EndsText}
 use Rattle.encoding_stream.specs.Encoded.{ReadsMore}
 use Rattle.encoding_stream.specs.Pieces.{verdict_of, Keeps}
 use Rattle.encoding_stream.specs.Reading.{ReadsOn}
@@ -38,7 +38,8 @@ module _ (base : Base) (specified : IsSpecified base) where
     written = subst (Appends v v) (sym (law base specified).1) (Appends-nil v);
   }
 
-  -- the bytes of its whole groups begin what any text decodes to, and what any longer text does
+  -- the bytes of its whole groups are a prefix of what any text decodes to, and of what any longer
+  -- text does
   sound-of : TellsBytes → (text : List ℕ)
       → (more : List ℕ) × (sound_bytes base text ≡ whole_bytes base text ++ more)
   sound-of tells text = (
@@ -59,7 +60,7 @@ module _ (base : Base) (specified : IsSpecified base) where
       )
 
   module _ (keeps : KeepsBytes) (tells : TellsBytes) where
-    -- a beginning of the bytes of whole groups begins all that a reader had
+    -- a prefix of the bytes of whole groups is a prefix of all that a reader has
     pub front-whole : (r s v w : Option (List ℕ)) (text : List ℕ) → Consumes r s text
         → AppendsFront v w (whole_bytes base text) → DecodesFront base r s v w
     front-whole r s v w text read front = record {
@@ -82,7 +83,7 @@ module _ (base : Base) (specified : IsSpecified base) where
             (subst (AppendsFront v w) (sym more.1)
             (AppendsFront-within v w (whole_bytes base text) more.0 front))
 
-  -- at the end of the reader a beginning of all is written
+  -- at the end of the reader a prefix of all is written
   pub front-all : (r s v w : Option (List ℕ)) (text : List ℕ) → Consumes r s text → IsAtEnd s
       → AppendsFront v w (sound_bytes base text) → DecodesFront base r s v w
   front-all r s v w text read at_end front = record {
@@ -96,7 +97,7 @@ module _ (base : Base) (specified : IsSpecified base) where
   module _ {old new : Kept} {r s t v w x : Option (List ℕ)} {more bytes : List ℕ}
       (so_far : Decoded base old r s v w) (read : Consumes s t more)
       (reads : ReadsOn base old new more bytes) where
-    -- a piece more
+    -- one more piece
     pub decoded-more : Appends w x bytes → Decoded base new r t v x
     decoded-more written = record {
       text = so_far.text ++ more;
@@ -107,7 +108,7 @@ module _ (base : Base) (specified : IsSpecified base) where
           (Appends-trans v w x _ _ so_far.written written);
     }
 
-    -- a beginning of a piece more
+    -- a prefix of one more piece
     pub decoded-front : KeepsBytes → TellsBytes → AppendsFront w x bytes
         → DecodesFront base r t v x
     decoded-front keeps tells front =
@@ -165,7 +166,7 @@ decoded-past {base} {kept} {r} {s} {t} {v} {w} so_far more read limit past = rec
   more = omega (arith, past, length-append so_far.text more, so_far.keeps.counted);
 }
 
--- what all that a reader had has, where more than the limit was read
+-- what holds for all that a reader has, if more than the limit was read
 pub past-few : (limit : ℕ) (r t : Option (List ℕ)) (P : List ℕ → Type 0)
     → ReadsMore limit r t → IfSome r (λ text. length text ≤ limit → P text)
 past-few limit None t P past = tt
@@ -175,7 +176,7 @@ past-few limit (Some all) (Some rest) P past = λ few.
     omega (arith, few, past.more, ap length past.read, length-append past.bytes rest) in
     absurd no
 
--- what reading a part of a buffer has done
+-- what reading a piece of a buffer has done
 pub reads-buffer : (base here : Base) → here ≡ base → (old new : Kept) (buffer rest : List ℕ)
     (count : ℕ) (bytes : List ℕ) → count ≤ length buffer
     → ReadsOn here old new (take count (buffer ++ rest)) bytes
@@ -197,21 +198,21 @@ pub not-both : {P : Type 0} (failed : Bool) → failed ≡ true → failed ≡ f
 not-both true is works = cc
 not-both false is works = cc
 
--- what is answered for a verdict
+-- what is returned for a verdict
 pub answers-ok : (fault : Option DecodeError) (value : Unit {0})
-    → Ok value ≡ verdict_of fault → Ok tt ≡ answer_of fault
+    → Ok value ≡ verdict_of fault → Ok tt ≡ result_of fault
 answers-ok None value is = refl
 answers-ok (Some error) value is = cc
 
 pub answers-error : (fault : Option DecodeError) (error : DecodeError)
-    → Err error ≡ verdict_of fault → Err (Decode error) ≡ answer_of fault
+    → Err error ≡ verdict_of fault → Err (Decode error) ≡ result_of fault
 answers-error None error is = cc
 answers-error (Some other) error is = cc
 
--- what is answered where a writer has failed, and else
+-- what is returned if a writer has failed, and otherwise
 module _ (failed : Bool) (result : Result (Unit {0}) StreamFault) (fault : Option DecodeError)
     (write : IsTrue failed → result ≡ Err Write)
-    (judged : failed ≡ false → result ≡ answer_of fault) where
+    (judged : failed ≡ false → result ≡ result_of fault) where
   pub end-ok : {P : Type 0} → (failed ≡ false → fault ≡ None → P) → OnOk result P
   end-ok {P} holds = by-cases failed fault refl refl
     where
@@ -219,9 +220,9 @@ module _ (failed : Bool) (result : Result (Unit {0}) StreamFault) (fault : Optio
       by-cases true f is same =
           subst (λ r. OnOk r P) (sym (write is)) tt
       by-cases false None is same =
-          subst (λ r. OnOk r P) (sym (judged is ∙ ap answer_of same)) (holds is same)
+          subst (λ r. OnOk r P) (sym (judged is ∙ ap result_of same)) (holds is same)
       by-cases false (Some error) is same =
-          subst (λ r. OnOk r P) (sym (judged is ∙ ap answer_of same)) tt
+          subst (λ r. OnOk r P) (sym (judged is ∙ ap result_of same)) tt
 
   pub end-error : (error : DecodeError) → result ≡ Err (Decode error)
       → (failed ≡ false) × (fault ≡ Some error)
@@ -231,18 +232,18 @@ module _ (failed : Bool) (result : Result (Unit {0}) StreamFault) (fault : Optio
           → (failed ≡ false) × (fault ≡ Some error)
       by-cases true f is same =
           let no = sym told ∙ write is in cc
-      by-cases false None is same = let no = sym told ∙ judged is ∙ ap answer_of same in cc
+      by-cases false None is same = let no = sym told ∙ judged is ∙ ap result_of same in cc
       by-cases false (Some other) is same =
-          let here = sym told ∙ judged is ∙ ap answer_of same in (is, cc)
+          let here = sym told ∙ judged is ∙ ap result_of same in (is, cc)
 
   pub end-write : result ≡ Err Write → IsTrue failed
   end-write told = by-cases failed fault refl refl
     where
       by-cases : (b : Bool) (f : Option DecodeError) → failed ≡ b → fault ≡ f → IsTrue failed
       by-cases true f is same = is
-      by-cases false None is same = let no = sym told ∙ judged is ∙ ap answer_of same in cc
+      by-cases false None is same = let no = sym told ∙ judged is ∙ ap result_of same in cc
       by-cases false (Some other) is same =
-          let no = sym told ∙ judged is ∙ ap answer_of same in cc
+          let no = sym told ∙ judged is ∙ ap result_of same in cc
 
   pub end-other : (result ≡ Err Read → ⊥) × (result ≡ Err TooLong → ⊥)
   end-other = by-cases failed fault refl refl
@@ -252,6 +253,6 @@ module _ (failed : Bool) (result : Result (Unit {0}) StreamFault) (fault : Optio
       by-cases true f is same =
           let here = write is in (λ told. cc, λ told. cc)
       by-cases false None is same =
-          let here = judged is ∙ ap answer_of same in (λ told. cc, λ told. cc)
+          let here = judged is ∙ ap result_of same in (λ told. cc, λ told. cc)
       by-cases false (Some other) is same =
-          let here = judged is ∙ ap answer_of same in (λ told. cc, λ told. cc)
+          let here = judged is ∙ ap result_of same in (λ told. cc, λ told. cc)

@@ -1,4 +1,4 @@
--- A text that comes in pieces, and what is appended of it.
+-- A text that comes in pieces, and what is appended for it.
 use Rattle.std.proofs.Common.{◌≡◌, ℕ, ◌+◌, ◌≤◌, List, [], ◌++◌, length, take, drop, ◌-◌, refl, sym, ap, ◌∙◌, subst, arith, append-nil, append_assoc, length-append, length-take-le, length-take}
 use Rattle.std.proofs.lemmas.List.{length-drop, take-append-drop, take-take, take_rest, drop-take}
 use Rattle.data_encoding.specs.Base.{Base}
@@ -12,7 +12,7 @@ use Rattle.encoding_stream.specs.Reading.{AppendsPiece, ReadsOn}
 use Rattle.encoding_stream.proofs.ReadPieceLemmas.{most-short, reads-join, reads-nothing}
 use Rattle.encoding_stream.proofs.SizeLemmas.{symbols-few}
 
--- room for the rest of a piece is room for a part and what is left then
+-- room for the rest of a piece is room for a slice of it and for what is then left
 pub room-left : (base : Base) (a b : Kept) (piece : List ℕ) (read end written : ℕ) → read ≤ end
     → end ≤ length piece
     → ((more : ℕ) → written + most_completed base b more
@@ -29,7 +29,7 @@ room-left base a b piece read end written within inside few =
     subst (λ n. written + most_completed base b (length piece - end) ≤ most_completed base a n)
     left (few (length piece - end))
 
--- room for a part of a piece behind what is held
+-- room for a slice of a piece after what is held
 pub room-part : (pieces : BufferDecoder) (piece : List ℕ) (read end most room : ℕ)
     → end ≤ read + most → most + 8 ≤ room
     → most_completed (base_of_pieces pieces) pieces.kept
@@ -47,7 +47,7 @@ room-part pieces piece read end most room part fits =
       fits,
     )
 
--- a part of a piece behind the front before it
+-- a slice of a piece after the prefix before it
 front-next : (piece : List ℕ) (read end : ℕ) → read ≤ end
     → take read piece ++ take (end - read) (drop read piece) ≡ take end piece
 front-next piece read end within =
@@ -66,7 +66,7 @@ front-rest piece read =
     ap (λ l. take read piece ++ l) (take_rest piece read) ∙ take-append-drop read piece
 
 module _ (base : Base) where
-  -- nothing was decoded so far of a piece, of which more is read
+  -- a piece of which nothing was decoded so far, and more is read
   pub reads-further : (a b c : Kept) (piece : List ℕ) (read end written : ℕ) (x y : List ℕ)
       → read ≤ end → written ≡ 0 → ReadsOn base a b (take read piece) (take written x)
       → ReadsOn base b c (take (end - read) (drop read piece)) y
@@ -105,7 +105,7 @@ module _ (base : Base) where
         ∙ append_assoc x one.bytes other.bytes;
   }
 
-  -- a part of a piece is read behind the front before it
+  -- a slice of a piece is read after the prefix before it
   pub appends-next : (a b c : Kept) (piece : List ℕ) (read end : ℕ) (x y z : List ℕ)
       → read ≤ end → AppendsPiece base a b (take read piece) x y
       → AppendsPiece base b c (take (end - read) (drop read piece)) y z
@@ -123,7 +123,7 @@ module _ (base : Base) where
       subst (λ p. AppendsPiece base a c p x z) (front-rest piece read)
       (appends-join a b c _ _ x y z one other)
 
-  -- what is appended of a piece, seen from a text
+  -- what is appended for a piece, seen from a text
   pub piece-appended : (a b : Kept) (piece x y text : List ℕ) → AppendsPiece base a b piece x y
       → Keeps base a text
       → AppendsDecoded (whole_bytes base text) (whole_bytes base (text ++ piece)) x y
@@ -133,7 +133,7 @@ module _ (base : Base) where
     appended = appends.appended;
   }
 
-  -- where a piece adds no byte, its front adds none
+  -- if a piece adds no byte, its prefix adds none
   pub front-adds-none : IsSpecified base → KeepsBytes → (text front rest bytes : List ℕ)
       → whole_bytes base (text ++ front) ≡ whole_bytes base text ++ bytes
       → whole_bytes base (text ++ (front ++ rest)) ≡ whole_bytes base text
@@ -151,7 +151,7 @@ module _ (base : Base) where
         length-append (whole_bytes base text) bytes,
       )
 
--- what is appended follows what stood before
+-- what is appended follows what was there before
 pub appended-behind : (before : List ℕ) {old new x y : List ℕ} → x ≡ before ++ old
     → AppendsDecoded old new x y → y ≡ before ++ new
 appended-behind before {old} is appends =

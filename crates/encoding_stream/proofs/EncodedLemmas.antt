@@ -32,7 +32,7 @@ module _ (base : Base) (specified : IsSpecified base) (join : JoinEncode) where
     whole = none-whole (alignment base);
   }
 
-  -- a beginning of the text of what was left follows that of whole blocks
+  -- a prefix of the text of the rest follows that of whole blocks
   front-of_all : (r s v w x : Option (List ℕ)) (bytes : List ℕ) → Consumes r s bytes
       → length bytes % alignment base ≡ 0 → Appends v w (text_of base bytes)
       → IfSome s (λ others. AppendsFront w x (text_of base others))
@@ -44,7 +44,7 @@ module _ (base : Base) (specified : IsSpecified base) (join : JoinEncode) where
       (subst (AppendsFront v x) (sym (join base specified bytes others whole))
       (AppendsFront-more v w x (text_of base bytes) (text_of base others) written rest))
 
-  -- a beginning of the text of whole blocks, or of all that was left
+  -- a prefix of the text of whole blocks, or of all that was left
   pub front-of_rest : (s t w x : Option (List ℕ)) (more : List ℕ) → Consumes s t more
       → IsAtEnd t ⊎ (length more % alignment base ≡ 0) → AppendsFront w x (text_of base more)
       → IfSome s (λ others. AppendsFront w x (text_of base others))
@@ -67,7 +67,7 @@ module _ (base : Base) (specified : IsSpecified base) (join : JoinEncode) where
     length-joined =
         length-append so_far.bytes more ∙ ap (λ k. k + length more) so_far.counted
 
-    -- whole blocks more
+    -- more whole blocks
     pub encoded-more : (x : Option (List ℕ)) → length more % alignment base ≡ 0
         → Appends w x (text_of base more) → Encoded base r t v x (n + length more)
     encoded-more x whole written = record {
@@ -90,7 +90,7 @@ module _ (base : Base) (specified : IsSpecified base) (join : JoinEncode) where
       written = subst (Appends v x) joined (Appends-trans v w x _ _ so_far.written written);
     }
 
-    -- some bytes more, and a beginning of their text and of that of all the others
+    -- some more bytes, and a prefix of their text and of that of all the others
     pub encoded-front : (x : Option (List ℕ)) → AppendsFront w x (text_of base more)
         → IfSome s (λ others. AppendsFront w x (text_of base others))
         → EncodesFront base r t v x
@@ -111,20 +111,20 @@ module _ (base : Base) (specified : IsSpecified base) (join : JoinEncode) where
       more = omega (arith, length-joined, past);
     }
 
--- nothing is a beginning of any text
+-- nothing is a prefix of any text
 pub front-nothing : (base : Base) (s w : Option (List ℕ))
     → IfSome s (λ others. AppendsFront w w (text_of base others))
 front-nothing base None w = tt
 front-nothing base (Some others) w = AppendsFront-nothing w (text_of base others)
 
--- what all that a reader had is, where that is known
+-- what all that a reader has is, if that is known
 pub all-known : (base : Base) (r t v x : Option (List ℕ)) → EncodesAll base r t v x
     → IfSome r (λ bytes. Appends v x (text_of base bytes))
 all-known base r t v x all =
     Consumes-whole r t all.bytes (λ bytes. Appends v x (text_of base bytes)) all.read all.at_end
     all.written
 
--- all is a beginning
+-- all is a prefix
 pub all-front : (base : Base) (r t v x : Option (List ℕ)) → EncodesAll base r t v x
     → EncodesFront base r t v x
 all-front base r t v x all =

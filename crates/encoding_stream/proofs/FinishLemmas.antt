@@ -12,13 +12,13 @@ use Rattle.encoding_stream.specs.declared.pieces.Kept.{Kept}
 use Rattle.encoding_stream.specs.Pieces.{at_positions, held, verdict_of, Keeps, NoneIgnored}
 use Rattle.encoding_stream.proofs.PieceLemmas.{positions-length, unfinished-kept}
 
--- what is held is judged as a group, where it is not nothing
+-- the bytes held are judged as a group, if there are any
 held_fault-some : (ended : Bool) (base : Base) (held : List Positioned) → 0 < length held
     → held_fault ended base held ≡ fault_after ended base held
 held_fault-some ended base [] h = absurd (omega (arith, h))
 held_fault-some ended base (k ∷ ks) h = refl
 
--- A last group that is held, behind groups without a fault.
+-- A last group that is held, after groups without a fault.
 module _ (base : Base) (fault : Option DecodeError) (positions bytes : List ℕ) (count : ℕ)
     (ended : Bool) (none : fault ≡ None) where
   abbrev group : List Positioned
@@ -43,7 +43,7 @@ module _ (base : Base) (fault : Option DecodeError) (positions bytes : List ℕ)
         (subst (λ n. 0 < n) (sym (positions-length count positions bytes h k)) some)
         ∙ is
 
--- What is told of the whole text.
+-- The fault of the whole text.
 module _ (base : Base) (is : IsSpecified base) (text : List ℕ) (len : ℕ)
     (fault : Option DecodeError) (held : List Positioned) (ended : Bool)
     (read : HasRead base text len fault held ended) where
@@ -58,7 +58,7 @@ module _ (base : Base) (is : IsSpecified base) (text : List ℕ) (len : ℕ)
         no-fault None m n h = refl
         no-fault (Some e) m n h = absurd (cc h)
 
-  -- a fault of the length is told before that of a group
+  -- a fault of the length is reported before that of a group
   pub verdict-length : TellsFault → (error : DecodeError) → decoded_len base len ≡ Err error
       → Err error ≡ verdict_of (fault_of base text)
   verdict-length tells error due =
@@ -70,7 +70,7 @@ module _ (base : Base) (is : IsSpecified base) (text : List ℕ) (len : ℕ)
         has-fault None m h = absurd (cc h)
         has-fault (Some e) m h = cc h
 
--- The bytes of the whole text, with those of a last group where it has no fault.
+-- The bytes of the whole text, with those of a last group if it has no fault.
 pub bytes-judged : (base : Base) → IsSpecified base → TellsBytes → (k : Kept)
     (judged : Result ℕ DecodeError) (output : List ℕ) (written : ℕ)
     → IfOk judged (λ count. (text : List ℕ) → Keeps base k text

@@ -14,7 +14,7 @@ use Rattle.encoding_stream.specs.Pieces.{at_positions, NoneIgnored}
 use Rattle.encoding_stream.proofs.SizeLemmas.{by_width, due-most}
 use Rattle.encoding_stream.proofs.PieceLemmas.{positions-at, positions-bytes, positions-length}
 
--- As many bytes as a part of a group may mean are no more than those of a group.
+-- The bytes that fewer symbols than a group may mean are no more than those of a group.
 
 most-parts : (width : ℕ) → IsWidth width → (n : ℕ) → n ≤ group_symbols width
     → (n / group_symbols width * group_bytes width ≤ group_bytes width)
@@ -39,7 +39,7 @@ due-few base width n due few is =
     (sym (due-most base n due is))
     (either-few (is_padded base) _ _ _ parts.0 parts.1)
 
--- What a length, and a decoding that stopped, tell of the fault of a text.
+-- What follows about the fault of a text from a length, and from a decoding that stopped.
 
 refused-fault : (o : Option DecodeError) (m : ℕ) (error : DecodeError)
     → unless_fault o m ≡ Err error → o ≡ Some error

@@ -81,7 +81,7 @@ either-kind : (base : Base) (o other : Option DecodeError)
 either-kind base None other h k = k
 either-kind base (Some error) other h k = h
 
--- where a group is final, texts are padded
+-- if a group is final, texts are padded
 padded-by : (padding : Option ℕ) (joins some : Bool) → (padding ≡ None → joins ≡ true)
     → (not joins && some) ≡ true → is_some padding ≡ true
 padded-by (Some byte) joins some law final = refl

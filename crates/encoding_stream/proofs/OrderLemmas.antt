@@ -1,4 +1,4 @@
--- Positions in a text: they ascend, and faults are at them.
+-- Positions in a text: they ascend, and faults have one of them.
 use Rattle.std.proofs.Common.{◌≡◌, ℕ, zero, suc, ◌+◌, ◌<◌, ◌≤◌, Bool, true, false, cond, not, List, [], ◌∷◌, length, map, take, drop, All, Option, None, Some, IfSome, slice_index, get_or, set, refl, sym, subst, ◌∙◌, arith, length-take-le}
 use Rattle.std.proofs.lemmas.List.{take_more_set}
 use Rattle.std.proofs.lemmas.List.Elements.{All-cons, All-drop, All-filter, All-head, All-nil, All-push, All-same, All-tail, All-take, All-weaker, Contains-get_or}
@@ -127,7 +127,7 @@ first-inside base width (byte ∷ text) =
     (IsBelow (length all)) (positioned_from 0 all)
     (positioned-below 0 (length all) all (omega arith))))
 
--- The positions of the bytes that are held.
+-- The positions of the bytes held.
 
 take-at : (n i : ℕ) (ps : List ℕ) → i < n → n ≤ length ps
     → get_or (take n ps) i 0 ≡ get_or ps i 0

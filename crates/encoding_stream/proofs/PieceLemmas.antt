@@ -1,4 +1,4 @@
--- The bytes that are held of a text, and how one more is read.
+-- The bytes held of a text, and how one more is read.
 use Rattle.std.proofs.Common.{◌≡◌, ℕ, zero, suc, ◌+◌, ◌<◌, ◌≤◌, Bool, true, false, not, cond, ◌&&◌, ◌||◌, List, [], ◌∷◌, ◌++◌, length, map, take, Option, None, Some, is_some, slice_index, set, refl, sym, ap, ◌∙◌, subst, arith, length-append, length-take-le}
 use Rattle.std.specs.List.{list_any}
 use Rattle.std.proofs.lemmas.List.{append-nil, take_more_set}
@@ -18,7 +18,7 @@ use Rattle.encoding_stream.specs.Reading.{ReadsOn}
 use Rattle.encoding_stream.proofs.ReadPieceLemmas.{fills-few, fills-none}
 use Rattle.encoding_stream.proofs.SizeLemmas.{symbols-few}
 
--- the laws hold of the encoding of a decoder
+-- the laws apply to the encoding of a decoder
 pub is-specified : (pieces : BufferDecoder) → IsSpecified (base_of_pieces pieces)
 is-specified pieces = record {
   fields = fields_of (base_of_pieces pieces);
@@ -70,7 +70,7 @@ positions-at (suc n) (p ∷ ps) (b ∷ bs) zero inside h k = refl
 positions-at (suc n) (p ∷ ps) (b ∷ bs) (suc i) inside h k =
     positions-at n ps bs i (omega (arith, inside)) (omega (arith, h)) (omega (arith, k))
 
--- Where texts may not be concatenated, a group is final that has padding.
+-- If texts may not be concatenated, a group with padding is final.
 pub any-final : (base : Base) (n : ℕ) (ps bs : List ℕ) → n ≤ length ps → n ≤ length bs
     → base.concatenates ≡ false
     → list_any (λ b. is_padding (meaning base b)) (take n bs)
@@ -85,7 +85,7 @@ any-final base n ps bs h k alone =
       any [] = refl
       any (b ∷ bytes) = ap (λ found. is_padding (meaning base b) || found) (any bytes)
 
--- None of what is held is ignored.
+-- None of the bytes held is ignored.
 module _ (base : Base) where
   passes : (b : Bool) → not b ≡ true → b ≡ false
   passes true h = cc
@@ -102,7 +102,7 @@ pub no-fault : (fault : Option DecodeError) → is_some fault ≡ false → faul
 no-fault None h = refl
 no-fault (Some error) h = absurd (cc h)
 
--- What a `BufferDecoder` says of what it keeps, and of its encoding.
+-- What a `BufferDecoder` guarantees about what it keeps, and about its encoding.
 pub record IsKept (base : Base) (kept : Kept) : Type 0 where
   pub specified : IsSpecified base
   pub width : IsWidth base.width
@@ -110,7 +110,7 @@ pub record IsKept (base : Base) (kept : Kept) : Type 0 where
   pub positions : length kept.positions ≡ 8
   pub bytes : length kept.bytes ≡ 8
 
--- with a byte at its position behind those that are held, which are not counted anew
+-- with a byte and its position after those that are held, which are not counted again
 abbrev with_byte : Kept → ℕ → Kept
 with_byte kept byte = record kept {
   len = kept.len + 1;
@@ -118,7 +118,7 @@ with_byte kept byte = record kept {
   bytes = set kept.bytes kept.count byte;
 }
 
--- `BufferDecoder::take`, where no group before has a fault.
+-- `BufferDecoder::take`, if no group before has a fault.
 module _ (base : Base) (kept : Kept) (is : IsKept base kept) (byte : ℕ)
     (sound : is_some kept.fault ≡ false) where
   abbrev next : Positioned
@@ -142,7 +142,7 @@ module _ (base : Base) (kept : Kept) (is : IsKept base kept) (byte : ℕ)
       subst (λ f. HasRead base text (kept.len + 1) f other ended) (sym clean)
       (subst (λ ks. HasRead base text (kept.len + 1) None ks ended) same read)
 
-  -- what holds of each text with no fault so far holds of each of which this is kept
+  -- what holds for each text with no fault so far holds for each of which this is kept
   reads-byte : (new : Kept) (bytes : List ℕ)
       → ((text : List ℕ) → HasRead base text kept.len None (held kept) kept.ended
       → Keeps base new (text ++ byte ∷ [])
@@ -223,7 +223,7 @@ module _ (base : Base) (kept : Kept) (is : IsKept base kept) (byte : ℕ)
         (All-cons (λ (q : Positioned). is_ignored (meaning base q.byte) ≡ false) next [] is_kept
         (All-nil _)))
 
-    -- or makes a group whole, which is judged
+    -- or completes a group, which is judged
     pub take-sound : ReadsGroup → count ≡ group_symbols base.width → (bytes : List ℕ)
         → JudgesSound base (with_byte kept byte) count bytes
         → length bytes ≤ group_bytes base.width → (final : Bool) → final ≡ is_final base group

@@ -4,7 +4,7 @@ use Rattle.std.proofs.lemmas.List.{take-append-le, length-take-le}
 use Rattle.std.proofs.Math.Seq.{take-append-add}
 use borrow.Rule.Slice.PartMut.{put_mid, post_of}
 
--- after a read into the part of a buffer from i on: what stood before, and what was read
+-- after a read into a buffer from index i on: what was there before, and what was read
 pub take-read : (i n : ℕ) (buffer part : List ℕ) → i ≤ length buffer → n ≤ length part
     → take (i + n) (put_mid i (length buffer - i) buffer part) ≡ take i buffer ++ take n part
 take-read i n buffer part inside few =

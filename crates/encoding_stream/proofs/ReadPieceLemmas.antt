@@ -1,4 +1,4 @@
--- Lemmas on a piece of a text that is read part after part.
+-- Lemmas on a piece of a text that is read slice by slice.
 use Rattle.std.proofs.Common.{Bool, true, false, if◌then◌else◌, ◌/◌, zero-add, Option, None, Some, is_some, ◌≡◌, ℕ, ◌+◌, ◌-◌, ◌*◌, ◌<◌, ◌≤◌, List, [], ◌∷◌, ◌++◌, length, get_or, take, drop, refl, sym, subst, ap, ◌∙◌, append_assoc, arith, length-append, length-take-le}
 use Rattle.std.proofs.lemmas.List.{append-nil, length-drop, take-append-drop, take-append-le, take_more, take_rest}
 use borrow.Rule.Slice.PartMut.{put_mid}
@@ -77,7 +77,7 @@ module _ (base : Base) (width : IsWidth base.width) where
       (unless-fits (is_some after) written (bytes_due base (new + more))
       (bytes_due base (old + (len + more))) fits)
 
-  -- the byte that makes a group whole completes those of one group
+  -- the byte that completes a group completes the bytes of one group
   pub most-whole : (kept : Kept) → is_some kept.fault ≡ false
       → kept.count + 1 ≡ group_symbols base.width
       → most_completed base kept 1 ≡ group_bytes base.width
@@ -88,7 +88,7 @@ module _ (base : Base) (width : IsWidth base.width) where
       ap (λ (f : Bool). if f then 0 else bytes_due base (kept.count + 1)) sound
       ∙ ap (λ n. n * group_bytes base.width) one ∙ omega arith
 
--- where no group is completed
+-- if no group is completed
 pub fills-none : (base : Base) (old len new : ℕ) → new ≤ old + len
     → FillsGroups base old len new 0
 fills-none base old len new few = record {
@@ -130,7 +130,7 @@ reads-join base a b c one other bytes more first second = record {
       all (omega (arith, before, after, length-append bytes more));
 }
 
--- the length of what is left of a list
+-- the length of the rest of a list
 length-left : (i : ℕ) (xs : List ℕ) → length (take (length xs - i) (drop i xs)) ≡ length xs - i
 length-left i xs = ap length (take_rest xs i) ∙ length-drop i xs
 
@@ -143,7 +143,7 @@ fault-keeps base is law None some text piece len held ended reads = absurd (cc)
 fault-keeps base is law (Some error) some text piece len held ended reads =
     law base is text piece len error held held ended ended reads
 
--- after a fault the length alone changes
+-- after a fault only the length changes
 pub reads-fault : (base : Base) → IsWidth base.width → IsSpecified base → KeepsFault
     → (old : Kept) → is_some old.fault ≡ true → (piece : List ℕ)
     → ReadsOn base old (record old { len = old.len + length piece }) piece []
@@ -158,7 +158,7 @@ reads-fault base width is law old some piece =
           omega (arith, most-grows base width old more (length piece + more) (omega arith));
     }
 
--- what follows is written behind what was
+-- what follows is written after what was written
 length-written : (written : ℕ) (output part : List ℕ) → written ≤ length output
     → length part ≡ length (take (length output - written) (drop written output))
     → length (put_mid written (length output - written) output part) ≡ length output
@@ -187,7 +187,7 @@ take-written written more output part fits few =
     ∙ take-append-add (take written output) (part ++ post) more
     ∙ ap (λ bs. take written output ++ bs) (take-append-le more part post few)
 
--- So much of a piece was read on, and what it decodes to is the front of an output.
+-- This much of a piece was read, and the output starts with what it decodes to.
 pub record ReadsFront (base : Base) (old now : Kept) (piece output : List ℕ) (read written : ℕ)
     : Type 0 where
   pub reads : ReadsOn base old now (take read piece) (take written output)
@@ -201,7 +201,7 @@ reads-front reads begins fits = record { reads = reads; begins = begins; fits = 
 
 module _ {base : Base} {old now : Kept} {piece output : List ℕ} {read written : ℕ}
     (front : ReadsFront base old now piece output read written) where
-  -- the output has room for what is left of the piece
+  -- the output has room for the rest of the piece
   pub rest-room : most_completed base old (length piece) ≤ length output
       → most_completed base now (length (take (length piece - read) (drop read piece)))
       ≤ length (take (length output - written) (drop written output))
@@ -233,7 +233,7 @@ module _ {base : Base} {old now : Kept} {piece output : List ℕ} {read written 
       (take-append-drop read piece)
       (reads-join base old now new _ _ _ _ front.reads (rw (take_rest piece read) at rest)))
 
-  -- what follows is written behind what was
+  -- what follows is written after what was written
   module _ (part : List ℕ) {more : ℕ}
       (same : length part ≡ length (take (length output - written) (drop written output)))
       (few : more ≤ length part) where
@@ -258,7 +258,7 @@ module _ {base : Base} {old now : Kept} {piece output : List ℕ} {read written 
       fits = within-both;
     }
 
-    -- a part
+    -- a slice
     pub reads-part : {new : Kept} (count : ℕ)
         → count ≤ length (take (length piece - read) (drop read piece))
         → ReadsOn base now new (take count (take (length piece - read) (drop read piece)))

@@ -1,4 +1,4 @@
--- Lemmas on whole groups that are decoded where they lie.
+-- Lemmas on whole groups that are decoded in place.
 use Rattle.std.proofs.Common.{◌≡◌, inr, ℕ, ◌+◌, ◌*◌, ◌/◌, ◌%◌, ◌<◌, ◌≤◌, ◌==◌, Bool, true, false, not, ◌&&◌, if◌then◌else◌, List, [], Option, None, Some, Ok, is_some, length, refl, sym, subst, ap, ◌∙◌, arith, IsOkAnd}
 use Rattle.std.proofs.Math.Nat.{div-mul-le_self, le-div_iff_mul-le, le_of_mul-le-mul_left, mul-le-mul_left, mul-le-mul_right}
 use Rattle.data_encoding.specs.declared.error.DecodeError.{DecodeError}
@@ -54,7 +54,7 @@ run-sound base is law piece bytes means whole text len reads =
     let next = law base is text piece bytes len reads means whole.whole in
     (rw whole.not_final at next.0, next.1)
 
--- no group is final where the bytes are whole groups
+-- no group is final if the bytes are whole groups
 not-both : (a b : Bool) → b ≡ true → (a && not b) ≡ false
 not-both true b is = ap not is
 not-both false b is = refl

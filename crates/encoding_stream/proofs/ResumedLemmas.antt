@@ -52,7 +52,7 @@ unfinished-few base width text =
       omega (arith, left, kept-few base text),
     )
 
--- So many bytes are held only where the text has them, and they are less than a group.
+-- This many bytes are held only if the text has them, and they are less than a group.
 pub held-few : (base : Base) → IsWidth base.width → (text : List ℕ) (len count : ℕ)
     (fault : Option DecodeError) (positions bytes : List ℕ) (ended : Bool)
     → length positions ≡ 8 → length bytes ≡ 8
@@ -86,7 +86,7 @@ not-true : (b : Bool) → (b ≡ true → ⊥) → b ≡ false
 not-true true h = absurd (h refl)
 not-true false h = refl
 
--- This is kept of a text by a decoder of an encoding, which the laws hold of.
+-- This is kept of a text by a decoder of an encoding to which the laws apply.
 record WasKept (base : Base) (text : List ℕ) (kept : Kept) : Type 0 where
   pub specified : IsSpecified base
   pub width : IsWidth base.width
@@ -101,7 +101,7 @@ none-held : {base : Base} {text : List ℕ} {kept : Kept} {error : DecodeError}
     → WasKept base text kept → kept.fault ≡ Some error → kept.count ≡ 0
 none-held was some = was.clear (subst IsSome (sym some) refl)
 
--- What is kept of a text passes the tests of what a caller gives back.
+-- What is kept of a text passes the tests of what a caller passes back.
 module _ {base : Base} {text : List ℕ} {kept : Kept} (was : WasKept base text kept) where
   in-order : (fault : Option DecodeError) → kept.fault ≡ fault
       → Ascend 0 kept.len (take kept.count kept.positions)

@@ -5,7 +5,7 @@ use Rattle.data_encoding.specs.declared.error.DecodeError.{DecodeError}
 use Rattle.data_encoding.specs.Base.{Base, IsWidth, group_bytes, group_symbols}
 use Rattle.data_encoding.specs.Lengths.{decoded_len, length_fault, most_bytes, unless_fault}
 
--- what holds of each of the six widths
+-- what holds for each of the six widths
 pub by_width : (P : ℕ → Type 0) → P 1 → P 2 → P 3 → P 4 → P 5 → P 6
     → (width : ℕ) → IsWidth width → P width
 by_width P a b c d e f zero h = absurd (omega (arith, h.some))
@@ -46,7 +46,7 @@ some-by false false = omega arith
 pub bytes-some : (width : ℕ) → 0 < group_bytes width
 bytes-some width = some-by (width == 5) (width % 3 == 0)
 
--- so many bytes of text complete groups of no more bytes
+-- this many bytes of text complete groups of no more bytes
 pub most-few : (width : ℕ) → IsWidth width → (count : ℕ)
     → count / group_symbols width * group_bytes width ≤ count
 most-few width is count =
@@ -60,7 +60,7 @@ due-unless : (fault : Option DecodeError) (most bytes : ℕ) → unless_fault fa
 due-unless None most bytes is = cc
 due-unless (Some error) most bytes is = absurd (cc is)
 
--- what is due for a length that is no fault
+-- what is due for a length that is not a fault
 pub due-most : (base : Base) (len due : ℕ) → decoded_len base len ≡ Ok due
     → due ≡ most_bytes base len
 due-most base len due is = due-unless (length_fault base len) (most_bytes base len) due is

@@ -1,4 +1,4 @@
--- Worked rows of what streams and decoders have done.
+-- Worked rows for what streams and decoders have done.
 use Rattle.std.proofs.Common.{◌∙◌, ◌≡◌, ℕ, ◌+◌, ◌≤◌, zero-add, true, false, List, [], ◌∷◌, ◌++◌, map, codes, replicate, Some, None, Result, Ok, Err, refl, zero, suc, sym, ap, subst, lit<, lit≤, arith}
 use Rattle.std.proofs.lemmas.Fmt.{decimal_digit}
 use Rattle.data_encoding.specs.declared.error.DecodeError.{DecodeError}
@@ -10,7 +10,7 @@ use Rattle.data_encoding.specs.Grammar.{positioned_from}
 use Rattle.data_encoding.specs.Predefined.{base64_fields, base64_mime_fields, base64_mime_permissive_fields, base64_nopad_fields}
 use Rattle.data_encoding.specs.Pieces.{whole_bytes}
 use Rattle.std.proofs.lemmas.List.{append-nil}
-use Rattle.encoding_stream.specs.Decoded.{JudgesText, DecodesAll, DecodesFront, DecodesJudged, answer_of}
+use Rattle.encoding_stream.specs.Decoded.{JudgesText, DecodesAll, DecodesFront, DecodesJudged, result_of}
 use Rattle.encoding_stream.specs.Judged.{fault_with_held, next_group, EndsFaulty, EndsSound, JudgesFaulty, JudgesSound}
 use Rattle.encoding_stream.specs.Reading.{whole_len, AppendsPiece, AreWholeGroups, CompletesNothing, HasNoLastBytes, ReadsAllGroups, ReadsOn}
 use Rattle.encoding_stream.specs.Pieces.{base_of_pieces, paired, at_positions, held, NoneIgnored, Keeps, FillsGroups, GoesOn, bytes_due, kept_by, most_completed, verdict_of}
@@ -106,11 +106,11 @@ decoded_front = record {
 }
 
 answers :
-    (answer_of None ≡ Ok _) × (answer_of (Some symbol_at_4) ≡ Err (Decode symbol_at_4))
+    (result_of None ≡ Ok _) × (result_of (Some symbol_at_4) ≡ Err (Decode symbol_at_4))
     × (verdict_of None ≡ Ok _) × (verdict_of (Some symbol_at_4) ≡ Err symbol_at_4)
 answers = (refl, refl, refl, refl)
 
--- a beginning was written; a write that takes nothing of one byte was refused
+-- a prefix was written; a write that takes none of one byte was refused
 written_in_part :
     AppendsFront (Some (codes "> ")) (Some (codes "> SG")) (codes "SGVs")
     × (is_refused {E = Refusal} (Ok 0) (codes "S") ≡ true)
@@ -152,11 +152,11 @@ none_ignored zero k h = refl
 none_ignored (suc zero) k h = refl
 none_ignored (suc (suc index)) k h = absurd (omega (arith, h))
 
--- four bytes behind two that are held fill a group, and two are held
+-- four bytes after two that are held fill a group, and two are held
 groups_filled : Has base64_fields (λ base. FillsGroups base 2 4 2 3)
 groups_filled = record { groups = 1; symbols = lit≤ tt; bytes = lit≤ tt }
 
--- whole groups alone, also with a line end that is ignored
+-- whole groups only, also with a line end that is ignored
 whole_groups_alone :
     Has base64_fields (λ base. AreWholeGroups base (codes "SGVsbG8="))
     × Has base64_mime_fields (λ base. AreWholeGroups base (codes "SGVs" ++ 13 ∷ 10 ∷ []))
@@ -165,13 +165,13 @@ whole_groups_alone = (
   record { whole = refl; not_final = refl },
 )
 
--- `8` completes no group behind `SGVsbG`, and there is no last one behind `SGVs`
+-- `8` completes no group after `SGVsbG`, and there is no last one after `SGVs`
 nothing_completed :
     Has base64_fields (λ base. CompletesNothing base (codes "SGVsbG") (codes "8")
     × HasNoLastBytes base (codes "SGVs"))
 nothing_completed = (refl, refl)
 
--- the nine bytes begin with two whole groups
+-- the nine bytes start with two whole groups
 all_groups_read : Has base64_fields (λ base. (whole_len base 9 ≡ 8)
     × ReadsAllGroups base (codes "SGVsbG8=S") 8)
 all_groups_read = (refl, λ _ bytes means. refl)
@@ -193,7 +193,7 @@ groups_judged :
     × (next_group (kept_group (codes "bG8=")) 2 ≡ positioned_from 4 (codes "bG"))
 groups_judged = (λ _. (refl, refl), λ _. refl, refl)
 
--- of base64 without padding `bG8` is a last group, and `!G8` is none; a fault before it comes first
+-- in base64 without padding `bG8` is a last group, and `!G8` is not; a fault before it comes first
 ends_judged :
     Has base64_nopad_fields (λ base. EndsSound base (kept_group (codes "bG8")) (codes "lo"))
     × Has base64_nopad_fields (λ base. EndsFaulty base (kept_group (codes "!G8")) symbol_at_4)
@@ -218,20 +218,20 @@ base_of_decoding : (base : Base) (pieces : BufferDecoder) → pieces.encoding.no
     → base_of_pieces pieces ≡ base
 base_of_decoding base pieces is = is
 
--- ten symbols of base64 make two groups whole; behind two that are held, five more of a text may
--- complete one, and behind a fault none
+-- ten symbols of base64 complete two groups; after two that are held, five more of a text may
+-- complete one, and after a fault none
 most_bytes_completed :
     Has base64_fields (λ base. (bytes_due base 10 ≡ 6)
     × (most_completed base kept_so_far 5 ≡ 3)
     × (most_completed base (record kept_so_far { fault = Some symbol_at_4 }) 5 ≡ 0))
 most_bytes_completed = (refl, refl, refl)
 
--- a decoder that goes on from what is kept
+-- a decoder that continues from what is kept
 gone_on : (base : Base) (pieces : BufferDecoder) → pieces.encoding.now ≡ base
     → pieces.kept ≡ kept_so_far → GoesOn base kept_so_far pieces × (kept_by pieces ≡ kept_so_far)
 gone_on base pieces is kept_is = (record { base_is = is; kept_is = kept_is }, kept_is)
 
--- a piece of no bytes leaves all as it was
+-- a piece of no bytes changes nothing
 no_piece : (base : Base) → ReadsOn base kept_so_far kept_so_far [] []
     × AppendsPiece base kept_so_far kept_so_far [] (codes "> ") (codes "> ")
 no_piece base =
@@ -248,7 +248,7 @@ no_piece base =
     } in
     (reads, record { bytes = []; reads = reads; appended = refl })
 
--- behind `SGVsbG`, of which `Hel` is decoded, `8=` appends `lo` to an output that was drained
+-- after `SGVsbG`, of which `Hel` is decoded, `8=` appends `lo` to an output that was drained
 appended_more :
     Has base64_fields (λ base.
     AppendsDecoded (whole_bytes base (codes "SGVsbG")) (whole_bytes base (codes "SGVsbG8="))
@@ -294,8 +294,8 @@ none_held_ignored :
 none_held_ignored =
     (refl, refl, (no_line_end, λ none. never (none 1 0 (lit< tt))))
 
--- whole groups have no fault of a length, one of padding only where there is padding, and one of
--- trailing bits only where these are checked
+-- whole groups have no fault of a length, one of padding only if there is padding, and one of
+-- trailing bits only if these are checked
 kinds_of_groups :
     Has base64_fields (λ base. (is_of_group base Length ≡ false)
     × (is_of_group base Symbol ≡ true) × (is_of_group base Trailing ≡ true)
@@ -304,7 +304,7 @@ kinds_of_groups :
     × Has base64_mime_permissive_fields (λ base. is_of_group base Trailing ≡ false)
 kinds_of_groups = ((refl, refl, refl, refl), refl, refl)
 
--- a symbol at 4 of a text of 8 bytes, of which nothing is held; not where two bytes are held
+-- a symbol at 4 of a text of 8 bytes, of which nothing is held; but not if two bytes are held
 fault_possible :
     Has base64_fields (λ base.
     HasPossibleFault base (record kept_so_far { fault = Some symbol_at_4; count = 0 })
@@ -343,7 +343,7 @@ may_be_kept = (
 abbrev data_so_far : KeptData
 data_so_far = record { count = 2; bytes = codes "lo" ++ replicate 187 0 }
 
--- of five bytes in base64, three are a block, of which the text is written
+-- of five bytes in base64, three are a block, whose text is written
 blocks_of_data :
     Has base64_fields (λ base. (blocks_len base 5 ≡ 3)
     × (text_of_blocks base (codes "hello") ≡ codes "aGVs")
@@ -360,7 +360,7 @@ data_written = record {
   is_written = refl;
 }
 
--- a piece of no bytes leaves all as it was
+-- a piece of no bytes changes nothing
 no_data : (base : Base) → EncodesOn base data_so_far data_so_far [] []
 no_data base = λ bytes before has.
     subst (λ b. HasWritten base data_so_far b (before ++ [])) (sym (append-nil bytes))

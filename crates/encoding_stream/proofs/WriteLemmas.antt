@@ -1,4 +1,4 @@
--- Lemmas on what a writer holds.
+-- Lemmas on the contents of a writer.
 use Rattle.std.proofs.Common.{◌≡◌, ℕ, ◌+◌, ◌-◌, List, ◌++◌, Option, length, take, drop, min, subst, sym, ◌∙◌, arith, take_all}
 use Rattle.std.proofs.lemmas.List.{take-append-drop, take-append-le, take-take, take_min, drop-take, take_rest}
 use Rattle.std.proofs.Math.Seq.{take-append-add}
@@ -11,13 +11,13 @@ take-more i n s =
     let front : take i (take (i + n) s) ≡ take i s = take-take i (i + n) s (omega arith) in
     rw (← front, ← drop-take i n s) (take-append-drop i (take (i + n) s))
 
--- the first i bytes were written, and then n of what follows them
+-- the first i bytes were written, followed by n of what follows them
 pub Appends-more : (a b c : Option (List ℕ)) (i n : ℕ) (s : List ℕ) → Appends a b (take i s)
     → Appends b c (take n (take (length s - i) (drop i s))) → Appends a c (take (i + n) s)
 Appends-more a b c i n s begun more =
     subst (Appends a c) (take-more i n s) (Appends-trans a b c _ _ begun (rw take_rest at more))
 
--- bytes were written, and then a beginning of what follows them
+-- bytes were written, followed by a prefix of what follows them
 pub AppendsFront-more : (a b c : Option (List ℕ)) (front rest : List ℕ) → Appends a b front
     → AppendsFront b c rest → AppendsFront a c (front ++ rest)
 AppendsFront-more a b c front rest begun more = (
@@ -26,11 +26,11 @@ AppendsFront-more a b c front rest begun more = (
       (Appends-trans a b c front (take more.0 rest) begun more.1),
 )
 
--- nothing is a beginning
+-- nothing is a prefix
 pub AppendsFront-nothing : (a : Option (List ℕ)) (bytes : List ℕ) → AppendsFront a a bytes
 AppendsFront-nothing a bytes = (0, Appends-nil a)
 
--- all is a beginning
+-- all is a prefix
 pub AppendsFront-all : (a b : Option (List ℕ)) (bytes : List ℕ) → Appends a b bytes
     → AppendsFront a b bytes
 AppendsFront-all a b bytes written = (
@@ -38,7 +38,7 @@ AppendsFront-all a b bytes written = (
   subst (Appends a b) (sym (take_all (length bytes) bytes (omega arith))) written,
 )
 
--- a beginning of the front is one of the whole
+-- a prefix of a prefix is one of the whole
 pub AppendsFront-within : (a b : Option (List ℕ)) (front rest : List ℕ) → AppendsFront a b front
     → AppendsFront a b (front ++ rest)
 AppendsFront-within a b front rest begun = (

@@ -1,4 +1,4 @@
--- Data that is encoded piece by piece, into buffers.
+-- Data that is encoded piece by piece into buffers.
 use Rattle.std.specs.Prelude.{ℕ, ◌*◌, ◌/◌, List, [], ◌++◌, length, take, drop}
 use Rattle.data_encoding.specs.Base.{Base}
 use Rattle.data_encoding.specs.Fragments.{HasEncoded}
@@ -7,11 +7,11 @@ use Rattle.data_encoding.specs.Text.{text_of}
 use Rattle.encoding_stream.specs.declared.blocks.BufferEncoder.{BufferEncoder}
 use Rattle.encoding_stream.specs.declared.kept_data.KeptData.{KeptData}
 
--- the encoding
+-- the encoding of an encoder
 abbrev pub base_of_blocks : BufferEncoder → Base
 base_of_blocks encoder = encoder.encoding.now
 
--- what it keeps of its data
+-- what an encoder keeps of its data
 abbrev pub data_kept : BufferEncoder → KeptData
 data_kept encoder = encoder.kept
 
@@ -23,19 +23,20 @@ held_data kept = take kept.count kept.bytes
 abbrev pub blocks_len : Base → ℕ → ℕ
 blocks_len base len = len / alignment base * alignment base
 
--- the text of the whole blocks of data, and the bytes after them
+-- the text of the whole blocks of data
 abbrev pub text_of_blocks : Base → List ℕ → List ℕ
 text_of_blocks base bytes = text_of base (take (blocks_len base (length bytes)) bytes)
 
+-- the bytes after the whole blocks of data
 abbrev pub after_blocks : Base → List ℕ → List ℕ
 after_blocks base bytes = drop (blocks_len base (length bytes)) bytes
 
--- This is kept of the data, and the text of all but the held bytes was written.
+-- This is kept of the data, and the text of all bytes but those held was written.
 abbrev pub HasWritten : Base → KeptData → List ℕ → List ℕ → Type 0
 HasWritten base kept bytes text = HasEncoded base [] bytes text (held_data kept)
 
--- Where the first is kept of data, the second is kept of it with the piece after it, and this is
--- written after its text.
+-- If the first is kept of data, the second is kept of the data followed by the piece, and this text
+-- is written for the piece.
 abbrev pub EncodesOn : Base → KeptData → KeptData → List ℕ → List ℕ → Type 0
 EncodesOn base old new piece text =
     (bytes before : List ℕ) → HasWritten base old bytes before

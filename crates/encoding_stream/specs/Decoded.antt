@@ -11,8 +11,8 @@ use Rattle.encoding_stream.specs.declared.pieces.Kept.{Kept}
 use Rattle.encoding_stream.specs.Reading.{HasLastBytes}
 use Rattle.encoding_stream.specs.Watch.{AppendsFront}
 
--- All that a reader had was read; its bytes before the first faulty group were written, and that is
--- its fault, or it has none.
+-- The reader was read to its end, the bytes of the text before its first faulty group were written,
+-- and this is the fault of the text, if it has one.
 pub record DecodesAll (base : Base) (fault : Option DecodeError)
     (read_old read_new written_old written_new : Option (List ℕ)) : Type 0 where
   pub text : List ℕ
@@ -21,8 +21,8 @@ pub record DecodesAll (base : Base) (fault : Option DecodeError)
   pub fault_is : fault_of base text ≡ fault
   pub written : Appends written_old written_new (sound_bytes base text)
 
--- Some of a text was read, and a beginning of what it decodes to was written, which also begins
--- what all decodes to that the reader had.
+-- Some of a text was read, and a prefix of what it decodes to was written. The same bytes are a
+-- prefix of what the whole of the reader decodes to.
 pub record DecodesFront (base : Base)
     (read_old read_new written_old written_new : Option (List ℕ)) : Type 0 where
   pub text : List ℕ
@@ -31,28 +31,27 @@ pub record DecodesFront (base : Base)
   pub of_all : IfSome read_old (λ all. AppendsFront written_old written_new
       (sound_bytes base all))
 
--- what a stream answers of a text with this fault, or none
-abbrev pub answer_of : Option DecodeError → Result (Unit {0}) StreamFault
-answer_of None = Ok _
-answer_of (Some error) = Err (Decode error)
+-- what a stream returns for a text with this fault, or with none
+abbrev pub result_of : Option DecodeError → Result (Unit {0}) StreamFault
+result_of None = Ok _
+result_of (Some error) = Err (Decode error)
 
--- What was returned is Ok, or a fault of the text, only where all was read and decoded.
+-- The result is Ok, or a fault of the text, only if all was read and decoded.
 pub record DecodesJudged (base : Base) (result : Result (Unit {0}) StreamFault)
     (read_old read_new written_old written_new : Option (List ℕ)) : Type 0 where
   pub whole : OnOk result (DecodesAll base None read_old read_new written_old written_new)
   pub faulty : (error : DecodeError) → result ≡ Err (Decode error)
       → DecodesAll base (Some error) read_old read_new written_old written_new
 
--- This is returned of what a reader had, if that is known and no longer than texts may be, where
--- neither the reader nor the writer has failed.
+-- If neither the reader nor the writer has failed, this is the result for what the reader had,
+-- provided that it is known and within the limit.
 abbrev pub JudgesText :
     Base → Result (Unit {0}) StreamFault → Option (List ℕ) → Bool → Bool → Type 0
 JudgesText base result remaining read_failed write_failed =
     IfSome remaining (λ text. length text ≤ DECODE_LIMIT → read_failed ≡ false
-    → write_failed ≡ false → result ≡ answer_of (fault_of base text))
+    → write_failed ≡ false → result ≡ result_of (fault_of base text))
 
--- A beginning of these bytes was written, and all of them unless that failed: the last of each text
--- of which this is kept.
+-- A prefix of the last bytes of the text was written, and all of them unless a write failed.
 pub record EndsText (base : Base) (kept : Kept) (failed : Bool)
     (written_old written_new : Option (List ℕ)) : Type 0 where
   pub bytes : List ℕ

@@ -7,7 +7,7 @@ use Rattle.encoding_stream.specs.declared.decoder.Decoder.{Decoder}
 use Rattle.encoding_stream.specs.Appending.{AppendsDecoded}
 use Rattle.encoding_stream.specs.Pieces.{base_of_pieces, Keeps}
 
--- the encoding
+-- the encoding of a decoder
 abbrev pub base_of_decoder : Decoder → Base
 base_of_decoder decoder = base_of_pieces decoder.pieces
 
@@ -15,29 +15,30 @@ base_of_decoder decoder = base_of_pieces decoder.pieces
 abbrev pub decoder_len : Decoder → ℕ
 decoder_len decoder = decoder.pieces.kept.len
 
--- The decoder was pushed this text: it keeps its length, the first fault of its whole groups, and
--- where there is none the bytes after these with their positions, and whether one was final.
+-- The decoder was pushed this text. It keeps the length of the text, and the first fault of its
+-- whole groups or, if they have none, the bytes after them with their positions, and whether a
+-- group was final.
 abbrev pub StandsAfter : Decoder → List ℕ → Type 0
 StandsAfter decoder text = Keeps (base_of_decoder decoder) decoder.pieces.kept text
 
 -- A piece was pushed, and the bytes of the groups that are then whole were appended to an output.
 pub record AppendsPushed (decoder : Decoder) (piece output_old output_new : List ℕ) : Type 0 where
-  -- whatever the output held
+  -- for any output
   pub bytes : (text : List ℕ) → StandsAfter decoder text
       → AppendsDecoded (whole_bytes (base_of_decoder decoder) text)
       (whole_bytes (base_of_decoder decoder) (text ++ piece)) output_old output_new
-  -- and where it held those of the groups before
+  -- for an output that ends with the bytes of the groups before
   pub decoded : (before text : List ℕ) → StandsAfter decoder text
       → HasDecoded (base_of_decoder decoder) before text output_old
       → HasDecoded (base_of_decoder decoder) before (text ++ piece) output_new
 
 -- The text was ended, and the bytes of its last group were appended to an output.
 pub record AppendsFinished (decoder : Decoder) (output_old output_new : List ℕ) : Type 0 where
-  -- whatever the output held
+  -- for any output
   pub bytes : (text : List ℕ) → StandsAfter decoder text
       → AppendsDecoded (whole_bytes (base_of_decoder decoder) text)
       (sound_bytes (base_of_decoder decoder) text) output_old output_new
-  -- and where it held those of the groups before
+  -- for an output that ends with the bytes of the groups before
   pub decoded : (before text : List ℕ) → StandsAfter decoder text
       → HasDecoded (base_of_decoder decoder) before text output_old
       → output_new ≡ before ++ sound_bytes (base_of_decoder decoder) text

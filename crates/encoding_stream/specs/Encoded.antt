@@ -5,7 +5,7 @@ use Rattle.data_encoding.specs.Base.{Base}
 use Rattle.data_encoding.specs.Text.{text_of}
 use Rattle.encoding_stream.specs.Watch.{AppendsFront}
 
--- All that a reader had was read, and its text was written.
+-- The reader was read to its end, and the text of its bytes was written.
 pub record EncodesAll (base : Base) (read_old read_new written_old written_new : Option (List ℕ))
     : Type 0 where
   pub bytes : List ℕ
@@ -13,8 +13,8 @@ pub record EncodesAll (base : Base) (read_old read_new written_old written_new :
   pub at_end : IsAtEnd read_new
   pub written : Appends written_old written_new (text_of base bytes)
 
--- Some bytes were read, and a beginning of their text was written, which also begins the text of
--- all that the reader had.
+-- Some bytes were read, and a prefix of their text was written. It is also a prefix of the text of
+-- the whole of the reader.
 pub record EncodesFront (base : Base) (read_old read_new written_old written_new : Option (List ℕ))
     : Type 0 where
   pub bytes : List ℕ

@@ -7,21 +7,21 @@ use Rattle.data_encoding.specs.Pieces.{HasRead}
 use Rattle.encoding_stream.specs.declared.pieces.Kept.{Kept}
 use Rattle.encoding_stream.specs.declared.pieces.BufferDecoder.{BufferDecoder}
 
--- the encoding
+-- the encoding of a decoder by pieces
 abbrev pub base_of_pieces : BufferDecoder → Base
 base_of_pieces pieces = pieces.encoding.now
 
--- what it keeps of its text
+-- what a decoder by pieces keeps of its text
 abbrev pub kept_by : BufferDecoder → Kept
 kept_by pieces = pieces.kept
 
--- bytes at their positions
+-- bytes with their positions
 abbrev pub paired : List ℕ → List ℕ → List Positioned
 paired [] bytes = []
 paired (p ∷ ps) [] = []
 paired (p ∷ ps) (b ∷ bs) = record { position = p; byte = b } ∷ paired ps bs
 
--- as many of them as this, from the first on
+-- the first bytes with their positions, this many
 abbrev pub at_positions : ℕ → List ℕ → List ℕ → List Positioned
 at_positions count positions bytes = paired (take count positions) (take count bytes)
 
@@ -29,7 +29,7 @@ at_positions count positions bytes = paired (take count positions) (take count b
 abbrev pub held : Kept → List Positioned
 held kept = at_positions kept.count kept.positions kept.bytes
 
--- None of them is ignored.
+-- None of these bytes is ignored.
 abbrev pub NoneIgnored : Base → List Positioned → Type 0
 NoneIgnored base group = All (λ k. is_ignored (meaning base k.byte) ≡ false) group
 
@@ -37,28 +37,28 @@ NoneIgnored base group = All (λ k. is_ignored (meaning base k.byte) ≡ false) 
 abbrev pub Keeps : Base → Kept → List ℕ → Type 0
 Keeps base kept text = HasRead base text kept.len kept.fault (held kept) kept.ended
 
--- A decoder of this encoding keeps this.
+-- The decoder has this encoding and keeps this.
 pub record GoesOn (base : Base) (kept : Kept) (pieces : BufferDecoder) : Type 0 where
   pub base_is : base_of_pieces pieces ≡ base
   pub kept_is : kept_by pieces ≡ kept
 
--- the bytes of as many groups as this many symbols make whole
+-- the number of bytes in the groups that this many symbols complete
 abbrev pub bytes_due : Base → ℕ → ℕ
 bytes_due base len = len / group_symbols base.width * group_bytes base.width
 
--- the greatest number of bytes that this many more of the text may complete
+-- the greatest number of bytes that this many more bytes of the text may complete
 abbrev pub most_completed : Base → Kept → ℕ → ℕ
 most_completed base kept len =
     if is_some kept.fault then 0 else bytes_due base (kept.count + len)
 
--- The bytes of a part of a text, behind some that are held, fill groups and leave others held; the
--- groups have at most this many bytes.
+-- Bytes of a piece, after some that are held, fill groups and leave others held; no more bytes were
+-- written than the groups have.
 pub record FillsGroups (base : Base) (old len new written : ℕ) : Type 0 where
   pub groups : ℕ
   pub symbols : groups * group_symbols base.width + new ≤ old + len
   pub bytes : written ≤ groups * group_bytes base.width
 
--- the verdict on a text with this fault, or none
+-- the verdict on a text with this fault, or with none
 abbrev pub verdict_of : Option DecodeError → Result (Unit {0}) DecodeError
 verdict_of None = Ok _
 verdict_of (Some error) = Err error

@@ -4,6 +4,7 @@ use Rattle.data_encoding.specs.Printed.{printed_error}
 use Rattle.encoding_stream.specs.declared.error.StreamFault.{StreamFault}
 use Rattle.encoding_stream.specs.declared.error.StreamFault.TheVariants.{Read, Write, Decode, TooLong}
 
+-- what the fault of a stream prints
 abbrev pub printed_stream_fault : StreamFault → List ℕ
 printed_stream_fault Read = codes "read failed"
 printed_stream_fault Write = codes "write failed"

@@ -1,4 +1,4 @@
--- How a decoder by pieces reads on.
+-- How a decoder by pieces continues.
 use Rattle.std.specs.Prelude.{◌≡◌, ℕ, ◌+◌, ◌*◌, ◌/◌, ◌≤◌, ◌%◌, false, List, [], ◌++◌, length, take, Option, None}
 use Rattle.std.specs.List.{list_any}
 use Rattle.data_encoding.specs.declared.error.DecodeError.{DecodeError}
@@ -11,8 +11,8 @@ use Rattle.encoding_stream.specs.declared.pieces.Kept.{Kept}
 use Rattle.encoding_stream.specs.Appending.{AppendsDecoded}
 use Rattle.encoding_stream.specs.Pieces.{most_completed, Keeps}
 
--- Of each text of which the first is kept, the second is kept with this piece behind it, and the
--- groups that are then whole append these bytes, which leave the room for what may follow.
+-- For each text of which the first is kept, the second is kept of the text followed by the piece,
+-- and the groups that are then whole append these bytes. They leave room for what may follow.
 pub record ReadsOn (base : Base) (old new : Kept) (piece bytes : List ℕ) : Type 0 where
   pub keeps : (text : List ℕ) → Keeps base old text → Keeps base new (text ++ piece)
   pub decodes : (text : List ℕ) → Keeps base old text
@@ -21,7 +21,7 @@ pub record ReadsOn (base : Base) (old new : Kept) (piece bytes : List ℕ) : Typ
   pub few : (more : ℕ) → length bytes + most_completed base new more
       ≤ most_completed base old (length piece + more)
 
--- A piece was read on, and the bytes of the groups that are then whole were appended.
+-- A piece was read, and the bytes of the groups that are then whole were appended.
 pub record AppendsPiece (base : Base) (old new : Kept) (piece output_old output_new : List ℕ)
     : Type 0 where
   pub bytes : List ℕ
@@ -33,41 +33,42 @@ pub record AreWholeGroups (base : Base) (text : List ℕ) : Type 0 where
   pub whole : length (kept base text) % group_symbols base.width ≡ 0
   pub not_final : list_any (is_final base) (groups base text) ≡ false
 
--- Behind whole groups, of which none is final or has a fault, whole groups have this fault or none,
--- as far on as those are long, and the ones before the faulty one append these bytes.
+-- After whole groups of which none is final or faulty, a piece of whole groups has this fault or
+-- none, with the length before it added to its position, and its groups before the fault append
+-- these bytes.
 abbrev pub ReadsRun : Base → List ℕ → List ℕ → Option DecodeError → Type 0
 ReadsRun base piece bytes fault =
     (text : List ℕ) (len : ℕ) → HasRead base text len None [] false
     → HasRead base (text ++ piece) (len + length piece) (further len fault) [] false
     × (whole_bytes base (text ++ piece) ≡ whole_bytes base text ++ bytes)
 
--- the length of the whole groups of this many bytes
+-- the length of the whole groups in this many bytes
 abbrev pub whole_len : Base → ℕ → ℕ
 whole_len base len = len / group_symbols base.width * group_symbols base.width
 
--- Where nothing is ignored, and the whole groups of a piece mean something, all of them were read.
+-- If nothing is ignored and the whole groups of a piece mean something, all of them were read.
 abbrev pub ReadsAllGroups : Base → List ℕ → ℕ → Type 0
 ReadsAllGroups base piece read =
     ignores_some base ≡ false → (bytes : List ℕ)
     → Means base (take (whole_len base (length piece)) piece) bytes
     → read ≡ whole_len base (length piece)
 
--- Behind the text, the piece decodes to nothing more.
+-- After the text, the piece decodes to no more bytes.
 abbrev pub CompletesNothing : Base → List ℕ → List ℕ → Type 0
 CompletesNothing base text piece =
     whole_bytes base (text ++ piece) ≡ whole_bytes base text
 
--- At its end, the text decodes to nothing more.
+-- At its end, the text decodes to no more bytes.
 abbrev pub HasNoLastBytes : Base → List ℕ → Type 0
 HasNoLastBytes base text = sound_bytes base text ≡ whole_bytes base text
 
--- Where this is kept of a text, its last group has these bytes, and none if a group has a fault.
+-- If this is kept of a text, its last group has these bytes, which are none if a group has a fault.
 abbrev pub HasLastBytes : Base → Kept → List ℕ → Type 0
 HasLastBytes base kept bytes =
     (text : List ℕ) → Keeps base kept text
     → sound_bytes base text ≡ whole_bytes base text ++ bytes
 
--- Where this is kept of a text, the bytes of its last group were appended.
+-- If this is kept of a text, the bytes of its last group were appended.
 abbrev pub AppendsLast : Base → Kept → List ℕ → List ℕ → Type 0
 AppendsLast base kept output_old output_new =
     (text : List ℕ) → Keeps base kept text

@@ -6,40 +6,41 @@ use Rattle.data_encoding.specs.declared.error.DecodeKind.TheVariants.{Length, Sy
 use Rattle.data_encoding.specs.Base.{Base, group_symbols, is_ignored, is_padded, meaning}
 use Rattle.encoding_stream.specs.declared.pieces.Kept.{Kept}
 
--- These positions ascend, from the first of two on, and lie below the second.
+-- The positions ascend, are not below the first bound, and are below the second.
 abbrev pub Ascend : ℕ → ℕ → List ℕ → Type 0
 Ascend start end [] = Unit {0}
 Ascend start end (p ∷ ps) = (start ≤ p) × (p < end) × Ascend (p + 1) end ps
 
--- the positions of the held bytes, and these bytes
+-- the positions of the bytes held
 abbrev pub held_positions : Kept → List ℕ
 held_positions kept = take kept.count kept.positions
 
+-- the bytes held, without their positions
 abbrev pub held_bytes : Kept → List ℕ
 held_bytes kept = take kept.count kept.bytes
 
--- None of the held bytes is ignored.
+-- None of the bytes held is ignored.
 abbrev pub HoldsNoIgnored : Base → Kept → Type 0
 HoldsNoIgnored base kept = All (λ byte. is_ignored (meaning base byte) ≡ false) (held_bytes kept)
 
--- the kinds of fault that a whole group may have: none of a length, one of trailing bits only where
--- they are checked, and one of padding only where texts have it
+-- whether a whole group may have a fault of this kind: never of its length, of trailing bits only
+-- if they are checked, and of padding only if texts are padded
 abbrev pub is_of_group : Base → DecodeKind → Bool
 is_of_group base Length = false
 is_of_group base Symbol = true
 is_of_group base Trailing = base.checks_trailing_bits
 is_of_group base Padding = is_padded base
 
--- There is a fault, which lies in the text, and nothing is held; or there is none, and a group was
--- final only where texts may not be concatenated.
+-- There is a fault in the text, and nothing is held; or there is none, and a group was final only
+-- if texts may not be concatenated.
 pub record HasPossibleFault (base : Base) (kept : Kept) : Type 0 where
   pub clear : IsSome kept.fault → kept.count ≡ 0
   pub inside : IfSome kept.fault (λ error. error.position < kept.len)
   pub kind : IfSome kept.fault (λ error. is_of_group base error.kind ≡ true)
   pub ends : kept.fault ≡ None → kept.ended ≡ true → base.concatenates ≡ false
 
--- What is kept passes each test of what a caller gives back: less than a group is held, at
--- positions that ascend in the text, and none of it is ignored; and the fault is possible.
+-- What is kept passes each test of what a caller passes back: less than a group is held, at
+-- ascending positions in the text; no byte of it is ignored; and the fault is possible.
 pub record MayBeKept (base : Base) (kept : Kept) : Type 0 where
   pub limit : kept.len ≤ DECODE_LIMIT
   pub short : kept.count < group_symbols base.width

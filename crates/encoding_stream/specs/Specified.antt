@@ -1,4 +1,4 @@
--- What a decoder by pieces keeps of its encoding, so that the laws hold of it.
+-- What a decoder by pieces keeps about its encoding, so that the laws apply to it.
 use Rattle.std.specs.Prelude.{◌≡◌, Ok}
 use Rattle.data_encoding.specs.Base.{Base}
 use Rattle.data_encoding.specs.Fields.{base_of}

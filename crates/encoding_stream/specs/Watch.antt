@@ -11,11 +11,11 @@ inner_of w = w.inner
 abbrev pub has_failed : {T : Type 0} → Watch T → Bool
 has_failed w = w.has_failed
 
--- a write was refused: an error, or no byte taken of one or more
+-- whether a write was refused: it returned an error, or took none of one or more bytes
 abbrev pub is_refused : {E : Type 0} → Result ℕ E → List ℕ → Bool
 is_refused (Ok count) bytes = count == 0 && nat_lt 0 (length bytes)
 is_refused (Err error) bytes = true
 
--- what a writer holds grew by a beginning of the bytes
+-- The content of a writer grew by a prefix of the bytes.
 abbrev pub AppendsFront : Option (List ℕ) → Option (List ℕ) → List ℕ → Type 0
 AppendsFront old new bytes = (count : ℕ) × Appends old new (take count bytes)

@@ -1,4 +1,4 @@
-//! Data that is encoded piece by piece, into buffers: what is kept of it, and how it is read on.
+//! Data that is encoded piece by piece into buffers: what is kept of it, and how pieces are read.
 
 ghost use Rattle.std.specs.Prelude.{◌≡◌, ℕ, ◌+◌, ◌<◌, ◌≤◌, ◌↔◌, List, [], ◌++◌, length, take, drop, None, IfSome};
 ghost use Rattle.data_encoding.specs.Fields.{IsSpecified};
@@ -10,11 +10,11 @@ use crate::kept_data::KeptData;
 use data_encoding::laws::{join_encode, specification_again};
 use data_encoding::{ENCODE_LIMIT, Encoding};
 
-/// Encodes data that comes in pieces, cut anywhere, into buffers of the caller's.
+/// Encodes data that comes in pieces, cut anywhere, into buffers of the caller.
 ///
 /// A block is `encode_align` bytes of data: a group of symbols, or a line. Its text is written once
 /// the block is whole. What is kept of the data is plain numbers: `kept` returns them, and
-/// `resumed` goes on from them.
+/// `resumed` continues from them.
 #[derive(Clone, Copy, Debug, Drop)]
 pub struct BufferEncoder<'a> {
     encoding: &'a Encoding,
@@ -29,7 +29,7 @@ pub struct BufferEncoder<'a> {
 impl<'a> BufferEncoder<'a> {
     ghost use Rattle.encoding_stream.specs.Blocks.{after_blocks, base_of_blocks, data_kept, held_data, text_of_blocks, EncodesOn, HasWritten};
 
-    /// An encoder that has read nothing.
+    /// Returns an encoder that has read nothing.
     pub fn new(encoding: &'a Encoding) -> BufferEncoder<'a>
         ensures base { base_of_blocks result ≡ encoding.now }
         ensures nothing { HasWritten encoding.now (data_kept result) [] [] }
@@ -47,9 +47,9 @@ impl<'a> BufferEncoder<'a> {
         }
     }
 
-    /// An encoder that goes on from what another of the same encoding kept; `None` if a whole block
-    /// is held, which none keeps. Any other numbers may be given: an encoder that has read the held
-    /// bytes alone keeps them.
+    /// Returns an encoder that continues from what another of the same encoding kept, or `None` if
+    /// a whole block is held, which no encoder keeps. Any other numbers are accepted: an encoder
+    /// that has read just the held bytes keeps them.
     pub fn resumed(encoding: &'a Encoding, kept: KeptData) -> Option<BufferEncoder<'a>>
         ensures base { IfSome result (λ encoder. base_of_blocks encoder ≡ encoding.now) }
         ensures kept { IfSome result (λ encoder. data_kept encoder ≡ kept) }
@@ -65,7 +65,7 @@ impl<'a> BufferEncoder<'a> {
         Some(encoder)
     }
 
-    /// What is kept of the data: from it, `resumed` makes this encoder again.
+    /// Returns what is kept of the data; `resumed` makes this encoder again from it.
     pub fn kept(&self) -> KeptData
         ensures value { result ≡ data_kept self.now }
         ensures short { result.count < alignment (base_of_blocks self.now) }
@@ -73,8 +73,8 @@ impl<'a> BufferEncoder<'a> {
         self.kept
     }
 
-    /// The length of the text of the blocks that this many more bytes, at most `ENCODE_LIMIT`, make
-    /// whole: as much room as `read` asks for.
+    /// Returns the length of the text of the blocks that this many more bytes, at most
+    /// `ENCODE_LIMIT`, complete. This is the room that `read` needs.
     pub fn due(&self, len: usize) -> usize
         requires limit { len ≤ ENCODE_LIMIT }
         ensures value { (piece : List ℕ) → length piece ≡ len
@@ -91,8 +91,9 @@ impl<'a> BufferEncoder<'a> {
     }
 
     /// Reads a piece, of at most `ENCODE_LIMIT` bytes, writes the text of the blocks that are then
-    /// whole to the front of the output, and returns its length. The output has room for as many
-    /// bytes as `due` returns for the length of the piece; what it has after the text stays.
+    /// whole to the start of the output, and returns the length of that text. The output has room
+    /// for as many bytes as `due` returns for the length of the piece; what follows the text is
+    /// unchanged.
     pub fn read(&mut self, piece: &[u8], output: &mut [u8]) -> usize
         requires limit { length piece.now ≤ ENCODE_LIMIT }
         requires room { length (text_of_blocks (base_of_blocks self.old)
@@ -128,9 +129,9 @@ impl<'a> BufferEncoder<'a> {
         one + others
     }
 
-    /// Ends the data: writes the text of the held bytes, with padding, and with the separator where
-    /// there are lines, to the front of the output, and returns its length. What the output has
-    /// after the text stays.
+    /// Ends the data: writes the text of the bytes held, with padding, and with the separator if
+    /// there are lines, to the start of the output, and returns the length of that text. What
+    /// follows the text is unchanged.
     pub fn finish(&self, output: &mut [u8]) -> usize
         requires room { length (text_of (base_of_blocks self.now)
             (held_data (data_kept self.now))) ≤ length output.old }
@@ -148,7 +149,7 @@ impl<'a> BufferEncoder<'a> {
     }
 }
 
-// Writes the text of data to the front of the output, and returns its length.
+// Writes the text of data to the start of the output, and returns its length.
 fn write_front(encoding: &Encoding, input: &[u8], output: &mut [u8]) -> usize
     requires limit { length input.now ≤ ENCODE_LIMIT }
     requires room { length (text_of encoding.now input.now) ≤ length output.old }

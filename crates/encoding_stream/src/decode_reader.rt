@@ -3,7 +3,7 @@
 ghost use Rattle.std.specs.Prelude.{◌≡◌, ℕ, ◌≤◌, ◌↔◌, List, length, false, Err, IfSome, IsTrue, None, OnOk, Some};
 ghost use Rattle.std.specs.Io.KnownBytes.{IsAtEnd};
 ghost use Rattle.data_encoding.specs.Fault.{fault_of};
-ghost use Rattle.encoding_stream.specs.Decoded.{answer_of, JudgesText, DecodesFront, DecodesJudged, EndsText};
+ghost use Rattle.encoding_stream.specs.Decoded.{result_of, JudgesText, DecodesFront, DecodesJudged, EndsText};
 ghost use Rattle.encoding_stream.specs.Encoded.{ReadsMore};
 ghost use Rattle.encoding_stream.specs.Pieces.{base_of_pieces, Keeps};
 ghost use Rattle.encoding_stream.specs.Watch.{has_failed, inner_of};
@@ -16,21 +16,21 @@ use data_encoding::laws::steps;
 use data_encoding::{DECODE_LIMIT, DecodeError, Encoding};
 use std::io::{Read, Write};
 
-// The bytes of text that are decoded at a time.
+// The number of bytes of text that are decoded at a time.
 const CHUNK: usize = 32768;
 
 // The room for what they decode to.
 const ROOM: usize = CHUNK + 8;
 
-/// Reads a text to the end, writes what it decodes to, and then flushes once. It takes no memory:
-/// its buffers are 64 KiB of the stack.
+/// Reads a text to its end, writes what it decodes to, and then flushes once. Nothing is allocated:
+/// the buffers are 64 KiB on the stack.
 ///
-/// A read asks for at most 8,192 bytes. The text is read to its end also where it has a fault: the
-/// bytes of the groups before the first faulty one are written, the writer is flushed, and the
-/// fault of the whole text is returned. The first call of the reader or the writer that fails ends
-/// it, an interrupted one too. More than `DECODE_LIMIT` bytes are too long. Where it ends early, a
-/// beginning of what the text decodes to is written, and where a read failed or the input is too
-/// long, nothing is flushed.
+/// A read asks for at most 8,192 bytes. A text with a fault is read to its end too: the bytes of
+/// the groups before the first faulty one are written, the writer is flushed, and the fault of the
+/// whole text is returned. The first failed call of the reader or the writer, even an interrupted
+/// one, ends the stream. More than `DECODE_LIMIT` bytes are too long. If the stream ends early, a
+/// prefix of what the text decodes to is written; if a read failed or the input is too long,
+/// nothing is flushed.
 pub fn decode_stream<R: Read, W: Write>(
     encoding: &Encoding,
     reader: &mut Watch<R>,
@@ -39,13 +39,14 @@ pub fn decode_stream<R: Read, W: Write>(
     requires reader_works { has_failed reader.old ≡ false }
     requires writer_works { has_failed writer.old ≡ false }
 
-    // Where it returns Ok, or the fault of the text, all was read, and what it decodes to written.
+    // If the result is Ok or the fault of the text, all was read, and what it decodes to was
+    // written.
     ensures all_read { OnOk result (IsAtEnd (R.remaining (inner_of reader.new))) }
     ensures all { DecodesJudged encoding.now result
         (R.remaining (inner_of reader.old)) (R.remaining (inner_of reader.new))
         (W.contents (inner_of writer.old)) (W.contents (inner_of writer.new)) }
 
-    // In every case a beginning of it is written.
+    // In every case a prefix of it is written.
     ensures begun { DecodesFront encoding.now
         (R.remaining (inner_of reader.old)) (R.remaining (inner_of reader.new))
         (W.contents (inner_of writer.old)) (W.contents (inner_of writer.new)) }
@@ -96,7 +97,7 @@ fn end<W: Write>(
         (W.contents (inner_of writer.new)) }
     ensures verdict { (text : List ℕ) → Keeps (base_of_pieces pieces.now) pieces.now.kept text
         → has_failed writer.new ≡ false
-        → result ≡ answer_of (fault_of (base_of_pieces pieces.now) text) }
+        → result ≡ result_of (fault_of (base_of_pieces pieces.now) text) }
     ensures write { IsTrue (has_failed writer.new) → result ≡ Err StreamFault.Write }
 {
     let (written, verdict) = pieces.finish(output);

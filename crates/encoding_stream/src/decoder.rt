@@ -11,7 +11,7 @@ use data_encoding::laws::steps;
 use data_encoding::{DECODE_LIMIT, DecodeError, Encoding};
 use std::alloc::{AllocError, Allocator};
 
-// The bytes of a piece that are read at a time.
+// The number of bytes of a piece that are read at a time.
 const CHUNK: usize = 1024;
 
 // The room for what they decode to.
@@ -20,17 +20,17 @@ const ROOM: usize = CHUNK + 8;
 /// Decodes a text that comes in pieces, cut anywhere.
 ///
 /// The bytes of a group are appended once the group is whole. The decoder keeps the length of the
-/// text, its first fault, and at most seven bytes of an unfinished group with their positions: it
-/// takes no memory of its own.
+/// text, its first fault, and at most seven bytes of an unfinished group with their positions; it
+/// does not allocate for itself.
 #[derive(Debug, Drop)]
 pub struct Decoder<'a> {
     pieces: BufferDecoder<'a>,
 }
 
-/// What `Decoder::finish` returns of the whole text.
+/// What `Decoder::finish` returns about the whole text.
 #[derive(Clone, Copy, Debug, PartialEq, Eq)]
 pub struct Finished {
-    /// What `Encoding::decode` returns of it: its fault, if it has one.
+    /// What `Encoding::decode` returns for it: its fault, if it has one.
     pub verdict: Result<(), DecodeError>,
 }
 
@@ -42,7 +42,7 @@ impl<'a> Decoder<'a> {
     ghost use Rattle.encoding_stream.specs.Decoder.{base_of_decoder, decoder_len, AppendsFinished, AppendsPushed, StandsAfter};
     ghost use Rattle.encoding_stream.specs.Pieces.{verdict_of};
 
-    /// A decoder that was pushed nothing.
+    /// Returns a decoder that was pushed nothing.
     pub fn new(encoding: &'a Encoding) -> Decoder<'a>
         ensures base { base_of_decoder result ≡ encoding.now }
         ensures nothing { StandsAfter result [] }
@@ -54,7 +54,7 @@ impl<'a> Decoder<'a> {
         }
     }
 
-    /// How many bytes were pushed.
+    /// Returns how many bytes were pushed.
     pub fn len(&self) -> usize
         ensures value { result ≡ decoder_len self.now }
         ensures pushed { (text : List ℕ) → StandsAfter self.now text → result ≡ length text }
@@ -63,11 +63,11 @@ impl<'a> Decoder<'a> {
     }
 
     /// Takes a piece of the text, and appends the bytes of the groups that are then whole, up to
-    /// the first faulty one, whatever the output holds: it may be drained or exchanged between
-    /// pieces. The text has at most `DECODE_LIMIT` bytes with it.
+    /// the first faulty one. The output may hold anything: it may be drained or exchanged between
+    /// pieces. Together with the piece, the text has at most `DECODE_LIMIT` bytes.
     ///
-    /// The only error is that memory ran out, which is never reported where no byte is to be
-    /// appended: the decoder and the output are then what they were.
+    /// Returns an error only if memory runs out, and never if no byte is to be appended. The
+    /// decoder and the output are then unchanged.
     pub fn push(&mut self, piece: &[u8], output: &mut Vec<u8>) -> Result<(), AllocError>
         requires limit { decoder_len self.old + length piece.now ≤ DECODE_LIMIT }
         ensures base { base_of_decoder self.new ≡ base_of_decoder self.old }
@@ -89,11 +89,11 @@ impl<'a> Decoder<'a> {
         Ok(())
     }
 
-    /// Ends the text: appends the bytes of a last group, where neither it nor one before has a
-    /// fault, and tells the verdict on the whole text.
+    /// Ends the text: appends the bytes of a last group, unless it or a group before it has a
+    /// fault, and returns the verdict on the whole text.
     ///
-    /// Where memory ran out, which is never reported where no byte is to be appended, the decoder
-    /// is handed back, and it and the output are what they were.
+    /// If memory runs out, which never happens if no byte is to be appended, the decoder is
+    /// returned, and it and the output are unchanged.
     pub fn finish(self, output: &mut Vec<u8>) -> Result<Finished, Decoder<'a>>
         ensures verdict { IfOk result (λ finished. (text : List ℕ) → StandsAfter self.entry text
             → finished.verdict ≡ verdict_of (fault_of (base_of_decoder self.entry) text)) }
@@ -112,8 +112,9 @@ impl<'a> Decoder<'a> {
     }
 }
 
-// Reads a piece, and appends the bytes of the groups that are then whole, in any memory. All growth
-// comes first; where it is refused, the decoder is of no more use.
+// Reads a piece, and appends the bytes of the groups that are then whole, with any allocator. The
+// output grows once, before the first byte is appended; if that fails, the decoder is no longer
+// usable.
 fn append_piece<A: Allocator + Copy>(
     pieces: &mut BufferDecoder<'_>,
     piece: &[u8],
@@ -140,7 +141,7 @@ fn append_piece<A: Allocator + Copy>(
     Ok(())
 }
 
-// What `Decoder::finish` does, into any memory.
+// The same as `Decoder::finish`, with any allocator.
 fn append_last<A: Allocator + Copy>(
     pieces: &BufferDecoder<'_>,
     output: &mut Vec<u8, A>,
@@ -163,8 +164,8 @@ fn append_last<A: Allocator + Copy>(
     Ok(verdict)
 }
 
-// Reads until bytes are decoded, which stand at the front of the buffer, or to the end; returns how
-// many bytes were read, and how many decoded.
+// Reads until bytes are decoded, which are at the start of the buffer, or up to the end. Returns
+// how many bytes were read and how many were decoded.
 fn read_first(pieces: &mut BufferDecoder<'_>, piece: &[u8], buffer: &mut [u8]) -> (usize, usize)
     requires limit { pieces.old.kept.len + length piece.now ≤ DECODE_LIMIT }
     requires room { length buffer.old ≡ ROOM }
@@ -186,7 +187,7 @@ fn read_first(pieces: &mut BufferDecoder<'_>, piece: &[u8], buffer: &mut [u8]) -
     (read, written)
 }
 
-// Reads to the end, and appends what is decoded, for which the output has room.
+// Reads up to the end, and appends what is decoded, for which the output has room.
 fn append_rest<A: Allocator + Copy>(
     pieces: &mut BufferDecoder<'_>,
     piece: &[u8],

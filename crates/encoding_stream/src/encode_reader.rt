@@ -14,15 +14,15 @@ use data_encoding::{DecodeError, ENCODE_LIMIT, Encoding};
 use std::io;
 use std::io::{Read, Write};
 
-// The room for the text of what is encoded at a time, which goes out in one call.
+// The room for the text that is encoded at a time, and written in one call.
 const ROOM: usize = 49152;
 
-/// Reads data to the end, writes its text, and then flushes once. It takes no memory: its buffers
-/// are 96 KiB of the stack.
+/// Reads data to its end, writes its text, and then flushes once. Nothing is allocated: the buffers
+/// are 96 KiB on the stack.
 ///
-/// A read asks for at most 8,192 bytes. The first call of the reader or the writer that fails ends
-/// it, an interrupted one too. More than `u64::MAX` bytes are too long. Where it ends early, a
-/// beginning of the text of what was read is written, and where a read failed or the input is too
+/// A read asks for at most 8,192 bytes. The first failed call of the reader or the writer, even an
+/// interrupted one, ends the stream. More than `u64::MAX` bytes are too long. If the stream ends
+/// early, a prefix of the text of what was read is written; if a read failed or the input is too
 /// long, nothing is flushed.
 pub fn encode_stream<R: Read, W: Write>(
     encoding: &Encoding,
@@ -32,7 +32,7 @@ pub fn encode_stream<R: Read, W: Write>(
     requires reader_works { has_failed reader.old ≡ false }
     requires writer_works { has_failed writer.old ≡ false }
 
-    // After Ok all was read, and its text written.
+    // After Ok, all was read and its text was written.
     ensures all_read { OnOk result (IsAtEnd (R.remaining (inner_of reader.new))) }
     ensures all_written { OnOk result (IfSome (R.remaining (inner_of reader.old)) (λ bytes.
         Appends (W.contents (inner_of writer.old)) (W.contents (inner_of writer.new))
@@ -41,7 +41,7 @@ pub fn encode_stream<R: Read, W: Write>(
         (R.remaining (inner_of reader.old)) (R.remaining (inner_of reader.new))
         (W.contents (inner_of writer.old)) (W.contents (inner_of writer.new))) }
 
-    // In every case a beginning of the text is written.
+    // In every case a prefix of the text is written.
     ensures begun { EncodesFront encoding.now
         (R.remaining (inner_of reader.old)) (R.remaining (inner_of reader.new))
         (W.contents (inner_of writer.old)) (W.contents (inner_of writer.new)) }

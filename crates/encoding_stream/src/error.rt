@@ -1,4 +1,4 @@
-//! What ends a stream, and what is printed of it.
+//! What ends a stream early, and how it is displayed.
 
 ghost use Rattle.std.specs.Prelude.{Some};
 ghost use Rattle.encoding_stream.specs.Printed.{printed_stream_fault};

@@ -1,4 +1,4 @@
-//! Reading as many bytes as a buffer holds.
+//! Reading until a buffer is full.
 
 ghost use Rattle.std.specs.Prelude.{◌≡◌, ℕ, ◌<◌, ◌≤◌, ◌||◌, List, length, take, false, is_err, IfOk, OnErr};
 ghost use Rattle.std.specs.Io.{ReadsAtMost};
@@ -13,7 +13,7 @@ use std::io::Read;
 const MOST_READ: usize = 8192;
 
 /// Reads until the buffer is full or the reader is at its end, by reads of at most 8,192 bytes, and
-/// returns how many bytes were read. The first call that fails ends it, an interrupted one too.
+/// returns how many bytes were read. The first failed call, even an interrupted one, ends it.
 pub(crate) fn fill<R: Read>(reader: &mut Watch<R>, buffer: &mut [u8]) -> io::Result<usize>
     requires works { has_failed reader.old ≡ false }
     ensures bound { IfOk result (λ count. count ≤ length buffer.new) }
@@ -36,7 +36,7 @@ pub(crate) fn fill<R: Read>(reader: &mut Watch<R>, buffer: &mut [u8]) -> io::Res
     Ok(filled)
 }
 
-// Reads once, and asks for no more than one read may.
+// Reads once, and asks for at most `MOST_READ` bytes.
 fn read_once<R: Read>(reader: &mut Watch<R>, buf: &mut [u8]) -> io::Result<usize>
     ensures bound { ReadsAtMost result buf.new }
     ensures bytes { ReadConsumes (R.remaining (inner_of reader.old))

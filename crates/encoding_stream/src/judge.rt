@@ -14,7 +14,7 @@ use data_encoding::laws::steps::pieces;
 use data_encoding::{DecodeError, DecodeKind};
 
 impl BufferDecoder<'_> {
-    /// Whether the group that is whole is final.
+    /// Whether the group that has just been completed is final.
     pub(crate) fn is_final(&self) -> bool
         ensures { result ≡ is_final (base_of_pieces self.now) (at_positions self.now.size
             self.now.kept.positions self.now.kept.bytes) }
@@ -25,7 +25,8 @@ impl BufferDecoder<'_> {
         !self.encoding.concatenates() && is_padded
     }
 
-    /// Judges the first bytes that are kept as the next group: its fault, or its bytes.
+    /// Judges the first `count` bytes kept as the next group, and returns its fault or writes its
+    /// bytes.
     pub(crate) fn judge(&self, count: usize, output: &mut [u8]) -> Result<usize, DecodeError>
         requires some { 0 < count }
         requires few { count ≤ group_symbols (base_of_pieces self.now).width }
@@ -60,7 +61,7 @@ impl BufferDecoder<'_> {
         Err(self.at(fault))
     }
 
-    // The fault of the bytes that are kept, at its position in the text.
+    // The fault of the bytes kept, at its position in the text.
     fn at(&self, error: DecodeError) -> DecodeError
         requires { error.position < 8 }
         ensures position { result.position
@@ -73,9 +74,9 @@ impl BufferDecoder<'_> {
         }
     }
 
-    /// Ends the text: writes the bytes of a last group, at most five, where neither it nor one
-    /// before has a fault, to the front of the output, and returns how many bytes they are and what
-    /// `Encoding::decode` returns of the whole text: its fault, if it has one.
+    /// Ends the text. Writes the bytes of a last group, at most five, to the start of the output,
+    /// unless it or a group before it has a fault. Returns how many bytes were written and what
+    /// `Encoding::decode` returns for the whole text: its fault, if it has one.
     pub fn finish(&self, output: &mut [u8]) -> (usize, Result<(), DecodeError>)
         requires room { 5 ≤ length output.old }
         ensures verdict { (text : List ℕ) → Keeps (base_of_pieces self.now) (kept_by self.now) text
@@ -98,8 +99,8 @@ impl BufferDecoder<'_> {
         }
     }
 
-    // Judges what is held as the last group, where there is one and no group before has a fault:
-    // the first fault of the groups, or the bytes of the last.
+    // Judges the bytes held as the last group, if there are any and no group before has a fault.
+    // Returns the first fault of the groups, or writes the bytes of the last.
     fn judge_last(&self, output: &mut [u8]) -> Result<usize, DecodeError>
         requires room { 5 ≤ length output.old }
         ensures sound { IfOk result (λ written. EndsSound (base_of_pieces self.now) self.now.kept

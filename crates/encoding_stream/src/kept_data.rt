@@ -3,14 +3,14 @@
 ghost use Rattle.std.specs.Prelude.{◌≡◌, ◌+◌, ◌≤◌, ◌++◌, length};
 ghost use Rattle.encoding_stream.specs.Blocks.{held_data};
 
-/// What is kept of data between its pieces: plain numbers, from which encoding goes on.
+/// What is kept of data between its pieces: plain numbers, from which encoding continues.
 #[repr(C)]
 #[derive(Clone, Copy, Debug, Drop)]
 pub struct KeptData {
     /// How many bytes of an unfinished block are held.
     pub count: usize,
 
-    /// These bytes.
+    /// The bytes held.
     pub bytes: [u8; 189],
 }
 

@@ -1,7 +1,8 @@
-//! Base encodings over readers and writers: data is read to its end, and its text is written.
+//! Base encodings over readers and writers: the input is read to its end, and what it encodes or
+//! decodes to is written.
 //!
-//! A stream takes no memory, whatever its length. The reader and the writer are watched, so that
-//! contracts and callers can tell whether a call of them failed.
+//! Streams do not allocate, however long they are. The reader and the writer are watched, so that
+//! contracts and callers know whether a call of them failed.
 #![tactic(auto)]
 
 mod blocks;

@@ -1,4 +1,4 @@
-//! A text that is decoded piece by piece, into buffers: what is kept of it, and how it is read on.
+//! A text that is decoded piece by piece into buffers: what is kept of it, and how pieces are read.
 
 ghost use Rattle.std.proofs.Props.{props};
 ghost use Rattle.std.specs.Prelude.{◌≡◌, ℕ, ◌+◌, ◌<◌, ◌≤◌, ◌⊎◌, List, [], ◌∷◌, length, take, All, IfSome, IsSome};
@@ -10,7 +10,7 @@ use data_encoding::laws::specification_again;
 use data_encoding::laws::steps::{pieces, whole_groups};
 use data_encoding::{DECODE_LIMIT, DecodeError, Encoding};
 
-/// What is kept of a text between its pieces: plain numbers, from which decoding goes on.
+/// What is kept of a text between its pieces: plain numbers, from which decoding continues.
 #[derive(Clone, Copy, Debug, Drop)]
 pub struct Kept {
     /// How many bytes the text has.
@@ -19,27 +19,28 @@ pub struct Kept {
     /// The first fault of its whole groups.
     pub fault: Option<DecodeError>,
 
-    /// Where in the text the bytes of an unfinished group stand.
+    /// The positions in the text of the bytes of an unfinished group.
     pub positions: [usize; 8],
 
-    /// These bytes.
+    /// The bytes of the unfinished group.
     pub bytes: [u8; 8],
 
-    /// How many they are. After a fault there are none.
+    /// The number of these bytes. After a fault it is 0.
     pub count: usize,
 
     /// Whether one of the whole groups is final, so that none may follow.
     pub ended: bool,
 }
 
-/// Decodes a text that comes in pieces, cut anywhere, into buffers of the caller's.
+/// Decodes a text that comes in pieces, cut anywhere, into buffers of the caller.
 ///
 /// The bytes of a group are written once the group is whole. What is kept of the text is plain
-/// numbers: `kept` returns them, and `resumed` goes on from them.
+/// numbers: `kept` returns them, and `resumed` continues from them.
 #[derive(Clone, Copy, Debug, Drop)]
 pub struct BufferDecoder<'a> {
     pub(crate) encoding: &'a Encoding,
-    // The symbols of a whole group: `group_len` divides, and each byte asks for it.
+    // The number of symbols in a whole group. It is kept since it is needed for each byte, and
+    // `group_len` divides.
     pub(crate) size: usize,
     pub(crate) kept: Kept,
     ghost specified: { IsBuiltAgain encoding.now },
@@ -60,7 +61,7 @@ impl<'a> BufferDecoder<'a> {
     ghost use Rattle.encoding_stream.specs.Reading.{ReadsOn};
     ghost use Rattle.encoding_stream.specs.Resume.{MayBeKept};
 
-    /// A decoder that has read nothing.
+    /// Returns a decoder that has read nothing.
     pub fn new(encoding: &'a Encoding) -> BufferDecoder<'a>
         ensures base { base_of_pieces result ≡ encoding.now }
         ensures nothing { Keeps encoding.now (kept_by result) [] }
@@ -83,16 +84,16 @@ impl<'a> BufferDecoder<'a> {
         }
     }
 
-    /// A decoder that goes on from what another of the same encoding kept.
+    /// Returns a decoder that continues from what another of the same encoding kept.
     ///
-    /// Any numbers may be given, and are tested. `None` if the length of the text is above
-    /// `DECODE_LIMIT`; if a whole group is held, or a byte that is ignored, or if the positions of
-    /// the held bytes do not ascend below the length; if bytes are held after a fault, if that does
-    /// not lie in the text, or if it is one of the length, one of trailing bits in an encoding that
-    /// checks none, or one of padding in an encoding without padding; or if there is none, and a
-    /// group was final although texts may be concatenated. Others may be taken that no decoder
-    /// keeps: of these it is only sure that each call is safe, and that the fault that `finish`
-    /// returns lies in the text.
+    /// Any numbers may be passed, and are tested. Returns `None` in these cases: the length of the
+    /// text is above `DECODE_LIMIT`; a whole group is held; a byte that is held is ignored, or the
+    /// positions of the bytes held do not ascend or are not below the length; bytes are held after
+    /// a fault; the fault is not in the text, or is one of the length, one of trailing bits in an
+    /// encoding that does not check them, or one of padding in an encoding without padding; there
+    /// is no fault, but a group was final although texts may be concatenated. Some numbers that no
+    /// decoder keeps are accepted too. For these it is only guaranteed that each call is safe, and
+    /// that a fault that `finish` returns is in the text.
     pub fn resumed(encoding: &'a Encoding, kept: Kept) -> Option<BufferDecoder<'a>>
         ensures goes_on { IfSome result (GoesOn encoding.now kept) }
         ensures tested { IsSome result → MayBeKept encoding.now kept }
@@ -115,7 +116,7 @@ impl<'a> BufferDecoder<'a> {
         Some(decoder)
     }
 
-    /// What is kept of the text: from it, `resumed` makes this decoder again.
+    /// Returns what is kept of the text; `resumed` makes this decoder again from it.
     pub fn kept(&self) -> Kept
         ensures value { result ≡ kept_by self.now }
         ensures limit { result.len ≤ DECODE_LIMIT }
@@ -124,7 +125,7 @@ impl<'a> BufferDecoder<'a> {
         self.kept
     }
 
-    /// How many bytes the text has so far.
+    /// Returns how many bytes the text has so far.
     pub fn len(&self) -> usize
         ensures value { result ≡ (kept_by self.now).len }
         ensures limit { result ≤ DECODE_LIMIT }
@@ -134,8 +135,9 @@ impl<'a> BufferDecoder<'a> {
         self.kept.len
     }
 
-    /// The greatest number of bytes that this many more of the text may complete: as much room as
-    /// `read` asks for. The text has at most `DECODE_LIMIT` bytes with them.
+    /// Returns the greatest number of bytes that this many more bytes of the text may complete.
+    /// This is the room that `read` needs. Together with them, the text has at most `DECODE_LIMIT`
+    /// bytes.
     pub fn most(&self, len: usize) -> usize
         requires limit { (kept_by self.now).len + len ≤ DECODE_LIMIT }
         ensures value { result ≡ most_completed (base_of_pieces self.now) (kept_by self.now) len }
@@ -147,11 +149,11 @@ impl<'a> BufferDecoder<'a> {
         self.due(self.kept.count + len).1
     }
 
-    /// Reads a piece, writes the bytes of the groups that are then whole to the front of the
-    /// output, up to the first faulty one, and returns how many bytes they are. After a fault
-    /// nothing is written. The text has at most `DECODE_LIMIT` bytes with the piece, and the output
-    /// room for as many bytes as `most` returns for its length; what the output has behind those
-    /// that are written, within this room, is not said.
+    /// Reads a piece, writes the bytes of the groups that are then whole to the start of the
+    /// output, up to the first faulty group, and returns how many bytes were written. After a fault
+    /// nothing is written. Together with the piece, the text has at most `DECODE_LIMIT` bytes. The
+    /// output has room for as many bytes as `most` returns for the length of the piece; within this
+    /// room, what follows the bytes that were written is unspecified.
     pub fn read(&mut self, piece: &[u8], output: &mut [u8]) -> usize
         requires limit { (kept_by self.old).len + length piece.now ≤ DECODE_LIMIT }
         requires room { most_completed (base_of_pieces self.old) (kept_by self.old)
@@ -169,7 +171,7 @@ impl<'a> BufferDecoder<'a> {
         written + self.read_each(&piece[read..], &mut output[written..])
     }
 
-    // Reads byte by byte, up to a fault, while no fewer bytes than `least` are held.
+    // Reads byte by byte, up to a fault, while at least `least` bytes are held.
     fn read_bytes(&mut self, least: usize, piece: &[u8], output: &mut [u8]) -> (usize, usize)
         requires limit { self.old.kept.len + length piece.now ≤ DECODE_LIMIT }
         requires room { most_completed (base_of_pieces self.old) self.old.kept
@@ -192,7 +194,7 @@ impl<'a> BufferDecoder<'a> {
         (read, written)
     }
 
-    // Reads byte by byte, and counts what follows a fault.
+    // Reads byte by byte, and counts the bytes after a fault.
     fn read_each(&mut self, piece: &[u8], output: &mut [u8]) -> usize
         requires limit { self.old.kept.len + length piece.now ≤ DECODE_LIMIT }
         requires room { most_completed (base_of_pieces self.old) self.old.kept
@@ -210,8 +212,8 @@ impl<'a> BufferDecoder<'a> {
         written
     }
 
-    // Reads a byte, writes the bytes of the group that it makes whole, where that has no fault, to
-    // the front of the output, and returns how many bytes they are.
+    // Reads a byte, writes the bytes of the group that it completes, unless that has a fault, to
+    // the start of the output, and returns how many bytes were written.
     fn take(&mut self, byte: u8, output: &mut [u8]) -> usize
         requires limit { self.old.kept.len < DECODE_LIMIT }
         requires room { most_completed (base_of_pieces self.old) self.old.kept 1
@@ -248,7 +250,7 @@ impl<'a> BufferDecoder<'a> {
         }
     }
 
-    // Counts what follows a fault.
+    // Counts the bytes after a fault.
     fn pass(&mut self, piece: &[u8])
         requires limit { self.old.kept.len + length piece.now ≤ DECODE_LIMIT }
         requires fault { IsSome self.old.kept.fault }

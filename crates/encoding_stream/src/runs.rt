@@ -1,4 +1,4 @@
-//! Whole groups of a text that is decoded piece by piece, which are decoded where they lie.
+//! Whole groups of a text that is decoded piece by piece, which are decoded in place.
 
 ghost use Rattle.std.specs.Prelude.{◌≡◌, ℕ, ◌+◌, ◌≤◌, ◌<◌, ◌%◌, true, false, List, length, take, IfOk, IfErr, None, Ok, Some};
 ghost use Rattle.data_encoding.specs.declared.decode.TheConstants.{DECODE_LIMIT};
@@ -14,7 +14,8 @@ use data_encoding::laws::steps::{pieces, whole_groups};
 use data_encoding::{DECODE_LIMIT, DecodeError, DecodeKind, DecodePartial};
 
 impl BufferDecoder<'_> {
-    /// The length of the whole groups of this many bytes, and how many bytes are due for them.
+    /// Returns the length of the whole groups in this many bytes, and how many bytes are due for
+    /// them.
     pub(crate) fn due(&self, len: usize) -> (usize, usize)
         requires limit { len ≤ DECODE_LIMIT }
         ensures len { result.0 ≡ whole_len (base_of_pieces self.now) len }
@@ -28,7 +29,8 @@ impl BufferDecoder<'_> {
         (groups * self.size, groups * self.encoding.group_bytes())
     }
 
-    /// Reads whole groups where they lie: all before a fault, or all, if the fault is that of one.
+    /// Reads whole groups in place: those before a fault, or all if the fault is that of a whole
+    /// group.
     pub(crate) fn read_run(&mut self, piece: &[u8], output: &mut [u8]) -> (usize, usize)
         requires limit { self.old.kept.len + length piece.now ≤ DECODE_LIMIT }
         requires room { most_completed (base_of_pieces self.old) self.old.kept
@@ -66,9 +68,9 @@ impl BufferDecoder<'_> {
         (read, written)
     }
 
-    // Decodes a text that is whole groups by its length, as far as it means something, and returns
-    // how much of it was read and how many bytes were written; a fault only if it is that of a
-    // whole group.
+    // Decodes a piece of the length of whole groups up to its first fault, and returns how many
+    // bytes were read and how many were written. Returns a fault only if it is that of a whole
+    // group.
     fn decode_run(&self, text: &[u8], output: &mut [u8]) -> Result<(usize, usize), DecodePartial>
         requires limit { length text.now ≤ DECODE_LIMIT }
         requires whole { length text.now % self.now.size ≡ 0 }
@@ -96,8 +98,8 @@ impl BufferDecoder<'_> {
         }
     }
 
-    // Whether a fault of this kind, of whole groups by this length, is that of a whole group: what
-    // an unfinished group has is a fault of its length.
+    // Whether a fault of this kind in a piece of the length of whole groups is that of a whole
+    // group. An unfinished group has a fault of its length.
     fn is_of_whole_group(&self, len: usize, kind: DecodeKind) -> bool
         requires whole { len % self.now.size ≡ 0 }
         ensures { result ≡ true → IsOfWholeGroup (base_of_pieces self.now) len kind }
@@ -109,8 +111,8 @@ impl BufferDecoder<'_> {
     }
 
     // Whether a text of this length that means this many bytes is whole groups of which none is
-    // final: the number of bytes tells it, or its length, where nothing is ignored and no group is
-    // final.
+    // final. This follows from the number of bytes, or from the length if nothing is ignored and no
+    // group is final.
     fn are_whole(&self, read: usize, written: usize) -> bool
         ensures whole { result ≡ true → (text bytes : List ℕ) → length text ≡ read
             → length bytes ≡ written → Means (base_of_pieces self.now) text bytes

@@ -1,4 +1,4 @@
-//! A reader or a writer that remembers whether a call of it failed.
+//! A reader or a writer with a record of whether a call of it failed.
 
 ghost use Rattle.std.specs.Prelude.{◌≡◌, ◌||◌, false, is_err, OnOk};
 ghost use Rattle.std.specs.Io.{ReadsAtMost, WritesAtMost};
@@ -8,10 +8,10 @@ ghost use Rattle.encoding_stream.specs.Watch.{AppendsFront, has_failed, inner_of
 use std::io;
 use std::io::{Read, Write};
 
-/// Passes each call on to a reader or a writer, and remembers whether one of them failed.
+/// Passes each call to a reader or a writer, and records whether one of them failed.
 ///
-/// A call fails where it returns an error of any kind, an interruption too, and where a write of
-/// one or more bytes takes none. Once a call has failed, `failed` stays `true`.
+/// A call fails if it returns an error of any kind, even an interruption, or if a write of one or
+/// more bytes takes none. Once a call has failed, `failed` stays `true`.
 #[derive(Debug, Drop)]
 pub struct Watch<T> {
     inner: T,
@@ -19,7 +19,7 @@ pub struct Watch<T> {
 }
 
 impl<T> Watch<T> {
-    /// Watches a reader or a writer, no call of which has failed.
+    /// Watches a reader or a writer of which no call has failed.
     pub fn new(inner: T) -> Watch<T>
         ensures inner { inner_of result ≡ inner }
         ensures fresh { has_failed result ≡ false }
@@ -37,7 +37,7 @@ impl<T> Watch<T> {
         self.has_failed
     }
 
-    /// The reader or the writer that was watched, as the calls left it.
+    /// Returns the reader or the writer that was watched.
     pub fn into_inner(self) -> T
         ensures { result ≡ inner_of self }
     {
@@ -52,7 +52,7 @@ impl<T> Watch<T> {
 impl<T: Read> Read for Watch<T> {
     ghost remaining = { λ w. T.remaining (inner_of w) };
 
-    /// Reads once. An error reads nothing.
+    /// Reads once. If it fails, nothing was read.
     fn read(&mut self, buf: &mut [u8]) -> io::Result<usize>
         ensures bound { ReadsAtMost result buf.new }
         ensures bytes { ReadConsumes (T.remaining (inner_of self.old))
@@ -70,7 +70,7 @@ impl<T: Read> Read for Watch<T> {
 impl<T: Write> Write for Watch<T> {
     ghost contents = { λ w. T.contents (inner_of w) };
 
-    /// Writes once. An error writes nothing.
+    /// Writes once. If it fails, nothing was written.
     fn write(&mut self, buf: &[u8]) -> io::Result<usize>
         ensures bound { WritesAtMost result buf.now }
         ensures bytes { WriteAppends (T.contents (inner_of self.old))
@@ -86,8 +86,8 @@ impl<T: Write> Write for Watch<T> {
         result
     }
 
-    /// Writes all bytes. The first call that fails ends it, an interrupted one too; by then a
-    /// beginning of the bytes is written.
+    /// Writes all bytes. The first failed call, even an interrupted one, ends it; a prefix of the
+    /// bytes is then written.
     fn write_all(&mut self, buf: &[u8]) -> io::Result<()>
         ensures bytes { OnOk result (Appends (T.contents (inner_of self.old))
             (T.contents (inner_of self.new)) buf.now) }
@@ -106,7 +106,7 @@ impl<T: Write> Write for Watch<T> {
         Ok(())
     }
 
-    /// Flushes once. It writes nothing.
+    /// Flushes once. Nothing is written.
     fn flush(&mut self) -> io::Result<()>
         ensures bytes { Keeps (T.contents (inner_of self.old)) (T.contents (inner_of self.new)) }
         ensures failed { has_failed self.new ≡ (has_failed self.old || is_err result) }

@@ -1,10 +1,10 @@
-//! Texts and data in buffers of the caller's own.
+//! Texts and data in buffers of the caller.
 
 use anyhow::{Result, bail, ensure};
 use data_encoding::{DECODE_LIMIT, ENCODE_LIMIT, Encoding};
 use std::alloc::Global;
 
-/// The text of the data, in memory of exactly its length.
+/// Returns the text of the data, in a vector of exactly its length.
 pub fn encoded_exactly(alloc: Global, encoding: &Encoding, data: &[u8]) -> Result<Vec<u8>> {
     ensure!(data.len() <= ENCODE_LIMIT, "too much data");
     let mut text = vec![in alloc; 0; encoding.encode_len(data.len())]?;
@@ -12,7 +12,7 @@ pub fn encoded_exactly(alloc: Global, encoding: &Encoding, data: &[u8]) -> Resul
     Ok(text)
 }
 
-/// Prints the text of a few bytes, of at most 64 characters. It takes no memory.
+/// Prints the text of a few bytes, of at most 64 characters, without allocating.
 pub fn print_text(rt: &impl Print, encoding: &Encoding, data: &[u8]) -> Result<()> {
     ensure!(data.len() <= ENCODE_LIMIT, "too much data");
     let mut buffer = [0; 64];
@@ -23,8 +23,8 @@ pub fn print_text(rt: &impl Print, encoding: &Encoding, data: &[u8]) -> Result<(
     Ok(())
 }
 
-/// Decodes to the front of the buffer, and returns how many bytes were written. After a fault the
-/// bytes of the groups before it stand there.
+/// Decodes to the start of the buffer, and returns how many bytes were written. After a fault, the
+/// buffer starts with the bytes of the groups before it.
 pub fn decode_into(encoding: &Encoding, text: &[u8], buffer: &mut [u8]) -> Result<usize> {
     ensure!(text.len() <= DECODE_LIMIT, "the text is too long");
     let most = encoding.decode_len(text.len())?;

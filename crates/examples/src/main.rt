@@ -16,7 +16,7 @@ use data_encoding::{base64, hexlower};
 use encoding_stream::Watch;
 use std::alloc::Global;
 
-// What is made of data and texts as a whole, in lines that are appended.
+// What data and texts as a whole convert to, in lines that are appended.
 fn convert_whole(alloc: Global, lines: &mut Vec<String>) -> Result<()> {
     lines.push(whole::encoded(alloc, b"Hello")?)?;
     for text in ["SGVsbG8=", "SGVsbG8"] {
@@ -29,7 +29,7 @@ fn convert_whole(alloc: Global, lines: &mut Vec<String>) -> Result<()> {
     Ok(())
 }
 
-// The same of data and texts in pieces.
+// The same for data and texts in pieces.
 fn convert_pieces(alloc: Global, lines: &mut Vec<String>) -> Result<()> {
     let mut text = String::from_str(alloc, "Hello: ")?;
     pieces::append_both(&base64(), b"Hel", b"lo", &mut text)?;
@@ -54,7 +54,7 @@ fn convert_by_custom(alloc: Global, lines: &mut Vec<String>) -> Result<()> {
     Ok(())
 }
 
-// What is made in buffers.
+// What is converted in buffers.
 fn convert_in_buffers(rt: &impl Print, alloc: Global) -> Result<()> {
     let encoding = base64();
     buffers::print_text(rt, &encoding, b"Hello")?;

@@ -5,7 +5,7 @@ use data_encoding::{DECODE_LIMIT, ENCODE_LIMIT, Encoding, base64};
 use encoding_stream::Decoder;
 use std::alloc::Global;
 
-/// The data of a text in base64 that comes in pieces, cut anywhere.
+/// Returns the data of a text in base64 that comes in pieces, cut anywhere.
 pub fn decoded_pieces(alloc: Global, pieces: &[&str]) -> Result<Vec<u8>> {
     let encoding = base64();
     let mut decoder = Decoder::new(&encoding);
@@ -23,8 +23,8 @@ pub fn decoded_pieces(alloc: Global, pieces: &[&str]) -> Result<Vec<u8>> {
     Ok(output)
 }
 
-/// Appends the text of data that comes in two fragments. After an error the output may end with the
-/// text of a part of it.
+/// Appends the text of data that comes in two pieces. After an error the output may end with a
+/// prefix of that text.
 pub fn append_both(
     encoding: &Encoding,
     one: &[u8],

@@ -6,7 +6,7 @@ ghost use Rattle.data_encoding.specs.Text.{text_of};
 use data_encoding::{ENCODE_LIMIT, Encoding};
 use std::alloc::{AllocError, Global};
 
-/// A line of the name and the text of the data. The only error is that memory ran out.
+/// Returns a line with the name and the text of the data. Returns an error only if memory runs out.
 pub fn labelled(
     alloc: Global,
     encoding: &Encoding,

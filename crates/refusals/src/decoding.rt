@@ -8,7 +8,7 @@ use encoding_stream::Decoder;
 
 const TEXT: &[u8] = b"SGVsbG8";
 
-/// `Encoding::decode`, which asks for no memory where the length of a text is invalid.
+/// `Encoding::decode`, which does not allocate if the length of the text is invalid.
 pub fn decodes(hog: &mut Hog) -> bool {
     hog.fill();
     let first = base64_nopad().decode(hog.alloc, TEXT);
@@ -24,7 +24,7 @@ pub fn decodes(hog: &mut Hog) -> bool {
         && tells_a_length(hog)
 }
 
-// Whether three characters of padded base64 are an invalid length where no memory is left.
+// Whether three characters of padded base64 are refused for their length if no memory is left.
 fn tells_a_length(hog: &mut Hog) -> bool {
     let fault = DecodeError {
         position: 0,
@@ -50,8 +50,8 @@ pub fn pushes(hog: &mut Hog) -> bool {
     true
 }
 
-// Whether a piece after a front that completes no group is refused where it completes one, and the
-// same call succeeds later.
+// Whether a piece that follows a prefix without a whole group is refused if it completes a group,
+// and the same call succeeds later.
 fn is_pushed(hog: &mut Hog, encoding: &Encoding, front: &[u8], piece: &[u8]) -> bool {
     if front.len() > 8 || piece.len() > 300 {
         return false;
@@ -84,15 +84,15 @@ fn is_pushed(hog: &mut Hog, encoding: &Encoding, front: &[u8], piece: &[u8]) -> 
         && output.as_slice() == want.as_slice()
 }
 
-/// `Decoder::finish`, which hands the decoder back where it is refused.
+/// `Decoder::finish`, which returns the decoder if memory runs out.
 pub fn finishes(hog: &mut Hog) -> bool {
     is_finished(hog, b"bG8", Ok(b"lo"))
         && is_finished(hog, b"A", Err(DecodeKind::Length))
         && is_finished(hog, b"A!", Err(DecodeKind::Symbol))
 }
 
-// Whether a text of less than a group has those bytes, or that kind of fault, at the second call
-// where the first is refused: it takes memory only for bytes.
+// Whether a text of less than a group has these bytes, or this kind of fault, at the second call if
+// the first runs out of memory. Only bytes need memory.
 fn is_finished(hog: &mut Hog, text: &[u8], want: Result<&[u8], DecodeKind>) -> bool {
     if text.len() > 8 {
         return false;

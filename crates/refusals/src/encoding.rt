@@ -5,7 +5,7 @@ use data_encoding::{ENCODE_LIMIT, Encoding, base64, base64_mime};
 
 const HELLO: &[u8] = b"Hello";
 
-// Some data, of two lines and more where there are lines.
+// Some data: two lines and more if there are lines.
 const DATA: &[u8] = b"Data that come in fragments are encoded block by block, and the few bytes \
     that complete no block are held until they do, or until the text is finished.";
 
@@ -37,7 +37,7 @@ pub fn appends(hog: &mut Hog) -> bool {
     true
 }
 
-// Whether a text that is refused memory is unchanged, and is appended to by the same call later.
+// Whether a text is unchanged if memory runs out, and is appended to by the same call later.
 fn is_appended(hog: &mut Hog, encoding: &Encoding, input: &[u8]) -> bool {
     if input.len() > ENCODE_LIMIT {
         return false;
@@ -66,7 +66,7 @@ fn is_appended(hog: &mut Hog, encoding: &Encoding, input: &[u8]) -> bool {
     output.as_str().strip_prefix(BEFORE) == Some(want.as_str())
 }
 
-/// `Encoder::append`, which is then finalized.
+/// `Encoder::append`, followed by `finalize`.
 pub fn appends_fragments(hog: &mut Hog) -> bool {
     for encoding in [base64(), base64_mime()] {
         for blocks in 0..3usize {
@@ -80,8 +80,8 @@ pub fn appends_fragments(hog: &mut Hog) -> bool {
     true
 }
 
-// Whether data of which one byte is held are encoded: the call that appends the others is refused
-// where it has to write a block, and where it is, the same call succeeds later.
+// Whether data of which one byte is held is encoded: the call that appends the rest runs out of
+// memory if it has to write a block, and the same call then succeeds later.
 fn is_encoded(hog: &mut Hog, encoding: &Encoding, input: &[u8], has_block: bool) -> bool {
     if input.is_empty() || input.len() > ENCODE_LIMIT {
         return false;
@@ -115,12 +115,12 @@ fn is_encoded(hog: &mut Hog, encoding: &Encoding, input: &[u8], has_block: bool)
         && output.as_str() == want.as_str()
 }
 
-/// `Encoder::finalize`, which hands the encoder back where it is refused.
+/// `Encoder::finalize`, which returns the encoder if memory runs out.
 pub fn finalizes(hog: &mut Hog) -> bool {
     is_finalized(hog, &base64(), "SA==") && is_finalized(hog, &base64_mime(), "SA==\r\n")
 }
 
-// Whether one byte is encoded to that text, at the second call where the first is refused.
+// Whether one byte is encoded to this text, at the second call if the first runs out of memory.
 fn is_finalized(hog: &mut Hog, encoding: &Encoding, text: &str) -> bool {
     let mut output = String::new(hog.alloc);
     let mut encoder = encoding.new_encoder(&mut output);

@@ -1,16 +1,16 @@
-//! Memory that is taken until none is left, or of which one allocation is refused.
+//! Memory that is allocated until none is left, or of which one allocation is refused.
 
 use std::alloc::{AllocError, Global};
 
-// Room for all parts that are ever taken.
+// The most blocks that are ever allocated.
 const PARTS: usize = 1 << 17;
 
-// Where a call begins and ends is told by asking for as many bytes, which nothing else does.
+// Allocations of these sizes, which nothing else makes, mark where a call begins and ends.
 const BEGIN: usize = 4_194_301;
 
 const END: usize = 4_194_299;
 
-/// Which memory is refused.
+/// Which allocations are refused.
 #[derive(Clone, Copy, Debug, PartialEq, Eq)]
 pub enum Refused {
     /// None.
@@ -19,25 +19,26 @@ pub enum Refused {
     /// All.
     All,
 
-    /// An allocation of a number, by a `malloc` that counts them from where a call begins.
+    /// One allocation, by a `malloc` that counts them from the beginning of a call.
     One,
 }
 
-/// Sees to it that memory is refused to a call.
+/// Makes allocations of a call fail.
 #[derive(Drop)]
 pub struct Hog {
-    /// Where memory comes from.
+    /// The allocator.
     pub alloc: Global,
 
     refused: Refused,
-    // Whether one allocation was refused to the call that ended last, and to any before.
+    // Whether one allocation was refused to the call that ended last, and to any since that was
+    // last asked.
     is_refused: bool,
     has_refused_one: bool,
     parts: Vec<Vec<u8>>,
 }
 
 impl Hog {
-    /// One that has taken no memory but for its own list of parts.
+    /// Returns one that has allocated only its own list of blocks.
     pub fn new(alloc: Global, refused: Refused) -> Result<Hog, AllocError> {
         Ok(Hog {
             alloc,
@@ -48,8 +49,8 @@ impl Hog {
         })
     }
 
-    /// Begins a call. Where all memory is refused it takes it until no part of any size is left:
-    /// great parts first, then each size that an allocator may keep apart.
+    /// Begins a call. If all allocations are to be refused, allocates until no block of any size is
+    /// left: large blocks first, then each size for which an allocator may keep blocks apart.
     pub fn fill(&mut self) {
         match self.refused {
             Refused::Nothing => {}
@@ -60,17 +61,17 @@ impl Hog {
         }
     }
 
-    /// Ends a call, and gives back all that was taken.
+    /// Ends a call, and frees all blocks.
     pub fn clear(&mut self) {
         self.parts.clear();
         if matches!(self.refused, Refused::One) {
-            // The last allocation is refused where one of the call was.
+            // The last allocation is refused if one of the call was.
             self.is_refused = self.is_refused_to(END);
             self.has_refused_one |= self.is_refused;
         }
     }
 
-    /// Whether the call that ended last has to have been refused, if it needs memory or not.
+    /// Whether the call that ended last must have run out of memory, given whether it needs any.
     pub fn has_refused(&self, needs_memory: bool) -> bool {
         match self.refused {
             Refused::Nothing => false,
@@ -79,20 +80,20 @@ impl Hog {
         }
     }
 
-    /// Whether one allocation was refused since this was asked last.
+    /// Whether one allocation was refused since this was last asked.
     pub fn take_refused_one(&mut self) -> bool {
         let has_refused = self.has_refused_one;
         self.has_refused_one = false;
         has_refused
     }
 
-    // Whether so many bytes are refused.
+    // Whether an allocation of this many bytes is refused.
     fn is_refused_to(&self, len: usize) -> bool {
         let bytes: Result<Vec<u8>, _> = Vec::with_capacity(self.alloc, len);
         bytes.is_err()
     }
 
-    // Takes memory until no part is left.
+    // Allocates until no block is left.
     fn fill_all(&mut self) {
         for shift in 0..15u32 {
             self.fill_by((1 << 26) >> shift, 64);
@@ -102,7 +103,7 @@ impl Hog {
         }
     }
 
-    // Takes at most that many parts of this size.
+    // Allocates blocks of this size, at most this many.
     fn fill_by(&mut self, size: usize, most: usize) {
         for _ in 0..most {
             let Ok(part) = Vec::with_capacity(self.alloc, size) else {

@@ -1,11 +1,12 @@
-//! Each public call that takes memory, where none is left, or one allocation is refused.
+//! Each public call that allocates, if no memory is left, or if one allocation is refused.
 //!
-//! With the word `refused` all memory that the process may have is taken before each call, which
-//! has to be refused then, and to leave everything as it was; with the word `one` a call has to be
-//! refused where one of its allocations was, which tests/c/refused.c sees to; without a word each
-//! call has to succeed. Then there is memory, and the same call has to succeed with the right
-//! result. A line is printed for each call, which also says where it was refused one allocation;
-//! the exit status is 1 where one of them did otherwise.
+//! With the argument `refused`, all memory that the process may have is allocated before each call.
+//! The call then has to run out of memory, and to leave everything unchanged. With the argument
+//! `one`, which tests/c/refused.c serves, a call has to run out of memory if one of its allocations
+//! was refused. Without an argument each call has to succeed. After that there is memory, and the
+//! same call has to succeed with the right result. A line is printed for each call, which also says
+//! whether one of its allocations was refused. The exit status is 1 if one of the calls did not do
+//! as it has to.
 #![tactic(auto)]
 
 mod decoding;
@@ -17,7 +18,7 @@ use hog::{Hog, Refused};
 use std::process::ExitCode;
 use std::{env, io};
 
-// A call, whether it did what it has to, and whether it was refused one allocation.
+// A call, whether it did what it must, and whether one of its allocations was refused.
 type Row = (&'static str, bool, bool);
 
 // What each call did.
@@ -73,7 +74,7 @@ fn rows(hog: &mut Hog) -> [Row; 11] {
     ]
 }
 
-// Which memory is refused, by the first word.
+// Which allocations are refused, by the first argument.
 fn refused_by(rt: &HostRuntime) -> io::Result<Refused> {
     match env::args(rt)?.skip(1).next() {
         Some(word) if word.as_str() == "refused" => Ok(Refused::All),

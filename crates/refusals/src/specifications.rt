@@ -22,7 +22,7 @@ fn lines_of_base32() -> Option<Encoding> {
     parts.encoding().ok()
 }
 
-// Whether it is that of the encoding.
+// Whether it is the specification of the encoding.
 fn is_right(specification: &Specification) -> bool {
     specification.symbols.as_str() == SYMBOLS
         && specification.ignore.as_str() == "\n\r "

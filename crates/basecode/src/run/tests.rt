@@ -1,4 +1,4 @@
-//! Runs over readers and writers that give little, take little, or fail once.
+//! Runs over readers and writers that give few bytes, take few bytes, or fail once.
 
 mod answers;
 mod failures;
@@ -10,8 +10,8 @@ use std::io;
 use std::io::ErrorKind;
 use std::test::Fail;
 
-/// Gives at most `most` bytes a call. The call after the good ones is interrupted, and the calls
-/// after that are good again.
+/// Gives at most `most` bytes in each call. The call after the good ones is interrupted, and later
+/// calls succeed again.
 #[derive(Drop)]
 struct FakeReader<'a> {
     bytes: &'a [u8],
@@ -47,7 +47,7 @@ impl Read for FakeReader<'_> {
     }
 }
 
-/// What a writer does not do, once.
+/// The call that a writer fails once.
 #[derive(Clone, Copy, Debug, PartialEq, Eq)]
 enum Failure {
     Nothing,
@@ -56,7 +56,7 @@ enum Failure {
     Flush,
 }
 
-/// Takes at most three bytes a call, fails once after the good writes, and counts its calls.
+/// Takes at most three bytes in each call, fails once after the good writes, and counts its calls.
 #[derive(Drop)]
 struct FakeWriter {
     bytes: Vec<u8>,
@@ -68,7 +68,7 @@ struct FakeWriter {
 }
 
 impl FakeWriter {
-    /// A writer that needs no memory for a line.
+    /// A writer that does not allocate to write a line.
     fn new(alloc: Global, failure: Failure, good_writes: usize) -> Result<FakeWriter, AllocError> {
         Ok(FakeWriter {
             bytes: Vec::with_capacity(alloc, 128)?,
@@ -137,7 +137,7 @@ fn outcome_of(
     outcome_with(alloc, line, reader, writer, faults)
 }
 
-// The same, where lines on faults go to this writer.
+// The same, with lines about faults written to this writer.
 fn outcome_with(
     alloc: Global,
     line: &str,
@@ -159,14 +159,14 @@ fn outcome_with(
     })
 }
 
-// What is done where no call fails, and the input comes byte by byte.
+// What is done if no call fails, and the input comes byte by byte.
 fn done(alloc: Global, line: &str, input: &[u8]) -> Result<Outcome, AllocError> {
     let writer = FakeWriter::new(alloc, Failure::Nothing, 0)?;
     outcome_of(alloc, line, FakeReader::new(input, 1), writer)
 }
 
 impl Outcome {
-    // The answer was written and flushed once, and no line printed.
+    // The answer was written and flushed once, and no line was printed.
     fn is_answer(&self, answer: &[u8]) -> bool {
         self.status == 0
             && self.writer.bytes.as_slice() == answer
@@ -175,7 +175,7 @@ impl Outcome {
             && self.line.is_empty()
     }
 
-    // The line was printed, and what stands before the fault was written and flushed once.
+    // The line was printed, and the data before the fault was written and flushed once.
     fn is_refusal(&self, line: &str, written: &[u8]) -> bool {
         self.status == 1
             && self.line.as_slice() == line.as_bytes()
@@ -183,7 +183,7 @@ impl Outcome {
             && self.writer.flushes == 1
     }
 
-    // The line was printed, and nothing written or flushed.
+    // The line was printed, and nothing was written or flushed.
     fn is_fault(&self, status: u8, line: &str) -> bool {
         self.status == status
             && self.line.as_slice() == line.as_bytes()

@@ -1,4 +1,4 @@
-//! A caller of a decoder by pieces into buffers, which goes on from what is kept.
+//! A caller of a decoder by pieces into buffers, which continues from what is kept.
 
 ghost use Rattle.std.specs.Prelude.{◌≡◌, ◌+◌, ◌≤◌, ℕ, List, ◌++◌, length, take, None, Some, IfSome, OnOk};
 ghost use Rattle.std.specs.String.{string_bytes};
@@ -17,21 +17,21 @@ use std::alloc::AllocError;
 /// How many bytes were written to each buffer, and the verdict on the text.
 #[derive(Clone, Copy, Debug, Drop)]
 pub struct Filled {
-    /// Of the first piece.
+    /// For the first piece.
     pub front: usize,
 
-    /// Of the next piece.
+    /// For the next piece.
     pub next: usize,
 
-    /// Of the end of the text.
+    /// For the end of the text.
     pub last: usize,
 
     /// The fault of the text, if it has one.
     pub verdict: Result<(), DecodeError>,
 }
 
-/// Decodes a text that comes in two pieces, cut anywhere, into three buffers: the second piece is
-/// read by another decoder, which goes on from what the first kept.
+/// Decodes a text that comes in two pieces, cut anywhere, into three buffers. The second piece is
+/// read by another decoder, which continues from what the first kept.
 pub fn decode_kept(
     encoding: &Encoding,
     piece: &[u8],
@@ -73,7 +73,7 @@ pub fn decode_kept(
     }
 }
 
-/// The fault of a text that begins like this, if it has one so far, whatever follows: that of one
+/// Returns the fault of each text that begins with this prefix, if it has one so far: that of one
 /// of its whole groups. An unfinished group at the end is not judged.
 pub fn fault_so_far(encoding: &Encoding, front: &[u8], output: &mut [u8]) -> Option<DecodeError>
     requires limit { length front.now ≤ DECODE_LIMIT }
@@ -91,8 +91,9 @@ pub fn fault_so_far(encoding: &Encoding, front: &[u8], output: &mut [u8]) -> Opt
     decoder.kept().fault
 }
 
-/// Writes the text of the data to an output of exactly its length, and appends it to a log. What is
-/// in the output afterwards is known of `encode_mut`, and that it is text by `str::from_utf8`.
+/// Writes the text of the data to an output of exactly its length, and appends it to a log. What
+/// the output has afterwards is known from `encode_mut`, and that it is UTF-8 from
+/// `str::from_utf8`.
 pub fn encode_and_log(
     encoding: &Encoding,
     input: &[u8],

@@ -1,5 +1,5 @@
-//! Data and texts in pieces, of which a caller keeps numbers and gives them back, and an encoding
-//! that is made again.
+//! Data and texts in pieces of which a caller keeps numbers and passes them back, and an encoding
+//! that is built again.
 
 ghost use Rattle.std.specs.Prelude.{◌≡◌, ◌<◌, ◌≤◌, ◌++◌, ◌||◌, length, take, IfSome};
 ghost use Rattle.data_encoding.specs.Base.{is_padded};
@@ -9,21 +9,22 @@ use data_encoding::laws::specification_again;
 use data_encoding::{ENCODE_LIMIT, Encoding};
 use encoding_stream::{BufferDecoder, BufferEncoder, Kept};
 
-/// How long the texts are that were written to each buffer.
+/// The length of the text that was written to each buffer.
 #[derive(Clone, Copy, Debug, Drop)]
 pub struct Lengths {
-    /// Of the first piece.
+    /// For the first piece.
     pub front: usize,
 
-    /// Of the next piece.
+    /// For the next piece.
     pub next: usize,
 
-    /// Of the end of the data.
+    /// For the end of the data.
     pub last: usize,
 }
 
-/// Encodes data that comes in two pieces, cut anywhere, into three buffers: the second piece is
-/// read by another encoder, which goes on from what the first kept. `None` if a buffer has no room.
+/// Encodes data that comes in two pieces, cut anywhere, into three buffers. The second piece is
+/// read by another encoder, which continues from what the first kept. Returns `None` if a buffer is
+/// too short.
 pub fn encode_kept(
     encoding: &Encoding,
     piece: &[u8],
@@ -62,8 +63,8 @@ pub fn encode_kept(
     })
 }
 
-/// The position of the fault of a text of which this was kept, if it has one: whatever was kept,
-/// the position lies in a text of that length.
+/// Returns the position of the fault of a text of which this was kept, if it has one. Whatever was
+/// kept, the position is in a text of that length.
 pub fn fault_within(encoding: &Encoding, kept: Kept, text: &[u8]) -> Option<usize>
     requires whole { length text.now ≡ kept.len }
     ensures { IfSome result (λ position. position < length text.now) }
@@ -77,7 +78,7 @@ pub fn fault_within(encoding: &Encoding, kept: Kept, text: &[u8]) -> Option<usiz
     }
 }
 
-/// The encoding again, made of its specification, for which no memory is taken.
+/// Returns the encoding, built again from its specification without allocating.
 pub fn made_again(encoding: &Encoding) -> Encoding
     ensures { result ≡ encoding.now }
 {
@@ -90,7 +91,7 @@ pub fn made_again(encoding: &Encoding) -> Encoding
     }
 }
 
-/// Whether the end of a text is judged: its padding, or the bits that are left.
+/// Whether the end of a text is judged: its padding, or its trailing bits.
 pub fn judges_ends(encoding: &Encoding) -> bool
     ensures { result ≡ (is_padded encoding.now || encoding.now.checks_trailing_bits) }
 {

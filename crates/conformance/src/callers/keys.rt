@@ -1,4 +1,4 @@
-//! Keys of a fixed size, faults that are told from the bytes of a text, and pairs of data or texts.
+//! Keys of a fixed size, faults that follow from the bytes of a text, and pairs of data or texts.
 
 ghost use Rattle.std.specs.Prelude.{◌≡◌, ◌↔◌, ◌≤◌, ◌+◌, ◌%◌, ℕ, List, [], ◌∷◌, ◌++◌, length, None, Some, Ok, Err, IsTrue, is_some, IfOk, IfSome, OnOk};
 ghost use Rattle.std.specs.String.{string_bytes};
@@ -22,8 +22,8 @@ use data_encoding::{
 };
 use std::alloc::{AllocError, Global};
 
-/// The key of 16 bytes that a token in BASE64URL_NOPAD means, where it means as many. No other
-/// token means it.
+/// Returns the key of 16 bytes that a token in BASE64URL_NOPAD means, if it means 16 bytes. No
+/// other token means that key.
 pub fn key_of(token: &[u8]) -> Option<[u8; 16]>
     ensures text { Yields (λ base. IfSome result (λ key. token.now ≡ text_of base key))
         base64url_nopad_fields }
@@ -52,8 +52,8 @@ fn is_no_symbol(encoding: &Encoding, byte: u8) -> bool
     encoding.interpret_byte(byte).is_symbol().is_none()
 }
 
-/// Where the first byte is that is no lower-case hexadecimal digit. There HEXLOWER finds the fault
-/// of a text of an even length; and where each byte is a digit, it has none.
+/// Returns the index of the first byte that is no lower-case hexadecimal digit. HEXLOWER finds the
+/// fault of a text of an even length there; if each byte is a digit, the text has no fault.
 pub fn first_wrong(text: &[u8]) -> Option<usize>
     requires even { length text.now % 2 ≡ 0 }
     ensures symbol { Yields (λ base. (index : ℕ) → (result ≡ Some index)
@@ -68,8 +68,8 @@ pub fn first_wrong(text: &[u8]) -> Option<usize>
     text.iter().position(|byte| is_no_symbol(&encoding, *byte))
 }
 
-/// Whether two keys are equal, which is seen from their texts: those of keys of different length
-/// differ, too.
+/// Whether two keys are equal, by comparing their texts. The texts of keys of different lengths
+/// differ too.
 pub fn is_same_key(
     alloc: Global,
     encoding: &Encoding,
@@ -87,8 +87,8 @@ pub fn is_same_key(
     Ok(text.as_bytes() == other_text.as_bytes())
 }
 
-/// Whether a text in hexadecimal digits of either case is that of a digest of 20 bytes, where it
-/// means any data: its length tells.
+/// Whether a text in hexadecimal digits of either case is that of a digest of 20 bytes, provided
+/// that it means data. This depends on its length only.
 pub fn is_digest(text: &[u8]) -> bool
     ensures { Yields (λ base. (bytes : List ℕ) → Means base text.now bytes
         → (IsTrue result ↔ (length bytes ≡ 20))) hexlower_permissive_fields }
@@ -98,8 +98,8 @@ pub fn is_digest(text: &[u8]) -> bool
     text.len() == hexlower_permissive().encode_len(20)
 }
 
-/// How far behind a front of whole groups the fault of a text is: a front that means data has none.
-/// There is no such place where the text has no fault, or the front has one.
+/// Returns how far after a prefix of whole groups the fault of a text is, if the prefix means data.
+/// Returns `None` if the text has no fault or the prefix has one.
 pub fn place_behind(alloc: Global, text: &[u8], len: usize) -> Result<Option<usize>, AllocError>
     requires limit { length text.now ≤ DECODE_LIMIT }
     requires within { len ≤ length text.now }
@@ -124,7 +124,7 @@ pub fn place_behind(alloc: Global, text: &[u8], len: usize) -> Result<Option<usi
     }
 }
 
-/// The texts of two data in BASE32HEX_NOPAD, which are in the order of the data.
+/// Returns the texts of two pieces of data in BASE32HEX_NOPAD, which are in the order of the data.
 pub fn texts_in_order(
     alloc: Global,
     one: &[u8],
@@ -143,8 +143,8 @@ pub fn texts_in_order(
     Ok((text, other_text))
 }
 
-/// Whether data in BASE64_NOPAD may be sorted by their texts: `0` has a greater value than `z`, and
-/// comes before it.
+/// Whether data in BASE64_NOPAD may be sorted by their texts. It may not: `0` has a greater value
+/// than `z`, but comes before it.
 pub fn is_sorted_by_texts() -> bool
     ensures { Yields (λ base. IsTrue result ↔ KeepsOrder base) base64_nopad_fields }
 {
@@ -153,7 +153,8 @@ pub fn is_sorted_by_texts() -> bool
     false
 }
 
-/// Whether a byte may be a text of no data, as the empty text is: where it is ignored.
+/// Whether a text of this one byte means no data, as the empty text does: it does if the byte is
+/// ignored.
 pub fn is_empty_text(encoding: &Encoding, byte: u8) -> bool
     ensures value { result ≡ is_ignored (meaning encoding.now byte) }
     ensures texts { IsTrue result → AreTwoTexts encoding.now [] (byte ∷ []) [] }

@@ -1,4 +1,4 @@
-//! Tokens, names and key files, of encodings whose laws need no test at run time.
+//! Tokens, names and key files, in encodings whose laws need no test at run time.
 
 ghost use Rattle.std.specs.Prelude.{◌≡◌, ◌↔◌, ◌≤◌, ◌==◌, ℕ, List, length, take, reverse, take_while, count_by, not, is_some, Some, Ok, Err, IsTrue, IfOk, IfSome};
 ghost use Rattle.std.specs.String.{string_bytes};
@@ -16,7 +16,7 @@ use data_encoding::{
 };
 use std::alloc::{AllocError, Global};
 
-/// The token of data, in BASE64URL_NOPAD.
+/// Returns the token of data, in BASE64URL_NOPAD.
 pub fn token_of(alloc: Global, input: &[u8]) -> Result<String, AllocError>
     requires limit { length input.now ≤ ENCODE_LIMIT }
     ensures { Yields (λ base. IfOk result
@@ -25,8 +25,8 @@ pub fn token_of(alloc: Global, input: &[u8]) -> Result<String, AllocError>
     base64url_nopad().encode(alloc, input)
 }
 
-/// The data of a token, where it means any. No other token has them: `laws::canonical` says it of
-/// BASE64URL_NOPAD, so nothing is tested.
+/// Returns the data of a token, if it means any. No other token has the same data:
+/// `laws::canonical` states this for BASE64URL_NOPAD, so nothing is tested.
 pub fn decoded_token(alloc: Global, token: &[u8]) -> Result<Option<Vec<u8>>, AllocError>
     requires limit { length token.now ≤ DECODE_LIMIT }
     ensures some { Yields (λ base. IfOk result (λ found. IsTrue (is_some found)
@@ -42,7 +42,8 @@ pub fn decoded_token(alloc: Global, token: &[u8]) -> Result<Option<Vec<u8>>, All
     }
 }
 
-/// Whether a token is that of 16 bytes, where it means any data: its length tells.
+/// Whether a token is that of 16 bytes, provided that it means data. This depends on its length
+/// only.
 pub fn is_key(token: &[u8]) -> bool
     ensures { Yields (λ base. (bytes : List ℕ) → Means base token.now bytes
         → (IsTrue result ↔ (length bytes ≡ 16))) base64url_nopad_fields }
@@ -53,7 +54,7 @@ pub fn is_key(token: &[u8]) -> bool
     token.len() == base64url_nopad().encode_len(16)
 }
 
-/// Whether the data of a name come before those of another, in BASE32HEX_NOPAD: the names are
+/// Whether the data of one name comes before that of another, in BASE32HEX_NOPAD. The names are
 /// compared, and nothing is decoded.
 pub fn comes_before(one: &[u8], other: &[u8]) -> bool
     ensures { Yields (λ base. (bytes others : List ℕ)
@@ -66,17 +67,17 @@ pub fn comes_before(one: &[u8], other: &[u8]) -> bool
     one < other
 }
 
-/// A line of a text, and a place in it, both from 0.
+/// A line of a text, and a position in it, both from 0.
 #[derive(Clone, Copy, Debug, PartialEq, Eq)]
 pub struct Place {
-    /// How many LF stand before it.
+    /// How many LF come before it.
     pub line: usize,
 
-    /// How many bytes stand between the last of these and it.
+    /// How many bytes are between the last of these and it.
     pub column: usize,
 }
 
-/// Where a position of a text is.
+/// Returns the line and the column of a position in a text.
 pub fn place_of(text: &[u8], position: usize) -> Place
     requires within { position ≤ length text.now }
     ensures line { result.line ≡ count_by (λ byte. byte == 10) (take position text.now) }
@@ -93,18 +94,18 @@ pub fn place_of(text: &[u8], position: usize) -> Place
     Place { line, column }
 }
 
-/// Why the body of a key file has no data.
+/// The reason why the body of a key file has no data.
 #[derive(Debug, Drop)]
 pub enum BodyFault {
-    /// Its text has a fault there.
+    /// Its text has a fault at this place.
     Text(Place, DecodeKind),
 
-    /// No memory was found.
+    /// Memory ran out.
     OutOfMemory,
 }
 
-/// The data of the body of a key file: lines of base64, of any length. A fault is named by its line
-/// and its column.
+/// Returns the data of the body of a key file: lines of base64, of any length. A fault is reported
+/// with its line and its column.
 pub fn data_of_body(alloc: Global, body: &[u8]) -> Result<Vec<u8>, BodyFault>
     requires limit { length body.now ≤ DECODE_LIMIT }
     ensures means { Yields (λ base. IfOk result (λ bytes. Means base body.now bytes.items))

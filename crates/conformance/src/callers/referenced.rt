@@ -1,4 +1,4 @@
-//! Callers of encodings by reference, whose tables stand elsewhere.
+//! Callers of encodings by reference, which hold no tables of their own.
 
 ghost use Rattle.std.specs.Prelude.{◌≡◌, take, IfSome, IsTrue};
 ghost use Rattle.data_encoding.specs.Grammar.{Means};
@@ -6,7 +6,8 @@ ghost use Rattle.data_encoding.specs.Text.{text_of};
 
 use data_encoding::{DECODE_LIMIT, ENCODE_LIMIT, EncodingRef};
 
-/// Writes the text of data into a buffer of exactly its length, and returns whether it was that.
+/// Writes the text of data to a buffer of exactly its length, and returns whether the buffer had
+/// that length.
 pub fn encode_exactly(encoding: &EncodingRef<'_>, input: &[u8], output: &mut [u8]) -> bool
     ensures { IsTrue result → output.new ≡ text_of encoding.now input.now }
 {
@@ -17,8 +18,9 @@ pub fn encode_exactly(encoding: &EncodingRef<'_>, input: &[u8], output: &mut [u8
     true
 }
 
-/// Decodes a text to the front of a buffer that has exactly `decode_len` of its length, and returns
-/// how many bytes it means; nothing where it has a fault, or the buffer another length.
+/// Decodes a text to the start of a buffer that has exactly the length that `decode_len` returns,
+/// and returns how many bytes it means, or `None` if the text has a fault or the buffer has another
+/// length.
 pub fn decode_exactly(encoding: &EncodingRef<'_>, input: &[u8], output: &mut [u8]) -> Option<usize>
     ensures { IfSome result (λ len. Means encoding.now input.now (take len output.new)) }
 {

@@ -1,4 +1,4 @@
-//! Texts that are written otherwise, or compared, and mean the same.
+//! Texts that are rewritten or compared, and mean the same.
 
 ghost use Rattle.std.specs.Prelude.{◌≡◌, ◌≢◌, ◌↔◌, ◌<◌, ◌&&◌, All, ℕ, List, [], ◌∷◌, ◌++◌, Ok, flat_map, is_some, IsTrue, IfOk, IfSome};
 ghost use Rattle.data_encoding.specs.Base.{Base, is_ignored, meaning};
@@ -17,7 +17,7 @@ use data_encoding::laws::{
 use data_encoding::{Encoding, base32_dnssec};
 use std::alloc::{AllocError, Global};
 
-// The bytes of a text that are not ignored.
+// Returns the bytes of a text that are not ignored.
 fn kept(alloc: Global, encoding: &Encoding, text: &[u8]) -> Result<Vec<u8>, AllocError>
     ensures { IfOk result (λ bytes. bytes.items ≡ kept_bytes encoding.now text.now) }
 {
@@ -30,7 +30,7 @@ fn kept(alloc: Global, encoding: &Encoding, text: &[u8]) -> Result<Vec<u8>, Allo
     Ok(bytes)
 }
 
-// The bytes in lines of `line`, the last perhaps shorter, each followed by CR LF.
+// Returns the bytes in lines of `line`, the last of which may be shorter, each followed by CR LF.
 fn in_lines(alloc: Global, bytes: &[u8], line: usize) -> Result<Vec<u8>, AllocError>
     requires some { 0 < line }
     ensures { IfOk result (λ output. output.items
@@ -44,9 +44,9 @@ fn in_lines(alloc: Global, bytes: &[u8], line: usize) -> Result<Vec<u8>, AllocEr
     Ok(output)
 }
 
-/// A text in lines of `line` characters, each followed by CR LF, as a MIME body is wrapped to other
-/// lines: it means the data that the text means. There is none where the encoding does not ignore
-/// CR and LF. Where `line` is 0, there is one line.
+/// Returns a text in lines of `line` characters, each followed by CR LF, as a MIME body is wrapped
+/// anew: it means the same data as the text. Returns `None` unless the encoding ignores both CR and
+/// LF. If `line` is 0, there is one line.
 pub fn rewrapped(
     alloc: Global,
     encoding: &Encoding,
@@ -87,8 +87,9 @@ fn url_byte(byte: u8) -> u8
     }
 }
 
-/// Turns a text of base64 into one of base64url, where it stands: it means the same data, and the
-/// text of data becomes their text. A text without `-` and `_` has the same fault as before.
+/// Changes a text of base64 into one of base64url, in place. It means the same data, and the text
+/// of data becomes their text in base64url. A text without `-` and `_` has the same fault as
+/// before.
 pub fn to_base64url(text: &mut [u8])
     ensures text { (base url : Base) (bytes : List ℕ)
         → base_of base64_fields ≡ Ok base → base_of base64url_fields ≡ Ok url
@@ -108,8 +109,8 @@ pub fn to_base64url(text: &mut [u8])
     }
 }
 
-/// Whether two names are the same in either case, as hashed names of DNSSEC are compared: of names
-/// that mean data, exactly where they mean the same data.
+/// Whether two names are the same in either case, as hashed names of DNSSEC are compared. Names
+/// that mean data are the same if and only if they mean the same data.
 pub fn is_same_name(one: &[u8], other: &[u8]) -> bool
     ensures { (base : Base) (bytes others : List ℕ) → base_of base32_dnssec_fields ≡ Ok base
         → Means base one.now bytes → Means base other.now others
@@ -129,7 +130,7 @@ pub fn is_same_name(one: &[u8], other: &[u8]) -> bool
     true
 }
 
-// The byte that a byte of a name of BASE32_DNSSEC stands for.
+// The byte that a byte of a name of BASE32_DNSSEC is translated to, or the byte itself.
 fn lower_byte(byte: u8) -> u8
     ensures { (base : Base) → base_of base32_dnssec_fields ≡ Ok base
         → result ≡ exchanged base base byte }
@@ -140,7 +141,7 @@ fn lower_byte(byte: u8) -> u8
     }
 }
 
-/// Puts a name of BASE32_DNSSEC in lower case, where it stands.
+/// Changes a name of BASE32_DNSSEC to lower case, in place.
 pub fn to_lower_case(name: &mut [u8])
     ensures { (base : Base) → base_of base32_dnssec_fields ≡ Ok base
         → name.new ≡ own_form base name.old }
@@ -157,8 +158,8 @@ fn is_before(one: &[u8], other: &[u8]) -> bool
     one < other
 }
 
-/// Whether the data of a name come before those of another, in either case, as hashed names of
-/// DNSSEC are sorted: the names are put in lower case and compared, and nothing is decoded.
+/// Whether the data of one name comes before that of another, in either case, as hashed names of
+/// DNSSEC are sorted. The names are changed to lower case and compared, and nothing is decoded.
 pub fn sorts_before(one: &mut [u8], other: &mut [u8]) -> bool
     ensures { (base : Base) (bytes others : List ℕ) → base_of base32_dnssec_fields ≡ Ok base
         → Means base one.old bytes → Means base other.old others

@@ -16,7 +16,7 @@ use std::alloc::AllocError;
 use std::fmt;
 use std::fmt::Display;
 
-/// The encoding again, from the bytes that stand for it.
+/// Returns the encoding again, from its layout, which always gives one.
 pub fn restored(encoding: &Encoding) -> Option<Encoding>
     ensures { result ≡ Some encoding.now }
 {
@@ -25,7 +25,7 @@ pub fn restored(encoding: &Encoding) -> Option<Encoding>
     Encoding::internal_new(encoding.internal_implementation().as_slice())
 }
 
-/// Whether the bytes that stand for two encodings are the same: where the encodings are equal.
+/// Whether the layouts of two encodings are the same: they are if the encodings are equal.
 pub fn is_stored_alike(encoding: &Encoding, other: &Encoding) -> bool
     ensures { IsTrue result ↔ (encoding.now ≡ other.now) }
 {
@@ -35,7 +35,7 @@ pub fn is_stored_alike(encoding: &Encoding, other: &Encoding) -> bool
     encoding.internal_implementation().as_slice() == other.internal_implementation().as_slice()
 }
 
-/// Whether the bytes stand for an encoding: where they keep the rules of layouts.
+/// Whether the bytes are the layout of an encoding: they are if they keep the rules of layouts.
 pub fn stands_for_some(bytes: &[u8]) -> bool
     ensures { IsTrue result ↔ IsLayout bytes.now }
 {
@@ -43,22 +43,22 @@ pub fn stands_for_some(bytes: &[u8]) -> bool
     Encoding::internal_new(bytes).is_some()
 }
 
-/// Shows no data: nothing is written, and no writer fails.
+/// Displays no data: nothing is written, and no writer fails.
 pub fn show_nothing<W: fmt::Write>(encoding: &Encoding, f: &mut fmt::Formatter<W>) -> fmt::Result
     ensures { IsOk result × (f.new ≡ f.old) }
 {
     encoding.encode_display(b"").fmt(f)
 }
 
-/// Appends the text of the data to what the string holds.
-pub fn write_behind(encoding: &Encoding, input: &[u8], output: &mut String) -> fmt::Result
+/// Appends the text of the data to the string.
+pub fn write_at_end(encoding: &Encoding, input: &[u8], output: &mut String) -> fmt::Result
     ensures { OnOk result (string_bytes output.new
         ≡ string_bytes output.old ++ text_of encoding.now input.now) }
 {
     encoding.encode_write(input, output)
 }
 
-// Appends, again where memory was refused at first.
+// Appends, and tries once more if memory runs out.
 fn append_again(encoder: &mut Encoder, input: &[u8]) -> Result<(), AllocError>
     requires limit { length input.now ≤ ENCODE_LIMIT }
     ensures output { output_name encoder.new ≡ output_name encoder.old }
@@ -74,8 +74,8 @@ fn append_again(encoder: &mut Encoder, input: &[u8]) -> Result<(), AllocError>
     encoder.append(input)
 }
 
-/// Appends the text of data that come in two fragments, and makes each call again that is refused
-/// memory: the text is that of the fragments joined.
+/// Appends the text of data that comes in two pieces, and makes each call that runs out of memory
+/// again. The text is that of the pieces joined.
 pub fn encoded_at_second_try(
     encoding: &Encoding,
     one: &[u8],
@@ -104,7 +104,7 @@ pub fn encoded_at_second_try(
     }
 }
 
-/// Finalizes. Where memory was refused, the text is what the encoder that is returned leaves.
+/// Finalizes. If memory runs out, the text is as the returned encoder leaves it.
 pub fn finalized(encoder: Encoder<'_>) -> Result<(), Encoder<'_>>
     ensures* { sem 𝓛 (follows_so (string_row global_row ghosts) (string_row global_row ghosts)
         (output_name encoder.entry) (name_handed_back result)

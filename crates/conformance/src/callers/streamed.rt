@@ -17,8 +17,8 @@ use data_encoding::{DECODE_LIMIT, DecodeError, DecodeFault, Encoding, base64};
 use encoding_stream::{Decoder, StreamFault, Watch, decode_stream, encode_stream};
 use std::alloc::{AllocError, Global};
 
-/// Decodes a text that comes in pieces by way of a small buffer: what a piece appends to it is
-/// appended to the output, and the buffer is cleared. Returns the verdict on the whole text.
+/// Decodes a text that comes in pieces through a small buffer: what a piece appends to the buffer
+/// is appended to the output, and the buffer is cleared. Returns the verdict on the whole text.
 pub fn decode_pieces(
     alloc: Global,
     encoding: &Encoding,
@@ -52,7 +52,8 @@ pub fn decode_pieces(
     }
 }
 
-/// The data again, by way of two streams: their text is written into memory, and read from there.
+/// Returns the data again, by way of two streams: its text is written to memory, and read from
+/// there.
 pub fn streamed_back(
     alloc: Global,
     encoding: &Encoding,
@@ -76,8 +77,8 @@ pub fn streamed_back(
     Ok(output.into_inner())
 }
 
-/// Decodes lines of base64 that come in two pieces, cut anywhere. Where the decoding of the first
-/// stops, it goes on with what was not read of it, before the second.
+/// Decodes lines of base64 that come in two pieces, cut anywhere. If the decoding of the first
+/// stops, it continues with the rest of that piece, followed by the second.
 pub fn decode_in_two(
     alloc: Global,
     encoding: &Encoding,
@@ -107,8 +108,8 @@ pub fn decode_in_two(
     }
 }
 
-/// Decodes the front of a text in base64, of whole groups of 4 characters. Its fault is that of
-/// each text of a valid length that begins so: a long text is refused by its front.
+/// Decodes a prefix of a text in base64, of whole groups of 4 characters. Its fault is that of each
+/// text of a valid length with this prefix, so a long text can be refused early.
 pub fn decoded_early(alloc: Global, front: &[u8]) -> Result<Vec<u8>, DecodeFault>
     requires limit { length front.now ≤ DECODE_LIMIT }
     requires whole { length front.now % 4 ≡ 0 }
@@ -124,7 +125,7 @@ pub fn decoded_early(alloc: Global, front: &[u8]) -> Result<Vec<u8>, DecodeFault
     base64().decode(alloc, front)
 }
 
-// Decodes a piece as far as it means data: how far it was read, and the data.
+// Decodes a piece up to its first fault, and returns how much of it was read, and the data.
 fn decode_front(
     alloc: Global,
     encoding: &Encoding,

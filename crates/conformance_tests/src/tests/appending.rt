@@ -1,4 +1,4 @@
-//! Texts that are appended to texts, and data that comes in fragments.
+//! Texts that are appended to texts, and data that comes in pieces.
 
 ghost use Rattle.std.specs.Prelude.{◌≤◌, length};
 
@@ -8,7 +8,7 @@ use data_encoding::{ENCODE_LIMIT, Encoding};
 use std::alloc::{AllocError, Global};
 use std::test::Fail;
 
-// Spends an encoder. No function of its own, since it would take what is lent to it.
+// Consumes an encoder. It is not a function, since that would take what the encoder borrows.
 macro_rules! finish {
     ($encoder:ident) => {
         match $encoder.finalize() {
@@ -27,7 +27,7 @@ fn rest_of(alloc: Global, output: &String) -> Result<String, Fail> {
     Ok(String::from_str(alloc, rest.unwrap_or("another result"))?)
 }
 
-// What is appended of data.
+// What is appended for data.
 pub(super) fn appended(alloc: Global, encoding: &Encoding, data: &str) -> Result<String, Fail> {
     let mut output = String::from_str(alloc, "Result: ")?;
     if data.len() <= ENCODE_LIMIT {
@@ -36,7 +36,7 @@ pub(super) fn appended(alloc: Global, encoding: &Encoding, data: &str) -> Result
     rest_of(alloc, &output)
 }
 
-// Appends the text of the fragments; if memory ran out, that of those before.
+// Appends the text of the pieces; if memory runs out, that of the pieces before.
 fn append_fragments(
     encoding: &Encoding,
     fragments: &str,
@@ -60,7 +60,7 @@ fn append_fragments(
     ended
 }
 
-// What is appended of data that come in fragments.
+// What is appended for data that comes in pieces.
 pub(super) fn appended_fragments(
     alloc: Global,
     encoding: &Encoding,
@@ -73,7 +73,7 @@ pub(super) fn appended_fragments(
     rest_of(alloc, &output)
 }
 
-// Encodes data that are cut in two.
+// Encodes data that is cut in two.
 pub(super) fn encode_halves(
     encoding: &Encoding,
     input: &[u8],
@@ -94,7 +94,7 @@ pub(super) fn encode_halves(
     ended
 }
 
-// Encodes byte after byte.
+// Encodes byte by byte.
 fn encode_bytes(encoding: &Encoding, data: &[u8], output: &mut String) -> Result<(), AllocError> {
     output.clear();
     let mut encoder = encoding.new_encoder(output);
@@ -109,7 +109,7 @@ fn encode_bytes(encoding: &Encoding, data: &[u8], output: &mut String) -> Result
     ended
 }
 
-// Compares the texts of data that are cut anywhere.
+// Compares the texts of data that is cut anywhere.
 fn compare_cuts(comparison: &Comparison<'_>, input: &[u8]) -> Result<(), Differs> {
     if input.len() > ENCODE_LIMIT {
         return Err(Differs {});
@@ -128,7 +128,7 @@ fn compare_cuts(comparison: &Comparison<'_>, input: &[u8]) -> Result<(), Differs
     Err(Differs {})
 }
 
-// Compares the texts of each front of some data however it is cut.
+// Compares the texts of each prefix of some data, however it is cut.
 pub(super) fn compare_fragments(comparison: &Comparison<'_>) -> Result<(), Differs> {
     let data = bytes_of_length(comparison.alloc, 200)?;
     for len in 0..=200 {

@@ -5,7 +5,7 @@ ghost use Rattle.std.specs.Prelude.{◌<◌};
 use data_encoding::BitOrder;
 use std::alloc::AllocError;
 
-// Appends so many bits of a value.
+// Appends this many bits of a value.
 pub(super) fn push_bits(
     bits: &mut Vec<bool>,
     order: BitOrder,
@@ -19,7 +19,7 @@ pub(super) fn push_bits(
     Ok(())
 }
 
-// The value of the bits of a symbol of so many, with zeros after the last.
+// The value of the bits of a symbol of this many, with zeros after the last.
 pub(super) fn value_of(order: BitOrder, width: u32, bits: &[bool]) -> usize {
     let mut value = 0usize;
     for index in 0..width {
@@ -30,7 +30,7 @@ pub(super) fn value_of(order: BitOrder, width: u32, bits: &[bool]) -> usize {
     value
 }
 
-// How many of so many bits are of less weight than this one.
+// How many of this many bits have less weight than this one.
 fn weight(order: BitOrder, count: u32, index: u32) -> u32
     requires inside { index < count }
 {

@@ -1,4 +1,4 @@
-//! Texts that come in pieces, cut anywhere, and are decoded into buffers by decoders that go on
+//! Texts that come in pieces, cut anywhere, and are decoded into buffers by decoders that continue
 //! from what is kept.
 
 ghost use Rattle.std.specs.Prelude.{◌≤◌, length};
@@ -14,7 +14,8 @@ use encoding_stream::{BufferDecoder, Kept};
 use std::alloc::{AllocError, Global};
 use std::test::Fail;
 
-// Reads a piece of at most 17 bytes into as much room as is asked for, and appends what is written.
+// Reads a piece of at most 17 bytes into exactly the room that is needed, and appends what is
+// written.
 fn read_on(
     decoder: &mut BufferDecoder<'_>,
     piece: &[u8],
@@ -29,8 +30,8 @@ fn read_on(
     output.extend_from_slice(&room[..written])
 }
 
-// Whether the text is decoded, or refused, as by the judge, that comes in three pieces, with a
-// decoder for each.
+// Whether a text that comes in three pieces, with a decoder for each, is decoded or refused as the
+// judge does.
 fn is_cut_alike(
     alloc: Global,
     encoding: &Encoding,
@@ -59,7 +60,7 @@ fn is_cut_alike(
     Ok(verdict.err() == want.fault && output == want.bytes)
 }
 
-// The same, for every two positions.
+// The same for every two positions.
 fn is_alike(
     alloc: Global,
     encoding: &Encoding,
@@ -81,7 +82,7 @@ fn is_alike(
     Ok(true)
 }
 
-// Whether the caller that is proved decodes the text so, that is cut in two.
+// Whether the proved caller decodes the text, cut in two, in the same way.
 fn is_kept_alike(
     alloc: Global,
     encoding: &Encoding,
@@ -112,7 +113,7 @@ fn is_kept_alike(
     Ok(filled.verdict.err() == want.fault && output == want.bytes)
 }
 
-// The fault of a text, if it is decoded as by the judge, wherever it is cut.
+// The fault of a text, if it is decoded as the judge does wherever it is cut.
 pub(super) fn kept(
     alloc: Global,
     encoding: &Encoding,
@@ -132,8 +133,8 @@ pub(super) fn kept(
     }
 }
 
-// Whether a decoder of base64 goes on from so many bytes, with a fault or without, of which so
-// many are held.
+// Whether a decoder of base64 continues from a text of this many bytes, with a fault or without, of
+// which this many are held.
 fn goes_on(len: usize, is_faulty: bool, count: usize) -> bool {
     let error = DecodeError {
         position: 0,
@@ -151,7 +152,7 @@ fn goes_on(len: usize, is_faulty: bool, count: usize) -> bool {
     BufferDecoder::resumed(&base64(), kept).is_some()
 }
 
-// Whether a decoder goes on from eight bytes of which three, all alike, are held.
+// Whether a decoder continues from eight bytes of which three equal ones are held.
 fn holds(encoding: &Encoding, positions: (usize, usize, usize), byte: u8) -> bool {
     let (first, second, third) = positions;
     let kept = Kept {
@@ -165,7 +166,7 @@ fn holds(encoding: &Encoding, positions: (usize, usize, usize), byte: u8) -> boo
     BufferDecoder::resumed(encoding, kept).is_some()
 }
 
-// Whether a decoder goes on from eight bytes with a fault.
+// Whether a decoder continues from eight bytes with a fault.
 fn has_fault(encoding: &Encoding, position: usize, kind: DecodeKind) -> bool {
     let kept = Kept {
         len: 8,
@@ -178,7 +179,7 @@ fn has_fault(encoding: &Encoding, position: usize, kind: DecodeKind) -> bool {
     BufferDecoder::resumed(encoding, kept).is_some()
 }
 
-// Whether a decoder goes on from one byte, which is held, at its position or at another.
+// Whether a decoder continues from one byte, which is held, at its position or at another.
 fn holds_one(encoding: &Encoding, position: usize, ended: bool) -> bool {
     let kept = Kept {
         len: 1,
@@ -191,7 +192,7 @@ fn holds_one(encoding: &Encoding, position: usize, ended: bool) -> bool {
     BufferDecoder::resumed(encoding, kept).is_some()
 }
 
-// Whether a decoder asks for room, and after a fault for none.
+// Whether a decoder needs room, and after a fault none.
 fn asks_for_room() -> bool {
     let encoding = base64();
     let mut decoder = BufferDecoder::new(&encoding);
@@ -271,7 +272,7 @@ fn refuses_faults_that_no_group_has(rt: HostRuntime) {
     );
 }
 
-// Whether data in two pieces, cut here, have a text in three buffers.
+// Whether data in two pieces, cut here, has a text in three buffers.
 fn is_encoded(data: (&[u8], &[u8]), wanted: (&[u8], &[u8], &[u8])) -> bool
     requires first { length data.0.now ≤ 17 }
     requires second { length data.1.now ≤ 17 }

@@ -1,4 +1,4 @@
-//! The callers, compared with rows: two texts have a space between them.
+//! The callers, compared with rows: two texts are separated by a space.
 
 ghost use Rattle.std.specs.Prelude.{◌≤◌, length};
 
@@ -47,7 +47,7 @@ enum Caller {
     UrlText,
 }
 
-// The names of RFC 5155, appendix A, for `example`, and for `a.example`, are compared. The byte `B`
+// The names of RFC 5155, appendix A, for `example` and for `a.example`, are compared. The byte `B`
 // comes before `a`, and the value of `a` before that of `B`; 9 and A have the values 9 and 10.
 const TABLES: [(Caller, &str); 22] = [
     (
@@ -163,7 +163,7 @@ BASE64_MIME|SGVs←↵b G!=|invalid symbol at 8",
     (Caller::UrlText, "BASE64|A+/A/w==|A-_A_w=="),
 ];
 
-// How an answer is written.
+// How a result is written.
 fn told(alloc: Global, answer: Result<Vec<u8>, DecodeFault>) -> Result<String, Fail> {
     match answer {
         Ok(bytes) => Ok(field_of(alloc, &bytes)?),
@@ -171,7 +171,7 @@ fn told(alloc: Global, answer: Result<Vec<u8>, DecodeFault>) -> Result<String, F
     }
 }
 
-// The same of data, or none.
+// The same for data, or none.
 fn told_if_any(alloc: Global, answer: Result<Option<Vec<u8>>, AllocError>) -> Result<String, Fail> {
     match answer? {
         Some(bytes) => Ok(field_of(alloc, &bytes)?),
@@ -179,7 +179,7 @@ fn told_if_any(alloc: Global, answer: Result<Option<Vec<u8>>, AllocError>) -> Re
     }
 }
 
-// The same of yes or no.
+// The same for yes or no.
 fn told_if_so(alloc: Global, answer: Result<bool, DecodeFault>) -> Result<String, Fail> {
     match answer {
         Ok(true) => Ok(String::from_str(alloc, "true")?),
@@ -202,7 +202,7 @@ fn body(alloc: Global, input: &[u8]) -> Result<String, Fail>
     }
 }
 
-// The data of a front of whole groups.
+// The data of a prefix of whole groups.
 fn early(alloc: Global, input: &[u8]) -> Result<String, Fail>
     requires limit { length input.now ≤ DECODE_LIMIT }
 {
@@ -212,7 +212,7 @@ fn early(alloc: Global, input: &[u8]) -> Result<String, Fail>
     told(alloc, decoded_early(alloc, input))
 }
 
-// The text of two pieces of data, after words.
+// The text of two pieces of data, appended to other text.
 fn text_in_two(
     alloc: Global,
     encoding: &Encoding,
@@ -234,7 +234,8 @@ fn two(alloc: Global, one: &[u8], other: &[u8]) -> Result<String, Fail> {
     told(alloc, decode_in_two(alloc, &base64_mime(), one, other))
 }
 
-// What the pieces `SGVs` CR, LF `bG` and the last are decoded to, after a sign, and their fault.
+// What the pieces `SGVs` CR, LF `bG` and the last are decoded to, appended to a prompt, and their
+// fault.
 fn pieces(alloc: Global, last: &[u8]) -> Result<String, Fail> {
     let mut output = vec![in alloc; b'>']?;
     let pieces = [b"SGVs\r".as_slice(), b"\nbG".as_slice(), last];
@@ -251,7 +252,7 @@ fn pieces(alloc: Global, last: &[u8]) -> Result<String, Fail> {
     Ok(field_of(alloc, &output)?)
 }
 
-// A text, changed where it is.
+// A text, changed in place.
 fn changed(alloc: Global, input: &[u8], is_url: bool) -> Result<String, Fail> {
     let mut text = input.to_vec(alloc)?;
     if is_url {
@@ -269,7 +270,7 @@ fn is_sorted(alloc: Global, one: &[u8], other: &[u8]) -> Result<bool, AllocError
     Ok(sorts_before(&mut one, &mut other))
 }
 
-// What a caller returns of an encoding and another.
+// What a caller returns for two encodings.
 fn returned_of_two(
     alloc: Global,
     caller: Caller,
@@ -286,7 +287,7 @@ fn returned_of_two(
     told_if_so(alloc, Ok(is_so))
 }
 
-// What a caller returns of two texts.
+// What a caller returns for two texts.
 fn returned_of_two_texts(
     alloc: Global,
     caller: Caller,
@@ -307,7 +308,7 @@ fn returned_of_two_texts(
     }
 }
 
-// The same of two texts with a space between them.
+// The same for two texts separated by a space.
 fn returned_of_texts(
     alloc: Global,
     caller: Caller,
@@ -323,7 +324,7 @@ fn returned_of_texts(
     returned_of_two_texts(alloc, caller, encoding, &one, &other)
 }
 
-// What a caller returns of a text or of data.
+// What a caller returns for a text or for data.
 fn returned(
     alloc: Global,
     caller: Caller,
@@ -351,7 +352,7 @@ fn returned(
     }
 }
 
-// What a caller returns of a row.
+// What a caller returns for a row.
 fn returned_of_row(alloc: Global, caller: Caller, case: &Case<'_>) -> Result<String, Fail> {
     match caller {
         Caller::IsYieldedAgain | Caller::IsStored => {
@@ -373,7 +374,7 @@ fn returned_of_row(alloc: Global, caller: Caller, case: &Case<'_>) -> Result<Str
     }
 }
 
-// Fails where a caller returns something else.
+// Fails if a caller returns something else.
 fn compare_row(alloc: Global, caller: Caller, line: &str) -> Result<(), Fail> {
     let case = case_of(alloc, line)?;
     let answer = returned_of_row(alloc, caller, &case)?;

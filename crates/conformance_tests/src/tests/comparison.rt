@@ -1,5 +1,5 @@
 //! Texts that are decoded by each call, at once and in pieces, and compared with what the judge
-//! finds in them.
+//! returns for them.
 
 ghost use Rattle.std.specs.Prelude.{◌≡◌, ◌<◌, ◌≤◌, length};
 
@@ -10,7 +10,7 @@ use data_encoding::{DECODE_LIMIT, DecodeError, DecodeFault, Encoding};
 use encoding_stream::Decoder;
 use std::alloc::{AllocError, Global};
 
-// A text is not decoded as the judge says, or memory ran out.
+// A text is not decoded as the judge does, or memory ran out.
 #[derive(Drop)]
 pub(super) struct Differs {}
 
@@ -29,8 +29,8 @@ impl From<DecodeFault> for Differs {
 // The room for the data of a text, in bytes.
 const ROOM: usize = 576;
 
-// How many texts came in pieces, and how often one did: cut at another position, or from a reader;
-// and how often a decoding of a front was resumed.
+// How many texts came in pieces, and how many times in all: cut at another position, or from a
+// reader; and how many times a decoding of a prefix was resumed.
 #[derive(Clone, Copy)]
 pub(super) struct Tally {
     pub(super) texts: usize,
@@ -48,19 +48,19 @@ impl Tally {
     }
 }
 
-// An encoding, what its results are compared with, and how many were.
+// An encoding, what its results are compared with, and how many were compared.
 #[derive(Drop)]
 pub(super) struct Comparison<'a> {
     pub(super) alloc: Global,
     pub(super) encoding: &'a Encoding,
     pub(super) judge: Judge<'a>,
     pub(super) tally: Tally,
-    // What a decoder appends; its memory is kept for the next.
+    // What a decoder appends; the vector is reused.
     output: Vec<u8>,
 }
 
 impl<'a> Comparison<'a> {
-    // One that goes on with a tally.
+    // One that continues a tally.
     pub(super) fn new(
         alloc: Global,
         encoding: &'a Encoding,
@@ -76,7 +76,7 @@ impl<'a> Comparison<'a> {
         }
     }
 
-    // Compares what is made of a text: at once, resumed and in pieces.
+    // Compares the results for a text: at once, resumed and in pieces.
     pub(super) fn compare(&mut self, text: &[u8]) -> Result<(), Differs> {
         if text.len() > DECODE_LIMIT {
             return Err(Differs {});
@@ -92,8 +92,8 @@ impl<'a> Comparison<'a> {
         self.compare_pieces(&want, text)
     }
 
-    // Whether a decoding of each front of a valid length that may be followed is resumed to what is
-    // wanted of the whole.
+    // Whether a decoding of each prefix of a valid length that may be followed is resumed, with the
+    // result that is expected of the whole.
     fn is_resumed_alike(&mut self, want: &Judgement, text: &[u8]) -> bool
         requires limit { length text.now ≤ DECODE_LIMIT }
     {
@@ -114,7 +114,7 @@ impl<'a> Comparison<'a> {
         true
     }
 
-    // Compares what is found in a text that is cut in two, at each position, and in one that comes
+    // Compares the results for a text that is cut in two, at each position, and for one that comes
     // byte by byte, in pieces and from a reader.
     pub(super) fn compare_pieces(&mut self, want: &Judgement, text: &[u8]) -> Result<(), Differs> {
         for position in 0..=text.len() {
@@ -126,7 +126,7 @@ impl<'a> Comparison<'a> {
     }
 
     // Compares what a decoder appends and returns, which is pushed the text up to a position, and
-    // then pieces of so many bytes.
+    // then in pieces of this many bytes.
     pub(super) fn compare_cut(
         &mut self,
         want: &Judgement,
@@ -153,7 +153,7 @@ impl<'a> Comparison<'a> {
         Err(Differs {})
     }
 
-    // The same of a decoder whose output is cleared after each call.
+    // The same for a decoder whose output is cleared after each call.
     pub(super) fn compare_drained(
         &mut self,
         want: &Judgement,
@@ -197,7 +197,7 @@ impl<'a> Comparison<'a> {
     }
 }
 
-// Appends what was appended to what was drained before.
+// Appends the output to what was drained before.
 fn drain(output: &mut Vec<u8>, drained: &mut Vec<u8>) -> Result<(), AllocError> {
     drained.extend_from_slice(output)?;
     output.clear();
@@ -220,7 +220,7 @@ pub(super) fn is_decoded_alike(
     }
 }
 
-// Whether `decode_mut` reads and writes as much of the text as the judge, and the same bytes.
+// Whether `decode_mut` reads and writes as much of the text as the judge does, and the same bytes.
 pub(super) fn is_written_alike(encoding: &Encoding, want: &Judgement, text: &[u8]) -> bool
     requires limit { length text.now ≤ DECODE_LIMIT }
 {
@@ -242,8 +242,8 @@ pub(super) fn is_written_alike(encoding: &Encoding, want: &Judgement, text: &[u8
     is_same && written == want.bytes.len() && output.starts_with(&want.bytes)
 }
 
-// How far the front of a text is read, and how many bytes are written, where its length is that of
-// a text of few bytes.
+// How far a prefix of a text is read, and how many bytes are written, if its length is that of a
+// text of few bytes.
 pub(super) fn front_read(
     encoding: &Encoding,
     front: &[u8],
@@ -264,8 +264,8 @@ pub(super) fn front_read(
     }
 }
 
-// Whether what is wanted of the whole comes of decoding the rest of a text, of which so much was
-// read, and so many bytes written.
+// Whether decoding the rest of a text, of which this much was read and this many bytes were
+// written, gives what is expected of the whole.
 fn is_completed(
     encoding: &Encoding,
     want: &Judgement,
@@ -295,7 +295,7 @@ fn is_completed(
     }
 }
 
-// Whether a fault is the other, so many bytes later.
+// Whether a fault is the other, with this many bytes added to its position.
 fn is_further(fault: Option<DecodeError>, read: usize, error: DecodeError) -> bool {
     match fault {
         Some(fault) => {

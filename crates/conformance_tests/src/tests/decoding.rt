@@ -27,7 +27,7 @@ pub(super) fn most(alloc: Global, encoding: &Encoding, len: usize) -> Result<Str
     })
 }
 
-// How far `decode_mut` comes.
+// How far `decode_mut` gets.
 pub(super) fn beginning(alloc: Global, encoding: &Encoding, text: &[u8]) -> Result<String, Fail>
     requires limit { length text.now ≤ DECODE_LIMIT }
 {

@@ -1,6 +1,6 @@
-//! Tables drawn at random, and tables whose symbols follow one another but for one, in texts that
-//! are looked up by lanes: data have the text that lists of bits say, and with each byte in place
-//! of a symbol it means what the symbols of that group say, or has their fault.
+//! Tables drawn at random, and tables whose symbols are consecutive bytes except for one, with
+//! texts that are looked up in lanes. Data has the text that lists of bits give. With each byte
+//! instead of a symbol, the text means what the symbols of that group mean, or has their fault.
 
 use super::comparison::{Comparison, Differs, Tally};
 use super::judge::{Judge, Judgement};
@@ -9,7 +9,7 @@ use data_encoding::{BitOrder, DECODE_LIMIT, DecodeError, Specification};
 use std::alloc::{AllocError, Global};
 use std::test::Fail;
 
-// Numbers that differ from run to run of a sweep, and not from one run of the tests to the next.
+// Numbers that differ within a sweep, but not from one run of the tests to the next.
 #[derive(Drop)]
 struct Draw {
     state: u64,
@@ -25,7 +25,7 @@ impl Draw {
         (self.state >> 33) as usize % bound.max(1)
     }
 
-    // Appends so many bytes.
+    // Appends this many bytes.
     fn put_bytes(&mut self, bytes: &mut Vec<u8>, count: usize) -> Result<(), AllocError> {
         for _ in 0..count {
             bytes.push((self.below(256) % 256) as u8)?;
@@ -34,7 +34,7 @@ impl Draw {
     }
 }
 
-// A table, what it is compared with, and data that are encoded by it.
+// A table, what it is compared with, and data that is encoded with it.
 #[derive(Drop)]
 struct Sweep<'a> {
     comparison: Comparison<'a>,
@@ -43,7 +43,7 @@ struct Sweep<'a> {
 }
 
 impl Sweep<'_> {
-    // The symbol that a byte stands for, or the byte itself.
+    // The symbol that a byte is translated to, or the byte itself.
     fn meant(&self, byte: u8) -> u8 {
         let translate = &self.specification.translate;
         for (from, to) in translate
@@ -59,7 +59,7 @@ impl Sweep<'_> {
         byte
     }
 
-    // What the judge finds in the first group.
+    // What the judge returns for the first group.
     fn judged(&self, text: &[u8]) -> Result<Judgement, AllocError> {
         let mut group = Vec::new(self.comparison.alloc);
         for byte in text.iter().take(self.comparison.judge.group_len()) {
@@ -68,20 +68,21 @@ impl Sweep<'_> {
         self.comparison.judge.decode(self.comparison.alloc, &group)
     }
 
-    // Whether bytes begin with so many of the data, and what is wanted of the next group.
+    // Whether bytes start with this many of the data, followed by what is expected of the next
+    // group.
     fn begins(&self, bytes: &[u8], front: usize, want: &Judgement) -> bool {
         bytes.get(..front) == self.data.bytes.get(..front)
             && bytes.get(front..).unwrap_or(&[]).starts_with(&want.bytes)
     }
 
-    // Whether bytes are the data, but for what is wanted of a group of this size.
+    // Whether bytes are the data, except for what is expected of a group of this size.
     fn is_whole(&self, bytes: &[u8], front: usize, size: usize, want: &Judgement) -> bool {
         let rest = bytes.get(front.wrapping_add(want.bytes.len())..);
         let data = self.data.bytes.get(front.wrapping_add(size)..);
         self.begins(bytes, front, want) && rest.unwrap_or(&[]) == data.unwrap_or(&[])
     }
 
-    // Whether `decode_mut` finds in a text what is wanted of a group, and the data in the others.
+    // Whether `decode_mut` returns what is expected of a group, and the data of the others.
     fn is_found(&self, text: &[u8], group: usize, want: &Judgement) -> bool {
         let encoding = self.comparison.encoding;
         if text.len() > DECODE_LIMIT {
@@ -110,7 +111,7 @@ impl Sweep<'_> {
         }
     }
 
-    // Compares what `decode_mut` finds in a text with what the judge finds in the group at a
+    // Compares what `decode_mut` returns for a text with what the judge returns for the group at a
     // position, and with the data.
     fn compare(&self, text: &[u8], position: usize) -> Result<(), Differs> {
         let symbols = self.comparison.judge.group_len();
@@ -123,7 +124,7 @@ impl Sweep<'_> {
         Err(Differs {})
     }
 
-    // Compares a text with each byte at the position, and as it is.
+    // Compares a text with each byte at the position, and unchanged.
     fn compare_damaged(&self, text: &mut [u8], position: usize) -> Result<(), Differs> {
         if position >= text.len() {
             return Err(Differs {});
@@ -149,7 +150,7 @@ impl Sweep<'_> {
     }
 }
 
-// Whether all of this is so of data of this many groups, and a byte.
+// Whether all of this holds for data of this many groups and a byte.
 fn is_alike(
     alloc: Global,
     specification: &Specification,
@@ -169,7 +170,7 @@ fn is_alike(
     Ok(sweep.compare_all(draw).is_ok())
 }
 
-// The same of a few groups, and of as many as the affine form of a table is looked for in.
+// The same for a few groups, and for as many as the affine form of a table is looked for in.
 fn compare_lengths(
     alloc: Global,
     specification: &Specification,
@@ -185,7 +186,7 @@ fn compare_lengths(
     Err(Fail::new(format_args!("turn {turn}")))
 }
 
-// Symbols, padding, which not every width allows, and bytes that stand for symbols.
+// Sets symbols, padding, which not every width allows, and translated bytes.
 fn specify_drawn(
     specification: &mut Specification,
     draw: &mut Draw,
@@ -212,8 +213,8 @@ fn specify_drawn(
     Ok(())
 }
 
-// Symbols whose bytes follow one another as their values do, but for one, which is this byte: it
-// comes after the others, or before them.
+// Sets symbols whose bytes are consecutive, as their values are, except for this byte, which comes
+// after the others or before them.
 fn specify_odd(
     specification: &mut Specification,
     draw: &mut Draw,
@@ -234,7 +235,7 @@ fn specify_odd(
     Ok(())
 }
 
-// The order that comes at every second turn.
+// The order of every second turn.
 fn order_of(turn: u32) -> BitOrder {
     match turn % 2 {
         0 => BitOrder::MostSignificantFirst,
@@ -242,7 +243,7 @@ fn order_of(turn: u32) -> BitOrder {
     }
 }
 
-// Compares a table that is drawn; the failure names the turn.
+// Compares a drawn table; the failure names the turn.
 fn compare_drawn(alloc: Global, draw: &mut Draw, turn: u32) -> Result<(), Fail> {
     let mut specification = Specification::new(alloc);
     specification.bit_order = order_of(turn / 6);
@@ -254,7 +255,7 @@ fn compare_drawn(alloc: Global, draw: &mut Draw, turn: u32) -> Result<(), Fail> 
     compare_lengths(alloc, &specification, draw, turn)
 }
 
-// Compares a table of which one symbol is odd.
+// Compares a table with one exceptional symbol.
 fn compare_odd(alloc: Global, draw: &mut Draw, turn: u32) -> Result<(), Fail> {
     let mut specification = Specification::new(alloc);
     specification.bit_order = order_of(turn);

@@ -1,4 +1,4 @@
-//! Data of each length up to 8,200 bytes: a call with ample memory never says that it ran out.
+//! Data of each length up to 8,200 bytes: a call with ample memory never returns that it ran out.
 
 ghost use Rattle.std.specs.Prelude.{◌≤◌, length};
 
@@ -8,8 +8,8 @@ use super::judge::Judgement;
 use super::rows::bytes_of_length;
 use data_encoding::{DECODE_LIMIT, ENCODE_LIMIT};
 
-// Compares the texts of data that are appended at once, and in two fragments, and that of data that
-// are written into a text.
+// Compares the texts of data that is appended at once and in two pieces, and that of data that is
+// written to a text.
 fn compare_appended(comparison: &Comparison<'_>, input: &[u8], text: &str) -> Result<(), Differs>
     requires limit { length input.now ≤ ENCODE_LIMIT }
 {
@@ -49,7 +49,7 @@ fn compare_len(comparison: &mut Comparison<'_>, input: &[u8]) -> Result<(), Diff
     comparison.compare_cut(&want, text.as_bytes(), text.len() / 2, usize::MAX)
 }
 
-// The same of data of each length.
+// The same for data of each length.
 pub(super) fn compare_each_length(comparison: &mut Comparison<'_>) -> Result<(), Differs> {
     let data = bytes_of_length(comparison.alloc, 8200)?;
     for len in 0..=8200 {

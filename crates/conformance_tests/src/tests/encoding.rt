@@ -7,7 +7,7 @@ use data_encoding::{DECODE_LIMIT, ENCODE_LIMIT, Encoding, Specification};
 use std::alloc::Global;
 use std::test::Fail;
 
-// Whether the text is written into an output of its length, and returned as a part of it.
+// Whether the text is written to an output of its length, and returned.
 pub(super) fn writes(encoding: &Encoding, input: &[u8], text: &[u8]) -> bool
     requires limit { length input.now ≤ ENCODE_LIMIT }
 {
@@ -39,7 +39,7 @@ pub(super) fn encoded(alloc: Global, encoding: &Encoding, input: &[u8]) -> Resul
     Ok(String::from_str(alloc, "written otherwise")?)
 }
 
-// Whether the data come back from their text.
+// Whether the data comes back from its text.
 pub(super) fn is_there_and_back(alloc: Global, specification: &Specification, data: &[u8]) -> bool {
     match there_and_back(alloc, specification, data) {
         Ok(bytes) => bytes.as_slice() == data,
@@ -47,7 +47,7 @@ pub(super) fn is_there_and_back(alloc: Global, specification: &Specification, da
     }
 }
 
-// The text of data, which is decoded to them; a caller takes them there and back.
+// The text of data, if it is decoded to the data; a caller encodes and decodes it too.
 pub(super) fn both(
     alloc: Global,
     encoding: &Encoding,

@@ -17,7 +17,7 @@ use data_encoding::{DECODE_LIMIT, ENCODE_LIMIT, Encoding};
 use std::alloc::{AllocError, Global};
 use std::test::Fail;
 
-// What is asked of an encoding.
+// What is asked about an encoding.
 #[derive(Clone, Copy)]
 enum Call {
     Abandon,
@@ -99,7 +99,7 @@ fn sizes(alloc: Global, encoding: &Encoding) -> Result<String, AllocError> {
     )
 }
 
-// The length of the text of so many bytes.
+// The length of the text of this many bytes.
 fn encoded_len(alloc: Global, encoding: &Encoding, len: &str) -> Result<String, Fail> {
     let len: usize = len.parse()?;
     if len > ENCODE_LIMIT {
@@ -113,7 +113,7 @@ fn answer(alloc: Global, is_so: bool) -> Result<String, Fail> {
     Ok(String::from_str(alloc, if is_so { "true" } else { "false" })?)
 }
 
-// What the encoding of a case returns to a call, which may take bytes.
+// What the encoding of a case returns for a call, which may take bytes.
 fn returned(alloc: Global, call: Call, case: &Case<'_>, input: &[u8]) -> Result<String, Fail>
     requires encoded { length input.now ≤ ENCODE_LIMIT }
     requires decoded { length input.now ≤ DECODE_LIMIT }
@@ -137,7 +137,7 @@ fn returned(alloc: Global, call: Call, case: &Case<'_>, input: &[u8]) -> Result<
     }
 }
 
-// What an encoding returns to a call that takes words.
+// What an encoding returns for a call that takes a text.
 fn returned_to_words(
     alloc: Global,
     call: Call,
@@ -159,7 +159,7 @@ fn returned_to_words(
     }
 }
 
-// Fails where a row's call returns something else.
+// Fails if the call of a row returns something else.
 fn compare_row(alloc: Global, call: Call, line: &str) -> Result<(), Fail> {
     let case = case_of(alloc, line)?;
     let input = bytes_of(alloc, case.input)?;
@@ -180,8 +180,8 @@ fn encodings_return_what_rows_want(rt: HostRuntime) -> Result<(), Fail> {
     Ok(())
 }
 
-// Whether the layout of the first encoding, changed, is that of the other; without a change, the
-// encodings are then equal, and the first is its copy.
+// Whether the layout of the first encoding, after a change, is that of the other. Without a change,
+// the encodings are then equal, and the first equals its copy.
 fn compared(alloc: Global, one: &Case<'_>, other: &Encoding) -> Result<String, Fail> {
     let is_same = has_layout_of(alloc, &one.encoding, one.input, other)?;
     let is_equal = one.encoding == *other;
@@ -191,7 +191,7 @@ fn compared(alloc: Global, one: &Case<'_>, other: &Encoding) -> Result<String, F
     answer(alloc, is_same)
 }
 
-// Fails where two encodings are compared otherwise.
+// Fails if two encodings compare otherwise.
 fn compare_two(alloc: Global, line: &str) -> Result<(), Fail> {
     let (one, other) = line.split_once('&').unwrap_or((line, ""));
     let one = case_of(alloc, one)?;

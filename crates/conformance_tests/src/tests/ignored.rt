@@ -5,7 +5,7 @@ ghost use Rattle.std.specs.Prelude.{◌<◌, ◌≤◌, length};
 use super::comparison::{Comparison, Differs};
 use super::short_texts::{pad, telling_symbols};
 
-// Compares the text as it is, and with a byte that is no symbol after this one.
+// Compares the text unchanged, and with a byte that is no symbol after this one.
 fn compare_beside(
     comparison: &mut Comparison<'_>,
     text: &mut [u8],
@@ -27,8 +27,7 @@ fn compare_beside(
     Ok(())
 }
 
-// Compares the texts that have an ignored byte at any position of the text, or two at any pair of
-// positions.
+// Compares the text with an ignored byte at any position, and with two at any pair of positions.
 fn compare_ignored_bytes(comparison: &mut Comparison<'_>, text: &[u8]) -> Result<(), Differs>
     requires short { length text.now ≤ 16 }
 {
@@ -47,8 +46,8 @@ fn compare_ignored_bytes(comparison: &mut Comparison<'_>, text: &[u8]) -> Result
     Ok(())
 }
 
-// Compares texts of a symbol that have an ignored byte or two, and with padding, so many bytes of
-// it after one or more groups.
+// Compares texts of a symbol with an ignored byte or two, and with this much padding after one or
+// more groups.
 fn compare_symbol(comparison: &mut Comparison<'_>, symbol: u8, len: usize) -> Result<(), Differs>
     requires short { len ≤ 16 }
 {
@@ -67,8 +66,8 @@ fn compare_symbol(comparison: &mut Comparison<'_>, symbol: u8, len: usize) -> Re
     Ok(())
 }
 
-// Texts up to a group and two bytes of symbols without bits, with one and with all, and texts of
-// ignored bytes alone.
+// Texts of up to a group and two bytes, of symbols without bits, with one bit and with all, and
+// texts of ignored bytes only.
 pub(super) fn compare_ignored(comparison: &mut Comparison<'_>) -> Result<(), Differs> {
     for len in 0..=16 {
         comparison.compare(&[b'-'; 16][..len])?;
@@ -81,7 +80,7 @@ pub(super) fn compare_ignored(comparison: &mut Comparison<'_>) -> Result<(), Dif
     Ok(())
 }
 
-// Compares the texts in which a faulty byte is at any position but this one.
+// Compares the texts with a faulty byte at any position but this one.
 fn compare_faults_beside(
     comparison: &mut Comparison<'_>,
     text: &mut [u8],
@@ -101,7 +100,7 @@ fn compare_faults_beside(
     Ok(())
 }
 
-// Compares texts of a symbol that end with so much padding, with an ignored byte at any position,
+// Compares texts of a symbol that end with this much padding, with an ignored byte at any position,
 // and a faulty one at any other.
 fn compare_faults_of(
     comparison: &mut Comparison<'_>,
@@ -121,8 +120,8 @@ fn compare_faults_of(
     Ok(())
 }
 
-// Texts up to two groups and one byte of symbols without bits and with all, in which one byte is
-// ignored and another is faulty.
+// Texts of up to two groups and one byte, of symbols without bits and with all, in which one byte
+// is ignored and another is faulty.
 pub(super) fn compare_faults(comparison: &mut Comparison<'_>) -> Result<(), Differs> {
     let judge = comparison.judge;
     let [zero, _, last] = telling_symbols(judge.symbols);
@@ -138,7 +137,7 @@ pub(super) fn compare_faults(comparison: &mut Comparison<'_>) -> Result<(), Diff
     Ok(())
 }
 
-// Compares the text with an ignored byte before it, behind it, and between any two of its bytes.
+// Compares the text with an ignored byte before it, after it, and between any two of its bytes.
 fn compare_spread(comparison: &mut Comparison<'_>, text: &[u8]) -> Result<(), Differs>
     requires short { length text.now ≤ 16 }
 {
@@ -152,7 +151,7 @@ fn compare_spread(comparison: &mut Comparison<'_>, text: &[u8]) -> Result<(), Di
     Ok(())
 }
 
-// Two groups that have any two lengths of padding, and an ignored byte at any place.
+// Two groups with any two lengths of padding, and an ignored byte at any position.
 pub(super) fn compare_pairs(comparison: &mut Comparison<'_>) -> Result<(), Differs> {
     let size = comparison.judge.group_len();
     if size > 8 {

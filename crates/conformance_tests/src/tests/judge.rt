@@ -1,5 +1,5 @@
-//! A slow judge: the text of data, and what a text means or its fault, by lists of characters and
-//! of bits.
+//! A slow judge: the text of data, and what a text means or its fault, computed with lists of
+//! characters and of bits.
 
 ghost use Rattle.std.specs.Prelude.{◌<◌};
 
@@ -21,8 +21,8 @@ pub(super) struct Judge<'a> {
     separator: &'a [u8],
 }
 
-// What is found in a text: the bytes that are written before the first fault, how much of the text
-// they are of, and the fault.
+// What is returned for a text: the bytes that are written before the first fault, the length of the
+// text that they are from, and the fault.
 #[derive(Drop)]
 pub(super) struct Judgement {
     pub(super) bytes: Vec<u8>,
@@ -31,7 +31,7 @@ pub(super) struct Judgement {
 }
 
 impl Judgement {
-    // What is found in a text of nothing.
+    // The result for the empty text.
     pub(super) fn new(alloc: Global) -> Judgement {
         Judgement {
             bytes: Vec::new(alloc),
@@ -41,7 +41,7 @@ impl Judgement {
     }
 }
 
-// A byte of a text, and its position there.
+// A byte of a text, and its position.
 #[derive(Clone, Copy)]
 struct Character {
     position: usize,
@@ -79,7 +79,7 @@ fn unpadded_len(group: &[Character], padding: u8) -> usize {
     len
 }
 
-// The bits of one of so many symbols.
+// The bits of a symbol, one of this many.
 fn width_of(count: usize) -> u32 {
     for width in 1..7u32 {
         if 1usize.wrapping_shl(width) == count {
@@ -89,7 +89,7 @@ fn width_of(count: usize) -> u32 {
     0
 }
 
-// The characters of a line, and what follows it; none where there are no lines.
+// The characters of a line, and the separator, or none if there are no lines.
 fn lines_of(specification: &Specification) -> (usize, &[u8]) {
     let column = specification.wrap.width;
     let separator = specification.wrap.separator.as_bytes();
@@ -100,7 +100,7 @@ fn lines_of(specification: &Specification) -> (usize, &[u8]) {
 }
 
 impl Judge<'_> {
-    // The judge of what is asked for by its symbols, its padding and its ignored bytes.
+    // The judge of a specification, with its symbols, its padding and its ignored bytes.
     pub(super) fn of(specification: &Specification) -> Judge<'_> {
         let symbols = specification.symbols.as_bytes();
         let (column, separator) = lines_of(specification);
@@ -154,8 +154,8 @@ impl Judge<'_> {
         Ok(characters)
     }
 
-    // The data of a text. After a length fault, the greatest front of valid length of what was not
-    // read is read too, where it decodes as it is.
+    // The data of a text. After a length fault, the longest prefix of valid length of what was not
+    // read is read too, if it decodes without ignoring any byte.
     pub(super) fn decode(&self, alloc: Global, text: &[u8]) -> Result<Judgement, AllocError> {
         let mut judgement = self.decode_sound(alloc, text)?;
         let Some(error) = judgement.fault else {
@@ -188,8 +188,8 @@ impl Judge<'_> {
         Ok(judgement)
     }
 
-    // What is found in a text that is decoded as it comes, in which this is found as a whole: where
-    // its length is the fault, the bytes of the groups before the first faulty one.
+    // The result for a text that is decoded in pieces, given the result for the whole: if its
+    // length is the fault, the bytes of the groups before the first faulty one.
     pub(super) fn in_pieces(
         &self,
         alloc: Global,
@@ -207,7 +207,7 @@ impl Judge<'_> {
         }
     }
 
-    // Decodes group after group, to the end or the first fault.
+    // Decodes group by group, up to the end or the first fault.
     fn decode_groups(
         &self,
         alloc: Global,
@@ -223,7 +223,7 @@ impl Judge<'_> {
         self.decode_each(alloc, text, judgement)
     }
 
-    // Decodes group after group, whatever the length of the text.
+    // Decodes group by group, whatever the length of the text.
     fn decode_each(
         &self,
         alloc: Global,
@@ -261,12 +261,12 @@ impl Judge<'_> {
         }
     }
 
-    // Whether so many symbols are whole bytes and fewer bits than one symbol's.
+    // Whether this many symbols are whole bytes followed by fewer bits than a symbol has.
     fn is_count(&self, count: usize) -> bool {
         count.wrapping_mul(self.width as usize) % 8 < self.width as usize
     }
 
-    // The fewest symbols that are whole bytes.
+    // The fewest symbols whose bits are whole bytes.
     pub(super) fn group_len(&self) -> usize
         ensures { 0 < result }
     {
@@ -278,7 +278,7 @@ impl Judge<'_> {
         8
     }
 
-    // The greatest length up to this one that a text may have, where nothing is ignored.
+    // The greatest length up to this one that a text may have, if nothing is ignored.
     fn greatest_length(&self, len: usize) -> usize {
         let mut greatest = 0;
         let size = self.group_len();

@@ -1,4 +1,4 @@
-//! What the judge says of texts, compared with rows from outside, and what encodings return,
+//! What the judge returns for texts, compared with rows from outside, and what encodings return,
 //! compared with both.
 
 ghost use Rattle.std.specs.Prelude.{◌≤◌, length};
@@ -13,8 +13,8 @@ use data_encoding::{DECODE_LIMIT, Specification};
 use std::alloc::{AllocError, Global};
 use std::test::Fail;
 
-// What the original crate returns, data-encoding 2.11.1, but for what stays single: it has no such
-// texts, and the rule is that no group follows a padded one.
+// The results of the original crate, data-encoding 2.11.1, except for encodings that do not
+// concatenate: it has none, and the rule is that no group follows a padded one.
 const TEXTS: &str = "\
 base64|most|check|=||0||||AAAAAA==|\0\0\0\0
 base64|most|check|=||0||||AA==AAA=|\0\0\0
@@ -67,7 +67,7 @@ base64|most|check|=||76|←↵|||←↵AAAA←↵AAAA←↵AA==←↵←↵|7 in
 base64|most|single check|=|↵|0||||AAAA↵AA==↵↵A|9 read, 4 written, invalid padding length at 11
 base64|most|single check|=|↵|0||||↵AAAA↵AAAA↵AA==↵↵|7 in all";
 
-// Texts that are decoded by decoders that go on from what is kept, and the fault of each.
+// Texts that are decoded by decoders that continue from what is kept, and the fault of each.
 const KEPT: &str = "\
 base64|most|check|=||0||||Zm9vYmE=Zg==|
 base64|most|check|=||0||||Zm9vYg==!|invalid length at 8
@@ -91,7 +91,7 @@ base32|most|check||-|0||||M!------Z|invalid length at 8
 octal|most|check|=|-|0||||22-06-44-==|
 hex|most|check|||0||||48656c6c6f|";
 
-// Texts, and how many of their fronts have the length of a text, and are resumed.
+// Texts, and how many of their prefixes have the length of a text and are resumed.
 const RESUMED: &str = "\
 base64|most|check|=||0||||Zm9vYmE=Zg==|4
 base64|most|check|=||76|←↵|||SGVs←↵bG8=←↵|13
@@ -103,7 +103,7 @@ hex|most|check||-|0||||48-65-6c-6c-|13
 quaternary|least|check|||0||||012301230123|4
 binary|most|check||-|0||||01010011-010|13";
 
-// What is asked of a text.
+// What is asked about a text.
 #[derive(Clone, Copy)]
 enum Asked {
     Judgement,
@@ -128,7 +128,7 @@ fn judged(alloc: Global, judge: Judge<'_>, text: &[u8]) -> Result<String, Fail> 
     }
 }
 
-// How far `decode_mut` comes, if each call decodes the text, or refuses it, as the judge does.
+// How far `decode_mut` gets, if each call decodes or refuses the text as the judge does.
 fn begun(alloc: Global, comparison: &mut Comparison<'_>, text: &[u8]) -> Result<String, Fail>
     requires limit { length text.now ≤ DECODE_LIMIT }
 {
@@ -138,8 +138,8 @@ fn begun(alloc: Global, comparison: &mut Comparison<'_>, text: &[u8]) -> Result<
     }
 }
 
-// How many fronts of the text have the length of a text, if each call decodes the text, also from
-// what was read of a front, as the judge does; and with another byte at each position too.
+// How many prefixes of the text have the length of a text, if each call decodes the text as the
+// judge does, also after a prefix was read, and also with another byte at each position.
 fn resumed(
     alloc: Global,
     comparison: &mut Comparison<'_>,
@@ -153,7 +153,7 @@ fn resumed(
     }
 }
 
-// What is returned of a text of a few bytes.
+// What is returned for a text of a few bytes.
 fn answer(
     alloc: Global,
     asked: Asked,
@@ -172,7 +172,7 @@ fn answer(
     }
 }
 
-// Fails where something else is returned of a text.
+// Fails if something else is returned for a text.
 fn compare_row(alloc: Global, asked: Asked, line: &str) -> Result<(), Fail> {
     let row = row_of(alloc, line)?;
     let mut text = bytes_of(alloc, row.input)?;

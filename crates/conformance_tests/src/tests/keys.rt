@@ -1,4 +1,4 @@
-//! The callers of keys, of faults told from bytes, and of pairs of data or texts.
+//! The callers about keys, about faults that follow from bytes, and about pairs of data or texts.
 
 use conformance::callers::buffers::fault_so_far;
 use conformance::callers::keys::{

@@ -1,24 +1,24 @@
-//! Texts of several groups, with another byte at each position, by every width and both orders:
-//! what is read of them and written is what lists of bits say.
+//! Texts of several groups, with another byte at each position, for every width and both orders:
+//! what is read and written is what lists of bits give.
 
 use super::comparison::{Comparison, Differs, is_written_alike};
 use data_encoding::{Character, DECODE_LIMIT, DecodeError, DecodeKind, Encoding};
 use std::alloc::{AllocError, Global};
 
-// One or two turns of eight groups, with a group less, as many, and one more.
+// One or two turns of eight groups, with a group fewer, exactly, and one more.
 const GROUPS: [usize; 7] = [7, 8, 9, 15, 16, 17, 33];
 
-// As many characters as are looked up by the affine form of a table, where it has one.
+// The number of characters from which on the affine form of a table is used, if it has one.
 const LONG: usize = 704;
 
 // The room for the data of a text, in bytes.
 const ROOM: usize = 576;
 
-// Bytes that are no symbol of some, among them those next to ranges of symbols.
+// Bytes that are no symbols of some encodings, among them those next to ranges of symbols.
 const DAMAGE: [u8; 11] = [128, 255, b'/', b':', b'@', b'[', b'`', b'{', b'=', b'\n', 0];
 
-// Compares what `decode_mut` finds in a text with what the judge finds: the fault, how much was
-// read before it, and the bytes that were written.
+// Compares what `decode_mut` returns for a text with what the judge returns: the fault, how much
+// was read before it, and the bytes that were written.
 fn compare_text(comparison: &Comparison<'_>, text: &[u8]) -> Result<(), Differs> {
     let want = comparison.judge.decode(comparison.alloc, text)?;
     if text.len() <= DECODE_LIMIT && is_written_alike(comparison.encoding, &want, text) {
@@ -27,7 +27,7 @@ fn compare_text(comparison: &Comparison<'_>, text: &[u8]) -> Result<(), Differs>
     Err(Differs {})
 }
 
-// Symbols in turn, each after another one in each place of a group.
+// Symbols in turn, each after another one at each position of a group.
 fn text_of(alloc: Global, symbols: &[u8], len: usize) -> Result<Vec<u8>, AllocError> {
     let mut text = Vec::with_capacity(alloc, len)?;
     let mut index = 0usize;
@@ -38,8 +38,8 @@ fn text_of(alloc: Global, symbols: &[u8], len: usize) -> Result<Vec<u8>, AllocEr
     Ok(text)
 }
 
-// Whether a text with a byte that means nothing at a position is refused there, with the groups
-// before it read, and the bytes that they mean written.
+// Whether a text with an invalid byte at a position is refused there, with the groups before it
+// read and their bytes written.
 fn is_refused_there(
     encoding: &Encoding,
     text: &[u8],
@@ -73,7 +73,7 @@ fn is_refused_there(
     }
 }
 
-// Compares a text that has another byte at a position.
+// Compares a text with another byte at a position.
 fn compare_damaged(
     comparison: &Comparison<'_>,
     text: &mut [u8],
@@ -97,7 +97,7 @@ fn compare_damaged(
     Ok(())
 }
 
-// Compares a text of this many groups, as it is, and with each other byte at each position.
+// Compares a text of this many groups, unchanged, and with each other byte at each position.
 fn compare_groups(comparison: &Comparison<'_>, groups: usize) -> Result<(), Differs> {
     let len = groups.wrapping_mul(comparison.judge.group_len());
     let mut text = text_of(comparison.alloc, comparison.judge.symbols, len)?;
@@ -122,7 +122,7 @@ pub(super) fn compare_few_groups(comparison: &Comparison<'_>) -> Result<(), Diff
     Ok(())
 }
 
-// Compares a damaged text that is long.
+// Compares a long damaged text.
 pub(super) fn compare_many_groups(comparison: &Comparison<'_>) -> Result<(), Differs> {
     let groups = (LONG / comparison.judge.group_len()).wrapping_add(9);
     compare_groups(comparison, groups)

@@ -1,15 +1,15 @@
 //! Data of each length up to 200 bytes, and of 200 lengths whose texts are looked up by the affine
-//! form of a table, by every width and both orders, padded where a group has room for padding or
-//! not, in lines or not: their texts are those of lists of bits, and mean the data.
+//! form of a table, for every width and both orders, padded (if a group has room for padding) or
+//! not, in lines or not: the texts are those that lists of bits give, and mean the data.
 
 use super::comparison::{Comparison, Differs};
 use super::judge::Judgement;
 use super::round_trips::compare_whole;
 
-// As many characters as are looked up by the affine form of a table, where it has one.
+// The number of characters from which on the affine form of a table is used, if it has one.
 const LONG: usize = 704;
 
-// Compares each beginning of the data that has this length or more.
+// Compares each prefix of the data that has this length or more.
 fn compare_fronts(comparison: &Comparison<'_>, data: &[u8], least: usize) -> Result<(), Differs> {
     for len in least..data.len() + 1 {
         let mut want = Judgement::new(comparison.alloc);
@@ -28,7 +28,7 @@ fn compare_lengths(comparison: &Comparison<'_>, data: &[u8; 728]) -> Result<(), 
     compare_fronts(comparison, data.get(..end).unwrap_or(&[]), long)
 }
 
-// Data in which each byte is another.
+// Data in which no two consecutive bytes are equal.
 pub(super) fn compare_counted(comparison: &Comparison<'_>) -> Result<(), Differs> {
     let mut data = [0; 728];
     for index in 0..728 {

@@ -1,4 +1,4 @@
-//! Laws, faults as texts, and data of many bytes.
+//! Laws, displayed faults, and data of many bytes.
 
 use super::encoding::is_there_and_back;
 use super::rows::{bytes_of_length, row_of};
@@ -27,7 +27,7 @@ fn call_laws() {
     pieces();
 }
 
-// How each fault is printed.
+// How each fault is displayed.
 fn printed(alloc: Global) -> Result<String, AllocError> {
     let kind = DecodeKind::Padding;
     let fault = DecodeFault::from(DecodeError { position: 7, kind });
@@ -46,7 +46,7 @@ fn prints_each_fault(rt: HostRuntime) -> Result<(), Fail> {
     Ok(())
 }
 
-// Whether so many bytes come back from their text.
+// Whether this many bytes come back from their text.
 fn come_back(alloc: Global, count: usize) -> Result<bool, Fail> {
     let specification = row_of(alloc, "base64|most|check|||0||||")?.specification;
     let input = bytes_of_length(alloc, count)?;

@@ -25,7 +25,7 @@ fn edit(layout: &mut Vec<u8>, change: &str) -> Result<(), Fail> {
     Ok(())
 }
 
-// The layout of an encoding, changed.
+// The layout of an encoding, after changes.
 fn changed(alloc: Global, encoding: &Encoding, changes: &str) -> Result<Vec<u8>, Fail> {
     let mut layout = Vec::new(alloc);
     layout.extend_from_slice(encoding.internal_implementation().as_slice())?;
@@ -35,7 +35,7 @@ fn changed(alloc: Global, encoding: &Encoding, changes: &str) -> Result<Vec<u8>,
     Ok(layout)
 }
 
-// Whether there is an encoding that has these bytes as its layout.
+// Whether some encoding has these bytes as its layout.
 fn is_had(bytes: &[u8]) -> bool {
     match Encoding::internal_new(bytes) {
         Some(encoding) => encoding.internal_implementation().as_slice() == bytes,
@@ -43,7 +43,7 @@ fn is_had(bytes: &[u8]) -> bool {
     }
 }
 
-// What the layout of an encoding, changed, has after its tables, if an encoding has it.
+// What a changed layout of an encoding has after its tables, if an encoding has it.
 pub(super) fn shown(alloc: Global, encoding: &Encoding, changes: &str) -> Result<String, Fail> {
     let layout = changed(alloc, encoding, changes)?;
     if !is_had(&layout) {
@@ -55,7 +55,7 @@ pub(super) fn shown(alloc: Global, encoding: &Encoding, changes: &str) -> Result
     Ok(format!(in alloc; "{len}: {ends:?} {lines:?}")?)
 }
 
-// Whether the layout of an encoding, changed, is that of another.
+// Whether the layout of an encoding, after changes, is that of another.
 pub(super) fn has_layout_of(
     alloc: Global,
     encoding: &Encoding,
@@ -70,7 +70,7 @@ pub(super) fn has_layout_of(
     )
 }
 
-// A slow judge: what the bytes say where they are a layout.
+// A slow judge: what the bytes describe if they are a layout.
 #[derive(Clone, Copy)]
 struct Judge<'a> {
     symbols: &'a [u8],
@@ -99,7 +99,8 @@ impl Judge<'_> {
         self.values.get(byte as usize).copied().unwrap_or(0)
     }
 
-    // The number of symbols, and of those of a whole group; nothing where it is no such number.
+    // The number of symbols, and the number in a whole group, or `None` if there are none of this
+    // width.
     fn sizes(&self) -> Option<(usize, u8)> {
         match self.flags % 8 {
             1 => Some((2, 8)),
@@ -126,7 +127,8 @@ impl Judge<'_> {
         true
     }
 
-    // Whether each byte has a symbol, or none of its own; and none from 128 on has a meaning.
+    // Whether each byte has the value of a symbol, or no value of its own, and none from 128 on has
+    // a meaning.
     fn has_entries(&self, count: usize) -> bool {
         for (index, entry) in self.values.iter().enumerate() {
             let is_meaning = match index < 128 {
@@ -140,12 +142,12 @@ impl Judge<'_> {
         true
     }
 
-    // Whether bits may be left over.
+    // Whether there may be trailing bits.
     fn leaves_bits(&self) -> bool {
         matches!(self.flags % 8, 3 | 5 | 6)
     }
 
-    // Whether padding is only where bits may be left over, and its character means it.
+    // Whether there is padding only if there may be trailing bits, and its character means padding.
     fn has_padding(&self) -> bool {
         if self.padding == 128 {
             return !self.values.contains(&130);
@@ -153,14 +155,14 @@ impl Judge<'_> {
         self.leaves_bits() && self.padding < 128 && self.entry(self.padding) == 130
     }
 
-    // Whether no flag says what can't matter.
+    // Whether no flag is set that has no effect.
     fn has_flags(&self) -> bool {
         let checks = self.flags / 16 % 2 == 1;
         let is_single = self.flags / 32 % 2 == 1;
         self.flags < 64 && (checks || self.leaves_bits()) && (!is_single || self.padding != 128)
     }
 
-    // Whether the lines are of whole groups, and each of their separator is ignored.
+    // Whether the lines are whole groups, and each byte of their separator is ignored.
     fn has_lines(&self, group: u8) -> bool {
         let ignores = self.values.contains(&129);
         match self.lines {
@@ -198,7 +200,7 @@ fn is_layout(bytes: &[u8]) -> bool {
         && judge.has_lines(group)
 }
 
-// Whether there is an encoding exactly where the judge says so, with these bytes as its layout.
+// Whether some encoding has these bytes as its layout if and only if the judge says so.
 fn is_judged_alike(bytes: &[u8]) -> bool {
     match Encoding::internal_new(bytes) {
         Some(_) => is_layout(bytes) && is_had(bytes),
@@ -206,7 +208,7 @@ fn is_judged_alike(bytes: &[u8]) -> bool {
     }
 }
 
-// Whether it is so with each other value of each byte.
+// Whether this holds with each other value of each byte.
 fn bytes_are_judged_alike(layout: &mut [u8]) -> bool {
     for position in 0..layout.len() {
         let kept = layout[position];
@@ -221,7 +223,7 @@ fn bytes_are_judged_alike(layout: &mut [u8]) -> bool {
     true
 }
 
-// Whether it is so at each length, where a layout is cut or filled.
+// Whether this holds at each length, with the layout cut or filled.
 fn lengths_are_judged_alike(alloc: Global, layout: &[u8], fill: u8) -> Result<bool, Fail> {
     let mut bytes = Vec::new(alloc);
     bytes.extend_from_slice(layout)?;
@@ -234,7 +236,7 @@ fn lengths_are_judged_alike(alloc: Global, layout: &[u8], fill: u8) -> Result<bo
     Ok(true)
 }
 
-// Whether all three hold of the layout of a name.
+// Whether all three hold for the layout of the encoding with this name.
 fn is_damaged_alike(alloc: Global, name: &str) -> Result<bool, Fail> {
     let Some((encoding, _)) = named(name) else {
         return Ok(false);

@@ -22,7 +22,7 @@ fn compare_cuts(comparison: &mut Comparison<'_>, text: &[u8]) -> Result<(), Diff
     comparison.compare_read(&want, text, usize::MAX)
 }
 
-// Compares a text as it is, and with another byte at some positions.
+// Compares a text unchanged, and with another byte at some positions.
 fn compare_damaged(comparison: &mut Comparison<'_>, text: &mut [u8]) -> Result<(), Differs> {
     if text.len() < 1030 {
         return Err(Differs {});
@@ -41,7 +41,7 @@ fn compare_damaged(comparison: &mut Comparison<'_>, text: &mut [u8]) -> Result<(
     compare_cuts(comparison, text)
 }
 
-// The same of the text of some hundred bytes.
+// The same for the text of some hundred bytes.
 pub(super) fn compare_long(comparison: &mut Comparison<'_>) -> Result<(), Differs> {
     let data = bytes_of_length(comparison.alloc, 800)?;
     let mut text = comparison.judge.encode(comparison.alloc, &data)?;

@@ -1,4 +1,4 @@
-//! Texts compared in place of data.
+//! Texts that are compared instead of data.
 
 use data_encoding::{ENCODE_LIMIT, Encoding};
 use std::alloc::Global;
@@ -18,7 +18,7 @@ fn in_order(alloc: Global, encoding: &Encoding, one: &[u8], other: &[u8]) -> Res
     Ok(first.as_bytes() < second.as_bytes())
 }
 
-// How many symbols there are, and by how much bytes differ whose first symbols are neighbours.
+// The number of symbols, and the difference of bytes whose first symbols are neighbours.
 fn count_and_step(encoding: &Encoding) -> (u8, u8) {
     match encoding.bit_width() {
         1 => (2, 128),
@@ -30,7 +30,7 @@ fn count_and_step(encoding: &Encoding) -> (u8, u8) {
     }
 }
 
-// Whether the texts of bytes that begin with a symbol's bits, and then zeros, are in order.
+// Whether the texts of bytes that start with the bits of a symbol, followed by zeros, are in order.
 fn symbols_ascend(alloc: Global, encoding: &Encoding) -> Result<bool, Fail> {
     let (count, step) = count_and_step(encoding);
     let mut byte: u8 = 0;

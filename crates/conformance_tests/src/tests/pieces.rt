@@ -6,7 +6,7 @@ use encoding_stream::Decoder;
 use std::alloc::{AllocError, Global};
 use std::test::Fail;
 
-// Pushes a piece of a text that is not too long.
+// Pushes a piece of a text that is within the limit.
 pub(super) fn push(
     decoder: &mut Decoder<'_>,
     piece: &[u8],
@@ -30,15 +30,15 @@ pub(super) fn finish(
     }
 }
 
-// Moves to an answer what a call has appended, and puts a bar that leans after it.
+// Moves what a call has appended to an answer, followed by a slash.
 fn move_bytes(alloc: Global, output: &mut Vec<u8>, answer: &mut String) -> Result<(), AllocError> {
     answer.push_str(field_of(alloc, output)?.as_str())?;
     output.clear();
     answer.push('/')
 }
 
-// What is appended for each piece of a text and at its end, and the fault. A bar that leans
-// is between two pieces, and between two parts of the answer.
+// What is appended for each piece of a text and at its end, and the fault. A slash separates two
+// pieces, and what is appended for each.
 pub(super) fn pieces(alloc: Global, encoding: &Encoding, text: &str) -> Result<String, Fail> {
     let mut decoder = Decoder::new(encoding);
     let mut answer = String::new(alloc);

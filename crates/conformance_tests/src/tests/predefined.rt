@@ -14,7 +14,7 @@ use data_encoding::{
 use std::alloc::Global;
 use std::test::Fail;
 
-// An encoding and its specification; and of a row, the input and what is wanted.
+// An encoding and its specification, and for a row, the input and what is expected.
 #[derive(Drop)]
 pub(super) struct Case<'a> {
     pub(super) encoding: Encoding,
@@ -23,7 +23,7 @@ pub(super) struct Case<'a> {
     pub(super) want: &'a str,
 }
 
-// The encoding of a name, as a value and by reference.
+// The encoding with a name, as a value and by reference.
 pub(super) fn named(name: &str) -> Option<(Encoding, EncodingRef<'static>)> {
     Some(match name {
         "HEXLOWER" => (hexlower(), hexlower_ref()),

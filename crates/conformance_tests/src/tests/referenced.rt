@@ -1,4 +1,4 @@
-//! Encodings by reference, beside the same as values.
+//! Encodings by reference, next to the same as values.
 
 use super::encoding::writes;
 use super::predefined::named;
@@ -31,7 +31,7 @@ BASE64URL_NOPAD";
 
 const DATA: &[u8; 6] = b"foobar";
 
-// Whether both make the same text of the data, from which the reference decodes them.
+// Whether both encode the data to the same text, and the reference decodes it.
 fn are_alike(encoding: &Encoding, reference: &EncodingRef<'_>) -> bool {
     let mut text = [0; 64];
     let mut data = [0; 64];
@@ -52,7 +52,7 @@ fn are_alike(encoding: &Encoding, reference: &EncodingRef<'_>) -> bool {
         && reference.encoding() == *encoding
 }
 
-// Whether the encoding of a name and its reference are alike.
+// Whether the encoding with a name and its reference are alike.
 fn is_alike(name: &str) -> bool {
     match named(name) {
         Some((encoding, reference)) => are_alike(&encoding, &reference),

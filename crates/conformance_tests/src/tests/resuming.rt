@@ -1,11 +1,11 @@
-//! Texts that are decoded in two parts: what the first call leaves comes before what follows.
+//! Texts that are decoded in two pieces: what the first call leaves comes before what follows.
 
 ghost use Rattle.std.specs.Prelude.{◌≤◌, length};
 
 use super::comparison::{Comparison, Differs, front_read};
 use data_encoding::Encoding;
 
-// How many fronts of a text have the length of a text.
+// How many prefixes of a text have the length of a text.
 fn fronts(encoding: &Encoding, text: &[u8]) -> usize
     requires short { length text.now ≤ 17 }
 {
@@ -19,8 +19,8 @@ fn fronts(encoding: &Encoding, text: &[u8]) -> usize
     fronts
 }
 
-// Compares a text, each front of which may be decoded first, as it is, and with each of four bytes
-// at each position; and returns the number of these fronts.
+// Compares a text, each prefix of which may be decoded first, unchanged, and with each of four
+// bytes at each position. Returns the number of these prefixes.
 pub(super) fn compare_resumed(
     comparison: &mut Comparison<'_>,
     text: &mut [u8],

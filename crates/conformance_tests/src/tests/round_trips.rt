@@ -1,4 +1,4 @@
-//! Data that come back from their text: all of one byte and of two, and data in lines.
+//! Data that comes back from its text: all data of one byte and of two, and data in lines.
 
 ghost use Rattle.std.specs.Prelude.{◌≤◌, length};
 
@@ -42,7 +42,7 @@ pub(super) fn compare_short(comparison: &mut Comparison<'_>) -> Result<(), Diffe
     Ok(())
 }
 
-// The text of data, which is that of the judge, and is decoded to them.
+// The text of data, if it is that of the judge and is decoded to the data.
 pub(super) fn compare_whole(
     comparison: &Comparison<'_>,
     want: &Judgement,
@@ -62,7 +62,7 @@ pub(super) fn compare_whole(
     Ok(text)
 }
 
-// Data of each length up to three lines, and a byte.
+// Data of each length up to three lines and a byte.
 pub(super) fn compare_in_lines(comparison: &mut Comparison<'_>) -> Result<(), Differs> {
     let most = comparison.encoding.encode_align().wrapping_mul(3);
     let mut want = Judgement::new(comparison.alloc);

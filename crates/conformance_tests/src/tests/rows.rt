@@ -1,4 +1,4 @@
-//! Rows of tables, in which a bar stands between two fields.
+//! Rows of tables, in which a bar separates two fields.
 
 use data_encoding::{BitOrder, Specification};
 use std::alloc::{AllocError, Global};
@@ -13,7 +13,7 @@ const DNSCURVE: &str = "0123456789bcdfghjklmnpqrstuvwxyz";
 
 const BASE64: &str = "ABCDEFGHIJKLMNOPQRSTUVWXYZabcdefghijklmnopqrstuvwxyz0123456789+/";
 
-// What a row says: a specification, what is done with it, and what comes of it.
+// The fields of a row: a specification, what is done with it, and the result.
 #[derive(Drop)]
 pub(super) struct Row<'a> {
     pub(super) specification: Specification,
@@ -21,9 +21,9 @@ pub(super) struct Row<'a> {
     pub(super) want: &'a str,
 }
 
-// The symbols, the bit that comes first, whether texts stay single and trailing bits are checked,
-// the padding, the ignored bytes, the width of a line, the separator, the texts of the translation;
-// then the input, where there is one, and what is wanted.
+// The symbols, the bit that comes first, whether texts may not be concatenated and whether trailing
+// bits are checked, the padding, the ignored bytes, the width of a line, the separator, and the
+// texts of the translation; then the input, if there is one, and what is expected.
 pub(super) fn row_of(alloc: Global, line: &str) -> Result<Row<'_>, Fail> {
     let mut fields = line.split('|');
     let mut specification = Specification::new(alloc);
@@ -36,12 +36,12 @@ pub(super) fn row_of(alloc: Global, line: &str) -> Result<Row<'_>, Fail> {
     })
 }
 
-// The next field, or nothing where there is none.
+// The next field, or nothing if there is none.
 fn next_of<'a>(fields: &mut Split<'a, char>) -> &'a str {
     fields.next().unwrap_or("")
 }
 
-// The input, where there is one, and what is wanted: the last two fields, or the last.
+// The input, if there is one, and what is expected: the last two fields, or the last.
 pub(super) fn ends_of<'a>(fields: &mut Split<'a, char>) -> (&'a str, &'a str) {
     let tenth = next_of(fields);
     match fields.next() {
@@ -50,7 +50,7 @@ pub(super) fn ends_of<'a>(fields: &mut Split<'a, char>) -> (&'a str, &'a str) {
     }
 }
 
-// Fills in what the fields of a specification say.
+// Sets what the fields of a specification contain.
 fn specify(specification: &mut Specification, fields: &mut Split<'_, char>) -> Result<(), Fail> {
     put(&mut specification.symbols, symbols_named(next_of(fields)))?;
     set_rules(specification, fields);
@@ -62,7 +62,7 @@ fn specify(specification: &mut Specification, fields: &mut Split<'_, char>) -> R
     Ok(())
 }
 
-// The bit that comes first, the two rules, and the padding.
+// Sets the bit that comes first, the two rules, and the padding.
 fn set_rules(specification: &mut Specification, fields: &mut Split<'_, char>) {
     if next_of(fields) == "least" {
         specification.bit_order = BitOrder::LeastSignificantFirst;
@@ -73,7 +73,7 @@ fn set_rules(specification: &mut Specification, fields: &mut Split<'_, char>) {
     specification.padding = next_of(fields).chars().next();
 }
 
-// The symbols of a field, which may name an alphabet in their place.
+// The symbols of a field, which may be the name of an alphabet.
 fn symbols_named(name: &str) -> &str {
     match name {
         "binary" => "01",
@@ -88,7 +88,7 @@ fn symbols_named(name: &str) -> &str {
     }
 }
 
-// The character that one of a row stands for: arrows are control characters.
+// The character that is meant by one of a row: arrows mean control characters.
 fn meant(character: char) -> char {
     match character {
         '↵' => '\n',
@@ -105,7 +105,7 @@ fn put(text: &mut String, field: &str) -> Result<(), AllocError> {
     Ok(())
 }
 
-// The ignored bytes of a field, which may mean each ASCII character that is no symbol.
+// Sets the ignored bytes of a field, which may mean each ASCII character that is no symbol.
 fn put_ignored(specification: &mut Specification, field: &str) -> Result<(), AllocError> {
     if field != "others" {
         return put(&mut specification.ignore, field);
@@ -118,7 +118,7 @@ fn put_ignored(specification: &mut Specification, field: &str) -> Result<(), All
     Ok(())
 }
 
-// The separator of a field, which may mean the longest: 255 dashes, or as many line feeds.
+// Sets the separator of a field, which may mean the longest: 255 dashes, or as many line feeds.
 pub(super) fn put_separator(
     specification: &mut Specification,
     field: &str,
@@ -136,8 +136,8 @@ pub(super) fn put_separator(
     Ok(())
 }
 
-// The text that a field means: its parts are between broken bars, and a part may be a count and
-// what is repeated so often, after a sign of multiplication.
+// The text that a field means. Its pieces are separated by broken bars, and a piece may be a count
+// and what is repeated that many times, after a multiplication sign.
 pub(super) fn text_of(alloc: Global, field: &str) -> Result<String, Fail> {
     let mut text = String::new(alloc);
     for part in field.split('¦') {
@@ -164,7 +164,7 @@ pub(super) fn bytes_of(alloc: Global, field: &str) -> Result<Vec<u8>, Fail> {
     Ok(bytes)
 }
 
-// Fails where an answer is not what a row wants, and names both.
+// Fails if an answer is not what a row expects, and names both.
 pub(super) fn compare(alloc: Global, line: &str, answer: &str, want: &str) -> Result<(), Fail> {
     if text_of(alloc, want)?.as_str() == answer {
         return Ok(());
@@ -172,7 +172,7 @@ pub(super) fn compare(alloc: Global, line: &str, answer: &str, want: &str) -> Re
     Err(Fail::new(format_args!("{line}, and not: {answer}")))
 }
 
-// So many bytes, not all the same.
+// This many bytes, which are not all the same.
 pub(super) fn bytes_of_length(alloc: Global, len: usize) -> Result<Vec<u8>, AllocError> {
     let mut bytes = Vec::new(alloc);
     for index in 0..len {

@@ -31,7 +31,7 @@ pub(super) fn compare_bytes(comparison: &mut Comparison<'_>) -> Result<(), Diffe
     Ok(())
 }
 
-// Compares the text as it is, and with another byte at each position.
+// Compares the text unchanged, and with another byte at each position.
 fn compare_damaged(comparison: &mut Comparison<'_>, text: &mut [u8]) -> Result<(), Differs> {
     for position in 0..text.len() {
         let own = text[position];
@@ -44,7 +44,7 @@ fn compare_damaged(comparison: &mut Comparison<'_>, text: &mut [u8]) -> Result<(
     comparison.compare(text)
 }
 
-// Puts padding in place of so many bytes at the end of a group.
+// Replaces this many bytes at the end of a group by padding.
 pub(super) fn pad(group: &mut [u8], count: usize) {
     let symbols = group.len().saturating_sub(count);
     for index in symbols..group.len() {
@@ -52,7 +52,7 @@ pub(super) fn pad(group: &mut [u8], count: usize) {
     }
 }
 
-// Compares two groups that have any two lengths of padding.
+// Compares two groups with any two lengths of padding.
 fn compare_pairs(comparison: &mut Comparison<'_>, symbol: u8) -> Result<(), Differs> {
     let len = comparison.judge.group_len();
     if len > 8 {
@@ -69,7 +69,7 @@ fn compare_pairs(comparison: &mut Comparison<'_>, symbol: u8) -> Result<(), Diff
     Ok(())
 }
 
-// Compares texts of a symbol alone, up to two groups and one.
+// Compares texts of one symbol, of up to two groups and one byte.
 fn compare_lengths(comparison: &mut Comparison<'_>, symbol: u8) -> Result<(), Differs> {
     let mut text = [symbol; 17];
     for len in 0..=text.len() {
@@ -78,7 +78,7 @@ fn compare_lengths(comparison: &mut Comparison<'_>, symbol: u8) -> Result<(), Di
     Ok(())
 }
 
-// The symbols of the values 0 and 1, and the last, of which all bits are set.
+// The symbols of the values 0 and 1, and the last, whose bits are all set.
 pub(super) fn telling_symbols(symbols: &[u8]) -> [u8; 3] {
     match symbols {
         [zero, one, .., last] => [*zero, *one, *last],
@@ -87,7 +87,7 @@ pub(super) fn telling_symbols(symbols: &[u8]) -> [u8; 3] {
     }
 }
 
-// Texts of symbols without bits, with one and with all; where there is padding, also padded.
+// Texts of symbols without bits, with one bit and with all; if there is padding, also padded.
 pub(super) fn compare_symbols(comparison: &mut Comparison<'_>) -> Result<(), Differs> {
     for symbol in telling_symbols(comparison.judge.symbols) {
         compare_lengths(comparison, symbol)?;

@@ -1,13 +1,13 @@
-//! Readers and writers that give little, take little, or fail once, and what a stream did with
-//! them.
+//! Readers and writers that give few bytes, take few bytes, or fail once, and what a stream did
+//! with them.
 
 use encoding_stream::{StreamFault, Watch};
 use std::alloc::Global;
 use std::io;
 use std::io::{ErrorKind, Read, Write};
 
-// Gives at most so many bytes a call, and notes the most that it was asked for. The call after so
-// many good ones is interrupted, and those after it are good again.
+// Gives at most this many bytes in each call, and records the most that it was asked for. The call
+// after this many good ones is interrupted, and later calls succeed again.
 #[derive(Drop)]
 pub(super) struct Slow<'a> {
     bytes: &'a [u8],
@@ -33,7 +33,7 @@ impl Read for Slow<'_> {
     }
 }
 
-// What a writer does not do, once.
+// The call that a writer fails once.
 #[derive(Clone, Copy)]
 pub(super) enum Failure {
     Nothing,
@@ -42,7 +42,7 @@ pub(super) enum Failure {
     Flush,
 }
 
-// Takes at most so many bytes a call, and fails once after so many good writes.
+// Takes at most this many bytes in each call, and fails once after this many good writes.
 #[derive(Drop)]
 pub(super) struct Narrow {
     pub(super) bytes: Vec<u8>,
@@ -106,7 +106,7 @@ pub(super) struct Outcome {
 }
 
 impl Outcome {
-    // What was done by a reader and a writer that were watched.
+    // What was done, from a reader and a writer that were watched.
     pub(super) fn of(
         answer: Result<(), StreamFault>,
         reader: Watch<Slow<'_>>,
@@ -124,7 +124,7 @@ impl Outcome {
         }
     }
 
-    // That fault was returned, or none; the bytes were written, and flushed once, after the last
+    // This fault was returned, or none; the bytes were written, and flushed once, after the last
     // write.
     pub(super) fn is_whole(&self, fault: Option<StreamFault>, bytes: &[u8]) -> bool {
         self.result.err() == fault
@@ -133,7 +133,7 @@ impl Outcome {
             && self.writer.writes_when_flushed == self.writer.writes
     }
 
-    // The fault was returned, its watch has failed, and a beginning of the bytes was written.
+    // The fault was returned, its watch has failed, and a prefix of the bytes was written.
     pub(super) fn is_fault(&self, fault: StreamFault, bytes: &[u8]) -> bool {
         self.result == Err(fault)
             && self.read_failed == (fault == StreamFault::Read)

@@ -1,4 +1,4 @@
-//! Specifications that yield encodings, and specifications that are refused.
+//! Specifications from which encodings are built, and specifications that are refused.
 
 use super::predefined::case_of;
 use super::rows::{compare, row_of};
@@ -64,8 +64,8 @@ hex|most|check|||0||ABCDEF|abcdef|0123456789abcdef
 abc|most|check|||0||||none
 aa|most|check|||0||||none";
 
-// The specification of the encoding: whether texts stay single, its check, padding, ignored bytes,
-// lines and translation.
+// The specification of the encoding: whether texts may not be concatenated, its check, padding,
+// ignored bytes, lines and translation.
 const DESCRIPTIONS: &str = "\
 binary|most||||0||||true/None//0///
 octal|most||||0||||false/None//0///
@@ -80,7 +80,7 @@ base64|most|single check|||0||||true/None//0///
 base64|most|single check|=||0||||single/true/Some('=')//0///";
 
 // Specifications, how a copy is written, and a new one with its lines and its translation. Each
-// field of the first is another than that of a new specification.
+// field of the first differs from that of a new specification.
 const COPIES: [(&str, &str, &str); 3] = [
     (
         "base64|least|single|.|~|76|↵|!?|AB|",
@@ -116,7 +116,7 @@ fn described(alloc: Global, specification: &Specification) -> Result<String, All
     format!(in alloc; "{single}{check}/{padding:?}/{ignored}/{width}/{separator}/{from}/{to}")
 }
 
-// What the specification says, by its bytes.
+// The fields of the specification, as bytes.
 fn parts_of(specification: &Specification) -> SpecificationParts<'_> {
     SpecificationParts {
         symbols: specification.symbols.as_bytes(),
@@ -132,7 +132,7 @@ fn parts_of(specification: &Specification) -> SpecificationParts<'_> {
     }
 }
 
-// Whether what is yielded by the bytes of a specification is the same, and is the same as plain
+// Whether the encoding that is built from the bytes of a specification is the same, also as plain
 // data.
 fn is_yielded(
     alloc: Global,
@@ -161,7 +161,7 @@ fn sum_of(bytes: &[u8]) -> u64 {
     sum
 }
 
-// The length of a layout and its sum, if the encoding yields itself again.
+// The length of a layout and its sum, if the encoding is built from its specification again.
 fn summed(alloc: Global, encoding: &Encoding) -> Result<String, Fail> {
     if encoding.specification(alloc)?.encoding()? != *encoding {
         return Ok(String::from_str(alloc, "yields another")?);
@@ -179,7 +179,7 @@ fn symbols(alloc: Global, specification: &Specification) -> Result<String, Alloc
     }
 }
 
-// What is asked of a specification.
+// What is asked about a specification.
 #[derive(Clone, Copy)]
 enum Asked {
     Encoding,
@@ -195,7 +195,7 @@ const TABLES: [(Asked, &str); 4] = [
     (Asked::Symbols, SYMBOLS),
 ];
 
-// What a specification yields: an encoding, of which that is written which is asked for, or a
+// What is built from a specification: an encoding, of which what is asked for is written, or a
 // refusal.
 fn yielded(alloc: Global, specification: &Specification, asked: Asked) -> Result<String, Fail> {
     let yielded = specification.encoding();
@@ -212,7 +212,7 @@ fn yielded(alloc: Global, specification: &Specification, asked: Asked) -> Result
     }
 }
 
-// Fails where a specification yields something else.
+// Fails if something else is built from a specification.
 fn compare_row(alloc: Global, asked: Asked, line: &str) -> Result<(), Fail> {
     let row = row_of(alloc, line)?;
     let answer = match asked {
@@ -246,7 +246,8 @@ fn with_parts_of(alloc: Global, other: &Specification) -> Result<Specification, 
     Ok(parts)
 }
 
-// Whether the copy of a specification is written so, and a new one with its parts so.
+// Whether the copy of a specification is written like this, and a new one with its lines and
+// translation like that.
 fn is_copied(
     alloc: Global,
     specification: &Specification,
@@ -261,7 +262,7 @@ fn is_copied(
     )
 }
 
-// Whether the specification of a row, and of the encoding that it yields, are copied.
+// Whether the specification of a row, and of the encoding that is built from it, are copied.
 fn are_copied(alloc: Global, line: &str, want: &str, parts: &str) -> Result<bool, Fail> {
     let case = case_of(alloc, line)?;
     let again = case.specification.try_clone()?.encoding()?;
@@ -276,7 +277,7 @@ fn specifications_are_copied(rt: HostRuntime) -> Result<(), Fail> {
     Ok(())
 }
 
-// The parts with these symbols, lines of this width that end with LF, and translations.
+// A specification with these symbols, lines of this width that end with LF, and translations.
 fn parts_with<'a>(symbols: &'a [u8], wrap_width: usize, from: &'a [u8]) -> SpecificationParts<'a> {
     SpecificationParts {
         symbols,
@@ -292,7 +293,7 @@ fn parts_with<'a>(symbols: &'a [u8], wrap_width: usize, from: &'a [u8]) -> Speci
     }
 }
 
-// Why the parts are refused, as it is written for programmers.
+// Why a specification is refused, in its `Debug` form.
 fn refusal(
     alloc: Global,
     symbols: &[u8],

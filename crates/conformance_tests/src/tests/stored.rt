@@ -2,7 +2,7 @@
 
 use conformance::callers::stored::{
     encoded_at_second_try, finalized, is_stored_alike, restored, show_nothing, stands_for_some,
-    write_behind,
+    write_at_end,
 };
 use data_encoding::{Encoding, base32, base64, base64_mime, hexlower};
 use std::alloc::Global;
@@ -19,7 +19,7 @@ impl fmt::Write for Refusing {
     }
 }
 
-// Whether the encoding comes back, its bytes are those of it alone, and no bytes are those of none.
+// Whether the encoding comes back, its layout is not that of the other, and no layout is empty.
 pub(super) fn is_stored(encoding: &Encoding, other: &Encoding) -> bool {
     let bytes = encoding.internal_implementation();
     let is_back = match restored(encoding) {
@@ -46,10 +46,10 @@ fn is_finalized(encoding: &Encoding, byte: u8, output: &mut String) -> bool {
     }
 }
 
-// Whether the texts are appended to the words.
+// Whether the texts are appended to the string.
 fn grows(alloc: Global) -> Result<bool, Fail> {
     let mut output = String::from_str(alloc, "Payload: ")?;
-    let is_ok = write_behind(&hexlower(), b"Hello", &mut output).is_ok();
+    let is_ok = write_at_end(&hexlower(), b"Hello", &mut output).is_ok();
     encoded_at_second_try(&base32(), b"Hello", b" world", &mut output)?;
     encoded_at_second_try(&base64_mime(), b"", b"", &mut output)?;
     let is_last = is_finalized(&base64(), b'!', &mut output);
@@ -57,7 +57,7 @@ fn grows(alloc: Global) -> Result<bool, Fail> {
     Ok(is_ok && is_last && output.as_str() == want)
 }
 
-// Whether no data are shown by a writer that fails at each call, and data are not.
+// Whether no data is displayed by a writer that fails at each call, and data is not.
 fn shows_no_data() -> bool {
     let mut plain = fmt::Formatter::new(Refusing {});
     show_nothing(&base64_mime(), &mut plain).is_ok()

@@ -12,7 +12,7 @@ use std::test::Fail;
 // The room for the text of what a stream reads at a time.
 const ROOM: usize = 49_152;
 
-// Which way a stream goes.
+// The direction of a stream.
 #[derive(Clone, Copy)]
 enum Way {
     Encode,
@@ -39,7 +39,7 @@ fn run(way: Way, encoding: &Encoding, reader: Slow<'_>, writer: Narrow) -> Outco
     Outcome::of(result, reader, writer)
 }
 
-// Runs a stream, of which so many bytes at most are read, and so many written, in a call.
+// Runs a stream that reads at most this many bytes in a call, and writes at most that many.
 fn run_slowly(
     alloc: Global,
     way: Way,
@@ -51,7 +51,7 @@ fn run_slowly(
     run(way, encoding, reader_of(input, most_read), writer)
 }
 
-// Whether a stream writes and returns what is found in a text.
+// Whether a stream writes and returns what is expected of a text.
 pub(super) fn is_decoded_by_stream(
     alloc: Global,
     encoding: &Encoding,
@@ -66,8 +66,8 @@ pub(super) fn is_decoded_by_stream(
     run_slowly(alloc, Way::Decode, encoding, text, (most, most)).is_whole(fault, &want.bytes)
 }
 
-// What is written and returned, with a bar that leans between: by a stream that reads and writes as
-// much as it may in a call, and by one that reads and writes a byte.
+// What is written and returned, separated by a slash: by a stream that reads and writes as much as
+// possible in a call, and by one that reads and writes a byte.
 pub(super) fn streamed(alloc: Global, encoding: &Encoding, text: &[u8]) -> Result<String, Fail> {
     let got = run_slowly(alloc, Way::Decode, encoding, text, (usize::MAX, usize::MAX));
     let slow = run_slowly(alloc, Way::Decode, encoding, text, (1, 1));
@@ -83,7 +83,7 @@ pub(super) fn streamed(alloc: Global, encoding: &Encoding, text: &[u8]) -> Resul
     Ok(answer)
 }
 
-// What is written of data.
+// What is written for data.
 pub(super) fn written(alloc: Global, encoding: &Encoding, data: &[u8]) -> Result<String, Fail> {
     let got = run_slowly(alloc, Way::Encode, encoding, data, (usize::MAX, usize::MAX));
     let mut answer = field_of(alloc, &got.writer.bytes)?;
@@ -93,7 +93,7 @@ pub(super) fn written(alloc: Global, encoding: &Encoding, data: &[u8]) -> Result
     Ok(answer)
 }
 
-// The reads and writes of so many bytes where each call takes all that it is given, and the most
+// The reads and writes for this many bytes if each call takes all that it is given, and the most
 // that one read asked for.
 pub(super) fn encode_calls(alloc: Global, encoding: &Encoding, len: &str) -> Result<String, Fail> {
     let bytes = bytes_of_length(alloc, len.parse()?)?;
@@ -103,7 +103,7 @@ pub(super) fn encode_calls(alloc: Global, encoding: &Encoding, len: &str) -> Res
     Ok(format!(in alloc; "{reads} reads of {asked}, {writes} writes")?)
 }
 
-// The reads of a text, and the most that one asked for.
+// The reads for a text, and the most that one asked for.
 pub(super) fn decode_reads(
     alloc: Global,
     encoding: &Encoding,
@@ -115,8 +115,8 @@ pub(super) fn decode_reads(
     Ok(format!(in alloc; "{reads} reads of {asked}")?)
 }
 
-// Compares what the stream of so many bytes writes with what `encode` returns, where a read gives
-// at most so many, and a write takes at most so many.
+// Compares what the stream of this many bytes writes with what `encode` returns, if a read gives at
+// most a given number of bytes, and a write takes at most another.
 fn compare_len(
     comparison: &Comparison<'_>,
     len: usize,
@@ -135,7 +135,7 @@ fn compare_len(
     Err(Differs {})
 }
 
-// The same of data of some lengths, read by some thousand bytes, and byte by byte.
+// The same for data of some lengths, read by some thousand bytes and byte by byte.
 pub(super) fn compare_streams(comparison: &Comparison<'_>) -> Result<(), Differs> {
     let most = comparison.encoding.encode_piece_len(ROOM);
     for len in [0, 1, 2, 5, most - 1, most, most.saturating_add(1)] {
@@ -145,7 +145,7 @@ pub(super) fn compare_streams(comparison: &Comparison<'_>) -> Result<(), Differs
 }
 
 impl Stream<'_> {
-    // Whether the read after so many good ones ends a stream, and nothing is flushed.
+    // Whether the read after this many good ones ends a stream, and nothing is flushed.
     fn ends_at_read(&self, good: usize) -> bool {
         let mut reader = reader_of(self.input, 1000);
         reader.good = good;
@@ -156,7 +156,7 @@ impl Stream<'_> {
             && got.writer.flushes == 0
     }
 
-    // Whether the write after so many good ones ends a stream, and nothing is flushed.
+    // Whether the write after this many good ones ends a stream, and nothing is flushed.
     fn ends_at_write(&self, failure: Failure, good: usize) -> bool {
         let writer = Narrow::new(self.alloc, 1000, failure, good);
         let got = run(
@@ -184,7 +184,7 @@ impl Stream<'_> {
             && got.writer.flushes == 1
     }
 
-    // How often a stream reads a thousand bytes at most, and writes as many.
+    // How many times a stream reads at most a thousand bytes, and writes as many.
     fn calls(&self) -> (usize, usize) {
         let reads = run_slowly(
             self.alloc,
@@ -204,7 +204,7 @@ impl Stream<'_> {
         (reads, whole.writer.writes)
     }
 
-    // Whether a stream makes so many calls, and the first that fails ends it.
+    // Whether a stream makes this many calls, and the first that fails ends it.
     fn ends_at_any_call(&self, (reads, writes): (usize, usize)) -> bool {
         if self.calls() != (reads, writes) {
             return false;
@@ -233,7 +233,7 @@ pub(super) struct Calls {
     pub(super) decode: (usize, usize),
 }
 
-// Whether the first call that fails ends the stream of some data, and of their text.
+// Whether the first call that fails ends the stream of some data, and of its text.
 fn ends(
     comparison: &Comparison<'_>,
     way: Way,
@@ -255,8 +255,8 @@ fn ends(
     stream.ends_at_any_call(calls)
 }
 
-// Whether the first call that fails ends the stream of a text that has a byte that is no symbol in
-// one of the last groups.
+// Whether the first call that fails ends the stream of a text with a byte that is no symbol in one
+// of the last groups.
 fn ends_before_fault(
     comparison: &Comparison<'_>,
     text: &mut [u8],
@@ -272,7 +272,7 @@ fn ends_before_fault(
     Ok(want.fault.is_some() && ends(comparison, Way::Decode, &want.bytes, text, calls))
 }
 
-// Compares where streams of 60,000 bytes, and of the text of 30,000, end.
+// Compares how streams of 60,000 bytes, and of the text of 30,000, end.
 pub(super) fn compare_ends(comparison: &Comparison<'_>, calls: Calls) -> Result<(), Differs> {
     let data = bytes_of_length(comparison.alloc, 60_000)?;
     let half = data.get(..30_000).unwrap_or(&[]);

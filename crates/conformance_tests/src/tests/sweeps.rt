@@ -64,8 +64,8 @@ base64|least||=||0||||
 base64|least|single check|=||0||||
 base64|least|single|=||0||||";
 
-// Each width in both orders, padded where a group may lack symbols; then with an ignored byte, and
-// in lines of a group up to the most, with separators of 1, 2 and 255 bytes.
+// Each width in both orders, padded if a group may be incomplete; then with an ignored byte, and in
+// lines from one group to the longest, with separators of 1, 2 and 255 bytes.
 const FRAGMENTS: &str = "\
 binary|most|check|||0||||
 binary|least|check|||0||||
@@ -144,7 +144,7 @@ base64|most|check|=||252|↵|||
 base64|least|check|||252|↵|||
 base64|least|check|=||252|↵|||";
 
-// Of widths from one bit to six, with padding and lines; the last has 263 characters for a byte.
+// Widths from one bit to six, with padding and lines; the last has 263 characters for a byte.
 const STREAMS: &str = "\
 hex|most|check|||0||||
 octal|least|check|=||0||||
@@ -153,7 +153,7 @@ base64|most|check|=||76|←↵|||
 binary|most|check|||0||||
 binary|most|check|||8|dashes|||";
 
-// Each width, then padded, with ignored bytes, unpadded with ignored bytes, and single.
+// Each width, then padded, with ignored bytes, unpadded with ignored bytes, and not concatenated.
 const LONG: &str = "\
 binary|most|check|||0||||
 quaternary|least|check|||0||||
@@ -177,7 +177,7 @@ base64|most|single check|=||0||||
 base64|most|single check|=||76|-|||
 octal|most|single|=|-|0||||";
 
-// What is compared. Lines are of so many groups, and end with this separator.
+// What is compared. Lines are of this many groups, and end with this separator.
 #[derive(Clone, Copy)]
 enum Sweep {
     Bytes,
@@ -238,7 +238,7 @@ fn compare_all(comparison: &mut Comparison<'_>, sweep: Sweep) -> Result<(), Diff
     }
 }
 
-// Sweeps over a row; where anything differs, the failure names it.
+// Sweeps over a row; if anything differs, the failure names it.
 fn sweep_row(alloc: Global, line: &str, sweep: Sweep, tally: Tally) -> Result<Tally, Fail> {
     let specification = specification_of(alloc, line, sweep)?;
     let encoding = specification.encoding()?;
@@ -285,7 +285,7 @@ fn padded_texts_are_judged_alike(rt: HostRuntime) -> Result<(), Fail> {
     Ok(())
 }
 
-// Where a byte is ignored, texts that have none of it are read in another way.
+// If a byte is ignored, texts without that byte are read in another way.
 #[test]
 fn texts_are_judged_alike_without_the_ignored_byte(rt: HostRuntime) -> Result<(), Fail> {
     let (texts, _, _) = counts_of(rt.alloc(), Sweep::SymbolsIgnoring)?;
@@ -394,7 +394,7 @@ fn streams_write_what_encode_returns(rt: HostRuntime) -> Result<(), Fail> {
     Ok(())
 }
 
-// How often the streams of each row read and write.
+// How many times the streams of each row read and write.
 const ENDS: [(&str, Calls); 3] = [
     (
         "hex|most|check|||0||||",

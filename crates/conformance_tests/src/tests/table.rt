@@ -1,4 +1,4 @@
-//! What the original crate, data-encoding 2.11.1, returns for 200 specifications.
+//! The results of the original crate, data-encoding 2.11.1, for 200 specifications.
 
 // A row has the fields of a specification, and the result: the text of the refusal, or the length
 // of the layout and the sum of its bytes, each times its position from 1, modulo 1000003. A program

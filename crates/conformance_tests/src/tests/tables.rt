@@ -1,4 +1,4 @@
-//! Rows of calls: the fields of an encoding, or its name; what it is given; and what is wanted.
+//! Rows of calls: the fields of an encoding, or its name; what it is given; and what is expected.
 
 pub(super) const TEXTS: &str = "\
 hex|most|check|||0|||||
@@ -33,7 +33,7 @@ octal|most|check|=||0||||\0|000=====
 octal|most|check|=||0||||\0\0|000000==
 HEXLOWER|Bit|426974";
 
-// The length of data, and that of their text.
+// The length of data, and that of its text.
 pub(super) const LENGTHS: &str = "\
 base64|most|check|=||0||||0|0
 base64|most|check|=||0||||1|4
@@ -211,7 +211,7 @@ base64|most|check|=||76|←↵|||\
     57000×\0
 base64|most|check|=||76|←↵|||100000×←↵|";
 
-// Of each text its length alone.
+// What `decode_len` returns for the length of each text.
 pub(super) const DECODED_LENGTHS: &str = "\
 hex|most|check|||0||||..........|5
 hex|most|check|||0||||...|invalid length at 2
@@ -222,8 +222,8 @@ base64|most|check|=||0||||.....|invalid length at 4
 octal|most|check|=||0||||.........|invalid length at 8
 base64|most|check|=||76|←↵|||.....|3";
 
-// What `decode_mut` returns. Each part alone means a byte, and both joined mean three: without
-// padding, if eight bits are no whole symbols, no text may be followed.
+// What `decode_mut` returns. Each half alone means a byte, and both joined mean three: without
+// padding, if eight bits are not whole symbols, no text may be followed.
 pub(super) const BEGINNINGS: &str = "\
 hex|most|check|||0||||00000000000000000G00000000000000|16 read, 8 written, invalid symbol at 17
 base64|most|check|||0||||AAAAAAAAAAAAAAAAAAAAAAAAAAAAAAAAA!AAAAAA|\
@@ -318,8 +318,8 @@ BASE64URL_NOPAD||false
 octal|most|check|!||0||||true
 octal|most|check|=||0||||false";
 
-// Texts that are appended. An encoder takes fragments, with bars that lean between them; what it
-// holds at the end is encoded too, or dropped.
+// Texts that are appended. An encoder takes pieces, separated by slashes; what it holds at the end
+// is encoded too, or dropped.
 pub(super) const APPENDED: &str = "\
 base64|most|check|=||0||||Hello world|SGVsbG8gd29ybGQ=
 base64|most|check|=||0|||||";
@@ -336,8 +336,8 @@ base64|most|check|=||0||||h/e|
 base64|most|check|=||76|←↵|||56×0|
 base64|most|check|=||76|←↵|||56×0¦/0|19×MDAw¦←↵";
 
-// Pieces, between bars that lean; then what each of them and the end appends, and the fault,
-// between such bars.
+// Pieces, separated by slashes; then what each of them and the end appends, and the fault, also
+// separated.
 pub(super) const PIECES: &str = "\
 base64|most|check|||0||||AA/AA|/\0\0\0//
 base64|most|check|||0||||A/A|//\0/
@@ -346,7 +346,7 @@ base64|most|check|=||76|←↵|||SGVs←/↵bG/8=|Hel//lo//
 octal|most|check|| |0||||00/1/00|////invalid length at 3
 base64|most|single check|=||0||||AA=/=/AA==|/\0///invalid padding length at 4";
 
-// What is written of a text, and after a bar that leans, the fault.
+// What is written for a text, and after a slash, the fault.
 pub(super) const DECODED_STREAMS: &str = "\
 base64|most|check|=||76|←↵|||SG¦100000×↵¦Vs|Hel/
 base64|most|check|=||76|←↵|||SG¦100000×↵¦V!|/invalid symbol at 100003
@@ -366,8 +366,8 @@ pub(super) const ENCODED_STREAMS: &str = "\
 BASE64_MIME|57000×\0|\
     1000×AAAAAAAAAAAAAAAAAAAAAAAAAAAAAAAAAAAAAAAAAAAAAAAAAAAAAAAAAAAAAAAAAAAAAAAAAAAA←↵";
 
-// How often a stream of so many bytes reads and writes, and the most that a read asks for: if the
-// last piece is not full, one read more finds the end.
+// How many times a stream of this many bytes reads and writes, and the most that a read asks for:
+// if the last piece is not full, one more read finds the end.
 pub(super) const ENCODE_CALLS: &str = "\
 hex|most|check|||0||||0|1 reads of 8192, 0 writes
 hex|most|check|||0||||24575|4 reads of 8192, 1 writes
@@ -427,7 +427,7 @@ BASE64_MIME|len=515 514=0|515: [61, 30] [0]
 base64|most|check|||252|feeds||||770: [128, 30] [252, 10, 10]";
 
 // An encoding, what is changed in its layout, another encoding, and whether it is the one that has
-// the layout. Concatenation tells two apart if there is padding.
+// the layout. Concatenation distinguishes two if there is padding.
 pub(super) const COMPARISONS: &str = "\
 binary|most|check|||0|||||&binary|most||||0||0|0|true
 binary|most|check|||0|||||&10|most|check|||0||||false
@@ -443,6 +443,6 @@ BASE64_MIME||&base64|most|check|=||76|←↵|||true
 HEXLOWER||&HEXLOWER||true
 BASE64|513=62|&base64|most|single check|=||0||||true";
 
-// A text after other words, and in a field that is longer.
+// A text after other text, and in a wider field.
 pub(super) const DISPLAYED_PADDED: &str = "\
 BASE64|Hello world|Payload: SGVsbG8gd29ybGQ= SGVsbG8gd29ybGQ=";

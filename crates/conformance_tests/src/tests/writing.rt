@@ -9,7 +9,7 @@ use std::fmt;
 use std::fmt::Write;
 use std::test::Fail;
 
-// By which call a text is written.
+// The call by which a text is written.
 #[derive(Clone, Copy)]
 pub(super) enum Writer {
     Buffer,
@@ -17,7 +17,7 @@ pub(super) enum Writer {
     Display,
 }
 
-// A writer that counts its calls, fails once after so many good ones, and keeps what they were
+// A writer that counts its calls, fails once after this many good ones, and keeps what they were
 // given.
 #[derive(Drop)]
 struct Calls {
@@ -64,8 +64,8 @@ fn is_written(encoding: &Encoding, input: &[u8], calls: &mut Calls, writer: Writ
     }
 }
 
-// Whether the call after so many good ones ends the writing, and those before it were given as much
-// of the text as if none failed.
+// Whether the call after this many good ones ends the writing, and those before it were given as
+// much of the text as if none failed.
 fn ends_at_call(
     encoding: &Encoding,
     input: &[u8],
@@ -99,7 +99,7 @@ fn ends_at_each_call(
     true
 }
 
-// The lengths of what the calls of a writer are given of data, if their text is written.
+// The lengths of what the calls of a writer are given for data, if its text is written.
 fn lengths_of(
     alloc: Global,
     encoding: &Encoding,
@@ -118,7 +118,7 @@ fn lengths_of(
     format!(in alloc; "{lengths:?}")
 }
 
-// The same of so many bytes.
+// The same for this many bytes.
 pub(super) fn written_by(
     alloc: Global,
     encoding: &Encoding,
@@ -132,8 +132,7 @@ pub(super) fn written_by(
     Ok(lengths_of(alloc, encoding, &input, writer)?)
 }
 
-// The text of data after other words, and in a field that is longer: a width and a fill change
-// nothing.
+// The text of data after other text, and in a wider field: a width and a fill change nothing.
 pub(super) fn displayed(
     alloc: Global,
     encoding: &Encoding,

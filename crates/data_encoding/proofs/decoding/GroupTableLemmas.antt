@@ -1,4 +1,4 @@
--- What the judgement of a group finds by a table: its symbols, or its fault, or its bytes.
+-- The results of judging a group by a table: its symbols, its fault, or its bytes.
 use Rattle.std.proofs.Common.{◌≡◌, ℕ, ◌-◌, ◌*◌, ◌/◌, ◌<◌, ◌≤◌, ◌==◌, ◌≢◌, nat_lt, Bool, true, false, not, ◌&&◌, List, ◌++◌, length, map, take, drop, replicate, slice_index, None, refl, sym, ap, ◌∙◌, arith, length-take-le, take-append-drop}
 use Rattle.std.proofs.lemmas.Bool.Decides.{nat_tests}
 use Rattle.std.proofs.lemmas.List.{drop_all, length-drop, length-map, take-map, take_at}
@@ -18,7 +18,7 @@ use Rattle.data_encoding_meaning.proofs.grammar.UnpaddedGroupLemmas.{are_symbols
 use Rattle.data_encoding.proofs.decoding.TrailingBitLemmas.{no_symbol-none, no_symbol-some}
 use Rattle.data_encoding_meaning.proofs.decoding.GroupJudgementLemmas.{HasFault-own, part_bytes}
 
--- where the padding of a group begins, by its table
+-- where the padding of a group starts, by its table
 pub count-before : (base : Base) (values : List ℕ) → HoldsValues base values → (group : List ℕ)
     → ((k : ℕ) → slice_index group k < 256) → (count : ℕ) → count ≤ length group
     → ((k : ℕ) → count ≤ k → k < length group
@@ -76,7 +76,7 @@ module _ (base : Base) (values : List ℕ) (holds : HoldsValues base values) (gr
     fault-symbols : group_fault base group ≡ trailing_fault base judged
     fault-symbols = has.fault_is ∙ rw no_symbol
 
-    -- or else the bits that are left over
+    -- or else the trailing bits
     pub trailing-fault : base.checks_trailing_bits ≡ true
         → list_any (λ bit. not (bit == 0)) (trailing_bits base judged) ≡ true
         → 0 < length symbols
@@ -111,7 +111,7 @@ module _ (base : Base) (values : List ℕ) (holds : HoldsValues base values) (gr
         ap (list_any is_padding) behind
         ∙ rw (list_any-append, none, any_padding padding, length-drop, length-map, some)
 
-    -- and where there are none, the group is sound
+    -- and if there are none, the group is sound
     pub group-sound : (base.checks_trailing_bits
         && list_any (λ bit. not (bit == 0)) (trailing_bits base judged)) ≡ false
         → (new rest : List ℕ) → length new ≡ base.width * count / 8

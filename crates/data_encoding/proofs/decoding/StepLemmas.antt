@@ -1,4 +1,4 @@
--- A decoding under way: what a run, a group and the end do to it.
+-- A decoding in progress: what a run, a group and the end do to it.
 use Rattle.std.proofs.Common.{◌≡◌, ℕ, ◌+◌, ◌-◌, ◌*◌, ◌/◌, ◌%◌, ◌<◌, ◌≤◌, Bool, true, false, not, nat_lt, ◌&&◌, ◌==◌, ◌⊎◌, List, [], ◌++◌, length, take, drop, None, Ok, refl, sym, ap, ◌∙◌, subst, arith, length-take-le, ⊎_elim, inl, inr, map}
 use Rattle.std.proofs.Math.Nat.{mod_self, mul-le-mul_left}
 use Rattle.std.proofs.Math.Seq.{take-add}
@@ -36,8 +36,8 @@ pub record Sizes : Type 0 where
   pub bytes : ℕ
   pub symbols : ℕ
 
--- A decoding under way: so much was read and written of a text whose length has no fault, into an
--- output of just its size.
+-- A decoding in progress: this much was read and written of a text whose length is not a fault, to
+-- an output of exactly its size.
 pub record IsUnderWay (base : Base) (text : List ℕ) (sizes : Sizes) (read written : ℕ)
     (ended : Bool) (output : List ℕ) : Type 0 where
   pub width : IsWidth base.width
@@ -72,7 +72,7 @@ same-partial : (partial : DecodePartial) (read written : ℕ) (error : DecodeErr
 same-partial partial read written error h k l =
     λ i. record { read = sym h i; written = sym k i; error = sym l i }
 
--- no group is final where texts may follow, or where all its bytes are symbols
+-- no group is final if texts may follow, or if all its bytes are symbols
 pub final-not : {own base : Base} (count len : ℕ) → own ≡ base
     → (own.concatenates ≡ true) ⊎ (len ≤ count)
     → (not base.concatenates && nat_lt count len) ≡ false
@@ -87,7 +87,7 @@ final-is count len same apart padded =
 
 module _ {base : Base} {text : List ℕ} {sizes : Sizes} {read written : ℕ} {ended : Bool}
     {output : List ℕ} (s : IsUnderWay base text sizes read written ended output) where
-  -- where nothing is left, the text means what was written
+  -- if nothing is left, the text means what was written
   pub decoded : kept_from base read text ≡ [] → IsDecoded base text written output
   decoded none =
       let found = at-end base s.width text s.so_far s.no_fault none in
@@ -98,7 +98,7 @@ module _ {base : Base} {text : List ℕ} {sizes : Sizes} {read written : ℕ} {e
         means = found.2;
       }
 
-  -- as where no byte is left
+  -- also if no byte is left
   pub decoded-all : length text ≤ read → IsDecoded base text written output
   decoded-all past =
       let all : length text ≡ read = omega (arith, past, s.so_far.within) in
@@ -107,7 +107,7 @@ module _ {base : Base} {text : List ℕ} {sizes : Sizes} {read written : ℕ} {e
   pub written-few : written ≤ length text
   written-few = omega (arith, s.so_far.fits, s.size_is, most_bytes-few base s.width (length text))
 
-  -- as far as another output of that length holds it
+  -- if another output of that length holds it too
   further : {stop count : ℕ} {final : Bool} {new : List ℕ} → length new ≡ length output
       → HasDecodedTo base text stop count final new
       → IsUnderWay base text sizes stop count final new
@@ -121,7 +121,7 @@ module _ {base : Base} {text : List ℕ} {sizes : Sizes} {read written : ℕ} {e
     so_far = so_far;
   }
 
-  -- the same with other bytes behind what was written
+  -- the same with other bytes after what was written
   pub after_none : (rest : List ℕ)
       → length rest ≡ length (take (length output - written) (drop written output))
       → IsUnderWay base text sizes read written ended (rewritten written output rest)
@@ -133,7 +133,7 @@ module _ {base : Base} {text : List ℕ} {sizes : Sizes} {read written : ℕ} {e
       (take-put_mid_below written (length output - written) output rest written (omega arith)
       s.so_far.fits))
 
-  -- nothing is left where nothing is gathered
+  -- nothing is left if nothing is gathered
   none-left : (start : ℕ) → start ≤ length text → {group : List ℕ} {span : ℕ}
       → IsGathered base sizes.symbols (take (length text - start) (drop start text)) group span
       → {empty : Bool} → empty ≡ (length group == 0) → empty ≡ true
@@ -142,7 +142,7 @@ module _ {base : Base} {text : List ℕ} {sizes : Sizes} {read written : ℕ} {e
       none-next base s.width text start within (rw (s.symbols_is, take_rest text start) at is)
       (eqb-true (length group) 0 (sym empty_is ∙ empty))
 
-  -- a group of that many bytes has room, where it may have bytes
+  -- a group of that many bytes has room, if it may have bytes
   room-group_of : (count : ℕ) → count ≤ length text - read
       → (is_padded base ≡ true → count % group_symbols base.width ≡ 0)
       → base.width * count / 8 ≤ length output - written
@@ -156,14 +156,14 @@ module _ {base : Base} {text : List ℕ} {sizes : Sizes} {read written : ℕ} {e
         rw (← all, whole_bytes base s.width groups) (omega (arith, room))
     by false unpadded = omega (arith, room-group base s.width text s.so_far count unpadded few)
 
-  -- the greatest front of valid length has that length
+  -- the longest prefix of valid length has that length
   front_len : length (valid_front base (drop read text))
       ≡ greatest_valid_length base (length (drop read text))
   front_len =
       length-take-le (greatest_valid_length base (length (drop read text))) (drop read text)
       (greatest-least base s.width (length (drop read text)))
 
-  -- it has room, where it is one group
+  -- it has room, if it is one group
   room-last : HasRoom base (drop read text) (length output - written)
   room-last few =
       let len = length (drop read text) in
@@ -226,7 +226,7 @@ module _ {base : Base} {text : List ℕ} {sizes : Sizes} {read written : ℕ} {e
               has.inside) at (has.is_fault placed same_bytes);
         }
 
-        -- where no last run is found
+        -- if no last run is found
         stops-here : (new : List ℕ) → written ≤ length new
             → take written new ≡ take written output
             → (is_length_fault fault.kind ≡ true → HasNoLastRun base (drop read text))
@@ -239,7 +239,7 @@ module _ {base : Base} {text : List ℕ} {sizes : Sizes} {read written : ℕ} {e
               last-unsound at is (omega (arith, front_len, (none is).0))
               (λ few. (none is).1 (omega (arith, front_len, few))) new fits same
 
-        -- and where one is
+        -- and if one is
         stops-after : (new : List ℕ) → take written new ≡ take written output
             → is_length_fault fault.kind ≡ true → (more : ℕ) → written + more ≤ length new
             → IsLastRun base (drop read text) more (drop written new)
@@ -285,7 +285,7 @@ module _ {base : Base} {text : List ℕ} {sizes : Sizes} {read written : ℕ} {e
                   stop.how;
             }
 
--- where no final group came before
+-- if no final group came before
 module _ {base : Base} {text : List ℕ} {sizes : Sizes} {read written : ℕ} {output : List ℕ}
     (s : IsUnderWay base text sizes read written false output) where
   module _ {skip : ℕ} (front : IsIgnoredFront base (drop read text) skip) where
@@ -338,7 +338,7 @@ module _ {base : Base} {text : List ℕ} {sizes : Sizes} {read written : ℕ} {o
           (take-rewritten written output rest s.so_far.fits (count * enc)
           ∙ ap (λ l. take written output ++ l) here.bytes)))
 
-    -- nothing is left where nothing is behind ignored bytes
+    -- nothing is left if nothing follows the ignored bytes
     pub decoded-behind : length text ≤ read + skip → IsDecoded base text written output
     decoded-behind past =
         let all : length text ≡ read + skip = omega (arith, past, start-within) in
@@ -407,7 +407,7 @@ module _ {base : Base} {text : List ℕ} {sizes : Sizes} {read written : ℕ} {o
         (take-rewritten written output rest s.so_far.fits (sizes.width * count / 8)
         ∙ ap (λ l. take written output ++ l) (rw (← s.width_is, has.bytes, ← same)))))
 
--- what is found is a group where it is not empty
+-- what is found is a group if it is not empty
 pub some-group : {base : Base} {size : ℕ} {part group : List ℕ} {span : ℕ} {empty : Bool}
     → IsGathered base size part group span → empty ≡ (length group == 0) → empty ≡ false
     → 0 < length group

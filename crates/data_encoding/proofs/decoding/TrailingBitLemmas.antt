@@ -1,4 +1,4 @@
--- The bytes of a group: the first that is no symbol, and the bits left over.
+-- The bytes of a group: the first that is no symbol, and the trailing bits.
 use Rattle.std.proofs.Common.{◌≡◌, ℕ, ◌+◌, ◌-◌, ◌*◌, ◌/◌, ◌%◌, ◌^◌, ◌<◌, ◌≤◌, ◌==◌, Bool, true, not, ◌||◌, List, [], ◌∷◌, ◌++◌, length, map, take, drop, reverse, slice_index, Some, None, refl, sym, ap, ◌∙◌, arith, length-append, pow-add, pow_pos, div-lt_iff_lt-mul, mod-lt, mul_comm, flat_map, slice_get}
 use Rattle.std.proofs.lemmas.Bool.Decides.{nat_tests}
 use Rattle.std.proofs.lemmas.List.{length-map, length-reverse, reverse-append, map-append, append-nil, drop_at, take_more, take_all}
@@ -22,7 +22,7 @@ use Rattle.data_encoding_meaning.proofs.grammar.UnpaddedGroupLemmas.{length-bits
 use Rattle.data_encoding_kernel.proofs.digits.KernelLemmas.{values_in-table, entries_below}
 
 module _ (base : Base) (values : List ℕ) (holds : HoldsValues base values) where
-  -- So many bytes are symbols, and the next, if there is one, is none.
+  -- This many bytes are symbols, and the next, if there is one, is not.
   pub record StopsAfter (group : List ℕ) (index : ℕ) : Type 0 where
     pub are_bytes : (k : ℕ) → slice_index group k < 256
     pub before : (k : ℕ) → k < index → slice_index values (slice_index group k) < 128
@@ -42,7 +42,7 @@ module _ (base : Base) (values : List ℕ) (holds : HoldsValues base values) whe
       (s.there (rw (length-map group (meaning base)) at inside)))))
 
   module _ (group : List ℕ) where
-    -- where each byte is a symbol none is found
+    -- if each byte is a symbol none is found
     pub no_symbol-none : StopsAfter group (length group)
         → position (λ m. not (is_symbol m)) (map (meaning base) group) ≡ None
     no_symbol-none s =
@@ -78,7 +78,7 @@ some_bit-low_bits count number =
     rw (some_bit-number (low_bits count number), ← low_bits-mod count number)
     (rw (number-low_bits count (number % 2 ^ count) (mod-lt number (pow_pos count))))
 
--- the last bits of a value: the low ones where the most significant come first, or the high ones
+-- the last bits of a value: the low ones if the most significant come first, or the high ones
 last_most : (width few value : ℕ) → few ≤ width
     → some_bit (drop (width - few) (bits_of MostSignificantFirst width value))
     ≡ not (value % 2 ^ few == 0)
@@ -147,7 +147,7 @@ pub record EndsWith (values group : List ℕ) (width last : ℕ) : Type 0 where
   pub valid : is_valid_count width (length group) ≡ true
   pub is_last : Some last ≡ slice_get group (length group - 1)
 
--- The last has the bits that are left.
+-- The last symbol has the trailing bits.
 module _ (base : Base) (width : ℕ) (values group : List ℕ) (width_is : base.width ≡ width)
     (holds : HoldsValues base values) (last : ℕ) (ends : EndsWith values group width last) where
   few_bits : width * length group % 8 < width

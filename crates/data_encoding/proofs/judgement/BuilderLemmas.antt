@@ -1,4 +1,4 @@
--- What the builder makes of a specification.
+-- What the builder makes from a specification.
 use Rattle.std.proofs.Common.{◌≡◌, ℕ, zero, suc, ◌%◌, ◌/◌, ◌^◌, ◌<◌, ◌==◌, Bool, true, false, ◌||◌, cond, List, [], length, map, take, replicate, Option, Some, None, is_none, IfSome, Ok, refl, sym, ap, ◌∙◌, arith}
 use Rattle.std.specs.List.{concat, list_any}
 use Rattle.data_encoding_meaning.specs.declared.encoding.Character.{Character}
@@ -12,7 +12,7 @@ use Rattle.data_encoding_meaning.proofs.lists.RepeatLemmas.{take-repeats}
 use Rattle.data_encoding_meaning.proofs.judgement.RuleLemmas.{IsRuled, IsRuledPadding, IsRuledWrapping, IsRuled-from, IsRuled-yield, base_from, base_of-width}
 use Rattle.data_encoding_meaning.proofs.digits.WidthLemmas.{times-pos}
 
--- the judgements up to each part
+-- the judgements up to each field
 module _ (width : ℕ) (fields : Fields) where
   abbrev a : List Judgement
   a = symbol_judgements 0 fields.symbols
@@ -124,7 +124,7 @@ module _ (width : ℕ) (fields : Fields) (meanings : List Character)
     by true rule h = (rule.short, rule.ends_short)
     by false rule h = cc
 
--- What the builder has of a specification that is not refused.
+-- What the builder makes from a specification that is not refused.
 pub record IsMadeOf (fields : Fields) (e : EncodingTables) (meanings : List Character)
     : Type 0 where
   pub width_is : width_of (length fields.symbols) ≡ Some e.width

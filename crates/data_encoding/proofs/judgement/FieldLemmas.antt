@@ -15,7 +15,7 @@ separator-kept : (column : ℕ) (separator : List ℕ) (width : ℕ) (values : L
 separator-kept zero separator width values keeps = keeps
 separator-kept (suc n) separator width values keeps = refl
 
--- The fields of a specification of the tables.
+-- The specification that has the fields of the tables.
 pub record Describes (f : Fields) (e : EncodingTables) : Type 0 where
   pub symbols : f.symbols ≡ take (2 ^ e.width) e.symbols
   pub order : f.order ≡ e.order

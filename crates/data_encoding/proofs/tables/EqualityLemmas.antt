@@ -85,7 +85,7 @@ module _ {e f : EncodingTables} (he : KeepsRules e) (hf : KeepsRules f) where
       let padding = ap (λ (base : Base). base.padding) is in
       ((((((((width, order), checks), concatenates), padding), lines.0), symbols), values), lines.1)
 
-  -- what the comparison of the tables tells, whatever compares the orders
+  -- what follows from the comparison of the tables, whatever compares the orders
   pub base-Decides : {result order : Bool} {a b : Base} → base_of_tables e ≡ a
       → base_of_tables f ≡ b → Decides order (e.order ≡ f.order)
       → result ≡ (((((((((e.width == f.width) && order)

@@ -1,4 +1,4 @@
--- What the tables of an encoding say of a byte, and what is read of them off a layout.
+-- What the tables of an encoding say about a byte, and what is read about it from a layout.
 use Rattle.std.proofs.Common.{◌≡◌, ℕ, ◌^◌, ◌<◌, ◌==◌, cond, nat_lt, List, length, map, take, drop, get_or, Some, None, sym, ap, ◌∙◌}
 use Rattle.std.proofs.lemmas.List.{get_or-map}
 use Rattle.data_encoding_meaning.specs.declared.encoding.Character.TheVariants.{Invalid}
@@ -9,7 +9,7 @@ use Rattle.data_encoding.specs.Tables.{HasTables}
 use Rattle.data_encoding_meaning.proofs.tables.EntryLemmas.{ignored_entry}
 use Rattle.data_encoding_meaning.proofs.tables.ReadingLemmas.{IsReadAs}
 
--- a byte is ignored where its entry says so
+-- a byte is ignored if its entry says so
 pub ignored-at : (base : Base) (tables : Tables) → HasTables base tables → (byte : ℕ)
     → byte < length tables.values.now
     → is_ignored (meaning base byte) ≡ (get_or tables.values.now byte 0 == 129)

@@ -1,4 +1,4 @@
--- What the tables of an encoding say of its base.
+-- What the tables of an encoding say about its base.
 use Rattle.std.proofs.Common.{◌≡◌, ℕ, ◌*◌, ◌/◌, ◌%◌, ◌^◌, ◌<◌, ◌≤◌, ◌==◌, true, false, length, take, get_or, Option, Some, None, IfSome, refl, sym, ap, ◌∙◌, subst, arith, ⊎_elim}
 use Rattle.std.proofs.lemmas.Bool.{cases_lt}
 use Rattle.std.proofs.lemmas.Bool.Decides.{nat_tests}
@@ -82,7 +82,7 @@ module _ (e : EncodingTables) (rules : KeepsRules e) where
     by_padding None keeps = tt
     by_padding (Some character) keeps = keeps.0
 
-  -- each symbol is ASCII, and so is what stands for a value that none has
+  -- each symbol is ASCII, and so is what is used for a value that no symbol has
   any_symbol-ascii : (value : ℕ) → symbol (base_of_tables e) value < 128
   any_symbol-ascii value =
       ⊎_elim

@@ -167,7 +167,7 @@ module _ (e : EncodingTables) (rules : KeepsRules e) where
     wrapping = ruled-wrapping e.column e.separator rules.wrapping;
   }
 
-  -- and so is the yield of a specification
+  -- and so is a base that is built from a specification
   pub is_base_of : IsSpecified (base_of_tables e)
   is_base_of = IsSpecified-ruled (base_of_tables e) (IsRuled-tables)
 

@@ -1,4 +1,4 @@
--- Texts in lines, made by pieces: line by line, and by blocks of lines.
+-- Texts in lines, made in pieces: line by line, and by blocks of lines.
 use Rattle.std.proofs.Common.{◌≡◌, ℕ, ◌+◌, ◌*◌, ◌/◌, ◌<◌, ◌≤◌, Some, IsSome, List, ◌++◌, length, ap, arith, length-append}
 use Rattle.std.proofs.Math.Nat.{div-le_self, le-mul_of_pos_right, mul-mod_left, mul_assoc}
 use Rattle.std.proofs.lemmas.Nat.{le-div}

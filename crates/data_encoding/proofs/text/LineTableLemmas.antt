@@ -1,4 +1,4 @@
--- What the tables of an encoding say of its lines.
+-- What the tables of an encoding say about its lines.
 use Rattle.std.proofs.Common.{◌≡◌, ◌≢◌, ℕ, zero, suc, ◌<◌, Some, None, IsSome, is_some, List, refl, sym, ap, ◌∙◌, arith}
 use Rattle.std.proofs.lemmas.Bool.{false≢true}
 use Rattle.std.specs.List.{AllByRecursion}
@@ -11,7 +11,7 @@ use Rattle.data_encoding.proofs.tables.TableRuleLemmas.{IsRuled-tables}
 use Rattle.data_encoding_meaning.proofs.text.PaddedTextLemmas.{ascii-padded_text}
 use Rattle.data_encoding_meaning.proofs.text.LineLemmas.{ascii-text_of, separator_by}
 
--- what the tables of an encoding say of its lines
+-- what the tables of an encoding say about its lines
 module _ (e : EncodingTables) (rules : KeepsRules e) (seen : Base)
     (is : base_of_tables e ≡ seen) where
   pub IsRuled-seen : IsRuled seen

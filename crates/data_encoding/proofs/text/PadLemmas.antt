@@ -10,7 +10,7 @@ use Rattle.data_encoding.proofs.tables.TableLemmas.{IsWidth-seen}
 use Rattle.data_encoding_meaning.proofs.lists.WriteLemmas.{drop-put_mid_at}
 use Rattle.data_encoding_meaning.proofs.text.PaddedTextLemmas.{padded_text-some, symbols-first}
 
--- what is written behind the symbols, by the tables of an encoding
+-- what is written after the symbols, by the tables of an encoding
 module _ {e : EncodingTables} (rules : KeepsRules e) {seen : Base} (is : base_of_tables e ≡ seen)
     (input output : List ℕ) (exact : length output ≡ length (padded_text seen input))
     (count : ℕ) (counted : count ≡ run_count seen.width (8 * length input)) where

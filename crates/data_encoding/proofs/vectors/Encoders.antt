@@ -1,4 +1,4 @@
--- Worked rows of encoders, and of what is shown.
+-- Worked rows of encoders, and of what is displayed.
 use mathlib.Core.Option as maybe
 use Rattle.std.proofs.Common.{◌≡◌, ℕ, ◌<◌, List, [], ◌++◌, length, codes, Ok, Err, refl, ap, lit<, sym, subst, ◌∙◌}
 use Rattle.data_encoding_meaning.specs.text.Base.{Base}
@@ -11,7 +11,7 @@ use Rattle.data_encoding.specs.declared.encode.display.Display.{Display}
 use Rattle.data_encoding.specs.Shown.{shown_data, shown_text}
 use Rattle.data_encoding_meaning.proofs.vectors.Examples.{bytes, Has}
 
--- an encoder that was handed `hello`
+-- an encoder that has taken `hello`
 encoder_so_far :
     Has base64_fields (λ base. (encoder : Encoder) → base_of_encoder encoder ≡ base
     → written encoder ≡ codes "aGVs" → held encoder ≡ codes "lo"
@@ -26,7 +26,7 @@ encoder_so_far = λ encoder is is_written is_held.
       is_written = is_written;
     })
 
--- an encoder is as it was, and names the text that it appends to where it is handed back
+-- an encoder is unchanged, and the name of its text is known if it is returned
 encoder_handed_back : (encoder : Encoder) → IsUnchanged encoder encoder
     × (name_handed_back (Err encoder) ≡ maybe.some (output_name encoder))
     × (name_handed_back (Ok _) ≡ maybe.none)
@@ -53,7 +53,7 @@ shown_of : (base : Base) (bytes text : List ℕ) → text_of base bytes ≡ text
 shown_of base bytes text h shown is input_is =
     ap (λ b. text_of b (shown_data shown)) is ∙ ap (λ input. text_of base input) input_is ∙ h
 
--- what a `Display` of `Hello world` shows
+-- what a `Display` of `Hello world` prints
 text_shown :
     Has base64_fields (λ base. (shown : Display) → shown.encoding.now ≡ base
     → shown_data shown ≡ codes "Hello world" → shown_text shown ≡ codes "SGVsbG8gd29ybGQ=")

@@ -6,7 +6,7 @@ use Rattle.data_encoding.specs.declared.plain.PlainFields.{PlainFields}
 use Rattle.data_encoding.specs.Plain.{base_of_plain}
 use Rattle.data_encoding.specs.PlainTables.{order_by, padding_by, plain_tables}
 
--- what is kept beside the tables of BASE64_MIME
+-- what is kept besides the tables of BASE64_MIME
 abbrev plain_mime : PlainFields
 plain_mime = record {
   symbols = [];

@@ -13,7 +13,7 @@ use Rattle.data_encoding.specs.declared.specification.Wrap.{Wrap}
 no_fields_said : no_fields ≡ unpadded_fields []
 no_fields_said = refl
 
--- what a specification says whose texts are these, and its copy
+-- what a specification with these texts asks for, and its copy
 specification_said : (s : Specification) → string_bytes s.symbols ≡ codes "01"
     → s.wrap.width ≡ 8 → string_bytes s.wrap.separator ≡ 10 ∷ []
     → ((specified s).symbols ≡ codes "01") × ((specified s).column ≡ 8)

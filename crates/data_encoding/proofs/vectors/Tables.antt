@@ -85,7 +85,7 @@ text_stopped = record {
   how = inl (refl, refl, λ h. absurd (false≢true h));
 }
 
--- what tables hold of a base
+-- what tables say about a base
 tables_hold :
     Has base64_mime_fields (λ base.
     HoldsSymbols base (take 256 (layout base))

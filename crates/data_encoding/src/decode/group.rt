@@ -14,8 +14,8 @@ use data_encoding_kernel::words::{decode_symbols, symbol_position};
 use data_encoding_meaning::error::{DecodeKind, GroupFault};
 
 impl EncodingRef<'_> {
-    /// Decodes a group to the front of the output, and returns how many symbols it has. It is the
-    /// one place where a fault of a group is found, also that a final group ended the text before.
+    /// Decodes a group to the start of the output, and returns how many symbols it has. Every fault
+    /// of a group is found here, except that it follows a final group.
     #[inline(always)]
     pub(crate) fn decode_group<G: GroupSize>(
         &self,
@@ -38,7 +38,7 @@ impl EncodingRef<'_> {
             Err(fault) => return Err(fault),
         };
         let symbols = &group[..count];
-        // A run that stopped at a whole group has seen a byte that is no symbol.
+        // A run stopped at this group, so it is likely to have a byte that is no symbol.
         if count == G::SYMBOLS {
             let index = symbol_position(&self.fields.values, symbols);
             if index < count {
@@ -60,7 +60,7 @@ impl EncodingRef<'_> {
         Ok(count)
     }
 
-    // How many symbols a group has before its padding, where a group may have that many.
+    // Returns how many symbols a group has before its padding, if a group may have that many.
     #[inline(always)]
     fn count_symbols<G: GroupSize>(&self, group: &[u8]) -> Result<usize, GroupFault>
         requires width { self.now.width ≡ G.WIDTH }
@@ -96,7 +96,7 @@ fn faulty(index: usize, kind: DecodeKind) -> GroupFault
     GroupFault { index, kind }
 }
 
-// How many bytes of a group come before the padding at its end.
+// Returns how many bytes of a group come before the padding at its end.
 fn before_padding(values: &[u8; 256], group: &[u8]) -> usize
     ensures count { (base : Base) → HoldsValues base values.now
         → result ≡ count_before_padding (map (meaning base) group.now) }
@@ -111,7 +111,7 @@ fn before_padding(values: &[u8; 256], group: &[u8]) -> usize
     0
 }
 
-// Whether bits are left after the last whole byte of these symbols that are not zeros.
+// Whether bits that are not zeros are left after the last whole byte of these symbols.
 fn has_trailing<G: GroupSize>(values: &[u8; 256], order: BitOrder, symbols: &[u8]) -> bool
     requires few { length symbols.now ≤ 8 }
     requires symbols { (k : ℕ) → k < length symbols.now

@@ -11,11 +11,11 @@ use crate::encoding::{Encoding, EncodingRef, group_bytes, group_symbols};
 use crate::error::{DecodeError, DecodeKind};
 
 impl Encoding {
-    /// The greatest number of bytes that a text of `len` bytes, at most `DECODE_LIMIT`, may mean.
+    /// Returns the greatest number of bytes that a text of `len` bytes, at most `DECODE_LIMIT`, may
+    /// mean.
     ///
-    /// Where no byte is ignored, a length that no text has is a `Length` fault, at the greatest
-    /// length below it that a text may have: where texts are padded, that is a number of whole
-    /// groups.
+    /// If no byte is ignored and no text has this length, returns a `Length` fault at the greatest
+    /// length below it that a text may have. The texts of a padded encoding are whole groups.
     pub fn decode_len(&self, len: usize) -> Result<usize, DecodeError>
         requires limit { len ≤ DECODE_LIMIT }
         ensures value { result ≡ decoded_len self.now len }
@@ -29,11 +29,11 @@ impl Encoding {
 }
 
 impl EncodingRef<'_> {
-    /// The greatest number of bytes that a text of `len` bytes, at most `DECODE_LIMIT`, may mean.
+    /// Returns the greatest number of bytes that a text of `len` bytes, at most `DECODE_LIMIT`, may
+    /// mean.
     ///
-    /// Where no byte is ignored, a length that no text has is a `Length` fault, at the greatest
-    /// length below it that a text may have: where texts are padded, that is a number of whole
-    /// groups.
+    /// If no byte is ignored and no text has this length, returns a `Length` fault at the greatest
+    /// length below it that a text may have. The texts of a padded encoding are whole groups.
     #[inline(always)]
     pub fn decode_len(&self, len: usize) -> Result<usize, DecodeError>
         requires limit { len ≤ DECODE_LIMIT }
@@ -52,11 +52,11 @@ impl EncodingRef<'_> {
                 kind: DecodeKind::Length,
             });
         }
-        // No symbol is left behind whole groups, where the texts are padded.
+        // If texts are padded, no symbol follows the whole groups.
         Ok(self.bit_width() * len / 8)
     }
 
-    // Whether a text of this length, of which no byte is ignored, may mean something.
+    // Whether a text of this length without ignored bytes may mean something.
     #[inline(always)]
     fn is_valid_length(&self, len: usize) -> bool
         requires limit { len ≤ DECODE_LIMIT }
@@ -65,13 +65,14 @@ impl EncodingRef<'_> {
         let width = self.bit_width();
         let left = width * len % 8;
         if self.fields.is_padded() {
-            // The bits of symbols are whole bytes exactly where their groups are whole.
+            // The bits of symbols are whole bytes if and only if their groups are whole.
             return left == 0;
         }
         left < width
     }
 
-    // The greatest length of such a text that is not longer. Not inlined: only a fault has it.
+    // The greatest valid length that is not longer, for texts without ignored bytes. Not inlined,
+    // since it is needed for faults only.
     #[inline(never)]
     pub(crate) fn greatest_valid_length(&self, len: usize) -> usize
         requires limit { len ≤ DECODE_LIMIT }
@@ -87,7 +88,7 @@ impl EncodingRef<'_> {
         len - width * len % 8 / width
     }
 
-    // As many bytes as a text of this length may mean.
+    // The most bytes that a text of this length may mean.
     fn most_bytes(&self, len: usize) -> usize
         requires limit { len ≤ DECODE_LIMIT }
         ensures { result ≡ most_bytes self.now len }
@@ -99,8 +100,8 @@ impl EncodingRef<'_> {
     }
 }
 
-// The whole groups of as many symbols. What is divided by is a constant, since a division by a
-// variable takes as long as a group.
+// The number of whole groups in this many symbols. The divisor is a constant, since a division by a
+// variable takes as long as decoding a group.
 fn whole_groups(width: u8, len: usize) -> usize
     requires { IsWidth width }
     ensures { result ≡ len / group_symbols width }

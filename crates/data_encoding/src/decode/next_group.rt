@@ -10,14 +10,14 @@ ghost use Rattle.data_encoding_kernel.specs.Tables.{HoldsValues};
 use crate::encoding::{EncodingRef, IGNORED};
 use data_encoding_kernel::group_size::GroupSize;
 
-// A group of a text: its bytes, and how far it goes with the ignored bytes among them.
+// A group of a text: its bytes, and the length of the text up to its end, with ignored bytes.
 #[derive(Clone, Copy, Drop)]
 pub(crate) struct Group<'a> {
     pub(crate) bytes: &'a [u8],
     pub(crate) span: usize,
 }
 
-// How many bytes were gathered, and how far they go.
+// How many bytes were gathered, and up to which length of the text.
 #[derive(Clone, Copy, Drop)]
 struct Gathered {
     count: usize,
@@ -25,8 +25,8 @@ struct Gathered {
 }
 
 impl EncodingRef<'_> {
-    /// The next group of what is left of a text, or the fewer bytes that are left and not ignored.
-    /// Where bytes are ignored it is gathered in the room.
+    /// Returns the next group of the rest of a text, or the fewer bytes that are left and not
+    /// ignored. If bytes are ignored, the group is gathered in `room`.
     #[inline(always)]
     pub(crate) fn next_group<'a, G: GroupSize>(
         &self,
@@ -54,8 +54,8 @@ impl EncodingRef<'_> {
         }
     }
 
-    /// Where a byte stands, by its index among those that are not ignored; the length, where the
-    /// index is not below their number.
+    /// Returns the position of the byte that has this index among those that are not ignored, or
+    /// the length if there is no such byte.
     #[inline(never)]
     pub(crate) fn kept_position(&self, part: &[u8], index: usize) -> usize
         ensures found { index < length (kept self.now part.now)
@@ -78,7 +78,7 @@ impl EncodingRef<'_> {
     }
 }
 
-// Gathers the first bytes that are not ignored at the front of the room.
+// Gathers the first bytes that are not ignored at the start of `room`.
 fn gather<G: GroupSize>(values: &[u8; 256], rest: &[u8], room: &mut [u8; 8]) -> Gathered
     ensures few { result.count ≤ G.SYMBOLS }
     ensures first { (base : Base) → HoldsValues base values.now

@@ -18,7 +18,7 @@ use data_encoding_kernel::order::ConstantOrder;
 // How a step ended.
 #[derive(Clone, Copy, Drop)]
 pub(crate) enum Step {
-    // More is left of the text.
+    // There is more to read.
     More,
 
     // The text has no fault.
@@ -28,7 +28,7 @@ pub(crate) enum Step {
     Faulty,
 }
 
-// How far a text was read and its output written, and how many bytes are ignored behind that.
+// How far a text was read and its output written, and how many ignored bytes follow.
 #[derive(Clone, Copy, Drop)]
 pub(crate) struct Reached {
     pub(crate) read: usize,
@@ -37,8 +37,8 @@ pub(crate) struct Reached {
 }
 
 impl EncodingRef<'_> {
-    /// What is left of a text. Not inlined: with the search in the same function the loop over
-    /// lanes was slower by a fifth.
+    /// Decodes the rest of a text, and returns whether it has no fault. Not inlined: with the
+    /// search in the same function, the loop over lanes was slower by a fifth.
     #[inline(never)]
     pub(crate) fn decode_from<L: LookUp, O: ConstantOrder, G: GroupSize>(
         &self,
@@ -59,7 +59,8 @@ impl EncodingRef<'_> {
         self.decode_steps::<L, O, G>(values, Some(look_up), input, output, stop)
     }
 
-    /// Step after step, to the end of the text.
+    /// Decodes step by step, up to the end of the text or its first fault, and returns whether it
+    /// has none.
     #[inline(always)]
     pub(crate) fn decode_steps<L: LookUp, O: ConstantOrder, G: GroupSize>(
         &self,
@@ -96,7 +97,7 @@ impl EncodingRef<'_> {
         true
     }
 
-    /// Runs of whole groups that are symbols alone, with ignored bytes between them.
+    /// Decodes runs of whole groups of symbols only, with ignored bytes between them.
     #[inline(always)]
     fn decode_runs<L: LookUp, O: ConstantOrder, G: GroupSize>(
         &self,
@@ -120,28 +121,29 @@ impl EncodingRef<'_> {
         let mut at = Reached {
             read,
             written,
-            ignored: self.ignored_behind(read, input),
+            ignored: self.count_ignored(read, input),
         };
         let mut goes_on = true;
         while goes_on {
-            let next = self.decode_run_behind::<L, O, G>(values, look_up, at, input, output);
+            let next = self.decode_run_after_ignored::<L, O, G>(values, look_up, at, input, output);
             if next.read == at.read {
                 return next;
             }
             at = Reached {
                 read: next.read,
                 written: next.written,
-                ignored: self.ignored_behind(next.read, input),
+                ignored: self.count_ignored(next.read, input),
             };
             goes_on = at.ignored != 0;
         }
         at
     }
 
-    /// A run of whole groups that are symbols alone, behind bytes that are ignored: these are read
-    /// only where the run has a group. Where the text has no look-up, the run finds its own.
+    /// Decodes a run of whole groups of symbols only, which follows ignored bytes. The ignored
+    /// bytes are read only if the run has a group. If there is no look-up, the run prepares its
+    /// own.
     #[inline(always)]
-    pub(crate) fn decode_run_behind<L: LookUp, O: ConstantOrder, G: GroupSize>(
+    pub(crate) fn decode_run_after_ignored<L: LookUp, O: ConstantOrder, G: GroupSize>(
         &self,
         values: &[u8; 256],
         look_up: Option<&L>,
@@ -177,9 +179,9 @@ impl EncodingRef<'_> {
         }
     }
 
-    // How many bytes are ignored behind what was read.
+    // Returns how many bytes are ignored after what was read.
     #[inline(always)]
-    fn ignored_behind(&self, read: usize, input: &[u8]) -> usize
+    fn count_ignored(&self, read: usize, input: &[u8]) -> usize
         requires within { read ≤ length input.now }
         ensures { IsIgnoredFront self.now (drop read input.now) result }
     {
@@ -189,8 +191,8 @@ impl EncodingRef<'_> {
         ignored_front(&self.fields.values, &input[read..])
     }
 
-    /// The group behind what was read, which is judged alone.
-    // A fault is described by the caller, since a result with room for it makes short texts slower.
+    /// Decodes the group after what was read, and judges it alone.
+    // The caller makes the error, since a result with room for one makes short texts slower.
     #[inline(always)]
     pub(crate) fn decode_next<G: GroupSize>(
         &self,
@@ -238,8 +240,8 @@ impl EncodingRef<'_> {
         Step::More
     }
 
-    // Whether a text ends after a final group: any group that follows is a fault, at its first
-    // byte. The output is read and written no more.
+    // Whether a text ends after a final group: any further group is a fault, at its first byte. The
+    // output is not read or written.
     #[inline(never)]
     fn is_end<G: GroupSize>(&self, input: &[u8], stop: &mut Stop) -> bool
         requires width { self.now.width ≡ G.WIDTH }
@@ -259,7 +261,7 @@ impl EncodingRef<'_> {
     }
 }
 
-// How many bytes are ignored in front of the first that is not.
+// Returns how many bytes are ignored before the first that is not.
 #[inline(always)]
 fn ignored_front(values: &[u8; 256], rest: &[u8]) -> usize
     ensures within { result ≤ length rest.now }

@@ -1,4 +1,4 @@
-//! Decoding a text: the order, its length and the width are chosen once.
+//! Decoding a text: its bit order, its length and its width are tested once.
 
 ghost use Rattle.std.specs.Prelude.{◌≡◌, false, ◌≤◌, length, Ok, IsTrue};
 ghost use Rattle.data_encoding_meaning.specs.text.Base.{IsWidth};
@@ -16,12 +16,12 @@ use data_encoding_kernel::lanes::affine::{Affine, affine_of};
 use data_encoding_kernel::lanes::rows::{Rows, rows_of};
 use data_encoding_kernel::order::{ConstantOrder, LeastSignificantFirst, MostSignificantFirst};
 
-// The length of a text from which finding the affine form of a table takes less time than it saves.
+// From this length of a text on, finding the affine form of a table takes less time than it saves.
 const AFFINE_FROM: usize = 704;
 
 impl EncodingRef<'_> {
-    /// Decodes a text as far as it has no fault, and returns whether it has none.
-    // One call of `decode_mut`, which is then small enough to be part of its callers.
+    /// Decodes a text up to its first fault, and returns whether it has none.
+    // `decode_mut` makes just this call, and so is small enough to be inlined.
     #[inline(never)]
     pub(crate) fn decode_by_order(&self, input: &[u8], output: &mut [u8], stop: &mut Stop) -> bool
         requires limit { length input.now ≤ DECODE_LIMIT }
@@ -59,7 +59,7 @@ impl EncodingRef<'_> {
         self.decode_long_by_width::<O>(input, output, stop)
     }
 
-    // A short text. In the same function as the test of the length it took more time.
+    // A short text. It took more time in the same function as the test of the length.
     #[inline(never)]
     fn decode_short_by_width<O: ConstantOrder>(
         &self,
@@ -79,7 +79,7 @@ impl EncodingRef<'_> {
         )
     }
 
-    // A text of some length.
+    // A long text.
     #[inline(never)]
     fn decode_long_by_width<O: ConstantOrder>(
         &self,
@@ -99,8 +99,7 @@ impl EncodingRef<'_> {
         )
     }
 
-    // With the width as a constant too, and the sizes of a group. Most texts end with the first
-    // step.
+    // With the width and the sizes of a group as constants too. Most texts end with the first step.
     #[inline(always)]
     fn decode_text<O: ConstantOrder, G: GroupSize>(
         &self,
@@ -114,7 +113,7 @@ impl EncodingRef<'_> {
         requires exact { decoded_len self.now (length input.now) ≡ Ok (length output.old) }
         ensures { HasEnded self.now input.now output.new stop.new result }
     {
-        let at = self.decode_run_behind::<Rows, O, G>(
+        let at = self.decode_run_after_ignored::<Rows, O, G>(
             &self.fields.values,
             None,
             Reached {
@@ -133,7 +132,7 @@ impl EncodingRef<'_> {
         }
     }
 
-    // The steps that follow: padded texts in a row, or bytes that are ignored. Most are too few to
+    // The remaining steps: further padded texts, or ignored bytes. Usually they are too few to
     // prepare a look-up for them.
     #[inline(never)]
     fn decode_rest<O: ConstantOrder, G: GroupSize>(
@@ -153,8 +152,8 @@ impl EncodingRef<'_> {
         self.decode_steps::<Rows, O, G>(&self.fields.values, None, input, output, stop)
     }
 
-    // By the affine form of the table, where it has one, and else by its rows. Not inlined, so that
-    // shorter texts do not pay for the room that the search takes.
+    // By the affine form of the table if it has one, or else by its rows. Not inlined, so that
+    // shorter texts do not pay for the stack that the search takes.
     #[inline(never)]
     fn decode_long<O: ConstantOrder, G: GroupSize>(
         &self,

@@ -13,8 +13,8 @@ use std::mem;
 impl Encoding {
     /// Appends the text of the data, of at most `ENCODE_LIMIT` bytes, to `output`.
     ///
-    /// The only error is that memory ran out, which is never reported for no data. The bytes and
-    /// the capacity of `output` are then what they were.
+    /// Returns an error only if memory runs out, and never for no data. The bytes and the capacity
+    /// of `output` are then unchanged.
     pub fn encode_append(&self, input: &[u8], output: &mut String) -> Result<(), AllocError>
         requires limit { length input.now ≤ ENCODE_LIMIT }
         ensures text { OnOk result (string_bytes output.new
@@ -28,7 +28,7 @@ impl Encoding {
         self.append_in(input, output)
     }
 
-    // Does so to a text in any memory.
+    // The same for a text of any allocator.
     pub(crate) fn append_in<A: Allocator + Copy>(
         &self,
         input: &[u8],
@@ -52,7 +52,7 @@ impl Encoding {
         Ok(())
     }
 
-    // Does so where there is room: the text is written where it stays.
+    // The same if there is room: the text is written in place.
     pub(crate) fn append_within<A: Allocator + Copy>(&self, input: &[u8], output: &mut String<A>)
         requires limit { length input.now ≤ ENCODE_LIMIT }
         requires room { string_len output.old + length (text_of self.now input.now)

@@ -13,14 +13,15 @@ use std::fmt;
 use std::fmt::Write;
 
 impl Encoding {
-    /// Writes the text of the data by way of a buffer, which has at least 510 bytes. The buffer or
-    /// the data have at most `ENCODE_LIMIT` bytes.
+    /// Writes the text of the data through a buffer of at least 510 bytes. The buffer or the data
+    /// has at most `ENCODE_LIMIT` bytes.
     ///
-    /// Each call of the writer has the text of as many whole groups, or whole lines, as fit the
-    /// buffer, and the last call that of the rest. For no data there is no call.
+    /// Each call of the writer gets the text of as many whole groups, or whole lines, as fit the
+    /// buffer, and the last call gets that of the rest. For no data the writer is not called.
     ///
-    /// The only error is that a call failed. It is the last call then, and what the calls before it
-    /// wrote stays written. Nothing is promised of what the buffer holds afterwards.
+    /// Returns an error only if a call of the writer fails. That is then the last call, and what
+    /// the calls before it wrote stays written. The contents of the buffer are unspecified
+    /// afterwards.
     pub fn encode_write_buffer<W: fmt::Write>(
         &self,
         input: &[u8],
@@ -46,8 +47,8 @@ impl Encoding {
         self.write_piece(rest, output, buffer)
     }
 
-    /// Does what `encode_write_buffer` does with a buffer of 1,024 bytes of its own, for data of
-    /// any length.
+    /// The same as `encode_write_buffer` with a buffer of 1,024 bytes on the stack, for data of any
+    /// length.
     pub fn encode_write<W: fmt::Write>(&self, input: &[u8], output: &mut W) -> fmt::Result
         ensures written { OnOk result
             (WritesInCalls W.write_str_gives output.old (text_of self.now input.now) output.new) }
@@ -57,10 +58,10 @@ impl Encoding {
         self.encode_write_buffer(input, output, &mut buffer)
     }
 
-    /// How many bytes of data, in whole groups or whole lines, have a text that surely fits an
-    /// output of `output_len` bytes, at least 510. The text of fewer bytes fits too.
+    /// Returns how many bytes of data, in whole groups or whole lines, have a text that surely fits
+    /// an output of `output_len` bytes, which is at least 510. The text of fewer bytes fits too.
     ///
-    /// The texts of pieces of this length, and of a last one of any length, may be joined.
+    /// The texts of pieces of this length, and of a last piece of any length, may be joined.
     pub fn encode_piece_len(&self, output_len: usize) -> usize
         requires room { 510 ≤ output_len }
         ensures some { 0 < result }
@@ -73,7 +74,7 @@ impl Encoding {
         output_len / self.block_len() * self.encode_align()
     }
 
-    /// The data as a value that prints their text, in the calls of `encode_write`.
+    /// Returns a value that prints the text of the data, by the same calls as `encode_write`.
     pub fn encode_display<'a>(&'a self, input: &'a [u8]) -> Display<'a>
         ensures text { shown_text result ≡ text_of self.now input.now }
         ensures data { shown_data result ≡ input.now }
@@ -95,7 +96,7 @@ impl Encoding {
         self.fields.column as usize + self.fields.line_separator_len()
     }
 
-    // Writes the text of data in one call.
+    // Writes the text of a piece of the data in one call.
     fn write_piece<W: fmt::Write>(
         &self,
         input: &[u8],
@@ -112,8 +113,8 @@ impl Encoding {
     }
 }
 
-/// Data that print as their text, whatever width and fill are asked for. No data print nothing,
-/// which never fails.
+/// Data that prints as its text, whatever width and fill the format asks for. For no data nothing
+/// is printed, and printing never fails.
 #[derive(Clone, Copy, Debug)]
 pub struct Display<'a> {
     encoding: &'a Encoding,

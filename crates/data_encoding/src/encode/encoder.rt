@@ -1,4 +1,4 @@
-//! Data that comes in fragments, encoded as it comes.
+//! Data that comes in pieces, encoded as it comes.
 
 ghost use Rattle.std.specs.Prelude.{◌≡◌, ℕ, ◌+◌, ◌<◌, ◌≤◌, List, [], ◌++◌, length, IfErr, IsOk, OnErr, OnOk};
 ghost use Rattle.std.specs.Borrow.{sem};
@@ -12,11 +12,11 @@ use crate::encoding::Encoding;
 use arrayvec::ArrayVec;
 use std::alloc::{AllocError, Allocator};
 
-/// Appends the text of data that comes in fragments to a text.
+/// Appends the text of data that comes in pieces to a text.
 ///
 /// A block is `encode_align` bytes of data: a group of symbols, or a line. The text of a block is
-/// appended once the block is whole, and the encoder holds the bytes that fill none yet. It must be
-/// spent, by `finalize` or `abandon`: a program that lets one fall does not compile.
+/// appended once the block is whole; the encoder holds the bytes that do not fill a block yet. An
+/// encoder must be consumed by `finalize` or `abandon`: a program that drops one does not compile.
 #[derive(Debug)]
 pub struct Encoder<'a> {
     encoding: Encoding,
@@ -31,7 +31,7 @@ pub struct Encoder<'a> {
 impl Encoding {
     ghost use Rattle.data_encoding.specs.Encoder.{base_of_encoder, output_name, HasTaken};
 
-    /// An encoder that was handed nothing, and appends to `output`.
+    /// Returns an encoder that has taken nothing and appends to `output`.
     pub fn new_encoder<'a>(&'a self, output: &'a mut String) -> Encoder<'a>
         ensures output { output_name result ≡ output.entry.ghost_name }
         ensures base { base_of_encoder result ≡ self.now }
@@ -49,7 +49,7 @@ impl Encoding {
         }
     }
 
-    // Appends the text of the blocks that are whole with the input, and holds the rest.
+    // Appends the text of the blocks that the input completes, and holds the rest.
     fn append_blocks<A: Allocator + Copy>(
         &self,
         input: &[u8],
@@ -106,11 +106,11 @@ impl Encoding {
 impl<'a> Encoder<'a> {
     ghost use Rattle.data_encoding.specs.Encoder.{base_of_encoder, held, output_name, written, Finalizes, HasTaken, IsUnchanged};
 
-    /// Takes a fragment, of at most `ENCODE_LIMIT` bytes, and appends the text of the blocks that
-    /// are then whole.
+    /// Takes a piece, of at most `ENCODE_LIMIT` bytes, and appends the text of the blocks that are
+    /// then whole.
     ///
-    /// The only error is that memory ran out, which is never reported where no block is whole: the
-    /// text, and what is held, are then what they were.
+    /// Returns an error only if memory runs out, and never if no block is whole. The text and the
+    /// bytes held are then unchanged.
     pub fn append(&mut self, input: &[u8]) -> Result<(), AllocError>
         requires limit { length input.now ≤ ENCODE_LIMIT }
         ensures output { output_name self.new ≡ output_name self.old }
@@ -125,11 +125,10 @@ impl<'a> Encoder<'a> {
             .append_blocks(input, &mut self.held, self.block_len, self.output)
     }
 
-    /// Appends the text of what is held, with padding, and with the separator where there are
-    /// lines.
+    /// Appends the text of the bytes held, with padding, and with the separator if there are lines.
     ///
-    /// Where memory ran out, which is never reported where nothing is held, the encoder is
-    /// returned, and it and the text are what they were.
+    /// If memory runs out, which never happens if nothing is held, the encoder is returned, and it
+    /// and the text are unchanged.
     pub fn finalize(self) -> Result<(), Encoder<'a>>
         ensures* text { sem 𝓛 (Finalizes self.entry result) }
         ensures unchanged { IfErr result (λ encoder. IsUnchanged self.entry encoder) }
@@ -152,7 +151,7 @@ impl<'a> Encoder<'a> {
         Ok(())
     }
 
-    /// Drops what is held, and leaves the text of the blocks that were whole.
+    /// Drops the bytes held, and leaves the text of the blocks that were whole.
     pub fn abandon(self)
         ensures { string_bytes self.exit.1.0.now ≡ written self.entry }
     {
@@ -165,8 +164,8 @@ impl<'a> Encoder<'a> {
     }
 }
 
-// A type that fits two of these impls is refused: the crate compiles while an encoder is not
-// `Drop`.
+// A type to which two of these impls apply is refused, so the crate compiles only while an encoder
+// is not `Drop`.
 trait MustBeSpent {}
 
 impl<T: Drop> MustBeSpent for T {}

@@ -9,16 +9,17 @@ use crate::encode::ENCODE_LIMIT;
 use crate::encoding::EncodingRef;
 use data_encoding_kernel::group_size::GroupSize;
 
-// The greatest length of a block of lines without their separators, of four lines at least.
+// The greatest length of a block of lines, without their separators. A block has at least four
+// lines.
 const BLOCK_LEN: usize = 1024;
 
-// The greatest number of lines that take less time one by one.
+// Up to this many lines, line by line takes less time.
 const FEW_LINES: usize = 3;
 
 impl EncodingRef<'_> {
-    // Few lines go one by one, and more of them by blocks. One line is no turn of a loop, before
-    // which all that lines use would be loaded. Not inlined, so that texts without lines do not pay
-    // for it.
+    // Few lines are encoded one by one, and more of them in blocks. A single line is not a turn of
+    // a loop, which would first load all that lines use. Not inlined, so that texts without lines
+    // do not pay for it.
     #[inline(never)]
     pub(super) fn encode_lines<G: GroupSize>(&self, input: &[u8], output: &mut [u8])
         requires width { self.now.width ≡ G.WIDTH }
@@ -37,7 +38,7 @@ impl EncodingRef<'_> {
         }
     }
 
-    // Line after line, the last perhaps shorter.
+    // Line by line; the last may be shorter.
     #[inline(always)]
     fn encode_each_line<G: GroupSize>(&self, input: &[u8], output: &mut [u8])
         requires width { self.now.width ≡ G.WIDTH }
@@ -57,8 +58,9 @@ impl EncodingRef<'_> {
         }
     }
 
-    // Block after block of whole lines, the last perhaps shorter. The text of a block is made
-    // without separators, so that most of its groups go by lanes, and then copied line by line.
+    // Block by block of whole lines; the last may be shorter. The text of a block is written
+    // without separators, so that most of its groups are encoded in lanes, and is then copied line
+    // by line.
     #[inline(always)]
     fn encode_blocks<G: GroupSize>(&self, input: &[u8], output: &mut [u8])
         requires width { self.now.width ≡ G.WIDTH }
@@ -84,7 +86,7 @@ impl EncodingRef<'_> {
         }
     }
 
-    // The text in lines, for whose characters without separators there is room in `symbols`.
+    // The text in lines; `symbols` has room for its characters without separators.
     #[inline(always)]
     fn encode_block<G: GroupSize>(
         &self,
@@ -109,7 +111,7 @@ impl EncodingRef<'_> {
         );
     }
 
-    // The text of at most a line, and the separator.
+    // The text of at most one line, and the separator.
     #[inline(always)]
     fn encode_line<G: GroupSize>(&self, input: &[u8], output: &mut [u8])
         requires width { self.now.width ≡ G.WIDTH }
@@ -125,8 +127,8 @@ impl EncodingRef<'_> {
     }
 }
 
-// The text in lines of `column` characters, the last perhaps shorter, each followed by the
-// separator.
+// Writes the text in lines of `column` characters, the last of which may be shorter, each followed
+// by the separator.
 fn wrap(column: usize, separator: &[u8], text: &[u8], output: &mut [u8])
     requires some { 0 < column }
     requires few { column < 256 }
@@ -150,7 +152,7 @@ fn wrap(column: usize, separator: &[u8], text: &[u8], output: &mut [u8])
     }
 }
 
-// A line, and the separator behind it.
+// Writes a line, followed by the separator.
 fn write_line(line: &[u8], separator: &[u8], output: &mut [u8])
     requires exact { length output.old ≡ length (line.now ++ separator.now) }
     ensures { output.new ≡ line.now ++ separator.now }
@@ -159,7 +161,7 @@ fn write_line(line: &[u8], separator: &[u8], output: &mut [u8])
     write_separator(separator, &mut output[line.len()..]);
 }
 
-// CR LF takes less time as two stores than by a call that copies any number of bytes.
+// Two stores for CR LF take less time than a call that copies any number of bytes.
 #[inline(always)]
 fn write_separator(separator: &[u8], output: &mut [u8])
     requires { length output.old ≡ length separator.now }

@@ -1,4 +1,5 @@
-//! How a specification becomes an encoding: each byte is given its meaning in turn.
+//! How an encoding is built from a specification: the bytes are given their meanings one after
+//! another.
 
 ghost use Rattle.std.specs.Prelude.{◌≡◌, ◌/◌, ◌%◌, ◌^◌, ◌==◌, ◌||◌, ◌<◌, [], length, replicate, take, if◌then◌else◌, is_none, IfOk, IfErr, IfSome, IsTrue, Ok, Err, Some, None};
 ghost use Rattle.std.specs.List.{concat};
@@ -12,17 +13,17 @@ use crate::plain::PlainFields;
 use crate::specification::meanings::{Meanings, Refusal, wraps};
 use crate::specification::parts::SpecificationParts;
 
-// The numbers of symbols, in order of their bits; one symbol has none.
+// The numbers of symbols, in order of their bits; a single symbol has none.
 const SIZES: [usize; 7] = [1, 2, 4, 8, 16, 32, 64];
 
-// The number of bits of a symbol, where there are `count`: a single one has none.
+// The number of bits of a symbol, if there are `count` of them; a single one has none.
 fn width_of(count: usize) -> Option<usize>
     ensures { result ≡ width_of count }
 {
     SIZES.iter().position(|size| *size == count)
 }
 
-// The number of bits of a symbol, where there are `count` symbols: not 0.
+// The number of bits of a symbol, if there are `count` of them and it is not 0, or the refusal.
 fn bits_of_symbol(count: usize) -> Result<u8, Refusal>
     ensures width { IfOk result (λ width. width_of count ≡ Some width) }
     ensures bits { IfOk result IsWidth }
@@ -36,7 +37,7 @@ fn bits_of_symbol(count: usize) -> Result<u8, Refusal>
     }
 }
 
-// The symbols again and again, until the table is full: what is there is appended to itself.
+// The symbols, repeated until the table is full: its filled prefix is appended to itself.
 fn repeated(symbols: &[u8], width: u8) -> [u8; 256]
     requires width { IsWidth width }
     requires count { length symbols.now ≡ 2 ^ width }
@@ -52,7 +53,7 @@ fn repeated(symbols: &[u8], width: u8) -> [u8; 256]
     table
 }
 
-// Whether trailing bits are checked: always, where eight bits are whole symbols.
+// Whether trailing bits are checked: always, if eight bits are whole symbols.
 fn checks_trailing_bits(check: bool, width: u8) -> bool
     requires { 0 < width }
     ensures { result ≡ (check || (8 % width == 0)) }
@@ -60,7 +61,7 @@ fn checks_trailing_bits(check: bool, width: u8) -> bool
     check || 8 % width == 0
 }
 
-// Whether texts may be concatenated: always, where there is no padding.
+// Whether texts may be concatenated: always, if there is no padding.
 fn concatenates(concatenate: bool, padding: Option<char>) -> bool
     ensures { result ≡ (concatenate || is_none padding) }
 {
@@ -88,7 +89,7 @@ fn is_least_first(order: BitOrder) -> bool
     }
 }
 
-// The length of a line, and what follows each; 0 and nothing if there are no lines.
+// The length of a line and the separator, or 0 and nothing if there are no lines.
 fn lines_of(column: usize, separator: &[u8]) -> (u8, &[u8])
     requires column { IsTrue (wraps column separator.now) → column < 256 }
     requires separator { IsTrue (wraps column separator.now) → length separator.now < 256 }
@@ -132,7 +133,7 @@ fn judge(parts: &SpecificationParts<'_>, width: u8) -> Result<Meanings, Refusal>
     Ok(meanings)
 }
 
-// The encoding of what was judged.
+// The encoding that was judged.
 fn assembled(parts: &SpecificationParts<'_>, width: u8, meanings: Meanings) -> Encoding
     requires sized { width_of (length parts.now.symbols.now) ≡ Some width }
     requires width { IsWidth width }

@@ -1,5 +1,4 @@
-//! The specification of an encoding with its texts as bytes of its own, for which no memory is
-//! taken.
+//! The specification of an encoding that holds its texts as bytes, and does not allocate.
 
 ghost use Rattle.std.specs.Prelude.{◌≡◌};
 ghost use Rattle.data_encoding_meaning.specs.specification.Layout.{fields_of};
@@ -10,8 +9,8 @@ use crate::specification::parts::SpecificationParts;
 use crate::specification::tables::character;
 use arrayvec::ArrayVec;
 
-/// What an encoding may be asked for by, as a [`Specification`](crate::Specification), with its
-/// texts as ASCII bytes that it holds.
+/// A specification of an encoding, as [`Specification`](crate::Specification) is, that holds its
+/// texts as ASCII bytes.
 #[derive(Debug, Drop)]
 pub struct SpecificationBytes {
     /// The symbols, in order of value.
@@ -20,33 +19,33 @@ pub struct SpecificationBytes {
     /// Which bit of a byte comes first.
     pub bit_order: BitOrder,
 
-    /// Whether bits that are left after the last byte have to be zeros.
+    /// Whether bits left after the last byte must be zeros.
     pub check_trailing_bits: bool,
 
     /// Whether concatenated padded texts are decoded as one.
     pub concatenate: bool,
 
-    /// What fills the last group of a text.
+    /// The character that fills the last group of a text.
     pub padding: Option<u8>,
 
-    /// Bytes that a text may have anywhere, and that mean nothing.
+    /// Bytes that may be anywhere in a text and mean nothing.
     pub ignore: ArrayVec<u8, 128>,
 
-    /// The number of characters of a line, or 0 where the text is not cut into lines.
+    /// The number of characters of a line, or 0 if the text is not cut into lines.
     pub wrap_width: usize,
 
-    /// What follows each line, or nothing where the text is not cut into lines.
+    /// The separator that follows each line, or nothing if the text is not cut into lines.
     pub wrap_separator: ArrayVec<u8, 255>,
 
     /// The bytes that are translated.
     pub translate_from: ArrayVec<u8, 128>,
 
-    /// What each of them stands for.
+    /// What each of them is translated to.
     pub translate_to: ArrayVec<u8, 128>,
 }
 
 impl SpecificationBytes {
-    /// The specification by reference, from which an encoding is made.
+    /// Returns the specification by reference, from which an encoding is built.
     pub fn parts(&self) -> SpecificationParts<'_>
         ensures { fields_of_parts result ≡ fields_of_bytes self.now }
     {
@@ -66,8 +65,8 @@ impl SpecificationBytes {
 }
 
 impl Encoding {
-    /// The specification of the encoding, as of [`specification`](Encoding::specification), but for
-    /// which no memory is taken: from it the encoding is made again.
+    /// Returns the specification of the encoding, as [`specification`](Encoding::specification)
+    /// does, but does not allocate. The encoding can be built from it again.
     pub fn specification_bytes(&self) -> SpecificationBytes
         ensures { fields_of_bytes result ≡ fields_of self.now }
     {
@@ -76,8 +75,8 @@ impl Encoding {
 }
 
 impl EncodingRef<'_> {
-    /// The specification of the encoding, as of [`Encoding::specification`], but for which no
-    /// memory is taken: from it the encoding is made again.
+    /// Returns the specification of the encoding, as [`Encoding::specification`] does, but does not
+    /// allocate. The encoding can be built from it again.
     pub fn specification_bytes(&self) -> SpecificationBytes
         ensures { fields_of_bytes result ≡ fields_of self.now }
     {

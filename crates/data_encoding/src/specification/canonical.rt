@@ -11,7 +11,7 @@ use crate::encoding::{Encoding, EncodingRef};
 impl Encoding {
     /// Whether no two different texts decode to the same data.
     ///
-    /// It is so where trailing bits are checked, no byte is ignored or translated, and padded texts
+    /// This is so if trailing bits are checked, no byte is ignored or translated, and padded texts
     /// may not be concatenated.
     pub fn is_canonical(&self) -> bool
         ensures canonical { IsTrue result ↔ IsCanonical self.now }
@@ -24,7 +24,7 @@ impl Encoding {
 impl EncodingRef<'_> {
     /// Whether no two different texts decode to the same data.
     ///
-    /// It is so where trailing bits are checked, no byte is ignored or translated, and padded texts
+    /// This is so if trailing bits are checked, no byte is ignored or translated, and padded texts
     /// may not be concatenated.
     pub fn is_canonical(&self) -> bool
         ensures canonical { IsTrue result ↔ IsCanonical self.now }
@@ -44,7 +44,7 @@ impl EncodingRef<'_> {
             && !self.fields.ignores
     }
 
-    // Whether a byte means what another byte is for.
+    // Whether some byte is translated.
     fn translates(&self) -> bool
         ensures { result ≡ not (length (translated_bytes self.now) == 0) }
     {

@@ -15,11 +15,10 @@ use crate::specification::tables::{Tables, alphabet_len, character};
 use arrayvec::ArrayVec;
 
 impl Encoding {
-    /// The encoding of a layout, or nothing where no specification asks for one that has this
-    /// layout.
+    /// Returns the encoding with this layout, or `None` if no specification asks for one.
     ///
-    /// [`internal_implementation`](Encoding::internal_implementation) describes the layouts. The
-    /// bytes are copied, and it takes no memory.
+    /// [`internal_implementation`](Encoding::internal_implementation) describes layouts. The bytes
+    /// are copied, and nothing is allocated.
     pub fn internal_new(implementation: &[u8]) -> Option<Encoding>
         ensures base { IfSome result IsSpecified }
         ensures layout { IfSome result (λ base. layout base ≡ implementation.now) }
@@ -37,16 +36,16 @@ impl Encoding {
         }
     }
 
-    /// The layout: 514 to 770 bytes that stand for the encoding, from which
-    /// [`internal_new`](Encoding::internal_new) makes it again. It takes no memory.
+    /// Returns the layout: 514 to 770 bytes from which [`internal_new`](Encoding::internal_new)
+    /// makes the encoding again. Nothing is allocated.
     ///
-    /// The bytes from 0 on are the symbols, again and again, up to byte 256. The bytes from 256 on
-    /// are what the 256 bytes mean, each a symbol's value, 128 for nothing, 129 for ignored or 130
-    /// for padding. Byte 512 is the padding character, or 128 where there is none. Byte 513 is a
-    /// sum: the number of bits of a symbol, 8 where the most significant bit comes first, 16 where
-    /// trailing bits are checked, and 32 where texts may not be concatenated. With lines, the
-    /// number of characters of a line and then the separator follow; without lines, one 0 follows
-    /// where a byte is ignored, and nothing otherwise.
+    /// Bytes 0 to 255 are the symbols, repeated. Bytes 256 to 511 are what each of the 256 bytes
+    /// means: the value of a symbol, 128 for invalid, 129 for ignored, or 130 for padding. Byte 512
+    /// is the padding character, or 128 if there is none. Byte 513 is a sum: the number of bits of
+    /// a symbol, 8 if the most significant bit comes first, 16 if trailing bits are checked, and 32
+    /// if texts may not be concatenated. With lines, the number of characters of a line and the
+    /// separator follow. Without lines, one 0 follows if some byte is ignored, and nothing
+    /// otherwise.
     pub fn internal_implementation(&self) -> ArrayVec<u8, 770>
         ensures { result.items ≡ layout self.now }
     {
@@ -55,16 +54,16 @@ impl Encoding {
 }
 
 impl EncodingRef<'_> {
-    /// The layout: 514 to 770 bytes that stand for the encoding, from which
-    /// [`internal_new`](Encoding::internal_new) makes it again. It takes no memory.
+    /// Returns the layout: 514 to 770 bytes from which [`internal_new`](Encoding::internal_new)
+    /// makes the encoding again. Nothing is allocated.
     ///
-    /// The bytes from 0 on are the symbols, again and again, up to byte 256. The bytes from 256 on
-    /// are what the 256 bytes mean, each a symbol's value, 128 for nothing, 129 for ignored or 130
-    /// for padding. Byte 512 is the padding character, or 128 where there is none. Byte 513 is a
-    /// sum: the number of bits of a symbol, 8 where the most significant bit comes first, 16 where
-    /// trailing bits are checked, and 32 where texts may not be concatenated. With lines, the
-    /// number of characters of a line and then the separator follow; without lines, one 0 follows
-    /// where a byte is ignored, and nothing otherwise.
+    /// Bytes 0 to 255 are the symbols, repeated. Bytes 256 to 511 are what each of the 256 bytes
+    /// means: the value of a symbol, 128 for invalid, 129 for ignored, or 130 for padding. Byte 512
+    /// is the padding character, or 128 if there is none. Byte 513 is a sum: the number of bits of
+    /// a symbol, 8 if the most significant bit comes first, 16 if trailing bits are checked, and 32
+    /// if texts may not be concatenated. With lines, the number of characters of a line and the
+    /// separator follow. Without lines, one 0 follows if some byte is ignored, and nothing
+    /// otherwise.
     pub fn internal_implementation(&self) -> ArrayVec<u8, 770>
         ensures { result.items ≡ layout self.now }
     {
@@ -84,8 +83,8 @@ impl EncodingRef<'_> {
         bytes
     }
 
-    // The width; the order and the check in the bits of weight 8 and 16, and in that of weight 32
-    // that texts may not be concatenated.
+    // The width; 8 for the order, 16 if trailing bits are checked, and 32 if texts may not be
+    // concatenated.
     fn flags(&self) -> u8
         ensures { result ≡ self.now.width + order_flag self.now.order
             + (if self.now.checks_trailing_bits then 16 else 0)
@@ -113,7 +112,7 @@ fn put(layout: &mut ArrayVec<u8, 770>, bytes: &[u8])
     layout.try_extend_from_slice(bytes).unwrap();
 }
 
-// The encoding that has these bytes as its layout, where there is one.
+// The encoding that has these bytes as its layout, if there is one.
 fn described(bytes: &[u8]) -> Option<Encoding>
     requires { 514 ≤ length bytes.now }
     ensures base { IfSome result IsSpecified }
@@ -147,7 +146,7 @@ fn described(bytes: &[u8]) -> Option<Encoding>
     define(&parts).ok()
 }
 
-// The order of the bits: the bit of weight 8.
+// The order of the bits, by the bit 8.
 fn order_of(flags: u8) -> BitOrder
     ensures { result
         ≡ (if flags / 8 % 2 == 1 then MostSignificantFirst else LeastSignificantFirst) }
@@ -159,7 +158,7 @@ fn order_of(flags: u8) -> BitOrder
     }
 }
 
-// The length of a line, or 0 where nothing is said of lines.
+// The length of a line, or 0 if the layout has no lines.
 fn column_of(bytes: &[u8]) -> u8
     ensures { result ≡ slice_index bytes.now 514 }
 {
@@ -169,7 +168,7 @@ fn column_of(bytes: &[u8]) -> u8
     bytes[514]
 }
 
-// What follows the length of a line.
+// The bytes after the length of a line.
 fn separator_of(bytes: &[u8]) -> &[u8]
     ensures { result.now ≡ drop 515 bytes.now }
 {

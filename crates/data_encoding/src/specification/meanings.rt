@@ -11,7 +11,7 @@ use crate::encoding::{ASCII, IGNORED, INVALID, PADDING, group_symbols};
 pub use data_encoding_meaning::refusal::Refusal;
 use std::marker::Model;
 
-// What the bytes mean so far, by a table of values.
+// What the bytes mean so far, as a table of values.
 #[derive(Drop)]
 pub(crate) struct Meanings {
     values: [u8; 256],
@@ -48,7 +48,7 @@ impl Meanings {
         self.values[byte as usize]
     }
 
-    // Gives the byte a meaning, where it has no other.
+    // Gives the byte a meaning, if it has no other.
     fn define(&mut self, byte: u8, entry: u8) -> Result<(), Refusal>
         requires { IsTrue (is_entry_of 64 entry) }
         ensures defined { OnOk result
@@ -85,7 +85,7 @@ impl Meanings {
         Ok(())
     }
 
-    // Lets the character be padding, where there is one.
+    // Makes the character padding, if there is one.
     pub(crate) fn define_padding(&mut self, width: u8, padding: Option<char>) -> Result<(), Refusal>
         requires { 0 < width }
         ensures defined { OnOk result
@@ -107,7 +107,7 @@ impl Meanings {
         self.define(code as u8, PADDING)
     }
 
-    // Lets the bytes be ignored.
+    // Makes the bytes ignored.
     pub(crate) fn define_ignored(&mut self, bytes: &[u8]) -> Result<(), Refusal>
         ensures defined { OnOk result
             (meanings_after (Ok self.old) (ignored_judgements bytes.now) ≡ Ok self.new) }
@@ -121,7 +121,7 @@ impl Meanings {
         Ok(())
     }
 
-    // Judges the lines, where there are some, and lets their separator be ignored.
+    // Judges the lines, if there are any, and makes the bytes of their separator ignored.
     pub(crate) fn define_wrapping(
         &mut self,
         width: u8,
@@ -149,7 +149,7 @@ impl Meanings {
         self.define_ignored(separator)
     }
 
-    // Lets a byte mean what another means.
+    // Gives a byte the meaning of another.
     fn translate_byte(&mut self, from: u8, to: u8) -> Result<(), Refusal>
         ensures defined { OnOk result (translated self.old from to ≡ Ok self.new) }
         ensures refused { IfErr result (λ refusal. translated self.old from to ≡ Err refusal) }
@@ -164,7 +164,7 @@ impl Meanings {
         self.define(from, entry)
     }
 
-    // Lets each byte of one text mean what that of the other means.
+    // Gives each byte of one text the meaning of the byte of the other at its position.
     pub(crate) fn translate(&mut self, from: &[u8], to: &[u8]) -> Result<(), Refusal>
         ensures defined { OnOk result
             (meanings_after (Ok self.old) (translation_judgements from.now to.now)
@@ -182,7 +182,7 @@ impl Meanings {
         Ok(())
     }
 
-    // Whether a byte is ignored.
+    // Whether some byte is ignored.
     pub(crate) fn ignores_some(&self) -> bool
         ensures { result ≡ list_any is_ignored self.now }
     {

@@ -1,7 +1,7 @@
 //! The predefined encodings.
 
-// A table of the values of the bytes below 128, as an encoding keeps them: 128 for nothing, 129 for
-// ignored and 130 for padding. The bytes from 128 on are nothing.
+// A table of values, given those of the bytes below 128: 128 for invalid, 129 for ignored, and 130
+// for padding. The bytes from 128 on are invalid.
 macro_rules! values {
     ($($low:literal),*) => {
         [

@@ -1,4 +1,4 @@
-//! What the tables of an encoding say: which bytes are ignored, and which stand for others.
+//! What the tables of an encoding say: which bytes are ignored, and which are translated.
 
 ghost use Rattle.std.specs.Prelude.{◌≡◌, ◌^◌, ◌<◌, ◌≤◌, length, map, is_some, IfSome};
 ghost use Rattle.data_encoding_meaning.specs.text.Base.{Base, meaning};
@@ -16,7 +16,7 @@ pub(crate) struct Tables<'a> {
     pub(crate) padding: Option<u8>,
 }
 
-// The bytes that are translated, in order, and what each of them stands for.
+// The bytes that are translated, in order, and what each of them is translated to.
 #[derive(Drop)]
 pub(crate) struct Translations {
     pub(crate) from: ArrayVec<u8, 128>,
@@ -38,7 +38,7 @@ impl Tables<'_> {
         bytes
     }
 
-    // Each byte that is translated, and what it stands for.
+    // The bytes that are translated, in order, and what each of them is translated to.
     pub(crate) fn translations(&self) -> Translations
         requires { length self.now.values.now ≡ 128 }
         ensures from { (base : Base) → HasTables base self.now
@@ -57,7 +57,7 @@ impl Tables<'_> {
         Translations { from, to }
     }
 
-    // The symbol or the padding character that the byte stands for, where it is another byte.
+    // The symbol or the padding character that the byte is translated to, if it is translated.
     fn translation_of(&self, byte: u8) -> Option<u8>
         requires { byte < length self.now.values.now }
         ensures some { (base : Base) → HasTables base self.now
@@ -71,7 +71,8 @@ impl Tables<'_> {
         }
     }
 
-    // The symbol or the padding character of what the byte means; 0 for a value that none has.
+    // The symbol or the padding character that has the meaning of the byte, or 0 for a value that
+    // no symbol has.
     fn own_character(&self, byte: u8) -> Option<u8>
         requires { byte < length self.now.values.now }
         ensures { (base : Base) → HasTables base self.now

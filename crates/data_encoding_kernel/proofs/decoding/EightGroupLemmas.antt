@@ -95,7 +95,7 @@ module _ (base : Base) (values : List ℕ) (width bytes symbols : ℕ) (order : 
 limit-is : (width : ℕ) → IsWidth width → 1 * 2 ^ width % 256 ≡ 2 ^ width
 limit-is width is = omega (arith, symbols-few width is)
 
--- what is found of eight groups: their words, and that each byte is a symbol
+-- what is found for eight groups: their words, and that each byte is a symbol
 pub words-found : {width number read count : ℕ} → IsWidth width → read ≡ width → number ≡ count
     → (holds : List ℕ → Type 0) (all : Type 0) (order : BitOrder) (input entries made : List ℕ)
     → length input ≡ 8 * number

@@ -1,4 +1,4 @@
--- Runs of whole groups of symbols, one after the other.
+-- Runs of whole groups of symbols, one after another.
 use Rattle.std.proofs.Common.{◌≡◌, ℕ, ◌+◌, ◌-◌, ◌*◌, ◌/◌, ◌%◌, ◌<◌, ◌≤◌, true, false, List, ◌++◌, length, take, drop, slice_index, refl, sym, ap, ◌∙◌, arith, length-take-le, ⊎_elim, map, take-add}
 use Rattle.std.proofs.Math.Nat.{add-mul, mul-mod_left, zero-mul}
 use Rattle.std.proofs.lemmas.Bool.{cases_lt}
@@ -82,7 +82,7 @@ module _ (base : Base) (width : IsWidth base.width) where
         bytes = rw (all, take_all (1 * size) group (omega (arith, len)), short, append-nil _) is;
       }
 
--- the same, with the sizes of a group as they are called elsewhere
+-- the same, with the sizes of a group under other names
 module _ (base : Base) (width : IsWidth base.width) (w bytes symbols : ℕ)
     (group : IsGroup w bytes symbols) (is : base.width ≡ w) where
   same_bytes : group_bytes base.width ≡ bytes
@@ -91,7 +91,7 @@ module _ (base : Base) (width : IsWidth base.width) (w bytes symbols : ℕ)
   same_symbols : group_symbols base.width ≡ symbols
   same_symbols = ap group_symbols is ∙ sym group.has_symbols
 
-  -- what is written behind a run leaves it
+  -- what is written after a run leaves it
   pub run-kept : (part old output piece : List ℕ) (i k : ℕ) → i * bytes ≤ length output
       → IsRun base part i old output → IsRun base part i old (put_mid (i * bytes) k output piece)
   run-kept part old output piece i k =
@@ -103,7 +103,7 @@ module _ (base : Base) (width : IsWidth base.width) (w bytes symbols : ℕ)
             (length-take-le place output fits) ∙ run.bytes;
       })
 
-  -- a run of the next groups, which stand between two positions, behind a run
+  -- a run of the next groups, between two positions, after a run
   pub run-next : (part old output before piece : List ℕ) (i m next k stop : ℕ) → next ≡ i + m
       → stop ≡ i * symbols + m * symbols → stop ≤ length part → i * bytes ≤ length output
       → length piece ≡ m * bytes → IsRun base part i old output
@@ -128,7 +128,7 @@ module _ (base : Base) (width : IsWidth base.width) (w bytes symbols : ℕ)
             ∙ bytes-more base width part i m whole);
       }))
 
-  -- a group of symbols behind a run
+  -- a group of symbols after a run
   pub group-next : (values part old output piece : List ℕ) (i k stop : ℕ)
       → stop ≡ i * symbols + symbols → stop ≤ length part → i * bytes ≤ length output
       → length piece ≡ bytes → HoldsValues base values → IsRun base part i old output
@@ -155,7 +155,7 @@ module _ (base : Base) (width : IsWidth base.width) (w bytes symbols : ℕ)
       (entries j h)))
       (len ∙ sym same_bytes) is_bytes)
 
-  -- a group that is not one of symbols alone ends the longest run
+  -- a group that is not symbols only ends the longest run
   pub run-longest : (values part : List ℕ) (i stop : ℕ) → stop ≡ i * symbols + symbols
       → HoldsValues base values → ((j : ℕ) → slice_index part j < 256)
       → (((j : ℕ) → j < length (between (i * symbols) stop part)

@@ -35,7 +35,7 @@ chosen-equal f g h k bytes us vs {xs} {ys} at_f at_g at_h at_k =
 abbrev at_row : List ℕ → ℕ → ℕ
 at_row row byte = in_row row 0 (byte / 16)
 
--- a row, as what it has from its own beginning on
+-- a row, as the entries from its own start on
 own-row : (row : List ℕ) → IsRow row 0 row
 own-row row k h = ap (λ j. get_or row j 0) (omega arith)
 
@@ -49,13 +49,13 @@ at-rows row count bytes entries long e =
     e ∙ ap (map (in_row row 0)) (zip2_splat down bytes count 4 long)
     ∙ map-map (in_row row 0) (λ byte. down byte 4) bytes
 
--- what is looked up in a row
+-- what is looked up in a row, by positions
 abbrev LooksUp : List ℕ → List ℕ → List ℕ → Type 0
 LooksUp row places found =
     (values : List ℕ) (start : ℕ) → IsRow values start row
     → found ≡ map (in_row values start) places
 
--- what is looked up for the entries at bytes
+-- what is looked up for the entries of bytes
 pub rows-found : (affine : Affine) (count : ℕ) (bytes bits : List ℕ) {symbols found deltas : List ℕ}
     → bits ≡ bits_of_rows → length bytes ≡ count → LooksUp affine.symbols bytes symbols
     → LooksUp bits (zip2 down bytes (replicate count 4)) found
@@ -153,7 +153,7 @@ same-entry entry own small passes = grind (arith, nat_tests)
 abbrev entries_of : ℕ → List ℕ → List ℕ
 entries_of row values = take 16 (take (16 * row + 16 - 16 * row) (drop (16 * row) values))
 
--- a row where no entry below 128 differs from the table's
+-- a row in which no entry below 128 differs from that of the table
 pub agreed : (affine : Affine) (values bytes found : List ℕ) (row : ℕ) → length values ≡ 256
     → row < 8 → bytes ≡ map (λ k. 16 * row + k) (range_with_len 0 16)
     → found ≡ map (affine_entry affine) bytes

@@ -11,7 +11,7 @@ use Rattle.std.specs.Simd.Lanes.{number_l}
 turned : (k a b : ℕ) → a + 2 ^ k * b ≡ b * 2 ^ k + a
 turned k a b = omega arith
 
--- what is computed bit by bit is computed of each of two parts of a number alone
+-- what is computed bit by bit is computed separately for the lower and the upper bits of a number
 module _ (op bit : ℕ → ℕ → ℕ) (k : ℕ)
     (bits : (a b i : ℕ) → bit_at (op a b) i ≡ bit (bit_at a i) (bit_at b i))
     (fits : (a b : ℕ) → a < 2 ^ k → b < 2 ^ k → op a b < 2 ^ k) where
@@ -27,7 +27,7 @@ module _ (op bit : ℕ → ℕ → ℕ) (k : ℕ)
             ∙ sym (bit_at_cat_high (op b n) k (op a m) i (fits a m p q) g ∙ bits b n (i - k))
       ])
 
-  -- the same with the lower part first
+  -- the same with the lower bits first
   field : (a b m n : ℕ) → a < 2 ^ k → m < 2 ^ k
       → op (a + 2 ^ k * b) (m + 2 ^ k * n) ≡ op a m + 2 ^ k * op b n
   field a b m n p q =
@@ -42,7 +42,7 @@ or_field : (k a b m n : ℕ) → a < 2 ^ k → m < 2 ^ k
     → bit_or (a + 2 ^ k * b) (m + 2 ^ k * n) ≡ bit_or a m + 2 ^ k * bit_or b n
 or_field k = field bit_or max k bit_at_or (or_lt k)
 
--- a mask with the same part at each field masks each field
+-- a mask with the same bits at each field masks each field
 pub and_fields : (k mask : ℕ) → mask < 2 ^ k → (fields : List ℕ)
     → AllByRecursion (λ field. field < 2 ^ k) fields
     → bit_and (number_l (2 ^ k) fields) (number_l (2 ^ k) (replicate (length fields) mask))

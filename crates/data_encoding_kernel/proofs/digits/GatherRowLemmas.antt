@@ -58,7 +58,7 @@ row-of start values k h =
     get_or-take 16 (take 16 (drop start values)) k 0 h ∙ get_or-take 16 (drop start values) k 0 h
     ∙ get_or-drop start values k 0
 
--- the places of bytes in a row, each below sixteen
+-- the positions of bytes in a row of sixteen
 abbrev pub places : ℕ → List ℕ → List ℕ
 places count bytes = zip2 bit_and bytes (replicate count 15)
 
@@ -81,7 +81,7 @@ places-ok times bytes long =
     (Each1-zip2 bit_and (λ j. j < 16) bytes (replicate count 15)
     (Each2-splat (λ a b. bit_and a b < 16) bytes count 15 below))
 
--- a row as often as it takes
+-- a row, repeated
 pub repeated-row : (times : ℕ) (row : List ℕ) → length row ≡ 16
     → pick_l 0 (row ++ row) (repeats times (range_with_len 0 16)) ≡ repeats times row
 repeated-row zero row long = refl
@@ -91,7 +91,7 @@ repeated-row (suc times) row long =
     ∙ (λ i. (pick_l-range_with_len 0 (row ++ row) 0 16 (omega (arith, length-append row row, long))
     ∙ take_at row row 16 long) i ++ repeated-row times row long i)
 
--- what a table of sixteen entries, over and over, has at bytes
+-- what a repeated table of sixteen entries has for bytes
 pub in_lanes : (times : ℕ) (entry : ℕ → ℕ) (table bytes : List ℕ) → length bytes ≡ times * 16
     → ((place : ℕ) → place < times * 16 → get_or table place 0 ≡ entry (place % 16))
     → swz_l w8 16 table 0 (places (times * 16) bytes) ≡ map (λ byte. entry (byte % 16)) bytes
@@ -115,7 +115,7 @@ in_lanes times entry table bytes long has =
     ∙ has place (omega (arith, here, within, long)) ∙ ap entry (omega (arith, here))
     ∙ sym (get_or-map shown bytes i 0 0 within))
 
--- what a row has at bytes
+-- what a row has for bytes
 pub looked-up : (times : ℕ) (values row bytes : List ℕ) (start : ℕ) → length row ≡ 16
     → length bytes ≡ times * 16 → IsRow values start row
     → swz_l w8 16 (repeats times row) 0 (places (times * 16) bytes)
@@ -126,7 +126,7 @@ looked-up times values row bytes start sixteen long is_row =
     get_or-repeats times row place (subst (λ n. place < times * n) (sym sixteen) h)
     ∙ ap (λ n. get_or row (place % n) 0) sixteen ∙ is_row (place % 16) (omega arith))
 
--- the lanes where a bit is set
+-- the lanes in which a bit is set
 abbrev pub up : ℕ → ℕ → ℕ
 up a b = a * 2 ^ b % 2 ^ 8
 
@@ -148,7 +148,7 @@ chosen-lanes shift count f g bytes long =
     ap (λ l. sel_l l (map f bytes) (map g bytes)) tests
     ∙ selected (λ byte. leb 128 (shifted byte)) f g bytes
 
--- what is chosen of all rows
+-- what is chosen from all rows
 abbrev pub of_rows : List ℕ → ℕ → ℕ
 of_rows values =
     chosen_by 1
@@ -157,7 +157,7 @@ of_rows values =
     (chosen_by 2 (chosen_by 3 (in_row values 48) (in_row values 32))
     (chosen_by 3 (in_row values 16) (in_row values 0)))
 
--- what both sides give, each where the bit is as it wants
+-- what both sides give, each if the bit is as it needs
 by-bit : (byte is shift x y : ℕ) → (128 ≤ up byte shift → x ≡ is) → (up byte shift < 128 → y ≡ is)
     → cond (leb 128 (up byte shift)) x y ≡ is
 by-bit byte is shift x y set clear = go (leb 128 (up byte shift)) refl

@@ -21,11 +21,11 @@ narrow-enough w few h [] all = tt
 narrow-enough w few h (word ∷ words) all =
     (record { fits = omega (arith, h, all.0) }, narrow-enough w few h words all.1)
 
--- two parts of the bytes of lanes, by their places
+-- two selections of the bytes of lanes, by their positions
 abbrev pub picked : List ℕ → List ℕ → List ℕ → List ℕ
 picked front back bytes = pick_l 0 (bytes ++ bytes) front ++ pick_l 0 (bytes ++ bytes) back
 
--- both parts of an output, stored one after the other
+-- both selections, stored one after another in an output
 pub stored-parts : (n m : ℕ) (output front back : List ℕ) → length front ≡ n → length back ≡ m
     → length output ≡ n + m
     → put_chunk n (put_chunk 0 (take n output) front ++ drop n output) back ≡ front ++ back
@@ -52,7 +52,7 @@ abbrev pub bytes_of_words : BitOrder → ℕ → List ℕ → List ℕ
 bytes_of_words order count words =
     flat_map (λ word. map (digit order 8 count word) (range_with_len 0 count)) words
 
--- which bytes of lanes are those of their words
+-- the positions of the bytes of words in lanes
 abbrev places : BitOrder → ℕ → ℕ → List ℕ
 places MostSignificantFirst size lane =
     map (λ k. k / size * lane + (size - 1 - k % size)) (range_with_len 0 (8 * size))
@@ -60,7 +60,7 @@ places LeastSignificantFirst size lane =
     map (λ k. k / size * lane + k % size) (range_with_len 0 (8 * size))
 
 module _ (order : BitOrder) (size lane front : ℕ) where
-  -- they are picked in two parts
+  -- they are selected in two steps
   abbrev picked-words : List ℕ → List ℕ
   picked-words = picked (take front (places order size lane)) (drop front (places order size lane))
 

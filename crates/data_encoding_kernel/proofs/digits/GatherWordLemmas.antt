@@ -66,7 +66,7 @@ pairs-of p (suc n) (a ∷ b ∷ xs) h e =
     ap (λ m. m / (p * p)) whole ∙ div-mul-add rest (p * p) pair below in
     λ i. low i ∷ (ap (digits_l (p * p) n) high ∙ pairs-of p n xs h.1.1 (omega (arith, e))) i
 
--- two halves of so many bits
+-- two halves of this many bits
 weight-low : (n : ℕ) → 2 ^ (n * 0) ≡ 1
 weight-low n = ap (λ m. 2 ^ m) (mul-zero n)
 
@@ -213,7 +213,7 @@ module _ (order : BitOrder) (size : ℕ) where
         ∷ (rest ∙ ap (λ l. map (word both) (first_chunks both n l)) (drop-drop count count values))
         i
 
-    -- a step by halves: from the words of so many values to those of twice as many
+    -- a step by halves: from the words of this many values to those of twice as many
     pub words-step : (n : ℕ) (values : List ℕ) → length values ≡ (count + count) * n
         → map (joined order half part) (digits_l (2 ^ half * 2 ^ half) n
         (number_l (2 ^ half) (map (word count) (first_chunks count (n + n) values))))

@@ -14,7 +14,7 @@ use Rattle.data_encoding_meaning.proofs.lists.EachLemmas.{all_weaker, map-twice}
 use Rattle.data_encoding_kernel.proofs.digits.FieldLemmas.{and_fields, or_fields, times_fields}
 use Rattle.data_encoding_kernel.proofs.digits.LaneLemmas.{number-of-wide, map-same}
 
--- a field in two
+-- a field in two halves
 abbrev halves : ℕ → ℕ → List ℕ
 halves half field = field % 2 ^ half ∷ field / 2 ^ half ∷ []
 
@@ -24,7 +24,7 @@ square n =
     pow-succ' (2 ^ n) 0 ∙ ap (λ m. 2 ^ n * m) (pow-zero (2 ^ n)) ∙ omega arith in
     pow-add 2 n n ∙ ap (λ m. 2 ^ n * m) (sym one) ∙ sym (pow-succ' (2 ^ n) 1)
 
--- fields that a mask for each half of each splits, the higher of which moves up
+-- fields that are split by a mask for each half, the higher of which moves up
 abbrev halved : ℕ → ℕ → ℕ → ℕ → ℕ → ℕ
 halved half up bits count =
     halved_lane bits (number_l (2 ^ (half + up + (half + up))) (replicate count (2 ^ half - 1)))

@@ -10,7 +10,7 @@ use Rattle.data_encoding_meaning.specs.declared.encoding.BitOrder.TheVariants.{M
 use Rattle.data_encoding_kernel.specs.Lanes.{digits_of, group_words, spread_word}
 use Rattle.data_encoding_kernel.proofs.digits.LaneLemmas.{bytes-of-lanes, digits_of-below, by_eight, all_pieces}
 
--- which bytes of eight lanes are picked, as often as they fill 64 lanes
+-- which bytes of eight lanes are picked, repeated to fill 64 lanes
 abbrev from_first : ℕ → List ℕ
 from_first count = map (λ k. count * (k / count) % (8 * count) + k % count) (range_with_len 0 64)
 
@@ -18,7 +18,7 @@ abbrev from_last : ℕ → List ℕ
 from_last count =
     map (λ k. count * (k / count) % (8 * count) + (count - 1 - k % count)) (range_with_len 0 64)
 
--- what is picked of the digits of eight words
+-- what is picked from the digits of eight words
 abbrev Picks : ℕ → ℕ → List ℕ → BitOrder → (List ℕ → List ℕ) → List ℕ → Type 0
 Picks width count ks order times words =
     pick_l 0 (flat_map (digits_of LeastSignificantFirst width count) words
@@ -104,7 +104,7 @@ HasDigits order input lanes width size count = record {
   below : AllByRecursion (λ digit. digit < 2 ^ width) lanes;
 }
 
--- so do lanes that hold them several times over
+-- so do lanes that hold them repeatedly
 module _ (order : BitOrder) (width count : ℕ) where
   abbrev joined : List ℕ → List ℕ
   joined words = flat_map (digits_of order width count) words

@@ -81,7 +81,7 @@ text_by-word base order width bytes count symbols input some same few at narrow 
     (omega arith))
     ∙ ap (λ m. show (first_chunks width m (bits ++ replicate extra 0))) (sym count_of)
 
--- the same of a base
+-- the same for a base
 pub plain_text-word : (base : Base) (order : BitOrder) (width bytes count : ℕ)
     (symbols input : List ℕ) → IsGroup width bytes count → length input ≤ bytes
     → Writes base symbols width order
@@ -131,7 +131,7 @@ bytes_by-word order width bytes count n values same few is =
     (first_chunks-append 8 n front (drop whole bits ++ zeros) (omega arith))
     ∙ ap (λ m. map (number_of order) (first_chunks 8 m front)) (sym count_of)
 
--- the values of symbols are what the table says of them
+-- the values of symbols are their entries in the table
 pub values_in-table : (base : Base) (values input : List ℕ) → HoldsValues base values
     → ((k : ℕ) → slice_index input k < 256)
     → ((k : ℕ) → k < length input → slice_index values (slice_index input k) < 128)

@@ -12,7 +12,7 @@ use Rattle.data_encoding_kernel.specs.Words.{digit, weight}
 use Rattle.data_encoding_meaning.proofs.digits.BitLemmas.{length-pieces}
 use Rattle.data_encoding_meaning.proofs.lists.EachLemmas.{all_joined}
 
--- a number of lower digits, and then higher ones
+-- a number of lower digits, followed by higher ones
 number-joined : (p : ℕ) (xs ys : List ℕ)
     → number_l p (xs ++ ys) ≡ number_l p xs + p ^ length xs * number_l p ys
 number-joined p [] ys =
@@ -66,7 +66,7 @@ bytes-of-lanes k q n e f ws many long small =
     (λ i. digits_l 256 (all i) (number-of-wide 256 k q e f ws long i))
     ∙ digits-of-number 256 (flat_map f ws) (all_pieces (λ x. x < 256) f ws small)
 
--- what holds of each value of a function
+-- what holds for each value of a function
 pub all_mapped : {X Y : Type 0} (P : Y → Type 0) (f : X → Y) (xs : List X) → ((x : X) → P (f x))
     → AllByRecursion P (map f xs)
 all_mapped P f [] h = tt
@@ -84,7 +84,7 @@ pub selected : {V X : Type 0} (test : V → Bool) (f g : V → X) (vs : List V)
 selected test f g [] = refl
 selected test f g (v ∷ vs) = ap (λ l. cond (test v) (f v) (g v) ∷ l) (selected test f g vs)
 
--- functions that agree where P holds
+-- functions that agree if P holds
 pub map-same : {V X : Type 0} (P : V → Type 0) (f g : V → X) → ((v : V) → P v → f v ≡ g v)
     → (vs : List V) → AllByRecursion P vs → map f vs ≡ map g vs
 map-same P f g same [] h = refl
@@ -95,7 +95,7 @@ pub mapped-on : (f g : ℕ → ℕ) (words : List ℕ) {xs ys : List ℕ} → xs
     → ys ≡ map (λ word. g (f word)) words
 mapped-on f g words is more = more ∙ ap (map g) is ∙ map-map g f words
 
--- what holds of any four lanes
+-- what holds for any four lanes
 by_four : (P : List ℕ → Type 0) → ((a b c d : ℕ) → P (a ∷ b ∷ c ∷ d ∷ []))
     → (ws : List ℕ) → length ws ≡ 4 → P ws
 by_four P h [] e = absurd (omega (arith, e))
@@ -105,7 +105,7 @@ by_four P h (a ∷ b ∷ c ∷ []) e = absurd (omega (arith, e))
 by_four P h (a ∷ b ∷ c ∷ d ∷ []) e = h a b c d
 by_four P h (a ∷ b ∷ c ∷ d ∷ x ∷ xs) e = absurd (omega (arith, e))
 
--- what holds of any eight lanes
+-- what holds for any eight lanes
 pub by_eight : (P : List ℕ → Type 0)
     → ((a b c d e f g h : ℕ) → P (a ∷ b ∷ c ∷ d ∷ e ∷ f ∷ g ∷ h ∷ [])) → (ws : List ℕ)
     → length ws ≡ 8 → P ws
@@ -116,7 +116,7 @@ by_eight P is (a ∷ b ∷ c ∷ []) e = absurd (omega (arith, e))
 by_eight P is (a ∷ b ∷ c ∷ d ∷ ws) e =
     by_four (λ l. P (a ∷ b ∷ c ∷ d ∷ l)) (is a b c d) ws (omega (arith, e))
 
--- what stays under one mask, and what moves up under another, in each of eight lanes
+-- the bits of each of eight lanes under one mask, and those under another moved up
 pub halved-lanes : (bits low high up : ℕ) (lanes : List ℕ) → length lanes ≡ 8
     → zip2 bit_or (zip2 bit_and lanes (replicate 8 low))
     (zip2 (λ a b. a * 2 ^ b % 2 ^ bits) (zip2 bit_and lanes (replicate 8 high)) (replicate 8 up))

@@ -13,7 +13,7 @@ use Rattle.data_encoding_kernel.proofs.digits.LaneLemmas.{selected, map-same}
 use Rattle.data_encoding_kernel.proofs.digits.WordLemmas.{map-range-same}
 use Rattle.data_encoding_meaning.proofs.lists.EachLemmas.{map-twice}
 
--- the places of a row of sixteen, four times
+-- the positions of a row of sixteen, four times
 abbrev row_places : List ℕ
 row_places = map (λ lane. lane % 16) (range_with_len 0 64)
 
@@ -27,7 +27,7 @@ rows-are entries long =
     ∙ map-range-same (λ lane. get_or row (lane % 16) 0) (λ lane. slice_index entries (lane % 16)) 64
     (λ lane _. get_or-take 16 entries (lane % 16) 0 (omega arith))
 
--- what stands in the rows at the places of values
+-- the entries of the rows at the positions of values
 pub in_rows : (entry : ℕ → ℕ) (rows values : List ℕ) → length values ≡ 64
     → rows ≡ map (λ lane. entry (lane % 16)) (range_with_len 0 64)
     → swz_l w8 16 rows 0 (places 64 values) ≡ map (λ value. entry (value % 16)) values
@@ -82,7 +82,7 @@ module _ (bit : ℕ) (entry low high : ℕ → ℕ)
           → map (λ value. cond (has bit value) (high value) (low value)) vs ≡ map entry vs
       same vs = ap (λ f. map f vs) (λ i value. chosen value i)
 
--- an entry of what is left of a table
+-- an entry of the rest of a table
 entry-later : (entries : List ℕ) (start place at : ℕ) → start + place ≡ at
     → start + place < length entries
     → get_or (take (length entries - start) (drop start entries)) place 0 ≡ get_or entries at 0

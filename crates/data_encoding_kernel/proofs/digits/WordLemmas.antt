@@ -174,12 +174,12 @@ word_of-more MostSignificantFirst size count index digits d is h k =
     let whole : index + 1 + r ≡ count = omega arith in
     rw whole at (more_most size index r digits d is k)
 
--- the number of the bits below some that stand between a front and a rest
+-- the number of bits below those that are between a prefix and a rest
 abbrev bits_below : BitOrder → List ℕ → List ℕ → ℕ
 bits_below LeastSignificantFirst front rest = length front
 bits_below MostSignificantFirst front rest = length rest
 
--- the bits between others, cut out of a word
+-- the bits between others, as a number
 number-part : (order : BitOrder) (front run rest : List ℕ) → AreBits (front ++ (run ++ rest))
     → number_of order (front ++ (run ++ rest)) / 2 ^ bits_below order front rest % 2 ^ length run
     ≡ number_of order run
@@ -233,7 +233,7 @@ digit-number_of order size count index bits h e k =
     / 2 ^ weight-below order size count index front rest front_len rest_len i % 2 ^ sym run_len i)
     ∙ number-part order front run rest (subst AreBits (sym joined) h)
 
--- runs by their places
+-- runs by their positions
 runs_from : (size n a : ℕ) (xs : List ℕ)
     → map (λ k. take size (drop (size * k) xs)) (range_with_len a n)
     ≡ first_chunks size n (drop (size * a) xs)

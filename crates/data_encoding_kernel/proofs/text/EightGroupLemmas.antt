@@ -1,4 +1,4 @@
--- The symbols of groups in a row, by the digits of their words.
+-- The symbols of consecutive groups, by the digits of their words.
 use Rattle.std.proofs.Common.{◌≡◌, ℕ, zero, suc, ◌+◌, ◌-◌, ◌*◌, ◌/◌, ◌%◌, ◌^◌, ◌<◌, ◌≤◌, List, [], ◌∷◌, ◌++◌, length, map, take, drop, slice_index, refl, sym, ap, ◌∙◌, subst, arith, length-take-le}
 use Rattle.std.proofs.Math.Nat.{mul-add, mod-lt, mod-mod, mul-mod_right}
 use Rattle.std.proofs.Math.Pow.{pow_mono}
@@ -27,7 +27,7 @@ map-pieces f g (x ∷ xs) = simp (map-append, map-pieces f g xs)
 
 module _ (base : Base) (order : BitOrder) (width bytes count : ℕ) (symbols : List ℕ)
     (group : IsGroup width bytes count) (writes : Writes base symbols width order) where
-  -- a table has the same symbol at a digit and at the byte that begins with it
+  -- a table has the same symbol at a digit and at the byte that starts with it
   at_digit : (n : ℕ) → slice_index symbols (n % 2 ^ width) ≡ slice_index symbols (n % 2 ^ 8)
   at_digit n =
       let at : (byte : ℕ) → byte < 256 → symbol base (byte % 2 ^ width)
@@ -60,7 +60,7 @@ module _ (base : Base) (order : BitOrder) (width bytes count : ℕ) (symbols : L
       ∙ plain_text-word base order width bytes count symbols input group (omega (arith, long))
       writes
 
-  -- the symbols of so many groups from one on
+  -- the symbols of this many groups from one on
   groups_text : (input : List ℕ) (n start : ℕ) → bytes * (start + n) ≤ length input
       → flat_map (λ k. map (slice_index symbols)
       (digits_of order width count (group_word order bytes input k))) (range_with_len start n)

@@ -1,4 +1,5 @@
--- A loop over whole groups: where they are read and written, and that the text so far is written.
+-- A loop over whole groups: the positions at which they are read and written, and that the text so
+-- far is written.
 use Rattle.std.proofs.Common.{◌≡◌, ℕ, ◌+◌, ◌-◌, ◌*◌, ◌/◌, ◌<◌, ◌≤◌, List, length, take, drop, refl, sym, ap, ◌∙◌, subst, arith, length-take-le}
 use Rattle.std.proofs.Math.Seq.{take-add}
 use Rattle.std.proofs.Math.Nat.{mul-pos, mul-mod_right, zero-mul}
@@ -69,7 +70,7 @@ module _ {width bytes symbols : ℕ} (whole : IsWhole width bytes symbols) where
           some_width
           (rw (length-take-le (i * bytes) input within, is, same) (mul-mod_right width _)))))
 
-      -- one more, which is written in its place
+      -- one more, which is written at its position
       pub written-next : i * bytes + bytes ≤ length input → i * symbols + symbols ≤ length output
           → length shown ≡ length (take (i * symbols + symbols - i * symbols)
           (drop (i * symbols) output))
@@ -82,7 +83,7 @@ module _ {width bytes symbols : ℕ} (whole : IsWhole width bytes symbols) where
           omega (arith, one-more i symbols, long, length-part (i * symbols) symbols output room) in
           rw (end, one-more i bytes) (joined bytes _ (omega arith) (omega arith) is_text)
 
-      -- the text of what is left completes the text of the groups
+      -- the text of the rest completes the text of the groups
       pub written-rest : i * bytes ≤ length input → i * symbols ≤ length output
           → length shown ≡ length (take (length output - i * symbols) (drop (i * symbols) output))
           → shown ≡ plain_text base (take (length input - i * bytes) (drop (i * bytes) input))

@@ -106,7 +106,7 @@ module _ (base : Base) (bytes : List ℕ) (count : ℕ) (some : 0 < base.width) 
       (runs base.width (bits ++ replicate more 0)))) (sym len)
       ∙ ap (map show) first_runs
 
--- the symbols of at most so many bytes, of which the others are zeros
+-- the symbols of at most this many bytes, of which the others are zeros
 pub plain_text-room : (base : Base) (width bytes size count : ℕ) (input : List ℕ)
     → base.width ≡ width → 0 < width → length input ≤ bytes → bytes ≤ size
     → count ≡ (8 * length input + (width - 1)) / width

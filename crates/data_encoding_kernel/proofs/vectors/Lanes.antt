@@ -69,7 +69,7 @@ digits_and_plus = record {
   odd_value = 62;
 }
 
--- the digit `5`, byte 53, of the row with the bit 8, is 5; `+`, byte 43, is 62; `A` is nothing
+-- the digit `5`, byte 53, in the row with the bit 8, is 5; `+`, byte 43, is 62; `A` is invalid
 affine_digits :
     (symbol_bit digits_and_plus 53 ≡ 8)
     × (get_or bits_of_rows 3 0 ≡ 8)
@@ -80,7 +80,7 @@ affine_digits :
 unfolding digits_and_plus
 affine_digits = (refl, refl, refl, refl, refl, refl)
 
--- held by the table of these values
+-- the table of these values has this form
 affine_held :
     HoldsAffine (map (affine_entry digits_and_plus) (range_with_len 0 128)) digits_and_plus
 affine_held = record {

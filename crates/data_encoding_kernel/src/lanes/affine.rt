@@ -9,21 +9,21 @@ use crate::lanes::decode::are_below;
 use crate::lanes::rows::{in_row_16, in_row_32, in_row_64};
 use std::simd::prelude::*;
 
-/// A table where each symbol's value is the byte and a constant of its row of sixteen, but for one
-/// symbol at most.
+/// A table in which the value of each symbol is its byte plus a constant of the row of sixteen,
+/// except for at most one symbol.
 #[derive(Clone, Copy, Drop)]
 pub struct Affine {
-    /// By the lowest four bits of a byte: a bit for each row where such a byte is a symbol.
+    /// By the lowest four bits of a byte: the bits of those rows in which such a byte is a symbol.
     pub symbols: u8x16,
-    /// By row: what is added to a byte, modulo 256.
+    /// By row: the number that is added to a byte, modulo 256.
     pub deltas: u8x16,
     /// The byte with a value of its own.
     pub odd: u8,
     pub odd_value: u8,
 }
 
-/// The affine form of a table, where it has one that this search finds; the symbols are the bytes
-/// with a value below the limit.
+/// Returns the affine form of a table, if this search finds one; the symbols are the bytes whose
+/// value is below the limit.
 #[inline(always)]
 pub fn affine_of(values: &[u8; 256], limit: u8) -> Option<Affine>
     ensures { IfSome result (HoldsAffine values.now) }
@@ -39,8 +39,8 @@ pub fn affine_of(values: &[u8; 256], limit: u8) -> Option<Affine>
     Some(affine)
 }
 
-// What the table's rows say, if it is affine; nothing where two symbols have a constant of their
-// own.
+// The affine form that the rows of the table suggest, or `None` if two symbols have a constant of
+// their own.
 #[inline(always)]
 fn guess(values: &[u8; 256], limit: u8) -> Option<Affine> {
     let mut symbols = u8x16::splat(0);
@@ -74,8 +74,8 @@ fn guess(values: &[u8; 256], limit: u8) -> Option<Affine> {
     })
 }
 
-// The constant of a row, by the numbers at its symbols' places, and the places that have another.
-// It is the first number, or the last, where the first stands alone.
+// The constant of a row, from the numbers at the positions of its symbols, and the positions with
+// another number. It is the first number, or the last if all others differ from the first.
 #[inline(always)]
 fn constant_and_others(numbers: u8x16, places: u64) -> (u8, u64) {
     if places == 0 {
@@ -104,7 +104,7 @@ fn bytes_of_row(row: usize) -> u8x16
     places + u8x16::splat((16 * row) as u8)
 }
 
-// Whether each entry below 128 that is found in this row is the table's.
+// Whether each entry below 128 that is found in this row is that of the table.
 #[inline(always)]
 fn agrees_in_row(affine: &Affine, values: &[u8; 256], row: usize) -> bool
     requires { row < 8 }
@@ -118,7 +118,7 @@ fn agrees_in_row(affine: &Affine, values: &[u8; 256], row: usize) -> bool
     are_below(128, found.simd_eq(entries).select(u8x16::splat(0), moved))
 }
 
-// What is found at bytes: `$in_row` looks into a row of sixteen.
+// The entries found for bytes: `$in_row` looks them up in sixteen entries.
 macro_rules! found_by_rows {
     ($affine:ident, $bytes:ident, $in_row:ident, $lanes:ident) => {{
         let rows = $bytes >> $lanes::splat(4);
@@ -132,7 +132,7 @@ macro_rules! found_by_rows {
     }};
 }
 
-// What is found at 16 bytes.
+// The entries found for 16, 32 and 64 bytes.
 #[inline(always)]
 fn found_16(affine: &Affine, bytes: u8x16) -> u8x16
     ensures { result ≡ map (affine_entry affine.now) bytes }
@@ -154,7 +154,7 @@ fn found_64(affine: &Affine, bytes: u8x64) -> u8x64
     found_by_rows!(affine, bytes, in_row_64, u8x64)
 }
 
-// The bit of each row; none of those whose bytes are 128 or more.
+// The bit of each row, or 0 if its bytes are 128 or more.
 #[inline(always)]
 fn bits() -> u8x16
     ensures { result ≡ bits_of_rows }
@@ -162,7 +162,7 @@ fn bits() -> u8x16
     u8x16::from_array([1, 2, 4, 8, 16, 32, 64, 128, 0, 0, 0, 0, 0, 0, 0, 0])
 }
 
-// What is found, from what the three rows of sixteen have.
+// The entries found, from the three rows of sixteen.
 #[inline(always)]
 fn found<const N: usize>(
     affine: &Affine,
@@ -183,7 +183,7 @@ fn found<const N: usize>(
     is_none.select(Simd::<u8, N>::splat(255), values)
 }
 
-/// The entries of 16 bytes; of a byte from 128 on, 128 or more.
+/// The entries of 16 bytes. That of a byte of 128 or more is 128 or more.
 #[inline(always)]
 pub fn affine_entries_16(affine: &Affine, bytes: u8x16) -> u8x16
     ensures { (values : List ℕ) → HoldsAffine values affine.now
@@ -193,7 +193,7 @@ pub fn affine_entries_16(affine: &Affine, bytes: u8x16) -> u8x16
     found_16(affine, bytes)
 }
 
-/// The entries of 32 bytes; of a byte from 128 on, 128 or more.
+/// The entries of 32 bytes. That of a byte of 128 or more is 128 or more.
 #[inline(always)]
 pub fn affine_entries_32(affine: &Affine, bytes: u8x32) -> u8x32
     ensures { (values : List ℕ) → HoldsAffine values affine.now
@@ -203,7 +203,7 @@ pub fn affine_entries_32(affine: &Affine, bytes: u8x32) -> u8x32
     found_32(affine, bytes)
 }
 
-/// The entries of 64 bytes; of a byte from 128 on, 128 or more.
+/// The entries of 64 bytes. That of a byte of 128 or more is 128 or more.
 #[inline(always)]
 pub fn affine_entries_64(affine: &Affine, bytes: u8x64) -> u8x64
     ensures { (values : List ℕ) → HoldsAffine values affine.now

@@ -217,8 +217,8 @@ fn store<G: GroupSize>(order: BitOrder, words: u64x8, output: &mut [u8])
     }
 }
 
-/// Decodes eight whole groups; `false`, with the output unchanged, where some byte of the input is
-/// no symbol.
+/// Decodes eight whole groups. Returns `false`, with the output unchanged, if a byte of the input
+/// is no symbol.
 #[inline(always)]
 pub fn decode_eight<L: LookUp, G: GroupSize>(
     look_up: &L,

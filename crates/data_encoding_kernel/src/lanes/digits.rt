@@ -10,7 +10,8 @@ use crate::lanes::groups::{eight_fives, eight_ones, eight_threes};
 use data_encoding_meaning::encoding::BitOrder;
 use std::simd::prelude::*;
 
-// Which digits come one after another, as often as they fill 64 lanes.
+// For each lane, the index of its digit: those of each word in reverse or in order, repeated up to
+// 64.
 const EIGHTS_FROM_LAST: [usize; 64] = [
     7, 6, 5, 4, 3, 2, 1, 0, 15, 14, 13, 12, 11, 10, 9, 8, 23, 22, 21, 20, 19, 18, 17, 16, 31, 30,
     29, 28, 27, 26, 25, 24, 39, 38, 37, 36, 35, 34, 33, 32, 47, 46, 45, 44, 43, 42, 41, 40, 55, 54,
@@ -41,7 +42,7 @@ const TWOS_FROM_FIRST: [usize; 64] = [
     10, 11, 12, 13, 14, 15,
 ];
 
-// What is in each lane under the first mask, and what is under the second, moved up.
+// The bits of each lane under the first mask, and those under the second moved up.
 #[inline(always)]
 fn halved_wide<const LOW: u64, const HIGH: u64, const UP: u64>(lanes: u64x8) -> u64x8
     requires { UP < 64 }
@@ -66,7 +67,7 @@ fn halved_narrow<const LOW: u16, const HIGH: u16, const UP: u16>(lanes: u16x8) -
     (lanes & u16x8::splat(LOW)) | ((lanes & u16x8::splat(HIGH)) << u16x8::splat(UP))
 }
 
-// The digits of each word, a byte each.
+// The digits of each word, in a byte each.
 #[inline(always)]
 fn spread_one_bit(words: u64x8) -> u64x8
     requires { AllByRecursion (λ word. word < 2 ^ 8) words }
@@ -123,7 +124,7 @@ fn spread_six_bits(words: u32x8) -> u32x8
     halved::<0x3f_003f, 0xfc0_0fc0, 2>(twos)
 }
 
-// The digits that are spread over the lanes, one after another.
+// The digits of the lanes, one after another.
 #[inline(always)]
 fn join_eights(order: BitOrder, lanes: u64x8) -> u8x64
     ensures { (width : ℕ) (words : List ℕ) → width ≤ 8 → lanes ≡ map (spread_word width 8) words
@@ -221,7 +222,8 @@ fn six_bit_digits(order: BitOrder, input: &[u8]) -> u8x64
     join_fours(order, spread_six_bits(eight_threes(order, input)))
 }
 
-/// The digits of the first eight groups, one after another. Some bytes after them are loaded too.
+/// Returns the digits of the first eight groups, one after another. Up to six bytes after them are
+/// loaded too.
 #[inline(always)]
 pub fn digits<G: GroupSize>(order: BitOrder, input: &[u8]) -> u8x64
     requires bytes { 10 * G.BYTES ≤ length input.now + 2 }

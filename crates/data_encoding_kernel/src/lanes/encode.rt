@@ -10,7 +10,7 @@ use crate::lanes::digits::digits;
 use data_encoding_meaning::encoding::BitOrder;
 use std::simd::prelude::*;
 
-// A row of sixteen, four times.
+// The positions of a row of sixteen, four times.
 const ROWS: [usize; 64] = [
     0, 1, 2, 3, 4, 5, 6, 7, 8, 9, 10, 11, 12, 13, 14, 15, 0, 1, 2, 3, 4, 5, 6, 7, 8, 9, 10, 11, 12,
     13, 14, 15, 0, 1, 2, 3, 4, 5, 6, 7, 8, 9, 10, 11, 12, 13, 14, 15, 0, 1, 2, 3, 4, 5, 6, 7, 8, 9,
@@ -26,7 +26,7 @@ fn rows(entries: &[u8]) -> u8x64
     u8x16::from_slice(entries).swizzle::<64>(ROWS)
 }
 
-// The entry that each value names by its lowest four bits.
+// The entry at the lowest four bits of each value.
 #[inline(always)]
 fn look_in_sixteen(entries: &[u8], values: u8x64) -> u8x64
     requires { 16 ≤ length entries.now }
@@ -35,7 +35,7 @@ fn look_in_sixteen(entries: &[u8], values: u8x64) -> u8x64
     rows(entries).swizzle_dyn_within::<16>(values & u8x64::splat(15))
 }
 
-// The entry that each value names by its lowest five bits.
+// The entry at the lowest five bits of each value.
 #[inline(always)]
 fn look_in_thirty_two(entries: &[u8], values: u8x64) -> u8x64
     requires { 32 ≤ length entries.now }
@@ -47,7 +47,7 @@ fn look_in_thirty_two(entries: &[u8], values: u8x64) -> u8x64
     is_odd.select(odd, even)
 }
 
-// The entry that each value names by its lowest six bits.
+// The entry at the lowest six bits of each value.
 #[inline(always)]
 fn look_in_sixty_four(entries: &[u8], values: u8x64) -> u8x64
     requires { 64 ≤ length entries.now }
@@ -91,7 +91,7 @@ fn store<G: GroupSize>(lanes: u8x64, output: &mut [u8])
     }
 }
 
-/// Writes the text of the first eight groups. Some bytes after them are loaded too.
+/// Writes the text of the first eight groups. Up to six bytes after them are loaded too.
 #[inline(always)]
 pub fn encode_eight<G: GroupSize>(
     symbols: &[u8; 256],

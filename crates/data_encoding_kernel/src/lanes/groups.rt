@@ -8,7 +8,8 @@ ghost use Rattle.data_encoding_meaning.specs.declared.encoding.BitOrder.TheVaria
 use data_encoding_meaning::encoding::BitOrder;
 use std::simd::prelude::*;
 
-// Which bytes make the lanes of the words, the lowest of each first; 128 stands for a zero.
+// For each byte of a lane, the lowest first, the index of the byte that is loaded there; 128 gives
+// a zero.
 const THREES_FROM_LAST: [u8; 16] = [2, 1, 0, 128, 5, 4, 3, 128, 8, 7, 6, 128, 11, 10, 9, 128];
 
 const THREES_FROM_FIRST: [u8; 16] = [0, 1, 2, 128, 3, 4, 5, 128, 6, 7, 8, 128, 9, 10, 11, 128];

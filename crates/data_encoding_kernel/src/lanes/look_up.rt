@@ -1,4 +1,4 @@
-//! The ways to find the entries of bytes, with a lane for each.
+//! Ways to find the entries of bytes, in a lane for each.
 
 ghost use Rattle.std.specs.Prelude.{◌≡◌, ℕ, ◌<◌, List, map, slice_index};
 ghost use Rattle.std.specs.List.{AllByRecursion};
@@ -9,8 +9,8 @@ use crate::lanes::affine::{Affine, affine_entries_16, affine_entries_32, affine_
 use crate::lanes::rows::{Rows, entries_16, entries_32, entries_64};
 use std::simd::prelude::*;
 
-/// What finds the entries that a table has at bytes: where each that is found is below 128, they
-/// are the table's.
+/// A way to find the entries of a table for bytes. If each entry found is below 128, they are those
+/// of the table.
 pub trait LookUp: Copy {
     ghost holds: { List ℕ → Self → Type 0 };
 

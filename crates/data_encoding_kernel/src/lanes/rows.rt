@@ -1,4 +1,4 @@
-//! The entries of bytes, from a table as rows of sixteen.
+//! The entries of bytes, from a table in rows of sixteen.
 
 ghost use Rattle.std.specs.Prelude.{◌≡◌, ℕ, ◌+◌, ◌%◌, ◌<◌, List, map, slice_index};
 ghost use Rattle.std.specs.List.{AllByRecursion};
@@ -6,7 +6,7 @@ ghost use Rattle.data_encoding_kernel.specs.Values.{HoldsRows, IsRow, chosen_by}
 
 use std::simd::prelude::*;
 
-/// The lower half of a table of 256, in rows of sixteen.
+/// The lower half of a table of 256 entries, in rows of sixteen.
 #[derive(Clone, Copy, Drop)]
 pub struct Rows {
     pub first: u8x16,
@@ -36,7 +36,7 @@ pub fn rows_of(values: &[u8; 256]) -> Rows
     }
 }
 
-// What a row has at the lowest four bits of bytes.
+// The entries of a row at the lowest four bits of bytes.
 #[inline(always)]
 pub fn in_row_16(row: u8x16, bytes: u8x16) -> u8x16
     ensures { (values : List ℕ) → (start : ℕ) → IsRow values start row
@@ -70,7 +70,8 @@ pub fn in_row_64(row: u8x16, bytes: u8x64) -> u8x64
     repeated.swizzle_dyn_within::<16>(bytes & u8x64::splat(15))
 }
 
-// The lanes of `ones` where the bit of a byte is set that a shift makes the highest.
+// The lanes of `ones` if the bit of the byte that a shift makes the highest is set, or else those
+// of `zeros`.
 #[inline(always)]
 fn by_bit<const N: usize>(
     up: u8,
@@ -87,7 +88,8 @@ fn by_bit<const N: usize>(
     bits.simd_ge(Simd::<u8, N>::splat(128)).select(ones, zeros)
 }
 
-// The entries of bytes by the rows, of which `$in_row` looks into one. The bit of weight 128 stays.
+// The entries of bytes by the rows; `$in_row` looks up in one of them. The bit 128 of a byte is
+// kept.
 macro_rules! entries_by_rows {
     ($rows:ident, $bytes:ident, $in_row:ident, $lanes:ident) => {{
         let first = by_bit(
@@ -120,7 +122,7 @@ macro_rules! entries_by_rows {
     }};
 }
 
-/// The entries of 16 bytes; of a byte from 128 on, 128 or more.
+/// The entries of 16 bytes. That of a byte of 128 or more is 128 or more.
 #[inline(always)]
 pub fn entries_16(rows: &Rows, bytes: u8x16) -> u8x16
     ensures { (values : List ℕ) → HoldsRows values rows.now
@@ -130,7 +132,7 @@ pub fn entries_16(rows: &Rows, bytes: u8x16) -> u8x16
     entries_by_rows!(rows, bytes, in_row_16, u8x16)
 }
 
-/// The entries of 32 bytes; of a byte from 128 on, 128 or more.
+/// The entries of 32 bytes. That of a byte of 128 or more is 128 or more.
 #[inline(always)]
 pub fn entries_32(rows: &Rows, bytes: u8x32) -> u8x32
     ensures { (values : List ℕ) → HoldsRows values rows.now
@@ -140,7 +142,7 @@ pub fn entries_32(rows: &Rows, bytes: u8x32) -> u8x32
     entries_by_rows!(rows, bytes, in_row_32, u8x32)
 }
 
-/// The entries of 64 bytes; of a byte from 128 on, 128 or more.
+/// The entries of 64 bytes. That of a byte of 128 or more is 128 or more.
 #[inline(always)]
 pub fn entries_64(rows: &Rows, bytes: u8x64) -> u8x64
     ensures { (values : List ℕ) → HoldsRows values rows.now

@@ -1,4 +1,4 @@
--- Padding where texts may be concatenated gives a second text.
+-- Padding gives a second text if texts may be concatenated.
 use Rattle.std.proofs.Common.{◌≡◌, ℕ, ◌*◌, ◌%◌, ◌<◌, ◌==◌, true, not, [], ◌∷◌, length, Option, Some, None, is_some, inl, refl, sym, ap, ◌∙◌, arith, length-append, All}
 use Rattle.std.proofs.lemmas.Bool.{false≢true}
 use Rattle.std.proofs.lemmas.List.Elements.{All-from_recursion}
@@ -12,21 +12,21 @@ use Rattle.data_encoding_meaning.proofs.lists.RunLemmas.{run_count}
 use Rattle.data_encoding_meaning.proofs.judgement.RuleLemmas.{IsRuled, IsRuledPadding}
 use Rattle.data_encoding_meaning.proofs.text.PaddedTextLemmas.{length-padded}
 
--- padding is only where eight bits are no whole symbols
+-- there is padding only if eight bits are not whole symbols
 pub padded-partly : (base : Base) → IsRuled base → is_padded base ≡ true → 8 % base.width ≡ 0 → ⊥
 padded-partly base ruled padded whole = by base.padding padded ruled.padding where
   by : (o : Option ℕ) → is_some o ≡ true → IsRuledPadding base o → ⊥
   by None is h = cc
   by (Some character) is h = false≢true (sym (ap (λ n. not (n == 0)) whole) ∙ h.2)
 
--- what holds of 3, 5 and 6
+-- what holds for 3, 5 and 6
 pub partly : (P : ℕ → Type 0) → P 3 → P 5 → P 6 → (width : ℕ) → IsWidth width
     → (8 % width ≡ 0 → ⊥) → P width
 partly P three five six =
     by_width (λ w. (8 % w ≡ 0 → ⊥) → P w) (λ h. absurd (h refl)) (λ h. absurd (h refl))
     (λ h. three) (λ h. absurd (h refl)) (λ h. five) (λ h. six)
 
--- one byte is one group then, and two are
+-- one byte is then one group, and two are
 one_group : (width : ℕ) → IsWidth width → (8 % width ≡ 0 → ⊥)
     → (run_count (group_bytes width) 1 ≡ 1) × (run_count (group_bytes width) 2 ≡ 1)
 one_group =

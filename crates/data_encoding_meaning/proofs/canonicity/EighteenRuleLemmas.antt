@@ -19,7 +19,7 @@ rules_of base = record {
   concatenates = base.concatenates;
 }
 
--- the rules of a base, and whether it ignores a byte, where there is a base
+-- the rules of a base, and whether it ignores a byte, if there is a base
 abbrev rules_in : Result Base Refusal → Option (Rules × Bool)
 rules_in (Ok base) = Some (rules_of base, ignores_some base)
 rules_in (Err refusal) = None

@@ -1,4 +1,4 @@
--- Texts that were received, in two encodings that differ in their symbols alone.
+-- Texts that were received, in two encodings that differ in their symbols only.
 use Rattle.std.proofs.Common.{◌≡◌, ℕ, ◌^◌, ◌<◌, Bool, true, false, not, cond, List, [], ◌∷◌, map, replicate, Option, Some, None, is_some, unwrap_or, refl, sym, ap, ◌∙◌, subst, arith}
 use Rattle.std.proofs.lemmas.List.Elements.{All-from_get_or, recursion_from_All}
 use Rattle.std.proofs.lemmas.List.Folds.{list_any_none}
@@ -34,7 +34,7 @@ ignored-too base other ruled same byte is =
     (all_in_range (λ k. ignores other k ≡ true) (ignores other) 0 128 (λ k from below h. h)))
     (omega arith) (omega (arith, low)) is
 
--- so where the one ignores nothing, nor does the other
+-- so if the one ignores nothing, nor does the other
 ignores-none : (base other : Base) → IsRuled other → ignored_bytes other ≡ ignored_bytes base
     → ignores_some base ≡ false → ignores_some other ≡ false
 ignores-none base other ruled same none =
@@ -105,7 +105,7 @@ module _ (base other : Base) (ruled : IsRuled base) (ruled_other : IsRuled other
   in_symbols : DifferInSymbols base other
   in_symbols = differ.in_symbols
 
-  -- where a byte means padding there is a character of it, and in the other there is one, too
+  -- if a byte means padding there is a padding character, and the other has one too
   padding-some : (byte : ℕ) (o : Option ℕ) → base.padding ≡ o → meaning base byte ≡ Padding
       → is_some o ≡ true
   padding-some byte None none is =

@@ -9,7 +9,7 @@ use Rattle.data_encoding_meaning.proofs.lists.RunLemmas.{runs-nil}
 use Rattle.data_encoding_meaning.proofs.judgement.RuleLemmas.{IsRuled}
 
 module _ (base : Base) (ruled : IsRuled base) where
-  -- nothing means nothing
+  -- the empty text means no bytes
   Means-nil : Means base [] []
   Means-nil =
       rw (runs-nil {X = Positioned} (group_symbols base.width)

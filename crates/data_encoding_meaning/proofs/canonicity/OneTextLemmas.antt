@@ -1,5 +1,5 @@
--- Where there is no cause of a second text but a translated byte, the own form of a text that means
--- data is the text of the data; and where there is no cause at all, the text is.
+-- If a translated byte is the only cause of a second text, the own form of a text that means data
+-- is the text of the data; if there is no cause at all, the text itself is.
 use Rattle.std.proofs.Common.{◌≡◌, ◌↔◌, ℕ, ◌+◌, ◌*◌, ◌%◌, ◌<◌, ◌==◌, true, false, ◌&&◌, List, [], ◌∷◌, ◌++◌, length, map, replicate, Option, Some, None, is_some, unwrap_or, refl, sym, ap, ◌∙◌, subst, arith, zero, suc, nat_lt, take, drop, length-take-le, take-append-drop, flat_map}
 use Rattle.std.proofs.lemmas.Bool.{and_parts, eqb-true}
 use Rattle.std.proofs.lemmas.List.{append-nil, length-map, map-append, nil_from_length}
@@ -29,7 +29,7 @@ use Rattle.data_encoding_meaning.proofs.judgement.RuleLemmas.{IsRuled}
 use Rattle.data_encoding_meaning.proofs.text.PaddedTextLemmas.{text_of-unwrapped}
 use Rattle.data_encoding_meaning.proofs.text.PlainTextLemmas.{filled-join, filled-whole, plain_text-join, plain_text-nil}
 
--- What a base keeps that has no cause of a second text but a translated byte.
+-- The rules of a base whose only cause of a second text is a translated byte.
 record HasOneForm (base : Base) : Type 0 where
   pub checks : base.checks_trailing_bits ≡ true
   pub alone : (is_padded base && base.concatenates) ≡ false
@@ -117,7 +117,7 @@ module _ (base : Base) (ruled : IsRuled base) (one : HasOneForm base) where
           ∙ (λ i. symbols_are i
           ++ paddings_are base ruled back means.padding character some parts.1 i)
 
-      -- where it has padding, it is the text of the last bytes
+      -- if it has padding, it is the text of the last bytes
       last : own_in group ≡ filled piece
       last =
           let total : (length (plain_text base piece) + means.padding) % size ≡ 0 =
@@ -126,7 +126,7 @@ module _ (base : Base) (ruled : IsRuled base) (one : HasOneForm base) where
           (omega (arith, whole, means.is_begun)) total in
           rw (group_is, lack)
 
-      -- and else that of bytes behind which others may stand
+      -- and otherwise that of bytes which others may follow
       first : means.padding ≡ 0 → (more : List ℕ)
           → own_in group ++ filled more ≡ filled (piece ++ more)
       first none more =

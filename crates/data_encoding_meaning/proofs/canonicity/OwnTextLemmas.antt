@@ -1,4 +1,4 @@
--- What the bytes of a text stand for is decided by what they mean.
+-- The own form of a text follows from what its bytes mean.
 use Rattle.std.proofs.Common.{◌≡◌, ℕ, ◌+◌, ◌-◌, ◌%◌, ◌^◌, ◌<◌, ◌≤◌, true, List, [], ◌∷◌, ◌++◌, length, map, replicate, Option, Some, None, unwrap_or, refl, sym, ap, ◌∙◌, subst, arith, ⊎_elim, length-append, zero, suc, flat_map}
 use Rattle.std.proofs.lemmas.Bool.{cases_lt}
 use Rattle.std.proofs.lemmas.Bool.Decides.{nat_tests}
@@ -51,7 +51,7 @@ module _ (base : Base) (ruled : IsRuled base) where
   width : IsWidth base.width
   width = ruled.is_width
 
-  -- what a byte stands for, or the byte
+  -- the byte that a byte is translated to, or the byte itself
   abbrev own_byte_of : ℕ → ℕ
   own_byte_of byte = unwrap_or (own_character base (meaning base byte)) byte
 
@@ -66,7 +66,7 @@ module _ (base : Base) (ruled : IsRuled base) where
       let low = ascii byte (λ none. cc) in
       omega (arith, value-small base ruled byte value low is, ruled.count)
 
-  -- symbols stand for those of their values, which are below their number
+  -- symbols are translated to the symbols of their values, which are below their number
   symbols_are : (text values : List ℕ)
       → map (meaning base) text ≡ map (λ value. Symbol value) values
       → (own_form base text ≡ map (symbol base) values)
@@ -78,7 +78,7 @@ module _ (base : Base) (ruled : IsRuled base) where
       (rw (here, rest.0), (value_below byte value here, rest.1))
   symbols_are _ _ h = cc
 
-  -- and padding for the padding character
+  -- and padding to the padding character
   pub paddings_are : (text : List ℕ) (count character : ℕ) → base.padding ≡ Some character
       → map (meaning base) text ≡ replicate count Padding
       → own_form base text ≡ replicate count character
@@ -88,7 +88,7 @@ module _ (base : Base) (ruled : IsRuled base) where
       rw (here, some, paddings_are text count character some cc)
   paddings_are _ _ character some h = cc
 
-  -- the own form of symbols that mean bytes is their text, where trailing bits are checked
+  -- the own form of symbols that mean bytes is their text, if trailing bits are checked
   pub plain_is : base.checks_trailing_bits ≡ true → (text bytes : List ℕ)
       → PlainMeans base (map (meaning base) text) bytes → own_form base text ≡ plain_text base bytes
   plain_is checks text bytes means =
@@ -115,7 +115,7 @@ module _ (base : Base) (ruled : IsRuled base) where
       width.some (length-bits_of base.order base.width)))
       ∙ ap (λ l. show (runs base.width l)) filled
 
-  -- a byte stands for what means the same
+  -- a byte is translated to one that means the same
   own_meaning_of : (byte : ℕ) → meaning base (own_byte_of byte) ≡ meaning base byte
   own_meaning_of byte = by (meaning base byte) refl where
     by_padding : (o : Option ℕ) → base.padding ≡ o → meaning base byte ≡ Padding
@@ -138,7 +138,7 @@ module _ (base : Base) (ruled : IsRuled base) where
   own_form-meaning (byte ∷ text) =
       (λ i. sym (own_meaning_of byte) i ∷ own_form-meaning text i)
 
-  -- and for itself where none is translated
+  -- and to itself if none is translated
   module _ (alone : translated_bytes base ≡ []) where
     own_is : (byte : ℕ) (o : Option ℕ) → (is_translated base byte o ≡ true → ⊥)
         → unwrap_or o byte ≡ byte

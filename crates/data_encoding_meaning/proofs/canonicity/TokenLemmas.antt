@@ -1,4 +1,4 @@
--- What the texts of a canonical base tell: how long they are, and in which order they come.
+-- The texts of a canonical base: how long they are, and in which order they come.
 use Rattle.std.proofs.Common.{◌≡◌, ◌↔◌, ℕ, true, List, length, refl, sym, ap, ◌∙◌}
 use Rattle.data_encoding_meaning.specs.text.Base.{Base}
 use Rattle.data_encoding_meaning.specs.laws.Canonical.{IsCanonical, has_one_text}

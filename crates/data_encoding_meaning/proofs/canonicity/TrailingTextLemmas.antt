@@ -27,7 +27,7 @@ abbrev trailing_bits : BitOrder → ℕ → List ℕ
 trailing_bits order width =
     drop 8 (flat_map (bits_of order width) (values_with width (last_bit order width)))
 
--- What the last bit of the last symbol is, where eight bits are no whole symbols.
+-- What the last bit of the last symbol is, if eight bits are not whole symbols.
 record TrailsAt (order : BitOrder) (width : ℕ) : Type 0 where
   short : length (trailing_bits order width) < width
   below : last_bit order width < 2 ^ width
@@ -60,7 +60,7 @@ zero_text base MostSignificantFirst =
 zero_text base LeastSignificantFirst =
     partly (HasZeroText base LeastSignificantFirst) (refl, refl) (refl, refl) (refl, refl)
 
--- texts as long as one another are the same if they are with padding
+-- texts of one length are equal if they are equal with padding
 unpadded : (o : Option ℕ) (size : ℕ) (xs ys : List ℕ) → length xs ≡ length ys
     → with_padding o size xs ≡ with_padding o size ys → xs ≡ ys
 unpadded None size xs ys len same = same

@@ -7,7 +7,7 @@ use Rattle.data_encoding_meaning.specs.specification.Layout.{translated_bytes}
 use Rattle.data_encoding_meaning.proofs.lists.EachLemmas.{at_in_range}
 use Rattle.data_encoding_meaning.proofs.judgement.TranslationLemmas.{is_translated_byte}
 
--- where the list is empty, no byte is translated
+-- if the list is empty, no byte is translated
 pub not_translated : (base : Base) → translated_bytes base ≡ [] → (byte : ℕ) → byte < 128
     → is_translated_byte base byte ≡ true → ⊥
 not_translated base none byte below is =
@@ -17,7 +17,7 @@ not_translated base none byte below is =
 not_not : (b : Bool) → not (not b) ≡ b
 not_not b = grind arith
 
--- where there is no other cause of a second text, the translated bytes decide
+-- if there is no other cause of a second text, the translated bytes decide
 pub has_one_text-by : (base : Base) (translates : Bool)
     → translates ≡ not (length (translated_bytes base) == 0)
     → true ≡ (base.checks_trailing_bits && not (is_padded base && base.concatenates)
@@ -27,7 +27,7 @@ has_one_text-by base translates is others =
     ap not is ∙ not_not (length (translated_bytes base) == 0)
     ∙ ap (λ b. b && (length (translated_bytes base) == 0)) others
 
--- and where there is one, the base has it
+-- and if there is one, the base has it
 pub not_one_text : (base : Base)
     → false ≡ (base.checks_trailing_bits && not (is_padded base && base.concatenates)
     && not (ignores_some base))

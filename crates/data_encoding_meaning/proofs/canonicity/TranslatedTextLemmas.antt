@@ -44,7 +44,7 @@ last_same : (a b count : ℕ) → replicate (suc count) a ≡ replicate count a 
 last_same a b zero same = cc
 last_same a b (suc count) same = last_same a b count cc
 
--- nothing is put behind a whole group
+-- nothing is appended to a whole group
 whole-unpadded : (o : Option ℕ) (size : ℕ) (text : List ℕ) → length text ≡ size
     → with_padding o size text ≡ text
 whole-unpadded None size text e = refl

@@ -5,7 +5,7 @@ use Rattle.data_encoding_meaning.specs.text.Grammar.{Positioned, kept, kept_in, 
 use Rattle.data_encoding_meaning.specs.decoding.Fault.{position_of}
 use Rattle.data_encoding_meaning.proofs.grammar.KeptLemmas.{kept-more, kept_in-stands}
 
--- Where a part is cut before a kept byte, the ones before it are kept.
+-- If a piece is cut before a kept byte, the ones before it are kept.
 abbrev IsCut : Base → ℕ → List ℕ → ℕ → ℕ → Type 0
 IsCut base start part index count =
     index < length (kept_in base start part)
@@ -20,7 +20,7 @@ module _ (base : Base) (start byte : ℕ) (part : List ℕ)
   abbrev here : Positioned
   here = record { position = start; byte = byte }
 
-  -- of the others, none stands here
+  -- of the others, none is at this position
   past : (index : ℕ) → index < length rest → start ≡ position_of rest index → ⊥
   past index inside is =
       let stands = kept_in-stands base (start + 1) (start + 1 + length part) part index
@@ -49,7 +49,7 @@ kept_in-cut base start (byte ∷ part) index count inside is =
     cut_by base start byte part (kept_in-cut base (start + 1) part)
     (not (is_ignored (meaning base byte))) refl index count inside is
 
--- the same of what is left of a text
+-- the same for the rest of a text
 pub kept-cut : (base : Base) (read : ℕ) (text : List ℕ) → read ≤ length text → (index stop : ℕ)
     → read ≤ stop → stop ≤ length text → index < length (kept_from base read text)
     → stop ≡ position_of (kept_from base read text) index

@@ -40,7 +40,7 @@ module _ (base : Base) (width : IsWidth base.width) (text : List ℕ) where
         fault_of-read base width (text ++ after) (length text + length after) [] false (Some error)
         more ∙ rw (← length-append text after, valid)
 
-    -- where the text is whole groups, it has no other fault
+    -- if the text is whole groups, it has no other fault
     pub fault-stays : length (kept base text) % size ≡ 0 → fault_of base text ≡ Some error
         → fault_of base (text ++ after) ≡ Some error
     fault-stays whole h =
@@ -56,7 +56,7 @@ module _ (base : Base) (width : IsWidth base.width) (text : List ℕ) where
         ∙ rw (no_length_fault, nothing) (or_none faults) in
         group_fault-stays (sym first ∙ h)
 
--- behind whole groups that have none, a fault stands further on than they are long
+-- after whole groups without a fault, a fault is not before their end
 pub fault-behind : (base : Base) → IsWidth base.width → (text after : List ℕ)
     (error : DecodeError) → length (kept base text) % group_symbols base.width ≡ 0
     → fault_of base text ≡ None → fault_of base (text ++ after) ≡ Some error

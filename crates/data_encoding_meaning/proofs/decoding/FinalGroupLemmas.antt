@@ -1,4 +1,4 @@
--- What the number of bytes that a text means tells of its groups.
+-- What follows about the groups of a text from the number of bytes that it means.
 use Rattle.std.proofs.Common.{◌≡◌, ℕ, ◌+◌, ◌*◌, ◌%◌, ◌<◌, ◌==◌, Bool, true, false, not, ◌&&◌, List, [], ◌∷◌, length, Option, Some, None, is_some, refl, sym, ap, ◌∙◌, subst, arith, length-append, map}
 use Rattle.std.proofs.Math.Nat.{add-mod_left, zero-mod}
 use Rattle.std.proofs.lemmas.Bool.{false≢true}
@@ -48,7 +48,7 @@ module _ (base : Base) where
         rw (GroupMeans-padding base group bytes means)
         (λ none. grind (arith, nat_tests, len, full), λ some. grind (arith, nat_tests, len, part))
 
-    -- Where texts may not be concatenated, padding is in the last group alone.
+    -- If texts may not be concatenated, only the last group has padding.
     module _ (apart : base.concatenates ≡ false) where
       groups_end : (gs : List (List Positioned)) (bytes : List ℕ)
           → GroupsMean base (map (meanings_in base) gs) bytes

@@ -14,7 +14,7 @@ use Rattle.data_encoding_meaning.proofs.grammar.KeptLemmas.{kept_in-append, kept
 use Rattle.data_encoding_meaning.proofs.grammar.SameBytesLemmas.{bytes-kept_in}
 use Rattle.data_encoding_meaning.proofs.decoding.ProgressLemmas.{IsNext}
 
--- So many bytes before a position are not ignored; they were gathered, and go so far.
+-- This many bytes before a position are not ignored; they were gathered, and end there.
 pub record HasGathered (base : Base) (part : List ℕ) (index count span : ℕ) (room : List ℕ)
     : Type 0 where
   pub before : span ≤ index
@@ -81,7 +81,7 @@ module _ (base : Base) (part : List ℕ) (index : ℕ) (inside : index < length 
       ends = so_far.ends;
     }
 
-  -- the member of that index stands here
+  -- the member with this index has this position
   pub position-here : is_ignored (meaning base here) ≡ false
       → position_of (kept base part) (length (kept base (take index part))) ≡ index
   position-here h =
@@ -99,7 +99,7 @@ module _ (base : Base) (part : List ℕ) (index : ℕ) (inside : index < length 
       → length (kept base (take (index + 1) part)) ≡ length (kept base (take index part))
   none-here h = ap length (next-ignored h)
 
--- a group was gathered where it is whole, or nothing is left
+-- a group was gathered if it is whole, or nothing is left
 pub gathered : {base : Base} {size : ℕ} {part : List ℕ} {index count span : ℕ} {room : List ℕ}
     → HasGathered base part index count span room → index ≤ length part → count ≤ size
     → (count ≡ size) ⊎ (index ≡ length part) → IsGathered base size part (take count room) span
@@ -117,7 +117,7 @@ gathered {base} {size} {part} {index} {count} {room} so_far within few last =
       last = grind (arith, len, all, last);
     }
 
--- where nothing is ignored: the bytes as they stand
+-- if nothing is ignored: the bytes themselves
 pub gathered-plain : (base : Base) → ignores_some base ≡ false → (size : ℕ) (part : List ℕ)
     → IsGathered base size part (take size part) (length (take size part))
 gathered-plain base none size part =
@@ -131,7 +131,7 @@ gathered-plain base none size part =
       last = grind (arith, len, length-kept_plain base part none);
     }
 
--- as many are kept of what is left, wherever it begins
+-- as many bytes are kept of the rest, whatever its position
 length-left : (base : Base) (text : List ℕ) (read : ℕ)
     → length (kept_from base read text) ≡ length (kept base (drop read text))
 length-left base text read =
@@ -143,7 +143,7 @@ pub nothing-kept : (base : Base) (text : List ℕ) (read : ℕ)
 nothing-kept base text read h =
     nil_from_length (kept_from base read text) (length-left base text read ∙ h)
 
--- What was gathered of a part is in it.
+-- What was gathered from bytes is among them.
 module _ {base : Base} {size : ℕ} {part group : List ℕ} {span : ℕ}
     (is : IsGathered base size part group span) where
   length-gathered : length (kept base (take span part)) ≡ length group
@@ -182,7 +182,7 @@ module _ (base : Base) (width : IsWidth base.width) (text : List ℕ) (read : �
   pub within-next : read + span ≤ length text
   within-next = omega (arith, is.within, length-drop read text, within)
 
-  -- each stands where the text has it
+  -- each has its position in the text
   pub position-next : (index : ℕ) → index < length group
       → position_of nexts index ≡ read + position_of (kept base (drop read text)) index
   position-next index inside =
@@ -198,7 +198,7 @@ module _ (base : Base) (width : IsWidth base.width) (text : List ℕ) (read : �
       ∙ ap moves (sym (get_or_append_left front (kept_from base span (drop read text)) none index
       far))))
 
-  -- nothing is left where none was found
+  -- nothing is left if none was found
   pub none-next : length group ≡ 0 → kept_from base read text ≡ []
   none-next empty =
       let some = group_symbols-pos base.width width in

@@ -9,7 +9,7 @@ use Rattle.data_encoding_meaning.proofs.digits.WidthLemmas.{by_width}
 abbrev whole_count : ℕ → ℕ → ℕ
 whole_count width count = count / group_symbols width * group_symbols width
 
--- So many symbols, in whole groups, or where the last group may be shorter.
+-- This many symbols, in whole groups, or with a last group that may be shorter.
 record HasGreatest (width : ℕ) : Type 0 where
   whole_more : (m n : ℕ) → m ≤ n → whole_count width m ≤ whole_count width n
   whole_least : (n : ℕ) → whole_count width n ≤ n
@@ -31,7 +31,7 @@ module _ (base : Base) (width : IsWidth base.width) where
   pub greatest-least : (n : ℕ) → greatest_valid_length base n ≤ n
   greatest-least n = grind (arith, greatest.whole_least n)
 
-  -- of a greater length it is no less
+  -- that of a greater length is not less
   pub greatest-more : (m n : ℕ) → m ≤ n
       → greatest_valid_length base m ≤ greatest_valid_length base n
   greatest-more m n h = grind (arith, greatest.whole_more m n h, greatest.count_more m n h)

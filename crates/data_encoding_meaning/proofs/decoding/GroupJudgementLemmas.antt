@@ -1,4 +1,4 @@
--- What a judgement of a group finds: its symbols, or its fault, or its bytes.
+-- The results of judging a group: its symbols, its fault, or its bytes.
 use Rattle.std.proofs.Common.{◌≡◌, ℕ, zero, suc, ◌-◌, ◌*◌, ◌/◌, ◌%◌, ◌<◌, ◌≤◌, ◌==◌, nat_lt, Bool, true, false, not, cond, ◌||◌, List, [], ◌∷◌, length, map, take, slice_index, Option, Some, is_some, refl, sym, ◌∙◌, arith}
 use Rattle.std.proofs.lemmas.Bool.Decides.{nat_tests}
 use Rattle.std.proofs.Math.Nat.{le-div_iff_mul-le, div-eq_of_lt, mul-le-mul_left, zero-mul}
@@ -26,12 +26,12 @@ few-bits {width} group same count few =
     mul-le width count 6 8 (omega (arith, same, group.is_width.few))
     (omega (arith, (IsSmall-group group).few_symbols, few))
 
--- where there is room for more of them, there is room for these
+-- if there is room for more of them, there is room for these
 pub room-symbols : {w width count len room : ℕ} → width ≡ w → count ≤ len → w * len / 8 ≤ room
     → width * count / 8 ≤ room
 room-symbols {w} same few fits = rw same (omega (arith, mul-le-mul_left w few, fits))
 
--- the fault of the bytes of a group is its fault where no final one came before
+-- the fault of the bytes of a group is its fault if no final group came before
 pub HasFault-own : {base : Base} {group : List ℕ} {fault : GroupFault}
     → fault.index < length group → group_fault base group ≡ Some fault
     → HasFault base false group fault
@@ -130,7 +130,7 @@ module _ (base : Base) (group : List ℕ) where
             fault_is = whole-group ∙ rw (begun, valid, take-map);
           }
 
--- a group of no valid length has the fault of its length
+-- a group without a valid length has the fault of its length
 pub fault-length : (base : Base) → IsWidth base.width → (group : List ℕ) → 0 < length group
     → length group ≤ group_symbols base.width → is_valid_length base (length group) ≡ false
     → group_fault base group ≡ faulty_at LengthFault (greatest_valid_length base (length group))
@@ -146,7 +146,7 @@ fault-length base width group some few invalid = by (is_padded base) refl where
       (fault-invalid base group is base.width refl
       (sym (is_valid_length-by base (length group) false is) ∙ invalid))
 
--- the tests of a part
+-- the bytes of a prefix are bytes
 pub part_bytes : (group : List ℕ) → ((k : ℕ) → slice_index group k < 256) → (count k : ℕ)
     → slice_index (take count group) k < 256
 part_bytes group h zero k = omega arith

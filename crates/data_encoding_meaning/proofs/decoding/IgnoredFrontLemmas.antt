@@ -1,4 +1,4 @@
--- Ignored bytes at the front of a part: what stands behind them is what the part has.
+-- Ignored bytes at the start: the kept bytes are those that follow them.
 use Rattle.std.proofs.Common.{◌≡◌, ℕ, ◌+◌, ◌-◌, ◌<◌, ◌≤◌, List, [], ◌++◌, length, map, take, drop, refl, sym, ap, ◌∙◌, arith, take-append-drop, take-add}
 use Rattle.std.proofs.lemmas.List.{get_or-drop, length-drop, length-map, nil_from_length}
 use Rattle.data_encoding_meaning.specs.text.Base.{Base}
@@ -12,7 +12,7 @@ pub no_front : (base : Base) (part : List ℕ) → IsIgnoredFront base part 0
 no_front base part = record { within = omega arith; none = refl }
 
 module _ (base : Base) where
-  -- none is kept of ignored bytes, wherever they stand
+  -- none is kept of ignored bytes, whatever their position
   pub nothing-kept_in : (read : ℕ) (bytes : List ℕ) → kept base bytes ≡ []
       → kept_in base read bytes ≡ []
   nothing-kept_in read bytes h =
@@ -20,7 +20,7 @@ module _ (base : Base) where
       nil_from_length (kept_in base read bytes)
       (length-by_bytes (kept_in base read bytes) [] (rw h at same))
 
-  -- the kept bytes are those behind the ignored ones
+  -- the kept bytes are those after the ignored ones
   bytes-behind : (front rest : List ℕ) → kept base front ≡ []
       → map (λ (k : Positioned). k.byte) (kept base (front ++ rest))
       ≡ map (λ (k : Positioned). k.byte) (kept base rest)
@@ -34,7 +34,7 @@ module _ (base : Base) where
       simp length-map at (ap length (rw (take-append-drop skip part) at
       (bytes-behind (take skip part) (drop skip part) front.none)))
 
-  -- what was gathered behind ignored bytes was gathered from before them
+  -- what was gathered after ignored bytes was gathered from before them
   pub gathered-behind : (size : ℕ) (part group : List ℕ) (skip span : ℕ)
       → IsIgnoredFront base part skip → IsGathered base size (drop skip part) group span
       → 0 < span → IsGathered base size part group (skip + span)
@@ -50,7 +50,7 @@ module _ (base : Base) where
         last = rw (length-behind part skip front) is.last;
       }
 
-  -- nothing is left where nothing is behind them
+  -- nothing is left if nothing follows them
   pub nothing-behind : (text : List ℕ) (read skip : ℕ) → read ≤ length text
       → IsIgnoredFront base (drop read text) skip → kept_from base (read + skip) text ≡ []
       → kept_from base read text ≡ []

@@ -28,7 +28,7 @@ none_strict : (ms : List Character) → list_any is_ignored (map strict ms) ≡ 
 none_strict [] = refl
 none_strict (m ∷ ms) = rw (strict_as m).3 (none_strict ms)
 
--- what is found of strict meanings is what is found of the meanings
+-- what is found for strict meanings is what is found for the meanings
 symbols-strict : (ms : List Character)
     → prefix_len (λ m. not (not (is_symbol m))) (map strict ms)
     ≡ prefix_len (λ m. not (not (is_symbol m))) ms

@@ -1,4 +1,4 @@
--- Where a decoding stops at a last group that is too short.
+-- A decoding that stops at a last group that is too short.
 use Rattle.std.proofs.Common.{◌≡◌, ℕ, ◌+◌, ◌-◌, ◌<◌, ◌≤◌, ◌⊎◌, Bool, true, false, not, cond, List, [], ◌∷◌, ◌++◌, length, take, drop, Some, None, is_some, refl, sym, ap, ◌∙◌, arith, length-append, length-take-le, ⊎_elim, inl, inr, map}
 use Rattle.std.proofs.lemmas.Bool.{cases_lt, false_from_ne_true, false≢true}
 use Rattle.std.proofs.lemmas.List.{append-nil, length-drop, length-take, take-take, take_all, take_at, length-map}
@@ -30,7 +30,7 @@ module _ {base : Base} {text : List ℕ} {read written : ℕ} {output : List ℕ
   abbrev size : ℕ
   size = group_symbols base.width
 
-  -- the greatest valid length of what is left, and the bytes at its front
+  -- the greatest valid length of the rest, and the prefix of that length
   abbrev len : ℕ
   len = greatest_valid_length base (length (drop read text))
 
@@ -83,7 +83,7 @@ module _ {base : Base} {text : List ℕ} {read written : ℕ} {output : List ℕ
       (λ full. absurd (omega (arith, full, few_members))) (λ none. none) at.next.last in
       rest_is at ∙ rw last (append-nil at.group)
 
-  -- before its fault stand that many of its bytes
+  -- before its fault are this many of its bytes
   kept_before : kept base (take error.position text)
       ≡ kept base (take read text) ++ take index at.group
   kept_before =
@@ -105,7 +105,7 @@ module _ {base : Base} {text : List ℕ} {read written : ℕ} {output : List ℕ
       length_fault-none base (length part)
       (λ none. absurd (false≢true (sym (kind-next at none) ∙ kind)))
 
-  -- bytes without a fault at the front of what is left are bytes of the group
+  -- a prefix of the rest without a fault is a prefix of the group
   run_kept : (count : ℕ) → count ≤ length (drop read text) → count ≤ size
       → group_fault base (take count (drop read text)) ≡ None
       → at.group ≡ positioned_from read (take count (drop read text))
@@ -149,7 +149,7 @@ module _ {base : Base} {text : List ℕ} {read written : ℕ} {output : List ℕ
       → sound_bytes base (take end text) ≡ take written output
   front_bytes end same = rw same (sound_bytes-front base at.width text at.so_far)
 
-  -- where no run is left before the fault, all up to it is read
+  -- if no run is left before the fault, all up to it is read
   pub last-none : len ≡ 0 → (new : List ℕ) → written ≤ length new
       → take written new ≡ take written output
       → StopsAt base text new
@@ -215,7 +215,7 @@ module _ {base : Base} {text : List ℕ} {read written : ℕ} {output : List ℕ
         (rw (groups_more, sound-all base false (is_final base run) _ all_sound)
         (rw (flat_map-append, ← at.so_far.writes, writes, append-nil, bytes_same)))
 
-  -- but none with a fault is
+  -- but no run with a fault is read
   pub last-unsound : 0 < len
       → (len ≤ size → is_some (group_fault base front) ≡ true)
       → (new : List ℕ) → written ≤ length new → take written new ≡ take written output

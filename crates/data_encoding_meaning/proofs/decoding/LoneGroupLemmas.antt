@@ -18,7 +18,7 @@ use Rattle.data_encoding_meaning.proofs.grammar.PositionLemmas.{bytes-positioned
 use Rattle.data_encoding_meaning.proofs.lists.ListLemmas.{filter-all}
 use Rattle.data_encoding_meaning.proofs.lists.RunLemmas.{runs-short}
 
--- a length has its fault only where it is not valid
+-- a length has its fault only if it is not valid
 invalid_from : (ignores valid : Bool) (fault error : DecodeError)
     → cond (not ignores && not valid) (Some fault) None ≡ Some error
     → (valid ≡ false) × (Some fault ≡ Some error)
@@ -56,7 +56,7 @@ module _ (base : Base) (width : IsWidth base.width) (group : List Positioned)
       (runs-short size alone (omega (arith, count, alone_count, some))
       (omega (arith, count, alone_count, few)))
 
-  -- a group of no valid length has the fault of the length of the text
+  -- a group without a valid length has the fault of the length of the text
   length-group : is_valid_length base (length bytes) ≡ false
       → located alone (group_fault base bytes)
       ≡ Some (record { position = greatest_valid_length base (length bytes); kind = LengthFault })

@@ -36,7 +36,7 @@ module _ (base : Base) where
   stays begun error (g ∷ gs) hs h =
       decides (fault_after begun base g) _ _ error g _ _ (stays (is_final base g) error gs hs) h
 
-  -- behind sound groups the bytes of others follow
+  -- after sound groups the bytes of others follow
   pub bytes-behind : (begun ended : Bool) (gs hs : List (List Positioned))
       → AreSound base begun gs ended
       → flat_map (bytes_of_group base) (sound_after begun base (gs ++ hs))
@@ -52,7 +52,7 @@ module _ (base : Base) where
   bytes_unless true group = refl
   bytes_unless false group = append-nil (bytes_of_group base group)
 
-  -- where none has a fault, none but the last can be final
+  -- if none has a fault, only the last can be final
   pub any_final : (begun ended : Bool) (gs : List (List Positioned)) → AreSound base begun gs ended
       → (begun || list_any (is_final base) gs) ≡ ended
   any_final begun ended [] h = or-false begun ∙ h
@@ -85,14 +85,14 @@ module _ (base : Base) (width : IsWidth base.width) where
     abbrev pub more : List Positioned
     more = kept_in base (length text) piece
 
-    -- the whole groups before it, and those behind them
+    -- the whole groups before it, and those after them
     abbrev gs : List (List Positioned)
     gs = whole_groups base text
 
     abbrev hs : List (List Positioned)
     hs = whole_runs size (unfinished base text ++ more)
 
-    -- whole groups more, and what is left behind them
+    -- more whole groups, and what is left after them
     pub joined : (whole_groups base (text ++ piece) ≡ gs ++ hs)
         × (unfinished base (text ++ piece) ≡ left size (unfinished base text ++ more))
     joined =
@@ -139,7 +139,7 @@ module _ (base : Base) (width : IsWidth base.width) where
             let none = AreSound-none base false gs (sym read.first) in
             rw (read.ends refl ∙ any_final base false (ends_after base false gs) gs none) none
 
-        -- the bytes that were held, and those of the piece
+        -- the bytes that were held, followed by those of the piece
         with_held : unfinished base text ++ more ≡ held ++ more
         with_held = ap (λ l. l ++ more) (sym (read.holds refl))
 
@@ -191,7 +191,7 @@ module _ (base : Base) (width : IsWidth base.width) where
               (ap (λ l. whole_bytes base text ++ l)
               (bytes_unless base (is_some (fault_after ended base group)) group))
 
-  -- At the end, what is held is a last group.
+  -- At the end, the bytes held are a last group.
   at_end : (ended : Bool) (held : List Positioned) → length held < size
       → (first_after ended base (runs size held) ≡ held_fault ended base held)
       × (flat_map (bytes_of_group base) (sound_after ended base (runs size held))
@@ -232,7 +232,7 @@ module _ (base : Base) (width : IsWidth base.width) where
         ≡ or_else (length_fault base len) (or_else fault (held_fault ended base held))
     fault_of-read fault read = rw (read.counted, (read_all fault read).0)
 
-    -- and its bytes stand behind those of the others, where no group is faulty
+    -- and its bytes follow those of the others, if no group is faulty
     pub sound_bytes-read : (fault : Option DecodeError) → HasRead base text len fault held ended
         → sound_bytes base text ≡ whole_bytes base text
         ++ cond (is_some (or_else fault (held_fault ended base held))) []

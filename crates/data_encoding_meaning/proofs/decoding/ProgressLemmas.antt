@@ -71,7 +71,7 @@ module _ (base : Base) (width : IsWidth base.width) (text : List ℕ) where
     writes = ap (flat_map (bytes_of_group base)) (sym no_groups);
   }
 
-  -- another output with the same bytes at its front
+  -- another output that starts with the same bytes
   pub same-output : {read written : ℕ} {ended : Bool} {old : List ℕ} (new : List ℕ)
       → HasDecodedTo base text read written ended old
       → written ≤ length new → take written new ≡ take written old
@@ -127,7 +127,7 @@ module _ (base : Base) (width : IsWidth base.width) (text : List ℕ) where
       writes = rw (more, flat_map-append, ← so_far.writes) writes;
     }
 
-  -- so many whole groups, of symbols alone, behind ignored bytes
+  -- this many whole groups of symbols only, after ignored bytes
   pub after-run : {read written skip : ℕ} (count : ℕ) {old : List ℕ} (new : List ℕ)
       → HasDecodedTo base text read written false old
       → IsIgnoredFront base (drop read text) skip
@@ -240,7 +240,7 @@ module _ (base : Base) (width : IsWidth base.width) (text : List ℕ) where
           (group_bits base.width width) so_far.within pos (many / dec) count
           (rw exact few_written) (omega (arith, exact, few_kept)) h)
 
-    -- and for the last of an unpadded text, perhaps shorter
+    -- and for the last of an unpadded text, which may be shorter
     pub room-group : (count : ℕ) → is_padded base ≡ false → count ≤ length text - read
         → written + base.width * count / 8 ≤ most_bytes base (length text)
     room-group count is h =
@@ -255,7 +255,7 @@ module _ (base : Base) (width : IsWidth base.width) (text : List ℕ) where
         (sound-all base false ended (groups base (take read text)) so_far.sound)
         ∙ sym so_far.writes
 
-    -- where nothing is left, the text has no fault, and means what was written
+    -- if nothing is left, the text has no fault, and means what was written
     pub at-end : length_fault base (length text) ≡ None → kept_from base read text ≡ []
         → (fault_of base text ≡ None) × (sound_bytes base text ≡ take written output)
         × Means base text (take written output)

@@ -1,4 +1,5 @@
--- A decoding that is resumed where it stopped: what is read of a text with a fault means bytes.
+-- A decoding that is resumed at the position at which it stopped: what is read of a text with a
+-- fault means bytes.
 use Rattle.std.proofs.Common.{◌≡◌, ℕ, zero, suc, ◌+◌, ◌<◌, ◌≤◌, ◌⊎◌, Bool, true, false, List, [], ◌++◌, length, set, take, drop, get_or, replicate, Option, Some, None, is_some, refl, ap, ◌∙◌, arith, length-append, inl, inr, map, append_assoc, take-append-drop, length-take-le}
 use Rattle.std.proofs.lemmas.Bool.{cases_lt}
 use Rattle.std.proofs.lemmas.List.{length-replicate, length-set, take_all}
@@ -21,7 +22,7 @@ use Rattle.data_encoding_meaning.proofs.grammar.JoinFaultLemmas.{fault-join, sou
 use Rattle.data_encoding_meaning.proofs.grammar.JoinLemmas.{Means-join}
 use Rattle.data_encoding_meaning.proofs.judgement.RuleLemmas.{IsRuled}
 
--- the next kept bytes of a part: a group, or all
+-- the next kept bytes: a group, or all
 abbrev Gathers : Base → ℕ → List ℕ → Type 0
 Gathers base size part = (group : List ℕ) × (span : ℕ) × IsGathered base size part group span
 
@@ -84,7 +85,7 @@ module _ (base : Base) (width : IsWidth base.width) (text : List ℕ)
     abbrev len : ℕ
     len = greatest_valid_length base (length (drop read text))
 
-    -- what was written, and bytes behind it
+    -- what was written, followed by bytes
     behind_len : (bytes : List ℕ) → written + length bytes ≡ length (take written output ++ bytes)
     behind_len bytes =
         let len = written_len base width text so_far in
@@ -97,7 +98,7 @@ module _ (base : Base) (width : IsWidth base.width) (text : List ℕ)
         take_all (written + length bytes) (take written output ++ bytes)
         (omega (arith, behind_len bytes))
 
-    -- at a faulty group, or behind a last run
+    -- at a faulty group, or after a last run
     at_group : (stop : ℕ) (group : List Positioned) (error : DecodeError)
         → IsNext base text read stop group → fault_after ended base group ≡ Some error
         → Stops base text
@@ -194,7 +195,7 @@ Means-partial base width text partial no_length_fault is =
     )
 
 module _ (base : Base) (ruled : IsRuled base) (piece next : List ℕ) where
-  -- what was read, and what is left before what follows, are the whole
+  -- what was read, and the rest followed by the next piece, are the whole
   whole : (read : ℕ) → take read piece ++ (drop read piece ++ next) ≡ piece ++ next
   whole read =
       rw (← append_assoc (take read piece) (drop read piece) next, take-append-drop read piece)

@@ -1,4 +1,4 @@
--- Whether the greatest front of valid length means something as it stands.
+-- Whether the longest prefix of valid length means something without ignoring any byte.
 use Rattle.std.proofs.Common.{◌≡◌, ℕ, ◌<◌, ◌≤◌, true, false, List, ◌∷◌, length, take, drop, Option, None, is_none, sym, ap, ◌∙◌, arith, length-take-le}
 use Rattle.std.proofs.lemmas.List.{take-map}
 use Rattle.data_encoding_meaning.specs.declared.error.DecodeError.{DecodeError}
@@ -62,7 +62,7 @@ module _ (base : Base) (width : IsWidth base.width) (bytes : List ℕ) where
         let same = group_fault-strict base front in
         rw (strict_fault, short, bytes-positioned_from 0 front, same, sound)
 
-    -- and what means something begins with one
+    -- and what means something starts with one
     pub sound_run-first : is_sound_run base bytes ≡ true
         → group_fault base (take size front) ≡ None
     sound_run-first h =

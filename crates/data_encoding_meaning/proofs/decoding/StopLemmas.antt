@@ -1,4 +1,4 @@
--- Where a decoding stops: at the first faulty group.
+-- A decoding stops at the first faulty group.
 use Rattle.std.proofs.Common.{◌≡◌, ℕ, ◌+◌, ◌-◌, ◌%◌, ◌<◌, ◌≤◌, ◌==◌, Bool, true, false, not, cond, ◌&&◌, ◌||◌, nat_lt, List, [], ◌∷◌, ◌++◌, length, take, Option, Some, None, IsOkAnd, refl, sym, ap, ◌∙◌, subst, arith, length-take-le, ⊎_elim}
 use Rattle.std.proofs.lemmas.List.{length-drop, append-nil}
 use Rattle.std.proofs.Math.Nat.{mod_self}
@@ -68,7 +68,7 @@ kind-located : (group : List Positioned) (o : Option GroupFault) (error : Decode
 kind-located group None error other h = cc
 kind-located group (Some fault) error other h = kind_of _ error h other
 
--- So much of a text was decoded, and the next group is faulty.
+-- This much of a text was decoded, and the next group is faulty.
 pub record IsAtFault (base : Base) (text : List ℕ) (read written : ℕ) (output : List ℕ)
     (error : DecodeError) : Type 0 where
   pub width : IsWidth base.width
@@ -166,7 +166,7 @@ module _ {base : Base} {text : List ℕ} {read written : ℕ} {output : List ℕ
       (kept_in-stands base read at.stop (between read at.stop text) fault_inside.0
       (omega (arith, part_len, at.next.is_part.after))) fault_inside.1)
 
-  -- a decoding stops there, having read so far and written the bytes of that
+  -- a decoding stops there, having read this far and written the bytes of that
   pub stops : (new : List ℕ) (end count : ℕ) → read_len base text error ≡ end
       → end ≤ error.position → fault_of base (take end text) ≡ None → count ≤ length new
       → sound_bytes base (take end text) ≡ take count new
@@ -222,7 +222,7 @@ module _ {base : Base} {text : List ℕ} {read written : ℕ} {output : List ℕ
         (ap length empty) in
         omega (arith, left, group_len, at.next.is_part.after, at.next.is_part.within)
 
-    -- where nothing is ignored, that is no fault of a length
+    -- if nothing is ignored, that is no fault of a length
     pub kind-next : is_length_fault error.kind ≡ false
     kind-next =
         kind-valid (⊎_elim {C = is_valid_length base (length at.group) ≡ true}

@@ -1,4 +1,4 @@
--- The fault of a text without padding and ignored bytes is that of its bytes.
+-- The fault of a text without padding and ignored bytes follows from its bytes.
 use Rattle.std.proofs.Common.{◌≡◌, ◌↔◌, ℕ, ◌+◌, ◌-◌, ◌*◌, ◌/◌, ◌%◌, ◌<◌, ◌≤◌, ◌⊎◌, inl, inr, Bool, true, false, not, ◌&&◌, cond, List, [], ◌∷◌, ◌++◌, length, map, take, drop, Option, Some, None, refl, sym, ap, ◌∙◌, arith, length-append, take-append-drop, length-take-le, ⊎_elim}
 use Rattle.std.proofs.lemmas.Bool.{cases_lt}
 use Rattle.std.proofs.lemmas.Bool.Decides.{nat_tests}
@@ -36,7 +36,7 @@ abbrev or_later : Option ℕ → Option ℕ → Option ℕ
 or_later None later = later
 or_later (Some index) later = Some index
 
--- The first that passes a test, in a list that begins somewhere.
+-- The first that passes a test, in a list counted from a position.
 module _ {X : Type 0} (test : X → Bool) where
   from-later : (b : Bool) (start index : ℕ) (o p : Option ℕ) → o ≡ added start p
       → cond b (Some (start + index)) o ≡ added start (cond b (Some index) p)
@@ -99,14 +99,14 @@ from-map f test start [] = refl
 from-map f test start (x ∷ xs) =
     ap (cond (test (f x)) (Some start)) (from-map f test (start + 1) xs)
 
--- a place behind a front
+-- a position after a prefix
 drop-past : {X : Type 0} (front back : List X) (len count : ℕ) → length front ≡ len
     → drop (len + count) (front ++ back) ≡ drop count back
 drop-past front back len count same =
     ap (λ n. drop (n + count) (front ++ back)) (sym same) ∙ drop-append-add front back count
 
 module _ (base : Base) where
-  -- symbols alone have their bits
+  -- symbols have as many bits as they should
   symbols-long : (ms : List Character) → AllFail (λ m. not (is_symbol m)) ms
       → length (symbol_bits base ms) ≡ base.width * length ms
   symbols-long ms all =
@@ -120,12 +120,12 @@ module _ (base : Base) where
   fail-map [] h = tt
   fail-map (byte ∷ text) h = (h.0, fail-map text h.1)
 
-  -- bits of whole bytes leave nothing
+  -- bits of whole bytes leave no trailing bits
   trailing-whole : (ms : List Character) (whole : ℕ) → length (symbol_bits base ms) ≡ 8 * whole
       → trailing_bits base ms ≡ []
   trailing-whole ms whole len = drop_all _ (symbol_bits base ms) (omega (arith, len))
 
-  -- nor do they change what those behind them leave
+  -- nor do they change the trailing bits of what follows
   trailing-behind : (ms ns : List Character) (whole : ℕ)
       → length (symbol_bits base ms) ≡ 8 * whole
       → trailing_bits base (ms ++ ns) ≡ trailing_bits base ns
@@ -152,13 +152,13 @@ module _ (base : Base) where
         rw (trailing-whole ms whole long, and-false base.checks_trailing_bits),
       )
 
-  -- what is told of a text that begins somewhere
+  -- the fault that follows from the bytes of a text from a position on
   abbrev told_from : ℕ → List ℕ → Option DecodeError
   told_from start text =
       told_by (position_from (is_other base) start text) (leaves_bits base text)
       (start + length text)
 
-  -- what is told of whole groups, and of what follows them
+  -- that of whole groups, and of what follows them
   told-append : (start : ℕ) (text after : List ℕ) (whole : ℕ)
       → base.width * length text ≡ 8 * whole
       → told_from start (text ++ after)
@@ -180,7 +180,7 @@ module _ (base : Base) where
       by None p both here there middle end h = rw ((h refl).0, (h refl).1)
       by (Some index) p both here there middle end h = refl
 
-  -- Bytes in a row, that begin somewhere, are judged as they tell.
+  -- Consecutive bytes from a position on are judged as their fault says.
   module _ (start : ℕ) (text : List ℕ) (some : 0 < length text) where
     located-told : (o : Option ℕ) (leaves : Bool)
         → ((index : ℕ) → o ≡ Some index → index < length text)
@@ -231,7 +231,7 @@ valid-less =
     (λ len h v. grind (arith, nat_tests)) (λ len h v. grind (arith, nat_tests))
     (λ len h v. grind (arith, nat_tests)) (λ len h v. grind (arith, nat_tests))
 
--- where eight bits are whole symbols, the bits of a valid number are whole bytes
+-- if eight bits are whole symbols, the bits of a valid number are whole bytes
 whole-eight : (width : ℕ) → IsWidth width → 8 % width ≡ 0 → (len : ℕ)
     → is_valid_count width len ≡ true → width * len ≡ 8 * (width * len / 8)
 whole-eight =
@@ -252,7 +252,7 @@ module _ (base : Base) (width : IsWidth base.width) (unpadded : is_padded base �
   never_final : (group : List Positioned) → is_final base group ≡ false
   never_final group = ap (λ b. not b && list_any is_padding (meanings_in base group)) joins
 
-  -- the groups of a text that begins somewhere
+  -- the groups of a text from a position on
   groups-told : (text : List ℕ) (start : ℕ) → is_valid_count base.width (length text) ≡ true
       → first_after false base (runs size (positioned_from start text)) ≡ told_from base start text
   groups-told =
@@ -310,7 +310,7 @@ module _ (base : Base) (width : IsWidth base.width) (unpadded : is_padded base �
         rw (no_fault, filter-plain base none (positioned_from 0 text), groups-told text 0 valid)
         (λ i. told_by (first i) (leaves_bits base text) (begins i))
 
-    -- Where eight bits are whole symbols, none is left.
+    -- If eight bits are whole symbols, no bits are left.
     module _ (eight : 8 % base.width ≡ 0) where
       none-left : first_other base text ≡ None → leaves_bits base text ≡ false
       none-left alone =
@@ -329,7 +329,7 @@ module _ (base : Base) (width : IsWidth base.width) (unpadded : is_padded base �
 same_error : (error other : DecodeError) → Some error ≡ Some other → error ≡ other
 same_error error other h = cc
 
--- Where it is, by its kind.
+-- The position of the fault, by its kind.
 pub symbol-told : (o : Option ℕ) (leaves : Bool) (len index : ℕ)
     → (told_by o leaves len ≡ Some (record { position = index; kind = SymbolFault }))
     ↔ (o ≡ Some index)

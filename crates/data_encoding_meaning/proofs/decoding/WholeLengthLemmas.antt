@@ -45,7 +45,7 @@ module _ (base : Base) (width : IsWidth base.width) where
   pub most_bytes-few : (len : ℕ) → most_bytes base len ≤ len
   most_bytes-few len = grind (arith, lengths.padded_most len, lengths.plain_most len)
 
--- where texts may be concatenated, no group is final
+-- if texts may be concatenated, no group is final
 pub none_final-joined : (base : Base) → base.concatenates ≡ true → (gs : List (List Positioned))
     → list_any (is_final base) gs ≡ false
 none_final-joined base joins [] = refl

@@ -1,5 +1,5 @@
--- A piece that means data and is whole groups, behind whole groups: it is read at once. So is one
--- with a fault that no unfinished group has: it is that of the whole groups.
+-- A piece of whole groups that means data, after whole groups, is read at once. So is one with a
+-- fault that no unfinished group has, which is that of the whole groups.
 use Rattle.std.proofs.Common.{◌≡◌, ℕ, ◌⊎◌, ◌+◌, ◌%◌, ◌<◌, ◌==◌, Bool, true, false, not, ◌||◌, List, [], ◌∷◌, ◌++◌, length, map, take, Option, Some, None, is_some, inl, inr, refl, sym, ap, ◌∙◌, arith, length-append, ◌-◌, ◌*◌, ◌/◌, ⊎_elim, append-nil}
 use Rattle.std.proofs.lemmas.Bool.{false≢true}
 use Rattle.std.proofs.lemmas.List.Folds.{list_any-append}
@@ -28,7 +28,7 @@ use Rattle.std.proofs.lemmas.Bool.Decides.{nat_tests}
 use Rattle.data_encoding_meaning.proofs.decoding.WholeLengthLemmas.{none_final-joined}
 use Rattle.data_encoding_meaning.proofs.decoding.ResumeLemmas.{Means-partial}
 
--- where so few symbols mean no byte, they are no valid number
+-- if fewer symbols than a group mean no byte, they are not a valid number
 few-invalid : (width size count : ℕ) → width * (size - 1) / 8 ≡ 0 → 0 < count → count < size
     → is_valid_count width count ≡ false
 few-invalid width size count none some few = grind (arith, nat_tests)
@@ -86,7 +86,7 @@ module _ (base : Base) (width : IsWidth base.width) where
     abbrev further_on : Positioned → Positioned
     further_on k = record { position = len + k.position; byte = k.byte }
 
-    -- the whole groups of the piece, where they stand
+    -- the whole groups of the piece, at their positions in the text
     abbrev others : List (List Positioned)
     others = map (moved len) (whole_groups base piece)
 
@@ -108,7 +108,7 @@ module _ (base : Base) (width : IsWidth base.width) where
     before_sound : AreSound base false before false
     before_sound = sound base width text piece len [] false read
 
-    -- what is kept of the piece alone, further on
+    -- what is kept of the piece alone, with the length before it added
     HasRead-behind : (fault : Option DecodeError) (held : List Positioned) (ended : Bool)
         → HasRead base piece (length piece) fault held ended
         → HasRead base (text ++ piece) (len + length piece) (further len fault) (moved len held)
@@ -137,7 +137,7 @@ module _ (base : Base) (width : IsWidth base.width) where
         rw (groups_are, bytes-behind base false false before others before_sound)
         (rw (sound-moved base width len false (whole_groups base piece) few))
 
-    -- where it means data and is whole groups
+    -- if it means data and is whole groups
     pub ReadsSound-whole : (bytes : List ℕ) → Means base piece bytes
         → length (kept base piece) % size ≡ 0
         → HasRead base (text ++ piece) (len + length piece) None []
@@ -156,7 +156,7 @@ module _ (base : Base) (width : IsWidth base.width) where
           rw (whole_bytes-behind, all.0, sound_bytes-Means base width piece bytes means),
         )
 
-    -- where it has the fault of a whole group
+    -- if it has the fault of a whole group
     pub ReadsFaulty-whole : (bytes : List ℕ) (partial : DecodePartial)
         → partial_of base piece ≡ Some partial
         → IsOfWholeGroup base (length piece) partial.error.kind
@@ -182,7 +182,7 @@ module _ (base : Base) (width : IsWidth base.width) where
               (rw (← read.2 of_whole.not_length, all, append-nil (whole_bytes base piece))),
         )
 
--- Where a text that means data is whole groups.
+-- When a text that means data is whole groups.
 module _ (base : Base) (ruled : IsRuled base) (piece bytes : List ℕ) where
   abbrev IsWholeBy : Type 0
   IsWholeBy =

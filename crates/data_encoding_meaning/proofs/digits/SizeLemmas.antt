@@ -54,7 +54,7 @@ pub IsGroup-same : {w b s width bytes symbols : ℕ} → width ≡ w → bytes �
     → IsGroup w b s → IsGroup width bytes symbols
 IsGroup-same p q r group = rw (p, q, r) group
 
--- and the room for so many groups is the same
+-- and the room for this many groups is the same
 pub room-same : {b s bytes symbols : ℕ} (n m : ℕ) → bytes ≡ b → symbols ≡ s
     → n / s * b ≤ m → n / symbols * bytes ≤ m
 room-same n m q r room = rw (q, r) room

@@ -30,7 +30,7 @@ group_symbols-pos =
     by_width (λ w. 0 < group_symbols w) (omega arith) (omega arith) (omega arith) (omega arith)
     (omega arith) (omega arith)
 
--- so often is their number doubled until the symbols fill their table
+-- how many times the number of symbols is doubled until they fill their table
 pub times_doubled : (width : ℕ) → IsWidth width → 2 ^ (8 - width) ≡ 256 / 2 ^ width
 times_doubled = by_width (λ w. 2 ^ (8 - w) ≡ 256 / 2 ^ w) refl refl refl refl refl refl
 

@@ -1,4 +1,5 @@
--- A group of any base: where its fault is, and that it means something exactly where it has none.
+-- A group of any base: the index of its fault, and that it means something if and only if it has
+-- none.
 use Rattle.std.proofs.Common.{◌≡◌, ℕ, zero, suc, ◌+◌, ◌*◌, ◌%◌, ◌<◌, ◌≤◌, ◌==◌, nat_lt, Bool, true, false, not, cond, ◌||◌, List, [], ◌∷◌, ◌++◌, length, map, take, drop, replicate, Option, Some, None, refl, sym, ap, ◌∙◌, subst, arith, length-append, take-append-drop, length-take-le}
 use Rattle.std.proofs.lemmas.Bool.Decides.{nat_tests}
 use Rattle.std.proofs.lemmas.List.{length-replicate, take_at, append-nil}
@@ -67,7 +68,7 @@ pub located-inside : (group : List Positioned) (o : Option GroupFault) (error : 
 located-inside group None error inside e = cc
 located-inside group (Some fault) error inside e = (fault.index, inside, cc)
 
--- or further on, where each byte of one group is so far behind that of the other
+-- or with an offset, if each byte of one group is that far after that of the other
 pub located-further : (ks js : List Positioned) (count : ℕ) (o : Option GroupFault)
     → IsInside (length ks) o
     → ((index : ℕ) → index < length ks → position_of js index ≡ count + position_of ks index)
@@ -75,7 +76,7 @@ pub located-further : (ks js : List Positioned) (count : ℕ) (o : Option GroupF
 located-further ks js count None inside behind = refl
 located-further ks js count (Some fault) inside behind = rw (behind fault.index inside)
 
--- symbols alone are a group: a whole one, or any where there is no padding
+-- symbols are a group: a whole one, or any if there is no padding
 pub GroupMeans-symbols : (base : Base) (group : List Character) (bytes : List ℕ)
     → 0 < length group → (is_padded base ≡ true → length group ≡ group_symbols base.width)
     → PlainMeans base group bytes → GroupMeans base group bytes
@@ -89,7 +90,7 @@ GroupMeans-symbols base group bytes some whole means = record {
   means = means;
 }
 
--- and where there is no padding, a group is symbols alone
+-- and if there is no padding, a group is symbols only
 pub GroupMeans-plain : (base : Base) (group : List Character) (bytes : List ℕ)
     → is_padded base ≡ false → GroupMeans base group bytes → PlainMeans base group bytes
 GroupMeans-plain base group bytes unpadded means =
@@ -105,7 +106,7 @@ pub all_padding : (meanings : List Character) → AllSo is_padding meanings
 all_padding [] h = refl
 all_padding (m ∷ meanings) h = λ i. padding_only m h.0 i ∷ all_padding meanings h.1 i
 
--- and is found where there is some
+-- and is found if there is some
 pub any_padding : (count : ℕ) → list_any is_padding (replicate count Padding) ≡ nat_lt 0 count
 any_padding zero = refl
 any_padding (suc count) = grind (arith, nat_tests)
@@ -125,7 +126,7 @@ pub bytes_before_padding : (base : Base) (symbols : List Character) (count : ℕ
     → symbol_bytes base (symbols ++ replicate count Padding) ≡ symbol_bytes base symbols
 bytes_before_padding base symbols count = simp (filter_map-append, no_values, append-nil)
 
--- the symbols of a group, and the padding behind them
+-- the symbols of a group, and the padding after them
 padding-behind : (group : List Character)
     → group ≡ take (count_before_padding group) group
     ++ replicate (length (drop (count_before_padding group) group)) Padding
@@ -152,7 +153,7 @@ module _ (base : Base) (group : List Character) (bytes : List ℕ)
         (any_padding means.padding)
 
 module _ (base : Base) (width : IsWidth base.width) (group : List Character) where
-  -- one with no fault means its bytes
+  -- a group without a fault means its bytes
   pub GroupMeans-sound : 0 < length group → length group ≤ group_symbols base.width
       → character_fault base group ≡ None → GroupMeans base group (symbol_bytes base group)
   GroupMeans-sound some few = by (is_padded base) refl where

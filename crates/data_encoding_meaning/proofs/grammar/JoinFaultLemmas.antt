@@ -1,4 +1,4 @@
--- The fault of a text behind one that means bytes.
+-- The fault of a text that follows one that means bytes.
 use Rattle.std.proofs.Common.{◌≡◌, ℕ, zero, suc, ◌+◌, ◌*◌, ◌/◌, ◌%◌, ◌<◌, ◌≤◌, Bool, true, false, List, [], ◌∷◌, ◌++◌, map, length, Option, refl, sym, ap, ◌∙◌, arith, length-append}
 use Rattle.std.specs.Prelude.{flat_map}
 use Rattle.std.specs.List.{AllByRecursion}
@@ -21,7 +21,7 @@ use Rattle.data_encoding_meaning.proofs.lists.RunLemmas.{few_runs, runs-join, ru
 use Rattle.data_encoding_meaning.proofs.judgement.RuleLemmas.{IsRuled}
 use Rattle.data_encoding_meaning.proofs.grammar.LengthLemmas.{widths}
 
--- the same bytes, this many positions further on
+-- the same bytes, with their positions increased by this many
 abbrev pub moved : ℕ → List Positioned → List Positioned
 moved count ks = map (λ k. record { position = count + k.position; byte = k.byte }) ks
 
@@ -46,8 +46,8 @@ further-or_else : (count : ℕ) (o p : Option DecodeError)
     → or_else (further count o) (further count p) ≡ further count (or_else o p)
 further-or_else count o p = grind arith
 
--- What stands behind whole groups is as valid as alone: its bits and the greatest valid count, and
--- the part of a group and the whole groups.
+-- What follows whole groups is as valid as it is alone: its bits and the greatest valid count, and
+-- the rest of a group and the whole groups.
 is_behind : (width : ℕ) → IsWidth width → (m n : ℕ) → m % group_symbols width ≡ 0
     → (width * (m + n) % 8 ≡ width * n % 8)
     × (greatest_valid_count width (m + n) ≡ m + greatest_valid_count width n)
@@ -71,7 +71,7 @@ module _ (base : Base) (width : IsWidth base.width) where
       let is = λ (none : ignores_some base ≡ false). is_behind base.width width m n (whole none) in
       grind (arith, is)
 
-  -- the kept bytes of a part that stands further on
+  -- the kept bytes of a piece at a later position
   pub kept_in-moved : (count start : ℕ) (part : List ℕ)
       → kept_in base (count + start) part ≡ moved count (kept_in base start part)
   kept_in-moved count start part =
@@ -138,7 +138,7 @@ module _ (base : Base) (width : IsWidth base.width) (text after : List ℕ)
       (rw (part, runs-map size _ (kept base after) pos))
 
   module _ (ended : Bool) (sound : AreSound base false (groups base text) ended) where
-    -- its fault, as far on as the first text is long
+    -- its fault, with the length of the first text added
     pub fault-after_whole : fault_of base (text ++ after)
         ≡ further count (or_else (length_fault base (length after))
         (first_after ended base (groups base after)))

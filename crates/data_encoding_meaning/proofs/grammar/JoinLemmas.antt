@@ -1,4 +1,4 @@
--- Texts one after the other.
+-- Texts one after another.
 use Rattle.std.proofs.Common.{◌≡◌, ℕ, ◌⊎◌, flat_map, ◌+◌, ◌%◌, Bool, true, false, not, ◌&&◌, List, [], ◌∷◌, ◌++◌, length, is_some, inl, inr, sym, ap, ◌∙◌, arith, append_assoc, map}
 use Rattle.std.proofs.Math.Nat.{mul-mod_left}
 use Rattle.std.proofs.lemmas.List.Elements.{All-filter, All-map, recursion_from_All}
@@ -50,7 +50,7 @@ module _ (base : Base) (ruled : IsRuled base) where
     GroupsMean-append gs hs first.1 more none.1 first.5 second,
   )
 
-  -- no group is final where texts concatenate, or where none holds padding
+  -- no group is final if texts concatenate, or if none has padding
   never_final : base.concatenates ≡ true → (gs : List (List Positioned))
       → AllFail (is_final base) gs
   never_final joins [] = tt
@@ -117,7 +117,7 @@ module _ (base : Base) (ruled : IsRuled base) where
         rw (← (length-meanings base (kept base text)))
         (grind (arith, nat_tests, widths base.width width, count, symbols.rest_is_short))
 
-    -- where another text may follow, the groups are whole and none is final
+    -- if another text may follow, the groups are whole and none is final
     pub followed : MayBeFollowed base text → Means base text bytes
         → (length (kept base text) % size ≡ 0) × AllFail (is_final base) (groups base text)
     followed (inl follows) means = (whole-padded follows.0 means, none_final follows.1)

@@ -1,4 +1,4 @@
--- The bytes of a text that are not ignored, part by part, and where they stand.
+-- The bytes of a text that are not ignored, piece by piece, and their positions.
 use Rattle.std.proofs.Common.{◌≡◌, ℕ, ◌+◌, ◌-◌, ◌<◌, ◌≤◌, List, [], ◌∷◌, ◌++◌, length, take, drop, refl, ◌∙◌, arith, take-append-drop, length-take-le}
 use Rattle.std.proofs.lemmas.List.{length-drop, length-reverse, reverse-append, drop-drop, drop_all}
 use Rattle.std.proofs.lemmas.List.Elements.{filter-append, All-filter, All-from_recursion, All-get_or}
@@ -10,7 +10,7 @@ use Rattle.data_encoding_meaning.specs.decoding.Fault.{position_of}
 use Rattle.data_encoding_meaning.specs.decoding.Partial.{position_after}
 use Rattle.data_encoding_meaning.proofs.grammar.PositionLemmas.{positioned_from-append}
 
--- the part of a text between two positions
+-- the bytes of a text between two positions
 abbrev pub between : ℕ → ℕ → List ℕ → List ℕ
 between read stop text = take (stop - read) (drop read text)
 
@@ -70,7 +70,7 @@ position_after-positioned start (byte ∷ other ∷ part) h =
     (omega arith)
     ∙ position_after-positioned (start + 1) (other ∷ part) (omega arith) ∙ omega arith
 
--- each member stands in its part
+-- each position is in its piece
 abbrev StandsIn : ℕ → ℕ → Positioned → Type 0
 StandsIn start stop k = (start ≤ k.position) × (k.position < stop)
 

@@ -66,7 +66,7 @@ pub valid-whole : (base : Base) (len : ℕ) → 0 < len → is_valid_length base
 valid-whole base len some valid =
     grind (arith, nat_tests, mod-eq_of_lt)
 
--- The bits of symbols are whole bytes exactly where their groups are whole.
+-- The bits of symbols are whole bytes if and only if their groups are whole.
 pub whole_bits : (width : ℕ) → IsWidth width → (len : ℕ)
     → (width * len % 8 == 0) ≡ (len % group_symbols width == 0)
 whole_bits width is len = grind (arith, nat_tests, widths width is)

@@ -1,4 +1,4 @@
--- A text means something exactly where it has no fault, and then one list of bytes.
+-- A text means something if and only if it has no fault, and then one list of bytes.
 use Rattle.std.proofs.Common.{◌≡◌, ℕ, ◌*◌, ◌<◌, ◌≤◌, Bool, true, false, List, [], ◌∷◌, length, Some, None, IsOkAnd, refl, sym, ap, arith, length-append, map}
 use Rattle.std.proofs.Math.Nat.{mul-mod_left, mul-le-mul_right, mul-le-mul_left}
 use Rattle.std.specs.Prelude.{flat_map}
@@ -19,7 +19,7 @@ use Rattle.data_encoding_meaning.proofs.grammar.PositionLemmas.{length-kept, len
 use Rattle.data_encoding_meaning.proofs.grammar.LengthLemmas.{length_fault-none, whole-length}
 use Rattle.data_encoding_meaning.proofs.grammar.SoundLemmas.{AreSound-none, ends_after, fault_after-none, neither_fault, first-none, sound-all}
 
--- none follows one that ended
+-- none follows a final one
 none_follow : (base : Base) (ended : Bool) (gs : List (List Positioned))
     → AreSound base true gs ended → gs ≡ []
 none_follow base ended [] h = refl
@@ -57,7 +57,7 @@ module _ (base : Base) (width : IsWidth base.width) where
         cc (GroupMeans-bytes base width (meanings_in base g) h.0 h.3, others.1),
       )
 
-  -- Where there is padding, they are whole, and each means at most the bytes of a whole group.
+  -- If there is padding, they are whole, and each means at most the bytes of a whole group.
   module _ (padded : is_padded base ≡ true) where
     most-GroupMeans : (g : List Character) (bytes : List ℕ) → GroupMeans base g bytes
         → length bytes ≤ group_bytes base.width

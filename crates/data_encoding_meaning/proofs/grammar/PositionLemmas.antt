@@ -1,4 +1,4 @@
--- Characters with their places.
+-- Characters with their positions.
 use Rattle.std.proofs.Common.{◌≡◌, ℕ, zero, suc, ◌+◌, ◌<◌, ◌≤◌, false, not, List, [], ◌∷◌, ◌++◌, length, map, get_or, refl, ap, ◌∙◌, arith}
 use Rattle.std.proofs.lemmas.List.{length-map, map-append}
 use Rattle.std.proofs.lemmas.List.FromFn.{length-enumerate_from}
@@ -43,7 +43,7 @@ runs-meanings base size ks some =
     rw (runs-map size (meaning base) (bytes_in ks) some, runs-map size byte_of ks some)
     (map-twice (map (meaning base)) (map byte_of) (runs size ks))
 
--- the characters of a group are its bytes, each at its place
+-- the characters of a group are its bytes, each with its position
 pub bytes-positioned_from : (place : ℕ) (group : List ℕ)
     → bytes_in (positioned_from place group) ≡ group
 bytes-positioned_from place [] = refl
@@ -66,7 +66,7 @@ not_ignored_at [] h byte = refl
 not_ignored_at (m ∷ meanings) h zero = h.0
 not_ignored_at (m ∷ meanings) h (suc byte) = not_ignored_at meanings h.1 byte
 
--- where nothing is ignored, no byte is
+-- if nothing is ignored, no byte is
 pub never_ignored : (base : Base) → ignores_some base ≡ false → (byte : ℕ)
     → is_ignored (meaning base byte) ≡ false
 never_ignored base h = not_ignored_at base.meanings (AllFail-list_any is_ignored base.meanings h)

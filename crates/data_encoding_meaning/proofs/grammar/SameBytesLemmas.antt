@@ -1,4 +1,5 @@
--- What a text means is decided by what its bytes that are not ignored mean, wherever they stand.
+-- What a text means follows from what its bytes that are not ignored mean, whatever their
+-- positions.
 use Rattle.std.proofs.Common.{◌≡◌, ℕ, Bool, not, List, map, ap, ◌∙◌, subst}
 use Rattle.std.specs.List.{filter}
 use Rattle.data_encoding_meaning.specs.text.Base.{Base, IsWidth, meaning, is_ignored, group_symbols}
@@ -8,7 +9,7 @@ use Rattle.data_encoding_meaning.proofs.digits.WidthLemmas.{group_symbols-pos}
 use Rattle.data_encoding_meaning.proofs.grammar.PositionLemmas.{bytes-positioned_from, runs-meanings}
 use Rattle.data_encoding_meaning.proofs.lists.ListLemmas.{map-filter}
 
--- the bytes that are kept of a part, wherever it stands
+-- the bytes that are kept, whatever their positions
 pub bytes-kept_in : (base : Base) (start : ℕ) (part : List ℕ)
     → bytes_in (kept_in base start part)
     ≡ filter (λ byte. not (is_ignored (meaning base byte))) part

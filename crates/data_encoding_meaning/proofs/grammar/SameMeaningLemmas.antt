@@ -19,7 +19,7 @@ use Rattle.data_encoding_meaning.proofs.grammar.PositionLemmas.{runs-meanings}
 use Rattle.data_encoding_meaning.proofs.lists.ListLemmas.{map-filter}
 use Rattle.data_encoding_meaning.proofs.lists.RunLemmas.{runs-map}
 
--- Members that stand at the same positions have their faults there.
+-- Members with the same positions have their faults there.
 module _ (ks js : List Positioned)
     (stand : map (λ (k : Positioned). k.position) ks ≡ map (λ (k : Positioned). k.position) js)
   where

@@ -1,4 +1,4 @@
--- Groups without a fault, one after the other.
+-- Groups without a fault, one after another.
 use Rattle.std.proofs.Common.{◌≡◌, ℕ, Bool, false, not, ◌&&◌, List, [], ◌∷◌, ◌++◌, map, Option, None, refl, arith}
 use Rattle.std.proofs.lemmas.List.{append-nil}
 use Rattle.std.proofs.lemmas.List.Concat.{flat_map-append}
@@ -14,18 +14,18 @@ use Rattle.data_encoding_meaning.specs.decoding.Fault.{bytes_of_group, fault_aft
 use Rattle.data_encoding_meaning.proofs.lists.ListLemmas.{list_any-none}
 use Rattle.data_encoding_meaning.proofs.grammar.GroupLemmas.{symbols_alone}
 
--- whether one ended after them, sound or not
+-- whether one is final after them, sound or not
 abbrev pub ends_after : Base → Bool → List (List Positioned) → Bool
 ends_after base begun [] = begun
 ends_after base begun (group ∷ others) = ends_after base (is_final base group) others
 
--- one without a fault stands after none that ended
+-- a group without a fault follows none that is final
 pub fault_after-none : (base : Base) (begun : Bool) (group : List Positioned)
     → fault_after begun base group ≡ None
     → (begun ≡ false) × (group_fault base (bytes_in group) ≡ None)
 fault_after-none base begun group h = (grind arith, grind arith)
 
--- symbols alone end nothing
+-- symbols are not final
 pub symbols-not_final : (base : Base) (group : List Character) (values : List ℕ)
     → group ≡ map (λ value. Symbol value) values
     → (not base.concatenates && list_any is_padding group) ≡ false
@@ -76,7 +76,7 @@ module _ (base : Base) where
       → AreSound base begun groups ended → sound_after begun base groups ≡ groups
   sound-all begun ended groups h = simp append-nil at (sound-AreSound begun ended groups [] h)
 
-  -- groups are sound where none has a fault
+  -- groups are sound if none has a fault
   pub AreSound-none : (begun : Bool) (groups : List (List Positioned))
       → first_after begun base groups ≡ None
       → AreSound base begun groups (ends_after base begun groups)

@@ -1,4 +1,4 @@
--- What a text means is bytes, and how many, where there is no padding and no ignored byte.
+-- If there is no padding and no ignored byte, a text means bytes, and how many.
 use Rattle.std.proofs.Common.{◌≡◌, ℕ, ◌*◌, false, ◌<◌, ◌≤◌, List, [], ◌∷◌, length, take, All, Option, Some, None, is_some, Ok, refl, sym, ap, arith, map, slice_index, length-take-le}
 use Rattle.std.proofs.lemmas.List.Elements.{All-append, All-from_recursion}
 use Rattle.data_encoding_meaning.specs.declared.encoding.Character.{Character}
@@ -16,7 +16,7 @@ use Rattle.data_encoding_meaning.proofs.lists.RunLemmas.{run_count}
 use Rattle.data_encoding_meaning.proofs.judgement.RuleLemmas.{IsRuled, IsRuledWrapping}
 use Rattle.data_encoding_meaning.proofs.text.PaddedTextLemmas.{length-unpadded}
 
--- where no byte is ignored, there are no lines
+-- if no byte is ignored, there are no lines
 pub no_lines-plain : (base : Base) → IsRuled base → ignores_some base ≡ false
     → base.wrapping ≡ None
 no_lines-plain base ruled none = by base.wrapping ruled.wrapping where

@@ -33,7 +33,7 @@ module _ (base : Base) (width : IsWidth base.width) where
   PlainMeans-nil : PlainMeans base [] []
   PlainMeans-nil = PlainMeans-sound base width [] (grind (arith, nat_tests))
 
-  -- symbols of whole bytes, and others behind them, mean their bytes joined
+  -- symbols of whole bytes, followed by others, mean their bytes joined
   pub PlainMeans-append : (group others : List Character) (bytes more : List ℕ) (whole : ℕ)
       → base.width * length group ≡ 8 * whole → PlainMeans base group bytes
       → PlainMeans base others more → PlainMeans base (group ++ others) (bytes ++ more)

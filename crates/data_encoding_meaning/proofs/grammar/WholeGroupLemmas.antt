@@ -1,4 +1,4 @@
--- Whole groups of symbols alone.
+-- Whole groups of symbols only.
 use Rattle.std.proofs.Common.{◌≡◌, ℕ, zero, suc, ◌+◌, ◌*◌, true, false, not, List, [], ◌∷◌, length, map, take, drop, None, refl, sym, ap, ◌∙◌, arith, take-append-drop, length-take-le}
 use Rattle.std.proofs.Math.Nat.{zero-mul, suc-mul}
 use Rattle.std.proofs.lemmas.List.{length-map, length-drop, drop_all, nil_from_length}
@@ -108,7 +108,7 @@ AreSound-symbols base width (suc count) ks len symbols =
           (AreSound-symbols base width count back back_len parts.1),
     )
 
--- the bytes of a run are those of its groups, wherever it stands
+-- the bytes of a run are those of its groups, whatever its position
 pub run_bytes-positioned : (base : Base) → IsWidth base.width → (start : ℕ) (part : List ℕ)
     → run_bytes base part
     ≡ flat_map (bytes_of_group base) (runs (group_symbols base.width) (positioned_from start part))

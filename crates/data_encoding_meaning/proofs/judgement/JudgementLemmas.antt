@@ -27,7 +27,7 @@ pub after-ok : (r : Judged) (meanings : List Character) (js : List Judgement) �
     → meanings_after r js ≡ meanings_after (Ok meanings) js
 after-ok r meanings js h = ap (λ s. meanings_after s js) h
 
--- the meaning was there, or is written where nothing was
+-- the meaning was there, or is written if there was none
 abbrev IsWritten : List Character → ℕ → Character → List Character → Type 0
 IsWritten before byte m after =
     ((get_or before byte Invalid ≡ m) × (after ≡ before))

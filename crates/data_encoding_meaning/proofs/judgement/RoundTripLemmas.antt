@@ -1,4 +1,4 @@
--- The specification of a base yields it again.
+-- A base is built again from its own specification.
 use Rattle.std.proofs.Common.{◌≡◌, ◌≢◌, ◌⊎◌, ◌↔◌, ℕ, suc, ◌+◌, ◌%◌, ◌<◌, ◌≤◌, ◌==◌, Bool, true, false, not, nat_le, nat_lt, cond, if◌then◌else◌, List, [], ◌∷◌, length, map, get_or, Option, Some, None, unwrap_or, Ok, Err, refl, sym, ap, ◌∙◌, subst, arith, inl, inr, ⊎_elim, get_or-set_same, get_or-set_other}
 use Rattle.std.proofs.lemmas.Bool.{and_from, false≢true, cases_eq, cases_lt, eq-eqb, ltb-true, lt-ltb, lt-leb}
 use Rattle.std.proofs.lemmas.List.{ext_get_or, get_or-replicate, get_or_past, length-map}
@@ -15,7 +15,7 @@ use Rattle.data_encoding_meaning.proofs.judgement.JudgementLemmas.{AreKept, AreK
 use Rattle.data_encoding_meaning.proofs.lists.EachLemmas.{all_parts, all_in_range, at_in_range, passes_at}
 use Rattle.data_encoding_meaning.proofs.judgement.RuleLemmas.{IsRuled, IsRuledPadding, IsRuledWrapping, base_of-width, first_judgements, from_parts, ignored-held, is_no_padding, is_within, IsRuled-yield, parts_of, width_of-power}
 
--- A judgement agrees with the meanings in the end, where what is translated to is known before.
+-- A judgement agrees with the meanings in the end, if what is translated to is known before.
 abbrev Agrees : List Character → List Character → Judgement → Type 0
 Agrees target known (Require holds refusal) = holds ≡ true
 Agrees target known (Define byte m) = (byte < 128) × (get_or target byte Invalid ≡ m)
@@ -280,7 +280,7 @@ module _ (base : Base) (ruled : IsRuled base) where
       (ignored-held meanings (fields_of base).ignored all.2) (omega arith) (omega arith)
       (ap is_ignored is)).1
 
-  -- a translated byte agrees, once what it stands for is known
+  -- a translated byte agrees, once what it is translated to is known
   pair-agrees : (byte : ℕ) → byte < 128 → (m : Character) → meaning base byte ≡ m
       → is_translated base byte (own_character base m) ≡ true
       → Agrees base.meanings halfway (Translate byte (unwrap_or (own_character base m) 0))

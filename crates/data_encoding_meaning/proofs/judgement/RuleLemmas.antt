@@ -1,4 +1,4 @@
--- The rules that a base keeps, and that each yield of a specification keeps them.
+-- The rules that a base keeps, and that each base built from a specification keeps them.
 use Rattle.std.proofs.Common.{◌≡◌, ℕ, zero, suc, ◌%◌, ◌^◌, ◌<◌, ◌==◌, Bool, true, false, not, ◌&&◌, ◌||◌, nat_lt, cond, List, [], ◌∷◌, ◌++◌, length, map, get_or, Option, Some, None, is_none, Result, Ok, Err, refl, sym, ap, ◌∙◌, subst, arith}
 use Rattle.std.proofs.lemmas.Bool.{and_parts, ltb-true, eqb-true, lt-ltb}
 use Rattle.std.proofs.lemmas.Bool.Decides.{nat_tests}
@@ -23,13 +23,13 @@ abbrev pub is_no_padding : Character → Bool
 is_no_padding Padding = false
 is_no_padding _ = true
 
--- no byte means padding; or this one does, and eight bits are no whole symbols
+-- no byte means padding; or this one does, and eight bits are not whole symbols
 abbrev pub IsRuledPadding : Base → Option ℕ → Type 0
 IsRuledPadding base None = list_all is_no_padding base.meanings ≡ true
 IsRuledPadding base (Some character) =
     (character < 128) × (meaning base character ≡ Padding) × (not (8 % base.width == 0) ≡ true)
 
--- where eight bits are whole symbols there is no padding
+-- if eight bits are whole symbols there is no padding
 pub whole-unpadded : (base : Base) (o : Option ℕ) → IsRuledPadding base o → 8 % base.width ≡ 0
     → o ≡ None
 whole-unpadded base None is divides = refl
@@ -87,7 +87,7 @@ pub base_of-width : (fields : Fields) (width : ℕ) → width_of (length fields.
 base_of-width fields zero h some = absurd (omega (arith, some))
 base_of-width fields (suc n) h some = ap (λ o. base_by o fields) h
 
--- the base of these fields, where the bytes mean this
+-- the base of these fields, if the bytes mean this
 abbrev pub base_from : ℕ → Fields → List Character → Base
 base_from width fields meanings = record {
   width = width;
@@ -102,7 +102,7 @@ base_from width fields meanings = record {
       (Some (record { column = fields.column; separator = fields.separator })) None;
 }
 
--- What a yield comes from.
+-- What a base is built from.
 record IsYield (fields : Fields) (base : Base) : Type 0 where
   pub width : ℕ
   pub meanings : List Character
@@ -140,7 +140,7 @@ first_judgements width fields =
     ++ ignored_judgements fields.ignored
     ++ wrapping_judgements width fields.column fields.separator
 
--- the judgements part by part
+-- the judgements, list by list
 abbrev pub AllParts : (Judgement → Type 0) → ℕ → Fields → Type 0
 AllParts P width fields =
     AllByRecursion P (symbol_judgements 0 fields.symbols)
@@ -300,7 +300,7 @@ module _ (width : ℕ) (fields : Fields) (meanings : List Character)
         wrapping = ruled-wrapping (wraps fields.column fields.separator) refl (held).3;
       }
 
--- each yield keeps the rules
+-- each base that is built keeps the rules
 pub IsRuled-yield : (fields : Fields) (base : Base) → base_of fields ≡ Ok base → IsRuled base
 IsRuled-yield fields base h =
     let is = by-ok (width_of (length fields.symbols)) fields base refl h in

@@ -74,7 +74,7 @@ module _ (base : Base) (symbols : (value : ℕ) → symbol base value < 128)
   own-ascii Ignored = omega arith
   own-ascii Invalid = omega arith
 
-  -- what bytes stand for is ASCII
+  -- what bytes are translated to is ASCII
   pub owns-ascii : (bytes : List ℕ)
       → list_all (λ byte. nat_lt byte 128) (map (own_byte base) bytes) ≡ true
   owns-ascii [] = refl

@@ -1,4 +1,5 @@
--- What is so of the base that fields are computed to have is so of each base that they yield.
+-- What holds for the base that fields are computed to have holds for each base that is built from
+-- them.
 use Rattle.std.proofs.Common.{◌≡◌, Bool, true, false, List, [], ◌∷◌, Result, Ok, Err, All, sym, ap, ◌∙◌, subst}
 use Rattle.std.proofs.lemmas.List.Elements.{All-from_recursion}
 use Rattle.std.specs.Cmp.{first_so, second_so}
@@ -9,7 +10,7 @@ use Rattle.data_encoding_meaning.specs.laws.Eighteen.{Yields}
 use Rattle.data_encoding_meaning.specs.specification.Fields.{Fields, base_of}
 use Rattle.data_encoding_meaning.proofs.judgement.RuleLemmas.{IsRuled, IsRuled-yield}
 
--- There is a base, and it is so.
+-- There is a base, and the property holds for it.
 abbrev pub IsOfBase : (Base → Type 0) → Result Base Refusal → Type 0
 IsOfBase P (Ok base) = P base
 IsOfBase P (Err refusal) = ⊥

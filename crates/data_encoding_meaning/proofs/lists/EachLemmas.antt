@@ -9,7 +9,7 @@ use Rattle.std.proofs.lemmas.List.Elements.{All-from_get_or, All-from_recursion,
 use Rattle.std.proofs.lemmas.List.Folds.{list_any_none}
 use Rattle.std.proofs.lemmas.List.Sums.{AllPass-from_list_all, list_all-from_AllPass}
 
--- at one place
+-- at one index
 pub all-at : (P : ℕ → Type 0) (xs : List ℕ) → AllByRecursion P xs → (k : ℕ) → k < length xs
     → P (slice_index xs k)
 all-at P [] all k h = absurd (omega (arith, h))
@@ -38,7 +38,7 @@ list_all-set test xs i y h k =
     list_all-from_AllPass test (set xs i y)
     (All-set (λ x. test x ≡ true) xs i y h (AllPass-from_list_all test xs k))
 
--- where each passes at its place
+-- if each passes at its index
 pub list_all-places : {X : Type 0} (test : X → Bool) (xs : List X) (d : X)
     → ((i : ℕ) → i < length xs → test (get_or xs i d) ≡ true) → list_all test xs ≡ true
 list_all-places test xs d h =

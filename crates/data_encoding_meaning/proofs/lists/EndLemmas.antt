@@ -50,7 +50,7 @@ take_while-joined test (x ∷ xs) ys h k =
     ∙ ap (λ b. cond b (x ∷ take_while test (xs ++ ys)) []) h.0
     ∙ ap (λ l. x ∷ l) (take_while-joined test xs ys h.1 k)
 
--- how many stand before that end
+-- how many come before that end
 abbrev pub count_before_end : {X : Type 0} → (X → Bool) → List X → ℕ
 count_before_end test xs = length xs - length (take_while test (reverse xs))
 
@@ -64,7 +64,7 @@ count_before_end-map test f xs =
     ∙ length-map (take_while (λ x. test (f x)) (reverse xs)) f in
     (λ i. length-map xs f i - passed i)
 
--- what stands from there on passes
+-- what follows from there on passes
 pub end-passes : {X : Type 0} (test : X → Bool) (xs : List X)
     → AllSo test (drop (count_before_end test xs) xs)
 end-passes test xs =
@@ -86,7 +86,7 @@ end-passes test xs =
     ∙ drop_at (reverse others) (reverse passed) (length xs - length passed) before))
     (all_reversed (λ x. test x ≡ true) passed (take_while-passes test (reverse xs)))
 
--- where all at the end pass, and none before it, they are that end
+-- if all at the end pass, and none before it, they are that end
 pub count_before_end-is : {X : Type 0} (test : X → Bool) (xs front back : List X)
     → xs ≡ front ++ back → AllFail test front → AllSo test back
     → count_before_end test xs ≡ length front
@@ -98,7 +98,7 @@ count_before_end-is test xs front back is h k =
     (λ i. length (is i) - length (passed i))
     ∙ omega (arith, length-append front back, length-reverse back)
 
--- where each from one on passes, and the one before it fails, that one begins the end
+-- if each from one on passes, and the one before it fails, that one is the first of the end
 pub count_before_end-at : {X : Type 0} (test : X → Bool) (xs : List X) (d : X) (count : ℕ)
     → count ≤ length xs
     → ((k : ℕ) → count ≤ k → k < length xs → test (get_or xs k d) ≡ true)

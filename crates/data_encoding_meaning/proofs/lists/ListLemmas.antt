@@ -1,4 +1,4 @@
--- Lists: what is found first, what is left out, and parts that are joined.
+-- Lists: what is found first, what is left out, and lists that are joined.
 use Rattle.std.proofs.Common.{◌≡◌, ℕ, suc, ◌+◌, ◌≤◌, Bool, true, false, not, cond, ◌||◌, nat_lt, List, [], ◌∷◌, ◌++◌, length, map, take, drop, replicate, Option, Some, None, refl, sym, ap, ◌∙◌, arith}
 use Rattle.std.proofs.lemmas.Bool.Decides.{nat_tests}
 use Rattle.std.specs.List.{AllByRecursion, list_any, filter, position, prefix_len}
@@ -29,7 +29,7 @@ AllFail-prefix_len test (x ∷ xs) h =
     let here = fails (test x) (length xs) (prefix_len (λ y. not (test y)) xs) h in
     (here.0, AllFail-prefix_len test xs here.1)
 
--- nothing is found exactly where none passes
+-- nothing is found if and only if none passes
 pub position-none : {X : Type 0} (test : X → Bool) (xs : List X) → AllFail test xs
     → position test xs ≡ None
 position-none test xs h =
@@ -38,7 +38,7 @@ position-none test xs h =
     ≡ false = grind (arith, nat_tests, prefix_len-all test xs h) in
     ap (λ b. cond b (Some place) None) past
 
--- where a choice gives nothing, its test fails, and the other branch gives nothing
+-- if a choice gives nothing, its test fails, and the other branch gives nothing
 cond-none : {A : Type 0} (b : Bool) (x : A) (o : Option A) → cond b (Some x) o ≡ None
     → (b ≡ false) × (o ≡ None)
 cond-none true x o h = cc
@@ -90,7 +90,7 @@ pub length-filter : {X : Type 0} (test : X → Bool) (xs : List X)
     → length (filter test xs) ≤ length xs
 length-filter test xs = omega (arith, length-filter_is test xs, count_by-le-length test xs)
 
--- two lists that are joined alike at the same place have the same parts
+-- two lists that are joined at the same index to the same list are equal
 pub parts_same : {X : Type 0} (xs ys zs ws : List X) → xs ++ ys ≡ zs ++ ws
     → length xs ≡ length zs → (xs ≡ zs) × (ys ≡ ws)
 parts_same xs ys zs ws h e = (

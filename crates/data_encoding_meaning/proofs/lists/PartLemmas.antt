@@ -1,4 +1,4 @@
--- Where groups stand in what is read and in what is written.
+-- The positions of groups in what is read and in what is written.
 use Rattle.std.proofs.Common.{◌≡◌, ℕ, ◌+◌, ◌-◌, ◌*◌, ◌/◌, ◌<◌, ◌≤◌, List, length, take, drop, refl, ap, ◌∙◌, arith, length-take-le}
 use Rattle.std.proofs.lemmas.List.{length-drop}
 use Rattle.std.proofs.Math.Nat.{mul_left_comm, mul-add-div, mul-le-mul_right, div-eq_of_lt}
@@ -30,7 +30,7 @@ pub IsWhole-same : {w b s bytes symbols : ℕ} → bytes ≡ b → symbols ≡ s
 IsWhole-same {w} {b} {s} {bytes} {symbols} q r group =
     IsWhole-group w bytes symbols (IsGroup-same refl q r group)
 
--- Groups of so many are read, and of each as many written: m bits for each that is read, d for each
+-- Groups of this many are read, and as many are written: m bits for each that is read, d for each
 -- that is written.
 module _ (m d from to extra : ℕ) (same : m * from ≡ d * to) (pos : 0 < d) where
   pub regroup : (q : ℕ) → m * (q * from) ≡ d * (q * to)
@@ -78,7 +78,7 @@ pub turn-within : (n groups size i : ℕ) → i < n / size / groups
 turn-within n groups size i h =
     omega (arith, turns-before (n / size) groups size i h, groups-within n size)
 
--- and has room where all groups have room, as has a group
+-- and has room if all groups have room, as has a group
 pub group-room : {b s bytes symbols : ℕ} (n i m : ℕ) → bytes ≡ b → symbols ≡ s → n / s * b ≤ m
     → i < n / symbols → i * bytes + bytes ≤ m
 group-room {b} {s} {bytes} {symbols} n i m q r room h =
@@ -90,7 +90,7 @@ pub turn-room : {b s bytes symbols : ℕ} (n groups i m : ℕ) → bytes ≡ b �
 turn-room {b} {s} {bytes} {symbols} n groups i m q r room h =
     omega (arith, turns-before (n / symbols) groups bytes i h, room-same n m q r room)
 
--- one of four parts ends before the end
+-- one of four equal pieces ends before the end
 pub part-of-four : (n size i : ℕ) → n ≡ 4 * size → i < 4 → i * size + size ≤ n
 part-of-four n size i e h =
     let up : (i + 1) * size ≤ 4 * size = mul-le-mul_right size (omega (arith, h)) in
@@ -103,7 +103,7 @@ whole-group m d from to extra same few =
     ap (λ n. (n + extra) / d) same ∙ mul-add-div (omega (arith, few)) to extra
     ∙ ap (λ n. to + n) (div-eq_of_lt few) ∙ omega arith
 
--- a part of a list, by its two ends
+-- a slice of a list, by its two ends
 pub length-part : {X : Type 0} (start size : ℕ) (xs : List X) → start + size ≤ length xs
     → length (take (start + size - start) (drop start xs)) ≡ size
 length-part start size xs h =

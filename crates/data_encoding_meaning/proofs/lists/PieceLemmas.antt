@@ -1,5 +1,5 @@
--- What is made of a list piece after piece: where each is read and written, and what is written so
--- far.
+-- What is made from a list piece by piece: the positions at which each is read and written, and
+-- what is written so far.
 use Rattle.std.proofs.Common.{◌≡◌, ℕ, zero, suc, ◌+◌, ◌-◌, ◌*◌, ◌%◌, ◌<◌, ◌≤◌, min, List, [], ◌++◌, length, take, drop, sym, ap, ◌∙◌, subst, arith, ⊎_elim, length-append, length-take-le, take-append-drop}
 use Rattle.std.proofs.Math.Nat.{mod_self, mul-mod_left, suc-mul, zero-mul}
 use Rattle.std.proofs.Math.Seq.{take-add}
@@ -11,7 +11,7 @@ use Rattle.std.specs.Int.{div_ceil}
 use Rattle.data_encoding_meaning.proofs.lists.PartLemmas.{one-more}
 use Rattle.data_encoding_meaning.proofs.lists.RunLemmas.{div_ceil-runs, run_count, run-before, runs-reach}
 
--- Of a whole piece so much is made, and of a shorter one no more, whatever stands beside it.
+-- From a whole piece this much is made, and from a shorter one no more, whatever is next to it.
 pub record IsByPieces (made : List ℕ → List ℕ) (size made_len : ℕ) : Type 0 where
   pub some : 0 < size
   pub nil : made [] ≡ []
@@ -38,7 +38,7 @@ written-first {made} {size} {made_len} {input} {output} pieces exact =
       written = ap (λ l. take (length l) output) none ∙ sym none;
     }
 
--- piece after piece
+-- piece by piece
 module _ {made : List ℕ → List ℕ} {size made_len : ℕ} {input output : List ℕ} {i : ℕ}
     (so_far : WritesPieces made size made_len input output i) where
   size-some : 0 < size
@@ -70,7 +70,7 @@ module _ {made : List ℕ → List ℕ} {size made_len : ℕ} {input output : Li
       + so_far.pieces.whole (take size (drop start input)) piece k)
       ∙ sym (suc-mul n made_len ∙ omega arith)
 
-  -- a piece under way
+  -- a piece in progress
   module _ {count : ℕ} (counted : count ≡ div_ceil (length input) size) (below : i < count) where
     pub before : i * size < length input
     before =
@@ -94,7 +94,7 @@ module _ {made : List ℕ → List ℕ} {size made_len : ℕ} {input output : Li
         ∙ length-append (made (take start input)) (made rest)
         ∙ ap (λ n. n + length (made rest)) (length-front i (omega (arith, before)))
 
-    -- where what is made of this piece begins
+    -- the position at which the result of this piece begins
     pub piece-begins : i * made_len ≤ length (made input)
     piece-begins = omega (arith, length-all)
 
@@ -196,7 +196,7 @@ module _ {made : List ℕ → List ℕ} {size made_len : ℕ} {input output : Li
                   ∙ (λ k. so_far.written k ++ is_made k) ∙ sym next;
             }
 
-  -- and where nothing is left, all is written
+  -- and if nothing is left, all is written
   pub piece-last : i ≡ div_ceil (length input) size → output ≡ made input
   piece-last at_end =
       let reach = runs-reach size (length input) size-some in

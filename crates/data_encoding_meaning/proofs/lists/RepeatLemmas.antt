@@ -1,4 +1,4 @@
--- A list again and again.
+-- A list that is repeated.
 use Rattle.std.proofs.Common.{◌≡◌, ℕ, zero, suc, ◌+◌, ◌-◌, ◌*◌, ◌%◌, ◌<◌, ◌≤◌, List, ◌∷◌, length, map, take, get_or, replicate, refl, sym, ap, ◌∙◌, arith, ⊎_elim, length-append, append_assoc, ◌++◌}
 use Rattle.std.proofs.Math.Nat.{mod-eq-sub-mod, mod-eq_of_lt, zero-mul, zero-add, suc-add}
 use Rattle.std.proofs.lemmas.Bool.{cases_lt}

@@ -199,7 +199,7 @@ length-each_ended end (part ∷ parts) =
       length-each_ended end parts,
     )
 
--- the runs with an end behind each
+-- the runs, each followed by an end
 pub length-ended : {X : Type 0} (size : ℕ) (end xs : List X) → 0 < size
     → length (flat_map (λ run. run ++ end) (runs size xs))
     ≡ length xs + run_count size (length xs) * length end

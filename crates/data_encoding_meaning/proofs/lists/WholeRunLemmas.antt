@@ -12,7 +12,7 @@ whole_runs size xs = first_chunks size (length xs / size) xs
 abbrev pub left : {X : Type 0} → ℕ → List X → List X
 left size xs = drop (length xs / size * size) xs
 
--- the part of the whole runs
+-- the prefix of whole runs
 abbrev pub front_of : {X : Type 0} → ℕ → List X → List X
 front_of size xs = take (length xs / size * size) xs
 
@@ -28,7 +28,7 @@ module _ {X : Type 0} (size : ℕ) (some : 0 < size) where
   pub front_left : (xs : List X) → front_of size xs ++ left size xs ≡ xs
   front_left xs = take-append-drop (length xs / size * size) xs
 
-  -- so many whole runs, and fewer than one more
+  -- this many whole runs, and fewer than one more
   whole_runs-is : (count : ℕ) (front rest : List X) → length front ≡ count * size
       → length rest < size
       → (whole_runs size (front ++ rest) ≡ runs size front) × (left size (front ++ rest) ≡ rest)
@@ -63,7 +63,7 @@ module _ {X : Type 0} (size : ℕ) (some : 0 < size) where
       ∙ runs-join size (front_of size xs) (left size xs) some (front_whole xs)
       ∙ ap (λ rs. rs ++ runs size (left size xs)) (sym (whole_runs-front xs))
 
-  -- what follows is cut behind what was left
+  -- what follows is cut after what was left
   pub whole_runs-join : (xs ys : List X)
       → (whole_runs size (xs ++ ys) ≡ whole_runs size xs ++ whole_runs size (left size xs ++ ys))
       × (left size (xs ++ ys) ≡ left size (left size xs ++ ys))

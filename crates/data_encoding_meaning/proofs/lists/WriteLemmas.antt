@@ -1,4 +1,4 @@
--- What a list holds after a part of it is written.
+-- A list of which some is overwritten.
 use Rattle.std.proofs.Common.{◌≡◌, ℕ, ◌+◌, ◌-◌, ◌≤◌, List, ◌++◌, length, take, drop, sym, ap, ◌∙◌, arith, length-append, length-take-le}
 use Rattle.std.proofs.lemmas.List.{append-nil, drop_all, drop_at, length-drop, take_rest}
 use Rattle.std.proofs.Math.Seq.{take-append-add}
@@ -18,20 +18,20 @@ length-put_mid a k xs ys h e =
       e,
     )
 
--- the end of a list is written anew
+-- the end of a list is overwritten
 pub put_mid-end : {X : Type 0} (a : ℕ) (xs ys : List X)
     → put_mid a (length xs - a) xs ys ≡ take a xs ++ ys
 put_mid-end a xs ys =
     let none = drop_all (length xs - a) (drop a xs) (omega (arith, length-drop a xs)) in
     ap (λ l. take a xs ++ (ys ++ l)) none ∙ ap (λ l. take a xs ++ l) (append-nil ys)
 
--- what stands behind a front is what was written there
+-- what follows a prefix is what was written there
 pub drop-put_mid_at : {X : Type 0} (a : ℕ) (xs ys : List X) → a ≤ length xs
     → drop a (put_mid a (length xs - a) xs ys) ≡ ys
 drop-put_mid_at a xs ys h =
     ap (drop a) (put_mid-end a xs ys) ∙ drop_at (take a xs) ys a (length-take-le a xs h)
 
--- the rest of a list, written anew
+-- a list with its rest overwritten
 abbrev pub rewritten : {X : Type 0} → ℕ → List X → List X → List X
 rewritten a xs ys = put_mid a (length xs - a) xs ys
 

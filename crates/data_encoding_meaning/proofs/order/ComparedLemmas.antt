@@ -35,7 +35,7 @@ one_of_three (x ∷ xs) (y ∷ ys) =
       by same (inr (inl equal)) = inr (inl (λ i. same i ∷ equal i))
       by same (inr (inr behind)) = inr (inr (inr (sym same, behind)))
 
--- where lists in order have others in order, and equal ones equal others
+-- if lists in order have others in order, and equal ones equal others
 alike : (one other first second : List ℕ) → (IsBefore one other → IsBefore first second)
     → (IsBefore other one → IsBefore second first) → (one ≡ other → first ≡ second)
     → CompareAlike one other first second

@@ -67,7 +67,7 @@ descends index fields h base is ordered =
     ordered.ascending index (index + 1) 0 (omega arith) (ltb-true _ _ shown.0) in
     false≢true (sym shown.1 ∙ lt-ltb _ _ less)
 
--- padding behind the first symbol
+-- padding after the first symbol
 abbrev PadsLater : Base → Type 0
 PadsLater base =
     (base.padding ≡ Some 61) × (nat_lt 0 (length base.symbols) ≡ true)

@@ -1,4 +1,4 @@
--- Lists of bits in order, and their fronts as numbers, the most significant bit first.
+-- Lists of bits in order, and their prefixes as numbers, the most significant bit first.
 use Rattle.std.proofs.Common.{◌≡◌, ℕ, zero, suc, ◌+◌, ◌-◌, ◌*◌, ◌/◌, ◌%◌, ◌^◌, ◌<◌, ◌≤◌, List, [], ◌∷◌, ◌++◌, length, take, drop, replicate, reverse, refl, sym, ap, ◌∙◌, subst, arith, inl, inr, ◌⊎◌, ⊎_elim, length-append, append_assoc}
 use Rattle.std.proofs.Math.Nat.{pow-succ'}
 use Rattle.std.proofs.lemmas.Bool.{cases_lt}
@@ -9,13 +9,13 @@ use Rattle.data_encoding_meaning.specs.text.Bits.{low_bits, bits_of, number_of, 
 use Rattle.data_encoding_meaning.specs.laws.Order.{IsBefore}
 use Rattle.data_encoding_meaning.proofs.digits.BitLemmas.{AreBits, length-bits_of, number_of-below, number-append, number-zeros, reverse-zeros}
 
--- the first so many, with zeros after the last
+-- the first n elements, with zeros after the last
 abbrev pub front : ℕ → List ℕ → List ℕ
 front zero xs = []
 front (suc n) [] = 0 ∷ front n []
 front (suc n) (x ∷ xs) = x ∷ front n xs
 
--- the number of that front
+-- the number of that prefix
 abbrev pub front_number : ℕ → List ℕ → ℕ
 front_number n xs = number_of MostSignificantFirst (front n xs)
 
@@ -65,8 +65,8 @@ front_number-cons n x xs =
     rw (reverse-append (x ∷ []) bits, number-append (reverse bits) (x ∷ []))
     (rw (length-reverse bits, length-front n xs) (omega arith))
 
--- The first of two lists comes before the second: by their first difference, or as a front of it
--- that lacks at least so many.
+-- The first of two lists comes before the second: by their first difference, or because it is a
+-- prefix that is shorter by at least this many.
 abbrev pub IsBeforeBy : ℕ → List ℕ → List ℕ → Type 0
 IsBeforeBy n [] ys = n ≤ length ys
 IsBeforeBy n (x ∷ xs) [] = ⊥
@@ -120,13 +120,13 @@ before-bytes (x ∷ xs) (y ∷ ys) all h =
     (before-bytes xs ys all.1 same.1)))
     h
 
--- Behind fronts of one number, the first list ends and the second does not, or the rests are in
--- order.
+-- After prefixes with the same number, the first list ends and the second does not, or the rests
+-- are in order.
 abbrev pub IsRestBefore : ℕ → ℕ → List ℕ → List ℕ → Type 0
 IsRestBefore n size xs ys =
     ((drop size xs ≡ []) × (0 < length (drop size ys))) ⊎ IsBeforeBy n (drop size xs) (drop size ys)
 
--- the number of the first front is less, or it is the same and the rest decides
+-- the number of the first prefix is less, or it is the same and the rest decides
 pub front-compared : (n size : ℕ) (xs ys : List ℕ) → size < n → AreBits xs → AreBits ys
     → IsBeforeBy n xs ys
     → (front_number size xs < front_number size ys)

@@ -108,7 +108,7 @@ padding-not_before base character later =
       s = symbol base 0
 
 module _ (base : Base) (ruled : IsRuled base) (unwrapped : base.wrapping ≡ None) where
-  -- the text of one byte begins with the symbol of its first bits
+  -- the text of one byte starts with the symbol of its first bits
   text_of-byte : (byte : ℕ) → (rest : List ℕ)
       × (text_of base (byte ∷ []) ≡ symbol base (first_value base.width base.order byte) ∷ rest)
   text_of-byte byte =

@@ -23,7 +23,7 @@ module _ (base : Base) (width : ℕ) (order : BitOrder) (some : 0 < width) where
   text_by-nil : text_by base width order [] ≡ []
   text_by-nil = rw (filled-whole 0 width [] (mod-eq_of_lt some), runs-nil {X = ℕ} width some)
 
-  -- the first symbol, and the text of the bits behind its own
+  -- the first symbol, and the text of the bits after its own
   pub text_by-first : (bits : List ℕ) → 0 < length bits
       → text_by base width order bits
       ≡ shown_run (front width bits) ∷ text_by base width order (drop width bits)
@@ -52,7 +52,8 @@ module _ (base : Base) (width : ℕ) (order : BitOrder) (some : 0 < width) where
       (rw (front-long width bits long)))
       (cases_lt (length bits) width)
 
--- Symbols of some bits each, that ascend; and what may stand behind a text, before each symbol.
+-- Symbols of some bits each, that ascend; and what may follow a text, which comes before each
+-- symbol.
 module _ (base : Base) (width : ℕ) (some : 0 < width) (few : width < 8)
     (ascends : (a b : ℕ) → a < b → b < 2 ^ width → symbol base a < symbol base b)
     (end : List ℕ)

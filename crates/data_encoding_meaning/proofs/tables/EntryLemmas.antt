@@ -47,7 +47,7 @@ pub false_or : (b : Bool) → (b ≡ true → ⊥) → b ≡ false
 false_or true h = absurd (h refl)
 false_or false h = refl
 
--- entries mean the same exactly where they are the same
+-- entries mean the same if and only if they are equal
 same_meanings : (a b : ℕ) → a ≡ b → is_same (meaning_of_entry a) (meaning_of_entry b) ≡ true
 same_meanings a b e =
     ap (λ n. is_same (meaning_of_entry a) (meaning_of_entry n)) (sym e)
@@ -99,7 +99,7 @@ module _ (values : List ℕ) (holds : HoldsEntries values) where
       ∙ ap (λ l. get_or l (byte - 128) 0) holds.invalid_from_128
       ∙ get_or-replicate 128 (byte - 128) 128 0 (omega arith)
 
-  -- a byte means what its entry says, also where it is no ASCII
+  -- a byte means what its entry says, even if it is not ASCII
   pub meaning-any : (byte : ℕ) → byte < 256
       → get_or (map meaning_of_entry (take 128 values)) byte Invalid
       ≡ meaning_of_entry (get_or values byte 0)

@@ -1,4 +1,4 @@
--- Bytes are the layout of a base exactly where they keep the rules of layouts.
+-- Bytes are the layout of a base if and only if they keep the rules of layouts.
 use Rattle.std.proofs.Common.{◌≡◌, ◌≢◌, ◌⊎◌, ℕ, zero, suc, ◌+◌, ◌-◌, ◌*◌, ◌/◌, ◌%◌, ◌^◌, ◌<◌, ◌≤◌, ◌==◌, Bool, true, false, ◌||◌, cond, nat_lt, List, [], ◌∷◌, ◌++◌, length, map, take, drop, replicate, get_or, Option, Some, None, is_none, unwrap_or, refl, sym, ap, ◌∙◌, subst, arith, inl, inr, ⊎_elim, drop-cons, drop_of_length-le, length-drop}
 use Rattle.std.proofs.Math.Bool.{or-true}
 use Rattle.std.proofs.Math.Nat.{mod-lt, mod-eq_of_lt}
@@ -29,7 +29,7 @@ use Rattle.data_encoding_meaning.proofs.tables.LayoutLemmas.{codes-back}
 use Rattle.data_encoding_meaning.proofs.tables.ReadingLemmas.{IsReadAs, character-back, code-read, end-read, ends, flags, high-read, is_read_as, long-layout, symbol-read, symbol_table}
 use Rattle.data_encoding_meaning.proofs.tables.EntryRuleLemmas.{entry-no_padding, entry-weaker, entry-within, value-symbol}
 
--- one of which some do
+-- some elements pass a test
 some_passes : {X : Type 0} (test : X → Bool) (xs : List X) (d : X) → list_any test xs ≡ true
     → (i : ℕ) × (i < length xs) × (test (get_or xs i d) ≡ true)
 some_passes test [] d h = cc
@@ -136,7 +136,7 @@ module _ (base : Base) (ruled : IsRuled base) where
         test_apart (8 % base.width) 0 rule.2,
       )
 
-  -- where it is told that a byte is ignored, it is
+  -- if the layout says that a byte is ignored, it is
   told-ignored : (byte : ℕ) → IsIgnoredIn (layout base) byte → meaning base byte ≡ Ignored
   told-ignored byte is = sym (meaning-read byte is.0) ∙ ap meaning_of_entry is.1
 
@@ -241,14 +241,14 @@ concatenates-rule : (concatenates none : Bool) → (concatenates ≡ false → n
 concatenates-rule true none h = refl
 concatenates-rule false none h = h refl
 
--- the padding that byte 512 tells
+-- the padding that byte 512 says
 abbrev padding_in : ℕ → Option ℕ
 padding_in entry = cond (nat_lt entry 128) (Some entry) None
 
 padding_in-some : (entry : ℕ) → entry < 128 → padding_in entry ≡ Some entry
 padding_in-some entry h = ap (λ b. cond b (Some entry) None) (lt-ltb entry 128 h)
 
--- the base that bytes tell, and that keeps the rules where they do
+-- the base that bytes describe, which keeps the rules if they do
 module _ (bytes : List ℕ) (width : ℕ) (width_is : get_or bytes 513 0 % 8 ≡ width)
     (rule : IsLayoutOf width bytes) where
   abbrev sum : ℕ

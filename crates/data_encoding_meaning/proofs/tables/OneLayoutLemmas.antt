@@ -1,4 +1,4 @@
--- No two bases have one layout.
+-- No two bases have the same layout.
 use Rattle.std.proofs.Common.{◌≡◌, ◌^◌, take, Option, Some, None, refl, sym, ap, ◌∙◌, subst, arith}
 use Rattle.data_encoding_meaning.specs.text.Base.{Base, Wrapping}
 use Rattle.data_encoding_meaning.specs.specification.Layout.{column_of, layout, separator_of}

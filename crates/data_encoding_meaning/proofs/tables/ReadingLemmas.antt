@@ -23,7 +23,7 @@ use Rattle.data_encoding_meaning.proofs.tables.EntryRuleLemmas.{value-symbol}
 abbrev pub flags : ℕ → BitOrder → Bool → Bool → ℕ
 flags w o c s = w + order_flag o + (if c then 16 else 0) + (if s then 0 else 32)
 
--- the parts of a layout
+-- the sections of a layout
 abbrev pub symbol_table : Base → List ℕ
 symbol_table base = concat (replicate (256 / 2 ^ base.width) base.symbols)
 

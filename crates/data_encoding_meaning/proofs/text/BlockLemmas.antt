@@ -53,7 +53,7 @@ module _ (base : Base) (ruled : IsRuled base) where
         fits = λ count bytes few. short-lines base ruled lines some count bytes few;
       }
 
--- the data of whole blocks of which the texts fit into so much room
+-- the data of whole blocks whose texts fit into this much room
 module _ (base : Base) (len : ℕ) (is : IsBlockLength base len) (room size : ℕ)
     (size-is : size ≡ alignment base) where
   size-same : room / len * size ≡ room / len * alignment base

@@ -1,4 +1,4 @@
--- Texts of the same data in two encodings that differ in their symbols alone.
+-- Texts of the same data in two encodings that differ in their symbols only.
 use Rattle.std.proofs.Common.{◌≡◌, ℕ, ◌^◌, ◌<◌, List, [], ◌∷◌, ◌++◌, length, map, Option, Some, None, is_some, refl, sym, subst}
 use Rattle.std.proofs.lemmas.List.{length-map, map-append}
 use Rattle.std.specs.Prelude.{flat_map}

@@ -13,7 +13,7 @@ use Rattle.data_encoding_meaning.proofs.text.TextJoinLemmas.{text_of-join}
 whole-both : (m n size : ℕ) → m % size ≡ 0 → n % size ≡ 0 → (m + n) % size ≡ 0
 whole-both m n size one other = rw (← (mod-add-mod m size n), one, zero-add) other
 
--- nothing was handed over yet
+-- nothing was taken yet
 pub HasEncoded-nothing : (base : Base) → IsRuled base → (text : List ℕ) → 0 < alignment base
     → HasEncoded base text [] text []
 HasEncoded-nothing base ruled text some = record {

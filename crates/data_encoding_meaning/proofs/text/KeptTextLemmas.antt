@@ -20,7 +20,7 @@ module _ {X : Type 0} (test : X → Bool) where
   filter-none [] h = refl
   filter-none (x ∷ xs) h = rw h.0 (filter-none xs h.1)
 
-  -- what is put after each part, and left out
+  -- what is appended to each piece, and left out
   filter-ended : (end : List X) → filter test end ≡ [] → (parts : List (List X))
       → filter test (flat_map (λ part. part ++ end) parts)
       ≡ filter test (flat_map (λ part. part) parts)

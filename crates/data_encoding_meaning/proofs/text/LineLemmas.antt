@@ -1,4 +1,4 @@
--- Texts in lines: their lengths, and one line after the other.
+-- Texts in lines: their lengths, and one line after another.
 use Rattle.std.proofs.Common.{◌≡◌, ℕ, ◌+◌, ◌*◌, ◌/◌, ◌<◌, ◌≤◌, Bool, true, false, Option, Some, None, List, [], ◌++◌, length, refl, ap, subst, arith, append-nil}
 use Rattle.std.proofs.Math.Nat.{le-mul_of_pos_right, mul-le-mul_left, mul-le-mul_right}
 use Rattle.std.proofs.lemmas.List.{nil_from_length}
@@ -43,7 +43,7 @@ module _ (base : Base) (width : IsWidth base.width) (bytes : List ℕ) where
       (group_bytes-pos base.width width) few in
       omega (arith, padded-few, mul-le-mul_right (group_symbols base.width) groups)
 
-  -- and some where there are some data
+  -- and some if there is data
   padded-some : 0 < length bytes → 0 < length (padded_text base bytes)
   padded-some some =
       let count = run_count base.width (8 * length bytes) in
@@ -109,7 +109,7 @@ module _ (base : Base) (ruled : IsRuled base) (lines : Wrapping) (some : base.wr
         (omega (arith, are.ends_short)) in
         omega (arith, length-lines bytes, padded-most base ruled.is_width bytes)
 
-    -- data of at most so many lines
+    -- data of at most this many lines
     module _ (count : ℕ) (bytes : List ℕ) (few : length bytes ≤ count * alignment base) where
       pub padded-lines : length (padded_text base bytes) ≤ count * lines.column
       padded-lines =
@@ -145,7 +145,7 @@ module _ (base : Base) (ruled : IsRuled base) (lines : Wrapping) (some : base.wr
         (padded-some base ruled.is_width bytes any)
         (omega (arith, padded-lines 1 bytes (omega (arith, few)))))
 
--- a separator of 255 behind each line of eight symbols, of one byte, is the most
+-- a separator of 255 after each line of eight symbols, of one byte, is the most
 pub text-most : (base : Base) → IsRuled base → (bytes : List ℕ)
     → length (text_of base bytes) ≤ 263 * length bytes
 text-most base ruled bytes = by base.wrapping refl where
@@ -159,7 +159,7 @@ text_of-nil base ruled =
     let few : length (text_of base []) ≤ 263 * 0 = text-most base ruled [] in
     nil_from_length (text_of base []) (omega (arith, few))
 
--- data of at most a line, or of any length where there are no lines
+-- data of at most a line, or of any length if there are no lines
 pub text_of-line : (base : Base) → IsRuled base → (bytes : List ℕ) → 0 < length bytes
     → length bytes ≤ alignment base
     → text_of base bytes ≡ padded_text base bytes ++ separator_by base.wrapping

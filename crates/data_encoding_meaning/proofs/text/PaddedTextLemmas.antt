@@ -28,7 +28,7 @@ length-with_padding : (o : Option ℕ) (size : ℕ) (xs : List ℕ)
 length-with_padding None size xs = omega arith
 length-with_padding (Some character) size xs = length-filled_with character size xs
 
--- where there are no lines
+-- if there are no lines
 pub text_of-unwrapped : (base : Base) (bytes : List ℕ) → base.wrapping ≡ None
     → text_of base bytes ≡ padded_text base bytes
 text_of-unwrapped base bytes none = rw none
@@ -46,7 +46,7 @@ module _ (base : Base) (bytes : List ℕ) (width : IsWidth base.width) where
       ≡ filled_with character (group_symbols base.width) (plain_text base bytes)
   filled character some = rw some
 
-  -- the symbols and the padding are one after the other
+  -- the symbols and the padding are one after another
   module _ (count size : ℕ) (is : count ≡ run_count base.width (8 * length bytes))
       (whole : size ≡ length (padded_text base bytes)) where
     pub symbols-first : count ≤ size

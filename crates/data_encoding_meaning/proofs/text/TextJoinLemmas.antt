@@ -12,7 +12,7 @@ use Rattle.data_encoding_meaning.proofs.lists.RunLemmas.{runs-join}
 use Rattle.data_encoding_meaning.proofs.judgement.RuleLemmas.{IsRuled, IsRuledWrapping}
 use Rattle.data_encoding_meaning.proofs.text.PlainTextLemmas.{filled-join, filled-whole, length-plain_text, plain_text-join}
 
--- a number of whole parts
+-- a number of whole pieces
 pub whole-parts : (n size : ℕ) → n % size ≡ 0 → n ≡ n / size * size
 whole-parts n size e = omega (arith, div-add-mod' n size, e)
 
@@ -107,7 +107,7 @@ module _ (base : Base) (ruled : IsRuled base) (bytes others : List ℕ) where
       (in_lines-join lines (padded_text base bytes) (padded_text base others) rule.some
       (rw long (mul-mod_left count lines.column)))
 
-  -- texts may be joined where the data of the first are whole lines, or whole groups without lines
+  -- texts may be joined if the data of the first is whole lines, or whole groups without lines
   pub text_of-join : length bytes % alignment base ≡ 0
       → text_of base (bytes ++ others) ≡ text_of base bytes ++ text_of base others
   text_of-join whole = by_wrapping base.wrapping ruled.wrapping whole

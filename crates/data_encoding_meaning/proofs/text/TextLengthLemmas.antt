@@ -1,4 +1,4 @@
--- The length of a text is decided by that of its data, and tells it where there is no padding.
+-- The length of a text follows from that of its data, and determines it if there is no padding.
 use Rattle.std.proofs.Common.{◌≡◌, ℕ, ◌*◌, ◌/◌, ◌%◌, ◌<◌, Bool, true, false, List, length, Option, Some, None, Ok, is_some, refl, ap, ◌∙◌, arith}
 use Rattle.std.proofs.lemmas.Bool.{lt-ltb}
 use Rattle.std.proofs.lemmas.Bool.Decides.{nat_tests}
@@ -38,7 +38,7 @@ module _ (base : Base) (ruled : IsRuled base) where
         rw (length-lines base ruled lines some bytes)
         (rw (length-lines base ruled lines some others, padded))
 
--- the symbols of so many bytes
+-- the symbols of this many bytes
 counted : (width : ℕ) → IsWidth width → (n : ℕ)
     → (width * run_count width (8 * n) % 8 < width) × (width * run_count width (8 * n) / 8 ≡ n)
 counted width is n = grind (arith, nat_tests, widths width is)

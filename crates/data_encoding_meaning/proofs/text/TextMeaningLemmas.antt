@@ -119,7 +119,7 @@ module _ (base : Base) (ruled : IsRuled base) where
           others,
         )
 
-    -- group after group
+    -- group by group
     groups_meant : (bytes : List ℕ) → All (λ byte. byte < 256) bytes → AreMeant bytes
     groups_meant =
         let count = group_bytes base.width in

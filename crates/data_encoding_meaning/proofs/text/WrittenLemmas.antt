@@ -12,7 +12,7 @@ use Rattle.data_encoding_meaning.proofs.judgement.RuleLemmas.{IsRuled}
 use Rattle.data_encoding_meaning.proofs.text.LineLemmas.{text_of-nil}
 use Rattle.data_encoding_meaning.proofs.text.TextJoinLemmas.{text_of-join}
 
--- whole blocks, and then the others
+-- whole blocks, followed by the others
 text_of-split : (base : Base) → IsRuled base → (input : List ℕ) (n : ℕ) → n ≤ length input
     → n % alignment base ≡ 0
     → text_of base input ≡ text_of base (take n input) ++ text_of base (drop n input)
@@ -90,14 +90,14 @@ module _ {W : Type 0} (gives : W → List ℕ → W → Type 0) where
       has_written_append gives first part calls.0 (concat others) last written
       (formatted-parts others calls.0 last written.plain calls.2)
 
-  -- what is written to such a formatter is written to the writer behind it
+  -- what is written to such a formatter is written to its writer
   pub formatted-all : (text : List ℕ) (first last : Formatter W) → IsPlainFormatter first
       → WritesInCalls Formats first text last → HasWritten gives first text last
   formatted-all text first last plain calls =
       subst (λ l. HasWritten gives first l last) calls.whole
       (formatted-parts calls.parts first last plain calls.calls)
 
--- what is said of a value, where there is one
+-- what holds for a value, if there is one
 pub of_ok : {T E P : Type 0} (r : Result T E) → IsOk r → OnOk r P → P
 of_ok (Ok value) ok said = said
 of_ok (Err error) ok said = cc

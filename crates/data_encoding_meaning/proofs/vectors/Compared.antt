@@ -1,4 +1,4 @@
--- Worked rows of what the eighteen are, and of texts compared as their data.
+-- Worked rows for the eighteen, and for texts compared as their data.
 use Rattle.std.proofs.Common.{◌≡◌, ℕ, true, false, List, map, ◌++◌, codes, replicate, Some, is_some, get_or, refl, ap, arith, inl, lit<}
 use Rattle.data_encoding_meaning.specs.laws.Canonical.{has_one_text}
 use Rattle.data_encoding_meaning.specs.laws.Compared.{CompareAlike}
@@ -33,7 +33,7 @@ letters_compared = record {
   );
 }
 
--- what the order of texts tells of data
+-- what follows from the order of texts for their data
 data_told : (one other first second : List ℕ) → CompareAlike one other first second
     → (IsBefore first second → IsBefore one other) × (first ≡ second → one ≡ other)
 data_told one other first second alike = (alike.order.1, alike.equality.1)

@@ -1,4 +1,4 @@
--- How worked rows are written, and the fields of encodings that they speak of.
+-- How worked rows are written, and the fields of encodings that they use.
 use Rattle.std.proofs.Common.{◌≡◌, ℕ, false, List, [], ◌∷◌, map, codes, Option, Some, None, Result, Ok, Err}
 use Rattle.data_encoding_meaning.specs.declared.refusal.Refusal.{Refusal}
 use Rattle.data_encoding_meaning.specs.declared.encoding.BitOrder.TheVariants.{LeastSignificantFirst}
@@ -18,7 +18,7 @@ abbrev by_base : {A : Type 0} → (Base → A) → Result Base Refusal → Optio
 by_base f (Ok base) = Some (f base)
 by_base f (Err refusal) = None
 
--- what the base of the fields gives, where they have one
+-- a function of the base of the fields, if they have one
 abbrev pub by : {A : Type 0} → (Base → A) → Fields → Option A
 by f fields = by_base f (base_of fields)
 

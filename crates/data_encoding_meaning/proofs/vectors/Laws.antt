@@ -28,7 +28,7 @@ use Rattle.data_encoding_meaning.proofs.vectors.Examples.{built, single_fields, 
 abbrev at : DecodeKind → ℕ → DecodeError
 at kind position = record { position = position; kind = kind }
 
--- what some fields yield
+-- what is built from some fields
 is_yielded : (fields : Fields) → base_of fields ≡ Ok (built fields) → IsSpecified (built fields)
 is_yielded fields yields = record { fields = fields; yields = yields }
 
@@ -48,7 +48,7 @@ lengths_told law text means =
     law (built hexlower_permissive_fields) (is_yielded hexlower_permissive_fields refl) refl refl
     text (74 ∷ 107 ∷ []) (0 ∷ 0 ∷ []) means refl
 
--- the fault of a whole group, with an unfinished one behind it, and what follows
+-- the fault of a whole group, with an unfinished one after it, and what follows
 fault_stayed : GroupFaultStays
     → fault_of (built base64_nopad_fields) (codes "SG!sQ" ++ codes "UI") ≡ Some (at Symbol 2)
 fault_stayed law =
@@ -61,7 +61,7 @@ text_fault_stayed law =
     law (built base64_nopad_fields) (is_yielded base64_nopad_fields refl) (codes "SG!s")
     (codes "QUI") (at Symbol 2) refl refl refl
 
--- behind a sound group, any fault is further on
+-- after a sound group, any fault is further on
 none_before : NoFaultBefore → (after : List ℕ) (error : DecodeError)
     → fault_of (built base64_nopad_fields) (codes "SGVs" ++ after) ≡ Some error
     → 4 ≤ error.position
@@ -102,7 +102,7 @@ second_texts law =
           (λ same. let no : 61 ≡ 126 = same in omega (arith, no)),
     )
 
--- the fault of a text of one byte more than a whole group, told from its bytes
+-- the fault of a text of one byte more than a whole group, from its bytes
 told_of_text : FaultTold → SymbolTold → TrailingTold → WholeTold
     → (fault_of (built base64_nopad_fields) (codes "SGVsQR") ≡ Some (at Trailing 5))
     × ((index : ℕ)

@@ -1,4 +1,4 @@
--- Worked rows of the rules that tell a layout.
+-- Worked rows of the rules of layouts.
 use Rattle.std.proofs.Common.{◌≡◌, ℕ, ◌<◌, List, length, replicate, refl, inl, inr, arith, lit<}
 use Rattle.data_encoding_meaning.specs.specification.Layout.{layout}
 use Rattle.data_encoding_meaning.specs.specification.OneLayout.{IsIgnoredIn, IsLayout, IsLayoutOf, TellsLines, TellsPadding, TellsWrapping, entry_in}

@@ -207,7 +207,7 @@ parts_of_layouts :
     × (column_of None ≡ 0) × (separator_of None ≡ [])
 parts_of_layouts = (refl, refl, refl, refl, refl, refl, refl)
 
--- base32 that reads `01l8` as `OIIB`
+-- base32 that decodes `01l8` as `OIIB`
 translations_told :
     (by translated_bytes base32_nopad_visual_fields ≡ Some (codes "018l"))
     × (by (λ base. map (own_byte base) (codes "018l")) base32_nopad_visual_fields

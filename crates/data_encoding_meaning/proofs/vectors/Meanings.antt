@@ -31,7 +31,7 @@ use Rattle.data_encoding_meaning.proofs.canonicity.TranslatedTextLemmas.{padding
 use Rattle.std.specs.Prelude.{slice_index_or, slice_index}
 use Rattle.data_encoding_meaning.proofs.vectors.Examples.{built, by, Has, unchecked, single_fields}
 
--- symbols alone, a group with padding, and the next one
+-- symbols, a group with padding, and the next one
 plain_symbols :
     Has base64_fields (λ base. PlainMeans base (map (meaning base) (codes "AA")) (0 ∷ []))
 plain_symbols = record {
@@ -98,7 +98,7 @@ joined_means = groups_mean
 abbrev four_bits : IsWidth 4
 four_bits = record { some = lit< tt; few = lit≤ tt }
 
--- the symbols of `48656c6c6f`, one after the other
+-- the symbols of `48656c6c6f`, one after another
 hello_symbols :
     Has hexlower_fields
     (λ base. PlainMeans base (map (meaning base) (codes "48656c6c6f")) (codes "Hello"))
@@ -128,7 +128,7 @@ means_nothing = λ bytes means.
     faulty-Means (built hexlower_fields) four_bits (codes "4G") bytes means
     (record { position = 1; kind = Symbol }) refl
 
--- the text means what its groups have, where it has no fault
+-- the text means what its groups have, if it has no fault
 means_sound : (base : Base) → IsWidth base.width → (text found : List ℕ)
     → fault_of base text ≡ None → sound_bytes base text ≡ found → Means base text found
 means_sound base width text found sound is =
@@ -177,7 +177,7 @@ pairs_of_texts = (
       (lit< tt) (lit≤ tt) (lit≤ tt) refl refl refl refl,
 )
 
--- that each cause there may be gives such a pair
+-- that each possible cause gives such a pair
 causes_of_texts :
     Has base64_mime_permissive_fields (λ base.
     IgnoredIsSecond base × TrailingIsSecond base × ConcatenatedIsSecond base)
@@ -215,7 +215,7 @@ canonical_or_not = (
       pair.differ (canonical _ _ _ (lit≤ tt) (lit≤ tt) pair.one_means pair.other_means),
 )
 
--- behind padded texts, behind a group without padding, behind whole symbols of a byte
+-- after padded texts, after a group without padding, after whole symbols of a byte
 followed_texts :
     Has base64_fields (λ base. MayBeFollowed base (codes "AAA="))
     × Has single_fields (λ base. MayBeFollowed base (codes "A"))
@@ -232,7 +232,7 @@ followed_texts = (
   λ h. ⊎_elim (λ padded. false≢true padded.0) (λ whole. let e = whole in cc) h,
 )
 
--- a decoding that stopped goes on with what it did not read
+-- a decoding that stopped continues with what it did not read
 resumed_text :
     Has base64_mime_fields (λ base.
     Resumes base (codes "SGVs" ++ 13 ∷ 10 ∷ codes "bG") (codes "8=" ++ 13 ∷ 10 ∷ []) 4
@@ -240,7 +240,7 @@ resumed_text :
 resumed_text =
     resumed _ (IsRuled-yield base64_mime_fields _ refl) _ _ _ refl refl (inl (refl, inl refl))
 
--- where a decoding stopped, and what it wrote
+-- how far a decoding got, and what it wrote
 stopped_text :
     Has base64_nopad_fields (λ base. StopsAt base (codes "AAAA!A") (0 ∷ 0 ∷ 0 ∷ []) (record {
       read = 4;
@@ -254,7 +254,7 @@ stopped_text = record {
   within = lit< tt;
 }
 
--- lists in order, by their first difference or as a proper front
+-- lists in order, by their first difference or as a proper prefix
 lists_in_order :
     IsBefore (codes "az") (codes "b") × IsBefore (codes "a") (codes "az")
     × (IsBefore (codes "a") (codes "a") → ⊥)
@@ -297,7 +297,7 @@ block_lengths = (
   IsBlockLength-line _ (IsRuled-yield base64_mime_fields _ refl) _ refl,
 )
 
--- what is kept of `SGVsbG` CR LF, behind which `Hel` was decoded
+-- what is kept of `SGVsbG` CR LF, of which `Hel` was decoded
 read_so_far :
     Has base64_mime_fields (λ base.
     HasRead base (codes "SGVsbG" ++ 13 ∷ 10 ∷ []) 8 None (positioned_from 4 (codes "bG")) false

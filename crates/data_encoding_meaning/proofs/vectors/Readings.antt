@@ -1,4 +1,4 @@
--- Worked rows of what is decoded: data, faults, lengths.
+-- Worked rows for what is decoded: data, faults, lengths.
 use Rattle.std.proofs.Common.{◌≡◌, ℕ, true, false, List, [], ◌∷◌, ◌++◌, length, map, drop, codes, replicate, Option, Some, None, Result, Ok, Err, refl, lit<, arith}
 use Rattle.data_encoding_meaning.specs.declared.error.GroupFault.{GroupFault}
 use Rattle.data_encoding_meaning.specs.declared.refusal.Refusal.{Refusal}
@@ -23,7 +23,7 @@ use Rattle.data_encoding_meaning.specs.laws.Laws.{further}
 use Rattle.data_encoding_meaning.specs.text.Text.{text_of}
 use Rattle.data_encoding_meaning.proofs.vectors.Examples.{Hold, by, decoded, bytes, fault, octal_fields, reversed, unchecked, nopad_ignoring_lf_fields, lines_of_8_fields, single_fields}
 
--- one text that those with the same symbols and padding read in different ways
+-- one text that is decoded in different ways by those with the same symbols and padding
 predefined_readings :
     Hold (λ fields. decoded fields (codes "aB")) (
     (hexlower_fields, fault Symbol 1)
@@ -45,7 +45,7 @@ predefined_readings :
     )
 predefined_readings = (refl, refl, refl)
 
--- where texts are not concatenated, no group follows a padded one; without padding it has no effect
+-- if texts are not concatenated, no group follows a padded one; without padding it has no effect
 single_readings : Hold (decoded single_fields) (
     (codes "AA==A===", fault Padding 4)
     ∷ (codes "AA==AA==", fault Padding 4)
@@ -198,7 +198,7 @@ abbrev RefusesBy : Result Base Refusal → List ℕ → DecodeFault → Type 0
 RefusesBy (Ok base) text fault = IsRefusal base text fault
 RefusesBy (Err refusal) text fault = ⊥
 
--- memory is asked for where bytes are due, and after the length was judged
+-- memory is allocated if bytes are due, and after the length was judged
 refusals_of_texts :
     RefusesBy (base_of hexlower_fields) (codes "4G")
     (Error (record { position = 1; kind = Symbol }))
@@ -290,7 +290,7 @@ located_faults :
     ≡ Some (at Length 4))
 located_faults = (refl, refl, refl, refl, refl, refl)
 
--- the second of three groups has a fault; behind a final one any group has
+-- the second of three groups has a fault; after a final one any group has
 faults_of_lists :
     (by (λ base. first_fault base (groups base (codes "AAAA!AAAA!AA"))) base64_fields
     ≡ Some (at Symbol 4))
@@ -305,7 +305,7 @@ faults_of_lists :
     × (or_else None (at Length 8) ≡ at Length 8)
 faults_of_lists = (refl, refl, refl, refl, refl, refl, refl)
 
--- how far the groups before the faulty one go, and what a last run does
+-- the position after the groups before the faulty one, and what a last run does
 partials_by_steps :
     (position_after (positioned_from 4 (codes "AB")) ≡ 6)
     × (position_after_first (positioned_from 4 (codes "AB")) ≡ 5)
@@ -350,7 +350,7 @@ lengths_of_texts :
     × (align_by (Some (record { column = 76; separator = 13 ∷ 10 ∷ [] })) 6 ≡ 57)
 lengths_of_texts = (refl, refl, refl, refl, refl, refl, refl, refl, refl)
 
--- what is kept between pieces of a text, and what comes of it
+-- what is kept between pieces of a text, and what follows from it
 pieces_by_steps :
     (by (λ base. whole_groups base so_far) base64_mime_fields
     ≡ Some (positioned (codes "SGVs") ∷ []))
@@ -370,14 +370,14 @@ pieces_by_steps :
     × (fault_in (positioned_from 4 (codes "bG8=")) None ≡ None)
 pieces_by_steps = (refl, refl, refl, refl, refl, refl, refl, refl, refl)
 
--- a fault that is found so many bytes further on
+-- a fault with this many bytes added to its position
 found_further : (further 4 (at Symbol 1) ≡ at Symbol 5) × (further 4 None ≡ None)
 found_further = (refl, refl)
 
--- Why laws have their premises. What follows a fault of an unfinished group may take it away; texts
--- that differ in an ignored byte have their faults at different positions; by its length alone a
--- padded text may mean more than was encoded, and padding is no symbol; data of other lengths have
--- texts of other lengths.
+-- The reasons for the premises of laws. What follows may remove the fault of an unfinished group;
+-- texts that differ in an ignored byte have their faults at different positions; by its length
+-- alone a padded text may mean more than was encoded, and padding is no symbol; data of other
+-- lengths has texts of other lengths.
 premises_needed :
     Hold (λ (row : Fields × List ℕ). decoded row.0 row.1) (
     ((base64_nopad_fields, codes "A"), fault Length 0)

@@ -8,7 +8,7 @@ use Rattle.data_encoding_meaning.specs.specification.Predefined.{base32_dnssec_f
 use Rattle.data_encoding_meaning.specs.laws.SameMeaning.{DifferInSymbols, DifferInSymbolsAlone, IsInvalidInBoth, exchanged, exchanged_text, has_one_own_form, kept_bytes, own_form}
 use Rattle.data_encoding_meaning.proofs.vectors.Examples.{Has, Hold, built, by, ignoring, single_fields, unchecked}
 
--- two ignored bytes in a row, and one at the end
+-- two consecutive ignored bytes, and one at the end
 kept_of_lines : by (λ base. kept_bytes base (codes "SG" ++ 13 ∷ 10 ∷ codes "Vs" ++ 10 ∷ []))
     base64_mime_fields ≡ Some (codes "SGVs")
 kept_of_lines = refl
@@ -40,7 +40,7 @@ own_forms_of_texts :
     (translated_fields single_fields (codes "~") (codes "=")) ≡ Some (codes "AA=="))
 own_forms_of_texts = (refl, refl)
 
--- trailing bits, padding behind which texts may stand, and ignored bytes give a second text
+-- trailing bits, padding that texts may follow, and ignored bytes give a second text
 forms_counted : Hold (λ fields. by has_one_own_form fields) (
     (base32_dnssec_fields, Some true)
     ∷ (hexlower_fields, Some true)

@@ -1,4 +1,4 @@
--- Worked rows of what the functions below the public calls promise.
+-- Worked rows for what the functions below the public calls promise.
 use Rattle.std.proofs.Common.{◌≡◌, true, false, [], ◌∷◌, ◌++◌, map, codes, replicate, refl, lit<, lit≤, inl, inr}
 use Rattle.data_encoding_meaning.specs.declared.encoding.Character.TheVariants.{Symbol as SymbolCharacter, Padding as PaddingCharacter, Ignored, Invalid}
 use Rattle.data_encoding_meaning.specs.declared.error.DecodeKind.TheVariants.{Padding, Trailing}
@@ -28,8 +28,8 @@ whole_group = record {
   has_symbols = refl;
 }
 
--- a group with padding: two symbols, whose byte stands at the front of the output; after a final
--- group it is a fault
+-- a group with padding: two symbols, and an output that starts with their byte; after a final group
+-- it is a fault
 group_decoded :
     Has base64_fields (λ base.
     IsDecodedGroup base (codes "QQ==") 2 (65 ∷ 0 ∷ 0 ∷ [])
@@ -45,7 +45,7 @@ group_decoded = (
   refl,
 )
 
--- the separator at the front of a line
+-- the separator before a line
 front_ignored :
     Has base64_mime_fields (λ base.
     IsIgnoredFront base (13 ∷ 10 ∷ codes "SGVs") 2)
@@ -63,7 +63,7 @@ group_gathered = record {
   last = inl refl;
 }
 
--- a last run of three symbols behind a whole group, and none where there is no symbol
+-- a last run of three symbols after a whole group, and none if there is no symbol
 last_runs :
     Has nopad_ignoring_lf_fields (λ base.
     (valid_front base (codes "QUJDR") ≡ codes "QUJD")
@@ -109,7 +109,7 @@ text_decoded_to = (
   },
 )
 
--- a text that is decoded, and where one stops
+-- a text that is decoded, and a position at which one stops
 pub text_decoded :
     Has base64_nopad_fields (λ base. IsDecoded base (codes "QUI") 2 (65 ∷ 66 ∷ 0 ∷ []))
 text_decoded = record {

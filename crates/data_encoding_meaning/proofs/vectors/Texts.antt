@@ -31,7 +31,7 @@ characters_by_test :
     ≡ false ∷ false ∷ false ∷ true ∷ [])
 characters_by_test = (refl, refl, refl, refl, refl)
 
--- of data in order, padded with a character before each symbol, and with one behind them
+-- the texts of data in order, padded with a character before each symbol, and with one after them
 texts_in_order : Hold (λ (row : ℕ × List ℕ).
     encoded (record octal_fields { padding = Some row.0 }) row.1) (
     ((33, 0 ∷ []), Some (codes "000!!!!!"))

@@ -1,4 +1,4 @@
--- Worked rows of faults that are told from bytes, and of the rules of the eighteen.
+-- Worked rows of faults that follow from bytes, and of the rules of the eighteen.
 use Rattle.std.proofs.Common.{◌≡◌, ℕ, true, false, [], ◌∷◌, codes, Option, Some, None, refl}
 use Rattle.data_encoding_meaning.specs.declared.error.DecodeError.{DecodeError}
 use Rattle.data_encoding_meaning.specs.declared.error.DecodeKind.{DecodeKind}
@@ -22,7 +22,7 @@ faults_told : Hold (λ text. by (λ base. told_fault base text) base64_nopad_fie
     ∷ [])
 faults_told = refl
 
--- which is none where bits are not checked
+-- which is none if they are not checked
 faults_unchecked : Hold (λ text.
     by (λ base. told_fault base text) (unchecked base64_nopad_fields)) (
     (codes "SGVsbG9", Some None)
@@ -30,7 +30,7 @@ faults_unchecked : Hold (λ text.
     ∷ [])
 faults_unchecked = refl
 
--- what it is told by
+-- what the fault follows from
 others_found :
     (by (λ base. is_other base 71) hexlower_fields ≡ Some true)
     × (by (λ base. is_other base 65) hexlower_permissive_fields ≡ Some false)

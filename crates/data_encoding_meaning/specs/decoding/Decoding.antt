@@ -1,4 +1,4 @@
--- What the parts of a decoding promise: a run of whole groups, the next group, and its judgement.
+-- What the steps of a decoding promise: a run of whole groups, the next group, and its judgement.
 use Rattle.std.specs.Prelude.{◌≡◌, ℕ, ◌+◌, ◌-◌, ◌*◌, ◌/◌, ◌%◌, ◌<◌, ◌≤◌, ◌⊎◌, nat_lt, Bool, true, false, List, [], length, map, take, drop, flat_map, if◌then◌else◌, None, is_some, slice_index}
 use Rattle.std.specs.List.{list_any}
 use Rattle.data_encoding_meaning.specs.declared.error.DecodePartial.{DecodePartial}
@@ -10,13 +10,13 @@ use Rattle.data_encoding_meaning.specs.text.Lengths.{greatest_valid_length, is_v
 use Rattle.data_encoding_meaning.specs.decoding.Fault.{bytes_of_group, count_before_padding, fault_after, fault_at, fault_of, group_fault, position_of, sound_bytes, symbol_bytes, symbols_fault, AreSound}
 use Rattle.data_encoding_meaning.specs.decoding.Partial.{is_length_fault, position_after}
 
--- the bytes of groups of symbols in a row
+-- the bytes of consecutive whole groups of symbols
 abbrev pub run_bytes : Base → List ℕ → List ℕ
 run_bytes base part =
     flat_map (symbol_bytes base) (runs (group_symbols base.width) (map (meaning base) part))
 
--- The text was read and bytes were written up to here: whole groups without a fault, or all
--- groups, where the last of an unpadded text may be shorter.
+-- The text was read and its bytes were written up to these positions: whole groups without a fault,
+-- or all groups, of which the last may be shorter if the base is not padded.
 pub record HasDecodedTo (base : Base) (text : List ℕ) (read written : ℕ) (ended : Bool)
     (output : List ℕ) : Type 0 where
   pub within : read ≤ length text
@@ -27,7 +27,7 @@ pub record HasDecodedTo (base : Base) (text : List ℕ) (read written : ℕ) (en
   pub fits : written ≤ length output
   pub writes : take written output ≡ flat_map (bytes_of_group base) (groups base (take read text))
 
--- A group without a fault: it has this many symbols, whose bytes stand at the front of the output.
+-- A group without a fault: it has this many symbols, and the output starts with their bytes.
 pub record IsDecodedGroup (base : Base) (group : List ℕ) (count : ℕ) (new : List ℕ)
     : Type 0 where
   pub within : count ≤ length group
@@ -47,14 +47,15 @@ pub record HasSymbols (base : Base) (group : List ℕ) (count : ℕ) : Type 0 wh
   pub valid : is_valid_count base.width count ≡ true
   pub fault_is : group_fault base group ≡ symbols_fault base (map (meaning base) (take count group))
 
--- A group has that fault, at one of its bytes, wherever it stands after a final one or none.
+-- A group has this fault at this index, whether it follows a final group or not.
 pub record HasFault (base : Base) (ended : Bool) (group : List ℕ) (fault : GroupFault)
     : Type 0 where
   pub inside : fault.index < length group
   pub is_fault : (placed : List Positioned) → bytes_in placed ≡ group
       → fault_after ended base placed ≡ fault_at fault.kind placed fault.index
 
--- The bytes of a part that are not ignored, up to the end of one of them: this many, or all.
+-- The prefix of this length has these bytes that are not ignored, and ends with one of them: they
+-- are as many as the size, or all that there are.
 pub record IsGathered (base : Base) (size : ℕ) (part bytes : List ℕ) (span : ℕ) : Type 0 where
   pub within : span ≤ length part
   pub bytes_are : bytes_in (kept base (take span part)) ≡ bytes
@@ -62,16 +63,17 @@ pub record IsGathered (base : Base) (size : ℕ) (part bytes : List ℕ) (span :
   pub few : length bytes ≤ size
   pub last : (length bytes ≡ size) ⊎ (length (kept base part) ≡ length bytes)
 
--- So many bytes at the front of a part are ignored.
+-- This many bytes of the prefix are ignored.
 pub record IsIgnoredFront (base : Base) (part : List ℕ) (count : ℕ) : Type 0 where
   pub within : count ≤ length part
   pub none : kept base (take count part) ≡ []
 
--- the greatest front of valid length
+-- the longest prefix of a valid length
 abbrev pub valid_front : Base → List ℕ → List ℕ
 valid_front base rest = take (greatest_valid_length base (length rest)) rest
 
--- The front of valid length decodes as it stands, to this many bytes: it is empty, or one group.
+-- The prefix of valid length decodes to this many bytes without ignoring any: it is empty, or one
+-- group.
 abbrev pub IsLastRun : Base → List ℕ → ℕ → List ℕ → Type 0
 IsLastRun base rest written new =
     ((length (valid_front base rest) ≡ 0) × (written ≡ 0))
@@ -80,15 +82,15 @@ IsLastRun base rest written new =
     × (count : ℕ) × IsDecodedGroup base (valid_front base rest) count new
     × (written ≡ base.width * count / 8))
 
--- It does not: it is more than a group, or a group with a fault.
+-- The prefix of valid length is not empty, and is longer than a group or a group with a fault.
 abbrev pub HasNoLastRun : Base → List ℕ → Type 0
 HasNoLastRun base rest =
     (0 < length (valid_front base rest))
     × (length (valid_front base rest) ≤ group_symbols base.width
     → is_some (group_fault base (valid_front base rest)) ≡ true)
 
--- What is reported of a faulty group, and of what was read and written before it: only where it is
--- too short may a last run be read too.
+-- What is reported of a faulty group, and how far the text was read and written: a last run is read
+-- too, but only if the group is too short.
 pub record IsStop (base : Base) (rest : List ℕ) (read written : ℕ) (fault : GroupFault)
     (new : List ℕ) (partial : DecodePartial) : Type 0 where
   pub error_is : partial.error ≡ record {
@@ -101,13 +103,13 @@ pub record IsStop (base : Base) (rest : List ℕ) (read written : ℕ) (fault : 
       × (more : ℕ) × (partial.written ≡ written + more)
       × (written + more ≤ length new) × IsLastRun base rest more (drop written new))
 
--- There is room for the front of valid length, where it is no more than a group.
+-- The output has room for the prefix of valid length, if that is at most a group.
 abbrev pub HasRoom : Base → List ℕ → ℕ → Type 0
 HasRoom base rest room =
     length (valid_front base rest) ≤ group_symbols base.width
     → base.width * length (valid_front base rest) / 8 ≤ room
 
--- A text without a fault: the bytes that were written are those that it means.
+-- The text has no fault, and the bytes that were written are those that it means.
 pub record IsDecoded (base : Base) (text : List ℕ) (written : ℕ) (output : List ℕ) : Type 0 where
   pub fits : written ≤ length output
   pub no_fault : fault_of base text ≡ None

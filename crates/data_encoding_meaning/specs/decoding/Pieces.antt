@@ -13,12 +13,13 @@ use Rattle.data_encoding_meaning.specs.laws.Laws.{further}
 use Rattle.data_encoding_meaning.specs.text.Lengths.{decoded_len, length_fault, most_bytes}
 use Rattle.data_encoding_meaning.specs.decoding.Partial.{is_length_fault, partial_of}
 
--- the whole groups of a text so far, and the bytes after the last of them
+-- the whole groups of a text so far
 abbrev pub whole_groups : Base → List ℕ → List (List Positioned)
 whole_groups base text =
     first_chunks (group_symbols base.width) (length (kept base text) / group_symbols base.width)
     (kept base text)
 
+-- the bytes after the last whole group
 abbrev pub unfinished : Base → List ℕ → List Positioned
 unfinished base text =
     drop (length (kept base text) / group_symbols base.width * group_symbols base.width)
@@ -29,13 +30,13 @@ abbrev pub whole_bytes : Base → List ℕ → List ℕ
 whole_bytes base text =
     flat_map (bytes_of_group base) (sound_groups base (whole_groups base text))
 
--- the fault of what is held at the end: of a last group, where there is one
+-- the fault of the bytes held at the end, which are the last group if there are any
 abbrev pub held_fault : Bool → Base → List Positioned → Option DecodeError
 held_fault ended base [] = None
 held_fault ended base (k ∷ ks) = fault_after ended base (k ∷ ks)
 
--- What a decoder keeps of a text: its length, the first fault of its whole groups, and where there
--- is none the bytes after these with their positions, and whether one of them was final.
+-- What a decoder keeps of a text: its length, and the first fault of its whole groups or, if they
+-- have none, the bytes after them with their positions, and whether one of the groups was final.
 pub record HasRead (base : Base) (text : List ℕ) (len : ℕ) (fault : Option DecodeError)
     (held : List Positioned) (ended : Bool) : Type 0 where
   pub counted : len ≡ length text
@@ -43,20 +44,21 @@ pub record HasRead (base : Base) (text : List ℕ) (len : ℕ) (fault : Option D
   pub holds : fault ≡ None → held ≡ unfinished base text
   pub ends : fault ≡ None → ended ≡ list_any (is_final base) (whole_groups base text)
 
--- Behind a vector the bytes of the whole groups were appended.
+-- The bytes of the whole groups were appended to what the vector held.
 pub record HasDecoded (base : Base) (before text output : List ℕ) : Type 0 where
   pub appended : output ≡ before ++ whole_bytes base text
 
--- the bytes that were held behind a text of that length, and those of a piece that are not ignored
+-- the bytes that were held after a text of this length, followed by those of a piece that are not
+-- ignored
 abbrev pub held_with : Base → ℕ → List Positioned → List ℕ → List Positioned
 held_with base len held piece =
     held ++ filter (λ k. not (is_ignored (meaning base k.byte))) (positioned_from len piece)
 
--- the bytes of a group, where there is no fault
+-- the bytes of a group, or none if there is a fault
 abbrev pub bytes_unless : Option DecodeError → Base → List Positioned → List ℕ
 bytes_unless fault base group = if is_some fault then [] else bytes_of_group base group
 
--- Of no text nothing is kept.
+-- Before the first byte nothing is kept and nothing is decoded.
 abbrev pub ReadsNothing : Type 0
 ReadsNothing =
     (base : Base) → IsSpecified base
@@ -71,7 +73,8 @@ HoldsPiece =
     → HasRead base (text ++ piece) (len + length piece) None (held_with base len held piece) ended
     × (whole_bytes base (text ++ piece) ≡ whole_bytes base text)
 
--- A piece that completes one group, and no more, has it judged, and decoded where it has no fault.
+-- A piece that completes one group, and leaves nothing after it, has it judged, and decoded if it
+-- has no fault.
 abbrev pub ReadsGroup : Type 0
 ReadsGroup =
     (base : Base) → IsSpecified base → (text piece : List ℕ) (len : ℕ)
@@ -82,7 +85,7 @@ ReadsGroup =
     × (whole_bytes base (text ++ piece)
     ≡ whole_bytes base text ++ bytes_unless (fault_after ended base group) base group)
 
--- After a fault nothing changes but the length.
+-- After a fault only the length changes.
 abbrev pub KeepsFault : Type 0
 KeepsFault =
     (base : Base) → IsSpecified base → (text piece : List ℕ) (len : ℕ) (error : DecodeError)
@@ -91,13 +94,14 @@ KeepsFault =
     → HasRead base (text ++ piece) (len + length piece) (Some error) other end
     × (whole_bytes base (text ++ piece) ≡ whole_bytes base text)
 
--- Bytes that were decoded stay, and others are appended.
+-- Bytes that were decoded stay, and more may be appended.
 abbrev pub KeepsBytes : Type 0
 KeepsBytes =
     (base : Base) → IsSpecified base → (text piece : List ℕ)
     → (more : List ℕ) × (whole_bytes base (text ++ piece) ≡ whole_bytes base text ++ more)
 
--- The fault of a text: of its length, or of its whole groups, or else of what is held.
+-- The fault of a text is that of its length, or else of its whole groups, or else of the bytes
+-- held.
 abbrev pub TellsFault : Type 0
 TellsFault =
     (base : Base) → IsSpecified base → (text : List ℕ) (len : ℕ) (fault : Option DecodeError)
@@ -105,8 +109,8 @@ TellsFault =
     → fault_of base text
     ≡ or_else (length_fault base len) (or_else fault (held_fault ended base held))
 
--- The bytes of a text: those of its whole groups, and then those of what is held, unless there is a
--- fault.
+-- The bytes of a text are those of its whole groups, followed by those of the bytes held unless
+-- there is a fault.
 abbrev pub TellsBytes : Type 0
 TellsBytes =
     (base : Base) → IsSpecified base → (text : List ℕ) (len : ℕ) (fault : Option DecodeError)
@@ -114,12 +118,13 @@ TellsBytes =
     → sound_bytes base text
     ≡ whole_bytes base text ++ bytes_unless (or_else fault (held_fault ended base held)) base held
 
--- the fault of the bytes of a group, at the position of that byte of the group
+-- the fault of a group that is read as a text, at the position of the group's byte
 abbrev pub fault_in : List Positioned → Option DecodeError → Option DecodeError
 fault_in group None = None
 fault_in group (Some fault) = fault_at fault.kind group fault.position
 
--- A group of which no byte is ignored has the fault of its bytes as a text of their own, or theirs.
+-- A group in which no byte is ignored has the fault that its bytes have as a text, and otherwise
+-- the bytes of that text.
 abbrev pub JudgesGroup : Type 0
 JudgesGroup =
     (base : Base) → IsSpecified base → (group : List Positioned)
@@ -129,8 +134,8 @@ JudgesGroup =
     × (fault_of base (bytes_in group) ≡ None
     → bytes_of_group base group ≡ sound_bytes base (bytes_in group))
 
--- A piece that means data and is whole groups, behind whole groups of which none was final, has its
--- data appended.
+-- A piece of whole groups that means data has its data appended, if it follows whole groups of
+-- which none was final.
 abbrev pub ReadsSound : Type 0
 ReadsSound =
     (base : Base) → IsSpecified base → (text piece bytes : List ℕ) (len : ℕ)
@@ -140,17 +145,17 @@ ReadsSound =
     (list_any (is_final base) (groups base piece))
     × (whole_bytes base (text ++ piece) ≡ whole_bytes base text ++ bytes)
 
--- A fault of this kind of a text of this length is that of a whole group: it is not of a length,
--- texts may be concatenated, and either nothing is ignored and the length is that of whole groups,
--- or fewer symbols than a group's mean no byte.
+-- A fault of this kind in a piece of this length is that of a whole group: it is not the fault of a
+-- length, texts may be concatenated, and either nothing is ignored and the length is that of whole
+-- groups, or fewer symbols than a group has mean no byte.
 pub record IsOfWholeGroup (base : Base) (len : ℕ) (kind : DecodeKind) : Type 0 where
   pub not_length : is_length_fault kind ≡ false
   pub joins : base.concatenates ≡ true
   pub whole : ((ignores_some base ≡ false) × (len % group_symbols base.width ≡ 0))
       ⊎ (most_bytes base (group_symbols base.width - 1) ≡ 0)
 
--- A piece with a fault of a whole group, behind whole groups of which none was final, has that
--- fault kept, as far on as they are long, and the data before it appended.
+-- A piece with a fault of a whole group, after whole groups of which none was final, has that fault
+-- kept, with their length added to its position, and the data before it appended.
 abbrev pub ReadsFaulty : Type 0
 ReadsFaulty =
     (base : Base) → IsSpecified base → (text piece bytes : List ℕ) (len : ℕ)
@@ -161,8 +166,8 @@ ReadsFaulty =
     → HasRead base (text ++ piece) (len + length piece) (further len (Some partial.error)) [] false
     × (whole_bytes base (text ++ piece) ≡ whole_bytes base text ++ bytes)
 
--- A text that means data is whole groups where it is padded, or where eight bits are whole symbols;
--- and any text is, where nothing is ignored, if its length is that of whole groups.
+-- A text that means data is whole groups if it is padded, if eight bits are whole symbols, or if
+-- nothing is ignored and its length is that of whole groups.
 abbrev pub AreWhole : Type 0
 AreWhole =
     (base : Base) → IsSpecified base → (piece bytes : List ℕ) → Means base piece bytes
@@ -175,14 +180,14 @@ abbrev pub JoinsUnpadded : Type 0
 JoinsUnpadded =
     (base : Base) → IsSpecified base → base.padding ≡ None → base.concatenates ≡ true
 
--- Where texts may be concatenated, no group is final.
+-- If texts may be concatenated, no group is final.
 abbrev pub EndsNowhere : Type 0
 EndsNowhere =
     (base : Base) → base.concatenates ≡ true → (parts : List (List Positioned))
     → list_any (is_final base) parts ≡ false
 
--- A text that means data has a final group exactly where texts may not be concatenated and the data
--- are no whole groups of bytes.
+-- A text that means data has a final group if and only if texts may not be concatenated and the
+-- data is not whole groups of bytes.
 abbrev pub TellsEnd : Type 0
 TellsEnd =
     (base : Base) → IsSpecified base → (text bytes : List ℕ) → Means base text bytes
@@ -196,17 +201,17 @@ MeansWhole =
     → length bytes % group_bytes base.width ≡ 0
     → length (kept base text) % group_symbols base.width ≡ 0
 
--- For a number of whole groups of symbols, as many whole groups of bytes are due.
+-- A text of whole groups of symbols has as many whole groups of bytes due.
 abbrev pub CountsGroups : Type 0
 CountsGroups =
     (base : Base) → IsSpecified base → (count : ℕ)
     → decoded_len base (count * group_symbols base.width) ≡ Ok (count * group_bytes base.width)
 
--- No more bytes are due than the text is long.
+-- No more bytes are due than the text has.
 abbrev pub IsNoLonger : Type 0
 IsNoLonger = (base : Base) → IsSpecified base → (len : ℕ) → most_bytes base len ≤ len
 
--- Where nothing is ignored, each byte of a text is kept.
+-- If nothing is ignored, each byte of a text is kept.
 abbrev pub KeepsEach : Type 0
 KeepsEach =
     (base : Base) → ignores_some base ≡ false

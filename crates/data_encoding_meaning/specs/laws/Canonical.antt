@@ -1,4 +1,4 @@
--- One text for the same data, and what gives it a second one.
+-- Encodings in which data has one text only, and the causes of a second text.
 use Rattle.std.specs.Prelude.{◌≡◌, ℕ, ◌-◌, ◌≤◌, ◌/◌, ◌==◌, Bool, true, false, not, ◌&&◌, List, [], ◌∷◌, ◌++◌, length, take, replicate, Some}
 use Rattle.data_encoding_meaning.specs.declared.limits.TheConstants.{DECODE_LIMIT}
 use Rattle.data_encoding_meaning.specs.declared.encoding.BitOrder.{BitOrder}
@@ -17,14 +17,14 @@ IsCanonical base =
     → length text ≤ DECODE_LIMIT → length other ≤ DECODE_LIMIT
     → Means base text bytes → Means base other bytes → text ≡ other
 
--- no cause of a second text: trailing bits that are not checked, padding where texts may be
--- concatenated, an ignored byte, a translated byte
+-- whether there is no cause of a second text: trailing bits that are not checked, padding in texts
+-- that may be concatenated, an ignored byte, or a translated byte
 abbrev pub has_one_text : Base → Bool
 has_one_text base =
     base.checks_trailing_bits && not (is_padded base && base.concatenates)
     && not (ignores_some base) && (length (translated_bytes base) == 0)
 
--- Where data has one text only, each text that means data is the text of the data.
+-- If data has one text only, each text that means data is the text of that data.
 abbrev pub Canonical : Type 0
 Canonical =
     (base : Base) → IsSpecified base → has_one_text base ≡ true
@@ -38,12 +38,12 @@ pub record AreTwoTexts (base : Base) (one other bytes : List ℕ) : Type 0 where
   pub one_means : Means base one bytes
   pub other_means : Means base other bytes
 
--- An ignored byte means what no byte means.
+-- A text of one ignored byte means what the empty text means.
 abbrev pub IgnoredIsSecond : Base → Type 0
 IgnoredIsSecond base =
     (byte : ℕ) → is_ignored (meaning base byte) ≡ true → AreTwoTexts base [] (byte ∷ []) []
 
--- the value of a symbol of which only the last bit is 1
+-- the value of a symbol whose last bit alone is 1
 abbrev pub last_bit : BitOrder → ℕ → ℕ
 last_bit order width = number_of order (replicate (width - 1) 0 ++ 1 ∷ [])
 
@@ -60,14 +60,14 @@ TrailingIsSecond base =
     base.checks_trailing_bits ≡ false
     → AreTwoTexts base (padded_text base (0 ∷ [])) (trailing_text base) (0 ∷ [])
 
--- Where padded texts may be concatenated, two bytes may be in two groups.
+-- If padded texts may be concatenated, two bytes may be encoded as two texts.
 abbrev pub ConcatenatedIsSecond : Base → Type 0
 ConcatenatedIsSecond base =
     is_padded base ≡ true → base.concatenates ≡ true
     → AreTwoTexts base (padded_text base (0 ∷ []) ++ padded_text base (0 ∷ []))
     (padded_text base (0 ∷ 0 ∷ [])) (0 ∷ 0 ∷ [])
 
--- A byte that is translated to a symbol may stand for it.
+-- A byte that is translated to a symbol may replace it.
 abbrev pub SymbolIsSecond : Base → Type 0
 SymbolIsSecond base =
     (byte value : ℕ) → meaning base byte ≡ Symbol value → (symbol base value ≡ byte → ⊥)
@@ -79,7 +79,7 @@ abbrev pub text_ending_in : Base → ℕ → List ℕ
 text_ending_in base byte =
     take (group_symbols base.width - 1) (padded_text base (0 ∷ [])) ++ byte ∷ []
 
--- A byte that is translated to padding may stand for the last padding character.
+-- A byte that is translated to padding may replace the last padding character.
 abbrev pub PaddingIsSecond : Base → Type 0
 PaddingIsSecond base =
     (byte character : ℕ) → meaning base byte ≡ Padding → base.padding ≡ Some character

@@ -1,4 +1,4 @@
--- Data that is compared by its texts.
+-- Data that is compared by comparing texts.
 use Rattle.std.specs.Prelude.{◌≡◌, ◌↔◌, ℕ, ◌<◌, List, All, None}
 use Rattle.data_encoding_meaning.specs.text.Base.{Base}
 use Rattle.data_encoding_meaning.specs.laws.Canonical.{IsCanonical}
@@ -7,7 +7,7 @@ use Rattle.data_encoding_meaning.specs.text.Grammar.{Means}
 use Rattle.data_encoding_meaning.specs.laws.Order.{IsBefore, IsOrdered}
 use Rattle.data_encoding_meaning.specs.text.Text.{text_of}
 
--- Two lists are in order exactly where two others are, and equal exactly where those are.
+-- Two lists are in order if and only if two others are, and equal if and only if those are.
 pub record CompareAlike (one other first second : List ℕ) : Type 0 where
   pub order : IsBefore one other ↔ IsBefore first second
   pub equality : (one ≡ other) ↔ (first ≡ second)
@@ -19,7 +19,7 @@ OrderOfData =
     → (bytes others : List ℕ) → All (λ byte. byte < 256) bytes → All (λ byte. byte < 256) others
     → CompareAlike bytes others (text_of base bytes) (text_of base others)
 
--- Where an ordered base is canonical, any texts that mean data compare as their data does.
+-- If an ordered base is canonical, any texts that mean data compare as the data does.
 abbrev pub OrderOfTexts : Type 0
 OrderOfTexts =
     (base : Base) → IsSpecified base → IsCanonical base → IsOrdered base

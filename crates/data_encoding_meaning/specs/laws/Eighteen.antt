@@ -6,21 +6,22 @@ use Rattle.data_encoding_meaning.specs.specification.Fields.{Fields, base_of, Is
 use Rattle.data_encoding_meaning.specs.laws.Order.{IsOrdered}
 use Rattle.data_encoding_meaning.specs.specification.Predefined.{hexlower_fields, hexlower_permissive_fields, hexupper_fields, hexupper_permissive_fields, base32_fields, base32_nopad_fields, base32_nopad_nocase_fields, base32_nopad_visual_fields, base32hex_fields, base32hex_nopad_fields, base32_dnssec_fields, base32_dnscurve_fields, base64_fields, base64_nopad_fields, base64_mime_fields, base64_mime_permissive_fields, base64url_fields, base64url_nopad_fields}
 
--- A base is canonical exactly where it has no cause of a second text.
+-- A base is canonical if and only if it has no cause of a second text.
 abbrev pub CanonicalByCauses : Type 0
 CanonicalByCauses =
     (base : Base) → IsSpecified base → (has_one_text base ≡ true) ↔ IsCanonical base
 
--- The base of these fields has the property.
+-- The base that is built from these fields has the property.
 abbrev pub Yields : (Base → Type 0) → Fields → Type 0
 Yields P fields = (base : Base) → base_of fields ≡ Ok base → P base
 
--- those of the eighteen that are canonical, and the others
+-- the fields of those of the eighteen that are canonical
 abbrev pub canonical_fields : List Fields
 canonical_fields =
     hexlower_fields ∷ hexupper_fields ∷ base32_nopad_fields ∷ base32hex_nopad_fields
     ∷ base64_nopad_fields ∷ base64url_nopad_fields ∷ []
 
+-- the fields of those of the eighteen that are not canonical
 abbrev pub second_text_fields : List Fields
 second_text_fields =
     hexlower_permissive_fields ∷ hexupper_permissive_fields ∷ base32_fields
@@ -34,12 +35,13 @@ SixAreCanonical =
     All (Yields IsCanonical) canonical_fields
     × All (Yields (λ base. IsCanonical base → ⊥)) second_text_fields
 
--- those of the sixteen without lines whose texts keep the order of data, and the others
+-- the fields of those of the sixteen without lines whose texts keep the order of data
 abbrev pub ordered_fields : List Fields
 ordered_fields =
     hexlower_fields ∷ hexlower_permissive_fields ∷ hexupper_fields ∷ hexupper_permissive_fields
     ∷ base32hex_nopad_fields ∷ base32_dnssec_fields ∷ []
 
+-- the fields of those of the sixteen without lines whose texts do not keep the order of data
 abbrev pub unordered_fields : List Fields
 unordered_fields =
     base32_fields ∷ base32_nopad_fields ∷ base32_nopad_nocase_fields ∷ base32_nopad_visual_fields

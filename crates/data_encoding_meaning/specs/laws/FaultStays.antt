@@ -1,4 +1,4 @@
--- Faults that stay, whatever follows a text.
+-- Faults that stay the same, whatever follows the text.
 use Rattle.std.specs.Prelude.{◌≡◌, ℕ, ◌≤◌, ◌%◌, List, ◌++◌, length, Some, None}
 use Rattle.data_encoding_meaning.specs.declared.error.DecodeError.{DecodeError}
 use Rattle.data_encoding_meaning.specs.text.Base.{Base, group_symbols}
@@ -8,7 +8,8 @@ use Rattle.data_encoding_meaning.specs.text.Grammar.{kept}
 use Rattle.data_encoding_meaning.specs.text.Lengths.{length_fault}
 use Rattle.data_encoding_meaning.specs.decoding.Pieces.{whole_groups}
 
--- The first fault of the whole groups of a text is that of every longer text whose length has none.
+-- The first fault of the whole groups of a text is that of every longer text whose length is not a
+-- fault.
 abbrev pub GroupFaultStays : Type 0
 GroupFaultStays =
     (base : Base) → IsSpecified base → (text after : List ℕ) (error : DecodeError)
@@ -17,7 +18,7 @@ GroupFaultStays =
     → fault_of base (text ++ after) ≡ Some error
 
 -- The fault of a text whose kept bytes are whole groups is that of every longer text whose length
--- has none.
+-- is not a fault.
 abbrev pub FaultStays : Type 0
 FaultStays =
     (base : Base) → IsSpecified base → (text after : List ℕ) (error : DecodeError)
@@ -25,8 +26,8 @@ FaultStays =
     → fault_of base text ≡ Some error → length_fault base (length (text ++ after)) ≡ None
     → fault_of base (text ++ after) ≡ Some error
 
--- No text that begins with one without a fault whose kept bytes are whole groups has a fault
--- before the end of that one.
+-- If a text without a fault has whole groups as its kept bytes, no longer text has a fault before
+-- its end.
 abbrev pub NoFaultBefore : Type 0
 NoFaultBefore =
     (base : Base) → IsSpecified base → (text after : List ℕ) (error : DecodeError)

@@ -1,11 +1,12 @@
--- Texts compared in place of data.
+-- Texts that are compared instead of data.
 use Rattle.std.specs.Prelude.{◌≡◌, ℕ, ◌+◌, ◌-◌, ◌*◌, ◌^◌, ◌<◌, ◌⊎◌, List, [], ◌∷◌, All, AllPairs, Some}
 use Rattle.std.specs.Option.{ForSome}
 use Rattle.data_encoding_meaning.specs.declared.encoding.BitOrder.TheVariants.{MostSignificantFirst, LeastSignificantFirst}
 use Rattle.data_encoding_meaning.specs.text.Base.{Base, symbol}
 use Rattle.data_encoding_meaning.specs.text.Text.{text_of}
 
--- The first list comes before the second: by their first difference, a proper front first.
+-- The first list comes before the second: by their first difference, or because it is a proper
+-- prefix.
 abbrev pub IsBefore : List ℕ → List ℕ → Type 0
 IsBefore xs [] = ⊥
 IsBefore [] (y ∷ ys) = Unit {0}
@@ -17,21 +18,21 @@ KeepsOrder base =
     (bytes others : List ℕ) → All (λ byte. byte < 256) bytes → All (λ byte. byte < 256) others
     → IsBefore bytes others → IsBefore (text_of base bytes) (text_of base others)
 
--- What that takes: the most significant bit first, symbols that ascend, and padding before each
--- symbol.
+-- What keeping the order takes: the most significant bit first, ascending symbols, and padding that
+-- comes before each symbol.
 pub record IsOrdered (base : Base) : Type 0 where
   pub most_significant_first : base.order ≡ MostSignificantFirst
   pub ascending : AllPairs (λ a b. a < b) base.symbols
   pub padding_first : ForSome base.padding (λ character. All (λ s. character < s) base.symbols)
 
--- These data are in order, and their texts are not.
+-- This data is in order, and its texts are not.
 pub record BreaksOrder (base : Base) (bytes others : List ℕ) : Type 0 where
   pub are_bytes : All (λ byte. byte < 256) bytes
   pub others_are_bytes : All (λ byte. byte < 256) others
   pub in_order : IsBefore bytes others
   pub not_in_order : IsBefore (text_of base bytes) (text_of base others) → ⊥
 
--- Data whose texts are not in order, where one of the three is missing.
+-- For each of the three conditions that fails, data whose texts are not in order.
 pub record IsBroken (base : Base) : Type 0 where
   pub least_significant_first : base.order ≡ LeastSignificantFirst
       → BreaksOrder base (0 ∷ []) (1 ∷ [])

@@ -11,14 +11,14 @@ use Rattle.data_encoding_meaning.specs.text.Text.{text_of}
 abbrev pub kept_bytes : Base → List ℕ → List ℕ
 kept_bytes base text = filter (λ byte. not (is_ignored (meaning base byte))) text
 
--- Texts of the same bytes but for ignored ones mean the same.
+-- Texts that differ in ignored bytes only mean the same.
 abbrev pub SameKeptBytes : Type 0
 SameKeptBytes =
     (base : Base) → IsSpecified base → (text other bytes : List ℕ)
     → kept_bytes base text ≡ kept_bytes base other → Means base text bytes
     → Means base other bytes
 
--- Texts whose bytes mean the same one by one have the same fault, and mean the same.
+-- Texts whose bytes mean the same, one by one, have the same fault and mean the same data.
 abbrev pub Translated : Type 0
 Translated =
     (base : Base) → IsSpecified base → (text other : List ℕ)
@@ -26,35 +26,36 @@ Translated =
     → (fault_of base text ≡ fault_of base other)
     × ((bytes : List ℕ) → Means base text bytes → Means base other bytes)
 
--- the character of another base for the value of a symbol, or for padding; any other byte itself
+-- the character that another base has for the value of a symbol or for padding, or the byte itself
 abbrev pub exchanged : Base → Base → ℕ → ℕ
 exchanged base other byte = unwrap_or (own_character other (meaning base byte)) byte
 
--- each byte replaced by the symbol or the padding character that it stands for, if any
+-- a text in which each byte that means a symbol or padding is replaced by that character
 abbrev pub own_form : Base → List ℕ → List ℕ
 own_form base text = map (exchanged base base) text
 
--- Each byte means what it is replaced by means.
+-- Each byte means the same as the byte that replaces it.
 abbrev pub OwnForm : Type 0
 OwnForm =
     (base : Base) → IsSpecified base → (text : List ℕ)
     → map (meaning base) text ≡ map (meaning base) (own_form base text)
 
--- no cause of a second text but a translated byte
+-- whether a translated byte is the only possible cause of a second text
 abbrev pub has_one_own_form : Base → Bool
 has_one_own_form base =
     base.checks_trailing_bits && not (is_padded base && base.concatenates)
     && not (ignores_some base)
 
--- Where only a translated byte gives a second text, two texts that mean data mean the same data
--- exactly where their own forms are equal.
+-- If only translated bytes give a second text, two texts that mean data mean the same data if and
+-- only if their own forms are equal.
 abbrev pub OwnForms : Type 0
 OwnForms =
     (base : Base) → IsSpecified base → has_one_own_form base ≡ true
     → (text other bytes others : List ℕ) → Means base text bytes → Means base other others
     → (bytes ≡ others) ↔ (own_form base text ≡ own_form base other)
 
--- And the own form of a text that means data is the text of the data.
+-- If only translated bytes give a second text, the own form of a text that means data is the text
+-- of the data.
 abbrev pub OwnText : Type 0
 OwnText =
     (base : Base) → IsSpecified base → has_one_own_form base ≡ true
@@ -67,20 +68,21 @@ pub record DifferInSymbols (base other : Base) : Type 0 where
   pub padded : is_padded base ≡ is_padded other
   pub wrapping : base.wrapping ≡ other.wrapping
 
--- Then the text of data in the other is that in the base, with each symbol exchanged.
+-- The text of data in the other base is that in the first, with each symbol exchanged.
 abbrev pub SameButSymbols : Type 0
 SameButSymbols =
     (base other : Base) → IsSpecified base → DifferInSymbols base other
     → (bytes : List ℕ) → text_of other bytes ≡ map (exchanged base other) (text_of base bytes)
 
--- They check trailing bits alike, concatenate alike, and ignore the same bytes, too.
+-- The bases also check trailing bits alike, concatenate alike and ignore the same bytes.
 pub record DifferInSymbolsAlone (base other : Base) : Type 0 where
   pub in_symbols : DifferInSymbols base other
   pub checks : base.checks_trailing_bits ≡ other.checks_trailing_bits
   pub concatenates : base.concatenates ≡ other.concatenates
   pub ignored : ignored_bytes base ≡ ignored_bytes other
 
--- Then texts whose bytes mean the same in each, one by one, have the same fault, and mean the same.
+-- Texts whose bytes mean the same in each of the two bases, one by one, have the same fault and
+-- mean the same data.
 abbrev pub SameInBoth : Type 0
 SameInBoth =
     (base other : Base) → IsSpecified base → IsSpecified other → DifferInSymbolsAlone base other
@@ -92,20 +94,21 @@ SameInBoth =
 abbrev pub exchanged_text : Base → Base → List ℕ → List ℕ
 exchanged_text base other text = map (exchanged base other) text
 
--- Any text that means data means the same in the other, with each character exchanged.
+-- Any text that means data means the same in the other base, with each character exchanged.
 abbrev pub MeansExchanged : Type 0
 MeansExchanged =
     (base other : Base) → IsSpecified base → IsSpecified other → DifferInSymbolsAlone base other
     → (text bytes : List ℕ) → Means base text bytes
     → Means other (exchanged_text base other text) bytes
 
--- No invalid byte of the text means something in the other.
+-- No byte of the text that is invalid in the base means something in the other.
 abbrev pub IsInvalidInBoth : Base → Base → List ℕ → Type 0
 IsInvalidInBoth base other text =
     All (λ byte. is_invalid (meaning base byte) ≡ true → is_invalid (meaning other byte) ≡ true)
     text
 
--- Then a text has the same fault in both, at the same position.
+-- If no invalid byte means something in the other base, the exchanged text has the same fault at
+-- the same position.
 abbrev pub FaultExchanged : Type 0
 FaultExchanged =
     (base other : Base) → IsSpecified base → IsSpecified other → DifferInSymbolsAlone base other

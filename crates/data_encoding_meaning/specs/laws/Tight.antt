@@ -1,4 +1,4 @@
--- Lengths that tell exactly how many bytes a text means.
+-- Lengths that determine how many bytes a text means.
 use Rattle.std.specs.Prelude.{◌≡◌, ℕ, false, List, length, None, Ok}
 use Rattle.data_encoding_meaning.specs.text.Base.{Base, ignores_some}
 use Rattle.data_encoding_meaning.specs.specification.Fields.{IsSpecified}
@@ -13,7 +13,7 @@ MeansMost =
     (base : Base) → IsSpecified base → base.padding ≡ None → ignores_some base ≡ false
     → (text bytes : List ℕ) → Means base text bytes → length bytes ≡ most_bytes base (length text)
 
--- Without padding and lines, the length of the text of data tells the length of the data.
+-- Without padding and lines, the length of the text of data determines the length of the data.
 abbrev pub LengthAgain : Type 0
 LengthAgain =
     (base : Base) → IsSpecified base → base.padding ≡ None → base.wrapping ≡ None

@@ -1,4 +1,4 @@
--- Verdicts on texts, and what a text means; texts of different data, and their lengths.
+-- The fault of a text and what it means; the texts of different data, and their lengths.
 use Rattle.std.specs.Prelude.{◌≡◌, ◌↔◌, ℕ, ◌<◌, List, length, All, None}
 use Rattle.data_encoding_meaning.specs.text.Base.{Base}
 use Rattle.data_encoding_meaning.specs.laws.Canonical.{IsCanonical}
@@ -7,21 +7,20 @@ use Rattle.data_encoding_meaning.specs.specification.Fields.{IsSpecified}
 use Rattle.data_encoding_meaning.specs.text.Grammar.{Means}
 use Rattle.data_encoding_meaning.specs.text.Text.{text_of}
 
--- A text means bytes exactly where it has no fault and these are its sound bytes.
+-- A text means bytes if and only if it has no fault and they are its sound bytes.
 abbrev pub MeansSound : Type 0
 MeansSound =
     (base : Base) → IsSpecified base → (text bytes : List ℕ)
     → Means base text bytes ↔ ((fault_of base text ≡ None) × (sound_bytes base text ≡ bytes))
 
--- Different data have different texts.
+-- Different data has different texts.
 abbrev pub Injective : Type 0
 Injective =
     (base : Base) → IsSpecified base → (bytes others : List ℕ)
     → All (λ byte. byte < 256) bytes → All (λ byte. byte < 256) others
     → text_of base bytes ≡ text_of base others → bytes ≡ others
 
--- Where a base is canonical, a text that means data is as long as the text of any data of that
--- length.
+-- If a base is canonical, a text that means data is as long as the text of any data of that length.
 abbrev pub FixedLength : Type 0
 FixedLength =
     (base : Base) → IsSpecified base → IsCanonical base → (text bytes others : List ℕ)

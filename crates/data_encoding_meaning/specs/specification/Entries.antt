@@ -1,10 +1,11 @@
--- The table of values: what its entries mean.
+-- The table of values, and what its entries mean.
 use Rattle.std.specs.Prelude.{◌≡◌, ℕ, ◌==◌, nat_lt, Bool, ◌&&◌, ◌||◌, IsTrue, if◌then◌else◌, List, take, drop, replicate}
 use Rattle.std.specs.List.{list_all}
 use Rattle.data_encoding_meaning.specs.declared.encoding.Character.{Character}
 use Rattle.data_encoding_meaning.specs.declared.encoding.Character.TheVariants.{Symbol, Padding, Ignored, Invalid}
 
--- an entry: the value of a symbol, 128 where the byte means nothing, 129 ignored, 130 padding
+-- what an entry means: a value below 64 is that of a symbol, 129 is ignored, 130 is padding, and
+-- any other is invalid
 abbrev pub meaning_of_entry : ℕ → Character
 meaning_of_entry entry =
     if nat_lt entry 64 then Symbol entry
@@ -12,11 +13,11 @@ meaning_of_entry entry =
     else if entry == 130 then Padding
     else Invalid
 
--- an entry where there are this many symbols
+-- whether an entry is allowed with this many symbols
 abbrev pub is_entry_of : ℕ → ℕ → Bool
 is_entry_of count entry = nat_lt entry count || (nat_lt 127 entry && nat_lt entry 131)
 
--- a byte from 128 on means nothing
+-- Each byte below 128 has a valid entry, and each byte from 128 on is invalid.
 pub record HoldsEntries (values : List ℕ) : Type 0 where
   pub entries : IsTrue (list_all (is_entry_of 64) (take 128 values))
   pub invalid_from_128 : drop 128 values ≡ replicate 128 128

@@ -1,10 +1,10 @@
--- The predefined encodings by their names, and by their numbers, which count them in order.
+-- The predefined encodings by name, and by number in the order of this list.
 use Rattle.std.specs.Prelude.{◌≡◌, ℕ, List, [], ◌∷◌, ◌++◌, codes, bytes_eq, flat_map, map, position, slice_get, slice_index_or, Option, Some, None, Ok}
 use Rattle.data_encoding_meaning.specs.text.Base.{Base}
 use Rattle.data_encoding_meaning.specs.specification.Fields.{Fields, base_of}
 use Rattle.data_encoding_meaning.specs.specification.Predefined.{hexlower_fields, hexlower_permissive_fields, hexupper_fields, hexupper_permissive_fields, base32_fields, base32_nopad_fields, base32_nopad_nocase_fields, base32_nopad_visual_fields, base32hex_fields, base32hex_nopad_fields, base32_dnssec_fields, base32_dnscurve_fields, base64_fields, base64_nopad_fields, base64_mime_fields, base64_mime_permissive_fields, base64url_fields, base64url_nopad_fields}
 
--- each name, with its specification
+-- each name with its specification
 abbrev pub predefined : List (List ℕ × Fields)
 predefined =
     (codes "HEXLOWER", hexlower_fields)
@@ -27,6 +27,7 @@ predefined =
     ∷ (codes "BASE64URL_NOPAD", base64url_nopad_fields)
     ∷ []
 
+-- the names in order
 abbrev pub names : List (List ℕ)
 names = map (λ (entry : List ℕ × Fields). entry.0) predefined
 
@@ -34,25 +35,25 @@ names = map (λ (entry : List ℕ × Fields). entry.0) predefined
 abbrev pub listing : List ℕ
 listing = flat_map (λ name. name ++ 10 ∷ []) names
 
--- the name of a number, where it has one
+-- the name of a number, if it has one
 abbrev pub name_numbered : ℕ → Option (List ℕ)
 name_numbered number = slice_get names number
 
--- the number of a name, where it is known
+-- the number of a name, if it is known
 abbrev pub number_named : List ℕ → Option ℕ
 number_named name = position (bytes_eq name) names
 
--- the specification of a number, where it has one
+-- the specification of a number, if it has one
 abbrev pub fields_numbered : ℕ → Option Fields
 fields_numbered number =
     slice_index_or (map (λ (entry : List ℕ × Fields). Some entry.1) predefined) number None
 
--- that of a number that there may be
+-- the specification of a number, if there is a number and it has one
 abbrev pub fields_at : Option ℕ → Option Fields
 fields_at None = None
 fields_at (Some number) = fields_numbered number
 
--- the specification of a name, where it is known
+-- the specification of a name, if it is known
 abbrev pub fields_named : List ℕ → Option Fields
 fields_named name = fields_at (number_named name)
 

@@ -4,7 +4,7 @@ use Rattle.data_encoding_meaning.specs.text.Base.{Base, IsWidth, group_symbols}
 use Rattle.data_encoding_meaning.specs.specification.Fields.{IsSpecified}
 use Rattle.data_encoding_meaning.specs.specification.Layout.{layout}
 
--- No two bases have one layout.
+-- No two bases have the same layout.
 abbrev pub OneLayout : Type 0
 OneLayout = (a b : Base) → IsSpecified a → IsSpecified b → layout a ≡ layout b → a ≡ b
 
@@ -12,19 +12,19 @@ OneLayout = (a b : Base) → IsSpecified a → IsSpecified b → layout a ≡ la
 abbrev pub entry_in : List ℕ → ℕ → ℕ
 entry_in bytes byte = slice_index bytes (256 + byte)
 
--- By these bytes the byte is ignored.
+-- In these bytes the byte is ignored.
 abbrev pub IsIgnoredIn : List ℕ → ℕ → Type 0
 IsIgnoredIn bytes byte = (byte < 128) × (entry_in bytes byte ≡ 129)
 
--- Byte 512 is 128, and no byte is padding; or it is one that is, and eight bits are no whole
--- symbols.
+-- Byte 512 is 128 and no byte is padding; or it is the padding character, and eight bits are not
+-- whole symbols.
 abbrev pub TellsPadding : ℕ → List ℕ → Type 0
 TellsPadding width bytes =
     ((slice_index bytes 512 ≡ 128) × ((byte : ℕ) → byte < 128 → entry_in bytes byte ≢ 130))
     ⊎ ((slice_index bytes 512 < 128) × (entry_in bytes (slice_index bytes 512) ≡ 130)
     × (8 % width ≢ 0))
 
--- Byte 514 is a number of whole groups, and 1 to 255 bytes that are ignored follow it.
+-- Byte 514 is the length of one or more whole groups, and 1 to 255 ignored bytes follow it.
 pub record TellsLines (width : ℕ) (bytes : List ℕ) : Type 0 where
   pub some : 0 < slice_index bytes 514
   pub short : slice_index bytes 514 < 256
@@ -33,18 +33,17 @@ pub record TellsLines (width : ℕ) (bytes : List ℕ) : Type 0 where
   pub ends_short : length bytes ≤ 770
   pub ignored : (k : ℕ) → 515 ≤ k → k < length bytes → IsIgnoredIn bytes (slice_index bytes k)
 
--- Byte 513 is followed by nothing, where no byte is ignored; by one 0, where one is; or by the
--- lines.
+-- Byte 513 is followed by nothing if no byte is ignored, by one 0 if one is, or by the lines.
 abbrev pub TellsWrapping : ℕ → List ℕ → Type 0
 TellsWrapping width bytes =
     ((length bytes ≡ 514) × ((byte : ℕ) → IsIgnoredIn bytes byte → ⊥))
     ⊎ ((length bytes ≡ 515) × (slice_index bytes 514 ≡ 0) × ((byte : ℕ) × IsIgnoredIn bytes byte))
     ⊎ TellsLines width bytes
 
--- A symbol has one to six bits. Byte 513 is below 64, has the bit of 16 where eight bits are whole
--- symbols, and that of 32 only with padding. The symbols stand again and again, are ASCII, and each
--- has its own value as its entry; any other entry is the value of a symbol, or 128 to 130, and 128
--- from byte 128 on.
+-- A symbol has one to six bits. Byte 513 is below 64; it has the bit 16 if eight bits are whole
+-- symbols, and the bit 32 only with padding. The symbols are repeated up to byte 255, are ASCII,
+-- and each has its own value as its entry. Any other entry is the value of a symbol or 128 to 130,
+-- and those from byte 128 on are 128.
 pub record IsLayoutOf (width : ℕ) (bytes : List ℕ) : Type 0 where
   pub is_width : IsWidth width
   pub flags : slice_index bytes 513 < 64
@@ -59,11 +58,11 @@ pub record IsLayoutOf (width : ℕ) (bytes : List ℕ) : Type 0 where
   pub padding : TellsPadding width bytes
   pub end : TellsWrapping width bytes
 
--- The bytes keep the rules, with the width that byte 513 has.
+-- The bytes keep the rules, for the width in byte 513.
 abbrev pub IsLayout : List ℕ → Type 0
 IsLayout bytes = IsLayoutOf (slice_index bytes 513 % 8) bytes
 
--- Bytes are the layout of a base exactly where they keep the rules.
+-- Bytes are the layout of a base if and only if they keep the rules.
 abbrev pub Layouts : Type 0
 Layouts =
     (bytes : List ℕ)

@@ -1,4 +1,4 @@
--- What an encoding means: its base.
+-- The base of an encoding: all that says what its texts mean.
 use Rattle.std.specs.Prelude.{ℕ, ◌<◌, ◌≤◌, ◌*◌, ◌/◌, ◌%◌, ◌==◌, Bool, true, false, List, Option, Some, None, is_some, slice_index_or, if◌then◌else◌, ◌≡◌, zero, suc}
 use Rattle.std.specs.List.{list_any}
 use Rattle.data_encoding_meaning.specs.declared.encoding.BitOrder.{BitOrder}
@@ -10,8 +10,8 @@ pub record Wrapping : Type 0 where
   pub column : ℕ
   pub separator : List ℕ
 
--- symbols of width bits in order of value, and the meaning of each byte below 128; where it does
--- not concatenate, a text ends with its first padded group
+-- symbols of width bits in order of value, and the meaning of each byte below 128; if texts may not
+-- be concatenated, a text ends with its first padded group
 pub record Base : Type 0 where
   pub width : ℕ
   pub order : BitOrder
@@ -27,7 +27,7 @@ pub record IsWidth (width : ℕ) : Type 0 where
   pub some : 0 < width
   pub few : width ≤ 6
 
--- what a byte means: one from 128 on is invalid
+-- what a byte means; each from 128 on is invalid
 abbrev pub meaning : Base → ℕ → Character
 meaning base byte = slice_index_or base.meanings byte Invalid
 
@@ -35,36 +35,44 @@ meaning base byte = slice_index_or base.meanings byte Invalid
 abbrev pub symbol : Base → ℕ → ℕ
 symbol base value = slice_index_or base.symbols value 0
 
+-- whether a character is a symbol
 abbrev pub is_symbol : Character → Bool
 is_symbol (Symbol value) = true
 is_symbol _ = false
 
+-- the value of a symbol
 abbrev pub value_of : Character → Option ℕ
 value_of (Symbol value) = Some value
 value_of _ = None
 
+-- whether a character is padding
 abbrev pub is_padding : Character → Bool
 is_padding Padding = true
 is_padding _ = false
 
+-- whether a character is ignored
 abbrev pub is_ignored : Character → Bool
 is_ignored Ignored = true
 is_ignored _ = false
 
+-- whether a character is invalid
 abbrev pub is_invalid : Character → Bool
 is_invalid Invalid = true
 is_invalid _ = false
 
+-- whether the base has a padding character
 abbrev pub is_padded : Base → Bool
 is_padded base = is_some base.padding
 
+-- whether some byte is ignored
 abbrev pub ignores_some : Base → Bool
 ignores_some base = list_any is_ignored base.meanings
 
--- the bytes and the symbols of a whole group, the fewest of which the bits are as many
+-- the bytes of a whole group, the fewest whose bits are whole symbols
 abbrev pub group_bytes : ℕ → ℕ
 group_bytes width = if width == 5 then 5 else if width % 3 == 0 then 3 else 1
 
+-- the symbols of a whole group
 abbrev pub group_symbols : ℕ → ℕ
 group_symbols width = group_bytes width * 8 / width
 
@@ -74,7 +82,7 @@ pub record IsGroup (width bytes symbols : ℕ) : Type 0 where
   pub has_bytes : bytes ≡ group_bytes width
   pub has_symbols : symbols ≡ group_symbols width
 
--- lines of no characters are no lines
+-- lines of this width, or none if it is 0
 abbrev pub wrapping_by : ℕ → List ℕ → Option Wrapping
 wrapping_by zero separator = None
 wrapping_by (suc n) separator = Some (record { column = suc n; separator = separator })

@@ -4,7 +4,7 @@ use Rattle.std.specs.Simd.{first_chunks}
 use Rattle.data_encoding_meaning.specs.declared.encoding.BitOrder.{BitOrder}
 use Rattle.data_encoding_meaning.specs.declared.encoding.BitOrder.TheVariants.{MostSignificantFirst, LeastSignificantFirst}
 
--- the lowest bits of a number, the one of weight 1 first
+-- this many of the lowest bits of a number, the one of weight 1 first
 abbrev pub low_bits : ℕ → ℕ → List ℕ
 low_bits zero number = []
 low_bits (suc count) number = number % 2 ∷ low_bits count (number / 2)
@@ -28,7 +28,7 @@ number_of MostSignificantFirst bits = number_of_low_bits (reverse bits)
 abbrev pub bits_of_bytes : BitOrder → List ℕ → List ℕ
 bits_of_bytes order bytes = flat_map (bits_of order 8) bytes
 
--- how many more make a multiple of the size
+-- how many more make this count a multiple of the size
 abbrev pub missing : ℕ → ℕ → ℕ
 missing size count = (size - count % size) % size
 

@@ -1,11 +1,11 @@
--- Data encoded piece by piece.
+-- Data that is encoded piece by piece.
 use Rattle.std.specs.Prelude.{◌≡◌, ℕ, ◌<◌, ◌%◌, List, ◌++◌, length}
 use Rattle.data_encoding_meaning.specs.text.Base.{Base}
 use Rattle.data_encoding_meaning.specs.text.Text.{text_of}
 use Rattle.data_encoding_meaning.specs.text.Lengths.{alignment}
 
--- To a text that of these bytes was appended, but for the last few, which are held until they fill
--- a block.
+-- The text of these bytes was appended to the text before, except that the last few are held until
+-- they fill a block.
 pub record HasEncoded (base : Base) (before bytes : List ℕ) (text held : List ℕ) : Type 0 where
   pub encoded : List ℕ
   pub are_bytes : bytes ≡ encoded ++ held

@@ -11,15 +11,16 @@ pub record Positioned : Type 0 where
   pub position : ℕ
   pub byte : ℕ
 
--- the bytes of a part that begins at this position
+-- the bytes of a piece of a text, counted from this position
 abbrev pub positioned_from : ℕ → List ℕ → List Positioned
 positioned_from position part =
     map (λ (p : ℕ × ℕ). record { position = p.0; byte = p.1 }) (enumerate_from position part)
 
+-- the bytes of a text, with their positions
 abbrev pub positioned : List ℕ → List Positioned
 positioned text = positioned_from 0 text
 
--- the bytes of a part, from this position on, that are not ignored
+-- the bytes of a piece of a text that are not ignored, counted from this position
 abbrev pub kept_in : Base → ℕ → List ℕ → List Positioned
 kept_in base start part =
     filter (λ k. not (is_ignored (meaning base k.byte))) (positioned_from start part)
@@ -28,23 +29,24 @@ kept_in base start part =
 abbrev pub kept : Base → List ℕ → List Positioned
 kept base text = kept_in base 0 text
 
--- those from a position on
+-- the bytes from a position on that are not ignored
 abbrev pub kept_from : Base → ℕ → List ℕ → List Positioned
 kept_from base read text = kept_in base read (drop read text)
 
--- in groups, the last perhaps shorter
+-- the groups of a text, of which the last may be shorter
 abbrev pub groups : Base → List ℕ → List (List Positioned)
 groups base text = runs (group_symbols base.width) (kept base text)
 
--- the bytes of a group, without their positions, and what each means
+-- the bytes of a group
 abbrev pub bytes_in : List Positioned → List ℕ
 bytes_in group = map (λ k. k.byte) group
 
+-- what the bytes of a group mean
 abbrev pub meanings_in : Base → List Positioned → List Character
 meanings_in base group = map (meaning base) (bytes_in group)
 
--- Symbols alone mean the bytes: their bits are those of the bytes, and then fewer than a symbol's,
--- which are zeros where that is checked.
+-- Symbols mean bytes: the bits of the symbols are those of the bytes, followed by fewer bits than a
+-- symbol has, which are zeros if they are checked.
 pub record PlainMeans (base : Base) (characters : List Character) (bytes : List ℕ) : Type 0 where
   pub values : List ℕ
   pub rest : List ℕ
@@ -55,8 +57,8 @@ pub record PlainMeans (base : Base) (characters : List Character) (bytes : List 
   pub rest_is_zero : base.checks_trailing_bits ≡ true → rest ≡ replicate (length rest) 0
   pub are_bytes : All (λ byte. byte < 256) bytes
 
--- A group of one or more symbols, and then padding alone, means what its symbols mean. It is whole;
--- where there is no padding it may be shorter, and holds symbols alone.
+-- A group of one or more symbols followed by padding means what its symbols mean. It is whole if
+-- the base is padded; otherwise it has no padding and may be shorter.
 pub record GroupMeans (base : Base) (group : List Character) (bytes : List ℕ) : Type 0 where
   pub symbols : List Character
   pub padding : ℕ
@@ -66,14 +68,15 @@ pub record GroupMeans (base : Base) (group : List Character) (bytes : List ℕ) 
   pub is_begun : 0 < length symbols
   pub means : PlainMeans base symbols bytes
 
--- a group that no other may follow: it has padding, and texts may not be concatenated
+-- whether no group may follow this one: it has padding, and texts may not be concatenated
 abbrev pub ends_text : Base → List Character → Bool
 ends_text base group = not base.concatenates && list_any is_padding group
 
+-- whether no group may follow this one, by its bytes
 abbrev pub is_final : Base → List Positioned → Bool
 is_final base group = ends_text base (meanings_in base group)
 
--- Each group means a piece, a final one is the last, and the bytes are the pieces joined.
+-- Each group means bytes, a final one is the last, and these are joined.
 abbrev pub GroupsMean : Base → List (List Character) → List ℕ → Type 0
 GroupsMean base [] bytes = bytes ≡ []
 GroupsMean base (group ∷ others) bytes =
@@ -81,6 +84,6 @@ GroupsMean base (group ∷ others) bytes =
     × GroupMeans base group piece × (ends_text base group ≡ true → others ≡ [])
     × GroupsMean base others more
 
--- The text means the data: its groups do, of which the last alone may be short.
+-- The text means the data: its groups do, of which only the last may be short.
 abbrev pub Means : Base → List ℕ → List ℕ → Type 0
 Means base text bytes = GroupsMean base (map (meanings_in base) (groups base text)) bytes

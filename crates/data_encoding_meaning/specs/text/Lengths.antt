@@ -5,55 +5,59 @@ use Rattle.data_encoding_meaning.specs.declared.error.DecodeError.{DecodeError}
 use Rattle.data_encoding_meaning.specs.text.Base.{Base, Wrapping, is_padded, ignores_some, group_bytes, group_symbols}
 use Rattle.data_encoding_meaning.specs.text.Text.{text_of}
 
--- The symbols of this count are whole bytes and fewer bits than a symbol's; the greatest such
--- count.
+-- whether this many symbols are whole bytes followed by fewer bits than a symbol has
 abbrev pub is_valid_count : ℕ → ℕ → Bool
 is_valid_count width count = nat_lt (width * count % 8) width
 
+-- the greatest valid count that is not above this one
 abbrev pub greatest_valid_count : ℕ → ℕ → ℕ
 greatest_valid_count width count = count - width * count % 8 / width
 
--- the same of a whole text, whose groups are whole where it is padded
+-- whether a text may have this length: in a padded base its groups are whole
 abbrev pub is_valid_length : Base → ℕ → Bool
 is_valid_length base len =
     if is_padded base then len % group_symbols base.width == 0
     else is_valid_count base.width len
 
+-- the greatest valid length that is not above this one
 abbrev pub greatest_valid_length : Base → ℕ → ℕ
 greatest_valid_length base len =
     if is_padded base then len / group_symbols base.width * group_symbols base.width
     else greatest_valid_count base.width len
 
--- the fault of a length, where nothing is ignored
+-- the fault of a length, if nothing is ignored
 abbrev pub length_fault : Base → ℕ → Option DecodeError
 length_fault base len =
     if not (ignores_some base) && not (is_valid_length base len)
     then Some (record { position = greatest_valid_length base len; kind = LengthFault })
     else None
 
--- as many bytes as a text of this length may mean
+-- the most bytes that a text of this length may mean
 abbrev pub most_bytes : Base → ℕ → ℕ
 most_bytes base len =
     if is_padded base then len / group_symbols base.width * group_bytes base.width
     else base.width * len / 8
 
+-- the length, unless there is a fault
 abbrev pub unless_fault : Option DecodeError → ℕ → Result ℕ DecodeError
 unless_fault None len = Ok len
 unless_fault (Some fault) len = Err fault
 
+-- what decode_len returns: the most bytes that a text of this length may mean, or its fault
 abbrev pub decoded_len : Base → ℕ → Result ℕ DecodeError
 decoded_len base len = unless_fault (length_fault base len) (most_bytes base len)
 
--- the bytes of a whole group, or of a whole line: at its multiples texts may be joined
+-- the bytes of a whole line, or of a whole group if there are no lines
 abbrev pub align_by : Option Wrapping → ℕ → ℕ
 align_by None width = group_bytes width
 align_by (Some wrapping) width = wrapping.column * width / 8
 
+-- the bytes of a block, at whose multiples texts may be joined
 abbrev pub alignment : Base → ℕ
 alignment base = align_by base.wrapping base.width
 
--- The text of this many bytes is at most this long, and that of several times as many bytes is at
--- most as many times as long.
+-- The text of a block of bytes is at most this long, and that of several blocks at most as many
+-- times as long.
 pub record IsBlockLength (base : Base) (len : ℕ) : Type 0 where
   pub some : 0 < alignment base
   pub no_shorter : alignment base ≤ len

@@ -74,7 +74,7 @@ returns-in-Question-clause-begun g c = λ not_2.
       });
     }
 
--- the words ask for the conversion
+-- the arguments ask for the conversion
 conversion : (g : Over) (c : goal.After-settle-in-Conversion g)
     → Asks (texts c.args.words.now) (Conversion c.in-Conversion.verb) c.in-Ok-Of.task.encoding
 conversion g c =

@@ -1,11 +1,11 @@
-//! Reads, writes and flushes that fail once, and would succeed if they were asked for again.
+//! Reads, writes and flushes that fail once, and would succeed at a second attempt.
 
 use super::*;
 
 #[test]
 fn an_interrupted_read_fails(rt: HostRuntime) -> Result<(), Fail> {
     for (words, input) in [("encode HEXLOWER", "Hello"), ("decode HEXLOWER", "48656")] {
-        // Of the four reads of five bytes the last finds their end.
+        // Five bytes take four reads, the last of which finds the end.
         for good_calls in 0..4usize {
             let mut reader = FakeReader::new(input.as_bytes(), 2);
             reader.good_calls = good_calls;
@@ -25,8 +25,8 @@ fn an_interrupted_read_fails(rt: HostRuntime) -> Result<(), Fail> {
     Ok(())
 }
 
-// Whether a run over five bytes ends with the call of its writer that fails, after these numbers of
-// writes and flushes, when this is written.
+// Whether a run over five bytes ends at the failing call of its writer, after these numbers of
+// writes and flushes, with these bytes written.
 fn is_end(
     alloc: Global,
     (words, input): (&str, &str),
@@ -85,7 +85,7 @@ fn an_interrupted_answer_fails(rt: HostRuntime) -> Result<(), Fail> {
         );
     }
     assert!(rt; is_end(rt.alloc(), question, Failure::Flush, (2, 1), "false\n")?);
-    // Of 255 bytes, three a write.
+    // 255 bytes, three in each write.
     let writer = FakeWriter::new(rt.alloc(), Failure::Flush, 0)?;
     let got = outcome_of(rt.alloc(), "list", FakeReader::new(b"Hello", 2), writer)?;
     assert!(rt; got.status == 3 && got.reads == 0);
@@ -93,7 +93,7 @@ fn an_interrupted_answer_fails(rt: HostRuntime) -> Result<(), Fail> {
     Ok(())
 }
 
-// The status is that of the failed read, though the line on it can't be printed.
+// The status is that of the failed read, although the line about it can't be printed.
 #[test]
 fn a_failed_read_fails_unseen(rt: HostRuntime) -> Result<(), Fail> {
     let mut reader = FakeReader::new(b"Hello", 2);

@@ -1,4 +1,4 @@
-//! Inputs and words that have no answer.
+//! Inputs and arguments that have no answer.
 
 use super::*;
 

@@ -85,7 +85,7 @@ pub fn hexlower_ref() -> EncodingRef<'static>
     EncodingRef { fields: &HEXLOWER }
 }
 
-/// Hexadecimal with the letters `a` to `f`, which reads `A` to `F` as these.
+/// Hexadecimal with the letters `a` to `f`; `A` to `F` are decoded as these.
 pub fn hexlower_permissive() -> Encoding
     ensures { base_of hexlower_permissive_fields ≡ Ok result }
 {
@@ -117,7 +117,7 @@ pub fn hexupper_ref() -> EncodingRef<'static>
     EncodingRef { fields: &HEXUPPER }
 }
 
-/// Hexadecimal with the letters `A` to `F`, which reads `a` to `f` as these.
+/// Hexadecimal with the letters `A` to `F`; `a` to `f` are decoded as these.
 pub fn hexupper_permissive() -> Encoding
     ensures { base_of hexupper_permissive_fields ≡ Ok result }
 {

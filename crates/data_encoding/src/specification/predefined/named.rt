@@ -1,4 +1,4 @@
-//! The predefined encodings by their names and by their numbers, in one table.
+//! The predefined encodings by name and by number, in one table.
 
 ghost use Rattle.std.specs.Prelude.{◌≡◌, ◌≤◌, ◌↔◌, length, IfSome, None, Some};
 ghost use Rattle.data_encoding_meaning.specs.specification.Named.{fields_named, fields_numbered, listing, name_numbered, number_named, IsNamed, IsNumbered};
@@ -11,8 +11,8 @@ use super::{
 };
 use crate::encoding::EncodingRef;
 
-// Each number, with the name and the function that returns the encoding. The rows are given to
-// another macro, after its own argument.
+// Passes each number, with the name and the function that returns the encoding, to another macro
+// after its own argument.
 macro_rules! with_predefined {
     ($to:ident $(, $argument:expr)?) => {
         $to! {
@@ -76,8 +76,8 @@ macro_rules! list {
     };
 }
 
-/// The predefined encoding of a name, such as `BASE64_MIME`, if it is one of the eighteen, in upper
-/// case.
+/// Returns the predefined encoding with this name, such as `BASE64_MIME`, if it is one of the
+/// eighteen, in upper case.
 pub fn predefined(name: &str) -> Option<EncodingRef<'static>>
     ensures known { IfSome result (IsNamed name.now) }
     ensures unknown { (result ≡ None) ↔ (fields_named name.now ≡ None) }
@@ -88,7 +88,8 @@ pub fn predefined(name: &str) -> Option<EncodingRef<'static>>
     }
 }
 
-/// The predefined encoding of a number, from 0 to 17, in the order of `predefined_names`.
+/// Returns the predefined encoding with this number, from 0 to 17, in the order of
+/// `predefined_names`, or `None` for any other number.
 pub fn predefined_numbered(number: u32) -> Option<EncodingRef<'static>>
     ensures known { IfSome result (IsNumbered number) }
     ensures unknown { (result ≡ None) ↔ (fields_numbered number ≡ None) }
@@ -96,7 +97,8 @@ pub fn predefined_numbered(number: u32) -> Option<EncodingRef<'static>>
     with_predefined!(encoding_at, number)
 }
 
-/// The name of the predefined encoding of a number, of at most 22 bytes.
+/// Returns the name of the predefined encoding with this number, or `None` if there is none. A name
+/// has at most 22 bytes.
 pub fn predefined_name(number: u32) -> Option<&'static str>
     ensures known { IfSome result (λ name. name_numbered number ≡ Some name.now) }
     ensures unknown { result ≡ None → name_numbered number ≡ None }
@@ -105,14 +107,14 @@ pub fn predefined_name(number: u32) -> Option<&'static str>
     with_predefined!(name_at, number)
 }
 
-/// The number of the predefined encoding of a name, where it is known.
+/// Returns the number of the predefined encoding with this name, if it is known.
 pub fn predefined_number(name: &str) -> Option<u32>
     ensures { result ≡ number_named name.now }
 {
     with_predefined!(number_at, name)
 }
 
-/// The names of the predefined encodings, each followed by LF.
+/// Returns the names of the predefined encodings, each followed by LF.
 pub fn predefined_names() -> &'static str
     ensures { result.now ≡ listing }
 {

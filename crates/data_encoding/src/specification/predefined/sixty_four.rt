@@ -7,7 +7,7 @@ ghost use Rattle.data_encoding_meaning.specs.specification.Predefined.{base64_fi
 use crate::encoding::{Encoding, EncodingRef, INVALID};
 use crate::plain::PlainFields;
 
-// The values of the symbols of RFC 4648, section 4, and the entries of a line's end and of `=`.
+// The values of the symbols of RFC 4648, section 4, and the entries of CR and LF and of `=`.
 macro_rules! base64_values {
     ($line:literal, $padding:literal) => {
         values![
@@ -139,8 +139,8 @@ pub fn base64_nopad_ref() -> EncodingRef<'static>
 /// [`base64`] in lines of 76 characters, each followed by CR LF, the last too: RFC 2045, section
 /// 6.8.
 ///
-/// CR and LF are ignored wherever they stand. Any other byte that is no symbol is a fault, though
-/// the RFC ignores it.
+/// CR and LF are ignored anywhere. Any other byte that is no symbol is a fault, although the RFC
+/// ignores it.
 pub fn base64_mime() -> Encoding
     ensures { base_of base64_mime_fields ≡ Ok result }
 {
@@ -157,7 +157,7 @@ pub fn base64_mime_ref() -> EncodingRef<'static>
     }
 }
 
-/// [`base64_mime`], which does not check the trailing bits.
+/// [`base64_mime`] without a check of the trailing bits.
 pub fn base64_mime_permissive() -> Encoding
     ensures { base_of base64_mime_permissive_fields ≡ Ok result }
 {
@@ -174,7 +174,7 @@ pub fn base64_mime_permissive_ref() -> EncodingRef<'static>
     }
 }
 
-/// [`base64`] with `-` and `_` in place of `+` and `/`: RFC 4648, section 5.
+/// [`base64`] with `-` and `_` instead of `+` and `/`: RFC 4648, section 5.
 pub fn base64url() -> Encoding
     ensures { base_of base64url_fields ≡ Ok result }
 {

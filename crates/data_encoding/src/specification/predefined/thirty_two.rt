@@ -171,7 +171,7 @@ pub fn base32_nopad_ref() -> EncodingRef<'static>
     }
 }
 
-/// [`base32_nopad`], which reads `a` to `z` as the letters of upper case.
+/// [`base32_nopad`]; `a` to `z` are decoded as upper case.
 pub fn base32_nopad_nocase() -> Encoding
     ensures { base_of base32_nopad_nocase_fields ≡ Ok result }
 {
@@ -188,8 +188,8 @@ pub fn base32_nopad_nocase_ref() -> EncodingRef<'static>
     }
 }
 
-/// [`base32_nopad`], which reads what looks like a symbol as that symbol: `0` as `O`, `1` and `l`
-/// as `I`, and `8` as `B`.
+/// [`base32_nopad`]; characters that look like a symbol are decoded as that symbol: `0` as `O`, `1`
+/// and `l` as `I`, and `8` as `B`.
 pub fn base32_nopad_visual() -> Encoding
     ensures { base_of base32_nopad_visual_fields ≡ Ok result }
 {
@@ -206,7 +206,8 @@ pub fn base32_nopad_visual_ref() -> EncodingRef<'static>
     }
 }
 
-/// Base32 with the digits and then the letters `A` to `V`, padded with `=`: RFC 4648, section 7.
+/// Base32 with the digits, followed by the letters `A` to `V`, padded with `=`: RFC 4648, section
+/// 7.
 pub fn base32hex() -> Encoding
     ensures { base_of base32hex_fields ≡ Ok result }
 {
@@ -238,8 +239,8 @@ pub fn base32hex_nopad_ref() -> EncodingRef<'static>
     }
 }
 
-/// [`base32hex_nopad`] with the letters `a` to `v`, which reads `A` to `V` as these: the base32 of
-/// RFC 5155 (DNSSEC), in lower case.
+/// [`base32hex_nopad`] with the letters `a` to `v`; `A` to `V` are decoded as these. This is the
+/// base32 of RFC 5155 (DNSSEC), in lower case.
 pub fn base32_dnssec() -> Encoding
     ensures { base_of base32_dnssec_fields ≡ Ok result }
 {
@@ -256,8 +257,9 @@ pub fn base32_dnssec_ref() -> EncodingRef<'static>
     }
 }
 
-/// The base32 of DNSCurve: the bit of weight 1 first, with the digits and then the letters of lower
-/// case but `a`, `e`, `i` and `o`; letters of upper case are read as these. There is no padding.
+/// The base32 of DNSCurve: the bit of weight 1 first, with the digits, followed by the lower-case
+/// letters except `a`, `e`, `i` and `o`. Upper-case letters are decoded as lower case. There is no
+/// padding.
 pub fn base32_dnscurve() -> Encoding
     ensures { base_of base32_dnscurve_fields ≡ Ok result }
 {

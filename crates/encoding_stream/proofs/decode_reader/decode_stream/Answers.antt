@@ -3,7 +3,7 @@ use Rattle.std.proofs.lemmas.List.{length-drop}
 use Rattle.std.specs.Io.KnownBytes.{IsAtEnd}
 use Rattle.std.proofs.KnownBytes.{Consumes-whole}
 use Rattle.data_encoding.specs.Fault.{fault_of}
-use Rattle.encoding_stream.specs.Decoded.{answer_of, EndsText}
+use Rattle.encoding_stream.specs.Decoded.{result_of, EndsText}
 use Rattle.encoding_stream.specs.Pieces.{base_of_pieces, Keeps}
 use Rattle.encoding_stream.specs.Watch.{has_failed, inner_of}
 use Rattle.encoding_stream.proofs.DecodedLemmas.{decoded-front, decoded-more, decoded-nothing, decoded-only, decoded-past, end-error, end-ok, end-other, end-write, ended-all, ended-front, front-all, not-both, on-works, past-few, reads-buffer}
@@ -121,8 +121,8 @@ returns-then-count-asked g c =
     (λ b. EndsText b next.kept failed (g.W.Write.contents (inner_of c.write_all.new.self))
     (g.W.Write.contents (inner_of c.end.new.writer))) is c.end.ensures.last in
     let fault = fault_of base done.text in
-    let judged : failed ≡ false → result ≡ answer_of fault =
-    λ works. subst (λ b. result ≡ answer_of (fault_of b done.text)) is
+    let judged : failed ≡ false → result ≡ result_of fault =
+    λ works. subst (λ b. result ≡ result_of (fault_of b done.text)) is
     (c.end.ensures.verdict done.text (subst (λ b. Keeps b next.kept done.text) (sym is) done.keeps)
     works) in
     let write = c.end.ensures.write in
@@ -155,7 +155,7 @@ returns-then-count-asked g c =
       judges =
           Consumes-whole _ _ done.text
           (λ text. length text ≤ 2305843009213693951 → has_failed c.fill.new.reader ≡ false
-          → failed ≡ false → result ≡ answer_of (fault_of base text))
+          → failed ≡ false → result ≡ result_of (fault_of base text))
           done.read at_end (λ few reads works. judged works);
       read = (
         λ told. absurd (other.0 told),

@@ -9,7 +9,7 @@ use Rattle.encoding_stream.proofs.DecoderLemmas.{appends-none, appends-rest, fro
 use Rattle.encoding_stream.proofs.PieceLemmas.{is-specified}
 use Rattle.encoding_stream.proofs.decoder.append_piece.Goals as goal
 
--- what holds holds where an error is answered too
+-- what holds, holds also if an error is returned
 where_err : {T E P : Type 0} (result : Result T E) → P → OnErr result P
 where_err (Ok value) holds = tt
 where_err (Err error) holds = holds

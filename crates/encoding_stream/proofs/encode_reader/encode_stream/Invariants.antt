@@ -14,6 +14,6 @@ invariant-loop-count g l = record {
   room : length l.output ≡ 49152;
 }
 
--- each turn but the last counts a byte
+-- each turn but the last counts at least a byte
 abbrev pub decreases-loop-count : goal.decreases-loop-count
 decreases-loop-count g l = 2 ^ 64 - l.total

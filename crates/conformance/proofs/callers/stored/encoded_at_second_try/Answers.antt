@@ -7,7 +7,7 @@ use Rattle.data_encoding.specs.Fragments.{HasEncoded}
 use Rattle.data_encoding.specs.Text.{text_of}
 use Rattle.conformance.proofs.callers.stored.encoded_at_second_try.Goals as goal
 
--- what holds where there is no error, and where there is one
+-- what holds if there is no error, and if there is one
 where_ok : {T E P : Type 0} (result : Result T E) → false ≡ is_err result → OnOk result P → P
 where_ok (Ok x) none holds = holds
 where_ok (Err error) none holds = cc
@@ -17,7 +17,7 @@ where_err : {T E P : Type 0} (result : Result T E) (error : E) → result ≡ Er
 where_err (Ok x) error is holds = cc
 where_err (Err other) error is holds = holds
 
--- an encoder that is as it was has taken the same bytes
+-- an encoder that is unchanged has taken the same bytes
 still_taken : (old new : Encoder) → IsUnchanged old new → (before bytes : List ℕ)
     → HasTaken old before bytes → HasTaken new before bytes
 still_taken old new same before bytes has =

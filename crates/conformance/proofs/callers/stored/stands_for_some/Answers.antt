@@ -5,7 +5,7 @@ use Rattle.data_encoding.specs.Layout.{layout}
 use Rattle.data_encoding.specs.OneLayout.{IsLayout, Layouts}
 use Rattle.conformance.proofs.callers.stored.stands_for_some.Goals as goal
 
--- there is one exactly where the rules hold
+-- there is one if and only if the rules hold
 some_by_rules : (found : Option Base) (bytes : List ℕ) (is : Bool) → is ≡ is_some found → Layouts
     → IfSome found IsSpecified → IfSome found (λ base. layout base ≡ bytes)
     → ((base : Base) → IsSpecified base → layout base ≡ bytes → IsSome found)

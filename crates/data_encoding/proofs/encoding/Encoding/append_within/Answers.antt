@@ -10,7 +10,7 @@ use Rattle.data_encoding_meaning.specs.text.Text.{text_of}
 use Rattle.data_encoding_meaning.proofs.lists.WriteLemmas.{put_mid-end}
 use Rattle.data_encoding.proofs.encoding.Encoding.append_within.Goals as goal
 
--- the end of a list is written anew, and what follows its length is let go
+-- the end of a list is overwritten, and what follows its length is dropped
 written : (old now text made items : List ℕ) (start added len : ℕ) → take start now ≡ old
     → length now ≡ len → len ≡ start + added → length made ≡ added → text ≡ made
     → take len (put_mid start (length now - start) now text

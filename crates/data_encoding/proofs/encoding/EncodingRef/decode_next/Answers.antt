@@ -33,7 +33,7 @@ overflow_mul-stop g c =
     (omega (arith, c.next_group-group.ensures.few, c.in-Ok.ensures.sound.within)) in
     record { fits = omega (arith, few) }
 
--- the decoding behind the group, which is final or not
+-- the decoding after the group, which is final or not
 after : (g : Over) (c : After-WIDTH g) {final : Bool}
     → (not c.args.self.now.concatenates
     && nat_lt c.in-Ok.count (length c.next_group-group.result.bytes.now)) ≡ final

@@ -6,22 +6,25 @@ use Rattle.data_encoding_meaning.proofs.decoding.ProgressLemmas.{begin}
 use Rattle.data_encoding.proofs.tables.TableLemmas.{Reads-seen}
 use Rattle.data_encoding.proofs.encoding.EncodingRef.decode_text.Goals as goal
 
-pub decode_run_behind-at-requires-clause-reads : goal.decode_run_behind-at-requires-clause-reads
-decode_run_behind-at-requires-clause-reads g c =
+pub decode_run_after_ignored-at-requires-clause-reads :
+    goal.decode_run_after_ignored-at-requires-clause-reads
+decode_run_after_ignored-at-requires-clause-reads g c =
     Reads-seen _ c.self.invariant c.args.self.now c.self.view_is g.G.GroupSize.WIDTH
     g.O.ConstantOrder.ORDER c.requires.width c.requires.order
 
-pub decode_run_behind-at-requires-clause-so_far : goal.decode_run_behind-at-requires-clause-so_far
-decode_run_behind-at-requires-clause-so_far g c =
+pub decode_run_after_ignored-at-requires-clause-so_far :
+    goal.decode_run_after_ignored-at-requires-clause-so_far
+decode_run_after_ignored-at-requires-clause-so_far g c =
     begin c.args.self.now (subst IsWidth (sym c.requires.width) g.G.GroupSize.is_group.is_width)
     c.args.input.now c.args.output.now
 
-pub decode_run_behind-at-requires-clause-front : goal.decode_run_behind-at-requires-clause-front
-decode_run_behind-at-requires-clause-front g c = no_front c.args.self.now c.args.input.now
+pub decode_run_after_ignored-at-requires-clause-front :
+    goal.decode_run_after_ignored-at-requires-clause-front
+decode_run_after_ignored-at-requires-clause-front g c = no_front c.args.self.now c.args.input.now
 
 pub returns-in-More : goal.returns-in-More
 returns-in-More g c =
-    let len = c.decode_next.auto.output ∙ c.decode_run_behind-at.auto.output in
+    let len = c.decode_next.auto.output ∙ c.decode_run_after_ignored-at.auto.output in
     let now = under_way g.G.GroupSize.is_group c.requires.width
     (c.requires.exact ∙ ap Ok (sym len)) c.in-More.ensures.1 in
     decoded-all now (omega (arith, c.if-stop-input.true))

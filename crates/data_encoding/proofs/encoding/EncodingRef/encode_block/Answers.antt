@@ -3,7 +3,7 @@ use Rattle.std.proofs.lemmas.List.{take_at}
 use Rattle.data_encoding.proofs.text.LinePieceLemmas.{columns-some, text-wrapped}
 use Rattle.data_encoding.proofs.encoding.EncodingRef.encode_block.Goals as goal
 
--- the front of the room, where the text was written
+-- the prefix of the room to which the text was written
 front-is : {n : ℕ} {shown padded : List ℕ} (rest : List ℕ) → shown ≡ padded
     → length padded ≡ n → take n (shown ++ rest) ≡ padded
 front-is {n} {shown} rest is len = take_at shown rest n (ap length is ∙ len) ∙ is

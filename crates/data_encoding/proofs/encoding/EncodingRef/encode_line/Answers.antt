@@ -11,7 +11,7 @@ use Rattle.data_encoding_meaning.proofs.text.LineLemmas.{text_of-line}
 use Rattle.data_encoding_meaning.proofs.lists.WriteLemmas.{put_mid-end}
 use Rattle.data_encoding.proofs.encoding.EncodingRef.encode_line.Goals as goal
 
--- a text that is written, and its separator behind it
+-- a text that is written, followed by its separator
 module _ (text padded separator output : List ℕ) (is : text ≡ padded ++ separator)
     (exact : length output ≡ length text) (n : ℕ) (count : n ≡ length separator) where
   abbrev end : ℕ
@@ -55,7 +55,7 @@ module _ (text padded separator output : List ℕ) (is : text ≡ padded ++ sepa
         ∙ (λ k. take_at shown (drop end output) end (ap length first ∙ sym end-is) k ++ last k)
         ∙ ap (λ l. l ++ separator) first ∙ sym is
 
--- the text as these tables have it
+-- the text by these tables
 module _ (e : EncodingTables) (rules : KeepsRules e) (seen : Base) (is : base_of_tables e ≡ seen)
     (input : List ℕ) (some : 0 < length input) (few : length input ≤ alignment seen) where
   text-is : text_of seen input ≡ padded_text seen input ++ e.separator

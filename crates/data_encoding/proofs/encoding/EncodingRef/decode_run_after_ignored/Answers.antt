@@ -2,7 +2,7 @@ use Rattle.std.proofs.Common.{ℕ, ◌+◌, ◌*◌, refl, ap, arith, length-dro
 use Rattle.data_encoding.proofs.decoding.StepLemmas.{after_none, after_run, room-next_run, under_way, written-few}
 use Rattle.data_encoding_meaning.proofs.digits.SizeLemmas.{IsGroup-same}
 use Rattle.data_encoding_meaning.proofs.lists.PartLemmas.{length-rest}
-use Rattle.data_encoding.proofs.encoding.EncodingRef.decode_run_behind.Goals as goal
+use Rattle.data_encoding.proofs.encoding.EncodingRef.decode_run_after_ignored.Goals as goal
 
 pub decode_run-count-requires-clause-room : goal.decode_run-count-requires-clause-room
 decode_run-count-requires-clause-room g c =

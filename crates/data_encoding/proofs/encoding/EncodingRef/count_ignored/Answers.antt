@@ -2,7 +2,7 @@ use Rattle.std.proofs.Common.{subst}
 use Rattle.std.proofs.lemmas.List.{take_rest}
 use Rattle.data_encoding_meaning.specs.decoding.Decoding.{IsIgnoredFront}
 use Rattle.data_encoding.proofs.tables.TableLemmas.{HoldsValues-seen}
-use Rattle.data_encoding.proofs.encoding.EncodingRef.ignored_behind.Goals as goal
+use Rattle.data_encoding.proofs.encoding.EncodingRef.count_ignored.Goals as goal
 
 pub returns : goal.returns
 returns c =

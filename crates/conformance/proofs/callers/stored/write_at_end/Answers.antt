@@ -2,7 +2,7 @@ use Rattle.std.proofs.Common.{◌≡◌, ◌++◌}
 use Rattle.std.proofs.lemmas.Fmt.{contents_after_writes}
 use Rattle.std.proofs.lemmas.Result.{on_ok_weaker}
 use Rattle.std.specs.String.{string_bytes}
-use Rattle.conformance.proofs.callers.stored.write_behind.Goals as goal
+use Rattle.conformance.proofs.callers.stored.write_at_end.Goals as goal
 
 pub returns : goal.returns
 returns c =
