@@ -1,9 +1,8 @@
 //! Calls that encode data in pieces, by the number of an encoding and by one of a caller's own.
 
-ghost use Rattle.std.specs.Prelude.{[], ◌<◌, ◌≡◌};
+ghost use Rattle.std.specs.Prelude.{[], ◌≡◌};
 ghost use Rattle.data_encoding.specs.Base.{Base};
 ghost use Rattle.data_encoding.specs.Fields.{IsSpecified};
-ghost use Rattle.data_encoding.specs.Lengths.{alignment};
 ghost use Rattle.data_encoding.specs.Plain.{base_of_plain};
 ghost use Rattle.encoding_stream.specs.Blocks.{HasWritten};
 ghost use Rattle.data_encoding_calls.specs.Blocks.{EncodesPiece, EndsData, TellsDue};
@@ -19,8 +18,7 @@ use encoding_stream::KeptData;
 /// What is kept of no data, by every encoding.
 #[unsafe(no_mangle)]
 pub extern "C" fn de_plain_encoder_new(encoder: &mut KeptData)
-    ensures { (base : Base) → IsSpecified base → 0 < alignment base
-        → HasWritten base encoder.new [] [] }
+    ensures { (base : Base) → IsSpecified base → HasWritten base encoder.new [] [] }
 {
     plain_encoder_new(encoder);
 }
