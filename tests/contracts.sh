@@ -63,7 +63,7 @@ unnamed() {
 
 missing=$(unnamed docs/ARCHITECTURE.md crates/{data_encoding{_meaning,_kernel,_calls,},encoding_stream}/src/*.rt)
 is 'files that docs/ARCHITECTURE.md does not name' '' "$missing"
-modules=$(find crates/{data_encoding{_meaning,_kernel,},encoding_stream}/specs -name '[A-Z]*.antt' ! -name Lib.antt)
+modules=$(find crates/{data_encoding{_meaning,_kernel,_calls,},encoding_stream}/specs -name '[A-Z]*.antt' ! -name Lib.antt)
 missing=$(unnamed docs/DEFINITIONS.md $modules)
 is 'modules that docs/DEFINITIONS.md does not name' '' "$missing"
 

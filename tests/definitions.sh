@@ -46,10 +46,21 @@ definitions() {
     done
 }
 
+# excused CRATE: its definitions that the page says to have no row, of the modules that it names.
+excused() {
+    local names module file
+    sed -nE 's/^\| (`.*`) \| `([A-Za-z]+)` \| .*/\2|\1/p' <<<"$without" |
+        while IFS='|' read -r module names; do
+            for file in $(definitions "$1" | grep "/$module\.antt$"); do
+                comm -12 <(defined "$file") <(named "$names")
+            done
+        done | sort -u
+}
+
 tables=$(sed '/^## Without a worked row/,$d' "$page")
 without=$(sed '1,/^## Without a worked row/d' "$page")
 
-for crate in data_encoding encoding_stream basecode; do
+for crate in data_encoding encoding_stream basecode data_encoding_calls; do
     mapfile -t files < <(rows "$crate")
     defined $(definitions "$crate") >"$room/defined"
     [ "$(wc -l <"$room/defined")" -ge 20 ]
@@ -57,13 +68,15 @@ for crate in data_encoding encoding_stream basecode; do
     is "definitions of $crate that no table has" '' \
         "$(comm -23 "$room/defined" <(named "$tables$without"))"
     is "definitions of $crate with no worked row" '' \
-        "$(comm -23 "$room/defined" <(sort -u <(words "${files[@]}") <(named "$without")))"
+        "$(comm -23 "$room/defined" <(sort -u <(words "${files[@]}") <(excused $crate)))"
     is "definitions of $crate said to have no row" '' \
-        "$(comm -12 <(named "$without") <(words "${files[@]}") | comm -12 - "$room/defined")"
+        "$(comm -12 <(excused $crate) <(words "${files[@]}"))"
 done
 
 # The last column of each table but those of the definitions without a row names rows.
-mapfile -t files < <(rows data_encoding; rows encoding_stream; rows basecode)
+mapfile -t files < <(for crate in data_encoding encoding_stream basecode data_encoding_calls; do
+    rows $crate
+done)
 named "$(sed -nE 's/^\| `.*\| (.*) \|$/\1/p' <<<"$tables")" >"$room/named"
 sed -nE 's/^([a-z_0-9]+) .*/\1/p' "${files[@]}" | sort -u >"$room/rows"
 is 'rows that are not there' '' "$(grep -nxvFf "$room/rows" "$room/named")"

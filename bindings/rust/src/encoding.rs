@@ -7,7 +7,7 @@ use alloc::vec::Vec;
 use core::fmt;
 
 use crate::ffi::{self, Handle};
-use crate::layout::Layout;
+use crate::layout::{Due, Layout};
 use crate::{static_layout, Character, DecodeError, DecodePartial, Display};
 #[cfg(feature = "alloc")]
 use crate::{Encoder, Specification};
@@ -26,7 +26,7 @@ pub struct Encoding(Source);
 #[derive(Clone)]
 enum Source {
     /// A predefined one, which the library has by its number.
-    Predefined { number: u32, layout: &'static [u8] },
+    Predefined { number: u32, due: Due, layout: &'static [u8] },
     /// A layout of the program, which is judged when it is used.
     Static(&'static [u8]),
     /// One that was built of a specification.
@@ -42,7 +42,7 @@ struct Built {
 
 impl Encoding {
     pub(crate) const fn predefined(number: u32, layout: &'static [u8]) -> Self {
-        Encoding(Source::Predefined { number, layout })
+        Encoding(Source::Predefined { number, due: Layout::new(layout).due(), layout })
     }
 
     #[cfg(feature = "alloc")]
@@ -54,6 +54,16 @@ impl Encoding {
     /// Calls with the encoding as the library takes it.
     #[inline]
     fn with<R>(&self, call: impl FnOnce(Handle<'_>) -> R) -> R {
+        match self.0 {
+            Source::Predefined { number, .. } => call(Handle::Number(number)),
+            _ => self.with_tables(call),
+        }
+    }
+
+    /// The same of an encoding that has no number. It stands apart, so that the calls of those that
+    /// have one are short.
+    #[inline(never)]
+    fn with_tables<R>(&self, call: impl FnOnce(Handle<'_>) -> R) -> R {
         let tables;
         call(match &self.0 {
             Source::Predefined { number, .. } => Handle::Number(*number),
@@ -80,6 +90,14 @@ impl Encoding {
     #[inline]
     fn fields(&self) -> Layout<'_> {
         Layout::new(self.internal_implementation())
+    }
+
+    #[inline]
+    fn due(&self) -> Due {
+        match &self.0 {
+            Source::Predefined { due, .. } => *due,
+            _ => self.fields().due(),
+        }
     }
 
     /// Returns the length of the text of `len` bytes.
@@ -274,8 +292,10 @@ impl Encoding {
         self.with(|encoding| {
             let decoded = ffi::decode(encoding, input, output);
             let fits = match decoded {
-                Ok(_) => self.fields().most(input.len()) == output.len(),
-                Err(_) => ffi::decode_len(encoding, input.len()) == Ok(output.len()),
+                // The library writes at most `decode_len` bytes, and asks for room for these.
+                Ok(written) if written == output.len() => true,
+                Ok(_) => self.due().most(input.len()) == output.len(),
+                Err(_) => ffi::is_most(encoding, input.len(), output.len()),
             };
             assert!(fits, "the length of the output is not what `decode_len` says");
             decoded

@@ -257,6 +257,16 @@ pub(crate) fn decode_len(encoding: Handle<'_>, len: usize) -> Result<usize, Deco
     }
 }
 
+/// Returns whether a text of `len` bytes means at most `most` bytes.
+///
+/// # Panics
+///
+/// Panics if the length is over the limit.
+#[cold]
+pub(crate) fn is_most(encoding: Handle<'_>, len: usize, most: usize) -> bool {
+    decode_len(encoding, len) == Ok(most)
+}
+
 /// Writes the data that the text means to the start of the output, and returns its length.
 ///
 /// # Panics

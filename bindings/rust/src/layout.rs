@@ -29,31 +29,33 @@ pub(crate) struct Layout<'a>(&'a [u8]);
 
 impl<'a> Layout<'a> {
     #[inline]
-    pub(crate) fn new(bytes: &'a [u8]) -> Self {
+    pub(crate) const fn new(bytes: &'a [u8]) -> Self {
         Layout(bytes)
     }
 
     #[inline]
-    pub(crate) fn bit_width(self) -> usize {
-        usize::from(self.0[FLAGS_AT] & BIT_WIDTH)
+    pub(crate) const fn bit_width(self) -> usize {
+        (self.0[FLAGS_AT] & BIT_WIDTH) as usize
     }
 
     #[inline]
-    pub(crate) fn padding(self) -> Option<u8> {
-        Some(self.0[PADDING_AT]).filter(|&byte| byte != INVALID)
+    pub(crate) const fn padding(self) -> Option<u8> {
+        match self.0[PADDING_AT] {
+            INVALID => None,
+            byte => Some(byte),
+        }
     }
 
-    /// Returns how many bytes a text means at most, if some text has `len` bytes.
+    /// Returns how many bytes a text means at most, by its length.
     #[inline]
-    pub(crate) fn most(self, len: usize) -> usize {
-        let bit_width = self.bit_width();
+    pub(crate) const fn due(self) -> Due {
+        let bit_width = self.bit_width() as u8;
         if self.padding().is_none() {
-            return len * bit_width / 8;
+            return Due { symbols_shift: 0, factor: bit_width, bits_shift: 3 };
         }
         // A group is the least number of symbols that are whole bytes.
         let shared = bit_width.trailing_zeros();
-        let groups = len >> (3 - shared);
-        groups * (bit_width >> shared)
+        Due { symbols_shift: 3 - shared as u8, factor: bit_width >> shared, bits_shift: 0 }
     }
 
     pub(crate) fn character(self, byte: u8) -> Character {
@@ -68,6 +70,26 @@ impl<'a> Layout<'a> {
     /// The characters of a line, if there are lines.
     pub(crate) fn line_width(self) -> Option<usize> {
         self.0.get(LINES_AT).map(|&width| usize::from(width)).filter(|&width| width > 0)
+    }
+}
+
+/// How many bytes a text means at most: with padding, those of its whole groups, and without, those
+/// of its bits.
+#[derive(Clone, Copy)]
+pub(crate) struct Due {
+    /// A group has two to the power of this symbols; 0 where symbols are counted.
+    symbols_shift: u8,
+    /// The bytes of a group, or the bits of a symbol.
+    factor: u8,
+    /// A byte has two to the power of this bits; 0 where bytes are counted.
+    bits_shift: u8,
+}
+
+impl Due {
+    /// Returns how many bytes a text means at most, if some text has `len` bytes.
+    #[inline]
+    pub(crate) fn most(self, len: usize) -> usize {
+        ((len >> self.symbols_shift) * usize::from(self.factor)) >> self.bits_shift
     }
 }
 

@@ -2,9 +2,13 @@
 use Rattle.std.proofs.Common.{◌≡◌, nat_lt, ℕ, ◌<◌, ◌≤◌, Bool, if◌then◌else◌, List, ◌++◌, length, take, drop, length-take-le, refl, sym, ap, ◌∙◌, subst, arith, take-append-drop}
 use Rattle.std.proofs.lemmas.Bool.{le-ltb, lt-ltb}
 use Rattle.data_encoding.specs.Base.{Base}
-use Rattle.data_encoding_calls.specs.Blocks.{if_kept, piece_status, DataPlaces, EncodesPiece}
-use Rattle.data_encoding_calls.specs.Calls.{over}
-use Rattle.data_encoding_calls.specs.Status.{ok}
+use Rattle.data_encoding.specs.Lengths.{alignment}
+use Rattle.data_encoding.specs.Text.{text_of}
+use Rattle.encoding_stream.specs.declared.kept_data.KeptData.{KeptData}
+use Rattle.encoding_stream.specs.Blocks.{held_data}
+use Rattle.data_encoding_calls.specs.Blocks.{if_kept, last_text, piece_status, piece_text, DataPlaces, EncodesPiece}
+use Rattle.data_encoding_calls.specs.Calls.{front_status, over}
+use Rattle.data_encoding_calls.specs.Status.{no_encoder, ok, too_long}
 
 -- what a test of two numbers chooses
 pub if-less : (a b x y : ℕ) → a < b → x ≡ (if nat_lt a b then x else y)
@@ -12,6 +16,41 @@ if-less a b x y less = sym (ap (λ (t : Bool). if t then x else y) (lt-ltb a b l
 
 pub if-not : (a b x y : ℕ) → b ≤ a → y ≡ (if nat_lt a b then x else y)
 if-not a b x y few = sym (ap (λ (t : Bool). if t then x else y) (le-ltb a b few))
+
+-- the status where less than a block is held
+pub if-short : (base : Base) (kept : KeptData) (status : ℕ) → kept.count < alignment base
+    → status ≡ if_kept base kept status
+if-short base kept status short = if-less kept.count (alignment base) status no_encoder short
+
+-- that of a piece, by its length and then by the room for its text
+module _ (base : Base) (kept : KeptData) (piece : List ℕ) (room : ℕ)
+    (short : kept.count < alignment base) where
+  pub status-long : 36028797018963967 < length piece
+      → too_long ≡ if_kept base kept (piece_status base kept piece room)
+  status-long long =
+      if-less 36028797018963967 (length piece) too_long
+      (front_status (piece_text base kept piece) room) long
+      ∙ if-short base kept (piece_status base kept piece room) short
+
+  pub status-by-room : length piece ≤ 36028797018963967
+      → front_status (piece_text base kept piece) room
+      ≡ if_kept base kept (piece_status base kept piece room)
+  status-by-room few =
+      if-not 36028797018963967 (length piece) too_long
+      (front_status (piece_text base kept piece) room) few
+      ∙ if-short base kept (piece_status base kept piece room) short
+
+-- how long the text of a piece is, of what is told of one by the same encoding, behind the same
+pub due-len : {b base : Base} {k kept : KeptData} (piece : List ℕ) (due : ℕ) → b ≡ base → k ≡ kept
+    → length (piece_text b k piece) ≡ due → length (piece_text base kept piece) ≡ due
+due-len piece due base_is kept_is told = let value = rw base_is at told in rw kept_is at value
+
+-- how long the text of the held bytes is, of what is told of any as many
+pub last-len : (base : Base) (kept : KeptData) (len : ℕ) → kept.count ≤ length kept.bytes
+    → ((bytes : List ℕ) → length bytes ≡ kept.count → length (text_of base bytes) ≡ len)
+    → length (last_text base kept) ≡ len
+last-len base kept len few told =
+    told (held_data kept) (length-take-le kept.count kept.bytes few)
 
 -- a piece of data that was refused
 pub refuses-data : (base : Base) (piece : List ℕ) (places : DataPlaces) (answer : ℕ)

@@ -3,3 +3,4 @@ mod NumberLemmas
 mod NameLemmas
 pub mod PieceLemmas
 mod BlockLemmas
+mod Vectors

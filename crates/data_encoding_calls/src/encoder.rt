@@ -1,10 +1,9 @@
 //! Calls that encode data in pieces, with the number of a predefined encoding or with an encoding
 //! of the caller.
 
-ghost use Rattle.std.specs.Prelude.{◌≡◌, ◌<◌, []};
+ghost use Rattle.std.specs.Prelude.{◌≡◌, []};
 ghost use Rattle.data_encoding.specs.Base.{Base};
 ghost use Rattle.data_encoding.specs.Fields.{IsSpecified};
-ghost use Rattle.data_encoding.specs.Lengths.{alignment};
 ghost use Rattle.data_encoding.specs.Plain.{base_of_plain};
 ghost use Rattle.encoding_stream.specs.Blocks.{HasWritten};
 ghost use Rattle.data_encoding_calls.specs.Blocks.{EncodesPiece, EndsData, TellsDue};
@@ -18,8 +17,7 @@ use encoding_stream::KeptData;
 
 /// Sets what is kept of no data, for every encoding.
 pub fn plain_encoder_new(encoder: &mut KeptData)
-    ensures { (base : Base) → IsSpecified base → 0 < alignment base
-        → HasWritten base encoder.new [] [] }
+    ensures { (base : Base) → IsSpecified base → HasWritten base encoder.new [] [] }
 {
     join_encode();
     *encoder = KeptData {

@@ -3,6 +3,10 @@
 //! Users draw their conclusions from the laws in this module. The module `steps` has the steps by
 //! which a decoder proves that it reads a text in pieces.
 
+ghost use Rattle.std.specs.Prelude.{◌<◌};
+ghost use Rattle.data_encoding_meaning.specs.text.Base.{Base};
+ghost use Rattle.data_encoding_meaning.specs.text.Lengths.{alignment};
+ghost use Rattle.data_encoding_meaning.specs.specification.Fields.{IsSpecified};
 ghost use Rattle.data_encoding_meaning.specs.laws.Canonical.{Canonical, NotCanonical};
 ghost use Rattle.data_encoding_meaning.specs.specification.OneLayout.{Layouts, OneLayout};
 ghost use Rattle.data_encoding_meaning.specs.laws.Laws.{JoinDecode, JoinEncode, JoinFault, NoOrder, OneMeaning, Order, Resume, RoundTrip, SoundMeans, SpecificationAgain, Unpadded};
@@ -30,9 +34,10 @@ pub fn eighteen()
 {}
 
 /// Data that is encoded in pieces has the text of the whole, if the length of each piece but the
-/// last is a multiple of `encode_align`.
+/// last is a multiple of `encode_align`, which is never 0.
 pub fn join_encode()
-    ensures { JoinEncode }
+    ensures join { JoinEncode }
+    ensures some { (base : Base) → IsSpecified base → 0 < alignment base }
 {}
 
 /// The text of data means the data, for each encoding that is built from a specification.

@@ -1,5 +1,5 @@
 -- Blocks of data, which are whole groups or whole lines: how long their texts are.
-use Rattle.std.proofs.Common.{◌≡◌, ℕ, ◌+◌, ◌*◌, ◌/◌, ◌%◌, ◌<◌, ◌≤◌, Some, None, List, length, ap, arith}
+use Rattle.std.proofs.Common.{◌≡◌, ℕ, ◌+◌, ◌*◌, ◌/◌, ◌%◌, ◌<◌, ◌≤◌, Option, Some, None, List, length, refl, ap, arith}
 use Rattle.std.proofs.Math.Nat.{div-mul-le_self, mul-pos, mul-le-mul_left, mul-mod_left}
 use Rattle.std.proofs.lemmas.Nat.{le-div}
 use Rattle.std.proofs.lemmas.Bool.Decides.{nat_tests}
@@ -52,6 +52,13 @@ module _ (base : Base) (ruled : IsRuled base) where
             omega arith;
         fits = λ count bytes few. short-lines base ruled lines some count bytes few;
       }
+
+  -- a byte at least
+  pub alignment-positive : 0 < alignment base
+  alignment-positive = by base.wrapping refl where
+    by : (o : Option Wrapping) → base.wrapping ≡ o → 0 < alignment base
+    by None none = (IsBlockLength-group none).some
+    by (Some lines) some = alignment-some base ruled lines some
 
 -- the data of whole blocks whose texts fit into this much room
 module _ (base : Base) (len : ℕ) (is : IsBlockLength base len) (room size : ℕ)

@@ -1,8 +1,7 @@
 use Rattle.std.proofs.Common.{◌≡◌, ◌∙◌, refl, arith}
-use Rattle.data_encoding.specs.Lengths.{alignment}
 use Rattle.data_encoding_calls.specs.Calls.{encode_len_status}
-use Rattle.data_encoding_calls.specs.Status.{no_encoder, ok, too_long}
-use Rattle.data_encoding_calls.proofs.BlockLemmas.{if-less, if-not}
+use Rattle.data_encoding_calls.specs.Status.{ok, too_long}
+use Rattle.data_encoding_calls.proofs.BlockLemmas.{due-len, if-not, if-short}
 use Rattle.data_encoding_calls.proofs.blocks.due_by.Goals as goal
 
 pub returns : goal.returns
@@ -12,10 +11,9 @@ returns c =
     record {
       status =
           if-not 36028797018963967 len too_long ok (omega (arith, c.if-len-gt-ENCODE_LIMIT.false))
-          ∙ if-less kept.count (alignment c.args.encoding.now) (encode_len_status len) no_encoder
-          c.in-Some.ensures.short;
+          ∙ if-short c.args.encoding.now kept (encode_len_status len) c.in-Some.ensures.short;
       value = λ _ piece same.
-          let value = rw c.in-Some.ensures.base at c.due.ensures.value piece same in
-          rw c.in-Some.ensures.kept at value;
+          due-len piece c.due.result c.in-Some.ensures.base c.in-Some.ensures.kept
+          (c.due.ensures.value piece same);
       refused = λ refused. absurd (refused refl);
     }

@@ -1,10 +1,8 @@
 use Rattle.std.proofs.Common.{◌≡◌, ◌<◌, ◌≤◌, ◌++◌, ℕ, List, length, take, length-take-le, ◌∙◌, refl, sym, ap, subst, arith}
-use Rattle.data_encoding.specs.Lengths.{alignment}
-use Rattle.encoding_stream.specs.Blocks.{held_data}
 use Rattle.data_encoding_calls.specs.Blocks.{last_text}
 use Rattle.data_encoding_calls.specs.Calls.{front_status}
-use Rattle.data_encoding_calls.specs.Status.{no_encoder, ok, short_buffer}
-use Rattle.data_encoding_calls.proofs.BlockLemmas.{if-less, if-not, written-len, written-over}
+use Rattle.data_encoding_calls.specs.Status.{ok, short_buffer}
+use Rattle.data_encoding_calls.proofs.BlockLemmas.{if-less, if-not, if-short, last-len, written-len, written-over}
 use Rattle.data_encoding_calls.proofs.blocks.end_by.Goals as goal
 
 pub returns-then-output-needed : goal.returns-then-output-needed
@@ -13,12 +11,10 @@ returns-then-output-needed c =
     let kept = c.args.kept.now in
     let room : ℕ = length c.args.output.now in
     let last = last_text base kept in
-    let size : length (held_data kept) ≡ kept.count =
-    length-take-le kept.count kept.bytes (omega (arith, c.in-Some.ensures.few)) in
-    let needed : length last ≡ c.encode_len-needed.result =
-    c.encode_len-needed.ensures.length (held_data kept) size in
-    let own = if-less kept.count (alignment base) (front_status last room) no_encoder
-    c.in-Some.ensures.short in
+    let needed =
+    last-len base kept c.encode_len-needed.result (omega (arith, c.in-Some.ensures.few))
+    c.encode_len-needed.ensures.length in
+    let own = if-short base kept (front_status last room) c.in-Some.ensures.short in
     record {
       status =
           if-less room (length last) short_buffer ok
@@ -36,10 +32,9 @@ finish-requires c =
     let kept = c.args.kept.now in
     let room : ℕ = length c.args.output.now in
     let last = last_text base kept in
-    let size : length (held_data kept) ≡ kept.count =
-    length-take-le kept.count kept.bytes (omega (arith, c.in-Some.ensures.few)) in
-    let needed : length last ≡ c.encode_len-needed.result =
-    c.encode_len-needed.ensures.length (held_data kept) size in
+    let needed =
+    last-len base kept c.encode_len-needed.result (omega (arith, c.in-Some.ensures.few))
+    c.encode_len-needed.ensures.length in
     record {
       room =
           rw c.in-Some.ensures.base (rw c.in-Some.ensures.kept
@@ -52,12 +47,10 @@ returns c =
     let kept = c.args.kept.now in
     let room : ℕ = length c.args.output.now in
     let last = last_text base kept in
-    let size : length (held_data kept) ≡ kept.count =
-    length-take-le kept.count kept.bytes (omega (arith, c.in-Some.ensures.few)) in
-    let needed : length last ≡ c.encode_len-needed.result =
-    c.encode_len-needed.ensures.length (held_data kept) size in
-    let own = if-less kept.count (alignment base) (front_status last room) no_encoder
-    c.in-Some.ensures.short in
+    let needed =
+    last-len base kept c.encode_len-needed.result (omega (arith, c.in-Some.ensures.few))
+    c.encode_len-needed.ensures.length in
+    let own = if-short base kept (front_status last room) c.in-Some.ensures.short in
     let old = c.args.output.now in
     let new = c.finish.new.output in
     let at_base = rw c.in-Some.ensures.base at c.finish.ensures.text in

@@ -1,10 +1,8 @@
 use Rattle.std.proofs.Common.{◌≡◌, ◌<◌, ◌≤◌, ◌++◌, ℕ, List, length, take, ◌∙◌, refl, sym, ap, subst, arith}
-use Rattle.data_encoding.specs.Lengths.{alignment}
 use Rattle.encoding_stream.specs.Blocks.{after_blocks, held_data, EncodesOn}
-use Rattle.data_encoding_calls.specs.Blocks.{piece_status, piece_text}
-use Rattle.data_encoding_calls.specs.Calls.{front_status}
-use Rattle.data_encoding_calls.specs.Status.{no_encoder, ok, short_buffer, too_long}
-use Rattle.data_encoding_calls.proofs.BlockLemmas.{if-less, if-not, refuses-data, written-len, written-over}
+use Rattle.data_encoding_calls.specs.Blocks.{piece_text}
+use Rattle.data_encoding_calls.specs.Status.{ok, short_buffer}
+use Rattle.data_encoding_calls.proofs.BlockLemmas.{due-len, if-less, if-not, refuses-data, status-by-room, status-long, written-len, written-over}
 use Rattle.data_encoding_calls.proofs.blocks.take_by.Goals as goal
 
 pub returns-then-piece-gt-ENCODE_LIMIT : goal.returns-then-piece-gt-ENCODE_LIMIT
@@ -13,13 +11,9 @@ returns-then-piece-gt-ENCODE_LIMIT c =
     let kept = c.args.kept.now in
     let piece = c.args.piece.now in
     let room : ℕ = length c.args.output.now in
-    let own = if-less kept.count (alignment base) (piece_status base kept piece room) no_encoder
-    c.in-Some.ensures.short in
     refuses-data base piece _ _ (λ is. cc)
-    (if-less 36028797018963967 (length piece) too_long
-    (front_status (piece_text base kept piece) room)
-    (omega (arith, c.if-piece-gt-ENCODE_LIMIT.true))
-    ∙ own)
+    (status-long base kept piece room c.in-Some.ensures.short
+    (omega (arith, c.if-piece-gt-ENCODE_LIMIT.true)))
 
 pub returns-then-output-due : goal.returns-then-output-due
 returns-then-output-due c =
@@ -27,19 +21,16 @@ returns-then-output-due c =
     let kept = c.args.kept.now in
     let piece = c.args.piece.now in
     let room : ℕ = length c.args.output.now in
-    let own = if-less kept.count (alignment base) (piece_status base kept piece room) no_encoder
-    c.in-Some.ensures.short in
-    let few =
-    if-not 36028797018963967 (length piece) too_long
-    (front_status (piece_text base kept piece) room)
+    let by_room =
+    status-by-room base kept piece room c.in-Some.ensures.short
     (omega (arith, c.if-piece-gt-ENCODE_LIMIT.false)) in
-    let due : length (piece_text base kept piece) ≡ c.due.result =
-    let value = rw c.in-Some.ensures.base at c.due.ensures.value piece refl in
-    rw c.in-Some.ensures.kept at value in
+    let due =
+    due-len piece c.due.result c.in-Some.ensures.base c.in-Some.ensures.kept
+    (c.due.ensures.value piece refl) in
     refuses-data base piece _ _ (λ is. cc)
     (if-less room (length (piece_text base kept piece)) short_buffer ok
     (omega (arith, due, c.if-output-due.true))
-    ∙ few ∙ own)
+    ∙ by_room)
 
 pub returns : goal.returns
 returns c =
@@ -47,15 +38,12 @@ returns c =
     let kept = c.args.kept.now in
     let piece = c.args.piece.now in
     let room : ℕ = length c.args.output.now in
-    let own = if-less kept.count (alignment base) (piece_status base kept piece room) no_encoder
-    c.in-Some.ensures.short in
-    let few =
-    if-not 36028797018963967 (length piece) too_long
-    (front_status (piece_text base kept piece) room)
+    let by_room =
+    status-by-room base kept piece room c.in-Some.ensures.short
     (omega (arith, c.if-piece-gt-ENCODE_LIMIT.false)) in
-    let due : length (piece_text base kept piece) ≡ c.due.result =
-    let value = rw c.in-Some.ensures.base at c.due.ensures.value piece refl in
-    rw c.in-Some.ensures.kept at value in
+    let due =
+    due-len piece c.due.result c.in-Some.ensures.base c.in-Some.ensures.kept
+    (c.due.ensures.value piece refl) in
     let old = c.args.output.now in
     let new = c.read.new.output in
     let text = piece_text base kept piece in
@@ -71,7 +59,7 @@ returns c =
     record {
       status =
           if-not room (length text) short_buffer ok (omega (arith, due, c.if-output-due.false))
-          ∙ few ∙ own;
+          ∙ by_room;
       text = λ _. written-over c.read.result new old text front within after;
       written = λ _. written-len c.read.result new old text front within after;
       held = λ _. held_is;

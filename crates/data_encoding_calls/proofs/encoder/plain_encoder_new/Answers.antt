@@ -6,9 +6,10 @@ use Rattle.data_encoding.specs.Text.{text_of}
 use Rattle.data_encoding_calls.proofs.encoder.plain_encoder_new.Goals as goal
 
 pub returns : goal.returns
-returns c = λ base is some.
+returns c = λ base is.
+    let some = c.join_encode.ensures.some base is in
     let aligned : 0 % alignment base ≡ 0 = mod-eq_of_lt some in
-    let twice = c.join_encode.ensures base is [] [] aligned in
+    let twice = c.join_encode.ensures.join base is [] [] aligned in
     let none : text_of base [] ≡ [] =
     nil_from_length (text_of base [])
     (omega (arith, ap length twice, length-append (text_of base []) (text_of base []))) in

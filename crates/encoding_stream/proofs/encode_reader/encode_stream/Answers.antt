@@ -24,7 +24,7 @@ pub loop-count-init : goal.loop-count-init
 loop-count-init g c = record {
   encoded =
       encoded-nothing c.args.encoding.now c.encode_piece_len-asked.ensures.base
-      c.join_encode.ensures _ _;
+      c.join_encode.ensures.join _ _;
   reader_works = c.requires.reader_works;
   writer_works = c.requires.writer_works;
   chunk = refl;
@@ -34,13 +34,13 @@ loop-count-init g c = record {
 pub returns-in-Err-clause-begun : goal.returns-in-Err-clause-begun
 returns-in-Err-clause-begun g c =
     let more = c.in-Err.ensures.begun in
-    encoded-front c.args.encoding.now c.encode_piece_len-asked.ensures.base c.join_encode.ensures
+    encoded-front c.args.encoding.now c.encode_piece_len-asked.ensures.base c.join_encode.ensures.join
     _ _ _ _ _ c.loop-count.total c.loop-count.invariant.encoded more.0 more.1 _
     (AppendsFront-nothing _ _) (front-nothing c.args.encoding.now _ _)
 
 pub returns-in_default-clause-begun : goal.returns-in_default-clause-begun
 returns-in_default-clause-begun g c =
-    encoded-front c.args.encoding.now c.encode_piece_len-asked.ensures.base c.join_encode.ensures
+    encoded-front c.args.encoding.now c.encode_piece_len-asked.ensures.base c.join_encode.ensures.join
     _ _ _ _ _ c.loop-count.total c.loop-count.invariant.encoded _ c.in-Ok.ensures.bytes _
     (AppendsFront-nothing _ _) (front-nothing c.args.encoding.now _ _)
 
@@ -50,7 +50,7 @@ returns-in_default-clause-too_long g c =
     let taken : length more ≡ c.in-Ok.count =
     length-take-le c.in-Ok.count c.fill.new.buffer c.in-Ok.ensures.bound in
     λ _. encoded-past c.args.encoding.now c.encode_piece_len-asked.ensures.base
-    c.join_encode.ensures _ _ _ _ _
+    c.join_encode.ensures.join _ _ _ _ _
     c.loop-count.total c.loop-count.invariant.encoded more c.in-Ok.ensures.bytes _
     (omega (arith, taken, c.in_default.ensures))
 
@@ -75,9 +75,9 @@ returns-in_default-write_text-clause-begun g c =
     c.fill.new.buffer c.encode_piece_len-asked.ensures.whole filled c.in-Ok.ensures.bound full))
     (cases_lt count (length c.fill.new.buffer)) in
     let front = rw piece at c.write_text.ensures.begun in
-    encoded-front base c.encode_piece_len-asked.ensures.base c.join_encode.ensures
+    encoded-front base c.encode_piece_len-asked.ensures.base c.join_encode.ensures.join
     _ _ _ _ _ c.loop-count.total c.loop-count.invariant.encoded _ c.in-Ok.ensures.bytes _ front
-    (front-of_rest base c.encode_piece_len-asked.ensures.base c.join_encode.ensures _ _ _ _ more
+    (front-of_rest base c.encode_piece_len-asked.ensures.base c.join_encode.ensures.join _ _ _ _ more
     c.in-Ok.ensures.bytes ends front)
 
 pub returns-in-Ok-flush-clause-whole : goal.returns-in-Ok-flush-clause-whole
@@ -91,7 +91,7 @@ returns-in-Ok-flush-clause-whole g c =
     c.fill.auto.buffer
     ∙ length-take-le asked c.loop-count.buffer
     (omega (arith, c.encode_piece_len-asked.ensures.few, c.loop-count.invariant.chunk)) in
-    encoded-all c.args.encoding.now c.encode_piece_len-asked.ensures.base c.join_encode.ensures
+    encoded-all c.args.encoding.now c.encode_piece_len-asked.ensures.base c.join_encode.ensures.join
     _ _ _ _ _ c.loop-count.total c.loop-count.invariant.encoded _ c.in-Ok.ensures.bytes _
     (c.in-Ok.ensures.at_end (omega (arith, filled, c.if-count-asked.true)))
     (Appends-kept _ _ _ _ (rw piece at c.in-Ok-write_text.ensures.text)
@@ -117,7 +117,7 @@ returns-in-Err-flush-clause-begun g c =
     ∙ length-take-le asked c.loop-count.buffer
     (omega (arith, c.encode_piece_len-asked.ensures.few, c.loop-count.invariant.chunk)) in
     all-front c.args.encoding.now _ _ _ _
-    (encoded-all c.args.encoding.now c.encode_piece_len-asked.ensures.base c.join_encode.ensures
+    (encoded-all c.args.encoding.now c.encode_piece_len-asked.ensures.base c.join_encode.ensures.join
     _ _ _ _ _ c.loop-count.total c.loop-count.invariant.encoded _ c.in-Ok.ensures.bytes _
     (c.in-Ok.ensures.at_end (omega (arith, filled, c.if-count-asked.true)))
     (Appends-kept _ _ _ _ (rw piece at c.in-Ok-write_text.ensures.text)
@@ -144,7 +144,7 @@ loop-count-preserved g c =
     let sum : c.loop-count.total + length more ≡ c.in-Some.sum =
     omega (arith, taken, c.in-Some.ensures) in
     let encoded =
-    encoded-more c.args.encoding.now c.encode_piece_len-asked.ensures.base c.join_encode.ensures
+    encoded-more c.args.encoding.now c.encode_piece_len-asked.ensures.base c.join_encode.ensures.join
     _ _ _ _ _ c.loop-count.total c.loop-count.invariant.encoded _ c.in-Ok.ensures.bytes _ whole
     (rw piece at c.in-Ok-write_text.ensures.text) in
     record {

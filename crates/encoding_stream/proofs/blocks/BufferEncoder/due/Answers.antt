@@ -15,7 +15,7 @@ returns-then-len-missing c = record {
       length-take-le encoder.kept.count encoder.kept.bytes
       (omega (arith, encoder.short, encoder.most)) in
       let none =
-      reads-none (base_of_blocks encoder) (built-again encoder.specified) c.join_encode.ensures
+      reads-none (base_of_blocks encoder) (built-again encoder.specified) c.join_encode.ensures.join
       held piece
       (omega (arith, c.if-len-missing.true, same, size, encoder.short, encoder.block_len)) in
       ap length none.text_is;
@@ -37,7 +37,7 @@ returns c = record {
       let left : length rest ≡ c.args.len - missing =
       length-drop missing piece ∙ ap (λ n. n - missing) same in
       let reads =
-      reads-cut base (built-again encoder.specified) c.join_encode.ensures held piece block missing
+      reads-cut base (built-again encoder.specified) c.join_encode.ensures.join held piece block missing
       encoder.block encoder.block_len (omega (arith, size, encoder.short))
       (omega (arith, encoder.short)) few refl in
       let one = c.encode_len.ensures.length block

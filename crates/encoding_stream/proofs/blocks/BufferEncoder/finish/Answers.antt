@@ -6,6 +6,6 @@ use Rattle.encoding_stream.proofs.blocks.BufferEncoder.finish.Goals as goal
 pub returns-clause-whole : goal.returns-clause-whole
 returns-clause-whole c = λ bytes text has.
     let encoder = c.args.self.now in
-    encoded-last (base_of_blocks encoder) (built-again encoder.specified) c.join_encode.ensures
+    encoded-last (base_of_blocks encoder) (built-again encoder.specified) c.join_encode.ensures.join
     (held_data encoder.kept) bytes text has
     ∙ ap (λ t. text ++ t) (sym c.write_front.ensures.text)

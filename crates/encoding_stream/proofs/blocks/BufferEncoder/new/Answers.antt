@@ -9,5 +9,5 @@ invariant_of-result-clause-specified c = record {
 
 pub returns-clause-nothing : goal.returns-clause-nothing
 returns-clause-nothing c =
-    encoded-none c.args.encoding.now c.encode_align.ensures.base c.join_encode.ensures
+    encoded-none c.args.encoding.now c.encode_align.ensures.base c.join_encode.ensures.join
     (subst (λ n. 0 < n) c.encode_align.ensures.value c.encode_align.ensures.some)

@@ -17,7 +17,7 @@ returns-then-piece-missing c =
     length-take-le encoder.kept.count encoder.kept.bytes
     (omega (arith, encoder.short, encoder.most)) in
     let none =
-    reads-none base (built-again encoder.specified) c.join_encode.ensures held piece
+    reads-none base (built-again encoder.specified) c.join_encode.ensures.join held piece
     (omega (arith, c.if-piece-missing.true, size, encoder.short, encoder.block_len)) in
     record {
       base = refl;
@@ -38,7 +38,7 @@ write_front-one-requires-clause-room c =
     let x = text_of base (take encoder.block c.hold-2.new.self.bytes) in
     let y = text_of base c.split_at-2.result.0.now in
     let reads =
-    reads-filled encoder c.join_encode.ensures c.args.piece.now c.split_at.result.0.now
+    reads-filled encoder c.join_encode.ensures.join c.args.piece.now c.split_at.result.0.now
     c.split_at.result.1.now c.split_at-2.result.0.now c.split_at-2.result.1.now c.hold-2.new.self
     (omega arith) (omega (arith, c.if-piece-missing.false)) c.split_at.ensures.front
     c.split_at.ensures.back c.split_at-2.ensures.front c.split_at-2.ensures.back
@@ -56,7 +56,7 @@ write_front-others-requires-clause-room c =
     let x = text_of base (take encoder.block c.hold-2.new.self.bytes) in
     let y = text_of base c.split_at-2.result.0.now in
     let reads =
-    reads-filled encoder c.join_encode.ensures c.args.piece.now c.split_at.result.0.now
+    reads-filled encoder c.join_encode.ensures.join c.args.piece.now c.split_at.result.0.now
     c.split_at.result.1.now c.split_at-2.result.0.now c.split_at-2.result.1.now c.hold-2.new.self
     (omega arith) (omega (arith, c.if-piece-missing.false)) c.split_at.ensures.front
     c.split_at.ensures.back c.split_at-2.ensures.front c.split_at-2.ensures.back
@@ -86,7 +86,7 @@ returns c =
     let x = text_of base (take encoder.block c.hold-2.new.self.bytes) in
     let y = text_of base c.split_at-2.result.0.now in
     let reads =
-    reads-filled encoder c.join_encode.ensures c.args.piece.now c.split_at.result.0.now
+    reads-filled encoder c.join_encode.ensures.join c.args.piece.now c.split_at.result.0.now
     c.split_at.result.1.now c.split_at-2.result.0.now c.split_at-2.result.1.now c.hold-2.new.self
     (omega arith) (omega (arith, c.if-piece-missing.false)) c.split_at.ensures.front
     c.split_at.ensures.back c.split_at-2.ensures.front c.split_at-2.ensures.back

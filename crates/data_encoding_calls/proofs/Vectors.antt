@@ -1,0 +1,645 @@
+-- Worked rows of what calls return and write.
+use Rattle.std.proofs.Common.{◌≡◌, ◌∙◌, ◌⊎◌, ℕ, ◌≤◌, true, false, List, [], ◌∷◌, ◌++◌, map, length, drop, codes, replicate, Some, None, Result, Ok, Err, refl, zero, suc, sym, ap, subst, inl, inr, lit<, lit≤, arith}
+use Rattle.std.proofs.lemmas.List.{append-nil}
+use Rattle.data_encoding.specs.declared.encoding.BitOrder.TheVariants.{MostSignificantFirst, LeastSignificantFirst}
+use Rattle.data_encoding.specs.declared.error.DecodeError.{DecodeError}
+use Rattle.data_encoding.specs.declared.error.DecodePartial.{DecodePartial}
+use Rattle.data_encoding.specs.declared.error.DecodeKind.TheVariants.{Length, Symbol, Trailing, Padding}
+use Rattle.data_encoding.specs.declared.specification.meanings.Refusal.{Refusal}
+use Rattle.data_encoding.specs.declared.specification.meanings.Refusal.TheVariants.{BadSize, NotAscii, Duplicate, ExtraPadding, WrapLength, WrapWidth, FromTo, Undefined}
+use Rattle.data_encoding.specs.Base.{Base}
+use Rattle.data_encoding.specs.Canonical.{IsCanonical}
+use Rattle.data_encoding.specs.Fields.{Fields, IsSpecified, base_of}
+use Rattle.data_encoding.specs.Grammar.{Means}
+use Rattle.data_encoding.specs.Layout.{layout}
+use Rattle.data_encoding.specs.Plain.{base_of_plain}
+use Rattle.data_encoding.specs.Pieces.{whole_bytes}
+use Rattle.data_encoding.specs.Predefined.{base64_fields, base64_mime_fields}
+use Rattle.data_encoding.specs.Text.{text_of}
+use Rattle.encoding_stream.specs.declared.kept_data.KeptData.{KeptData}
+use Rattle.encoding_stream.specs.declared.pieces.Kept.{Kept}
+use Rattle.encoding_stream.specs.Blocks.{EncodesOn, HasWritten}
+use Rattle.encoding_stream.specs.Pieces.{most_completed}
+use Rattle.encoding_stream.specs.Resume.{HoldsNoIgnored}
+use Rattle.data_encoding_calls.specs.declared.convert.Decoded.{Decoded}
+use Rattle.data_encoding_calls.specs.declared.facts.TextLengths.{TextLengths}
+use Rattle.data_encoding_calls.specs.declared.make.Form.{Form}
+use Rattle.data_encoding_calls.specs.declared.make.Made.{Made}
+use Rattle.data_encoding_calls.specs.declared.pieces.PlainKept.{PlainKept}
+use Rattle.data_encoding_calls.specs.Blocks.{if_kept, last_text, piece_text, DataPlaces, EncodesPiece, EndsData, TellsDue}
+use Rattle.data_encoding_calls.specs.Blocks.{piece_status as data_status}
+use Rattle.data_encoding_calls.specs.Calls.{decode_len_status, decode_status, encode_len_status, encode_status, front_status, over, status_by_len, status_of_len, ByNumber, Decodes, Encodes, HasStopped, TellsCanonical, TellsMost, TellsTextLength, WritesFront}
+use Rattle.data_encoding_calls.specs.Facts.{texts_of, AsksFor, GivesBack, SpecificationPlaces, TellsAlignment, TellsWidth}
+use Rattle.data_encoding_calls.specs.Held.{fields_asked, order_asked, padding_asked, Makes, MakesOfLayout}
+use Rattle.data_encoding_calls.specs.Names.{FindsNumber, WritesName}
+use Rattle.data_encoding_calls.specs.Pieces.{fault_at_position, fault_told, kept_told, kept_with, kind_told, length_status, piece_status, EndsText, MayBeGiven, Places, ReadsPiece, StandsAfter, TellsRoom}
+use Rattle.data_encoding_calls.proofs.NumberLemmas.{by-known, by-unknown}
+use Rattle.data_encoding_calls.specs.Status.{detail_of_refusal, no_decoder, no_encoder, no_encoding, ok, short_buffer, status_of_fault, status_of_kind, status_of_refusal, too_long, unknown_encoding}
+
+abbrev Holds : (Base → Type 0) → Result Base Refusal → Type 0
+Holds P (Ok base) = P base
+Holds P (Err refusal) = ⊥
+
+-- The fields have a base, and it is so.
+abbrev Has : Fields → (Base → Type 0) → Type 0
+Has fields P = Holds P (base_of fields)
+
+abbrev symbol_at_4 : DecodeError
+symbol_at_4 = record { position = 4; kind = Symbol }
+
+statuses :
+    (ok ∷ unknown_encoding ∷ too_long ∷ short_buffer ∷ no_encoding ∷ no_decoder ∷ no_encoder ∷ []
+    ≡ 0 ∷ 1 ∷ 3 ∷ 4 ∷ 18 ∷ 19 ∷ 20 ∷ [])
+    × (map status_of_kind (Length ∷ Symbol ∷ Trailing ∷ Padding ∷ []) ≡ 6 ∷ 7 ∷ 8 ∷ 9 ∷ [])
+    × (status_of_fault None ≡ 0) × (status_of_fault (Some symbol_at_4) ≡ 7)
+statuses = (refl, refl, refl, refl)
+
+abbrev refusals : List Refusal
+refusals =
+    BadSize ∷ NotAscii ∷ Duplicate 97 ∷ ExtraPadding ∷ WrapLength ∷ WrapWidth 8 ∷ FromTo
+    ∷ Undefined 98 ∷ []
+
+statuses_of_refusals :
+    (map status_of_refusal refusals ≡ 10 ∷ 11 ∷ 12 ∷ 13 ∷ 14 ∷ 15 ∷ 16 ∷ 17 ∷ [])
+    × (map detail_of_refusal refusals ≡ 0 ∷ 0 ∷ 97 ∷ 0 ∷ 0 ∷ 8 ∷ 0 ∷ 98 ∷ [])
+statuses_of_refusals = (refl, refl)
+
+-- two bytes at the front of four, where there is room for them, and where there is not
+front_written :
+    (over (codes "Hi") (codes "....") ≡ codes "Hi..")
+    × (front_status (codes "Hi") 2 ≡ ok) × (front_status (codes "Hi") 1 ≡ short_buffer)
+    × WritesFront (codes "Hi") (codes "....") (codes "Hi..") 0 2 ok
+    × WritesFront (codes "Hi") (codes ".") (codes ".") 7 7 short_buffer
+front_written = (
+  refl,
+  refl,
+  refl,
+  record {
+    status = refl;
+    front = λ _. refl;
+    written = λ _. refl;
+    refused = λ no. absurd (no refl);
+  },
+  record {
+    status = refl;
+    front = λ is. absurd (cc is);
+    written = λ is. absurd (cc is);
+    refused = λ _. (refl, refl);
+  },
+)
+
+-- the longest data, and a byte more; a text of 8 characters with room for them, and with less
+encode_statuses :
+    (encode_len_status 36028797018963967 ≡ ok) × (encode_len_status 36028797018963968 ≡ too_long)
+    × Has base64_fields (λ base. (encode_status base (codes "Hello") 8 ≡ ok)
+    × (encode_status base (codes "Hello") 7 ≡ short_buffer))
+encode_statuses = (refl, refl, (refl, refl))
+
+-- a text of 8 characters means at most 6 bytes; one of 7 has a fault of its length
+decode_statuses :
+    (status_of_len (Ok 6) ≡ ok) × (status_of_len (Err symbol_at_4) ≡ 7)
+    × (status_by_len (Ok 6) None 6 ≡ ok) × (status_by_len (Ok 6) None 5 ≡ short_buffer)
+    × (status_by_len (Ok 6) (Some symbol_at_4) 6 ≡ 7)
+    × (status_by_len (Err symbol_at_4) None 0 ≡ 7)
+    × Has base64_fields (λ base. (decode_len_status base 8 ≡ ok) × (decode_len_status base 7 ≡ 6)
+    × (decode_len_status base 2305843009213693952 ≡ too_long)
+    × (decode_status base (codes "SGVsbG8=") 6 ≡ ok)
+    × (decode_status base (codes "SGVsbG8=") 5 ≡ short_buffer)
+    × (decode_status base (codes "SGVs!G8=") 6 ≡ 7) × (decode_status base (codes "SGVsbG8") 6 ≡ 6))
+decode_statuses =
+    (refl, refl, refl, refl, refl, refl, (refl, refl, refl, refl, refl, refl, refl))
+
+empty : Has base64_fields (λ base.
+    (bytes : List ℕ) → length bytes ≡ 0 → length (text_of base bytes) ≡ 0)
+empty [] none = refl
+empty (byte ∷ bytes) none = absurd (cc none)
+
+-- of no data, and of more than the longest
+text_lengths_told :
+    Has base64_fields (λ base. TellsTextLength base 0 7 0 ok
+    × TellsTextLength base 36028797018963968 7 7 too_long)
+text_lengths_told = (
+  record { status = refl; text_length = λ _. empty; refused = λ no. absurd (no refl) },
+  record { status = refl; text_length = λ is. absurd (cc is); refused = λ _. refl },
+)
+
+hello_encoded :
+    Has base64_fields (λ base.
+    Encodes base (codes "Hello") (codes "..........") (codes "SGVsbG8=..") 7 8 ok)
+hello_encoded = record {
+  status = refl;
+  text = λ _. refl;
+  written = λ _. refl;
+  refused = λ no. absurd (no refl);
+}
+
+never-err : {most : ℕ} {error : DecodeError}
+    → ◌≡◌ {A = Result ℕ DecodeError} (Ok most) (Err error) → ⊥
+never-err is = absurd (cc is)
+
+never-ok : {most : ℕ} {error : DecodeError}
+    → ◌≡◌ {A = Result ℕ DecodeError} (Err error) (Ok most) → ⊥
+never-ok is = absurd (cc is)
+
+same-most : {one other : ℕ} → ◌≡◌ {A = Result ℕ DecodeError} (Ok one) (Ok other) → one ≡ other
+same-most is = cc
+
+abbrev position_of : Result ℕ DecodeError → ℕ
+position_of (Ok most) = 0
+position_of (Err error) = error.position
+
+-- a text of 8 characters may mean 6 bytes; the fault of one of 7 is at 4
+most_told : Has base64_fields (λ base. TellsMost base 8 7 6 ok × TellsMost base 7 9 4 6)
+most_told = (
+  record {
+    status = refl;
+    value = λ _. refl;
+    fault = λ error is. absurd (never-err is);
+    refused = λ is. absurd (cc is);
+  },
+  record {
+    status = refl;
+    value = λ is. absurd (cc is);
+    fault = λ error is few. ap position_of is;
+    refused = λ is. absurd (cc is);
+  },
+)
+
+abbrev told : ℕ → ℕ → ℕ → Decoded
+told read written position = record { read = read; written = written; position = position }
+
+-- a text that means data, where there is no room for the data, and where there is
+text_decoded :
+    Has base64_fields (λ base.
+    Decodes base (codes "SGVsbG8=") (codes ".....") (codes ".....") (told 7 7 7) (told 7 7 7)
+    short_buffer
+    × (Means base (codes "SGVsbG8=") (codes "Hello")
+    → Decodes base (codes "SGVsbG8=") (codes "......") (codes "Hello.") (told 7 7 7) (told 8 5 8)
+    ok))
+text_decoded = (
+  record {
+    status = refl;
+    means = λ is. absurd (cc is);
+    all = λ is. absurd (cc is);
+    end = λ is. absurd (cc is);
+    refused = λ _. (refl, refl);
+    by_length = λ error few is. absurd (never-err is);
+    fault = λ partial most few short. absurd (short refl);
+    within = inl refl;
+    behind = λ most is. refl;
+  },
+  λ means. record {
+    status = refl;
+    means = λ _. means;
+    all = λ _. refl;
+    end = λ _. refl;
+    refused = λ is. absurd (not_refused is);
+    by_length = λ error few is. absurd (never-err is);
+    fault = λ partial most few short due stopped. absurd (never-stopped stopped);
+    within = inr (lit≤ tt);
+    behind = λ most is. behind_six most (same-most is);
+  },
+) where
+  not_refused : (ok ≡ too_long) ⊎ (ok ≡ short_buffer) → ⊥
+  not_refused (inl is) = absurd (cc is)
+  not_refused (inr is) = absurd (cc is)
+
+  never-stopped : {partial : DecodePartial} → None ≡ Some partial → ⊥
+  never-stopped is = absurd (cc is)
+
+  behind_six : (most : ℕ) → 6 ≡ most → drop most (codes "Hello.") ≡ drop most (codes "......")
+  behind_six most is = subst (λ n. drop n (codes "Hello.") ≡ drop n (codes "......")) is refl
+
+-- a text that has a fault by its length
+refused_by_length :
+    Has base64_fields (λ base.
+    Decodes base (codes "SGVsbG8") (codes "......") (codes "......") (told 7 7 7) (told 0 0 4) 6)
+refused_by_length = record {
+  status = refl;
+  means = λ is. absurd (cc is);
+  all = λ is. absurd (cc is);
+  end = λ is. absurd (cc is);
+  refused = λ is. absurd (not_refused is);
+  by_length = λ error few is. (refl, ap (told 0 0) (ap position_of is));
+  fault = λ partial most few short due. absurd (never-ok due);
+  within = inr (lit≤ tt);
+  behind = λ most is. refl;
+} where
+  not_refused : (6 ≡ too_long) ⊎ (6 ≡ short_buffer) → ⊥
+  not_refused (inl is) = absurd (cc is)
+  not_refused (inr is) = absurd (cc is)
+
+abbrev partial_at_4 : DecodePartial
+partial_at_4 = record { read = 4; written = 3; error = symbol_at_4 }
+
+-- a text with a fault, of which the first group was decoded
+stopped_at_4 : (base : Base) → Means base (codes "SGVs") (codes "Hel")
+    → HasStopped base (codes "SGVs!G8=") (codes "Hel...") partial_at_4 (told 4 3 4)
+stopped_at_4 base means = record { read = refl; written = refl; position = refl; means = means }
+
+-- an encoding that is canonical
+canonical_told : (base : Base) → IsCanonical base → TellsCanonical base true ok
+canonical_told base canonical = record {
+  status = refl;
+  is_canonical = (λ _. canonical, λ _. refl);
+}
+
+-- the number of BASE64, and one of none
+numbers_known :
+    ByNumber 12 ok ⊥ (λ base. base.width ≡ 6)
+    × ByNumber 18 unknown_encoding (codes "." ≡ codes ".") (λ base. ⊥)
+numbers_known = (
+  by-known (λ base. base.width ≡ 6)
+      (record { fields = base64_fields; is_known = refl; is_built = refl }) refl,
+  by-unknown refl refl,
+)
+
+-- a line is 57 bytes, and a symbol has six bits
+facts_told : Has base64_mime_fields (λ base. TellsAlignment base 57 ok × TellsWidth base 6 ok)
+facts_told = (record { status = refl; value = refl }, record { status = refl; value = refl })
+
+abbrev lines_form : Form
+lines_form = record {
+  wrap_width = 8;
+  padding = 0;
+  has_padding = false;
+  least_significant_first = true;
+  check_trailing_bits = true;
+  concatenate = true;
+}
+
+abbrev lines_fields : Fields
+lines_fields =
+    fields_asked lines_form (codes "01") (codes " ") (10 ∷ []) (codes "oi") (codes "01")
+
+-- a specification that is asked for, and what asks for it
+fields_are_asked :
+    (order_asked true ≡ LeastSignificantFirst) × (order_asked false ≡ MostSignificantFirst)
+    × (padding_asked true 61 ≡ Some 61) × (padding_asked false 61 ≡ None)
+    × (lines_fields.order ≡ LeastSignificantFirst) × (lines_fields.padding ≡ None)
+    × (texts_of lines_fields ≡ codes "01 " ++ 10 ∷ codes "oi01")
+    × AsksFor lines_fields lines_form (record {
+      symbols = 2;
+      ignore = 1;
+      separator = 1;
+      translate_from = 2;
+      translate_to = 2;
+    })
+fields_are_asked = (
+  refl,
+  refl,
+  refl,
+  refl,
+  refl,
+  refl,
+  refl,
+  record {
+    fields_are = refl;
+    symbols = refl;
+    ignore = refl;
+    separator = refl;
+    from = refl;
+    to = refl;
+  },
+)
+
+abbrev places_of : Form → List ℕ → SpecificationPlaces
+places_of form texts = record {
+  form = form;
+  lengths = record {
+    symbols = 64;
+    ignore = 0;
+    separator = 0;
+    translate_from = 0;
+    translate_to = 0;
+  };
+  texts = texts;
+}
+
+abbrev base64_form : Form
+base64_form = record lines_form {
+  wrap_width = 0;
+  padding = 61;
+  has_padding = true;
+  least_significant_first = false;
+}
+
+-- the specification of BASE64, where there is room for its symbols, and where there is not
+given_back :
+    Has base64_fields (λ base.
+    GivesBack base (places_of lines_form (replicate 65 46))
+    (places_of base64_form (base64_fields.symbols ++ codes ".")) ok
+    × GivesBack base (places_of lines_form []) (places_of lines_form []) short_buffer)
+given_back = (
+  record {
+    status = refl;
+    texts = λ _. refl;
+    asks = λ _. record {
+      fields_are = refl;
+      symbols = refl;
+      ignore = refl;
+      separator = refl;
+      from = refl;
+      to = refl;
+    };
+    refused = λ no. absurd (no refl);
+  },
+  record {
+    status = refl;
+    texts = λ is. absurd (cc is);
+    asks = λ is. absurd (cc is);
+    refused = λ _. refl;
+  },
+)
+
+-- an encoding that was made, one that was refused, and bytes that are no layout
+makes_told : (base : Base) (bytes : List ℕ) (made refused none : Made)
+    → made.status ≡ ok → base_of_plain made.held ≡ base
+    → refused.status ≡ 12 → refused.detail ≡ 97
+    → none.status ≡ no_encoding
+    → ((other : Base) → IsSpecified other → layout other ≡ bytes → ⊥)
+    → Makes (Ok base) made × Makes (Err (Duplicate 97)) refused × MakesOfLayout bytes none
+makes_told base bytes made refused none is_made held status detail is_none no_layout = (
+  (is_made, held),
+  (status, detail),
+  record {
+    known = λ other is same. absurd (no_layout other is same);
+    is_layout = λ is. absurd (eighteen-zero (sym is_none ∙ is));
+    status = λ _. is_none;
+  },
+) where
+  eighteen-zero : no_encoding ≡ ok → ⊥
+  eighteen-zero is = absurd (cc is)
+
+same-name : {one other : List ℕ} → Some one ≡ Some other → one ≡ other
+same-name is = cc
+
+same-number : {one other : ℕ} → Some one ≡ Some other → one ≡ other
+same-number is = cc
+
+-- the name of BASE64, and of a number of none
+names_written :
+    WritesName 12 (codes "........") (codes "BASE64..") 7 6 ok
+    × WritesName 18 (codes "..") (codes "..") 7 7 unknown_encoding
+names_written = (
+  record {
+    known = λ name is.
+        subst (λ those. WritesFront those (codes "........") (codes "BASE64..") 7 6 ok)
+        (same-name is)
+        (record {
+          status = refl;
+          front = λ _. refl;
+          written = λ _. refl;
+          refused = λ no. absurd (no refl);
+        });
+    unknown = λ none. absurd (cc none);
+    fits = λ room is. absurd (cc is);
+  },
+  record {
+    known = λ name is. absurd (cc is);
+    unknown = λ _. (refl, refl, refl);
+    fits = λ room is. absurd (cc is);
+  },
+)
+
+numbers_found :
+    FindsNumber (codes "BASE64") 7 12 ok × FindsNumber (codes "base64") 7 7 unknown_encoding
+numbers_found = (
+  record { known = λ found is. (refl, same-number is); unknown = λ none. absurd (cc none) },
+  record { known = λ found is. absurd (cc is); unknown = λ _. (refl, refl) },
+)
+
+-- what is kept of `SGVsbG` CR LF, `bG` at 4 and 5, as plain numbers
+abbrev plain_so_far : PlainKept
+plain_so_far = record {
+  len = 8;
+  count = 2;
+  positions = 4 ∷ 5 ∷ replicate 6 0;
+  fault_position = 9;
+  fault = 0;
+  ended = 0;
+  bytes = codes "bG" ++ replicate 6 0;
+}
+
+abbrev kept_so_far : Kept
+kept_so_far = record {
+  len = 8;
+  fault = None;
+  positions = 4 ∷ 5 ∷ replicate 6 0;
+  bytes = codes "bG" ++ replicate 6 0;
+  count = 2;
+  ended = false;
+}
+
+-- numbers of which the fault is none
+abbrev plain_of_none : PlainKept
+plain_of_none = record plain_so_far { fault = 5 }
+
+numbers_told :
+    (kind_told 7 ≡ Some Symbol) × (kind_told 5 ≡ None)
+    × (fault_at_position 4 None ≡ None)
+    × (fault_at_position 4 (Some Symbol) ≡ Some (Some symbol_at_4))
+    × (fault_told 0 9 ≡ Some None) × (fault_told 7 4 ≡ Some (Some symbol_at_4))
+    × (fault_told 5 4 ≡ None)
+    × (kept_with plain_so_far None ≡ None)
+    × (kept_with plain_so_far (Some None) ≡ Some kept_so_far)
+    × (kept_told plain_so_far ≡ Some kept_so_far) × (kept_told plain_of_none ≡ None)
+numbers_told = (refl, refl, refl, refl, refl, refl, refl, refl, refl, refl, refl)
+
+no_line_end : Has base64_mime_fields (λ base. HoldsNoIgnored base kept_so_far)
+no_line_end zero k h = refl
+no_line_end (suc zero) k h = refl
+no_line_end (suc (suc index)) k h = absurd (omega (arith, h))
+
+numbers_given :
+    Has base64_mime_fields (λ base.
+    MayBeGiven base plain_so_far × (MayBeGiven base plain_of_none → ⊥))
+numbers_given = (
+  record {
+    kept = kept_so_far;
+    told = refl;
+    passes = record {
+      limit = lit≤ tt;
+      short = lit< tt;
+      in_order = (lit≤ tt, lit< tt, (lit≤ tt, lit< tt, tt));
+      none_ignored = no_line_end;
+      fault = record {
+        clear = λ some. absurd (cc some);
+        inside = tt;
+        kind = tt;
+        ends = λ _ final. absurd (cc final);
+      };
+    };
+  },
+  λ given. absurd (cc given.told),
+)
+
+-- the decoder of a caller that was told that text
+decoder_stands :
+    Has base64_mime_fields (λ base.
+    StandsAfter base plain_so_far (codes "SGVsbG" ++ 13 ∷ 10 ∷ []))
+decoder_stands = record {
+  kept = kept_so_far;
+  told = refl;
+  keeps = record { counted = refl; first = refl; holds = λ h. refl; ends = λ h. refl };
+  limit = lit≤ tt;
+  clear = λ some. absurd (cc some);
+}
+
+-- five more of the text, and so many that it is too long
+piece_statuses :
+    (length_status kept_so_far 5 ≡ ok) × (length_status kept_so_far 2305843009213693944 ≡ too_long)
+    × Has base64_mime_fields (λ base. (piece_status base kept_so_far 5 3 ≡ ok)
+    × (piece_status base kept_so_far 5 2 ≡ short_buffer)
+    × (piece_status base kept_so_far 2305843009213693944 3 ≡ too_long))
+piece_statuses = (refl, refl, (refl, refl, refl))
+
+same-kept : {one other : Kept} → Some one ≡ Some other → one ≡ other
+same-kept is = cc
+
+room_by : (base : Base) → most_completed base kept_so_far 5 ≡ 3
+    → TellsRoom base plain_so_far 5 7 3 ok
+room_by base most = record {
+  status = λ text stands. ap (λ kept. length_status kept 5) (same-kept stands.told);
+  value = λ _ text stands.
+      sym most ∙ ap (λ kept. most_completed base kept 5) (same-kept stands.told);
+  refused = λ no. absurd (no refl);
+}
+
+-- five more of the text may complete three bytes
+room_told : Has base64_mime_fields (λ base. TellsRoom base plain_so_far 5 7 3 ok)
+room_told = room_by _ refl
+
+abbrev places_of_none : Places
+places_of_none = record { decoder = plain_of_none; output = codes "..."; written = 7 }
+
+abbrev places_so_far : ℕ → Places
+places_so_far written = record {
+  decoder = plain_so_far;
+  output = codes "...";
+  written = written;
+}
+
+-- a piece of no bytes leaves all as it was
+no_piece_read : (base : Base) → piece_status base kept_so_far 0 3 ≡ ok
+    → ReadsPiece base [] (places_so_far 7) (places_so_far 0) ok
+no_piece_read base fits = record {
+  status = λ text stands.
+      sym fits ∙ ap (λ kept. piece_status base kept 0 3) (same-kept stands.told);
+  stands = λ _ text stands.
+      subst (λ those. StandsAfter base plain_so_far those) (sym (append-nil text)) stands;
+  decodes = λ _ text stands.
+      ap (λ those. whole_bytes base those) (append-nil text)
+      ∙ sym (append-nil (whole_bytes base text));
+  within = λ _. lit≤ tt;
+  behind = λ _ text stands. refl;
+  len = refl;
+  refused = λ no. absurd (no refl);
+}
+
+piece_read :
+    Has base64_mime_fields (λ base. ReadsPiece base [] (places_so_far 7) (places_so_far 0) ok)
+piece_read = no_piece_read _ refl
+
+-- numbers that are refused, by a piece and at the end
+numbers_refused : (base : Base)
+    → ReadsPiece base (codes "8=") places_of_none places_of_none no_decoder
+    × EndsText base plain_of_none (codes "...") (codes "...") (told 7 7 7) (told 7 7 7) no_decoder
+numbers_refused base = (
+  record {
+    status = λ text stands. absurd (cc stands.told);
+    stands = λ is. absurd (cc is);
+    decodes = λ is. absurd (cc is);
+    within = λ is. absurd (cc is);
+    behind = λ is. absurd (cc is);
+    len = refl;
+    refused = λ _. refl;
+  },
+  record {
+    verdict = λ _ text stands. absurd (cc stands.told);
+    bytes = λ _ text stands. absurd (cc stands.told);
+    position = λ _ text error stands. absurd (cc stands.told);
+    read = λ _ text stands. absurd (cc stands.told);
+    end = λ is. absurd (cc is);
+    given = λ no. absurd (no refl);
+    counted = λ no. absurd (no refl);
+    inside = λ no. absurd (no refl);
+    within = λ _ text stands. absurd (cc stands.told);
+    behind = refl;
+    len = refl;
+    short = λ is. absurd (cc is);
+    refused = λ _. (refl, refl);
+  },
+)
+
+-- `lo` is held
+abbrev data_so_far : KeptData
+data_so_far = record { count = 2; bytes = codes "lo" ++ replicate 187 0 }
+
+-- a whole block is held
+abbrev whole_block : KeptData
+whole_block = record { count = 3; bytes = codes "low" ++ replicate 186 0 }
+
+-- of `lo` and `w!` a block is whole
+data_texts :
+    Has base64_fields (λ base. (piece_text base data_so_far (codes "w!") ≡ codes "bG93")
+    × (last_text base data_so_far ≡ codes "bG8=")
+    × (if_kept base data_so_far ok ≡ ok) × (if_kept base whole_block ok ≡ no_encoder)
+    × (data_status base data_so_far (codes "w!") 4 ≡ ok)
+    × (data_status base data_so_far (codes "w!") 3 ≡ short_buffer))
+data_texts = (refl, refl, refl, refl, refl, refl)
+
+abbrev places_with : KeptData → ℕ → DataPlaces
+places_with kept written = record { encoder = kept; output = codes "...."; written = written }
+
+no_data : (base : Base) → EncodesOn base data_so_far data_so_far [] []
+no_data base = λ bytes before has.
+    subst (λ b. HasWritten base data_so_far b (before ++ [])) (sym (append-nil bytes))
+    (subst (HasWritten base data_so_far bytes) (sym (append-nil before)) has)
+
+-- a piece of no bytes leaves all as it was
+piece_encoded :
+    Has base64_fields (λ base.
+    EncodesPiece base [] (places_with data_so_far 7) (places_with data_so_far 0) ok)
+piece_encoded = record {
+  status = refl;
+  text = λ _. refl;
+  written = λ _. refl;
+  held = λ _. refl;
+  encodes = λ _. no_data _;
+  refused = λ no. absurd (no refl);
+}
+
+-- an encoder that holds a whole block is refused
+data_refused :
+    Has base64_fields (λ base. TellsDue base whole_block 1 7 7 no_encoder
+    × EncodesPiece base (codes "!") (places_with whole_block 7) (places_with whole_block 7)
+    no_encoder
+    × EndsData base whole_block (codes "....") (codes "....") 7 7 no_encoder)
+data_refused = (
+  record { status = refl; value = λ is. absurd (cc is); refused = λ _. refl },
+  record {
+    status = refl;
+    text = λ is. absurd (cc is);
+    written = λ is. absurd (cc is);
+    held = λ is. absurd (cc is);
+    encodes = λ is. absurd (cc is);
+    refused = λ _. refl;
+  },
+  record {
+    status = refl;
+    text = λ is. absurd (cc is);
+    written = λ is. absurd (cc is);
+    whole = λ is. absurd (cc is);
+    refused = λ _. (refl, refl);
+  },
+)
+
+nothing_due : Has base64_fields (λ base.
+    (piece : List ℕ) → length piece ≡ 0 → length (piece_text base data_so_far piece) ≡ 0)
+nothing_due [] none = refl
+nothing_due (byte ∷ bytes) none = absurd (cc none)
+
+-- no data is due for a piece of no bytes
+due_told : Has base64_fields (λ base. TellsDue base data_so_far 0 7 0 ok)
+due_told = record { status = refl; value = λ _. nothing_due; refused = λ no. absurd (no refl) }
