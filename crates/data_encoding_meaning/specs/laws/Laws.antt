@@ -41,8 +41,8 @@ Unpadded =
     (base : Base) → IsSpecified base → base.padding ≡ None → (text bytes : List ℕ)
     → Means base text bytes ↔ PlainMeans base (meanings_in base (kept base text)) bytes
 
--- The text of data in two pieces, the first of which is whole lines or whole groups, is the texts
--- of the pieces joined.
+-- If the first of two pieces of data is whole lines or whole groups, the text of the data is the
+-- texts of the pieces, joined.
 abbrev pub JoinEncode : Type 0
 JoinEncode =
     (base : Base) → IsSpecified base → (a b : List ℕ) → length a % alignment base ≡ 0

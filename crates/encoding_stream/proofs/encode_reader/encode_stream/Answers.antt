@@ -77,8 +77,8 @@ returns-in_default-write_text-clause-begun g c =
     let front = rw piece at c.write_text.ensures.begun in
     encoded-front base c.encode_piece_len-asked.ensures.base c.join_encode.ensures.join
     _ _ _ _ _ c.loop-count.total c.loop-count.invariant.encoded _ c.in-Ok.ensures.bytes _ front
-    (front-of_rest base c.encode_piece_len-asked.ensures.base c.join_encode.ensures.join _ _ _ _ more
-    c.in-Ok.ensures.bytes ends front)
+    (front-of_rest base c.encode_piece_len-asked.ensures.base c.join_encode.ensures.join
+    _ _ _ _ more c.in-Ok.ensures.bytes ends front)
 
 pub returns-in-Ok-flush-clause-whole : goal.returns-in-Ok-flush-clause-whole
 returns-in-Ok-flush-clause-whole g c =
@@ -117,8 +117,8 @@ returns-in-Err-flush-clause-begun g c =
     ∙ length-take-le asked c.loop-count.buffer
     (omega (arith, c.encode_piece_len-asked.ensures.few, c.loop-count.invariant.chunk)) in
     all-front c.args.encoding.now _ _ _ _
-    (encoded-all c.args.encoding.now c.encode_piece_len-asked.ensures.base c.join_encode.ensures.join
-    _ _ _ _ _ c.loop-count.total c.loop-count.invariant.encoded _ c.in-Ok.ensures.bytes _
+    (encoded-all c.args.encoding.now c.encode_piece_len-asked.ensures.base
+    c.join_encode.ensures.join _ _ _ _ _ c.loop-count.total c.loop-count.invariant.encoded _ c.in-Ok.ensures.bytes _
     (c.in-Ok.ensures.at_end (omega (arith, filled, c.if-count-asked.true)))
     (Appends-kept _ _ _ _ (rw piece at c.in-Ok-write_text.ensures.text)
     c.in-Err-flush.ensures.bytes))
@@ -144,8 +144,8 @@ loop-count-preserved g c =
     let sum : c.loop-count.total + length more ≡ c.in-Some.sum =
     omega (arith, taken, c.in-Some.ensures) in
     let encoded =
-    encoded-more c.args.encoding.now c.encode_piece_len-asked.ensures.base c.join_encode.ensures.join
-    _ _ _ _ _ c.loop-count.total c.loop-count.invariant.encoded _ c.in-Ok.ensures.bytes _ whole
+    encoded-more c.args.encoding.now c.encode_piece_len-asked.ensures.base
+    c.join_encode.ensures.join _ _ _ _ _ c.loop-count.total c.loop-count.invariant.encoded _ c.in-Ok.ensures.bytes _ whole
     (rw piece at c.in-Ok-write_text.ensures.text) in
     record {
       encoded = rw (← sum) encoded;
