@@ -118,7 +118,8 @@ returns-in-Err-flush-clause-begun g c =
     (omega (arith, c.encode_piece_len-asked.ensures.few, c.loop-count.invariant.chunk)) in
     all-front c.args.encoding.now _ _ _ _
     (encoded-all c.args.encoding.now c.encode_piece_len-asked.ensures.base
-    c.join_encode.ensures.join _ _ _ _ _ c.loop-count.total c.loop-count.invariant.encoded _ c.in-Ok.ensures.bytes _
+    c.join_encode.ensures.join _ _ _ _ _ c.loop-count.total c.loop-count.invariant.encoded _
+    c.in-Ok.ensures.bytes _
     (c.in-Ok.ensures.at_end (omega (arith, filled, c.if-count-asked.true)))
     (Appends-kept _ _ _ _ (rw piece at c.in-Ok-write_text.ensures.text)
     c.in-Err-flush.ensures.bytes))
@@ -145,7 +146,8 @@ loop-count-preserved g c =
     omega (arith, taken, c.in-Some.ensures) in
     let encoded =
     encoded-more c.args.encoding.now c.encode_piece_len-asked.ensures.base
-    c.join_encode.ensures.join _ _ _ _ _ c.loop-count.total c.loop-count.invariant.encoded _ c.in-Ok.ensures.bytes _ whole
+    c.join_encode.ensures.join _ _ _ _ _ c.loop-count.total c.loop-count.invariant.encoded _
+    c.in-Ok.ensures.bytes _ whole
     (rw piece at c.in-Ok-write_text.ensures.text) in
     record {
       encoded = rw (← sum) encoded;
