@@ -35,13 +35,15 @@ pub returns-in-Err-clause-begun : goal.returns-in-Err-clause-begun
 returns-in-Err-clause-begun g c =
     let more = c.in-Err.ensures.begun in
     encoded-front c.args.encoding.now c.encode_piece_len-asked.ensures.base
-    c.join_encode.ensures.join _ _ _ _ _ c.loop-count.total c.loop-count.invariant.encoded more.0 more.1 _
+    c.join_encode.ensures.join _ _ _ _ _ c.loop-count.total c.loop-count.invariant.encoded
+    more.0 more.1 _
     (AppendsFront-nothing _ _) (front-nothing c.args.encoding.now _ _)
 
 pub returns-in_default-clause-begun : goal.returns-in_default-clause-begun
 returns-in_default-clause-begun g c =
     encoded-front c.args.encoding.now c.encode_piece_len-asked.ensures.base
-    c.join_encode.ensures.join _ _ _ _ _ c.loop-count.total c.loop-count.invariant.encoded _ c.in-Ok.ensures.bytes _
+    c.join_encode.ensures.join _ _ _ _ _ c.loop-count.total c.loop-count.invariant.encoded _
+    c.in-Ok.ensures.bytes _
     (AppendsFront-nothing _ _) (front-nothing c.args.encoding.now _ _)
 
 pub returns-in_default-clause-too_long : goal.returns-in_default-clause-too_long
