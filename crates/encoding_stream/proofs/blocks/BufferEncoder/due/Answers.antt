@@ -37,8 +37,8 @@ returns c = record {
       let left : length rest ≡ c.args.len - missing =
       length-drop missing piece ∙ ap (λ n. n - missing) same in
       let reads =
-      reads-cut base (built-again encoder.specified) c.join_encode.ensures.join held piece block missing
-      encoder.block encoder.block_len (omega (arith, size, encoder.short))
+      reads-cut base (built-again encoder.specified) c.join_encode.ensures.join held piece block
+      missing encoder.block encoder.block_len (omega (arith, size, encoder.short))
       (omega (arith, encoder.short)) few refl in
       let one = c.encode_len.ensures.length block
       (length-append held (take missing piece)
