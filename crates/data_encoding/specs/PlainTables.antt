@@ -1,5 +1,5 @@
 -- The tables of an encoding as plain data.
-use Rattle.std.specs.Prelude.{ℕ, nat_lt, Bool, take, Option, Some, None, if◌then◌else◌}
+use Rattle.std.specs.Prelude.{ℕ, nat_lt, Bool, List, Option, Some, None, if◌then◌else◌}
 use Rattle.data_encoding_meaning.specs.declared.encoding.BitOrder.{BitOrder}
 use Rattle.data_encoding_meaning.specs.declared.encoding.BitOrder.TheVariants.{MostSignificantFirst, LeastSignificantFirst}
 use Rattle.data_encoding.specs.declared.plain.PlainFields.{PlainFields}
@@ -13,9 +13,9 @@ order_by least = if least then LeastSignificantFirst else MostSignificantFirst
 abbrev pub padding_by : ℕ → Option ℕ
 padding_by entry = if nat_lt entry 128 then Some entry else None
 
--- the tables that plain fields describe
-abbrev pub plain_tables : PlainFields → EncodingTables
-plain_tables f = record {
+-- the tables that plain fields and a separator describe
+abbrev pub plain_tables : PlainFields → List ℕ → EncodingTables
+plain_tables f separator = record {
   symbols = f.symbols;
   values = f.values;
   width = f.width;
@@ -25,5 +25,5 @@ plain_tables f = record {
   padding = padding_by f.padding;
   ignores = f.ignores;
   column = f.column;
-  separator = take f.separator_len f.separator;
+  separator = separator;
 }

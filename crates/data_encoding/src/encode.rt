@@ -101,7 +101,7 @@ impl EncodingRef<'_> {
         if self.fields.column == 0 {
             return count;
         }
-        count + count.div_ceil(self.fields.column as usize) * self.fields.line_separator_len()
+        count + count.div_ceil(self.fields.column as usize) * self.separator.len()
     }
 
     // The same without separators.

@@ -1,12 +1,13 @@
 //! Encodings, and the terms that describe them.
 
-ghost use Rattle.std.specs.Prelude.{◌≡◌, ◌<◌, ◌≤◌, ◌-◌, ◌==◌, ◌||◌, MatchResult};
+ghost use Rattle.std.specs.Prelude.{◌≡◌, ◌<◌, ◌≤◌, ◌-◌, ◌==◌, ◌||◌, length, MatchResult};
 ghost use Rattle.data_encoding.specs.Calls.{IsBitWidth, IsGroupBytes};
 ghost use Rattle.data_encoding_meaning.specs.text.Base.{IsWidth, group_bytes, group_symbols, ignores_some, is_padded, meaning};
 ghost use Rattle.data_encoding_meaning.specs.specification.Fields.{IsSpecified};
 ghost use Rattle.data_encoding_meaning.specs.text.Lengths.{most_bytes};
 
 use crate::plain::PlainFields;
+use arrayvec::ArrayVec;
 pub use data_encoding_meaning::encoding::{BitOrder, Character};
 use std::alloc::AllocError;
 use std::marker::Model;
@@ -28,6 +29,9 @@ pub(crate) const ASCII: u8 = 128;
 #[derive(Debug, Drop)]
 pub struct Encoding {
     pub(crate) fields: PlainFields,
+
+    // What follows each line.
+    pub(crate) separator: ArrayVec<u8, 255>,
 }
 
 impl Model for Encoding {
@@ -38,17 +42,22 @@ impl Model for Encoding {
     ghost use Rattle.data_encoding.specs.Encoding.{base_of_tables, KeepsRules};
     ghost use Rattle.data_encoding.specs.PlainTables.{plain_tables};
 
-    ghost view = { λ encoding. base_of_tables (plain_tables encoding.fields) };
+    ghost view = { λ encoding. base_of_tables
+        (plain_tables encoding.fields encoding.separator.items) };
 
-    ghost invariant = { λ encoding. KeepsRules (plain_tables encoding.fields) };
+    ghost invariant = { λ encoding. KeepsRules
+        (plain_tables encoding.fields encoding.separator.items) };
 }
 
 /// An encoding by reference: its tables are in an [`Encoding`], in a
-/// [`PlainEncoding`](crate::PlainEncoding) or, for a predefined encoding, in the program. It is one
-/// pointer, and nothing is copied to make one.
+/// [`PlainEncoding`](crate::PlainEncoding) or, for a predefined encoding, in the program. It is two
+/// references, and nothing is copied to make one.
 #[derive(Debug, Drop)]
 pub struct EncodingRef<'a> {
     pub(crate) fields: &'a PlainFields,
+
+    // What follows each line.
+    pub(crate) separator: &'a [u8],
 }
 
 impl<'a> Model for EncodingRef<'a> {
@@ -59,9 +68,11 @@ impl<'a> Model for EncodingRef<'a> {
     ghost use Rattle.data_encoding.specs.Encoding.{base_of_tables, KeepsRules};
     ghost use Rattle.data_encoding.specs.PlainTables.{plain_tables};
 
-    ghost view = { λ encoding. base_of_tables (plain_tables encoding.fields.now) };
+    ghost view = { λ encoding. base_of_tables
+        (plain_tables encoding.fields.now encoding.separator.now) };
 
-    ghost invariant = { λ encoding. KeepsRules (plain_tables encoding.fields.now) };
+    ghost invariant = { λ encoding. KeepsRules
+        (plain_tables encoding.fields.now encoding.separator.now) };
 }
 
 impl EncodingRef<'_> {
@@ -72,6 +83,7 @@ impl EncodingRef<'_> {
     {
         Encoding {
             fields: *self.fields,
+            separator: copied(self.separator),
         }
     }
 
@@ -110,6 +122,7 @@ impl Encoding {
     {
         EncodingRef {
             fields: &self.fields,
+            separator: self.separator.as_slice(),
         }
     }
 
@@ -217,6 +230,16 @@ pub(crate) fn group_symbols(width: u8) -> u8
     group_bytes(width) * 8 / width
 }
 
+// Returns the separator of these bytes.
+pub(crate) fn copied(separator: &[u8]) -> ArrayVec<u8, 255>
+    requires { length separator.now < 256 }
+    ensures { result.items ≡ separator.now }
+{
+    let mut copy = ArrayVec::new();
+    copy.try_extend_from_slice(separator).unwrap();
+    copy
+}
+
 // A copy does not allocate, and never fails.
 impl Clone for Encoding {
     ghost use Rattle.std.specs.Prelude.{◌≡◌};
@@ -230,6 +253,7 @@ impl Clone for Encoding {
     {
         Ok(Encoding {
             fields: self.fields,
+            separator: copied(self.separator.as_slice()),
         })
     }
 }
@@ -273,7 +297,7 @@ impl PartialEq for Encoding {
             && self.fields.symbols[..MOST_SYMBOLS as usize]
                 == other.fields.symbols[..MOST_SYMBOLS as usize]
             && self.fields.values[..ASCII as usize] == other.fields.values[..ASCII as usize]
-            && self.fields.line_separator() == other.fields.line_separator()
+            && self.separator.as_slice() == other.separator.as_slice()
     }
 }
 

@@ -1,12 +1,13 @@
 //! The tables of an encoding as plain data, which can be passed to C.
 
-ghost use Rattle.std.specs.Prelude.{◌≡◌, ◌≤◌, length, is_some, take};
+ghost use Rattle.std.specs.Prelude.{◌≡◌, ◌<◌, length, is_some, take};
 ghost use Rattle.data_encoding.specs.Encoding.{KeepsRules};
 ghost use Rattle.data_encoding.specs.PlainTables.{order_by, padding_by, plain_tables};
 
 use crate::encoding::{BitOrder, Encoding, EncodingRef};
 
-// The tables of an encoding, with numbers for the types that C does not have.
+// The tables of an encoding except for the separator, with numbers for the types that C does not
+// have.
 #[repr(C)]
 #[derive(Clone, Copy, Debug, Drop)]
 pub struct PlainFields {
@@ -16,10 +17,6 @@ pub struct PlainFields {
     // The value of each symbol and of each byte that is translated to it; 128 for an invalid byte,
     // 129 for an ignored one, and 130 for padding.
     pub(crate) values: [u8; 256],
-
-    // The separator of lines, followed by zeros, and its length.
-    pub(crate) separator: [u8; 255],
-    pub(crate) separator_len: u8,
 
     pub(crate) width: u8,
 
@@ -67,24 +64,6 @@ impl PlainFields {
     {
         self.padding < 128
     }
-
-    // The separator of lines.
-    #[inline(always)]
-    pub(crate) fn line_separator(&self) -> &[u8]
-        ensures value { result.now ≡ take self.now.separator_len self.now.separator }
-        ensures few { length result.now ≤ 255 }
-    {
-        &self.separator[..self.separator_len as usize]
-    }
-
-    // The length of the separator.
-    #[inline(always)]
-    pub(crate) fn line_separator_len(&self) -> usize
-        ensures value { result ≡ length (take self.now.separator_len self.now.separator) }
-        ensures few { result ≤ 255 }
-    {
-        self.separator_len as usize
-    }
 }
 
 // The padding character that the entry means.
@@ -100,7 +79,12 @@ pub(crate) fn padding_of(entry: u8) -> Option<u8>
 #[derive(Clone, Copy, Debug, Drop)]
 pub struct PlainEncoding {
     fields: PlainFields,
-    ghost kept: { ∥ KeepsRules (plain_tables fields) ∥₁ },
+
+    // The separator, followed by zeros, and its length.
+    separator: [u8; 255],
+    separator_len: u8,
+
+    ghost kept: { ∥ KeepsRules (plain_tables fields (take separator_len separator)) ∥₁ },
 }
 
 impl PlainEncoding {
@@ -113,6 +97,7 @@ impl PlainEncoding {
     {
         EncodingRef {
             fields: &self.fields,
+            separator: &self.separator[..self.separator_len as usize],
         }
     }
 
@@ -133,6 +118,18 @@ impl Encoding {
     {
         PlainEncoding {
             fields: self.fields,
+            separator: filled(self.separator.as_slice()),
+            separator_len: self.separator.len() as u8,
         }
     }
+}
+
+// The bytes, followed by zeros.
+fn filled(bytes: &[u8]) -> [u8; 255]
+    requires { length bytes.now < 256 }
+    ensures { take (length bytes.now) result ≡ bytes.now }
+{
+    let mut room = [0; 255];
+    room[..bytes.len()].copy_from_slice(bytes);
+    room
 }

@@ -191,7 +191,7 @@ impl EncodingRef<'_> {
             ignore: ascii_text(alloc, tables.ignored().as_slice())?,
             wrap: Wrap {
                 width: self.fields.column as usize,
-                separator: ascii_text(alloc, self.fields.line_separator())?,
+                separator: ascii_text(alloc, self.separator)?,
             },
             translate: Translate {
                 from: ascii_text(alloc, translations.from.as_slice())?,

@@ -126,6 +126,14 @@ module _ (e : EncodingTables) (rules : KeepsRules e) where
   pub separator-ascii : list_all (λ byte. nat_lt byte 128) e.separator ≡ true
   separator-ascii = separator-by e.column e.separator rules.wrapping
 
+  short-by : (column : ℕ) (separator : List ℕ)
+      → KeepsWrapping column separator e.width e.values → length separator < 256
+  short-by zero separator keeps = omega (arith, ap length keeps)
+  short-by (suc n) separator keeps = keeps.3
+
+  pub separator-short : length e.separator < 256
+  separator-short = short-by e.column e.separator rules.wrapping
+
   ruled-wrapping : (column : ℕ) (separator : List ℕ)
       → KeepsWrapping column separator e.width e.values
       → IsRuledWrapping (base_of_tables e) (wrapping_by column separator)

@@ -1,6 +1,7 @@
 -- Worked rows: an encoding as plain data.
-use Rattle.std.proofs.Common.{◌≡◌, true, false, [], ◌∷◌, Some, None, refl}
+use Rattle.std.proofs.Common.{◌≡◌, true, false, [], ◌∷◌, take, Some, None, refl}
 use Rattle.data_encoding_meaning.specs.declared.encoding.BitOrder.TheVariants.{MostSignificantFirst, LeastSignificantFirst}
+use Rattle.data_encoding_meaning.specs.text.Base.{wrapping_by}
 use Rattle.data_encoding.specs.declared.plain.PlainEncoding.{PlainEncoding}
 use Rattle.data_encoding.specs.declared.plain.PlainFields.{PlainFields}
 use Rattle.data_encoding.specs.Plain.{base_of_plain}
@@ -11,8 +12,6 @@ abbrev plain_mime : PlainFields
 plain_mime = record {
   symbols = [];
   values = [];
-  separator = 13 ∷ 10 ∷ 0 ∷ [];
-  separator_len = 2;
   width = 6;
   column = 76;
   padding = 61;
@@ -23,11 +22,17 @@ plain_mime = record {
 }
 
 plain_read :
-    ((plain_tables plain_mime).separator ≡ 13 ∷ 10 ∷ [])
-    × ((plain_tables plain_mime).padding ≡ Some 61)
-    × ((plain_tables plain_mime).order ≡ MostSignificantFirst)
+    ((plain_tables plain_mime (13 ∷ 10 ∷ [])).separator ≡ 13 ∷ 10 ∷ [])
+    × ((plain_tables plain_mime []).padding ≡ Some 61)
+    × ((plain_tables plain_mime []).order ≡ MostSignificantFirst)
     × (padding_by 128 ≡ None) × (order_by true ≡ LeastSignificantFirst)
 plain_read = (refl, refl, refl, refl, refl)
 
 plain_seen : (plain : PlainEncoding) → plain.fields.width ≡ 6 → (base_of_plain plain).width ≡ 6
 plain_seen plain width = width
+
+plain_lines : (plain : PlainEncoding) → plain.fields.column ≡ 76
+    → plain.separator ≡ 13 ∷ 10 ∷ 0 ∷ [] → plain.separator_len ≡ 2
+    → (base_of_plain plain).wrapping ≡ Some (record { column = 76; separator = 13 ∷ 10 ∷ [] })
+plain_lines plain column separator len =
+    λ i. wrapping_by (column i) (take (len i) (separator i))

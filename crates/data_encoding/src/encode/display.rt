@@ -93,7 +93,7 @@ impl Encoding {
         if self.fields.column == 0 {
             return group_symbols(self.fields.width) as usize;
         }
-        self.fields.column as usize + self.fields.line_separator_len()
+        self.fields.column as usize + self.separator.len()
     }
 
     // Writes the text of a piece of the data in one call.

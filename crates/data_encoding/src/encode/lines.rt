@@ -48,7 +48,7 @@ impl EncodingRef<'_> {
         ensures { output.new ≡ text_of self.now input.now }
     {
         let line_bytes = self.encode_align();
-        let line_len = self.fields.column as usize + self.fields.line_separator_len();
+        let line_len = self.fields.column as usize + self.separator.len();
         for index in 0..input.len().div_ceil(line_bytes) {
             let read = index * line_bytes;
             let read_end = input.len().min(read + line_bytes);
@@ -72,7 +72,7 @@ impl EncodingRef<'_> {
         let mut symbols = [0; BLOCK_LEN];
         let lines = BLOCK_LEN / self.fields.column as usize;
         let block_bytes = lines * self.encode_align();
-        let block_len = lines * (self.fields.column as usize + self.fields.line_separator_len());
+        let block_len = lines * (self.fields.column as usize + self.separator.len());
         for index in 0..input.len().div_ceil(block_bytes) {
             let read = index * block_bytes;
             let read_end = input.len().min(read + block_bytes);
@@ -105,7 +105,7 @@ impl EncodingRef<'_> {
         self.encode_padded::<G>(input, &mut symbols[..count]);
         wrap(
             self.fields.column as usize,
-            self.fields.line_separator(),
+            self.separator,
             &symbols[..count],
             output,
         );
@@ -121,9 +121,9 @@ impl EncodingRef<'_> {
         requires exact { length output.old ≡ length (text_of self.now input.now) }
         ensures { output.new ≡ text_of self.now input.now }
     {
-        let end = output.len() - self.fields.line_separator_len();
+        let end = output.len() - self.separator.len();
         self.encode_padded::<G>(input, &mut output[..end]);
-        write_separator(self.fields.line_separator(), &mut output[end..]);
+        write_separator(self.separator, &mut output[end..]);
     }
 }
 

@@ -8,7 +8,7 @@ ghost use Rattle.data_encoding_meaning.specs.specification.Fields.{Fields, base_
 ghost use Rattle.data_encoding.specs.PlainTables.{order_by, padding_by};
 ghost use Rattle.data_encoding.specs.Specification.{fields_of_parts};
 
-use crate::encoding::{BitOrder, Encoding, INVALID};
+use crate::encoding::{BitOrder, Encoding, INVALID, copied};
 use crate::plain::PlainFields;
 use crate::specification::meanings::{Meanings, Refusal, wraps};
 use crate::specification::parts::SpecificationParts;
@@ -103,16 +103,6 @@ fn lines_of(column: usize, separator: &[u8]) -> (u8, &[u8])
     (0, b"")
 }
 
-// The bytes, followed by zeros.
-fn filled(bytes: &[u8]) -> [u8; 255]
-    requires { length bytes.now < 256 }
-    ensures { take (length bytes.now) result ≡ bytes.now }
-{
-    let mut room = [0; 255];
-    room[..bytes.len()].copy_from_slice(bytes);
-    room
-}
-
 // What the bytes mean after all judgements.
 fn judge(parts: &SpecificationParts<'_>, width: u8) -> Result<Meanings, Refusal>
     requires width { IsWidth width }
@@ -148,8 +138,6 @@ fn assembled(parts: &SpecificationParts<'_>, width: u8, meanings: Meanings) -> E
         fields: PlainFields {
             symbols: repeated(parts.symbols, width),
             values: meanings.into_values(),
-            separator: filled(separator),
-            separator_len: separator.len() as u8,
             width,
             column,
             padding: padding_entry(parts.padding),
@@ -158,6 +146,7 @@ fn assembled(parts: &SpecificationParts<'_>, width: u8, meanings: Meanings) -> E
             concatenates: concatenates(parts.concatenate, parts.padding),
             ignores,
         },
+        separator: copied(separator),
     }
 }
 

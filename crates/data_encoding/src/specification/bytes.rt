@@ -4,7 +4,7 @@ ghost use Rattle.std.specs.Prelude.{◌≡◌};
 ghost use Rattle.data_encoding_meaning.specs.specification.Layout.{fields_of};
 ghost use Rattle.data_encoding.specs.Specification.{fields_of_bytes, fields_of_parts};
 
-use crate::encoding::{BitOrder, Encoding, EncodingRef};
+use crate::encoding::{BitOrder, Encoding, EncodingRef, copied};
 use crate::specification::parts::SpecificationParts;
 use crate::specification::tables::character;
 use arrayvec::ArrayVec;
@@ -84,10 +84,6 @@ impl EncodingRef<'_> {
         let translations = tables.translations();
         let mut symbols = ArrayVec::new();
         symbols.try_extend_from_slice(tables.symbols).unwrap();
-        let mut wrap_separator = ArrayVec::new();
-        wrap_separator
-            .try_extend_from_slice(self.fields.line_separator())
-            .unwrap();
         SpecificationBytes {
             symbols,
             bit_order: self.fields.order(),
@@ -96,7 +92,7 @@ impl EncodingRef<'_> {
             padding: self.fields.padding_character(),
             ignore: tables.ignored(),
             wrap_width: self.fields.column as usize,
-            wrap_separator,
+            wrap_separator: copied(self.separator),
             translate_from: translations.from,
             translate_to: translations.to,
         }

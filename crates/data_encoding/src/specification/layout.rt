@@ -76,7 +76,7 @@ impl EncodingRef<'_> {
         );
         if self.fields.column != 0 {
             put(&mut bytes, &[self.fields.column]);
-            put(&mut bytes, self.fields.line_separator());
+            put(&mut bytes, self.separator);
         } else if self.fields.ignores {
             put(&mut bytes, &[0]);
         }

@@ -39,8 +39,6 @@ static HEXLOWER: PlainFields = PlainFields {
     padding: INVALID,
     ignores: false,
     column: 0,
-    separator: [0; 255],
-    separator_len: 0,
 };
 
 static HEXLOWER_PERMISSIVE: PlainFields = PlainFields {
@@ -82,7 +80,10 @@ pub fn hexlower() -> Encoding
 pub fn hexlower_ref() -> EncodingRef<'static>
     ensures { base_of hexlower_fields ≡ Ok result }
 {
-    EncodingRef { fields: &HEXLOWER }
+    EncodingRef {
+        fields: &HEXLOWER,
+        separator: b"",
+    }
 }
 
 /// Hexadecimal with the letters `a` to `f`; `A` to `F` are decoded as these.
@@ -99,6 +100,7 @@ pub fn hexlower_permissive_ref() -> EncodingRef<'static>
 {
     EncodingRef {
         fields: &HEXLOWER_PERMISSIVE,
+        separator: b"",
     }
 }
 
@@ -114,7 +116,10 @@ pub fn hexupper() -> Encoding
 pub fn hexupper_ref() -> EncodingRef<'static>
     ensures { base_of hexupper_fields ≡ Ok result }
 {
-    EncodingRef { fields: &HEXUPPER }
+    EncodingRef {
+        fields: &HEXUPPER,
+        separator: b"",
+    }
 }
 
 /// Hexadecimal with the letters `A` to `F`; `a` to `f` are decoded as these.
@@ -131,5 +136,6 @@ pub fn hexupper_permissive_ref() -> EncodingRef<'static>
 {
     EncodingRef {
         fields: &HEXUPPER_PERMISSIVE,
+        separator: b"",
     }
 }

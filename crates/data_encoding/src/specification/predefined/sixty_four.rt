@@ -52,8 +52,6 @@ static BASE64_NOPAD: PlainFields = PlainFields {
     padding: INVALID,
     ignores: false,
     column: 0,
-    separator: [0; 255],
-    separator_len: 0,
 };
 
 static BASE64: PlainFields = PlainFields {
@@ -62,24 +60,10 @@ static BASE64: PlainFields = PlainFields {
     ..BASE64_NOPAD
 };
 
-// CR LF, followed by zeros.
-const CR_LF: [u8; 255] = [
-    13, 10, 0, 0, 0, 0, 0, 0, 0, 0, 0, 0, 0, 0, 0, 0, 0, 0, 0, 0, 0, 0, 0, 0, 0, 0, 0, 0, 0, 0, 0,
-    0, 0, 0, 0, 0, 0, 0, 0, 0, 0, 0, 0, 0, 0, 0, 0, 0, 0, 0, 0, 0, 0, 0, 0, 0, 0, 0, 0, 0, 0, 0, 0,
-    0, 0, 0, 0, 0, 0, 0, 0, 0, 0, 0, 0, 0, 0, 0, 0, 0, 0, 0, 0, 0, 0, 0, 0, 0, 0, 0, 0, 0, 0, 0, 0,
-    0, 0, 0, 0, 0, 0, 0, 0, 0, 0, 0, 0, 0, 0, 0, 0, 0, 0, 0, 0, 0, 0, 0, 0, 0, 0, 0, 0, 0, 0, 0, 0,
-    0, 0, 0, 0, 0, 0, 0, 0, 0, 0, 0, 0, 0, 0, 0, 0, 0, 0, 0, 0, 0, 0, 0, 0, 0, 0, 0, 0, 0, 0, 0, 0,
-    0, 0, 0, 0, 0, 0, 0, 0, 0, 0, 0, 0, 0, 0, 0, 0, 0, 0, 0, 0, 0, 0, 0, 0, 0, 0, 0, 0, 0, 0, 0, 0,
-    0, 0, 0, 0, 0, 0, 0, 0, 0, 0, 0, 0, 0, 0, 0, 0, 0, 0, 0, 0, 0, 0, 0, 0, 0, 0, 0, 0, 0, 0, 0, 0,
-    0, 0, 0, 0, 0, 0, 0, 0, 0, 0, 0, 0, 0, 0, 0, 0, 0, 0, 0, 0, 0, 0, 0, 0, 0, 0, 0, 0, 0, 0, 0, 0,
-];
-
 static BASE64_MIME: PlainFields = PlainFields {
     values: base64_values!(129, 130),
     ignores: true,
     column: 76,
-    separator: CR_LF,
-    separator_len: 2,
     ..BASE64
 };
 
@@ -116,7 +100,10 @@ pub fn base64() -> Encoding
 pub fn base64_ref() -> EncodingRef<'static>
     ensures { base_of base64_fields ≡ Ok result }
 {
-    EncodingRef { fields: &BASE64 }
+    EncodingRef {
+        fields: &BASE64,
+        separator: b"",
+    }
 }
 
 /// [`base64`] without padding.
@@ -133,6 +120,7 @@ pub fn base64_nopad_ref() -> EncodingRef<'static>
 {
     EncodingRef {
         fields: &BASE64_NOPAD,
+        separator: b"",
     }
 }
 
@@ -154,6 +142,7 @@ pub fn base64_mime_ref() -> EncodingRef<'static>
 {
     EncodingRef {
         fields: &BASE64_MIME,
+        separator: b"\r\n",
     }
 }
 
@@ -171,6 +160,7 @@ pub fn base64_mime_permissive_ref() -> EncodingRef<'static>
 {
     EncodingRef {
         fields: &BASE64_MIME_PERMISSIVE,
+        separator: b"\r\n",
     }
 }
 
@@ -186,7 +176,10 @@ pub fn base64url() -> Encoding
 pub fn base64url_ref() -> EncodingRef<'static>
     ensures { base_of base64url_fields ≡ Ok result }
 {
-    EncodingRef { fields: &BASE64URL }
+    EncodingRef {
+        fields: &BASE64URL,
+        separator: b"",
+    }
 }
 
 /// [`base64url`] without padding.
@@ -203,5 +196,6 @@ pub fn base64url_nopad_ref() -> EncodingRef<'static>
 {
     EncodingRef {
         fields: &BASE64URL_NOPAD,
+        separator: b"",
     }
 }

@@ -52,8 +52,6 @@ static BASE32_NOPAD: PlainFields = PlainFields {
     padding: INVALID,
     ignores: false,
     column: 0,
-    separator: [0; 255],
-    separator_len: 0,
 };
 
 static BASE32: PlainFields = PlainFields {
@@ -151,7 +149,10 @@ pub fn base32() -> Encoding
 pub fn base32_ref() -> EncodingRef<'static>
     ensures { base_of base32_fields ≡ Ok result }
 {
-    EncodingRef { fields: &BASE32 }
+    EncodingRef {
+        fields: &BASE32,
+        separator: b"",
+    }
 }
 
 /// [`base32`] without padding.
@@ -168,6 +169,7 @@ pub fn base32_nopad_ref() -> EncodingRef<'static>
 {
     EncodingRef {
         fields: &BASE32_NOPAD,
+        separator: b"",
     }
 }
 
@@ -185,6 +187,7 @@ pub fn base32_nopad_nocase_ref() -> EncodingRef<'static>
 {
     EncodingRef {
         fields: &BASE32_NOPAD_NOCASE,
+        separator: b"",
     }
 }
 
@@ -203,6 +206,7 @@ pub fn base32_nopad_visual_ref() -> EncodingRef<'static>
 {
     EncodingRef {
         fields: &BASE32_NOPAD_VISUAL,
+        separator: b"",
     }
 }
 
@@ -219,7 +223,10 @@ pub fn base32hex() -> Encoding
 pub fn base32hex_ref() -> EncodingRef<'static>
     ensures { base_of base32hex_fields ≡ Ok result }
 {
-    EncodingRef { fields: &BASE32HEX }
+    EncodingRef {
+        fields: &BASE32HEX,
+        separator: b"",
+    }
 }
 
 /// [`base32hex`] without padding.
@@ -236,6 +243,7 @@ pub fn base32hex_nopad_ref() -> EncodingRef<'static>
 {
     EncodingRef {
         fields: &BASE32HEX_NOPAD,
+        separator: b"",
     }
 }
 
@@ -254,6 +262,7 @@ pub fn base32_dnssec_ref() -> EncodingRef<'static>
 {
     EncodingRef {
         fields: &BASE32_DNSSEC,
+        separator: b"",
     }
 }
 
@@ -273,5 +282,6 @@ pub fn base32_dnscurve_ref() -> EncodingRef<'static>
 {
     EncodingRef {
         fields: &BASE32_DNSCURVE,
+        separator: b"",
     }
 }

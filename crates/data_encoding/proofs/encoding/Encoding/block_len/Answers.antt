@@ -18,9 +18,9 @@ returns-then-self-eq0-clause-length c =
 
 pub returns-clause-length : goal.returns-clause-length
 returns-clause-length c =
-    let e = plain_tables c.self.inside.fields in
+    let e = plain_tables c.self.inside.fields c.self.inside.separator.items in
     let seen = c.args.self.now in
-    subst (λ n. IsBlockLength seen (e.column + n)) (sym c.line_separator_len.ensures.value)
+    subst (λ n. IsBlockLength seen (e.column + n)) (sym c.len.ensures.value)
     (IsBlockLength-line seen (IsRuled-seen _ c.self.invariant seen c.self.view_is) _
     (wrapping-seen _ c.self.invariant seen c.self.view_is c.if-self-eq0.false))
 

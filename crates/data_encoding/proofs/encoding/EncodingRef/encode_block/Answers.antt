@@ -1,5 +1,6 @@
 use Rattle.std.proofs.Common.{◌≡◌, ℕ, List, ◌++◌, length, take, refl, sym, ap, ◌∙◌}
 use Rattle.std.proofs.lemmas.List.{take_at}
+use Rattle.data_encoding.proofs.tables.TableRuleLemmas.{separator-short}
 use Rattle.data_encoding.proofs.text.LinePieceLemmas.{columns-some, text-wrapped}
 use Rattle.data_encoding.proofs.encoding.EncodingRef.encode_block.Goals as goal
 
@@ -11,12 +12,15 @@ front-is {n} {shown} rest is len = take_at shown rest n (ap length is ∙ len) �
 pub wrap-requires-clause-some : goal.wrap-requires-clause-some
 wrap-requires-clause-some g c = columns-some c.self.invariant c.self.view_is c.requires.lines
 
+pub wrap-requires-clause-short : goal.wrap-requires-clause-short
+wrap-requires-clause-short g c = separator-short _ c.self.invariant
+
 pub wrap-requires-clause-exact : goal.wrap-requires-clause-exact
 wrap-requires-clause-exact g c =
     c.requires.exact
     ∙ ap length
     (text-wrapped c.self.invariant c.self.view_is c.requires.lines
-    c.args.input.now c.line_separator.ensures.value
+    c.args.input.now refl
     (front-is _ c.encode_padded.ensures
     (c.padded_len-count.ensures.length c.args.input.now refl)))
 
@@ -24,6 +28,6 @@ pub returns : goal.returns
 returns g c =
     c.wrap.ensures
     ∙ sym (text-wrapped c.self.invariant c.self.view_is c.requires.lines
-    c.args.input.now c.line_separator.ensures.value
+    c.args.input.now refl
     (front-is _ c.encode_padded.ensures
     (c.padded_len-count.ensures.length c.args.input.now refl)))

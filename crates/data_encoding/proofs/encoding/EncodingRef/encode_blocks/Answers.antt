@@ -1,4 +1,4 @@
-use Rattle.std.proofs.Common.{◌+◌, ◌/◌, ◌∙◌, arith}
+use Rattle.std.proofs.Common.{◌≤◌, ℕ, ◌*◌, ◌+◌, ◌/◌, ◌∙◌, arith, refl}
 use Rattle.std.proofs.lemmas.Nat.{mul-le}
 use Rattle.data_encoding_meaning.proofs.lists.PieceLemmas.{before, length-part, part-begins, piece-begins, piece-few, piece-last, piece-next, written-first}
 use Rattle.data_encoding.proofs.text.LinePieceLemmas.{IsByPieces-text, columns-some, line-few, lines-few, lines-fit, lines-some, text-few}
@@ -7,18 +7,33 @@ use Rattle.data_encoding.proofs.encoding.EncodingRef.encode_blocks.Goals as goal
 pub nonzero_div-lines : goal.nonzero_div-lines
 nonzero_div-lines g c = columns-some c.self.invariant c.self.view_is c.requires.lines
 
+-- the text of a block is short
+block-few : (count column ends : ℕ) → count ≤ 1024 → column + ends ≤ 510
+    → count * (column + ends) ≤ 1024 * 510
+block-few count column ends lines line = mul-le count (column + ends) 1024 510 lines line
+
+pub overflow_mul-block_len : goal.overflow_mul-block_len
+overflow_mul-block_len g c =
+    record {
+      fits = omega (
+        arith,
+        block-few _ _ _ (lines-few c.self.invariant c.self.view_is c.requires.lines 1024)
+            (line-few c.self.invariant c.self.view_is c.requires.lines refl),
+      );
+    }
+
 pub div_ceil-index-end-requires : goal.div_ceil-index-end-requires
 div_ceil-index-end-requires g c =
     (IsByPieces-text c.self.invariant c.self.view_is c.requires.lines
     (lines-some c.self.invariant c.self.view_is c.requires.lines 1024 (omega arith))
-    c.encode_align.ensures.value c.line_separator_len.ensures.value).some
+    c.encode_align.ensures.value refl).some
 
 pub loop-index-init : goal.loop-index-init
 loop-index-init g c =
     written-first
     (IsByPieces-text c.self.invariant c.self.view_is c.requires.lines
     (lines-some c.self.invariant c.self.view_is c.requires.lines 1024 (omega arith))
-    c.encode_align.ensures.value c.line_separator_len.ensures.value)
+    c.encode_align.ensures.value refl)
     c.requires.exact
 
 pub overflow_mul-read : goal.overflow_mul-read
@@ -62,11 +77,8 @@ overflow_add-written g c =
         arith,
         piece-begins c.loop-index.invariant c.div_ceil-index-end.ensures c.loop-index-test.true,
         text-few c.self.invariant c.self.view_is c.requires.lines c.args.input.now,
-        mul-le (1024 / c.self.inside.fields.now.column)
-            (c.self.inside.fields.now.column + c.line_separator_len.result) 1024 510
-            (lines-few c.self.invariant c.self.view_is c.requires.lines 1024)
-            (line-few c.self.invariant c.self.view_is c.requires.lines
-            c.line_separator_len.ensures.value),
+        block-few _ _ _ (lines-few c.self.invariant c.self.view_is c.requires.lines 1024)
+            (line-few c.self.invariant c.self.view_is c.requires.lines refl),
         c.requires.limit,
       );
     }

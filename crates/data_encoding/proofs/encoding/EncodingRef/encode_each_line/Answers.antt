@@ -1,4 +1,4 @@
-use Rattle.std.proofs.Common.{◌∙◌, arith}
+use Rattle.std.proofs.Common.{◌∙◌, arith, refl}
 use Rattle.data_encoding_meaning.proofs.lists.PieceLemmas.{before, length-part, part-begins, piece-begins, piece-few, piece-last, piece-next, piece-some, written-first}
 use Rattle.data_encoding.proofs.text.LinePieceLemmas.{IsByPieces-line, line-few, text-few}
 use Rattle.data_encoding.proofs.encoding.EncodingRef.encode_each_line.Goals as goal
@@ -7,7 +7,7 @@ pub loop-index-init : goal.loop-index-init
 loop-index-init g c =
     written-first
     (IsByPieces-line c.self.invariant c.self.view_is c.requires.lines
-    c.encode_align-line_bytes.ensures.value c.line_separator_len.ensures.value)
+    c.encode_align-line_bytes.ensures.value refl)
     c.requires.exact
 
 pub overflow_mul-written : goal.overflow_mul-written
@@ -40,7 +40,7 @@ overflow_add-written g c =
         piece-begins c.loop-index.invariant c.div_ceil-index-end.ensures c.loop-index-test.true,
         text-few c.self.invariant c.self.view_is c.requires.lines c.args.input.now,
         line-few c.self.invariant c.self.view_is c.requires.lines
-            c.line_separator_len.ensures.value,
+            refl,
         c.requires.limit,
       );
     }

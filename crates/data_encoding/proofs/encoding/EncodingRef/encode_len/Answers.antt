@@ -37,7 +37,7 @@ returns-then-self-eq0 c =
 
 pub returns : goal.returns
 returns c =
-    let e = plain_tables c.self.inside.fields.now in
+    let e = plain_tables c.self.inside.fields.now c.self.inside.separator.now in
     let seen = c.args.self.now in
     let ruled = IsRuled-seen _ c.self.invariant seen c.self.view_is in
     let wrapping = wrapping-seen _ c.self.invariant seen c.self.view_is c.if-self-eq0.false in
@@ -46,11 +46,11 @@ returns c =
     c.div_ceil.ensures ∙ div_ceil-runs e.column count (are seen ruled _ wrapping).some in
     let counted : (bytes : List ℕ) → length bytes ≡ c.args.len
     → length (text_of seen bytes)
-    ≡ count + c.div_ceil.result * c.line_separator_len.result =
+    ≡ count + c.div_ceil.result * length e.separator =
     λ bytes h. length-lines seen ruled _ wrapping bytes
     ∙ ap (λ n. n + run_count e.column n * length e.separator)
     (c.padded_len-count.ensures.length bytes h)
-    ∙ (λ k. count + sym lines k * sym c.line_separator_len.ensures.value k) in
+    ∙ (λ k. count + sym lines k * length e.separator) in
     let most = least seen c.args.len _ counted ruled in
     record {
       length = counted;

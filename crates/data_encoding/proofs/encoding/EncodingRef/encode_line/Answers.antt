@@ -1,4 +1,4 @@
-use Rattle.std.proofs.Common.{◌≡◌, ℕ, ◌+◌, ◌-◌, ◌<◌, ◌≤◌, List, ◌++◌, length, take, drop, sym, ap, ◌∙◌, arith, length-append, length-take-le}
+use Rattle.std.proofs.Common.{◌≡◌, ℕ, ◌+◌, ◌-◌, ◌<◌, ◌≤◌, List, ◌++◌, length, take, drop, sym, ap, ◌∙◌, arith, length-append, length-take-le, refl}
 use Rattle.std.proofs.lemmas.List.{length-drop, take_at}
 use borrow.Rule.Slice.PartMut.{put_mid}
 use Rattle.data_encoding_meaning.specs.text.Base.{Base}
@@ -71,7 +71,7 @@ overflow_sub-end g c =
     c.args.output.now
     (text-is _ c.self.invariant seen c.self.view_is input c.requires.some
     c.requires.line)
-    c.requires.exact c.line_separator_len.result c.line_separator_len.ensures.value
+    c.requires.exact (length c.self.inside.separator.now) refl
 
 pub encode_padded-requires-clause-exact : goal.encode_padded-requires-clause-exact
 encode_padded-requires-clause-exact g c =
@@ -81,7 +81,7 @@ encode_padded-requires-clause-exact g c =
     c.args.output.now
     (text-is _ c.self.invariant seen c.self.view_is input c.requires.some
     c.requires.line)
-    c.requires.exact c.line_separator_len.result c.line_separator_len.ensures.value
+    c.requires.exact (length c.self.inside.separator.now) refl
 
 pub write_separator-requires : goal.write_separator-requires
 write_separator-requires g c =
@@ -91,10 +91,9 @@ write_separator-requires g c =
     c.args.output.now
     (text-is _ c.self.invariant seen c.self.view_is input c.requires.some
     c.requires.line)
-    c.requires.exact c.line_separator_len.result c.line_separator_len.ensures.value
+    c.requires.exact (length c.self.inside.separator.now) refl
     c.encode_padded.new.output
-    c.line_separator.result.now c.encode_padded.ensures c.line_separator.ensures.value
-    ∙ ap length (sym c.line_separator.ensures.value)
+    c.self.inside.separator.now c.encode_padded.ensures refl
 
 pub returns : goal.returns
 returns g c =
@@ -104,7 +103,7 @@ returns g c =
     c.args.output.now
     (text-is _ c.self.invariant seen c.self.view_is input c.requires.some
     c.requires.line)
-    c.requires.exact c.line_separator_len.result c.line_separator_len.ensures.value
+    c.requires.exact (length c.self.inside.separator.now) refl
     c.encode_padded.new.output
     c.write_separator.new.output c.encode_padded.ensures
-    (c.write_separator.ensures ∙ c.line_separator.ensures.value)
+    c.write_separator.ensures

@@ -12,11 +12,11 @@ returns-then-is_padded-clause-value c =
     ≡ greatest_valid_length b c.args.len)
     c.self.view_is
     (ap (λ n. c.args.len / n * n) c.group_symbols-symbols.ensures.value
-    ∙ sym (greatest_valid_length-by (base_of_tables (plain_tables c.self.inside.fields.now))
+    ∙ sym (greatest_valid_length-by (base_of_tables (plain_tables c.self.inside.fields.now c.self.inside.separator.now))
     c.args.len true (sym c.is_padded.ensures ∙ c.if-is_padded.true)))
 
 pub returns-clause-value : goal.returns-clause-value
 returns-clause-value c =
     rw (← c.self.view_is)
-    (sym (greatest_valid_length-by (base_of_tables (plain_tables c.self.inside.fields.now))
+    (sym (greatest_valid_length-by (base_of_tables (plain_tables c.self.inside.fields.now c.self.inside.separator.now))
     c.args.len false (sym c.is_padded.ensures ∙ c.if-is_padded.false)))

@@ -11,11 +11,11 @@ returns-then-is_padded c =
     (λ b. c.whole_groups.result * c.group_bytes.result ≡ most_bytes b c.args.len)
     c.self.view_is
     ((λ i. c.whole_groups.ensures i * c.group_bytes.ensures.value i)
-    ∙ sym (most_bytes-by (base_of_tables (plain_tables c.self.inside.fields.now)) c.args.len true
+    ∙ sym (most_bytes-by (base_of_tables (plain_tables c.self.inside.fields.now c.self.inside.separator.now)) c.args.len true
     (sym c.is_padded.ensures ∙ c.if-is_padded.true)))
 
 pub returns : goal.returns
 returns c =
     rw (← c.self.view_is)
-    (sym (most_bytes-by (base_of_tables (plain_tables c.self.inside.fields.now)) c.args.len false
+    (sym (most_bytes-by (base_of_tables (plain_tables c.self.inside.fields.now c.self.inside.separator.now)) c.args.len false
     (sym c.is_padded.ensures ∙ c.if-is_padded.false)))

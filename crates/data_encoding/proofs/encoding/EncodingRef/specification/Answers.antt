@@ -20,7 +20,7 @@ ascii_text-requires-2 c =
 
 pub ascii_text-requires-3 : goal.ascii_text-requires-3
 ascii_text-requires-3 c =
-    rw c.line_separator.ensures.value (separator-ascii _ c.self.invariant)
+    separator-ascii _ c.self.invariant
 
 pub ascii_text-requires-4 : goal.ascii_text-requires-4
 ascii_text-requires-4 c =
@@ -41,7 +41,7 @@ ascii_text-requires-5 c =
 
 pub returns : goal.returns
 returns c =
-    let e = plain_tables c.self.inside.fields.now in
+    let e = plain_tables c.self.inside.fields.now c.self.inside.separator.now in
     let view = sym c.self.view_is in
     let base = c.args.self.now in
     let has = c.tables-tables.ensures.tables in
@@ -68,7 +68,7 @@ returns c =
           c.in_ok-ascii_text-2.ensures ∙ c.as_slice.ensures.value ∙ c.ignored.ensures base has
           ∙ ap ignored_bytes view;
       column = refl;
-      separator = c.in_ok-ascii_text-3.ensures ∙ c.line_separator.ensures.value;
+      separator = c.in_ok-ascii_text-3.ensures;
       from =
           c.in_ok-ascii_text-4.ensures ∙ c.as_slice-2.ensures.value
           ∙ c.translations-translations.ensures.from base has ∙ ap translated_bytes view;

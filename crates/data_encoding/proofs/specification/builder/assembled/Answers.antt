@@ -1,4 +1,4 @@
-use Rattle.std.proofs.Common.{◌∙◌, length, take}
+use Rattle.std.proofs.Common.{◌∙◌}
 use Rattle.data_encoding.specs.Encoding.{EncodingTables}
 use Rattle.data_encoding.specs.PlainTables.{order_by, padding_by}
 use Rattle.data_encoding.specs.Specification.{fields_of_parts}
@@ -20,7 +20,7 @@ lines_of-column-requires-clause-separator c = λ on.
     (lines-short c.args.width (fields_of_parts c.args.parts.now) c.args.meanings
     c.requires.sized c.requires.width.some c.requires.judged on).1
 
-tables : goal.After-concatenates → EncodingTables
+tables : goal.After-copied → EncodingTables
 tables c = record {
   symbols = c.repeated.result;
   values = c.into_values.result;
@@ -31,10 +31,10 @@ tables c = record {
   padding = padding_by c.padding_entry.result;
   ignores = c.ignores_some-ignores.result;
   column = c.lines_of-column.result.0;
-  separator = take (length c.lines_of-column.result.1.now) c.filled.result;
+  separator = c.copied.result.items;
 }
 
-made : (c : goal.After-concatenates)
+made : (c : goal.After-copied)
     → IsMadeOf (fields_of_parts c.args.parts.now) (tables c) c.args.meanings
 unfolding tables
 made c = record {
@@ -51,7 +51,7 @@ made c = record {
   padding = c.padding_entry.ensures;
   ignores = c.ignores_some-ignores.ensures;
   column = c.lines_of-column.ensures.column;
-  separator = c.filled.ensures ∙ c.lines_of-column.ensures.separator;
+  separator = c.copied.ensures ∙ c.lines_of-column.ensures.separator;
 }
 
 pub invariant_of-result : goal.invariant_of-result
