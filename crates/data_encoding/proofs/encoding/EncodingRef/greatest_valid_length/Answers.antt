@@ -7,16 +7,20 @@ use Rattle.data_encoding.proofs.encoding.EncodingRef.greatest_valid_length.Goals
 
 pub returns-then-is_padded-clause-value : goal.returns-then-is_padded-clause-value
 returns-then-is_padded-clause-value c =
+    let seen =
+    base_of_tables (plain_tables c.self.inside.fields.now c.self.inside.separator.now) in
     subst
     (λ b. c.args.len / c.group_symbols-symbols.result * c.group_symbols-symbols.result
     ≡ greatest_valid_length b c.args.len)
     c.self.view_is
     (ap (λ n. c.args.len / n * n) c.group_symbols-symbols.ensures.value
-    ∙ sym (greatest_valid_length-by (base_of_tables (plain_tables c.self.inside.fields.now c.self.inside.separator.now))
+    ∙ sym (greatest_valid_length-by seen
     c.args.len true (sym c.is_padded.ensures ∙ c.if-is_padded.true)))
 
 pub returns-clause-value : goal.returns-clause-value
 returns-clause-value c =
+    let seen =
+    base_of_tables (plain_tables c.self.inside.fields.now c.self.inside.separator.now) in
     rw (← c.self.view_is)
-    (sym (greatest_valid_length-by (base_of_tables (plain_tables c.self.inside.fields.now c.self.inside.separator.now))
+    (sym (greatest_valid_length-by seen
     c.args.len false (sym c.is_padded.ensures ∙ c.if-is_padded.false)))

@@ -7,15 +7,19 @@ use Rattle.data_encoding.proofs.encoding.EncodingRef.most_bytes.Goals as goal
 
 pub returns-then-is_padded : goal.returns-then-is_padded
 returns-then-is_padded c =
+    let seen =
+    base_of_tables (plain_tables c.self.inside.fields.now c.self.inside.separator.now) in
     subst
     (λ b. c.whole_groups.result * c.group_bytes.result ≡ most_bytes b c.args.len)
     c.self.view_is
     ((λ i. c.whole_groups.ensures i * c.group_bytes.ensures.value i)
-    ∙ sym (most_bytes-by (base_of_tables (plain_tables c.self.inside.fields.now c.self.inside.separator.now)) c.args.len true
+    ∙ sym (most_bytes-by seen c.args.len true
     (sym c.is_padded.ensures ∙ c.if-is_padded.true)))
 
 pub returns : goal.returns
 returns c =
+    let seen =
+    base_of_tables (plain_tables c.self.inside.fields.now c.self.inside.separator.now) in
     rw (← c.self.view_is)
-    (sym (most_bytes-by (base_of_tables (plain_tables c.self.inside.fields.now c.self.inside.separator.now)) c.args.len false
+    (sym (most_bytes-by seen c.args.len false
     (sym c.is_padded.ensures ∙ c.if-is_padded.false)))
