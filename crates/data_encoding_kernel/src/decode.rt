@@ -48,7 +48,7 @@ pub fn decode_run<L: LookUp, O: ConstantOrder, G: GroupSize>(
     count
 }
 
-// In lanes if there are eight groups, or else four at a time.
+// By eight groups in lanes if there are as many, or else by fewer.
 #[inline(always)]
 fn decode_by_several<L: LookUp, O: ConstantOrder, G: GroupSize>(
     values: &[u8; 256],
@@ -63,7 +63,7 @@ fn decode_by_several<L: LookUp, O: ConstantOrder, G: GroupSize>(
 {
     let eight = 8 * G::SYMBOLS;
     if input.len() < eight {
-        return decode_by_fours::<G>(values, O::ORDER, input, output);
+        return decode_turns::<[u8; 256], G>(values, O::ORDER, input, output);
     }
     // The eighth group may be padded, in padded texts that follow one another; then decoding eight
     // would be wasted.
@@ -109,7 +109,7 @@ fn decode_turns<T: DecodeTurn, G: GroupSize>(
         → IsRunBy values G.WIDTH order input.now result output.old output.new }
     ensures within { result ≤ length input.now / G.SYMBOLS }
 {
-    let groups = T::GROUPS;
+    let groups = T::groups::<G>();
     let symbols = G::SYMBOLS;
     let bytes = G::BYTES;
     let count = input.len() / symbols / groups;
@@ -126,26 +126,4 @@ fn decode_turns<T: DecodeTurn, G: GroupSize>(
         }
     }
     count * groups
-}
-
-// Decodes four groups at a time and tests them together, up to the first four with a byte that is
-// no symbol.
-#[inline(always)]
-fn decode_by_fours<G: GroupSize>(
-    values: &[u8; 256],
-    order: BitOrder,
-    input: &[u8],
-    output: &mut [u8],
-) -> usize
-    requires room { length input.now / G.SYMBOLS * G.BYTES ≤ length output.old }
-    ensures run { IsRunBy values.now G.WIDTH order input.now result output.old output.new }
-    ensures within { result ≤ length input.now / G.SYMBOLS }
-{
-    let four = 4 * G::SYMBOLS;
-    // The fourth group may be padded, in padded texts that follow one another; then decoding four
-    // would be wasted.
-    if 8 % G::WIDTH != 0 && input.len() >= four && entry_of(values, input[four - 1]) >= 128 {
-        return 0;
-    }
-    decode_turns::<[u8; 256], G>(values, order, input, output)
 }

@@ -1,31 +1,32 @@
 //! Several whole groups of symbols at a time.
 
-ghost use Rattle.std.specs.Prelude.{◌≡◌, ℕ, ◌*◌, ◌<◌, List, length, IsTrue};
-ghost use Rattle.std.proofs.Common.{lit<};
+ghost use Rattle.std.specs.Prelude.{◌≡◌, ℕ, ◌*◌, ◌<◌, eqb, if◌then◌else◌, List, length, IsTrue};
 ghost use Rattle.data_encoding_kernel.specs.Runs.{IsRunBy};
 
 use crate::group_size::GroupSize;
-use crate::lanes::decode::decode_eight;
+use crate::lanes::decode::{decode_eight, decode_four, decode_two};
 use crate::lanes::look_up::LookUp;
-use crate::words::decode_entries;
+use crate::lanes::rows::{Rows, rows_of};
+use crate::words::{decode_entries, entry_of};
 use data_encoding_meaning::encoding::BitOrder;
 
 /// A way to decode a fixed number of whole groups in each turn of a loop.
 pub trait DecodeTurn {
-    ghost GROUPS: { ℕ };
-
-    ghost some_groups: { 0 < GROUPS };
+    // The number of groups, by the width of a symbol.
+    ghost number: { ℕ → ℕ };
 
     ghost holds: { List ℕ → Self → Type 0 };
 
-    const GROUPS: usize;
+    fn groups<G: GroupSize>() -> usize
+        ensures number { result ≡ number G.WIDTH }
+        ensures some { 0 < result };
 
     // Returns `false`, with any output, if a byte of the input is no symbol.
     fn decode<G: GroupSize>(&self, order: BitOrder, input: &[u8], output: &mut [u8]) -> bool
-        requires symbols { length input.now ≡ GROUPS * G.SYMBOLS }
-        requires exact { length output.old ≡ GROUPS * G.BYTES }
+        requires symbols { length input.now ≡ number G.WIDTH * G.SYMBOLS }
+        requires exact { length output.old ≡ number G.WIDTH * G.BYTES }
         ensures { (values : List ℕ) → holds values self.now → IsTrue result
-            → IsRunBy values G.WIDTH order input.now GROUPS output.old output.new };
+            → IsRunBy values G.WIDTH order input.now (number G.WIDTH) output.old output.new };
 }
 
 /// Eight groups in lanes. The look-up is held by value, so that it stays in registers.
@@ -35,13 +36,14 @@ pub struct Lanes<L> {
 }
 
 impl<L: LookUp> DecodeTurn for Lanes<L> {
-    ghost GROUPS = { 8 };
-
-    ghost some_groups = { lit< tt };
+    ghost number = { λ width. 8 };
 
     ghost holds = { λ values lanes. L.holds values lanes.look_up };
 
-    const GROUPS: usize = 8;
+    #[inline(always)]
+    fn groups<G: GroupSize>() -> usize {
+        8
+    }
 
     #[inline(always)]
     fn decode<G: GroupSize>(&self, order: BitOrder, input: &[u8], output: &mut [u8]) -> bool {
@@ -49,19 +51,32 @@ impl<L: LookUp> DecodeTurn for Lanes<L> {
     }
 }
 
-// By the table itself: four groups word by word, tested together.
+// By the table itself: sixteen symbols of five or six bits in lanes, and four groups of others word
+// by word.
 impl DecodeTurn for [u8; 256] {
-    ghost GROUPS = { 4 };
-
-    ghost some_groups = { lit< tt };
+    ghost number = { λ width. if eqb width 5 then 2 else 4 };
 
     ghost holds = { λ values table. table ≡ values };
 
-    const GROUPS: usize = 4;
+    #[inline(always)]
+    fn groups<G: GroupSize>() -> usize {
+        match G::WIDTH {
+            5 => 2,
+            _ => 4,
+        }
+    }
 
     #[inline(always)]
     fn decode<G: GroupSize>(&self, order: BitOrder, input: &[u8], output: &mut [u8]) -> bool {
-        decode_four_groups::<G>(self, order, input, output)
+        // The last group may be padded; then decoding the others would be wasted.
+        if 8 % G::WIDTH != 0 && entry_of(self, input[input.len() - 1]) >= 128 {
+            return false;
+        }
+        match G::WIDTH {
+            5 => decode_two::<Rows, G>(&rows_of(self), order, input, output),
+            6 => decode_four::<Rows, G>(&rows_of(self), order, input, output),
+            _ => decode_four_groups::<G>(self, order, input, output),
+        }
     }
 }
 

@@ -1,4 +1,4 @@
--- Eight groups of symbols that are decoded together.
+-- Groups of symbols that are decoded together.
 use Rattle.std.proofs.Common.{◌≡◌, ℕ, zero, suc, ◌+◌, ◌*◌, ◌/◌, ◌%◌, ◌^◌, ◌<◌, ◌≤◌, List, [], length, length-take-le, map, take, drop, slice_index, sym, ap, ◌∙◌, arith, flat_map}
 use Rattle.std.proofs.lemmas.List.{drop-map, get_or-drop, get_or-map, get_or-take, length-drop, length-map, nil_from_length, take-map, take_all}
 use Rattle.std.specs.List.{AllByRecursion, range_with_len}
@@ -69,52 +69,53 @@ module _ (base : Base) (values : List ℕ) (width bytes symbols : ℕ) (order : 
       let runs_are = runs-first symbols (map (meaning base) xs) whole.some_symbols some in
       rw (take-map, drop-map, first, others, runs_are, take-map, drop-map)
 
-  -- eight groups of symbols are a run
-  pub eight-run : (input old new : List ℕ) → length input ≡ 8 * symbols → length new ≡ 8 * bytes
+  -- groups of symbols are a run
+  pub groups-run : (n : ℕ) (input old new : List ℕ) → length input ≡ n * symbols
+      → length new ≡ n * bytes
       → ((j : ℕ) → slice_index input j < 256)
       → ((j : ℕ) → j < length input → slice_index values (slice_index input j) < 128)
       → new ≡ flat_map word_bytes (map (word_of order width symbols)
-      (first_chunks symbols 8 (map (slice_index values) input)))
-      → IsRun base input 8 old new
-  eight-run input old new long exact fits low is =
+      (first_chunks symbols n (map (slice_index values) input)))
+      → IsRun base input n old new
+  groups-run n input old new long exact fits low is =
       let size : group_symbols base.width ≡ symbols =
       ap group_symbols reads.width_is ∙ sym group.has_symbols in
       let count : group_bytes base.width ≡ bytes =
       ap group_bytes reads.width_is ∙ sym group.has_bytes in
-      let all = take_all (8 * bytes) new (omega (arith, exact)) in
+      let all = take_all (n * bytes) new (omega (arith, exact)) in
       record {
-        within = omega (arith, size, long);
+        within = omega (arith, ap (λ s. n * s) size, long);
         are_symbols = λ k h.
             ap is_symbol (reads.holds.symbols (slice_index input k) (fits k)
-            (low k (omega (arith, h, size, long))));
-        bytes = rw (size, count, all, take_all (8 * symbols) input (omega (arith, long)))
-            (is ∙ words-run 8 input long fits low);
+            (low k (omega (arith, h, ap (λ s. n * s) size, long))));
+        bytes = rw (size, count, all, take_all (n * symbols) input (omega (arith, long)))
+            (is ∙ words-run n input long fits low);
       }
 
 -- the limit of values
 limit-is : (width : ℕ) → IsWidth width → 1 * 2 ^ width % 256 ≡ 2 ^ width
 limit-is width is = omega (arith, symbols-few width is)
 
--- what is found for eight groups: their words, and that each byte is a symbol
-pub words-found : {width number read count : ℕ} → IsWidth width → read ≡ width → number ≡ count
+-- what is found for groups: their words, and that each byte is a symbol
+pub words-found : (n : ℕ) {width number read count : ℕ} → IsWidth width → read ≡ width → number ≡ count
     → (holds : List ℕ → Type 0) (all : Type 0) (order : BitOrder) (input entries made : List ℕ)
-    → length input ≡ 8 * number
+    → length input ≡ n * number
     → (all → AllByRecursion (λ entry. entry < 1 * 2 ^ read % 256) entries)
     → ((values : List ℕ) → holds values → AllByRecursion (λ entry. entry < 128) entries
-    → entries ≡ map (slice_index values) (take (8 * count) input))
+    → entries ≡ map (slice_index values) (take (n * count) input))
     → (AllByRecursion (λ entry. entry < 2 ^ read) entries
-    → made ≡ map (word_of order read count) (first_chunks count 8 entries))
+    → made ≡ map (word_of order read count) (first_chunks count n entries))
     → (AllByRecursion (λ entry. entry < 2 ^ read) entries
     → AllByRecursion (λ word. word < 2 ^ (read * count)) made)
     → record {
       words : (values : List ℕ) → holds values → all
           → made ≡ map (word_of order width number)
-          (first_chunks number 8 (map (slice_index values) input));
+          (first_chunks number n (map (slice_index values) input));
       symbols : (values : List ℕ) → holds values → all → (j : ℕ) → j < length input
           → slice_index values (slice_index input j) < 128;
       fit : all → AllByRecursion (λ word. word < 2 ^ (width * number)) made;
     }
-words-found {width} {number} is same many holds all order input entries made long =
+words-found n {width} {number} is same many holds all order input entries made long =
     rw (same, ← many) (λ small found are fit.
     let below : all → AllByRecursion (λ entry. entry < 2 ^ width) entries =
     λ h. rw (limit-is width is) at (small h) in
@@ -124,7 +125,7 @@ words-found {width} {number} is same many holds all order input entries made lon
     let entries_are : (values : List ℕ) → holds values → all
     → entries ≡ map (slice_index values) input =
     λ values held h. found values held (low h)
-    ∙ ap (map (slice_index values)) (take_all (8 * number) input (omega (arith, long))) in
+    ∙ ap (map (slice_index values)) (take_all (n * number) input (omega (arith, long))) in
     record {
       words = λ values held h. rw (entries_are values held h) at (are (below h));
       symbols = λ values held h j inside.

@@ -1,4 +1,4 @@
--- The bytes of eight words.
+-- The bytes of words in lanes.
 use Rattle.std.proofs.Common.{◌≡◌, ℕ, ◌+◌, ◌-◌, ◌*◌, ◌/◌, ◌%◌, ◌^◌, ◌<◌, ◌≤◌, List, [], ◌∷◌, ◌++◌, length, length-append, length-take-le, take, drop, map, refl, sym, ap, ◌∙◌, arith}
 use Rattle.std.proofs.lemmas.List.{append-nil, length-drop, map-id, nil_from_length, take_at}
 use Rattle.std.proofs.lemmas.Simd.{put_chunk_is, put_chunk_whole}
@@ -52,40 +52,57 @@ abbrev pub bytes_of_words : BitOrder → ℕ → List ℕ → List ℕ
 bytes_of_words order count words =
     flat_map (λ word. map (digit order 8 count word) (range_with_len 0 count)) words
 
--- the positions of the bytes of words in lanes
-abbrev places : BitOrder → ℕ → ℕ → List ℕ
-places MostSignificantFirst size lane =
-    map (λ k. k / size * lane + (size - 1 - k % size)) (range_with_len 0 (8 * size))
-places LeastSignificantFirst size lane =
-    map (λ k. k / size * lane + k % size) (range_with_len 0 (8 * size))
+-- what holds for any two lanes, and for any four
+by_two : (P : List ℕ → Type 0) → ((a b : ℕ) → P (a ∷ b ∷ [])) → (ws : List ℕ) → length ws ≡ 2
+    → P ws
+by_two P is [] e = absurd (omega (arith, e))
+by_two P is (a ∷ []) e = absurd (omega (arith, e))
+by_two P is (a ∷ b ∷ []) e = is a b
+by_two P is (a ∷ b ∷ x ∷ xs) e = absurd (omega (arith, e))
 
-module _ (order : BitOrder) (size lane front : ℕ) where
+by_four : (P : List ℕ → Type 0) → ((a b c d : ℕ) → P (a ∷ b ∷ c ∷ d ∷ [])) → (ws : List ℕ)
+    → length ws ≡ 4 → P ws
+by_four P is [] e = absurd (omega (arith, e))
+by_four P is (a ∷ []) e = absurd (omega (arith, e))
+by_four P is (a ∷ b ∷ ws) e = by_two (λ l. P (a ∷ b ∷ l)) (is a b) ws (omega (arith, e))
+
+-- the positions of the bytes of this many words in lanes
+abbrev places : BitOrder → ℕ → ℕ → ℕ → List ℕ
+places MostSignificantFirst size lane count =
+    map (λ k. k / size * lane + (size - 1 - k % size)) (range_with_len 0 (count * size))
+places LeastSignificantFirst size lane count =
+    map (λ k. k / size * lane + k % size) (range_with_len 0 (count * size))
+
+module _ (order : BitOrder) (size lane front count : ℕ) where
   -- they are selected in two steps
   abbrev picked-words : List ℕ → List ℕ
-  picked-words = picked (take front (places order size lane)) (drop front (places order size lane))
+  picked-words =
+      picked (take front (places order size lane count)) (drop front (places order size lane count))
 
   abbrev lane_bytes : ℕ → List ℕ
   lane_bytes word = digits_of LeastSignificantFirst 8 lane word
 
+  abbrev Picks : List ℕ → Type 0
+  Picks words = picked-words (flat_map lane_bytes words) ≡ bytes_of_words order size words
+
   words-picked : (q few : ℕ) → q ≡ 256 ^ lane → few ≤ 256 ^ lane
       → ((word : ℕ) → digits_l 256 lane word ≡ lane_bytes word)
       → ((word : ℕ) → length (lane_bytes word) ≡ lane)
-      → ((a b c d e f g h : ℕ) → (let words = a ∷ b ∷ c ∷ d ∷ e ∷ f ∷ g ∷ h ∷ [] in
-      picked-words (flat_map lane_bytes words) ≡ bytes_of_words order size words))
-      → (words : List ℕ) → length words ≡ 8 → AllByRecursion (λ word. word < few) words
-      → picked-words (digits_l 256 (lane * 8) (number_l q words)) ≡ bytes_of_words order size words
+      → ((words : List ℕ) → length words ≡ count → Picks words)
+      → (words : List ℕ) → length words ≡ count → AllByRecursion (λ word. word < few) words
+      → picked-words (digits_l 256 (lane * count) (number_l q words))
+      ≡ bytes_of_words order size words
   words-picked q few e most same each step words long fit =
       let own : map (λ word. number_l 256 (lane_bytes word)) words ≡ words =
       map-same (λ word. word < few) (λ word. number_l 256 (lane_bytes word)) (λ word. word)
       (λ word h. ap (number_l 256) (sym (same word))
       ∙ number-of-digits 256 lane word (omega arith) (omega (arith, h, most))) words fit
       ∙ map-id words in
-      ap (λ l. picked-words (digits_l 256 (lane * 8) (number_l q l))) (sym own)
-      ∙ ap picked-words (bytes-of-lanes lane q (lane * 8) e lane_bytes words
+      ap (λ l. picked-words (digits_l 256 (lane * count) (number_l q l))) (sym own)
+      ∙ ap picked-words (bytes-of-lanes lane q (lane * count) e lane_bytes words
       (ap (λ n. lane * n) (sym long)) each
       (λ word. digits_of-below LeastSignificantFirst 8 lane 256 word (omega arith)))
-      ∙ by_eight (λ ws. picked-words (flat_map lane_bytes ws) ≡ bytes_of_words order size ws)
-      step words long
+      ∙ step words long
 
 four-bytes : (word : ℕ) → digits_l 256 4 word ≡ digits_of LeastSignificantFirst 8 4 word
 four-bytes word = search arith depth 6
@@ -95,25 +112,55 @@ eight-bytes word = search arith depth 10
 
 pub threes-picked : (order : BitOrder) (words : List ℕ) → length words ≡ 8
     → AllByRecursion (λ word. word < 2 ^ 24) words
-    → picked-words order 3 4 16 (digits_l 256 32 (number_l 4294967296 words))
+    → picked-words order 3 4 16 8 (digits_l 256 32 (number_l 4294967296 words))
     ≡ bytes_of_words order 3 words
 threes-picked MostSignificantFirst =
-    words-picked MostSignificantFirst 3 4 16 4294967296 (2 ^ 24) refl (omega arith) four-bytes
-    (λ word. refl) (λ a b c d e f g h. refl)
+    words-picked MostSignificantFirst 3 4 16 8 4294967296 (2 ^ 24) refl (omega arith)
+    four-bytes (λ word. refl)
+    (by_eight (Picks MostSignificantFirst 3 4 16 8) (λ a b c d e f g h. refl))
 threes-picked LeastSignificantFirst =
-    words-picked LeastSignificantFirst 3 4 16 4294967296 (2 ^ 24) refl (omega arith) four-bytes
-    (λ word. refl) (λ a b c d e f g h. refl)
+    words-picked LeastSignificantFirst 3 4 16 8 4294967296 (2 ^ 24) refl (omega arith)
+    four-bytes (λ word. refl)
+    (by_eight (Picks LeastSignificantFirst 3 4 16 8) (λ a b c d e f g h. refl))
+
+pub four-threes-picked : (order : BitOrder) (words : List ℕ) → length words ≡ 4
+    → AllByRecursion (λ word. word < 2 ^ 24) words
+    → picked-words order 3 4 8 4 (digits_l 256 16 (number_l 4294967296 words))
+    ≡ bytes_of_words order 3 words
+four-threes-picked MostSignificantFirst =
+    words-picked MostSignificantFirst 3 4 8 4 4294967296 (2 ^ 24) refl (omega arith)
+    four-bytes (λ word. refl)
+    (by_four (Picks MostSignificantFirst 3 4 8 4) (λ a b c d. refl))
+four-threes-picked LeastSignificantFirst =
+    words-picked LeastSignificantFirst 3 4 8 4 4294967296 (2 ^ 24) refl (omega arith)
+    four-bytes (λ word. refl)
+    (by_four (Picks LeastSignificantFirst 3 4 8 4) (λ a b c d. refl))
 
 pub fives-picked : (order : BitOrder) (words : List ℕ) → length words ≡ 8
     → AllByRecursion (λ word. word < 2 ^ 40) words
-    → picked-words order 5 8 32 (digits_l 256 64 (number_l 18446744073709551616 words))
+    → picked-words order 5 8 32 8 (digits_l 256 64 (number_l 18446744073709551616 words))
     ≡ bytes_of_words order 5 words
 fives-picked MostSignificantFirst =
-    words-picked MostSignificantFirst 5 8 32 18446744073709551616 (2 ^ 40) refl (omega arith)
-    eight-bytes (λ word. refl) (λ a b c d e f g h. refl)
+    words-picked MostSignificantFirst 5 8 32 8 18446744073709551616 (2 ^ 40) refl (omega arith)
+    eight-bytes (λ word. refl)
+    (by_eight (Picks MostSignificantFirst 5 8 32 8) (λ a b c d e f g h. refl))
 fives-picked LeastSignificantFirst =
-    words-picked LeastSignificantFirst 5 8 32 18446744073709551616 (2 ^ 40) refl (omega arith)
-    eight-bytes (λ word. refl) (λ a b c d e f g h. refl)
+    words-picked LeastSignificantFirst 5 8 32 8 18446744073709551616 (2 ^ 40) refl (omega arith)
+    eight-bytes (λ word. refl)
+    (by_eight (Picks LeastSignificantFirst 5 8 32 8) (λ a b c d e f g h. refl))
+
+pub two-fives-picked : (order : BitOrder) (words : List ℕ) → length words ≡ 2
+    → AllByRecursion (λ word. word < 2 ^ 40) words
+    → picked-words order 5 8 8 2 (digits_l 256 16 (number_l 18446744073709551616 words))
+    ≡ bytes_of_words order 5 words
+two-fives-picked MostSignificantFirst =
+    words-picked MostSignificantFirst 5 8 8 2 18446744073709551616 (2 ^ 40) refl (omega arith)
+    eight-bytes (λ word. refl)
+    (by_two (Picks MostSignificantFirst 5 8 8 2) (λ a b. refl))
+two-fives-picked LeastSignificantFirst =
+    words-picked LeastSignificantFirst 5 8 8 2 18446744073709551616 (2 ^ 40) refl (omega arith)
+    eight-bytes (λ word. refl)
+    (by_two (Picks LeastSignificantFirst 5 8 8 2) (λ a b. refl))
 
 -- words of one byte are their bytes
 one-byte : (order : BitOrder) (w : ℕ) → w < 256

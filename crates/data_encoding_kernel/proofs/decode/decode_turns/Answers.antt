@@ -20,7 +20,7 @@ loop-index-init g c = record {
 
 pub slice_bounds-decode-end : goal.slice_bounds-decode-end
 slice_bounds-decode-end g c =
-    turn-within (length c.args.input.now) c.GROUPS-groups.result c.SYMBOLS-symbols.result
+    turn-within (length c.args.input.now) c.groups-groups.result c.SYMBOLS-symbols.result
     c.loop-index.index c.loop-index-test.true
 
 pub overflow_add-read : goal.overflow_add-read
@@ -30,13 +30,13 @@ pub overflow_mul-read : goal.overflow_mul-read
 overflow_mul-read g c =
     omega (
       arith,
-      turn-within (length c.args.input.now) c.GROUPS-groups.result c.SYMBOLS-symbols.result
+      turn-within (length c.args.input.now) c.groups-groups.result c.SYMBOLS-symbols.result
           c.loop-index.index c.loop-index-test.true,
     )
 
 pub slice_bounds-decode-end-in-loop-index : goal.slice_bounds-decode-end-in-loop-index
 slice_bounds-decode-end-in-loop-index g c =
-    let room = turn-room (length c.args.input.now) c.GROUPS-groups.result c.loop-index.index _
+    let room = turn-room (length c.args.input.now) c.groups-groups.result c.loop-index.index _
     c.BYTES-bytes.ensures c.SYMBOLS-symbols.ensures c.requires.room c.loop-index-test.true in
     omega (arith, c.loop-index.auto.output)
 
@@ -45,7 +45,7 @@ overflow_add-written g c = omega (arith, slice_bounds-decode-end-in-loop-index g
 
 pub overflow_mul-written : goal.overflow_mul-written
 overflow_mul-written g c =
-    let room = turn-room (length c.args.input.now) c.GROUPS-groups.result c.loop-index.index _
+    let room = turn-room (length c.args.input.now) c.groups-groups.result c.loop-index.index _
     c.BYTES-bytes.ensures c.SYMBOLS-symbols.ensures c.requires.room c.loop-index-test.true in
     omega arith
 
@@ -53,8 +53,8 @@ pub loop-index-preserved : goal.loop-index-preserved
 loop-index-preserved g c =
     let input = c.args.input.now in
     let output = c.loop-index.output in
-    let first = c.loop-index.index * c.GROUPS-groups.result in
-    let groups = c.GROUPS-groups.result in
+    let first = c.loop-index.index * c.groups-groups.result in
+    let groups = c.groups-groups.result in
     let bytes = c.BYTES-bytes.result in
     let symbols = c.SYMBOLS-symbols.result in
     let group = IsGroup-same refl c.BYTES-bytes.ensures c.SYMBOLS-symbols.ensures
@@ -77,17 +77,17 @@ loop-index-preserved g c =
           _
           (one-more c.loop-index.index groups) refl within (omega (arith, room)) shown_len
           (c.loop-index.invariant.run values held base reads)
-          (subst (λ n. IsRun base part n before c.decode.new.output) (sym c.GROUPS-groups.ensures)
+          (subst (λ n. IsRun base part n before c.decode.new.output) (sym c.groups-groups.ensures.number)
           (c.decode.ensures values held c.if-not-decode.false base reads));
     }
 
 pub returns-then-not-decode-clause-run : goal.returns-then-not-decode-clause-run
 returns-then-not-decode-clause-run g c = λ values held base reads.
-    let first = c.loop-index.index * c.GROUPS-groups.result in
+    let first = c.loop-index.index * c.groups-groups.result in
     let bytes = c.BYTES-bytes.result in
     let group = IsGroup-same refl c.BYTES-bytes.ensures c.SYMBOLS-symbols.ensures
     g.G.GroupSize.is_group in
-    let room : first * bytes + c.GROUPS-groups.result * bytes ≤ length c.loop-index.output =
+    let room : first * bytes + c.groups-groups.result * bytes ≤ length c.loop-index.output =
     rw c.loop-index.auto.output (turn-room _ _ _ _ c.BYTES-bytes.ensures c.SYMBOLS-symbols.ensures
     c.requires.room c.loop-index-test.true) in
     run-kept base reads.holds.is_width g.G.GroupSize.WIDTH bytes c.SYMBOLS-symbols.result group
@@ -96,20 +96,20 @@ returns-then-not-decode-clause-run g c = λ values held base reads.
 
 pub returns-clause-run : goal.returns-clause-run
 returns-clause-run g c = λ values held base reads.
-    let count = length c.args.input.now / c.SYMBOLS-symbols.result / c.GROUPS-groups.result in
+    let count = length c.args.input.now / c.SYMBOLS-symbols.result / c.groups-groups.result in
     let all : c.loop-index.index ≡ count =
     omega (arith, c.loop-index-test.false, c.loop-index.auto.index-end) in
     rw all at (c.loop-index.invariant.run values held base reads)
 
 pub nonzero_div-count-2 : goal.nonzero_div-count-2
-nonzero_div-count-2 g c = omega (arith, c.GROUPS-groups.ensures, g.T.DecodeTurn.some_groups)
+nonzero_div-count-2 g c = omega (arith, c.groups-groups.ensures.some)
 
 pub overflow_mul-first : goal.overflow_mul-first
 overflow_mul-first g c =
     record {
       fits = omega (
         arith,
-        group-before (length c.args.input.now / c.SYMBOLS-symbols.result) c.GROUPS-groups.result
+        group-before (length c.args.input.now / c.SYMBOLS-symbols.result) c.groups-groups.result
             c.loop-index.index c.loop-index-test.true,
         div-le_self (length c.args.input.now) c.SYMBOLS-symbols.result,
       );
@@ -119,31 +119,31 @@ pub slice_bounds-decode-count : goal.slice_bounds-decode-count
 slice_bounds-decode-count g c =
     omega (
       arith,
-      turn-within (length c.args.input.now) c.GROUPS-groups.result c.SYMBOLS-symbols.result
+      turn-within (length c.args.input.now) c.groups-groups.result c.SYMBOLS-symbols.result
           c.loop-index.index c.loop-index-test.true,
     )
 
 pub decode-requires-clause-symbols : goal.decode-requires-clause-symbols
 decode-requires-clause-symbols g c =
-    length-part (c.loop-index.index * c.GROUPS-groups.result * c.SYMBOLS-symbols.result)
-    (c.GROUPS-groups.result * c.SYMBOLS-symbols.result) c.args.input.now
-    (turn-within (length c.args.input.now) c.GROUPS-groups.result c.SYMBOLS-symbols.result
+    length-part (c.loop-index.index * c.groups-groups.result * c.SYMBOLS-symbols.result)
+    (c.groups-groups.result * c.SYMBOLS-symbols.result) c.args.input.now
+    (turn-within (length c.args.input.now) c.groups-groups.result c.SYMBOLS-symbols.result
     c.loop-index.index c.loop-index-test.true)
-    ∙ (λ k. c.GROUPS-groups.ensures k * c.SYMBOLS-symbols.ensures k)
+    ∙ (λ k. c.groups-groups.ensures.number k * c.SYMBOLS-symbols.ensures k)
 
 pub decode-requires-clause-exact : goal.decode-requires-clause-exact
 decode-requires-clause-exact g c =
-    length-part (c.loop-index.index * c.GROUPS-groups.result * c.BYTES-bytes.result)
-    (c.GROUPS-groups.result * c.BYTES-bytes.result) c.loop-index.output
+    length-part (c.loop-index.index * c.groups-groups.result * c.BYTES-bytes.result)
+    (c.groups-groups.result * c.BYTES-bytes.result) c.loop-index.output
     (rw c.loop-index.auto.output (turn-room _ _ _ _ c.BYTES-bytes.ensures
     c.SYMBOLS-symbols.ensures c.requires.room c.loop-index-test.true))
-    ∙ (λ k. c.GROUPS-groups.ensures k * c.BYTES-bytes.ensures k)
+    ∙ (λ k. c.groups-groups.ensures.number k * c.BYTES-bytes.ensures k)
 
 pub returns-then-not-decode-clause-within : goal.returns-then-not-decode-clause-within
 returns-then-not-decode-clause-within g c =
     omega (
       arith,
-      group-before (length c.args.input.now / c.SYMBOLS-symbols.result) c.GROUPS-groups.result
+      group-before (length c.args.input.now / c.SYMBOLS-symbols.result) c.groups-groups.result
           c.loop-index.index c.loop-index-test.true,
       ap (λ s. length c.args.input.now / s) c.SYMBOLS-symbols.ensures,
     )
@@ -153,7 +153,7 @@ overflow_mul-result g c =
     record {
       fits = omega (
         arith,
-        groups-within (length c.args.input.now / c.SYMBOLS-symbols.result) c.GROUPS-groups.result,
+        groups-within (length c.args.input.now / c.SYMBOLS-symbols.result) c.groups-groups.result,
         div-le_self (length c.args.input.now) c.SYMBOLS-symbols.result,
       );
     }
@@ -162,6 +162,6 @@ pub returns-clause-within : goal.returns-clause-within
 returns-clause-within g c =
     omega (
       arith,
-      groups-within (length c.args.input.now / c.SYMBOLS-symbols.result) c.GROUPS-groups.result,
+      groups-within (length c.args.input.now / c.SYMBOLS-symbols.result) c.groups-groups.result,
       ap (λ s. length c.args.input.now / s) c.SYMBOLS-symbols.ensures,
     )

@@ -1,6 +1,6 @@
 use Rattle.std.proofs.Common.{◌^◌, ◌<◌, ap, ◌∙◌, subst}
 use Rattle.std.specs.List.{AllByRecursion}
-use Rattle.data_encoding_kernel.proofs.decoding.EightGroupLemmas.{eight-run}
+use Rattle.data_encoding_kernel.proofs.decoding.EightGroupLemmas.{groups-run}
 use Rattle.data_encoding_kernel.proofs.digits.GatherStoreLemmas.{bytes_of_words}
 use Rattle.data_encoding_meaning.proofs.lists.PartLemmas.{IsWhole-group}
 use Rattle.data_encoding_kernel.proofs.lanes.decode.decode_eight.Goals as goal
@@ -16,8 +16,8 @@ pub returns : goal.returns
 returns g c = λ values rows all base reads.
     let found = c.words_of_groups-are_symbols.ensures in
     let are = c.if-not-are_symbols.false in
-    eight-run base values g.G.GroupSize.WIDTH g.G.GroupSize.BYTES g.G.GroupSize.SYMBOLS c.args.order
-    g.G.GroupSize.is_group reads
+    groups-run base values g.G.GroupSize.WIDTH g.G.GroupSize.BYTES g.G.GroupSize.SYMBOLS c.args.order
+    g.G.GroupSize.is_group reads 8
     c.args.input.now c.args.output.now c.store.new.output c.requires.symbols
     (c.store.auto.output ∙ c.requires.exact) (λ j. (c.type_inv.input j).fits)
     (found.symbols values rows are)

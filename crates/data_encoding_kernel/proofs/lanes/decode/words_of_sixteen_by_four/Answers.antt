@@ -1,0 +1,31 @@
+use Rattle.std.proofs.Common.{◌*◌, map, sym, ap, ◌∙◌, refl, arith}
+use Rattle.std.proofs.Math.Nat.{mul-one, mul_comm}
+use Rattle.std.specs.Simd.Lanes.{number_l, digits_l}
+use Rattle.data_encoding_kernel.specs.Values.{joined}
+use Rattle.data_encoding_kernel.proofs.digits.GatherWordLemmas.{words-fit, words-of-one, words-step, relaned-words}
+use Rattle.data_encoding_kernel.proofs.lanes.decode.words_of_sixteen_by_four.Goals as goal
+
+pub returns-clause-words : goal.returns-clause-words
+returns-clause-words c = λ small.
+    let order = c.args.order in
+    let width = c.args.width in
+    let values = c.args.values in
+    let pairs = c.halves_16-pairs.ensures
+    ∙ ap (λ l. map (joined order 8 width) (digits_l 65536 8 (number_l 256 l)))
+    (words-of-one order width 16 values c.fits-values.0 small)
+    ∙ words-step order width 8 1 width (sym (mul-one width)) c.requires 8 values
+    c.fits-values.0 in
+    c.halves_32.ensures
+    ∙ ap (λ l. map (joined order 16 (2 * width)) (digits_l 4294967296 4
+    (number_l 256 (digits_l 256 16 (number_l 65536 l))))) pairs
+    ∙ ap (map (joined order 16 (2 * width)))
+    (relaned-words order width 16 2 (omega (arith, c.requires)) 4294967296 4 8 16 values
+    c.fits-values.0 refl)
+    ∙ words-step order width 16 2 (2 * width) (mul_comm 2 width) (omega (arith, c.requires)) 4
+    values c.fits-values.0
+
+pub returns-clause-fit : goal.returns-clause-fit
+returns-clause-fit c = λ small.
+    rw (returns-clause-words c small)
+    (words-fit c.args.order c.args.width (c.args.width * 4) 4 (omega arith) 4 c.args.values
+    c.fits-values.0)
