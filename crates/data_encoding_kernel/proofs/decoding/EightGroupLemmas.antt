@@ -97,8 +97,8 @@ limit-is : (width : ℕ) → IsWidth width → 1 * 2 ^ width % 256 ≡ 2 ^ width
 limit-is width is = omega (arith, symbols-few width is)
 
 -- what is found for groups: their words, and that each byte is a symbol
-pub words-found : (n : ℕ) {width number read count : ℕ} → IsWidth width → read ≡ width → number ≡ count
-    → (holds : List ℕ → Type 0) (all : Type 0) (order : BitOrder) (input entries made : List ℕ)
+pub words-found : (n : ℕ) {width number read count : ℕ} → IsWidth width → read ≡ width
+    → number ≡ count → (holds : List ℕ → Type 0) (all : Type 0) (order : BitOrder) (input entries made : List ℕ)
     → length input ≡ n * number
     → (all → AllByRecursion (λ entry. entry < 1 * 2 ^ read % 256) entries)
     → ((values : List ℕ) → holds values → AllByRecursion (λ entry. entry < 128) entries

@@ -16,8 +16,8 @@ pub returns : goal.returns
 returns g c = λ values rows all base reads.
     let found = c.words_of_groups-are_symbols.ensures in
     let are = c.if-not-are_symbols.false in
-    groups-run base values g.G.GroupSize.WIDTH g.G.GroupSize.BYTES g.G.GroupSize.SYMBOLS c.args.order
-    g.G.GroupSize.is_group reads 8
+    groups-run base values g.G.GroupSize.WIDTH g.G.GroupSize.BYTES g.G.GroupSize.SYMBOLS
+    c.args.order g.G.GroupSize.is_group reads 8
     c.args.input.now c.args.output.now c.store.new.output c.requires.symbols
     (c.store.auto.output ∙ c.requires.exact) (λ j. (c.type_inv.input j).fits)
     (found.symbols values rows are)
