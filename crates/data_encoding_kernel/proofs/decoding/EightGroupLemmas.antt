@@ -98,7 +98,8 @@ limit-is width is = omega (arith, symbols-few width is)
 
 -- what is found for groups: their words, and that each byte is a symbol
 pub words-found : (n : ℕ) {width number read count : ℕ} → IsWidth width → read ≡ width
-    → number ≡ count → (holds : List ℕ → Type 0) (all : Type 0) (order : BitOrder) (input entries made : List ℕ)
+    → number ≡ count → (holds : List ℕ → Type 0) (all : Type 0) (order : BitOrder)
+    (input entries made : List ℕ)
     → length input ≡ n * number
     → (all → AllByRecursion (λ entry. entry < 1 * 2 ^ read % 256) entries)
     → ((values : List ℕ) → holds values → AllByRecursion (λ entry. entry < 128) entries

@@ -77,7 +77,8 @@ loop-index-preserved g c =
           _
           (one-more c.loop-index.index groups) refl within (omega (arith, room)) shown_len
           (c.loop-index.invariant.run values held base reads)
-          (subst (λ n. IsRun base part n before c.decode.new.output) (sym c.groups-groups.ensures.number)
+          (subst (λ n. IsRun base part n before c.decode.new.output)
+          (sym c.groups-groups.ensures.number)
           (c.decode.ensures values held c.if-not-decode.false base reads));
     }
 
