@@ -16,7 +16,8 @@ returns-then-entry_of-ge128-clause-run g c = λ base reads.
 
 pub returns-in-Some-clause-run : goal.returns-in-Some-clause-run
 returns-in-Some-clause-run g c =
-    let run = c.decode_turns-in-Some.ensures.run c.args.values.now (rw c.in-Some.is at c.requires.held) in
+    let run = c.decode_turns-in-Some.ensures.run c.args.values.now
+    (rw c.in-Some.is at c.requires.held) in
     rw c.ORDER-in-Some.ensures at run
 
 pub returns-in-Some-clause-within : goal.returns-in-Some-clause-within
