@@ -78,7 +78,7 @@ fn decode_by_several<L: LookUp, O: ConstantOrder, G: GroupSize>(
     }
 }
 
-// By rows of the table. Not inlined, so that shorter texts do not pay for the stack that lanes
+// By rows of the table, and fewer than eight groups as a short text. Not inlined, so that shorter texts do not pay for the stack that lanes
 // take.
 #[inline(never)]
 fn decode_by_lanes<O: ConstantOrder, G: GroupSize>(
@@ -90,10 +90,30 @@ fn decode_by_lanes<O: ConstantOrder, G: GroupSize>(
     ensures run { IsRunBy values.now G.WIDTH O.ORDER input.now result output.old output.new }
     ensures within { result ≤ length input.now / G.SYMBOLS }
 {
+    let symbols = G::SYMBOLS;
+    let bytes = G::BYTES;
     let lanes = Lanes {
         look_up: rows_of(values),
     };
-    decode_turns::<Lanes<Rows>, G>(&lanes, O::ORDER, input, output)
+    let first = decode_turns::<Lanes<Rows>, G>(&lanes, O::ORDER, input, output);
+    let read = first * symbols;
+    let written = first * bytes;
+    let left = input.len() - read;
+    // Eight groups are left only if they were refused. Fewer than sixteen symbols make no turn.
+    if left >= 8 * symbols || left < 16 {
+        return first;
+    }
+    // The line may end before the last of these groups; then a turn would be wasted.
+    if entry_of(values, input[read + (16 - symbols)]) >= 128 {
+        return first;
+    }
+    let further = decode_turns::<[u8; 256], G>(
+        values,
+        O::ORDER,
+        &input[read..],
+        &mut output[written..],
+    );
+    first + further
 }
 
 // Decodes one turn after another, up to the first with a byte that is no symbol.

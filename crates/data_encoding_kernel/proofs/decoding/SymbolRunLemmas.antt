@@ -1,8 +1,10 @@
 -- Runs of whole groups of symbols, one after another.
 use Rattle.std.proofs.Common.{◌≡◌, ℕ, ◌+◌, ◌-◌, ◌*◌, ◌/◌, ◌%◌, ◌<◌, ◌≤◌, true, false, List, ◌++◌, length, take, drop, slice_index, refl, sym, ap, ◌∙◌, arith, length-take-le, ⊎_elim, map, take-add}
-use Rattle.std.proofs.Math.Nat.{add-mul, mul-mod_left, zero-mul}
+use Rattle.std.proofs.Math.Nat.{add-mul, mod-lt, mul-le-mul_right, mul-mod_left, zero-mul}
 use Rattle.std.proofs.lemmas.Bool.{cases_lt}
-use Rattle.std.proofs.lemmas.List.{append-nil, get_or-take, get_or-drop, length-drop, length-take, take_all, take_at, length-map, map-append}
+use Rattle.std.proofs.lemmas.List.{append-nil, get_or-take, get_or-drop, length-drop, length-take, take-append-le, take_all, take_at, length-map, map-append}
+use Rattle.std.proofs.Math.Seq.{take-append-add}
+use Rattle.std.proofs.lemmas.Nat.{div-add-mod', div-mul-add}
 use Rattle.std.proofs.lemmas.List.Concat.{flat_map-append}
 use Rattle.std.proofs.lemmas.Slice.{take-put_mid}
 use borrow.Rule.Slice.PartMut.{put_mid}
@@ -14,6 +16,7 @@ use Rattle.data_encoding_meaning.specs.decoding.Fault.{symbol_bytes}
 use Rattle.data_encoding_kernel.specs.Tables.{HoldsValues}
 use Rattle.data_encoding_meaning.proofs.digits.WidthLemmas.{group_symbols-pos}
 use Rattle.data_encoding_meaning.proofs.grammar.KeptLemmas.{between}
+use Rattle.data_encoding_meaning.proofs.lists.PartLemmas.{length-rest}
 use Rattle.data_encoding_meaning.proofs.lists.RunLemmas.{runs-nil, runs-join, runs-short}
 
 module _ (base : Base) (width : IsWidth base.width) where
@@ -128,6 +131,43 @@ module _ (base : Base) (width : IsWidth base.width) (w bytes symbols : ℕ)
             ∙ bytes-more base width part i m whole);
       }))
 
+  -- a run at the start of all that is left after a run
+  pub run-after : (part old output before piece : List ℕ) (i m k : ℕ)
+      → i * bytes ≤ length output → m * bytes ≤ length piece → IsRun base part i old output
+      → IsRun base (take (length part - i * symbols) (drop (i * symbols) part)) m before piece
+      → IsRun base part (i + m) old (put_mid (i * bytes) k output piece)
+  run-after part old output before piece i m k =
+      rw (← same_bytes, ← same_symbols) (λ fits enough first second.
+      let count = group_bytes base.width in
+      let size = group_symbols base.width in
+      let rest = drop (i * size) part in
+      let rest_len = length-drop (i * size) part in
+      let all : take (length part - i * size) rest ≡ rest =
+      take_all (length part - i * size) rest (omega (arith, rest_len)) in
+      let others = rw all at second in
+      let whole : (i + m) * size ≤ length part =
+      omega (arith, add-mul i m size, others.within, rest_len, first.within) in
+      let front = take (i * count) output in
+      let front_len : length front ≡ i * count = length-take-le (i * count) output fits in
+      let behind = drop k (drop (i * count) output) in
+      let taken : take (i * count + m * count) (put_mid (i * count) k output piece)
+      ≡ front ++ take (m * count) piece =
+      ap (λ n. take (n + m * count) (put_mid (i * count) k output piece)) (sym front_len)
+      ∙ take-append-add front (piece ++ behind) (m * count)
+      ∙ ap (λ l. front ++ l) (take-append-le (m * count) piece behind enough) in
+      let twice : run_bytes base (take (m * size) rest)
+      ≡ run_bytes base (take (m * size) (take (m * size) rest)) =
+      ap (run_bytes base) (sym (take_all (m * size) (take (m * size) rest)
+      (omega (arith, length-take (m * size) rest)))) in
+      record {
+        within = whole;
+        are_symbols = symbols-more base width part i m first.are_symbols
+            (λ j h. rw (get_or-take (m * size) rest j 0 h) (others.are_symbols j h));
+        bytes = rw (add-mul i m count)
+            (taken ∙ (λ j. first.bytes j ++ (others.bytes ∙ twice) j)
+            ∙ bytes-more base width part i m whole);
+      })
+
   -- a group of symbols after a run
   pub group-next : (values part old output piece : List ℕ) (i k stop : ℕ)
       → stop ≡ i * symbols + symbols → stop ≤ length part → i * bytes ≤ length output
@@ -178,3 +218,45 @@ module _ (base : Base) (width : IsWidth base.width) (w bytes symbols : ℕ)
   pub run-all : (part : List ℕ) → IsLongest base part (length part / symbols)
   run-all part = λ before all.
       absurd (omega (arith, before, ap (λ d. length part / d) same_symbols))
+
+-- how many groups are left after the first ones
+pub count-left : (n size first : ℕ) → 0 < size → first ≤ n / size
+    → (n - first * size) / size ≡ n / size - first
+count-left n size first pos h =
+    let rest = n / size - first in
+    let sum : n / size ≡ rest + first = omega (arith, h) in
+    let left : n - first * size ≡ rest * size + n % size =
+    omega (arith, div-add-mod' n size, ap (λ q. q * size) sum, add-mul rest first size) in
+    ap (λ m. m / size) left ∙ div-mul-add rest size (n % size) (mod-lt n pos)
+
+-- and that these are within all
+pub within-left : {s symbols : ℕ} (part : List ℕ) (first further : ℕ) → symbols ≡ s → 0 < s
+    → first ≤ length part / s
+    → further ≤ length (take (length part - first * symbols) (drop (first * symbols) part)) / s
+    → first + further ≤ length part / s
+within-left {s} part first further same =
+    rw same (λ pos h k.
+    let left = rw (length-rest (first * s) part, count-left (length part) s first pos h) at k in
+    omega (arith, h, left))
+
+-- the room of groups
+pub groups-room : {b bytes : ℕ} (n first m : ℕ) → bytes ≡ b → first ≤ n → n * b ≤ m
+    → first * bytes ≤ m
+groups-room {b} n first m same =
+    rw same (λ h room. omega (arith, mul-le-mul_right b h, room))
+
+-- what is left has room, if all groups have
+pub room-left : {b s bytes symbols : ℕ} (part output : List ℕ) (first : ℕ) → bytes ≡ b
+    → symbols ≡ s → 0 < s → first ≤ length part / s → length part / s * b ≤ length output
+    → length (take (length part - first * symbols) (drop (first * symbols) part)) / s * b
+    ≤ length (take (length output - first * bytes) (drop (first * bytes) output))
+room-left {b} {s} part output first same_bytes same_symbols =
+    rw (same_bytes, same_symbols) (λ pos h room.
+    let rest = length part / s - first in
+    let sum : length part / s ≡ rest + first = omega (arith, h) in
+    let all = ap (λ q. q * b) sum ∙ add-mul rest first b in
+    rw (
+      length-rest (first * s) part,
+      length-rest (first * b) output,
+      count-left (length part) s first pos h,
+    ) (omega (arith, all, room)))

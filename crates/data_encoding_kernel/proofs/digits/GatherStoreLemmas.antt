@@ -11,7 +11,7 @@ use Rattle.data_encoding_meaning.specs.declared.encoding.BitOrder.{BitOrder}
 use Rattle.data_encoding_meaning.specs.declared.encoding.BitOrder.TheVariants.{MostSignificantFirst, LeastSignificantFirst}
 use Rattle.data_encoding_kernel.specs.Lanes.{digits_of}
 use Rattle.data_encoding_kernel.specs.Words.{digit}
-use Rattle.data_encoding_kernel.proofs.digits.LaneLemmas.{by_eight, bytes-of-lanes, digits_of-below, map-same}
+use Rattle.data_encoding_kernel.proofs.digits.LaneLemmas.{by_eight, by_four, by_two, bytes-of-lanes, digits_of-below, map-same}
 use Rattle.data_encoding_kernel.proofs.digits.GatherWordLemmas.{number-of-digits}
 
 -- narrower lanes hold them
@@ -51,20 +51,6 @@ stored-parts n m output front back f b long =
 abbrev pub bytes_of_words : BitOrder → ℕ → List ℕ → List ℕ
 bytes_of_words order count words =
     flat_map (λ word. map (digit order 8 count word) (range_with_len 0 count)) words
-
--- what holds for any two lanes, and for any four
-by_two : (P : List ℕ → Type 0) → ((a b : ℕ) → P (a ∷ b ∷ [])) → (ws : List ℕ) → length ws ≡ 2
-    → P ws
-by_two P is [] e = absurd (omega (arith, e))
-by_two P is (a ∷ []) e = absurd (omega (arith, e))
-by_two P is (a ∷ b ∷ []) e = is a b
-by_two P is (a ∷ b ∷ x ∷ xs) e = absurd (omega (arith, e))
-
-by_four : (P : List ℕ → Type 0) → ((a b c d : ℕ) → P (a ∷ b ∷ c ∷ d ∷ [])) → (ws : List ℕ)
-    → length ws ≡ 4 → P ws
-by_four P is [] e = absurd (omega (arith, e))
-by_four P is (a ∷ []) e = absurd (omega (arith, e))
-by_four P is (a ∷ b ∷ ws) e = by_two (λ l. P (a ∷ b ∷ l)) (is a b) ws (omega (arith, e))
 
 -- the positions of the bytes of this many words in lanes
 abbrev places : BitOrder → ℕ → ℕ → ℕ → List ℕ

@@ -95,15 +95,20 @@ pub mapped-on : (f g : ℕ → ℕ) (words : List ℕ) {xs ys : List ℕ} → xs
     → ys ≡ map (λ word. g (f word)) words
 mapped-on f g words is more = more ∙ ap (map g) is ∙ map-map g f words
 
+-- what holds for any two lanes
+pub by_two : (P : List ℕ → Type 0) → ((a b : ℕ) → P (a ∷ b ∷ [])) → (ws : List ℕ) → length ws ≡ 2
+    → P ws
+by_two P is [] e = absurd (omega (arith, e))
+by_two P is (a ∷ []) e = absurd (omega (arith, e))
+by_two P is (a ∷ b ∷ []) e = is a b
+by_two P is (a ∷ b ∷ x ∷ xs) e = absurd (omega (arith, e))
+
 -- what holds for any four lanes
-by_four : (P : List ℕ → Type 0) → ((a b c d : ℕ) → P (a ∷ b ∷ c ∷ d ∷ []))
+pub by_four : (P : List ℕ → Type 0) → ((a b c d : ℕ) → P (a ∷ b ∷ c ∷ d ∷ []))
     → (ws : List ℕ) → length ws ≡ 4 → P ws
-by_four P h [] e = absurd (omega (arith, e))
-by_four P h (a ∷ []) e = absurd (omega (arith, e))
-by_four P h (a ∷ b ∷ []) e = absurd (omega (arith, e))
-by_four P h (a ∷ b ∷ c ∷ []) e = absurd (omega (arith, e))
-by_four P h (a ∷ b ∷ c ∷ d ∷ []) e = h a b c d
-by_four P h (a ∷ b ∷ c ∷ d ∷ x ∷ xs) e = absurd (omega (arith, e))
+by_four P is [] e = absurd (omega (arith, e))
+by_four P is (a ∷ []) e = absurd (omega (arith, e))
+by_four P is (a ∷ b ∷ ws) e = by_two (λ l. P (a ∷ b ∷ l)) (is a b) ws (omega (arith, e))
 
 -- what holds for any eight lanes
 pub by_eight : (P : List ℕ → Type 0)
