@@ -95,10 +95,8 @@ fn decode_by_lanes<O: ConstantOrder, G: GroupSize>(
     let read = first * symbols;
     let written = first * bytes;
     let left = input.len() - read;
-    // Fewer than sixteen symbols make no turn. Eight groups are left only if they were refused; the
-    // first ones are then tried again if the eighth may be padded.
-    let eight = 8 * symbols;
-    if left < 16 || left >= eight && entry_of(values, input[read + (eight - 1)]) < 128 {
+    // Eight groups are left only if they were refused. Fewer than sixteen symbols make no turn.
+    if left >= 8 * symbols || left < 16 {
         return first;
     }
     // The line may end before the last of these groups; then a turn would be wasted.

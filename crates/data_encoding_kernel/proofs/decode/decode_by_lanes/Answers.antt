@@ -4,8 +4,8 @@ use Rattle.data_encoding_meaning.proofs.digits.SizeLemmas.{IsGroup-same}
 use Rattle.data_encoding_meaning.proofs.lists.PartLemmas.{IsWhole-group}
 use Rattle.data_encoding_kernel.proofs.decode.decode_by_lanes.Goals as goal
 
-pub returns-then-left-lt16-clause-run : goal.returns-then-left-lt16-clause-run
-returns-then-left-lt16-clause-run g c =
+pub returns-then-left-symbols-clause-run : goal.returns-then-left-symbols-clause-run
+returns-then-left-symbols-clause-run g c =
     let run = c.decode_turns-first.ensures.run c.args.values.now c.rows_of.ensures in
     rw c.ORDER.ensures at run
 
