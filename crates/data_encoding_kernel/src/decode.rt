@@ -48,7 +48,7 @@ pub fn decode_run<L: LookUp, O: ConstantOrder, G: GroupSize>(
     count
 }
 
-// By eight groups in lanes if there are as many, or else by fewer.
+// By eight groups in lanes if there are as many, or else in shorter turns.
 #[inline(always)]
 fn decode_by_several<L: LookUp, O: ConstantOrder, G: GroupSize>(
     values: &[u8; 256],
@@ -62,13 +62,9 @@ fn decode_by_several<L: LookUp, O: ConstantOrder, G: GroupSize>(
     ensures within { result ≤ length input.now / G.SYMBOLS }
 {
     let eight = 8 * G::SYMBOLS;
-    if input.len() < eight {
+    // The eighth group may be padded; then decoding eight would be wasted.
+    if input.len() < eight || 8 % G::WIDTH != 0 && entry_of(values, input[eight - 1]) >= 128 {
         return decode_turns::<[u8; 256], G>(values, O::ORDER, input, output);
-    }
-    // The eighth group may be padded, in padded texts that follow one another; then decoding eight
-    // would be wasted.
-    if 8 % G::WIDTH != 0 && entry_of(values, input[eight - 1]) >= 128 {
-        return 0;
     }
     match look_up {
         Some(look_up) => {
@@ -78,8 +74,8 @@ fn decode_by_several<L: LookUp, O: ConstantOrder, G: GroupSize>(
     }
 }
 
-// By rows of the table, and fewer than eight groups as a short text. Not inlined, so that shorter texts do not pay for the stack that lanes
-// take.
+// By rows of the table, and what is left in shorter turns. Not inlined, so that shorter texts do not
+// pay for the stack that lanes take.
 #[inline(never)]
 fn decode_by_lanes<O: ConstantOrder, G: GroupSize>(
     values: &[u8; 256],

@@ -1,4 +1,4 @@
-//! Eight groups of symbols at a time, with a lane for each.
+//! Eight groups of symbols at a time, or those of sixteen symbols, with a lane for each.
 
 ghost use Rattle.std.specs.Prelude.{◌≡◌, ℕ, ◌+◌, ◌-◌, ◌*◌, ◌/◌, ◌^◌, ◌<◌, ◌≤◌, ◌⊎◌, List, length, map, slice_index, flat_map, IsTrue};
 ghost use Rattle.std.specs.List.{AllByRecursion, range_with_len};

@@ -1,5 +1,4 @@
 use Rattle.std.proofs.Common.{arith}
-use Rattle.data_encoding_kernel.proofs.decoding.SymbolRunLemmas.{run-none}
 use Rattle.data_encoding_meaning.proofs.digits.WidthLemmas.{group_symbols-few}
 use Rattle.data_encoding_kernel.proofs.decode.decode_by_several.Goals as goal
 
@@ -9,10 +8,6 @@ overflow_mul-eight g c =
     record {
       fits = omega (arith, few, g.G.GroupSize.is_group.has_symbols, c.SYMBOLS-eight.ensures);
     }
-
-pub returns-then-entry_of-ge128-clause-run : goal.returns-then-entry_of-ge128-clause-run
-returns-then-entry_of-ge128-clause-run g c = λ base reads.
-    run-none base reads.holds.is_width c.args.input.now _ _
 
 pub returns-in-Some-clause-run : goal.returns-in-Some-clause-run
 returns-in-Some-clause-run g c =
