@@ -74,8 +74,8 @@ fn decode_by_several<L: LookUp, O: ConstantOrder, G: GroupSize>(
     }
 }
 
-// By rows of the table, and what is left in shorter turns. Not inlined, so that shorter texts do not
-// pay for the stack that lanes take.
+// By rows of the table, and what is left in shorter turns. Not inlined, so that shorter texts do
+// not pay for the stack that lanes take.
 #[inline(never)]
 fn decode_by_lanes<O: ConstantOrder, G: GroupSize>(
     values: &[u8; 256],
