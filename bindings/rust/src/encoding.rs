@@ -60,8 +60,8 @@ impl Encoding {
         }
     }
 
-    /// The same of an encoding that has no number. It stands apart, so that the calls of those that
-    /// have one are short.
+    /// The same for an encoding that has no number. It is not inlined, so that the calls of those
+    /// that have one are short.
     #[inline(never)]
     fn with_tables<R>(&self, call: impl FnOnce(Handle<'_>) -> R) -> R {
         let tables;

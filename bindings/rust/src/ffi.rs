@@ -257,7 +257,7 @@ pub(crate) fn decode_len(encoding: Handle<'_>, len: usize) -> Result<usize, Deco
     }
 }
 
-/// Returns whether a text of `len` bytes means at most `most` bytes.
+/// Returns whether `decode_len` of a text of `len` bytes is `most`.
 ///
 /// # Panics
 ///
