@@ -20,10 +20,10 @@ installed='755 bin/basecode
 644 share/zsh/site-functions/_basecode'
 
 mkdir prefix
-"$install" prefix
+"$install" --cpu x86-64-v2 prefix
 is 'installs' 0 $?
 is 'the files' "$installed" "$(files)"
-"$install" "$room/prefix"
+"$install" --cpu x86-64-v2 "$room/prefix"
 is 'installs anew' 0 $?
 is 'the files again' "$installed" "$(files)"
 holds 'the program' cmp "$program" prefix/bin/basecode
@@ -212,20 +212,34 @@ is 'processors and no folder' 2 $?
 is 'processors and a removal' 2 $?
 is 'nothing was installed' '644 bin/other' "$(files)"
 
-# A program for other processors. One that is not for this processor says so.
+# Without --cpu the program is for the processors of this machine.
 cp "$program" kept
-"$install" --cpu x86-64-v3 prefix
-is 'installs for x86-64-v3' 0 $?
 rm prefix/bin/other
-is 'the same files' "$installed" "$(files)"
-holds 'the program in out/ as it was' cmp "$program" kept
-if cmp -s "$program" prefix/bin/basecode; then fail 'another program'; else pass; fi
 missing=$(for feature in abm avx avx2 bmi1 bmi2 f16c fma movbe xsave; do
     grep -m 1 '^flags' /proc/cpuinfo | grep -qw "$feature" || echo "$feature"
 done)
+said=$("$install" prefix)
+is 'installs for this machine' 0 $?
+is 'the same files' "$installed" "$(files)"
 if [ -z "$missing" ]; then
+    is 'says for which processors' \
+        'builds the program for x86-64-v3, which this machine supports; not with --cpu x86-64-v2' \
+        "$said"
+    if cmp -s "$program" prefix/bin/basecode; then fail 'another program'; else pass; fi
     is 'it encodes' SGVsbG8= "$(printf Hello | prefix/bin/basecode encode BASE64)"
 else
+    is 'says nothing' '' "$said"
+    holds 'the program that was built' cmp "$program" prefix/bin/basecode
+fi
+holds 'the program in out/ as it was' cmp "$program" kept
+
+# A program for other processors. One that is not for this processor says so.
+"$install" --cpu x86-64-v3 prefix
+is 'installs for x86-64-v3' 0 $?
+is 'the same files for x86-64-v3' "$installed" "$(files)"
+holds 'the program in out/ is still the same' cmp "$program" kept
+if cmp -s "$program" prefix/bin/basecode; then fail 'another program for x86-64-v3'; else pass; fi
+if [ -n "$missing" ]; then
     printf Hello | prefix/bin/basecode encode BASE64 2>/dev/null
     is 'it says that it is not for this processor' 127 $?
 fi

@@ -28,6 +28,14 @@ benches/memory --original /nowhere 2>/dev/null
 is 'no original in memory' 2 $?
 benches/memory 1 2>/dev/null
 is 'a number in memory' 2 $?
+benches/memory --node --original bindings/rust 2>/dev/null
+is 'Node and an original in memory' 2 $?
+if command -v node >/dev/null; then
+    is 'the times of Node' $'HEXLOWER N N N N\nBASE64 N N N N' \
+        "$(node benches/memory.mjs | sed -E 's/ [0-9]+/ N/g')"
+else
+    skip 'the times of Node: no node'
+fi
 benches/calls lib lib 2>/dev/null
 is 'too many libraries' 2 $?
 

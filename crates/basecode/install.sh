@@ -5,10 +5,11 @@
 #        crates/basecode/install.sh --cpu NAME PREFIX
 #        crates/basecode/install.sh --remove PREFIX
 #
-# The program is the one that `rt run` or `rt ci` built in out/. With --cpu one is proved and built
-# for the processors NAME, which is x86-64, x86-64-v2 or x86-64-v3; out/basecode is unchanged.
+# The program is for the processors NAME: x86-64, x86-64-v2 or x86-64-v3. For x86-64-v2 it is the
+# one that `rt run` or `rt ci` built in out/; for others one is proved and built, and out/basecode
+# is unchanged. Without --cpu the program is for x86-64-v3 if this machine supports that.
 # Folders that were created are left when the files are removed. If DESTDIR is set, everything is
-# installed below that folder, as packages need it.
+# installed below that folder, as packages need it, and the program is for x86-64-v2 without --cpu.
 set -eu
 
 words='install.sh [--cpu NAME] PREFIX, or install.sh --remove PREFIX'
@@ -33,6 +34,11 @@ put_back() {
         rm -f "out/$file"
         if [ -e "out/$file.kept" ]; then mv "out/$file.kept" "out/$file"; fi
     done
+}
+
+# Whether this machine supports x86-64-v3, as the loader of programs says.
+supports_v3() {
+    /lib64/ld-linux-x86-64.so.2 --help 2>/dev/null | grep -q '^ *x86-64-v3 (supported'
 }
 
 # Builds the program for the processors, as out/basecode-NAME. It may not run on this one, so the
@@ -83,8 +89,17 @@ esac
 prefix=${DESTDIR:+$(absolute "$DESTDIR")}$(absolute "$1")
 
 cd "$here"
-program=out/basecode${cpu:+-$cpu}
-if [ -n "$cpu" ]; then build; fi
+if [ "$remove$cpu${DESTDIR-}" = no ] && [ -x out/basecode ] && supports_v3; then
+    cpu=x86-64-v3
+    echo 'builds the program for x86-64-v3, which this machine supports; not with --cpu x86-64-v2'
+fi
+case $cpu in
+'' | x86-64-v2) program=out/basecode ;;
+*)
+    program=out/basecode-$cpu
+    build
+    ;;
+esac
 if [ "$remove" = no ] && [ ! -x "$program" ]; then
     echo 'no program: "rt run -- list" in crates/basecode builds it' >&2
     exit 1
