@@ -27,10 +27,11 @@ use std::alloc::Global;
 /// The greatest length of a text that is decoded in one call, in bytes.
 pub const DECODE_LIMIT: usize = limits::DECODE_LIMIT;
 
+// 2^61 - 1
 const _: () = prove!(DECODE_LIMIT == 2305843009213693951);
 
-// Where a decoding stopped: how far it had read and written, and what is wrong with which byte of
-// the next group. The fields are scalars, so that they stay in registers.
+// How far a decoding has read and written and, after a fault, its index in the next group and its
+// kind. The fields are scalars, so that they can stay in registers.
 #[derive(Clone, Copy, Drop)]
 pub(crate) struct Stop {
     pub(crate) read: usize,
@@ -54,19 +55,18 @@ impl Stop {
 }
 
 impl Encoding {
-    /// Writes the data that the text means to the start of `output`, and returns the length of the
-    /// data. `output` has exactly the length that `decode_len` returns for the text, which has at
-    /// most `DECODE_LIMIT` bytes.
+    /// Decodes the text `input` to the start of `output`, and returns the length of the data.
+    /// `output` must have exactly the length that `decode_len` returns for `input.len()`, which
+    /// must be at most `DECODE_LIMIT`.
     ///
-    /// Concatenated padded texts decode as one, if the encoding allows it. A text that means
-    /// nothing has one fault. The prefix of it that was read means the bytes that were written:
-    /// those of the groups before the faulty one. If the last group is too short, which it can be
-    /// only if bytes are ignored, the longest prefix of valid length of what is left is read too,
-    /// unless it has an ignored byte or a fault. Output bytes after those that were written are
-    /// unspecified.
+    /// If the encoding allows it, padded texts may be concatenated. The error has the one fault of
+    /// a text that means nothing. The prefix that was read means the bytes that were written: those
+    /// of the groups before the faulty one. The last group can be too short only if bytes are
+    /// ignored; then the longest prefix of the rest that has a valid length is read too, unless it
+    /// has an ignored byte or a fault. Output bytes after those that were written are unspecified.
     ///
-    /// Without padding and ignored bytes, a text that means data fills the output: the length of
-    /// `output` is returned.
+    /// If the encoding has no padding and ignores no byte, the length that is returned is that of
+    /// `output`.
     pub fn decode_mut(&self, input: &[u8], output: &mut [u8]) -> Result<usize, DecodePartial>
         requires limit { length input.now ≤ DECODE_LIMIT }
         requires exact { decoded_len self.now (length input.now) ≡ Ok (length output.old) }
@@ -75,12 +75,12 @@ impl Encoding {
         self.by_ref().decode_mut(input, output)
     }
 
-    /// Returns the data that the text means. The text has at most `DECODE_LIMIT` bytes.
+    /// Returns the data that the text means. `input` must have at most `DECODE_LIMIT` bytes.
     ///
-    /// Concatenated padded texts decode as one, if the encoding allows it. A text that means
-    /// nothing has one fault: its length is judged first; after that the first faulty group
-    /// decides, its padding before its symbols. Out of memory is reported only for a text of a
-    /// valid length that may mean one byte or more.
+    /// If the encoding allows it, padded texts may be concatenated. A text that means nothing has
+    /// one fault: of its length, or else of its first faulty group, in which padding is judged
+    /// before symbols. `OutOfMemory` is returned only if `decode_len` returns more than 0 for the
+    /// length.
     pub fn decode(&self, alloc: Global, input: &[u8]) -> Result<Vec<u8>, DecodeFault>
         requires limit { length input.now ≤ DECODE_LIMIT }
         ensures means { IfOk result (λ bytes. Means self.now input.now bytes.items) }
@@ -105,19 +105,18 @@ impl Encoding {
 }
 
 impl EncodingRef<'_> {
-    /// Writes the data that the text means to the start of `output`, and returns the length of the
-    /// data. `output` has exactly the length that `decode_len` returns for the text, which has at
-    /// most `DECODE_LIMIT` bytes.
+    /// Decodes the text `input` to the start of `output`, and returns the length of the data.
+    /// `output` must have exactly the length that `decode_len` returns for `input.len()`, which
+    /// must be at most `DECODE_LIMIT`.
     ///
-    /// Concatenated padded texts decode as one, if the encoding allows it. A text that means
-    /// nothing has one fault. The prefix of it that was read means the bytes that were written:
-    /// those of the groups before the faulty one. If the last group is too short, which it can be
-    /// only if bytes are ignored, the longest prefix of valid length of what is left is read too,
-    /// unless it has an ignored byte or a fault. Output bytes after those that were written are
-    /// unspecified.
+    /// If the encoding allows it, padded texts may be concatenated. The error has the one fault of
+    /// a text that means nothing. The prefix that was read means the bytes that were written: those
+    /// of the groups before the faulty one. The last group can be too short only if bytes are
+    /// ignored; then the longest prefix of the rest that has a valid length is read too, unless it
+    /// has an ignored byte or a fault. Output bytes after those that were written are unspecified.
     ///
-    /// Without padding and ignored bytes, a text that means data fills the output: the length of
-    /// `output` is returned.
+    /// If the encoding has no padding and ignores no byte, the length that is returned is that of
+    /// `output`.
     #[inline(always)]
     pub fn decode_mut(&self, input: &[u8], output: &mut [u8]) -> Result<usize, DecodePartial>
         requires limit { length input.now ≤ DECODE_LIMIT }
@@ -131,7 +130,7 @@ impl EncodingRef<'_> {
         Err(self.stopped(input, output, stop))
     }
 
-    // What is reported of a faulty group. More is read only after a group that is too short.
+    // Returns the error of a faulty group. Only if it is too short, a prefix of it may be decoded.
     #[inline(always)]
     fn stopped(&self, input: &[u8], output: &mut [u8], stop: Stop) -> DecodePartial
         requires limit { length input.now ≤ DECODE_LIMIT }
@@ -164,8 +163,8 @@ impl EncodingRef<'_> {
         }
     }
 
-    // Decodes the longest prefix of valid length of the rest of a text, without ignoring any byte,
-    // and returns how many bytes it means, or `None` if it has a fault.
+    // Decodes the longest prefix of `rest` that has a valid length. Returns how many bytes it
+    // means, or `None` if it has an ignored byte, a fault, or more than a group.
     #[cold]
     #[inline(never)]
     fn decode_front(&self, rest: &[u8], output: &mut [u8]) -> Option<usize>
@@ -178,7 +177,7 @@ impl EncodingRef<'_> {
         call_by_width!(self.fields.width, self.decode_last_run::<>(rest, output))
     }
 
-    // With the width as a constant.
+    // `decode_front`, with the width as a constant.
     fn decode_last_run<G: GroupSize>(&self, rest: &[u8], output: &mut [u8]) -> Option<usize>
         requires width { self.now.width ≡ G.WIDTH }
         requires limit { length rest.now ≤ DECODE_LIMIT }

@@ -12,7 +12,7 @@ pub fn encoded_exactly(alloc: Global, encoding: &Encoding, data: &[u8]) -> Resul
     Ok(text)
 }
 
-/// Prints the text of a few bytes, of at most 64 characters, without allocating.
+/// Prints the text, of at most 64 characters, without allocating.
 pub fn print_text(rt: &impl Print, encoding: &Encoding, data: &[u8]) -> Result<()> {
     ensure!(data.len() <= ENCODE_LIMIT, "too much data");
     let mut buffer = [0; 64];
@@ -23,8 +23,7 @@ pub fn print_text(rt: &impl Print, encoding: &Encoding, data: &[u8]) -> Result<(
     Ok(())
 }
 
-/// Decodes to the start of the buffer, and returns how many bytes were written. After a fault, the
-/// buffer starts with the bytes of the groups before it.
+/// Decodes to the start of the buffer, and returns how many bytes were written.
 pub fn decode_into(encoding: &Encoding, text: &[u8], buffer: &mut [u8]) -> Result<usize> {
     ensure!(text.len() <= DECODE_LIMIT, "the text is too long");
     let most = encoding.decode_len(text.len())?;

@@ -11,7 +11,7 @@ pub record Positioned : Type 0 where
   pub position : ℕ
   pub byte : ℕ
 
--- the bytes of a piece of a text, counted from this position
+-- the bytes of a piece of a text, with positions from this one on
 abbrev pub positioned_from : ℕ → List ℕ → List Positioned
 positioned_from position part =
     map (λ (p : ℕ × ℕ). record { position = p.0; byte = p.1 }) (enumerate_from position part)
@@ -20,20 +20,20 @@ positioned_from position part =
 abbrev pub positioned : List ℕ → List Positioned
 positioned text = positioned_from 0 text
 
--- the bytes of a piece of a text that are not ignored, counted from this position
+-- those of `positioned_from` that are not ignored
 abbrev pub kept_in : Base → ℕ → List ℕ → List Positioned
 kept_in base start part =
     filter (λ k. not (is_ignored (meaning base k.byte))) (positioned_from start part)
 
--- the bytes of a text that are not ignored
+-- the bytes of a text that are not ignored, with their positions
 abbrev pub kept : Base → List ℕ → List Positioned
 kept base text = kept_in base 0 text
 
--- the bytes from a position on that are not ignored
+-- the kept bytes of a text from this position on
 abbrev pub kept_from : Base → ℕ → List ℕ → List Positioned
 kept_from base read text = kept_in base read (drop read text)
 
--- the groups of a text, of which the last may be shorter
+-- the kept bytes of a text, `group_symbols` to a group; the last group may have fewer
 abbrev pub groups : Base → List ℕ → List (List Positioned)
 groups base text = runs (group_symbols base.width) (kept base text)
 
@@ -41,12 +41,12 @@ groups base text = runs (group_symbols base.width) (kept base text)
 abbrev pub bytes_in : List Positioned → List ℕ
 bytes_in group = map (λ k. k.byte) group
 
--- what the bytes of a group mean
+-- the bytes of a group as characters
 abbrev pub meanings_in : Base → List Positioned → List Character
 meanings_in base group = map (meaning base) (bytes_in group)
 
--- Symbols mean bytes: the bits of the symbols are those of the bytes, followed by fewer bits than a
--- symbol has, which are zeros if they are checked.
+-- The characters are symbols of these values. Their bits are those of the bytes, and then a rest,
+-- the trailing bits: fewer than a symbol has, and zeros if `checks_trailing_bits`.
 pub record PlainMeans (base : Base) (characters : List Character) (bytes : List ℕ) : Type 0 where
   pub values : List ℕ
   pub rest : List ℕ
@@ -57,8 +57,8 @@ pub record PlainMeans (base : Base) (characters : List Character) (bytes : List 
   pub rest_is_zero : base.checks_trailing_bits ≡ true → rest ≡ replicate (length rest) 0
   pub are_bytes : All (λ byte. byte < 256) bytes
 
--- A group of one or more symbols followed by padding means what its symbols mean. It is whole if
--- the base is padded; otherwise it has no padding and may be shorter.
+-- One or more symbols, and then any number of padding characters, mean what the symbols mean. The
+-- group is whole if the base is padded; otherwise it has no padding and may be shorter.
 pub record GroupMeans (base : Base) (group : List Character) (bytes : List ℕ) : Type 0 where
   pub symbols : List Character
   pub padding : ℕ
@@ -68,15 +68,15 @@ pub record GroupMeans (base : Base) (group : List Character) (bytes : List ℕ) 
   pub is_begun : 0 < length symbols
   pub means : PlainMeans base symbols bytes
 
--- whether no group may follow this one: it has padding, and texts may not be concatenated
+-- whether a group is final: it has padding, and texts may not be concatenated
 abbrev pub ends_text : Base → List Character → Bool
 ends_text base group = not base.concatenates && list_any is_padding group
 
--- whether no group may follow this one, by its bytes
+-- whether a group is final, by its bytes
 abbrev pub is_final : Base → List Positioned → Bool
 is_final base group = ends_text base (meanings_in base group)
 
--- Each group means bytes, a final one is the last, and these are joined.
+-- The bytes are what each group means, joined; a final group is the last one.
 abbrev pub GroupsMean : Base → List (List Character) → List ℕ → Type 0
 GroupsMean base [] bytes = bytes ≡ []
 GroupsMean base (group ∷ others) bytes =
@@ -84,6 +84,6 @@ GroupsMean base (group ∷ others) bytes =
     × GroupMeans base group piece × (ends_text base group ≡ true → others ≡ [])
     × GroupsMean base others more
 
--- The text means the data: its groups do, of which only the last may be short.
+-- A text means what its groups mean, joined; only the last may be short.
 abbrev pub Means : Base → List ℕ → List ℕ → Type 0
 Means base text bytes = GroupsMean base (map (meanings_in base) (groups base text)) bytes
