@@ -11,3 +11,4 @@ pub mod SameMeanings
 pub mod Named
 pub mod Told
 pub mod Laws
+pub mod Eighteen
