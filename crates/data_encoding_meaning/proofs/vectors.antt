@@ -12,3 +12,7 @@ pub mod Named
 pub mod Told
 pub mod Laws
 pub mod Eighteen
+pub mod TextLaws
+pub mod AlikeLaws
+pub mod OrderLaws
+pub mod PieceLaws

@@ -34,10 +34,12 @@ letters_compared = record {
   );
 }
 
--- what follows from the order of texts for their data
+-- what follows from the order of texts for their data, and the other way round
 data_told : (one other first second : List ℕ) → CompareAlike one other first second
     → (IsBefore first second → IsBefore one other) × (first ≡ second → one ≡ other)
-data_told one other first second alike = (alike.order.1, alike.equality.1)
+    × (IsBefore one other → IsBefore first second) × (one ≡ other → first ≡ second)
+data_told one other first second alike =
+    (alike.order.1, alike.equality.1, alike.order.0, alike.equality.0)
 
 -- a pair whose order is broken: the order is not kept
 pair_told : (base : Base) (bytes others : List ℕ) → BreaksOrder base bytes others
