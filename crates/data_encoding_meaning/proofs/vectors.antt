@@ -16,3 +16,5 @@ pub mod TextLaws
 pub mod AlikeLaws
 pub mod OrderLaws
 pub mod PieceLaws
+pub mod StepsFollowed
+pub mod Followed
