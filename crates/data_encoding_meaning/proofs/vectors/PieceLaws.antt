@@ -150,16 +150,22 @@ none_final : EndsNowhere → (parts : List (List Positioned))
     → list_any (is_final (built base64_fields)) parts ≡ false
 none_final law parts = law (built base64_fields) refl parts
 
--- where texts end with padding, one that means `A` has a final group, and one that means `Hel` none
+-- where texts end with padding, one that means `A` has a final group, and one that means `Hel`
+-- none; and where they may be concatenated no text has one
+abbrev HasFinal : Base → List ℕ → Bool → Type 0
+HasFinal base text has = list_any (is_final base) (groups base text) ≡ has
+
 ends_told : TellsEnd → (text : List ℕ)
-    → (Means (built single_fields) text (codes "A")
-    → list_any (is_final (built single_fields)) (groups (built single_fields) text) ≡ true)
-    × (Means (built single_fields) text (codes "Hel")
-    → list_any (is_final (built single_fields)) (groups (built single_fields) text) ≡ false)
+    → (Means (built single_fields) text (codes "A") → HasFinal (built single_fields) text true)
+    × (Means (built single_fields) text (codes "Hel") → HasFinal (built single_fields) text false)
+    × (Means (built base64_fields) text (codes "A") → HasFinal (built base64_fields) text false)
 ends_told law text =
     let base = built single_fields in
-    let is = is_yielded single_fields refl in
-    (law base is text (codes "A"), law base is text (codes "Hel"))
+    let is = is_yielded single_fields refl in (
+      law base is text (codes "A"),
+      law base is text (codes "Hel"),
+      law (built base64_fields) (is_yielded base64_fields refl) text (codes "A"),
+    )
 
 three_are_whole : MeansWhole → (text : List ℕ)
     → Means (built base64_nopad_fields) text (codes "Hel")

@@ -26,23 +26,25 @@ lines = built base64_mime_fields
 abbrev loose : Base
 loose = built nopad_ignoring_lf_fields
 
--- four bytes of `QUJD!` are `ABC`, and the group is not final
+-- four bytes of `QUJD!` are `ABC`, and the group is not final; no text is read behind its end
 front_told : (written : ℕ) (ended : Bool) (output : List ℕ)
     → HasDecodedTo plain (codes "QUJD!") 4 written ended output
     → (ended ≡ false) × (written ≤ length output) × (take written output ≡ codes "ABC")
 front_told written ended output to = (sym to.sound.1, to.fits, to.writes)
 
--- not read are more bytes than there are, an ignored byte at the end, and part of a group before
--- others or with padding
+read_within : (base : Base) (text : List ℕ) (read written : ℕ) (ended : Bool) (output : List ℕ)
+    → HasDecodedTo base text read written ended output → read ≤ length text
+read_within base text read written ended output to = to.within
+
+-- not read are an ignored byte at the end, and part of a group before others or with padding
 not_read : (written : ℕ) (ended : Bool) (output : List ℕ)
-    → (HasDecodedTo plain (codes "QUJD") 5 written ended output → ⊥)
-    × (HasDecodedTo lines (codes "QUJD" ++ 10 ∷ []) 5 written ended output → ⊥)
+    → (HasDecodedTo lines (codes "QUJD" ++ 10 ∷ []) 5 written ended output → ⊥)
     × (HasDecodedTo plain (codes "QUJD") 2 written ended output → ⊥)
     × (HasDecodedTo padded (codes "QQ") 2 written ended output → ⊥)
 not_read written ended output = (
-  λ to. omega (arith, to.within),
   λ to. let place : 4 ≡ 5 = to.ends in omega (arith, place),
-  λ to. ⊎_elim (λ (whole : 2 ≡ 0). omega (arith, whole)) (λ rest. let none = rest.0 in cc) to.whole,
+  λ to. ⊎_elim (λ (whole : 2 ≡ 0). omega (arith, whole))
+      (λ rest. let none = rest.0 in cc) to.whole,
   λ to. ⊎_elim (λ (whole : 2 ≡ 0). omega (arith, whole))
       (λ rest. false≢true (sym rest.1)) to.whole,
 )
