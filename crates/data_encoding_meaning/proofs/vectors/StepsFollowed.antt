@@ -1,15 +1,15 @@
 -- Worked rows of what follows from the promises of the steps of a decoding.
-use Rattle.std.proofs.Common.{◌≡◌, ℕ, ◌+◌, ◌*◌, ◌/◌, ◌≤◌, Bool, false, List, [], ◌∷◌, ◌++◌, length, take, drop, codes, refl, sym, arith, lit<, lit≤, ⊎_elim}
+use Rattle.std.proofs.Common.{◌≡◌, ℕ, ◌+◌, ◌*◌, ◌/◌, ◌≤◌, Bool, false, List, [], ◌∷◌, ◌++◌, length, map, take, drop, codes, refl, sym, arith, lit<, lit≤, ⊎_elim}
 use Rattle.std.proofs.lemmas.Bool.{false≢true}
 use Rattle.data_encoding_meaning.specs.declared.error.DecodeError.{DecodeError}
 use Rattle.data_encoding_meaning.specs.declared.error.DecodeFault.TheVariants.{Error}
 use Rattle.data_encoding_meaning.specs.declared.error.DecodeKind.{DecodeKind}
 use Rattle.data_encoding_meaning.specs.declared.error.DecodeKind.TheVariants.{Length as LengthFault, Symbol}
 use Rattle.data_encoding_meaning.specs.declared.error.DecodePartial.{DecodePartial}
-use Rattle.data_encoding_meaning.specs.text.Base.{Base}
+use Rattle.data_encoding_meaning.specs.text.Base.{Base, meaning}
 use Rattle.data_encoding_meaning.specs.text.Grammar.{Means, positioned, positioned_from}
 use Rattle.data_encoding_meaning.specs.decoding.Decoding.{HasDecodedTo, HasNoLastRun, HasRoom, HasSymbols, IsDecoded, IsDecodedGroup, IsGathered, IsIgnoredFront, IsLastRun, IsStop}
-use Rattle.data_encoding_meaning.specs.decoding.Fault.{AreSound, IsRefusal}
+use Rattle.data_encoding_meaning.specs.decoding.Fault.{AreSound, IsRefusal, group_fault, symbols_fault}
 use Rattle.data_encoding_meaning.specs.decoding.Partial.{StopsAt}
 use Rattle.data_encoding_meaning.specs.specification.Predefined.{base64_fields, base64_mime_fields, base64_nopad_fields, hexlower_fields}
 use Rattle.data_encoding_meaning.proofs.vectors.Examples.{built, nopad_ignoring_lf_fields}
@@ -39,7 +39,7 @@ read_within base text read written ended output to = to.within
 -- not read are an ignored byte at the end, and part of a group before others or with padding
 not_read : (written : ℕ) (ended : Bool) (output : List ℕ)
     → (HasDecodedTo lines (codes "QUJD" ++ 10 ∷ []) 5 written ended output → ⊥)
-    × (HasDecodedTo plain (codes "QUJD") 2 written ended output → ⊥)
+    × (HasDecodedTo plain (codes "QQAA") 2 written ended output → ⊥)
     × (HasDecodedTo padded (codes "QQ") 2 written ended output → ⊥)
 not_read written ended output = (
   λ to. let place : 4 ≡ 5 = to.ends in omega (arith, place),
@@ -62,14 +62,16 @@ group_told new = (
   λ group. let none = group.sound in cc,
 )
 
--- `QR==` has two symbols, with their fault; `Q===` has no valid number
+-- `QR==` has two symbols, `Q===` has no valid number, and the fault is that of so many symbols
 symbols_told :
     ((count : ℕ) → HasSymbols padded (codes "QR==") count → (count ≡ 2) × (count ≤ 4))
-    × (HasSymbols padded (codes "QR==") 3 → ⊥) × (HasSymbols padded (codes "Q===") 1 → ⊥)
+    × (HasSymbols padded (codes "Q===") 1 → ⊥)
+    × ((group : List ℕ) → HasSymbols padded group 2
+    → group_fault padded group ≡ symbols_fault padded (map (meaning padded) (take 2 group)))
 symbols_told = (
   λ count has. (has.count_is, has.within),
-  λ has. let same = has.fault_is in cc,
   λ has. false≢true has.valid,
+  λ group has. has.fault_is,
 )
 
 -- the group of `SG` LF `Vs`; none ends with LF, reads behind the end, has five bytes, or two if
