@@ -11,3 +11,10 @@ pub mod SameMeanings
 pub mod Named
 pub mod Told
 pub mod Laws
+pub mod Eighteen
+pub mod TextLaws
+pub mod AlikeLaws
+pub mod OrderLaws
+pub mod PieceLaws
+pub mod StepsFollowed
+pub mod Followed

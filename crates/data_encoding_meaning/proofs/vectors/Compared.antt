@@ -1,13 +1,14 @@
 -- Worked rows for the eighteen, and for texts compared as their data.
-use Rattle.std.proofs.Common.{◌≡◌, ℕ, true, false, List, map, ◌++◌, codes, replicate, Some, is_some, get_or, refl, ap, arith, inl, lit<}
+use Rattle.std.proofs.Common.{◌≡◌, ℕ, true, false, List, [], ◌∷◌, map, ◌++◌, codes, replicate, Some, is_some, get_or, refl, ap, arith, inl, lit<, ⊎_elim}
+use Rattle.data_encoding_meaning.specs.text.Base.{Base}
 use Rattle.data_encoding_meaning.specs.laws.Canonical.{has_one_text}
 use Rattle.data_encoding_meaning.specs.laws.Compared.{CompareAlike}
 use Rattle.data_encoding_meaning.specs.laws.Eighteen.{Yields, canonical_fields, second_text_fields, ordered_fields, unordered_fields}
-use Rattle.data_encoding_meaning.specs.laws.Order.{IsBefore}
-use Rattle.data_encoding_meaning.specs.specification.Predefined.{hexlower_fields}
+use Rattle.data_encoding_meaning.specs.laws.Order.{BreaksOrder, IsBefore, IsBroken, KeepsOrder}
+use Rattle.data_encoding_meaning.specs.specification.Predefined.{base32_dnscurve_fields, base64_nopad_fields, hexlower_fields, padded_fields}
 use Rattle.data_encoding_meaning.specs.text.Text.{text_of}
 use Rattle.data_encoding_meaning.proofs.judgement.YieldLemmas.{yields}
-use Rattle.data_encoding_meaning.proofs.vectors.Examples.{Has, by}
+use Rattle.data_encoding_meaning.proofs.vectors.Examples.{Has, built, by, octal_fields}
 
 -- of the eighteen, by the test of causes; sixteen have no lines
 eighteen_told :
@@ -33,7 +34,33 @@ letters_compared = record {
   );
 }
 
--- what follows from the order of texts for their data
+-- what follows from the order of texts for their data, and the other way round
 data_told : (one other first second : List ℕ) → CompareAlike one other first second
     → (IsBefore first second → IsBefore one other) × (first ≡ second → one ≡ other)
-data_told one other first second alike = (alike.order.1, alike.equality.1)
+    × (IsBefore one other → IsBefore first second) × (one ≡ other → first ≡ second)
+data_told one other first second alike =
+    (alike.order.1, alike.equality.1, alike.order.0, alike.equality.0)
+
+-- a pair whose order is broken: the order is not kept
+pair_told : (base : Base) (bytes others : List ℕ) → BreaksOrder base bytes others
+    → KeepsOrder base → ⊥
+pair_told base bytes others broken keeps =
+    broken.not_in_order
+    (keeps bytes others broken.are_bytes broken.others_are_bytes broken.in_order)
+
+-- what breaks it: the least significant bit first in DNSCurve's, `0` after `z` in base64, and in
+-- octal `=` after `0`
+orders_broken :
+    (IsBroken (built base32_dnscurve_fields) → KeepsOrder (built base32_dnscurve_fields) → ⊥)
+    × (IsBroken (built base64_nopad_fields)
+    → BreaksOrder (built base64_nopad_fields) (204 ∷ []) (208 ∷ []))
+    × (IsBroken (built (padded_fields octal_fields))
+    → BreaksOrder (built (padded_fields octal_fields)) (0 ∷ []) (0 ∷ 0 ∷ []))
+orders_broken = (
+  λ broken keeps. ⊎_elim
+      (λ one. pair_told (built base32_dnscurve_fields) (0 ∷ []) (1 ∷ []) one keeps)
+      (λ other. pair_told (built base32_dnscurve_fields) (1 ∷ []) (32 ∷ []) other keeps)
+      (broken.least_significant_first refl),
+  λ broken. broken.descending refl 51 (lit< tt) (lit< tt),
+  λ broken. broken.padding_later refl 61 refl (lit< tt),
+)

@@ -1,5 +1,5 @@
 -- Worked rows of the laws: what each says of some data and texts.
-use Rattle.std.proofs.Common.{◌≡◌, ◌↔◌, ℕ, ◌<◌, ◌≤◌, true, false, List, [], ◌∷◌, ◌++◌, length, codes, Some, None, Ok, refl, ap, arith, lit<}
+use Rattle.std.proofs.Common.{◌≡◌, ◌↔◌, ℕ, ◌+◌, ◌<◌, ◌≤◌, true, false, List, [], ◌∷◌, ◌++◌, length, codes, Some, None, Ok, refl, ap, arith, lit<}
 use Rattle.std.proofs.lemmas.Bool.{false≢true}
 use Rattle.std.proofs.lemmas.List.Elements.{All-from_recursion}
 use Rattle.data_encoding_meaning.specs.declared.encoding.BitOrder.TheVariants.{MostSignificantFirst}
@@ -9,7 +9,7 @@ use Rattle.data_encoding_meaning.specs.declared.error.DecodeKind.TheVariants.{Sy
 use Rattle.data_encoding_meaning.specs.text.Base.{Base, ignores_some, is_invalid, meaning}
 use Rattle.data_encoding_meaning.specs.text.Grammar.{Means}
 use Rattle.data_encoding_meaning.specs.text.Text.{text_of}
-use Rattle.data_encoding_meaning.specs.text.Lengths.{most_bytes}
+use Rattle.data_encoding_meaning.specs.text.Lengths.{length_fault, most_bytes}
 use Rattle.data_encoding_meaning.specs.decoding.Fault.{fault_of}
 use Rattle.data_encoding_meaning.specs.decoding.Pieces.{IsNoLonger}
 use Rattle.data_encoding_meaning.specs.specification.Fields.{Fields, IsSpecified, base_of}
@@ -21,7 +21,7 @@ use Rattle.data_encoding_meaning.specs.laws.Order.{BreaksOrder, KeepsOrder}
 use Rattle.data_encoding_meaning.specs.laws.Rules.{EighteenRules}
 use Rattle.data_encoding_meaning.specs.laws.SameMeaning.{DifferInSymbolsAlone, FaultExchanged, MeansExchanged, SameInBoth}
 use Rattle.data_encoding_meaning.specs.laws.Tight.{LengthOfText}
-use Rattle.data_encoding_meaning.specs.laws.Told.{FaultTold, SymbolTold, TrailingTold, WholeTold}
+use Rattle.data_encoding_meaning.specs.laws.Told.{FaultTold, SymbolTold, TrailingTold, WholeTold, first_other, leaves_bits}
 use Rattle.data_encoding_meaning.specs.laws.Verdicts.{Injective}
 use Rattle.data_encoding_meaning.proofs.vectors.Examples.{built, single_fields, unchecked}
 
@@ -29,7 +29,7 @@ abbrev at : DecodeKind → ℕ → DecodeError
 at kind position = record { position = position; kind = kind }
 
 -- what is built from some fields
-is_yielded : (fields : Fields) → base_of fields ≡ Ok (built fields) → IsSpecified (built fields)
+pub is_yielded : (fields : Fields) → base_of fields ≡ Ok (built fields) → IsSpecified (built fields)
 is_yielded fields yields = record { fields = fields; yields = yields }
 
 -- two keys, of which one is longer
@@ -117,6 +117,21 @@ told_of_text told symbol trailing whole =
       (λ index h. some 3 index ((symbol base is refl refl (codes "SGV!Q!") refl index).0 h)),
       (trailing base is refl refl (codes "SGVsQR") refl 5).1 (refl, refl, refl),
       whole (built hexlower_fields) (is_yielded hexlower_fields refl) refl refl (codes "4G4g") refl,
+    )
+
+-- the other way round: a first byte that is no symbol is the fault, and trailing bits are one only
+-- at the last byte of a text of symbols
+told_back : SymbolTold → TrailingTold
+    → (fault_of (built base64_nopad_fields) (codes "SGV!Q!") ≡ Some (at Symbol 3))
+    × ((text : List ℕ) → length_fault (built base64_nopad_fields) (length text) ≡ None
+    → (index : ℕ) → fault_of (built base64_nopad_fields) text ≡ Some (at Trailing index)
+    → (first_other (built base64_nopad_fields) text ≡ None)
+    × (leaves_bits (built base64_nopad_fields) text ≡ true) × (index + 1 ≡ length text))
+told_back symbol trailing =
+    let base = built base64_nopad_fields in
+    let is = is_yielded base64_nopad_fields refl in (
+      (symbol base is refl refl (codes "SGV!Q!") refl 3).1 refl,
+      (λ text valid index. (trailing base is refl refl text valid index).0),
     )
 
 base64_and_url : DifferInSymbolsAlone (built base64_fields) (built base64url_fields)

@@ -46,6 +46,7 @@ forms_counted : Hold (λ fields. by has_one_own_form fields) (
     ∷ (hexlower_fields, Some true)
     ∷ (unchecked base64_nopad_fields, Some false)
     ∷ (base64_fields, Some false)
+    ∷ (single_fields, Some true)
     ∷ (base64_mime_fields, Some false)
     ∷ [])
 forms_counted = refl

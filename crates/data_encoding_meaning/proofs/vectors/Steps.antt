@@ -1,13 +1,15 @@
 -- Worked rows for what the functions below the public calls promise.
-use Rattle.std.proofs.Common.{◌≡◌, true, false, [], ◌∷◌, ◌++◌, map, codes, replicate, refl, lit<, lit≤, inl, inr}
+use Rattle.std.proofs.Common.{◌≡◌, ℕ, zero, suc, ◌<◌, true, false, [], ◌∷◌, ◌++◌, map, codes, replicate, Some, refl, sym, ap, arith, lit<, lit≤, inl, inr}
 use Rattle.data_encoding_meaning.specs.declared.encoding.Character.TheVariants.{Symbol as SymbolCharacter, Padding as PaddingCharacter, Ignored, Invalid}
+use Rattle.data_encoding_meaning.specs.declared.error.DecodeError.{DecodeError}
 use Rattle.data_encoding_meaning.specs.declared.error.DecodeKind.TheVariants.{Padding, Trailing}
+use Rattle.data_encoding_meaning.specs.declared.error.GroupFault.{GroupFault}
 use Rattle.data_encoding_meaning.specs.specification.Predefined.{base64_fields, base64_nopad_fields, base64_mime_fields}
-use Rattle.data_encoding_meaning.specs.text.Grammar.{positioned}
+use Rattle.data_encoding_meaning.specs.text.Grammar.{positioned, positioned_from}
 use Rattle.data_encoding_meaning.proofs.grammar.MeaningLemmas.{Means-no_fault}
 use Rattle.data_encoding_meaning.specs.specification.Entries.{meaning_of_entry, is_entry_of, HoldsEntries}
 use Rattle.data_encoding_meaning.specs.text.Base.{IsGroup}
-use Rattle.data_encoding_meaning.specs.decoding.Fault.{AreSound}
+use Rattle.data_encoding_meaning.specs.decoding.Fault.{AreSound, position_of}
 use Rattle.data_encoding_meaning.specs.decoding.Decoding.{HasDecodedTo, IsDecodedGroup, most_symbols, HasSymbols, HasFault, IsGathered, IsIgnoredFront, valid_front, IsLastRun, HasNoLastRun, HasRoom, IsDecoded}
 use Rattle.data_encoding_meaning.proofs.decoding.GroupJudgementLemmas.{HasFault-own}
 use Rattle.data_encoding_meaning.proofs.vectors.Examples.{built, Has, nopad_ignoring_lf_fields}
@@ -119,3 +121,41 @@ text_decoded = record {
   means = Means-no_fault (built base64_nopad_fields)
       (record { some = lit< tt; few = lit≤ tt }) (codes "QUI") refl;
 }
+
+-- the index of a position in a group of four that begins at 4, or at 0
+index_of_5 : (index : ℕ) → 5 ≡ position_of (positioned_from 4 (codes "QR==")) index → index ≡ 1
+index_of_5 zero at = absurd (omega (arith, at))
+index_of_5 (suc zero) at = refl
+index_of_5 (suc (suc zero)) at = absurd (omega (arith, at))
+index_of_5 (suc (suc (suc zero))) at = absurd (omega (arith, at))
+index_of_5 (suc (suc (suc (suc more)))) at = absurd (omega (arith, at))
+
+index_of_0 : (index : ℕ) → index < 4 → 0 ≡ position_of (positioned (codes "QQ==")) index
+    → index ≡ 0
+index_of_0 zero inside at = refl
+index_of_0 (suc zero) inside at = absurd (omega (arith, at))
+index_of_0 (suc (suc zero)) inside at = absurd (omega (arith, at))
+index_of_0 (suc (suc (suc zero))) inside at = absurd (omega (arith, at))
+index_of_0 (suc (suc (suc (suc more)))) inside at = absurd (omega (arith, inside))
+
+is_same_fault : (one other : DecodeError) → Some one ≡ Some other → one ≡ other
+is_same_fault one other same = cc
+
+-- such a group has trailing bits at 1, and after a final one its padding is the fault, at 0
+faults_of_group : (fault : GroupFault)
+    → (HasFault (built base64_fields) false (codes "QR==") fault
+    → (fault.kind ≡ Trailing) × (fault.index ≡ 1))
+    × (HasFault (built base64_fields) true (codes "QQ==") fault
+    → (fault.kind ≡ Padding) × (fault.index ≡ 0))
+faults_of_group fault = (
+  λ has.
+      let same = is_same_fault _ _ (has.is_fault (positioned_from 4 (codes "QR==")) refl) in (
+        sym (ap (λ error. error.kind) same),
+        index_of_5 fault.index (ap (λ error. error.position) same),
+      ),
+  λ has.
+      let same = is_same_fault _ _ (has.is_fault (positioned (codes "QQ==")) refl) in (
+        sym (ap (λ error. error.kind) same),
+        index_of_0 fault.index has.inside (ap (λ error. error.position) same),
+      ),
+)
