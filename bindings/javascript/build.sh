@@ -69,7 +69,7 @@ put() {
 by_words() {
     put encode.rt 'encode_turns::<EightGroups, G>' 'encode_turns::<OneGroup, G>'
     put decode.rt 'if input.len() < eight ||' 'if input.len() < eight || true ||'
-    put turn.rt 'if eqb width 5 then 2 else 4' '4'
+    put turn.rt 'if width == 5 then 2 else 4' '4'
     put turn.rt '5 => 2,' '5 => 4,'
     put turn.rt '5 => decode_two::<Rows, G>(&rows_of(self),' '5 => decode_four_groups::<G>(self,'
     put turn.rt '6 => decode_four::<Rows, G>(&rows_of(self),' '6 => decode_four_groups::<G>(self,'

@@ -1,3 +1,3 @@
 -- Runs of whole groups.
-pub mod EightGroupLemmas
+pub mod GroupRunLemmas
 pub mod SymbolRunLemmas

@@ -1,11 +1,11 @@
 //! The symbols of data, group after group.
 
-ghost use Rattle.std.specs.Prelude.{◌≡◌, ℕ, ◌+◌, ◌-◌, ◌*◌, ◌/◌, ◌<◌, ◌≤◌, ◌++◌, length, take, replicate};
-ghost use Rattle.std.proofs.Common.{lit<, lit≤};
+ghost use Rattle.std.specs.Prelude.{◌≡◌, ℕ, ◌+◌, ◌-◌, ◌*◌, ◌/◌, ◌<◌, ◌≤◌, ◌++◌, ◌==◌, if◌then◌else◌, length, take, replicate};
+ghost use Rattle.data_encoding_meaning.specs.text.Base.{group_bytes};
 ghost use Rattle.data_encoding_kernel.specs.Tables.{IsTextBy};
 
 use crate::group_size::GroupSize;
-use crate::lanes::encode::encode_eight;
+use crate::lanes::encode::{encode_eight, encode_four, encode_two};
 use crate::words::encode_group;
 use data_encoding_meaning::encoding::BitOrder;
 use data_encoding_meaning::limits::ENCODE_LIMIT;
@@ -52,10 +52,10 @@ fn encode_turns<T: EncodeTurn, G: GroupSize>(
     ensures { IsTextBy symbols.now G.WIDTH order input.now output.new }
 {
     let bytes = G::BYTES;
-    let groups = T::GROUPS;
+    let groups = T::groups::<G>();
     let read_len = groups * bytes;
     let written_len = groups * G::SYMBOLS;
-    let ahead_len = T::AHEAD * (bytes - 1);
+    let ahead_len = T::ahead::<G>();
     let count = input.len().saturating_sub(ahead_len) / read_len;
     for index in 0..count {
         let read = index * read_len;
@@ -77,23 +77,25 @@ fn encode_turns<T: EncodeTurn, G: GroupSize>(
 
 /// A way to encode a fixed number of whole groups in each turn of a loop, and then the rest.
 trait EncodeTurn {
-    ghost GROUPS: { ℕ };
+    // The number of groups, and how many bytes a turn also loads after them, by the width of a
+    // symbol.
+    ghost number: { ℕ → ℕ };
 
-    ghost AHEAD: { ℕ };
+    ghost further: { ℕ → ℕ };
 
-    ghost some_groups: { 0 < GROUPS };
+    fn groups<G: GroupSize>() -> usize
+        ensures number { result ≡ number G.WIDTH }
+        ensures some { 0 < result }
+        ensures few { result ≤ 8 };
 
-    ghost few_groups: { GROUPS + AHEAD ≤ 10 };
-
-    const GROUPS: usize;
-
-    // A turn also loads `AHEAD * (BYTES - 1)` bytes after its groups.
-    const AHEAD: usize;
+    fn ahead<G: GroupSize>() -> usize
+        ensures number { result ≡ further G.WIDTH }
+        ensures few { result ≤ 8 };
 
     fn encode<G: GroupSize>(symbols: &[u8; 256], order: BitOrder, input: &[u8], output: &mut [u8])
-        requires loaded { length input.now ≡ GROUPS * G.BYTES + AHEAD * (G.BYTES - 1) }
-        requires exact { length output.old ≡ GROUPS * G.SYMBOLS }
-        ensures { IsTextBy symbols.now G.WIDTH order (take (GROUPS * G.BYTES) input.now)
+        requires loaded { length input.now ≡ number G.WIDTH * G.BYTES + further G.WIDTH }
+        requires exact { length output.old ≡ number G.WIDTH * G.SYMBOLS }
+        ensures { IsTextBy symbols.now G.WIDTH order (take (number G.WIDTH * G.BYTES) input.now)
             output.new };
 
     // Encodes the rest after the last turn: fewer bytes than a turn loads.
@@ -103,7 +105,7 @@ trait EncodeTurn {
         input: &[u8],
         output: &mut [u8],
     )
-        requires few { length input.now < GROUPS * G.BYTES + AHEAD * (G.BYTES - 1) }
+        requires few { length input.now < number G.WIDTH * G.BYTES + further G.WIDTH }
         requires limit { length input.now ≤ ENCODE_LIMIT }
         requires exact { length output.old ≡ (8 * length input.now + (G.WIDTH - 1)) / G.WIDTH }
         ensures { IsTextBy symbols.now G.WIDTH order input.now output.new };
@@ -113,17 +115,19 @@ trait EncodeTurn {
 struct EightGroups;
 
 impl EncodeTurn for EightGroups {
-    ghost GROUPS = { 8 };
+    ghost number = { λ width. 8 };
 
-    ghost AHEAD = { 2 };
+    ghost further = { λ width. 2 * (group_bytes width - 1) };
 
-    ghost some_groups = { lit< tt };
+    #[inline(always)]
+    fn groups<G: GroupSize>() -> usize {
+        8
+    }
 
-    ghost few_groups = { lit≤ tt };
-
-    const GROUPS: usize = 8;
-
-    const AHEAD: usize = 2;
+    #[inline(always)]
+    fn ahead<G: GroupSize>() -> usize {
+        2 * (G::BYTES - 1)
+    }
 
     #[inline(always)]
     fn encode<G: GroupSize>(symbols: &[u8; 256], order: BitOrder, input: &[u8], output: &mut [u8]) {
@@ -138,17 +142,19 @@ impl EncodeTurn for EightGroups {
         input: &[u8],
         output: &mut [u8],
     ) {
-        if G::SYMBOLS == 8 && G::BYTES > 1 {
+        if G::WIDTH == 3 {
             encode_turns::<EightInRoom, G>(symbols, order, input, output);
+        } else if G::WIDTH >= 5 && input.len() >= 16 {
+            encode_by_order::<SixteenSymbols, G>(symbols, order, input, output);
         } else {
-            encode_by_groups::<G>(symbols, order, input, output);
+            encode_by_order::<OneGroup, G>(symbols, order, input, output);
         }
     }
 }
 
-// Group by group, with the order as a constant.
+// With the order as a constant.
 #[inline(always)]
-fn encode_by_groups<G: GroupSize>(
+fn encode_by_order<T: EncodeTurn, G: GroupSize>(
     symbols: &[u8; 256],
     order: BitOrder,
     input: &[u8],
@@ -159,13 +165,13 @@ fn encode_by_groups<G: GroupSize>(
     ensures { IsTextBy symbols.now G.WIDTH order input.now output.new }
 {
     match order {
-        BitOrder::MostSignificantFirst => encode_turns::<OneGroup, G>(
+        BitOrder::MostSignificantFirst => encode_turns::<T, G>(
             symbols,
             BitOrder::MostSignificantFirst,
             input,
             output,
         ),
-        BitOrder::LeastSignificantFirst => encode_turns::<OneGroup, G>(
+        BitOrder::LeastSignificantFirst => encode_turns::<T, G>(
             symbols,
             BitOrder::LeastSignificantFirst,
             input,
@@ -179,17 +185,19 @@ fn encode_by_groups<G: GroupSize>(
 struct EightInRoom;
 
 impl EncodeTurn for EightInRoom {
-    ghost GROUPS = { 8 };
+    ghost number = { λ width. 8 };
 
-    ghost AHEAD = { 0 };
+    ghost further = { λ width. 0 };
 
-    ghost some_groups = { lit< tt };
+    #[inline(always)]
+    fn groups<G: GroupSize>() -> usize {
+        8
+    }
 
-    ghost few_groups = { lit≤ tt };
-
-    const GROUPS: usize = 8;
-
-    const AHEAD: usize = 0;
+    #[inline(always)]
+    fn ahead<G: GroupSize>() -> usize {
+        0
+    }
 
     #[inline(always)]
     fn encode<G: GroupSize>(symbols: &[u8; 256], order: BitOrder, input: &[u8], output: &mut [u8]) {
@@ -207,7 +215,7 @@ impl EncodeTurn for EightInRoom {
         if input.len() > 2 * G::BYTES {
             encode_in_room::<G>(symbols, order, input, output);
         } else {
-            encode_by_groups::<G>(symbols, order, input, output);
+            encode_by_order::<OneGroup, G>(symbols, order, input, output);
         }
     }
 }
@@ -241,21 +249,69 @@ fn with_zeros(input: &[u8]) -> [u8; 48]
     room
 }
 
+/// Sixteen symbols of five or six bits in lanes; groups of others one by one.
+struct SixteenSymbols;
+
+impl EncodeTurn for SixteenSymbols {
+    ghost number = { λ width. if width == 5 then 2 else if width == 6 then 4 else 1 };
+
+    ghost further = { λ width. if width == 5 then 6 else if width == 6 then 4 else 0 };
+
+    #[inline(always)]
+    fn groups<G: GroupSize>() -> usize {
+        match G::WIDTH {
+            5 => 2,
+            6 => 4,
+            _ => 1,
+        }
+    }
+
+    #[inline(always)]
+    fn ahead<G: GroupSize>() -> usize {
+        match G::WIDTH {
+            5 => 6,
+            6 => 4,
+            _ => 0,
+        }
+    }
+
+    #[inline(always)]
+    fn encode<G: GroupSize>(symbols: &[u8; 256], order: BitOrder, input: &[u8], output: &mut [u8]) {
+        match G::WIDTH {
+            5 => encode_two::<G>(symbols, order, input, output),
+            6 => encode_four::<G>(symbols, order, input, output),
+            _ => encode_group::<G>(symbols, order, input, output),
+        }
+    }
+
+    #[inline(always)]
+    fn encode_rest<G: GroupSize>(
+        symbols: &[u8; 256],
+        order: BitOrder,
+        input: &[u8],
+        output: &mut [u8],
+    ) {
+        encode_turns::<OneGroup, G>(symbols, order, input, output);
+    }
+}
+
 /// One group as a word.
 struct OneGroup;
 
 impl EncodeTurn for OneGroup {
-    ghost GROUPS = { 1 };
+    ghost number = { λ width. 1 };
 
-    ghost AHEAD = { 0 };
+    ghost further = { λ width. 0 };
 
-    ghost some_groups = { lit< tt };
+    #[inline(always)]
+    fn groups<G: GroupSize>() -> usize {
+        1
+    }
 
-    ghost few_groups = { lit≤ tt };
-
-    const GROUPS: usize = 1;
-
-    const AHEAD: usize = 0;
+    #[inline(always)]
+    fn ahead<G: GroupSize>() -> usize {
+        0
+    }
 
     #[inline(always)]
     fn encode<G: GroupSize>(symbols: &[u8; 256], order: BitOrder, input: &[u8], output: &mut [u8]) {

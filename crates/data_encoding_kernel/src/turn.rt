@@ -1,6 +1,6 @@
 //! Several whole groups of symbols at a time.
 
-ghost use Rattle.std.specs.Prelude.{◌≡◌, ℕ, ◌*◌, ◌<◌, eqb, if◌then◌else◌, List, length, IsTrue};
+ghost use Rattle.std.specs.Prelude.{◌≡◌, ℕ, ◌*◌, ◌<◌, ◌==◌, if◌then◌else◌, List, length, IsTrue};
 ghost use Rattle.data_encoding_kernel.specs.Runs.{IsRunBy};
 
 use crate::group_size::GroupSize;
@@ -54,7 +54,7 @@ impl<L: LookUp> DecodeTurn for Lanes<L> {
 // By the table itself: sixteen symbols of five or six bits in lanes, and four groups of others word
 // by word.
 impl DecodeTurn for [u8; 256] {
-    ghost number = { λ width. if eqb width 5 then 2 else 4 };
+    ghost number = { λ width. if width == 5 then 2 else 4 };
 
     ghost holds = { λ values table. table ≡ values };
 

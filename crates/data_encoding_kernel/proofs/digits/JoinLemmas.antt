@@ -125,3 +125,17 @@ module _ (order : BitOrder) (width count : ℕ) where
             (times words)
             (λ word. digits_of-below order width count (2 ^ width) word (omega arith)));
       }
+
+  -- and lanes that hold fewer groups first
+  pub held-first : (few size : ℕ) (input words : List ℕ) {lanes : List ℕ}
+      → take (few * count) (joined words) ≡ joined (group_words order size few input)
+      → lanes ≡ joined words → record {
+        digits : take (few * count) lanes ≡ joined (group_words order size few input);
+        below : AllByRecursion (λ digit. digit < 2 ^ width) lanes;
+      }
+  held-first few size input words front is = record {
+    digits = ap (take (few * count)) is ∙ front;
+    below =
+        rw is (all_pieces (λ digit. digit < 2 ^ width) (digits_of order width count) words
+        (λ word. digits_of-below order width count (2 ^ width) word (omega arith)));
+  }

@@ -1,4 +1,4 @@
-//! The digits of eight groups of bytes, with a lane for each.
+//! The digits of eight groups of bytes, or of those of sixteen symbols, with a lane for each.
 
 ghost use Rattle.std.specs.Prelude.{◌≡◌, ℕ, ◌+◌, ◌*◌, ◌^◌, ◌<◌, ◌≤◌, List, ◌++◌, length, map, take, flat_map};
 ghost use Rattle.std.specs.List.{AllByRecursion};
@@ -6,7 +6,7 @@ ghost use Rattle.data_encoding_meaning.specs.text.Base.{IsWidth, group_bytes, gr
 ghost use Rattle.data_encoding_kernel.specs.Lanes.{group_words, digits_of, spread_word, halved_lane};
 
 use crate::group_size::GroupSize;
-use crate::lanes::groups::{eight_fives, eight_ones, eight_threes};
+use crate::lanes::groups::{eight_fives, eight_ones, eight_threes, four_threes, two_fives};
 use data_encoding_meaning::encoding::BitOrder;
 use std::simd::prelude::*;
 
@@ -249,4 +249,32 @@ pub fn digits<G: GroupSize>(order: BitOrder, input: &[u8]) -> u8x64
         return five_bit_digits(order, input);
     }
     six_bit_digits(order, input)
+}
+
+/// Returns the digits of the first four groups of six bits a digit, one after another, repeatedly.
+/// Four bytes after them are loaded too.
+// As wide as for eight groups, so that the same steps serve both; the compiler drops lanes that are
+// not used.
+#[inline(always)]
+pub fn digits_of_four(order: BitOrder, input: &[u8]) -> u8x64
+    requires { 16 ≤ length input.now }
+    ensures digits { take 16 result
+        ≡ flat_map (digits_of order 6 4) (group_words order 3 4 input.now) }
+    ensures below { AllByRecursion (λ digit. digit < 2 ^ 6) result }
+{
+    let words = four_threes(order, input).swizzle::<8>([0, 1, 2, 3, 0, 1, 2, 3]);
+    join_fours(order, spread_six_bits(words))
+}
+
+/// Returns the digits of the first two groups of five bits a digit, one after another, repeatedly.
+/// Six bytes after them are loaded too.
+#[inline(always)]
+pub fn digits_of_two(order: BitOrder, input: &[u8]) -> u8x64
+    requires { 16 ≤ length input.now }
+    ensures digits { take 16 result
+        ≡ flat_map (digits_of order 5 8) (group_words order 5 2 input.now) }
+    ensures below { AllByRecursion (λ digit. digit < 2 ^ 5) result }
+{
+    let words = two_fives(order, input).swizzle::<8>([0, 1, 0, 1, 0, 1, 0, 1]);
+    join_eights(order, spread_five_bits(words))
 }

@@ -1,4 +1,4 @@
-//! The symbols of eight groups of bytes at a time, with a lane for each digit.
+//! The symbols of eight groups of bytes at a time, or sixteen symbols, with a lane for each digit.
 
 ghost use Rattle.std.specs.Prelude.{◌≡◌, ◌⊎◌, ◌+◌, ◌*◌, ◌%◌, ◌^◌, ◌<◌, ◌≤◌, length, map, take, slice_index};
 ghost use Rattle.std.specs.List.{AllByRecursion, range_with_len};
@@ -6,7 +6,7 @@ ghost use Rattle.data_encoding_meaning.specs.text.Base.{IsWidth};
 ghost use Rattle.data_encoding_kernel.specs.Tables.{IsTextBy};
 
 use crate::group_size::GroupSize;
-use crate::lanes::digits::digits;
+use crate::lanes::digits::{digits, digits_of_four, digits_of_two};
 use data_encoding_meaning::encoding::BitOrder;
 use std::simd::prelude::*;
 
@@ -87,8 +87,17 @@ fn store<G: GroupSize>(lanes: u8x64, output: &mut [u8])
     } else if count == 4 {
         lanes.extract::<0, 32>().copy_to_slice(output);
     } else {
-        lanes.extract::<0, 16>().copy_to_slice(output);
+        store_sixteen(lanes, output);
     }
+}
+
+// Writes the first sixteen lanes.
+#[inline(always)]
+fn store_sixteen(lanes: u8x64, output: &mut [u8])
+    requires exact { length output.old ≡ 16 }
+    ensures { output.new ≡ take 16 lanes }
+{
+    lanes.extract::<0, 16>().copy_to_slice(output);
 }
 
 /// Writes the text of the first eight groups. Up to six bytes after them are loaded too.
@@ -105,4 +114,40 @@ pub fn encode_eight<G: GroupSize>(
 {
     let values = digits::<G>(order, input);
     store::<G>(look_up::<G>(symbols, values), output);
+}
+
+/// Writes the text of the first four groups of four symbols of six bits. Four bytes after them are
+/// loaded too.
+#[inline(always)]
+pub fn encode_four<G: GroupSize>(
+    symbols: &[u8; 256],
+    order: BitOrder,
+    input: &[u8],
+    output: &mut [u8],
+)
+    requires six_bits { G.WIDTH ≡ 6 }
+    requires bytes { 16 ≤ length input.now }
+    requires exact { length output.old ≡ 4 * G.SYMBOLS }
+    ensures { IsTextBy symbols.now G.WIDTH order (take (4 * G.BYTES) input.now) output.new }
+{
+    let values = digits_of_four(order, input);
+    store_sixteen(look_up::<G>(symbols, values), output);
+}
+
+/// Writes the text of the first two groups of eight symbols of five bits. Six bytes after them are
+/// loaded too.
+#[inline(always)]
+pub fn encode_two<G: GroupSize>(
+    symbols: &[u8; 256],
+    order: BitOrder,
+    input: &[u8],
+    output: &mut [u8],
+)
+    requires five_bits { G.WIDTH ≡ 5 }
+    requires bytes { 16 ≤ length input.now }
+    requires exact { length output.old ≡ 2 * G.SYMBOLS }
+    ensures { IsTextBy symbols.now G.WIDTH order (take (2 * G.BYTES) input.now) output.new }
+{
+    let values = digits_of_two(order, input);
+    store_sixteen(look_up::<G>(symbols, values), output);
 }

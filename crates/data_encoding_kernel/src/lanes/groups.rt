@@ -46,8 +46,9 @@ fn little_endian_threes(input: &[u8]) -> u32x4
     u32x4::from_le_bytes(bytes.swizzle_dyn(u8x16::from_array(THREES_FROM_FIRST)))
 }
 
+/// The words of the first four groups of three bytes. Four bytes after the last are loaded too.
 #[inline(always)]
-fn four_threes(order: BitOrder, input: &[u8]) -> u32x4
+pub fn four_threes(order: BitOrder, input: &[u8]) -> u32x4
     requires { 16 ≤ length input.now }
     ensures { result ≡ group_words order 3 4 input.now }
 {
@@ -87,8 +88,9 @@ fn little_endian_fives(input: &[u8]) -> u64x2
     u64x2::from_le_bytes(bytes.swizzle_dyn(u8x16::from_array(FIVES_FROM_FIRST)))
 }
 
+/// The words of the first two groups of five bytes. Six bytes after the last are loaded too.
 #[inline(always)]
-fn two_fives(order: BitOrder, input: &[u8]) -> u64x2
+pub fn two_fives(order: BitOrder, input: &[u8]) -> u64x2
     requires { 16 ≤ length input.now }
     ensures { result ≡ group_words order 5 2 input.now }
 {

@@ -1,6 +1,6 @@
 use Rattle.std.proofs.Common.{◌^◌, ◌<◌, ap, ◌∙◌, subst}
 use Rattle.std.specs.List.{AllByRecursion}
-use Rattle.data_encoding_kernel.proofs.decoding.EightGroupLemmas.{groups-run}
+use Rattle.data_encoding_kernel.proofs.decoding.GroupRunLemmas.{groups-run}
 use Rattle.data_encoding_kernel.proofs.digits.GatherStoreLemmas.{bytes_of_words}
 use Rattle.data_encoding_meaning.proofs.lists.PartLemmas.{IsWhole-group}
 use Rattle.data_encoding_kernel.proofs.lanes.decode.decode_eight.Goals as goal

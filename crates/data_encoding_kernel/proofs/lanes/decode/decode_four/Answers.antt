@@ -1,6 +1,6 @@
 use Rattle.std.proofs.Common.{◌≡◌, IsTrue, sym, ap, ◌∙◌}
 use Rattle.data_encoding_meaning.specs.text.Base.{group_bytes, group_symbols}
-use Rattle.data_encoding_kernel.proofs.decoding.EightGroupLemmas.{groups-run, words-found}
+use Rattle.data_encoding_kernel.proofs.decoding.GroupRunLemmas.{groups-run, words-found}
 use Rattle.data_encoding_kernel.proofs.digits.GatherStoreLemmas.{bytes_of_words}
 use Rattle.data_encoding_kernel.proofs.lanes.decode.decode_four.Goals as goal
 

@@ -1,5 +1,5 @@
 use Rattle.std.proofs.Common.{◌≡◌, IsTrue, sym, ◌∙◌, arith}
-use Rattle.data_encoding_kernel.proofs.decoding.EightGroupLemmas.{words-found}
+use Rattle.data_encoding_kernel.proofs.decoding.GroupRunLemmas.{words-found}
 use Rattle.data_encoding_meaning.proofs.digits.SizeLemmas.{symbols-are}
 use Rattle.data_encoding_kernel.proofs.lanes.decode.words_of_groups.Goals as goal
 

@@ -1,6 +1,6 @@
 use Rattle.std.proofs.Common.{◌*◌, map, take, slice_index, ap, ◌∙◌, arith}
 use Rattle.std.proofs.lemmas.List.{take-map}
-use Rattle.data_encoding_kernel.proofs.text.EightGroupLemmas.{plain_text-eight}
+use Rattle.data_encoding_kernel.proofs.text.GroupTextLemmas.{plain_text-groups}
 use Rattle.data_encoding_kernel.proofs.lanes.encode.encode_eight.Goals as goal
 
 pub returns : goal.returns
@@ -15,6 +15,6 @@ returns g c base writes =
     ∙ ap (take (8 * g.G.GroupSize.SYMBOLS)) c.look_up.ensures
     ∙ take-map (slice_index symbols) (8 * g.G.GroupSize.SYMBOLS) c.digits-values.result
     ∙ ap show c.digits-values.ensures.digits
-    ∙ plain_text-eight base order width g.G.GroupSize.BYTES g.G.GroupSize.SYMBOLS symbols group
-    writes input
+    ∙ plain_text-groups base order width g.G.GroupSize.BYTES g.G.GroupSize.SYMBOLS symbols group
+    writes 8 input
     (omega (arith, c.requires.bytes))

@@ -34,13 +34,12 @@ returns-then-count-eq4 g c =
     ∙ pick_l-range_with_len 0 lanes 0 32 (omega (arith, c.fits-lanes.0)))
     ∙ ap (λ n. take n lanes) (sym all)
 
+pub store_sixteen-requires : goal.store_sixteen-requires
+store_sixteen-requires g c =
+    let two : g.G.GroupSize.SYMBOLS ≡ 2 = omega (arith, symbols-are g.G.GroupSize.is_group) in
+    record { exact = c.requires.exact ∙ ap (λ n. 8 * n) two }
+
 pub returns-else-count-eq4 : goal.returns-else-count-eq4
 returns-else-count-eq4 g c =
     let two : g.G.GroupSize.SYMBOLS ≡ 2 = omega (arith, symbols-are g.G.GroupSize.is_group) in
-    let all : 8 * g.G.GroupSize.SYMBOLS ≡ 16 = ap (λ n. 8 * n) two in
-    let lanes = c.args.lanes in
-    stored 16 c.args.output.now lanes (pick_l 0 (lanes ++ lanes) (range_with_len 0 16))
-    c.fits-lanes.0 (omega arith) (c.requires.exact ∙ all)
-    (pick_l_left 0 lanes lanes 64 (range_with_len 0 16) c.fits-lanes.0 tt
-    ∙ pick_l-range_with_len 0 lanes 0 16 (omega (arith, c.fits-lanes.0)))
-    ∙ ap (λ n. take n lanes) (sym all)
+    c.store_sixteen.ensures ∙ ap (λ n. take (8 * n) c.args.lanes) (sym two)

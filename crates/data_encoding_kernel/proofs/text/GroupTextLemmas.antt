@@ -1,6 +1,6 @@
 -- The symbols of consecutive groups, by the digits of their words.
 use Rattle.std.proofs.Common.{◌≡◌, ℕ, zero, suc, ◌+◌, ◌-◌, ◌*◌, ◌/◌, ◌%◌, ◌^◌, ◌<◌, ◌≤◌, List, [], ◌∷◌, ◌++◌, length, map, take, drop, slice_index, refl, sym, ap, ◌∙◌, subst, arith, length-take-le}
-use Rattle.std.proofs.Math.Nat.{mul-add, mod-lt, mod-mod, mul-mod_right}
+use Rattle.std.proofs.Math.Nat.{mul-add, mul_comm, mod-lt, mod-mod, mul-mod_right}
 use Rattle.std.proofs.Math.Pow.{pow_mono}
 use Rattle.std.proofs.Math.Seq.{take-add}
 use Rattle.std.proofs.lemmas.List.{drop-drop, length-drop, map-append}
@@ -92,17 +92,17 @@ module _ (base : Base) (order : BitOrder) (width bytes count : ℕ) (symbols : L
       ∙ ap (plain_text base) (sym (take-add bytes (bytes * n) rest)
       ∙ ap (λ m. take m rest) (omega (arith, mul-add bytes 1 n)))
 
-  -- the text of eight groups
-  pub plain_text-eight : (input : List ℕ) → 8 * bytes ≤ length input
+  -- the text of the first groups
+  pub plain_text-groups : (n : ℕ) (input : List ℕ) → n * bytes ≤ length input
       → map (slice_index symbols)
-      (flat_map (digits_of order width count) (group_words order bytes 8 input))
-      ≡ plain_text base (take (8 * bytes) input)
-  plain_text-eight input h =
+      (flat_map (digits_of order width count) (group_words order bytes n input))
+      ≡ plain_text base (take (n * bytes) input)
+  plain_text-groups n input h =
       let none : bytes * 0 ≡ 0 = omega arith in
-      let all : bytes * 8 ≡ 8 * bytes = omega arith in
+      let all : bytes * n ≡ n * bytes = mul_comm bytes n in
       map-pieces (slice_index symbols) (digits_of order width count)
-      (group_words order bytes 8 input)
+      (group_words order bytes n input)
       ∙ flat_map-map (λ word. map (slice_index symbols) (digits_of order width count word))
-      (group_word order bytes input) (range_with_len 0 8)
-      ∙ groups_text input 8 0 (omega (arith, h))
+      (group_word order bytes input) (range_with_len 0 n)
+      ∙ groups_text input n 0 (omega (arith, h, all))
       ∙ (λ i. plain_text base (take (all i) (drop (none i) input)))
