@@ -31,7 +31,7 @@ APART = {("specification", "predefined", "named")}
 
 # The definitions of these crates are shown with the first call whose clauses name them; those of
 # data_encoding are in docs/DEFINITIONS.md.
-SHOWN = {"encoding_stream", "basecode", "data_encoding_calls"}
+SHOWN = {"encoding_stream", "basecode", "data_encoding_calls", "conformance"}
 
 # What calls of several types promise alike: each field of these records is told as a clause.
 RECORDS = TOP / "crates/data_encoding/specs/Calls.antt"

@@ -35,7 +35,7 @@ sees 'a clause that is gone' $encode '^        ensures ascii .*' ''
 sees 'a call that is new' $encode '    fn padded_len' '    pub fn padded_len'
 sees 'a call that is gone' $encode 'pub fn encode_align' 'fn encode_align'
 sees 'a definition that changed' crates/encoding_stream/specs/Encoded.antt \
-    'pub at_end : IsAtEnd read_new' 'pub at_end : IsAtEnd read_old'
+    'pub at_end : IsAtEnd reader.new' 'pub at_end : IsAtEnd reader.old'
 sees 'a law that changed' crates/data_encoding_meaning/specs/laws/Laws.antt '→ one ≡ other' '→ other ≡ one'
 
 sees 'a line of docs/PROVED.md that was edited' docs/PROVED.md '^- \[`run`\]' '- [`ran`]'

@@ -60,10 +60,10 @@ excused() {
 tables=$(sed '/^## Without a worked row/,$d' "$page")
 without=$(sed '1,/^## Without a worked row/d' "$page")
 
-for crate in data_encoding encoding_stream basecode data_encoding_calls; do
+for crate in data_encoding encoding_stream basecode data_encoding_calls conformance; do
     mapfile -t files < <(rows "$crate")
     defined $(definitions "$crate") >"$room/defined"
-    [ "$(wc -l <"$room/defined")" -ge 20 ]
+    [ "$(wc -l <"$room/defined")" -ge 15 ]
     is "few definitions of $crate" '' "$([ $? = 0 ] || cat "$room/defined")"
     is "definitions of $crate that no table has" '' \
         "$(comm -23 "$room/defined" <(named "$tables$without"))"
@@ -74,7 +74,7 @@ for crate in data_encoding encoding_stream basecode data_encoding_calls; do
 done
 
 # The last column of each table but those of the definitions without a row names rows.
-mapfile -t files < <(for crate in data_encoding encoding_stream basecode data_encoding_calls; do
+mapfile -t files < <(for crate in data_encoding encoding_stream basecode data_encoding_calls conformance; do
     rows $crate
 done)
 named "$(sed -nE 's/^\| `.*\| (.*) \|$/\1/p' <<<"$tables")" >"$room/named"

@@ -14,6 +14,7 @@ use Rattle.encoding_stream.specs.Decoded.{DecodesAll}
 use Rattle.encoding_stream.specs.Encoded.{ReadsMore}
 use Rattle.encoding_stream.specs.declared.error.StreamFault.{StreamFault}
 use Rattle.encoding_stream.specs.declared.error.StreamFault.TheVariants.{Decode as Faulty, TooLong, Read, Write}
+use Rattle.encoding_stream.specs.Watch.{from_to}
 use Rattle.basecode.specs.Faults.{status_after}
 use Rattle.data_encoding.specs.Named.{IsNamed}
 use Rattle.basecode.specs.Run.{Begun, ByAnswer, Converts, DecodesFaulty, Done, Explains, Refused}
@@ -30,7 +31,7 @@ all_read old new bytes read at_end =
     sym (read ∙ ap (λ rest. bytes ++ rest) at_end ∙ append-nil bytes)
 
 -- what was read is no longer than what there was
-read_more : (limit : ℕ) (old new : List ℕ) → ReadsMore limit (Some old) (Some new)
+read_more : (limit : ℕ) (old new : List ℕ) → ReadsMore limit (from_to (Some old) (Some new))
     → limit < length old
 read_more limit old new read =
     omega (arith, ap length read.read, length-append read.bytes new, read.more)
@@ -40,8 +41,8 @@ module _ (words : List (List ℕ)) (read_old read_new written_old written_new : 
     -- a conversion by a stream is the answer that the arguments ask for
     pub done_conversion : SoundMeans → (verb : Verb) (base : Base)
         → Asks words (Conversion verb) base
-        → Converts verb base read_old read_new written_old written_new
-        → Done words read_old read_new written_old written_new
+        → Converts verb base (from_to read_old read_new) (from_to written_old written_new)
+        → Done words (from_to read_old read_new) (from_to written_old written_new)
     done_conversion law Encode base asked all = record {
       output = text_of base all.bytes;
       fulfils = ByAnswer Encode base asked (record {
@@ -69,8 +70,10 @@ module _ (words : List (List ℕ)) (read_old read_new written_old written_new : 
     -- a conversion that ends with status 1 is refused
     pub refused_conversion : (verb : Verb) (base : Base) (outcome : Result (Unit {0}) StreamFault)
         → Asks words (Conversion verb) base
-        → IfErr outcome (Explains verb base read_old read_new written_old written_new)
-        → status_after outcome ≡ 1 → Refused words read_old read_new written_old written_new
+        → IfErr outcome (Explains verb base (from_to read_old read_new)
+        (from_to written_old written_new))
+        → status_after outcome ≡ 1 → Refused words (from_to read_old read_new)
+        (from_to written_old written_new)
     refused_conversion verb base (Ok done) asked explains ends = absurd (omega (arith, ends))
     refused_conversion verb base (Err (Faulty error)) asked explains ends = record {
       verb = verb;
@@ -87,9 +90,10 @@ module _ (words : List (List ℕ)) (read_old read_new written_old written_new : 
 pub explained : (base : Base) (read_old read_new written_old written_new : Option (List ℕ))
     (outcome : Result (Unit {0}) StreamFault)
     → ((error : DecodeError) → outcome ≡ Err (Faulty error)
-    → DecodesAll base (Some error) read_old read_new written_old written_new)
-    → (outcome ≡ Err TooLong → ReadsMore (limit_of Decode) read_old read_new)
-    → IfErr outcome (Explains Decode base read_old read_new written_old written_new)
+    → DecodesAll base (Some error) (from_to read_old read_new) (from_to written_old written_new))
+    → (outcome ≡ Err TooLong → ReadsMore (limit_of Decode) (from_to read_old read_new))
+    → IfErr outcome (Explains Decode base (from_to read_old read_new)
+    (from_to written_old written_new))
 explained base read_old read_new written_old written_new (Ok done) faulty past = tt
 explained base read_old read_new written_old written_new (Err (Faulty error)) faulty past =
     (refl, faulty error refl)
@@ -104,11 +108,11 @@ is_encode Decode = false
 -- a run with two arguments on known bytes
 module _ (name input rest held output : List ℕ) where
   -- only the length of an input to be encoded is refused
-  pub not_encoded : Refused (codes "encode" ∷ name ∷ []) (Some input) (Some rest) (Some held)
-      (Some output)
+  pub not_encoded : Refused (codes "encode" ∷ name ∷ []) (from_to (Some input) (Some rest))
+      (from_to (Some held) (Some output))
       → limit_of Encode < length input
   not_encoded refused =
-      let IsPast : Verb → Type 0 = λ v. ReadsMore (limit_of v) (Some input) (Some rest) in
+      let IsPast : Verb → Type 0 = λ v. ReadsMore (limit_of v) (from_to (Some input) (Some rest)) in
       let verb_is = verb_asked _ _ _ _ refused.asked Encode refl in
       elim refused.reason [
         | inl more ↦ read_more _ _ _ (subst IsPast verb_is more)
@@ -117,12 +121,13 @@ module _ (name input rest held output : List ℕ) where
       ]
 
   -- a text within the limit that is refused has a fault
-  faulty_text : (refused : Refused (codes "decode" ∷ name ∷ []) (Some input) (Some rest)
-      (Some held) (Some output))
+  faulty_text : (refused : Refused (codes "decode" ∷ name ∷ []) (from_to (Some input) (Some rest))
+      (from_to (Some held) (Some output)))
       → length input ≤ limit_of Decode
-      → DecodesFaulty refused.verb refused.base (Some input) (Some rest) (Some held) (Some output)
+      → DecodesFaulty refused.verb refused.base (from_to (Some input) (Some rest))
+      (from_to (Some held) (Some output))
   faulty_text refused fits =
-      let IsPast : Verb → Type 0 = λ v. ReadsMore (limit_of v) (Some input) (Some rest) in
+      let IsPast : Verb → Type 0 = λ v. ReadsMore (limit_of v) (from_to (Some input) (Some rest)) in
       let verb_is = verb_asked _ _ _ _ refused.asked Decode refl in
       elim refused.reason [
         | inl more ↦
@@ -132,15 +137,15 @@ module _ (name input rest held output : List ℕ) where
       ]
 
   -- it was read to its end
-  pub refused_whole : Refused (codes "decode" ∷ name ∷ []) (Some input) (Some rest) (Some held)
-      (Some output)
+  pub refused_whole : Refused (codes "decode" ∷ name ∷ []) (from_to (Some input) (Some rest))
+      (from_to (Some held) (Some output))
       → length input ≤ limit_of Decode → rest ≡ []
   refused_whole refused fits = (faulty_text refused fits).decodes.at_end
 
   module _ (base : Base) (known : IsNamed name base) where
     -- the text was written
-    pub encoded : Done (codes "encode" ∷ name ∷ []) (Some input) (Some rest) (Some held)
-        (Some output)
+    pub encoded : Done (codes "encode" ∷ name ∷ []) (from_to (Some input) (Some rest))
+        (from_to (Some held) (Some output))
         → output ≡ held ++ text_of base input
     encoded done =
         let answers = fulfilled _ name Encode refl _ _ _ done.fulfils base known in
@@ -149,14 +154,14 @@ module _ (name input rest held output : List ℕ) where
         ∙ ap (λ text. held ++ text) (answers.is_answer ∙ ap (text_of base) read)
 
     -- a prefix of the text was written
-    pub encoded_front : Begun (codes "encode" ∷ name ∷ []) (Some input) (Some rest) (Some held)
-        (Some output)
+    pub encoded_front : Begun (codes "encode" ∷ name ∷ []) (from_to (Some input) (Some rest))
+        (from_to (Some held) (Some output))
         → (count : ℕ) × (output ≡ held ++ take count (text_of base input))
     encoded_front has = (begun _ name Encode refl _ _ _ _ has base known).of_all
 
     -- bytes were written that the text means
-    pub decoded : Done (codes "decode" ∷ name ∷ []) (Some input) (Some rest) (Some held)
-        (Some output)
+    pub decoded : Done (codes "decode" ∷ name ∷ []) (from_to (Some input) (Some rest))
+        (from_to (Some held) (Some output))
         → (bytes : List ℕ) × Means base input bytes × (output ≡ held ++ bytes)
     decoded done =
         let answers = fulfilled _ name Decode refl _ _ _ done.fulfils base known in
@@ -167,14 +172,14 @@ module _ (name input rest held output : List ℕ) where
         )
 
     -- a prefix of the sound bytes was written
-    pub decoded_front : Begun (codes "decode" ∷ name ∷ []) (Some input) (Some rest) (Some held)
-        (Some output)
+    pub decoded_front : Begun (codes "decode" ∷ name ∷ []) (from_to (Some input) (Some rest))
+        (from_to (Some held) (Some output))
         → (count : ℕ) × (output ≡ held ++ take count (sound_bytes base input))
     decoded_front has = (begun _ name Decode refl _ _ _ _ has base known).of_all
 
     -- a text within the limit that is refused has a fault, and its sound bytes were written
-    pub not_decoded : Refused (codes "decode" ∷ name ∷ []) (Some input) (Some rest) (Some held)
-        (Some output)
+    pub not_decoded : Refused (codes "decode" ∷ name ∷ []) (from_to (Some input) (Some rest))
+        (from_to (Some held) (Some output))
         → length input ≤ limit_of Decode
         → IsSome (fault_of base input) × (output ≡ held ++ sound_bytes base input)
     not_decoded refused fits =
@@ -186,8 +191,8 @@ module _ (name input rest held output : List ℕ) where
         )
 
     -- a sound text within the limit is not refused
-    pub sound : Refused (codes "decode" ∷ name ∷ []) (Some input) (Some rest) (Some held)
-        (Some output)
+    pub sound : Refused (codes "decode" ∷ name ∷ []) (from_to (Some input) (Some rest))
+        (from_to (Some held) (Some output))
         → fault_of base input ≡ None → length input ≤ limit_of Decode → ⊥
     sound refused none fits =
         let has_fault = not_decoded refused fits in

@@ -12,6 +12,7 @@ use Rattle.data_encoding.specs.Text.{text_of}
 use Rattle.encoding_stream.specs.Decoded.{DecodesAll}
 use Rattle.data_encoding.specs.Predefined.{hexlower_fields, base64_fields}
 use Rattle.encoding_stream.specs.declared.error.StreamFault.TheVariants.{Decode as DecodeFault, TooLong, Read, Write}
+use Rattle.encoding_stream.specs.Watch.{from_to}
 use Rattle.basecode.specs.declared.command.Ask.TheVariants.{Conversion, Question}
 use Rattle.basecode.specs.declared.command.Request.TheVariants.{List as ListRequested}
 use Rattle.basecode.specs.declared.command.Verb.TheVariants.{Encode, Decode}
@@ -88,8 +89,8 @@ encoded_in : (base : Base) → Asks words (Conversion Encode) base
     → text_of base (codes "Hello") ≡ codes "SGVsbG8="
     → IsAnswer Encode base (codes "Hello") (codes "SGVsbG8=")
     × Answers Encode base hello nothing (codes "SGVsbG8=")
-    × Converts Encode base hello nothing nothing (Some (codes "SGVsbG8="))
-    × Done words hello nothing nothing (Some (codes "SGVsbG8="))
+    × Converts Encode base (from_to hello nothing) (from_to nothing (Some (codes "SGVsbG8=")))
+    × Done words (from_to hello nothing) (from_to nothing (Some (codes "SGVsbG8=")))
 encoded_in base asks h =
     let answers : Answers Encode base hello nothing (codes "SGVsbG8=") =
     record { input = codes "Hello"; read = refl; at_end = refl; is_answer = sym h } in (
@@ -108,8 +109,8 @@ encoded_hello :
     Has base64_fields (λ base.
     IsAnswer Encode base (codes "Hello") (codes "SGVsbG8=")
     × Answers Encode base hello nothing (codes "SGVsbG8=")
-    × Converts Encode base hello nothing nothing (Some (codes "SGVsbG8="))
-    × Done words hello nothing nothing (Some (codes "SGVsbG8=")))
+    × Converts Encode base (from_to hello nothing) (from_to nothing (Some (codes "SGVsbG8=")))
+    × Done words (from_to hello nothing) (from_to nothing (Some (codes "SGVsbG8="))))
 encoded_hello = encoded_in _ asked refl
 
 told_in : (base : Base) → Asks question Question base
@@ -148,30 +149,33 @@ replied =
 begun_in : (base : Base) → Asks words (Conversion Encode) base
     → take 2 (text_of base (codes "Hel")) ≡ codes "SG"
     → take 2 (text_of base (codes "Hello")) ≡ codes "SG"
-    → Begins Encode base hello (Some (codes "lo")) nothing (Some (codes "SG"))
-    × BeginsAnswer words hello (Some (codes "lo")) nothing (Some (codes "SG"))
-    × Begun words hello (Some (codes "lo")) nothing (Some (codes "SG"))
+    → Begins Encode base (from_to hello (Some (codes "lo"))) (from_to nothing (Some (codes "SG")))
+    × BeginsAnswer words (from_to hello (Some (codes "lo"))) (from_to nothing (Some (codes "SG")))
+    × Begun words (from_to hello (Some (codes "lo"))) (from_to nothing (Some (codes "SG")))
 begun_in base asks front whole =
-    let begins : Begins Encode base hello (Some (codes "lo")) nothing (Some (codes "SG")) =
+    let begins : Begins Encode base (from_to hello (Some (codes "lo")))
+    (from_to nothing (Some (codes "SG"))) =
     record {
       bytes = codes "Hel";
       read = refl;
       written = (2, sym front);
       of_all = (2, sym whole);
     } in
-    let answer : BeginsAnswer words hello (Some (codes "lo")) nothing (Some (codes "SG")) =
+    let answer : BeginsAnswer words (from_to hello (Some (codes "lo")))
+    (from_to nothing (Some (codes "SG"))) =
     record { verb = Encode; base = base; asked = asks; begins = begins } in
     (begins, answer, record { is_begun = inl answer })
 
 -- a prefix of a text, and of a reply
 begun :
     Has base64_fields (λ base.
-    Begins Encode base hello (Some (codes "lo")) nothing (Some (codes "SG"))
-    × BeginsAnswer words hello (Some (codes "lo")) nothing (Some (codes "SG"))
-    × Begun words hello (Some (codes "lo")) nothing (Some (codes "SG")))
+    Begins Encode base (from_to hello (Some (codes "lo"))) (from_to nothing (Some (codes "SG")))
+    × BeginsAnswer words (from_to hello (Some (codes "lo"))) (from_to nothing (Some (codes "SG")))
+    × Begun words (from_to hello (Some (codes "lo"))) (from_to nothing (Some (codes "SG"))))
 begun = begun_in _ asked refl refl
 
-reply_begun : BeginsReply (codes "list" ∷ []) hello hello nothing (Some (codes "HEX"))
+reply_begun : BeginsReply (codes "list" ∷ []) (from_to hello hello)
+    (from_to nothing (Some (codes "HEX")))
 reply_begun = record { output = listing; replies = OfNames refl refl refl; written = (3, refl) }
 
 abbrev symbol_at_4 : DecodeError
@@ -180,22 +184,25 @@ symbol_at_4 = record { position = 4; kind = Symbol }
 refused_in : (base : Base) → Asks words_back (Conversion Decode) base
     → fault_of base (codes "SGVs!G8=") ≡ Some symbol_at_4
     → sound_bytes base (codes "SGVs!G8=") ≡ codes "Hel"
-    → DecodesFaulty Decode base (Some (codes "SGVs!G8=")) nothing nothing (Some (codes "Hel"))
-    × Explains Decode base (Some (codes "SGVs!G8=")) nothing nothing (Some (codes "Hel"))
+    → DecodesFaulty Decode base (from_to (Some (codes "SGVs!G8=")) nothing)
+    (from_to nothing (Some (codes "Hel")))
+    × Explains Decode base (from_to (Some (codes "SGVs!G8=")) nothing)
+    (from_to nothing (Some (codes "Hel")))
     (DecodeFault symbol_at_4)
-    × Refused words_back (Some (codes "SGVs!G8=")) nothing nothing (Some (codes "Hel"))
+    × Refused words_back (from_to (Some (codes "SGVs!G8=")) nothing)
+    (from_to nothing (Some (codes "Hel")))
     × AskConversion words_back
 refused_in base asks is_fault are_bytes =
-    let decodes : DecodesAll base (Some symbol_at_4) (Some (codes "SGVs!G8=")) nothing nothing
-    (Some (codes "Hel")) = record {
+    let decodes : DecodesAll base (Some symbol_at_4) (from_to (Some (codes "SGVs!G8=")) nothing)
+    (from_to nothing (Some (codes "Hel"))) = record {
       text = codes "SGVs!G8=";
       read = refl;
       at_end = refl;
       fault_is = is_fault;
       written = sym are_bytes;
     } in
-    let faulty : DecodesFaulty Decode base (Some (codes "SGVs!G8=")) nothing nothing
-    (Some (codes "Hel")) =
+    let faulty : DecodesFaulty Decode base (from_to (Some (codes "SGVs!G8=")) nothing)
+    (from_to nothing (Some (codes "Hel"))) =
     record { error = symbol_at_4; is_decoding = refl; decodes = decodes } in (
       faulty,
       (refl, decodes),
@@ -206,10 +213,13 @@ refused_in base asks is_fault are_bytes =
 -- a text with a fault, and the bytes before it
 refused :
     Has base64_fields (λ base.
-    DecodesFaulty Decode base (Some (codes "SGVs!G8=")) nothing nothing (Some (codes "Hel"))
-    × Explains Decode base (Some (codes "SGVs!G8=")) nothing nothing (Some (codes "Hel"))
+    DecodesFaulty Decode base (from_to (Some (codes "SGVs!G8=")) nothing)
+    (from_to nothing (Some (codes "Hel")))
+    × Explains Decode base (from_to (Some (codes "SGVs!G8=")) nothing)
+    (from_to nothing (Some (codes "Hel")))
     (DecodeFault symbol_at_4)
-    × Refused words_back (Some (codes "SGVs!G8=")) nothing nothing (Some (codes "Hel"))
+    × Refused words_back (from_to (Some (codes "SGVs!G8=")) nothing)
+    (from_to nothing (Some (codes "Hel")))
     × AskConversion words_back)
 refused = refused_in _ asked_back refl refl
 

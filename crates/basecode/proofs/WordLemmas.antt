@@ -10,6 +10,7 @@ use Rattle.data_encoding.specs.Fields.{Fields, base_of}
 use Rattle.data_encoding.specs.Base.{Base}
 use Rattle.data_encoding.specs.Canonical.{IsCanonical}
 use Rattle.data_encoding.specs.Named.{fields_named, IsNamed}
+use Rattle.encoding_stream.specs.Watch.{from_to}
 use Rattle.basecode.specs.Faults.{printed_word_fault}
 use Rattle.basecode.specs.Words.{AreRequest, Asks, IsWrong, Names, Of, Request, Task, ask_of, both, texts}
 use Rattle.basecode.specs.Run.{Answers, Begins, Begun, ByAnswer, ByReply, Done, Fulfils, OfNames, OfQuestion, Replies, TellsCanonical, truth}
@@ -160,13 +161,14 @@ module _ (word name : List ℕ) (given : Verb) (asks : ask_of word ≡ Some (Con
 
   -- what has begun is that conversion
   pub begun : (read_old read_new written_old written_new : Option (List ℕ))
-      → Begun (word ∷ name ∷ []) read_old read_new written_old written_new
+      → Begun (word ∷ name ∷ []) (from_to read_old read_new) (from_to written_old written_new)
       → (base : Base) → IsNamed name base
-      → Begins given base read_old read_new written_old written_new
+      → Begins given base (from_to read_old read_new) (from_to written_old written_new)
   begun read_old read_new written_old written_new has =
       elim has.is_begun [
         | inl answer ↦
-            same_task (λ v b. Begins v b read_old read_new written_old written_new) answer.verb
+            same_task (λ v b. Begins v b (from_to read_old read_new)
+            (from_to written_old written_new)) answer.verb
             answer.base answer.asked answer.begins
         | inr reply ↦ absurd (no_reply read_old read_new reply.output reply.replies)
       ]
@@ -186,7 +188,7 @@ module _ (name : List ℕ) (base : Base) (known : IsNamed name base) where
 
   -- what was written says so
   pub canonical_told : (old new : Option (List ℕ)) (line : List ℕ)
-      → Done (codes "canonical" ∷ name ∷ []) old new (Some []) (Some line)
+      → Done (codes "canonical" ∷ name ∷ []) (from_to old new) (from_to (Some []) (Some line))
       → TellsCanonical base line
   canonical_told old new line done =
       subst (TellsCanonical base) (sym done.written)

@@ -8,7 +8,7 @@ use Rattle.data_encoding.specs.Text.{text_of}
 use Rattle.data_encoding.specs.declared.error.DecodeError.{DecodeError}
 use Rattle.encoding_stream.specs.Decoded.{DecodesAll, DecodesFront}
 use Rattle.encoding_stream.specs.Encoded.{EncodesAll, EncodesFront, ReadsMore}
-use Rattle.encoding_stream.specs.Watch.{AppendsFront}
+use Rattle.encoding_stream.specs.Watch.{AppendsFront, Change}
 use Rattle.encoding_stream.specs.declared.error.StreamFault.{StreamFault}
 use Rattle.encoding_stream.specs.declared.error.StreamFault.TheVariants.{Decode as DecodeFault, TooLong}
 use Rattle.basecode.specs.declared.command.Ask.TheVariants.{Conversion, Question}
@@ -32,30 +32,27 @@ pub record Answers (verb : Verb) (base : Base) (old new : Option (List ℕ)) (ou
 
 -- A stream has read the input to its end and written its text, or the sound bytes of a text without
 -- a fault.
-abbrev pub Converts : Verb → Base → Option (List ℕ) → Option (List ℕ) → Option (List ℕ)
-    → Option (List ℕ) → Type 0
-Converts Encode base read_old read_new written_old written_new =
-    EncodesAll base read_old read_new written_old written_new
-Converts Decode base read_old read_new written_old written_new =
-    DecodesAll base None read_old read_new written_old written_new
+abbrev pub Converts : Verb → Base → Change → Change → Type 0
+Converts Encode base reader writer =
+    EncodesAll base reader writer
+Converts Decode base reader writer =
+    DecodesAll base None reader writer
 
 -- A prefix of the text, or of the sound bytes, of what was read was written.
-abbrev pub Begins : Verb → Base → Option (List ℕ) → Option (List ℕ) → Option (List ℕ)
-    → Option (List ℕ) → Type 0
-Begins Encode base read_old read_new written_old written_new =
-    EncodesFront base read_old read_new written_old written_new
-Begins Decode base read_old read_new written_old written_new =
-    DecodesFront base read_old read_new written_old written_new
+abbrev pub Begins : Verb → Base → Change → Change → Type 0
+Begins Encode base reader writer =
+    EncodesFront base reader writer
+Begins Decode base reader writer =
+    DecodesFront base reader writer
 
 -- What a fault of an input says: the whole text has it and its sound bytes were written, or more
 -- than the limit was read.
-abbrev pub Explains : Verb → Base → Option (List ℕ) → Option (List ℕ) → Option (List ℕ)
-    → Option (List ℕ) → StreamFault → Type 0
-Explains verb base read_old read_new written_old written_new (DecodeFault error) =
-    (verb ≡ Decode) × DecodesAll base (Some error) read_old read_new written_old written_new
-Explains verb base read_old read_new written_old written_new TooLong =
-    ReadsMore (limit_of verb) read_old read_new
-Explains verb base read_old read_new written_old written_new _ = ⊤
+abbrev pub Explains : Verb → Base → Change → Change → StreamFault → Type 0
+Explains verb base reader writer (DecodeFault error) =
+    (verb ≡ Decode) × DecodesAll base (Some error) reader writer
+Explains verb base reader writer TooLong =
+    ReadsMore (limit_of verb) reader
+Explains verb base reader writer _ = ⊤
 
 -- the line that answers a question
 abbrev pub truth : Bool → List ℕ
@@ -84,48 +81,42 @@ pub data Fulfils (words : List (List ℕ)) (old new : Option (List ℕ)) (output
   ByReply : Replies words old new output → Fulfils words old new output
 
 -- What the arguments ask for was written.
-pub record Done (words : List (List ℕ))
-    (read_old read_new written_old written_new : Option (List ℕ)) : Type 0 where
+pub record Done (words : List (List ℕ)) (reader writer : Change) : Type 0 where
   pub output : List ℕ
-  pub fulfils : Fulfils words read_old read_new output
-  pub written : Appends written_old written_new output
+  pub fulfils : Fulfils words reader.old reader.new output
+  pub written : Appends writer.old writer.new output
 
 -- The arguments ask for a conversion, and a prefix of its output was written.
-pub record BeginsAnswer (words : List (List ℕ))
-    (read_old read_new written_old written_new : Option (List ℕ)) : Type 0 where
+pub record BeginsAnswer (words : List (List ℕ)) (reader writer : Change) : Type 0 where
   pub verb : Verb
   pub base : Base
   pub asked : Asks words (Conversion verb) base
-  pub begins : Begins verb base read_old read_new written_old written_new
+  pub begins : Begins verb base reader writer
 
 -- The arguments ask for a reply, and a prefix of it was written.
-pub record BeginsReply (words : List (List ℕ))
-    (read_old read_new written_old written_new : Option (List ℕ)) : Type 0 where
+pub record BeginsReply (words : List (List ℕ)) (reader writer : Change) : Type 0 where
   pub output : List ℕ
-  pub replies : Replies words read_old read_new output
-  pub written : AppendsFront written_old written_new output
+  pub replies : Replies words reader.old reader.new output
+  pub written : AppendsFront writer.old writer.new output
 
 -- A prefix of what the arguments ask for was written.
-pub record Begun (words : List (List ℕ))
-    (read_old read_new written_old written_new : Option (List ℕ)) : Type 0 where
-  pub is_begun : BeginsAnswer words read_old read_new written_old written_new
-      ⊎ BeginsReply words read_old read_new written_old written_new
+pub record Begun (words : List (List ℕ)) (reader writer : Change) : Type 0 where
+  pub is_begun : BeginsAnswer words reader writer
+      ⊎ BeginsReply words reader writer
 
 -- A text to decode was read to its end and has a fault; its sound bytes were written.
-pub record DecodesFaulty (verb : Verb) (base : Base)
-    (read_old read_new written_old written_new : Option (List ℕ)) : Type 0 where
+pub record DecodesFaulty (verb : Verb) (base : Base) (reader writer : Change) : Type 0 where
   pub error : DecodeError
   pub is_decoding : verb ≡ Decode
-  pub decodes : DecodesAll base (Some error) read_old read_new written_old written_new
+  pub decodes : DecodesAll base (Some error) reader writer
 
 -- The arguments ask for a conversion of an input that is too long, or whose text has a fault.
-pub record Refused (words : List (List ℕ))
-    (read_old read_new written_old written_new : Option (List ℕ)) : Type 0 where
+pub record Refused (words : List (List ℕ)) (reader writer : Change) : Type 0 where
   pub verb : Verb
   pub base : Base
   pub asked : Asks words (Conversion verb) base
-  pub reason : ReadsMore (limit_of verb) read_old read_new
-      ⊎ DecodesFaulty verb base read_old read_new written_old written_new
+  pub reason : ReadsMore (limit_of verb) reader
+      ⊎ DecodesFaulty verb base reader writer
 
 -- The arguments ask for a conversion.
 pub record AskConversion (words : List (List ℕ)) : Type 0 where

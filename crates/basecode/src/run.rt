@@ -4,7 +4,7 @@ ghost use Rattle.std.specs.Prelude.{◌≡◌, ◌≢◌, ◌≤◌, ◌↔◌, 
 ghost use Rattle.std.specs.Io.KnownBytes.{Appends};
 ghost use Rattle.basecode.specs.Faults.{status_after};
 ghost use Rattle.basecode.specs.Run.{AskConversion, Begins, Begun, Converts, Done, Explains, Refused, TellsCanonical};
-ghost use Rattle.encoding_stream.specs.Watch.{AppendsFront, has_failed, inner_of};
+ghost use Rattle.encoding_stream.specs.Watch.{AppendsFront, has_failed, inner_of, seen};
 ghost use Rattle.basecode.specs.Words.{request_of, texts};
 
 use crate::command::{Ask, Request, Verb, request_named};
@@ -41,11 +41,9 @@ pub fn run<R: Read, W: Write, F: Write>(
     requires writer_works { has_failed writer.old ≡ false }
     ensures status { result ≤ 3 }
     ensures done { result ≡ 0 → Done (texts words.now)
-        (R.remaining (inner_of reader.old)) (R.remaining (inner_of reader.new))
-        (W.contents (inner_of writer.old)) (W.contents (inner_of writer.new)) }
+        (seen R.remaining reader.old reader.new) (seen W.contents writer.old writer.new) }
     ensures refused { result ≡ 1 → Refused (texts words.now)
-        (R.remaining (inner_of reader.old)) (R.remaining (inner_of reader.new))
-        (W.contents (inner_of writer.old)) (W.contents (inner_of writer.new)) }
+        (seen R.remaining reader.old reader.new) (seen W.contents writer.old writer.new) }
     ensures usage { (result ≡ 2) ↔ (request_of (texts words.now) ≡ None) }
     ensures untouched { result ≡ 2 → (reader.new ≡ reader.old) × (writer.new ≡ writer.old) }
     ensures failed { (result ≡ 3)
@@ -54,8 +52,7 @@ pub fn run<R: Read, W: Write, F: Write>(
     // Only a conversion reads, and only what was asked for is written.
     ensures reads { IsTrue (has_failed reader.new) → AskConversion (texts words.now) }
     ensures begun { result ≢ 2 → Begun (texts words.now)
-        (R.remaining (inner_of reader.old)) (R.remaining (inner_of reader.new))
-        (W.contents (inner_of writer.old)) (W.contents (inner_of writer.new)) }
+        (seen R.remaining reader.old reader.new) (seen W.contents writer.old writer.new) }
 {
     match request_named(words) {
         Ok(Request::List) => settle(send(predefined_names().as_bytes(), writer), faults),
@@ -107,16 +104,13 @@ fn convert<R: Read, W: Write>(
     requires reader_works { has_failed reader.old ≡ false }
     requires writer_works { has_failed writer.old ≡ false }
     ensures done { OnOk result (Converts verb encoding.now
-        (R.remaining (inner_of reader.old)) (R.remaining (inner_of reader.new))
-        (W.contents (inner_of writer.old)) (W.contents (inner_of writer.new))) }
+        (seen R.remaining reader.old reader.new) (seen W.contents writer.old writer.new)) }
     ensures fault { IfErr result (Explains verb encoding.now
-        (R.remaining (inner_of reader.old)) (R.remaining (inner_of reader.new))
-        (W.contents (inner_of writer.old)) (W.contents (inner_of writer.new))) }
+        (seen R.remaining reader.old reader.new) (seen W.contents writer.old writer.new)) }
     ensures read { (result ≡ Err StreamFault.Read) ↔ IsTrue (has_failed reader.new) }
     ensures write { (result ≡ Err StreamFault.Write) ↔ IsTrue (has_failed writer.new) }
     ensures begun { Begins verb encoding.now
-        (R.remaining (inner_of reader.old)) (R.remaining (inner_of reader.new))
-        (W.contents (inner_of writer.old)) (W.contents (inner_of writer.new)) }
+        (seen R.remaining reader.old reader.new) (seen W.contents writer.old writer.new) }
 {
     match verb {
         Verb::Encode => encode_stream(encoding, reader, writer),

@@ -8,3 +8,4 @@ pub mod RewrittenLemmas
 pub mod ResumedLemmas
 pub mod LowerLemmas
 pub mod KeyLemmas
+mod Vectors

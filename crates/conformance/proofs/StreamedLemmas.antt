@@ -8,6 +8,7 @@ use Rattle.data_encoding.specs.Fault.{fault_of, sound_bytes}
 use Rattle.encoding_stream.specs.Decoded.{DecodesAll}
 use Rattle.encoding_stream.specs.Appending.{AppendsDecoded}
 use Rattle.encoding_stream.specs.Pieces.{verdict_of}
+use Rattle.encoding_stream.specs.Watch.{from_to}
 
 -- the pieces so far, joined, and the next
 pub joined-more : {X : Type 0} (f : X → List ℕ) (xs : List X) (i : ℕ) (d : X) → i < length xs
@@ -35,7 +36,7 @@ no-fault-ok P (Some error) verdict is holds = subst (λ v. OnOk v P) (sym is) tt
 
 -- what a stream did with known bytes: the fault is that of all of them, and so are the sound bytes
 pub all-decoded : (base : Base) (fault : Option DecodeError) (text rest output : List ℕ)
-    → DecodesAll base fault (Some text) (Some rest) (Some []) (Some output)
+    → DecodesAll base fault (from_to (Some text) (Some rest)) (from_to (Some []) (Some output))
     → (fault_of base text ≡ fault) × (output ≡ sound_bytes base text)
 all-decoded base fault text rest output all =
     let whole : all.text ≡ text =

@@ -1,15 +1,15 @@
 //! Small functions of a user, each proved from the contracts of the calls that it makes.
 
-ghost use Rattle.std.specs.Prelude.{◌≡◌, ◌⊎◌, ◌↔◌, ◌<◌, ◌≤◌, ℕ, List, ◌++◌, length, is_some, is_ok, Err, Ok, IsTrue, IfErr, IfOk, IfSome, OnErr, OnOk};
+ghost use Rattle.std.specs.Prelude.{◌≡◌, ◌⊎◌, ◌↔◌, ◌<◌, ◌≤◌, ◌++◌, length, is_some, is_ok, Err, Ok, IsTrue, IfErr, IfOk, IfSome, OnErr, OnOk};
 ghost use Rattle.std.specs.String.{string_bytes};
-ghost use Rattle.data_encoding.specs.Base.{Base};
 ghost use Rattle.data_encoding.specs.Canonical.{IsCanonical};
 ghost use Rattle.data_encoding.specs.Fault.{IsRefusal};
 ghost use Rattle.data_encoding.specs.Fields.{base_of};
-ghost use Rattle.data_encoding.specs.Grammar.{Means};
 ghost use Rattle.data_encoding.specs.Lengths.{length_fault};
 ghost use Rattle.data_encoding.specs.Specification.{specified};
 ghost use Rattle.data_encoding.specs.Text.{text_of};
+ghost use Rattle.conformance.specs.Results.{fault_at, IsTooLong};
+ghost use Rattle.conformance.specs.Texts.{MeansSome};
 
 pub mod rewritten;
 
@@ -63,9 +63,8 @@ pub fn there_and_back(
 ) -> Result<Vec<u8>, Trouble>
     ensures same { IfOk result (λ bytes. bytes.items ≡ input.now) }
     ensures no_fault { (error : DecodeError) → result ≡ Err (Trouble.Fault error) → ⊥ }
-    ensures too_long { result ≡ Err Trouble.TooLong → (ENCODE_LIMIT < length input.now)
-        ⊎ ((base : Base) × (base_of (specified specification.now) ≡ Ok base)
-        × (DECODE_LIMIT < length (text_of base input.now))) }
+    ensures too_long { result ≡ Err Trouble.TooLong
+        → IsTooLong (specified specification.now) input.now }
 {
     let encoding = match specification.encoding() {
         Ok(encoding) => encoding,
@@ -90,7 +89,7 @@ pub fn there_and_back(
 
 /// Decodes a text with a byte that is no symbol, at position 1.
 pub fn no_symbol(alloc: Global) -> Result<Vec<u8>, DecodeFault>
-    ensures { (result ≡ Err (DecodeFault.Error (record { position = 1; kind = DecodeKind.Symbol })))
+    ensures { (result ≡ Err (fault_at 1 DecodeKind.Symbol))
         ⊎ (result ≡ Err DecodeFault.OutOfMemory) }
 {
     hexlower().decode(alloc, b"4G")
@@ -98,7 +97,7 @@ pub fn no_symbol(alloc: Global) -> Result<Vec<u8>, DecodeFault>
 
 /// Decodes a text of an odd length, which is judged before memory is allocated.
 pub fn odd_length(alloc: Global) -> Result<Vec<u8>, DecodeFault>
-    ensures { result ≡ Err (DecodeFault.Error (record { position = 2; kind = DecodeKind.Length })) }
+    ensures { result ≡ Err (fault_at 2 DecodeKind.Length) }
 {
     hexlower().decode(alloc, b"4G4")
 }
@@ -189,7 +188,7 @@ pub fn data_of_token(
 ) -> Result<Option<Vec<u8>>, AllocError>
     requires limit { length token.now ≤ DECODE_LIMIT }
     ensures some { IfOk result (λ found. IsTrue (is_some found)
-        ↔ (IsCanonical encoding.now × ((bytes : List ℕ) × Means encoding.now token.now bytes))) }
+        ↔ (IsCanonical encoding.now × MeansSome encoding.now token.now)) }
     ensures only { IfOk result (λ found. IfSome found
         (λ bytes. token.now ≡ text_of encoding.now bytes.items)) }
     ensures refusal { OnErr result (IsRefusal encoding.now token.now DecodeFault.OutOfMemory) }

@@ -6,8 +6,9 @@ ghost use Rattle.data_encoding.specs.Base.{Base};
 ghost use Rattle.data_encoding.specs.Fields.{IsSpecified};
 ghost use Rattle.data_encoding.specs.Plain.{base_of_plain};
 ghost use Rattle.encoding_stream.specs.Blocks.{HasWritten};
-ghost use Rattle.data_encoding_calls.specs.Blocks.{EncodesPiece, EndsData, TellsDue};
+ghost use Rattle.data_encoding_calls.specs.Blocks.{EndsData, TellsDue};
 ghost use Rattle.data_encoding_calls.specs.Calls.{ByNumber};
+ghost use Rattle.data_encoding_calls.specs.Numbered.{EncodesPieceByHeld, EncodesPieceByNumber, EndsDataByNumber};
 
 use data_encoding::PlainEncoding;
 use data_encoding_calls::{
@@ -48,11 +49,8 @@ pub extern "C" fn de_numbered_encoder_read(
     output: &mut [u8],
     written: &mut usize,
 ) -> u32
-    ensures { ByNumber number result
-        ((encoder.new ≡ encoder.old) × (output.new ≡ output.old) × (written.new ≡ written.old))
-        (λ base. EncodesPiece base piece.now
-        (record { encoder = encoder.old; output = output.old; written = written.old })
-        (record { encoder = encoder.new; output = output.new; written = written.new }) result) }
+    ensures { EncodesPieceByNumber number piece.now encoder.old encoder.new output.old output.new
+        written.old written.new result }
 {
     numbered_encoder_read(number, encoder, piece, output, written)
 }
@@ -66,8 +64,8 @@ pub extern "C" fn de_numbered_encoder_finish(
     output: &mut [u8],
     written: &mut usize,
 ) -> u32
-    ensures { ByNumber number result ((output.new ≡ output.old) × (written.new ≡ written.old))
-        (λ base. EndsData base encoder.now output.old output.new written.old written.new result) }
+    ensures { EndsDataByNumber number encoder.now output.old output.new written.old written.new
+        result }
 {
     numbered_encoder_finish(number, encoder, output, written)
 }
@@ -95,9 +93,8 @@ pub extern "C" fn de_held_encoder_read(
     output: &mut [u8],
     written: &mut usize,
 ) -> u32
-    ensures { EncodesPiece (base_of_plain held.now) piece.now
-        (record { encoder = encoder.old; output = output.old; written = written.old })
-        (record { encoder = encoder.new; output = output.new; written = written.new }) result }
+    ensures { EncodesPieceByHeld held.now piece.now encoder.old encoder.new output.old output.new
+        written.old written.new result }
 {
     held_encoder_read(held, encoder, piece, output, written)
 }

@@ -3,7 +3,8 @@
 ghost use Rattle.std.specs.Prelude.{◌≡◌};
 ghost use Rattle.data_encoding.specs.Plain.{base_of_plain};
 ghost use Rattle.data_encoding_calls.specs.Calls.{ByNumber};
-ghost use Rattle.data_encoding_calls.specs.Facts.{GivesBack, TellsAlignment, TellsWidth};
+ghost use Rattle.data_encoding_calls.specs.Facts.{TellsAlignment, TellsWidth};
+ghost use Rattle.data_encoding_calls.specs.Numbered.{GivesBackByHeld, GivesBackByNumber};
 
 use data_encoding::PlainEncoding;
 use data_encoding_calls::{
@@ -56,11 +57,8 @@ pub extern "C" fn de_numbered_specification(
     lengths: &mut TextLengths,
     texts: &mut [u8],
 ) -> u32
-    ensures { ByNumber number result
-        ((form.new ≡ form.old) × (lengths.new ≡ lengths.old) × (texts.new ≡ texts.old))
-        (λ base. GivesBack base
-        (record { form = form.old; lengths = lengths.old; texts = texts.old })
-        (record { form = form.new; lengths = lengths.new; texts = texts.new }) result) }
+    ensures { GivesBackByNumber number form.old form.new lengths.old lengths.new
+        texts.old texts.new result }
 {
     numbered_specification(number, form, lengths, texts)
 }
@@ -74,9 +72,8 @@ pub extern "C" fn de_held_specification(
     lengths: &mut TextLengths,
     texts: &mut [u8],
 ) -> u32
-    ensures { GivesBack (base_of_plain held.now)
-        (record { form = form.old; lengths = lengths.old; texts = texts.old })
-        (record { form = form.new; lengths = lengths.new; texts = texts.new }) result }
+    ensures { GivesBackByHeld held.now form.old form.new lengths.old lengths.new
+        texts.old texts.new result }
 {
     held_specification(held, form, lengths, texts)
 }

@@ -1,7 +1,8 @@
 //! Calls with the number of a predefined encoding.
 
 ghost use Rattle.std.specs.Prelude.{◌≡◌};
-ghost use Rattle.data_encoding_calls.specs.Calls.{ByNumber, Decodes, Encodes, TellsCanonical, TellsMost, TellsTextLength};
+ghost use Rattle.data_encoding_calls.specs.Calls.{ByNumber, TellsCanonical, TellsMost, TellsTextLength};
+ghost use Rattle.data_encoding_calls.specs.Numbered.{DecodesByNumber, EncodesByNumber};
 
 use data_encoding_calls::{
     Decoded, numbered_decode, numbered_decode_len, numbered_encode, numbered_encode_len,
@@ -25,8 +26,8 @@ pub extern "C" fn de_numbered_encode(
     output: &mut [u8],
     written: &mut usize,
 ) -> u32
-    ensures { ByNumber number result ((output.new ≡ output.old) × (written.new ≡ written.old))
-        (λ base. Encodes base input.now output.old output.new written.old written.new result) }
+    ensures { EncodesByNumber number input.now output.old output.new written.old written.new
+        result }
 {
     numbered_encode(number, input, output, written)
 }
@@ -49,8 +50,8 @@ pub extern "C" fn de_numbered_decode(
     output: &mut [u8],
     decoded: &mut Decoded,
 ) -> u32
-    ensures { ByNumber number result ((output.new ≡ output.old) × (decoded.new ≡ decoded.old))
-        (λ base. Decodes base input.now output.old output.new decoded.old decoded.new result) }
+    ensures { DecodesByNumber number input.now output.old output.new decoded.old decoded.new
+        result }
 {
     numbered_decode(number, input, output, decoded)
 }

@@ -1,12 +1,12 @@
 -- Data in pieces, of which a caller keeps plain numbers: which status is returned.
-use Rattle.std.proofs.Common.{◌≡◌, nat_lt, ℕ, ◌<◌, ◌≤◌, Bool, if◌then◌else◌, List, ◌++◌, length, take, drop, length-take-le, refl, sym, ap, ◌∙◌, subst, arith, take-append-drop}
+use Rattle.std.proofs.Common.{◌≡◌, nat_lt, ℕ, ◌<◌, ◌≤◌, Bool, if◌then◌else◌, List, ◌++◌, length, take, drop, length-take-le, refl, sym, ap, ◌∙◌, take-append-drop}
 use Rattle.std.proofs.lemmas.Bool.{le-ltb, lt-ltb}
 use Rattle.data_encoding.specs.Base.{Base}
 use Rattle.data_encoding.specs.Lengths.{alignment}
 use Rattle.data_encoding.specs.Text.{text_of}
 use Rattle.encoding_stream.specs.declared.kept_data.KeptData.{KeptData}
-use Rattle.encoding_stream.specs.Blocks.{held_data}
-use Rattle.data_encoding_calls.specs.Blocks.{if_kept, last_text, piece_status, piece_text, DataPlaces, EncodesPiece}
+use Rattle.encoding_stream.specs.Blocks.{held_data, piece_text}
+use Rattle.data_encoding_calls.specs.Blocks.{if_kept, last_text, piece_status, DataPlaces, EncodesPiece}
 use Rattle.data_encoding_calls.specs.Calls.{front_status, over}
 use Rattle.data_encoding_calls.specs.Status.{no_encoder, ok, too_long}
 
@@ -40,7 +40,7 @@ module _ (base : Base) (kept : KeptData) (piece : List ℕ) (room : ℕ)
       (front_status (piece_text base kept piece) room) few
       ∙ if-short base kept (piece_status base kept piece room) short
 
--- how long the text of a piece is, of what is told of one by the same encoding, behind the same
+-- how long the text of a piece is, of what is told of one by the same encoding, after the same
 pub due-len : {b base : Base} {k kept : KeptData} (piece : List ℕ) (due : ℕ) → b ≡ base → k ≡ kept
     → length (piece_text b k piece) ≡ due → length (piece_text base kept piece) ≡ due
 due-len piece due base_is kept_is told = let value = rw base_is at told in rw kept_is at value

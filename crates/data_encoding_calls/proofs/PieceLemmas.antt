@@ -93,7 +93,7 @@ refuses base piece places answer refused status = record {
   stands = λ is. absurd (refused is);
   decodes = λ is. absurd (refused is);
   within = λ is. absurd (refused is);
-  behind = λ is. absurd (refused is);
+  after = λ is. absurd (refused is);
   len = refl;
   refused = λ _. refl;
 }
@@ -138,7 +138,7 @@ kind-faulty Padding is = omega (arith, is)
 record IsFront (written : ℕ) (last old new : List ℕ) : Type 0 where
   pub front : take written new ≡ take written last
   pub within : written ≤ length new
-  pub behind : drop written new ≡ drop written old
+  pub after : drop written new ≡ drop written old
   pub len : length new ≡ length old
 
 copied-front : (written : ℕ) (last copied output : List ℕ) → written ≤ length last
@@ -160,7 +160,7 @@ copied-front written last copied output few inside is =
           ∙ take_all written copied (omega (arith, size))
           ∙ is;
       within = omega (arith, all, inside);
-      behind = drop-append-drop written output copied written (omega arith) size;
+      after = drop-append-drop written output copied written (omega arith) size;
       len = all;
     }
 
@@ -173,7 +173,7 @@ pub record EndsKept (base : Base) (plain : PlainKept) (old new : List ℕ) (read
       → sound_bytes base text ≡ whole_bytes base text ++ take written new
   pub read_is : (text : List ℕ) → StandsAfter base plain text → read ≡ length text
   pub within : written ≤ length new
-  pub behind : drop written new ≡ drop written old
+  pub after : drop written new ≡ drop written old
   pub len : length new ≡ length old
 
 -- what a decoder that keeps these numbers makes of the text
@@ -195,6 +195,6 @@ module _ {base : Base} {plain : PlainKept} {kept : Kept} (told : kept_told plain
         read_is = λ text stands.
             counted ∙ (stands-kept base plain kept text told stands).1.counted;
         within = front.within;
-        behind = front.behind;
+        after = front.after;
         len = front.len;
       }

@@ -1,5 +1,5 @@
 -- Worked rows of what calls return and write.
-use Rattle.std.proofs.Common.{◌≡◌, ◌∙◌, ◌⊎◌, ℕ, ◌≤◌, true, false, List, [], ◌∷◌, ◌++◌, map, length, drop, codes, replicate, Some, None, Result, Ok, Err, refl, zero, suc, sym, ap, subst, inl, inr, lit<, lit≤, arith}
+use Rattle.std.proofs.Common.{◌≡◌, ◌∙◌, ◌⊎◌, ℕ, true, false, List, [], ◌∷◌, ◌++◌, map, length, drop, codes, replicate, Some, None, Result, Ok, Err, refl, zero, suc, sym, ap, subst, inl, inr, lit<, lit≤, arith}
 use Rattle.std.proofs.lemmas.List.{append-nil}
 use Rattle.data_encoding.specs.declared.encoding.BitOrder.TheVariants.{MostSignificantFirst, LeastSignificantFirst}
 use Rattle.data_encoding.specs.declared.error.DecodeError.{DecodeError}
@@ -13,12 +13,14 @@ use Rattle.data_encoding.specs.Fields.{Fields, IsSpecified, base_of}
 use Rattle.data_encoding.specs.Grammar.{Means}
 use Rattle.data_encoding.specs.Layout.{layout}
 use Rattle.data_encoding.specs.Plain.{base_of_plain}
+use Rattle.data_encoding.specs.declared.plain.PlainEncoding.{PlainEncoding}
+use Rattle.data_encoding.specs.Named.{IsNumbered}
 use Rattle.data_encoding.specs.Pieces.{whole_bytes}
 use Rattle.data_encoding.specs.Predefined.{base64_fields, base64_mime_fields}
 use Rattle.data_encoding.specs.Text.{text_of}
 use Rattle.encoding_stream.specs.declared.kept_data.KeptData.{KeptData}
 use Rattle.encoding_stream.specs.declared.pieces.Kept.{Kept}
-use Rattle.encoding_stream.specs.Blocks.{EncodesOn, HasWritten}
+use Rattle.encoding_stream.specs.Blocks.{piece_text, EncodesOn, HasWritten}
 use Rattle.encoding_stream.specs.Pieces.{most_completed}
 use Rattle.encoding_stream.specs.Resume.{HoldsNoIgnored}
 use Rattle.data_encoding_calls.specs.declared.convert.Decoded.{Decoded}
@@ -26,12 +28,13 @@ use Rattle.data_encoding_calls.specs.declared.facts.TextLengths.{TextLengths}
 use Rattle.data_encoding_calls.specs.declared.make.Form.{Form}
 use Rattle.data_encoding_calls.specs.declared.make.Made.{Made}
 use Rattle.data_encoding_calls.specs.declared.pieces.PlainKept.{PlainKept}
-use Rattle.data_encoding_calls.specs.Blocks.{if_kept, last_text, piece_text, DataPlaces, EncodesPiece, EndsData, TellsDue}
+use Rattle.data_encoding_calls.specs.Blocks.{if_kept, last_text, DataPlaces, EncodesPiece, EndsData, TellsDue}
 use Rattle.data_encoding_calls.specs.Blocks.{piece_status as data_status}
 use Rattle.data_encoding_calls.specs.Calls.{decode_len_status, decode_status, encode_len_status, encode_status, front_status, over, status_by_len, status_of_len, ByNumber, Decodes, Encodes, HasStopped, TellsCanonical, TellsMost, TellsTextLength, WritesFront}
 use Rattle.data_encoding_calls.specs.Facts.{texts_of, AsksFor, GivesBack, SpecificationPlaces, TellsAlignment, TellsWidth}
 use Rattle.data_encoding_calls.specs.Held.{fields_asked, order_asked, padding_asked, Makes, MakesOfLayout}
 use Rattle.data_encoding_calls.specs.Names.{FindsNumber, WritesName}
+use Rattle.data_encoding_calls.specs.Numbered.{DecodesByNumber, EncodesByNumber, EncodesPieceByHeld, EncodesPieceByNumber, EndsDataByNumber, EndsTextByNumber, GivesBackByHeld, GivesBackByNumber, ReadsPieceByHeld, ReadsPieceByNumber}
 use Rattle.data_encoding_calls.specs.Pieces.{fault_at_position, fault_told, kept_told, kept_with, kind_told, length_status, piece_status, EndsText, MayBeGiven, Places, ReadsPiece, StandsAfter, TellsRoom}
 use Rattle.data_encoding_calls.proofs.NumberLemmas.{by-known, by-unknown}
 use Rattle.data_encoding_calls.specs.Status.{detail_of_refusal, no_decoder, no_encoder, no_encoding, ok, short_buffer, status_of_fault, status_of_kind, status_of_refusal, too_long, unknown_encoding}
@@ -186,7 +189,7 @@ text_decoded = (
     by_length = λ error few is. absurd (never-err is);
     fault = λ partial most few short. absurd (short refl);
     within = inl refl;
-    behind = λ most is. refl;
+    after = λ most is. refl;
   },
   λ means. record {
     status = refl;
@@ -197,7 +200,7 @@ text_decoded = (
     by_length = λ error few is. absurd (never-err is);
     fault = λ partial most few short due stopped. absurd (never-stopped stopped);
     within = inr (lit≤ tt);
-    behind = λ most is. behind_six most (same-most is);
+    after = λ most is. after_six most (same-most is);
   },
 ) where
   not_refused : (ok ≡ too_long) ⊎ (ok ≡ short_buffer) → ⊥
@@ -207,8 +210,8 @@ text_decoded = (
   never-stopped : {partial : DecodePartial} → None ≡ Some partial → ⊥
   never-stopped is = absurd (cc is)
 
-  behind_six : (most : ℕ) → 6 ≡ most → drop most (codes "Hello.") ≡ drop most (codes "......")
-  behind_six most is = subst (λ n. drop n (codes "Hello.") ≡ drop n (codes "......")) is refl
+  after_six : (most : ℕ) → 6 ≡ most → drop most (codes "Hello.") ≡ drop most (codes "......")
+  after_six most is = subst (λ n. drop n (codes "Hello.") ≡ drop n (codes "......")) is refl
 
 -- a text that has a fault by its length
 refused_by_length :
@@ -223,7 +226,7 @@ refused_by_length = record {
   by_length = λ error few is. (refl, ap (told 0 0) (ap position_of is));
   fault = λ partial most few short due. absurd (never-ok due);
   within = inr (lit≤ tt);
-  behind = λ most is. refl;
+  after = λ most is. refl;
 } where
   not_refused : (6 ≡ too_long) ⊎ (6 ≡ short_buffer) → ⊥
   not_refused (inl is) = absurd (cc is)
@@ -532,7 +535,7 @@ no_piece_read base fits = record {
       ap (λ those. whole_bytes base those) (append-nil text)
       ∙ sym (append-nil (whole_bytes base text));
   within = λ _. lit≤ tt;
-  behind = λ _ text stands. refl;
+  after = λ _ text stands. refl;
   len = refl;
   refused = λ no. absurd (no refl);
 }
@@ -551,7 +554,7 @@ numbers_refused base = (
     stands = λ is. absurd (cc is);
     decodes = λ is. absurd (cc is);
     within = λ is. absurd (cc is);
-    behind = λ is. absurd (cc is);
+    after = λ is. absurd (cc is);
     len = refl;
     refused = λ _. refl;
   },
@@ -565,7 +568,7 @@ numbers_refused base = (
     counted = λ no. absurd (no refl);
     inside = λ no. absurd (no refl);
     within = λ _ text stands. absurd (cc stands.told);
-    behind = refl;
+    after = refl;
     len = refl;
     short = λ is. absurd (cc is);
     refused = λ _. (refl, refl);
@@ -643,3 +646,68 @@ nothing_due (byte ∷ bytes) none = absurd (cc none)
 -- no data is due for a piece of no bytes
 due_told : Has base64_fields (λ base. TellsDue base data_so_far 0 7 0 ok)
 due_told = record { status = refl; value = λ _. nothing_due; refused = λ no. absurd (no refl) }
+
+-- BASE64 has the number 12
+twelve : Has base64_fields (λ base. IsNumbered 12 base)
+twelve = record { fields = base64_fields; is_known = refl; is_built = refl }
+
+done_by_number :
+    EncodesByNumber 12 (codes "Hello") (codes "..........") (codes "SGVsbG8=..") 7 8 ok
+    × DecodesByNumber 12 (codes "SGVsbG8=") (codes ".....") (codes ".....") (told 7 7 7)
+    (told 7 7 7) short_buffer
+    × EndsTextByNumber 12 plain_of_none (codes "...") (codes "...") (told 7 7 7) (told 7 7 7)
+    no_decoder
+    × EndsDataByNumber 12 whole_block (codes "....") (codes "....") 7 7 no_encoder
+    × ReadsPieceByNumber 12 (codes "8=") plain_of_none plain_of_none (codes "...") (codes "...")
+    7 7 no_decoder
+    × EncodesPieceByNumber 12 [] data_so_far data_so_far (codes "....") (codes "....") 7 0 ok
+done_by_number = (
+  by-known (λ base. Encodes base (codes "Hello") (codes "..........") (codes "SGVsbG8=..") 7 8 ok)
+      twelve hello_encoded,
+  by-known (λ base. Decodes base (codes "SGVsbG8=") (codes ".....") (codes ".....") (told 7 7 7)
+      (told 7 7 7) short_buffer) twelve text_decoded.0,
+  by-known (λ base. EndsText base plain_of_none (codes "...") (codes "...") (told 7 7 7)
+      (told 7 7 7) no_decoder) twelve (numbers_refused _).1,
+  by-known (λ base. EndsData base whole_block (codes "....") (codes "....") 7 7 no_encoder)
+      twelve data_refused.2,
+  by-known (λ base. ReadsPiece base (codes "8=") places_of_none places_of_none no_decoder)
+      twelve (numbers_refused _).0,
+  by-known (λ base. EncodesPiece base [] (places_with data_so_far 7) (places_with data_so_far 0)
+      ok) twelve piece_encoded,
+)
+
+-- no encoding has the number 18
+no_number : (plain : PlainKept) (kept : KeptData) (decoded : Decoded) (form : Form)
+    (lengths : TextLengths)
+    → EncodesByNumber 18 (codes "Hi") (codes ".") (codes ".") 7 7 unknown_encoding
+    × DecodesByNumber 18 (codes "SGk=") (codes ".") (codes ".") decoded decoded unknown_encoding
+    × EndsTextByNumber 18 plain (codes ".") (codes ".") decoded decoded unknown_encoding
+    × EndsDataByNumber 18 kept (codes ".") (codes ".") 7 7 unknown_encoding
+    × ReadsPieceByNumber 18 (codes "S") plain plain (codes ".") (codes ".") 7 7 unknown_encoding
+    × EncodesPieceByNumber 18 (codes "H") kept kept (codes ".") (codes ".") 7 7 unknown_encoding
+    × GivesBackByNumber 18 form form lengths lengths (codes ".") (codes ".") unknown_encoding
+no_number plain kept decoded form lengths = (
+  by-unknown refl (refl, refl),
+  by-unknown refl (refl, refl),
+  by-unknown refl (refl, refl),
+  by-unknown refl (refl, refl),
+  by-unknown refl (refl, refl, refl),
+  by-unknown refl (refl, refl, refl),
+  by-unknown refl (refl, refl, refl),
+)
+
+-- a caller holds BASE64
+done_by_held :
+    Has base64_fields (λ base. (held : PlainEncoding) → base_of_plain held ≡ base
+    → ReadsPieceByHeld held (codes "8=") plain_of_none plain_of_none (codes "...") (codes "...")
+    7 7 no_decoder
+    × EncodesPieceByHeld held [] data_so_far data_so_far (codes "....") (codes "....") 7 0 ok
+    × GivesBackByHeld held lines_form lines_form (places_of lines_form []).lengths
+    (places_of lines_form []).lengths [] [] short_buffer)
+done_by_held held is = (
+  (numbers_refused (base_of_plain held)).0,
+  subst (λ base. EncodesPiece base [] (places_with data_so_far 7) (places_with data_so_far 0) ok)
+      (sym is) piece_encoded,
+  subst (λ base. GivesBack base (places_of lines_form []) (places_of lines_form []) short_buffer)
+      (sym is) given_back.1,
+)

@@ -4,13 +4,9 @@ use Rattle.data_encoding.specs.Base.{Base}
 use Rattle.data_encoding.specs.Lengths.{alignment}
 use Rattle.data_encoding.specs.Text.{text_of}
 use Rattle.encoding_stream.specs.declared.kept_data.KeptData.{KeptData}
-use Rattle.encoding_stream.specs.Blocks.{after_blocks, held_data, text_of_blocks, EncodesOn, HasWritten}
+use Rattle.encoding_stream.specs.Blocks.{after_blocks, held_data, piece_text, EncodesOn, EndsBlocks}
 use Rattle.data_encoding_calls.specs.Calls.{encode_len_status, front_status, over}
 use Rattle.data_encoding_calls.specs.Status.{ok, too_long, no_encoder}
-
--- the text that is written for a piece
-abbrev pub piece_text : Base → KeptData → List ℕ → List ℕ
-piece_text base kept piece = text_of_blocks base (held_data kept ++ piece)
 
 -- the text of the bytes held
 abbrev pub last_text : Base → KeptData → List ℕ
@@ -62,6 +58,5 @@ pub record EndsData (base : Base) (kept : KeptData) (output_old output_new : Lis
       ≡ if_kept base kept (front_status (last_text base kept) (length output_old))
   pub text : answer ≡ ok → output_new ≡ over (last_text base kept) output_old
   pub written : answer ≡ ok → written_new ≡ length (last_text base kept)
-  pub whole : answer ≡ ok → (bytes text : List ℕ) → HasWritten base kept bytes text
-      → text_of base bytes ≡ text ++ last_text base kept
+  pub whole : answer ≡ ok → EndsBlocks base kept (last_text base kept)
   pub refused : (answer ≡ ok → ⊥) → (output_new ≡ output_old) × (written_new ≡ written_old)

@@ -113,7 +113,7 @@ pub record Decodes (base : Base) (text output_old output_new : List ℕ)
       → decoded_len base (length text) ≡ Ok most → partial_of base text ≡ Some partial
       → HasStopped base text output_new partial decoded_new
   pub within : (decoded_new ≡ decoded_old) ⊎ (decoded_new.written ≤ length output_new)
-  pub behind : (most : ℕ) → decoded_len base (length text) ≡ Ok most
+  pub after : (most : ℕ) → decoded_len base (length text) ≡ Ok most
       → drop most output_new ≡ drop most output_old
 
 -- A call wrote whether an encoding is canonical.

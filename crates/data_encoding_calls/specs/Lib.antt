@@ -5,3 +5,4 @@ pub mod Held
 pub mod Facts
 pub mod Blocks
 pub mod Names
+pub mod Numbered

@@ -1,5 +1,5 @@
 -- What calls about the names of the predefined encodings return and write.
-use Rattle.std.specs.Prelude.{◌≡◌, ℕ, ◌≤◌, List, length, Option, Some, None}
+use Rattle.std.specs.Prelude.{◌≡◌, ℕ, ◌≤◌, List, length, Some, None}
 use Rattle.data_encoding.specs.Named.{name_numbered, number_named}
 use Rattle.data_encoding_calls.specs.Calls.{WritesFront}
 use Rattle.data_encoding_calls.specs.Status.{ok, unknown_encoding, short_buffer}

@@ -99,7 +99,7 @@ pub record ReadsPiece (base : Base) (piece : List ℕ) (old new : Places) (answe
   pub decodes : answer ≡ ok → (text : List ℕ) → StandsAfter base old.decoder text
       → whole_bytes base (text ++ piece) ≡ whole_bytes base text ++ take new.written new.output
   pub within : answer ≡ ok → new.written ≤ length new.output
-  pub behind : answer ≡ ok → (text : List ℕ) (stands : StandsAfter base old.decoder text)
+  pub after : answer ≡ ok → (text : List ℕ) (stands : StandsAfter base old.decoder text)
       → drop (most_completed base stands.kept (length piece)) new.output
       ≡ drop (most_completed base stands.kept (length piece)) old.output
   pub len : length new.output ≡ length old.output
@@ -127,7 +127,7 @@ pub record EndsText (base : Base) (plain : PlainKept) (output_old output_new : L
       → decoded_new.position < decoded_new.read
   pub within : (answer ≡ short_buffer → ⊥) → (text : List ℕ) → StandsAfter base plain text
       → decoded_new.written ≤ length output_new
-  pub behind : drop decoded_new.written output_new ≡ drop decoded_new.written output_old
+  pub after : drop decoded_new.written output_new ≡ drop decoded_new.written output_old
   pub len : length output_new ≡ length output_old
   pub short : answer ≡ short_buffer → length output_old < 5
   pub refused : (answer ≡ no_decoder) ⊎ (answer ≡ short_buffer)

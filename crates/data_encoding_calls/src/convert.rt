@@ -116,7 +116,7 @@ pub(crate) fn decode_by(
         → partial_of encoding.now input.now ≡ Some partial
         → HasStopped encoding.now input.now output.new partial decoded.new }
     ensures within { decoded.new ≡ decoded.old ⊎ decoded.new.written ≤ length output.new }
-    ensures behind { (most : ℕ) → decoded_len encoding.now (length input.now) ≡ Ok most
+    ensures after { (most : ℕ) → decoded_len encoding.now (length input.now) ≡ Ok most
         → drop most output.new ≡ drop most output.old }
     ensures len { length output.new ≡ length output.old }
 {

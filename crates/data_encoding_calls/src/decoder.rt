@@ -6,7 +6,8 @@ ghost use Rattle.data_encoding.specs.Base.{Base};
 ghost use Rattle.data_encoding.specs.Fields.{IsSpecified};
 ghost use Rattle.data_encoding.specs.Plain.{base_of_plain};
 ghost use Rattle.data_encoding_calls.specs.Calls.{ByNumber};
-ghost use Rattle.data_encoding_calls.specs.Pieces.{EndsText, ReadsPiece, StandsAfter, TellsRoom};
+ghost use Rattle.data_encoding_calls.specs.Pieces.{EndsText, StandsAfter, TellsRoom};
+ghost use Rattle.data_encoding_calls.specs.Numbered.{EndsTextByNumber, ReadsPieceByHeld, ReadsPieceByNumber};
 
 use crate::convert::Decoded;
 use crate::pieces::{PlainKept, finish_by, most_by, read_by};
@@ -50,11 +51,8 @@ pub fn numbered_decoder_read(
     output: &mut [u8],
     written: &mut usize,
 ) -> u32
-    ensures { ByNumber number result
-        ((decoder.new ≡ decoder.old) × (output.new ≡ output.old) × (written.new ≡ written.old))
-        (λ base. ReadsPiece base piece.now
-        (record { decoder = decoder.old; output = output.old; written = written.old })
-        (record { decoder = decoder.new; output = output.new; written = written.new }) result) }
+    ensures { ReadsPieceByNumber number piece.now decoder.old decoder.new output.old output.new
+        written.old written.new result }
 {
     let Some(encoding) = predefined_numbered(number) else {
         return UNKNOWN_ENCODING;
@@ -70,8 +68,8 @@ pub fn numbered_decoder_finish(
     output: &mut [u8],
     decoded: &mut Decoded,
 ) -> u32
-    ensures { ByNumber number result ((output.new ≡ output.old) × (decoded.new ≡ decoded.old))
-        (λ base. EndsText base decoder.now output.old output.new decoded.old decoded.new result) }
+    ensures { EndsTextByNumber number decoder.now output.old output.new decoded.old decoded.new
+        result }
 {
     let Some(encoding) = predefined_numbered(number) else {
         return UNKNOWN_ENCODING;
@@ -100,9 +98,8 @@ pub fn held_decoder_read(
     output: &mut [u8],
     written: &mut usize,
 ) -> u32
-    ensures { ReadsPiece (base_of_plain held.now) piece.now
-        (record { decoder = decoder.old; output = output.old; written = written.old })
-        (record { decoder = decoder.new; output = output.new; written = written.new }) result }
+    ensures { ReadsPieceByHeld held.now piece.now decoder.old decoder.new output.old output.new
+        written.old written.new result }
 {
     read_by(&held.encoding(), decoder, piece, output, written)
 }

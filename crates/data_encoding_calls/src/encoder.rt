@@ -6,8 +6,9 @@ ghost use Rattle.data_encoding.specs.Base.{Base};
 ghost use Rattle.data_encoding.specs.Fields.{IsSpecified};
 ghost use Rattle.data_encoding.specs.Plain.{base_of_plain};
 ghost use Rattle.encoding_stream.specs.Blocks.{HasWritten};
-ghost use Rattle.data_encoding_calls.specs.Blocks.{EncodesPiece, EndsData, TellsDue};
+ghost use Rattle.data_encoding_calls.specs.Blocks.{EndsData, TellsDue};
 ghost use Rattle.data_encoding_calls.specs.Calls.{ByNumber};
+ghost use Rattle.data_encoding_calls.specs.Numbered.{EncodesPieceByHeld, EncodesPieceByNumber, EndsDataByNumber};
 
 use crate::blocks::{due_by, end_by, take_by};
 use crate::status::UNKNOWN_ENCODING;
@@ -46,11 +47,8 @@ pub fn numbered_encoder_read(
     output: &mut [u8],
     written: &mut usize,
 ) -> u32
-    ensures { ByNumber number result
-        ((encoder.new ≡ encoder.old) × (output.new ≡ output.old) × (written.new ≡ written.old))
-        (λ base. EncodesPiece base piece.now
-        (record { encoder = encoder.old; output = output.old; written = written.old })
-        (record { encoder = encoder.new; output = output.new; written = written.new }) result) }
+    ensures { EncodesPieceByNumber number piece.now encoder.old encoder.new output.old output.new
+        written.old written.new result }
 {
     let Some(encoding) = predefined_numbered(number) else {
         return UNKNOWN_ENCODING;
@@ -66,8 +64,8 @@ pub fn numbered_encoder_finish(
     output: &mut [u8],
     written: &mut usize,
 ) -> u32
-    ensures { ByNumber number result ((output.new ≡ output.old) × (written.new ≡ written.old))
-        (λ base. EndsData base encoder.now output.old output.new written.old written.new result) }
+    ensures { EndsDataByNumber number encoder.now output.old output.new written.old written.new
+        result }
 {
     let Some(encoding) = predefined_numbered(number) else {
         return UNKNOWN_ENCODING;
@@ -96,9 +94,8 @@ pub fn held_encoder_read(
     output: &mut [u8],
     written: &mut usize,
 ) -> u32
-    ensures { EncodesPiece (base_of_plain held.now) piece.now
-        (record { encoder = encoder.old; output = output.old; written = written.old })
-        (record { encoder = encoder.new; output = output.new; written = written.new }) result }
+    ensures { EncodesPieceByHeld held.now piece.now encoder.old encoder.new output.old output.new
+        written.old written.new result }
 {
     take_by(&held.encoding(), encoder, piece, output, written)
 }

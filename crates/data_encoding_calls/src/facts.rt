@@ -7,6 +7,7 @@ ghost use Rattle.data_encoding.specs.Specification.{fields_of_bytes};
 ghost use Rattle.data_encoding_calls.specs.Calls.{ByNumber};
 ghost use Rattle.data_encoding_calls.specs.Facts.{texts_of, GivesBack, TellsAlignment, TellsWidth};
 ghost use Rattle.data_encoding_calls.specs.Held.{fields_asked};
+ghost use Rattle.data_encoding_calls.specs.Numbered.{GivesBackByHeld, GivesBackByNumber};
 
 use crate::make::Form;
 use crate::status::{OK, SHORT_BUFFER, UNKNOWN_ENCODING};
@@ -85,11 +86,8 @@ pub fn numbered_specification(
     lengths: &mut TextLengths,
     texts: &mut [u8],
 ) -> u32
-    ensures { ByNumber number result
-        ((form.new ≡ form.old) × (lengths.new ≡ lengths.old) × (texts.new ≡ texts.old))
-        (λ base. GivesBack base
-        (record { form = form.old; lengths = lengths.old; texts = texts.old })
-        (record { form = form.new; lengths = lengths.new; texts = texts.new }) result) }
+    ensures { GivesBackByNumber number form.old form.new lengths.old lengths.new
+        texts.old texts.new result }
 {
     let Some(encoding) = predefined_numbered(number) else {
         return UNKNOWN_ENCODING;
@@ -105,9 +103,8 @@ pub fn held_specification(
     lengths: &mut TextLengths,
     texts: &mut [u8],
 ) -> u32
-    ensures { GivesBack (base_of_plain held.now)
-        (record { form = form.old; lengths = lengths.old; texts = texts.old })
-        (record { form = form.new; lengths = lengths.new; texts = texts.new }) result }
+    ensures { GivesBackByHeld held.now form.old form.new lengths.old lengths.new
+        texts.old texts.new result }
 {
     specification_by(&held.by_ref(), form, lengths, texts)
 }

@@ -1,7 +1,8 @@
 //! Calls with the number of a predefined encoding.
 
 ghost use Rattle.std.specs.Prelude.{◌≡◌};
-ghost use Rattle.data_encoding_calls.specs.Calls.{ByNumber, Decodes, Encodes, TellsCanonical, TellsMost, TellsTextLength};
+ghost use Rattle.data_encoding_calls.specs.Calls.{ByNumber, TellsCanonical, TellsMost, TellsTextLength};
+ghost use Rattle.data_encoding_calls.specs.Numbered.{DecodesByNumber, EncodesByNumber};
 
 use crate::convert::{
     Decoded, decode_by, decode_len_by, encode_by, encode_len_by, is_canonical_by,
@@ -22,8 +23,8 @@ pub fn numbered_encode_len(number: u32, len: usize, text_len: &mut usize) -> u32
 
 /// Writes the text of data to the start of the output, and its length to `written`.
 pub fn numbered_encode(number: u32, input: &[u8], output: &mut [u8], written: &mut usize) -> u32
-    ensures { ByNumber number result ((output.new ≡ output.old) × (written.new ≡ written.old))
-        (λ base. Encodes base input.now output.old output.new written.old written.new result) }
+    ensures { EncodesByNumber number input.now output.old output.new written.old written.new
+        result }
 {
     let Some(encoding) = predefined_numbered(number) else {
         return UNKNOWN_ENCODING;
@@ -45,8 +46,8 @@ pub fn numbered_decode_len(number: u32, len: usize, most: &mut usize) -> u32
 
 /// Writes the data that a text means to the start of the output, or the data before its fault.
 pub fn numbered_decode(number: u32, input: &[u8], output: &mut [u8], decoded: &mut Decoded) -> u32
-    ensures { ByNumber number result ((output.new ≡ output.old) × (decoded.new ≡ decoded.old))
-        (λ base. Decodes base input.now output.old output.new decoded.old decoded.new result) }
+    ensures { DecodesByNumber number input.now output.old output.new decoded.old decoded.new
+        result }
 {
     let Some(encoding) = predefined_numbered(number) else {
         return UNKNOWN_ENCODING;

@@ -17,7 +17,7 @@ use Rattle.encoding_stream.specs.Decoded.{result_of, DecodesFront, EndsText}
 use Rattle.encoding_stream.specs.Encoded.{ReadsMore}
 use Rattle.encoding_stream.specs.Pieces.{verdict_of, Keeps}
 use Rattle.encoding_stream.specs.Reading.{ReadsOn}
-use Rattle.encoding_stream.specs.Watch.{AppendsFront}
+use Rattle.encoding_stream.specs.Watch.{from_to, AppendsFront}
 use Rattle.encoding_stream.proofs.WriteLemmas.{AppendsFront-all, AppendsFront-more, AppendsFront-within}
 
 -- A text was read, this is kept of it, and the bytes of its whole groups were written.
@@ -62,7 +62,7 @@ module _ (base : Base) (specified : IsSpecified base) where
   module _ (keeps : KeepsBytes) (tells : TellsBytes) where
     -- a prefix of the bytes of whole groups is a prefix of all that a reader has
     pub front-whole : (r s v w : Option (List ℕ)) (text : List ℕ) → Consumes r s text
-        → AppendsFront v w (whole_bytes base text) → DecodesFront base r s v w
+        → AppendsFront v w (whole_bytes base text) → DecodesFront base (from_to r s) (from_to v w)
     front-whole r s v w text read front = record {
       text = text;
       read = read;
@@ -85,7 +85,7 @@ module _ (base : Base) (specified : IsSpecified base) where
 
   -- at the end of the reader a prefix of all is written
   pub front-all : (r s v w : Option (List ℕ)) (text : List ℕ) → Consumes r s text → IsAtEnd s
-      → AppendsFront v w (sound_bytes base text) → DecodesFront base r s v w
+      → AppendsFront v w (sound_bytes base text) → DecodesFront base (from_to r s) (from_to v w)
   front-all r s v w text read at_end front = record {
     text = text;
     read = read;
@@ -110,7 +110,7 @@ module _ (base : Base) (specified : IsSpecified base) where
 
     -- a prefix of one more piece
     pub decoded-front : KeepsBytes → TellsBytes → AppendsFront w x bytes
-        → DecodesFront base r t v x
+        → DecodesFront base (from_to r t) (from_to v x)
     decoded-front keeps tells front =
         front-whole keeps tells r t v x (so_far.text ++ more)
         (Consumes-trans r s t so_far.text more so_far.read read)
@@ -120,7 +120,7 @@ module _ (base : Base) (specified : IsSpecified base) where
   -- nothing is written of what was read last
   pub decoded-only : KeepsBytes → TellsBytes → {kept : Kept} {r s t v w : Option (List ℕ)}
       → Decoded base kept r s v w → (more : List ℕ) → Consumes s t more
-      → DecodesFront base r t v w
+      → DecodesFront base (from_to r t) (from_to v w)
   decoded-only keeps tells {kept} {r} {s} {t} {v} {w} so_far more read =
       let longer = keeps base specified so_far.text more in
       front-whole keeps tells r t v w (so_far.text ++ more)
@@ -159,7 +159,7 @@ ends-all base kept failed v w bytes sound written = record {
 -- more than the limit was read
 pub decoded-past : {base : Base} {kept : Kept} {r s t v w : Option (List ℕ)}
     → Decoded base kept r s v w → (more : List ℕ) → Consumes s t more
-    → (limit : ℕ) → limit < kept.len + length more → ReadsMore limit r t
+    → (limit : ℕ) → limit < kept.len + length more → ReadsMore limit (from_to r t)
 decoded-past {base} {kept} {r} {s} {t} {v} {w} so_far more read limit past = record {
   bytes = so_far.text ++ more;
   read = Consumes-trans r s t so_far.text more so_far.read read;
@@ -168,7 +168,7 @@ decoded-past {base} {kept} {r} {s} {t} {v} {w} so_far more read limit past = rec
 
 -- what holds for all that a reader has, if more than the limit was read
 pub past-few : (limit : ℕ) (r t : Option (List ℕ)) (P : List ℕ → Type 0)
-    → ReadsMore limit r t → IfSome r (λ text. length text ≤ limit → P text)
+    → ReadsMore limit (from_to r t) → IfSome r (λ text. length text ≤ limit → P text)
 past-few limit None t P past = tt
 past-few limit (Some all) None P past = absurd past.read
 past-few limit (Some all) (Some rest) P past = λ few.

@@ -8,7 +8,7 @@ use Rattle.data_encoding.specs.Laws.{JoinEncode}
 use Rattle.data_encoding.specs.Lengths.{alignment}
 use Rattle.data_encoding.specs.Text.{text_of}
 use Rattle.encoding_stream.specs.Encoded.{EncodesAll, EncodesFront, ReadsMore}
-use Rattle.encoding_stream.specs.Watch.{AppendsFront}
+use Rattle.encoding_stream.specs.Watch.{from_to, AppendsFront}
 use Rattle.encoding_stream.proofs.BlockLemmas.{none-whole, text_of-nil, whole-both}
 use Rattle.encoding_stream.proofs.WriteLemmas.{AppendsFront-all, AppendsFront-more, AppendsFront-nothing, AppendsFront-within}
 
@@ -82,7 +82,7 @@ module _ (base : Base) (specified : IsSpecified base) (join : JoinEncode) where
 
     -- the end, after the rest
     pub encoded-all : (x : Option (List ℕ)) → IsAtEnd t → Appends w x (text_of base more)
-        → EncodesAll base r t v x
+        → EncodesAll base (from_to r t) (from_to v x)
     encoded-all x at_end written = record {
       bytes = so_far.bytes ++ more;
       read = Consumes-trans r s t so_far.bytes more so_far.read read;
@@ -93,7 +93,7 @@ module _ (base : Base) (specified : IsSpecified base) (join : JoinEncode) where
     -- some more bytes, and a prefix of their text and of that of all the others
     pub encoded-front : (x : Option (List ℕ)) → AppendsFront w x (text_of base more)
         → IfSome s (λ others. AppendsFront w x (text_of base others))
-        → EncodesFront base r t v x
+        → EncodesFront base (from_to r t) (from_to v x)
     encoded-front x written others = record {
       bytes = so_far.bytes ++ more;
       read = Consumes-trans r s t so_far.bytes more so_far.read read;
@@ -104,7 +104,7 @@ module _ (base : Base) (specified : IsSpecified base) (join : JoinEncode) where
     }
 
     -- more bytes than are counted
-    pub encoded-past : (limit : ℕ) → limit < n + length more → ReadsMore limit r t
+    pub encoded-past : (limit : ℕ) → limit < n + length more → ReadsMore limit (from_to r t)
     encoded-past limit past = record {
       bytes = so_far.bytes ++ more;
       read = Consumes-trans r s t so_far.bytes more so_far.read read;
@@ -118,15 +118,17 @@ front-nothing base None w = tt
 front-nothing base (Some others) w = AppendsFront-nothing w (text_of base others)
 
 -- what all that a reader has is, if that is known
-pub all-known : (base : Base) (r t v x : Option (List ℕ)) → EncodesAll base r t v x
+pub all-known : (base : Base) (r t v x : Option (List ℕ)) → EncodesAll base (from_to r t)
+    (from_to v x)
     → IfSome r (λ bytes. Appends v x (text_of base bytes))
 all-known base r t v x all =
     Consumes-whole r t all.bytes (λ bytes. Appends v x (text_of base bytes)) all.read all.at_end
     all.written
 
 -- all is a prefix
-pub all-front : (base : Base) (r t v x : Option (List ℕ)) → EncodesAll base r t v x
-    → EncodesFront base r t v x
+pub all-front : (base : Base) (r t v x : Option (List ℕ)) → EncodesAll base (from_to r t)
+    (from_to v x)
+    → EncodesFront base (from_to r t) (from_to v x)
 all-front base r t v x all =
     let front = AppendsFront-all v x (text_of base all.bytes) all.written in
     record {

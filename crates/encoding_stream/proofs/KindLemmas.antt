@@ -10,7 +10,7 @@ use Rattle.data_encoding.specs.declared.encoding.Character.{Character}
 use Rattle.data_encoding.specs.declared.error.DecodeError.{DecodeError}
 use Rattle.data_encoding.specs.declared.error.GroupFault.{GroupFault}
 use Rattle.data_encoding.specs.declared.error.DecodeKind.TheVariants.{Padding as PaddingFault, Trailing as TrailingFault}
-use Rattle.data_encoding.specs.Base.{Base, IsWidth, group_bytes, group_symbols, is_padded, is_padding, is_symbol}
+use Rattle.data_encoding.specs.Base.{Base, IsWidth, group_symbols, is_padded, is_padding, is_symbol}
 use Rattle.data_encoding.specs.Fault.{character_fault, count_before_padding, fault_after, fault_at_first, faulty_at, first_after, first_fault, located, or_else, padded_fault_at, plain_fault, symbols_fault, trailing_bits}
 use Rattle.data_encoding.specs.Fields.{IsSpecified}
 use Rattle.data_encoding.specs.Grammar.{Positioned, is_final, kept, meanings_in}

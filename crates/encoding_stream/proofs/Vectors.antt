@@ -1,10 +1,11 @@
 -- Worked rows for what streams and decoders have done.
-use Rattle.std.proofs.Common.{◌∙◌, ◌≡◌, ℕ, ◌+◌, ◌≤◌, zero-add, true, false, List, [], ◌∷◌, ◌++◌, map, codes, replicate, Some, None, Result, Ok, Err, refl, zero, suc, sym, ap, subst, lit<, lit≤, arith}
+use Rattle.std.proofs.Common.{◌∙◌, ◌≡◌, ℕ, ◌+◌, ◌≤◌, zero-add, true, false, List, [], ◌∷◌, ◌++◌, drop, map, codes, replicate, Option, Some, None, Result, Ok, Err, refl, zero, suc, sym, ap, subst, lit<, lit≤, arith}
 use Rattle.std.proofs.lemmas.Fmt.{decimal_digit}
 use Rattle.data_encoding.specs.declared.error.DecodeError.{DecodeError}
 use Rattle.data_encoding.specs.declared.error.DecodeKind.TheVariants.{Length, Symbol, Trailing, Padding}
 use Rattle.data_encoding.specs.declared.specification.meanings.Refusal.{Refusal}
 use Rattle.data_encoding.specs.Base.{Base}
+use Rattle.data_encoding.specs.Fault.{fault_of}
 use Rattle.data_encoding.specs.Fields.{Fields, base_of}
 use Rattle.data_encoding.specs.Grammar.{positioned_from}
 use Rattle.data_encoding.specs.Predefined.{base64_fields, base64_mime_fields, base64_mime_permissive_fields, base64_nopad_fields}
@@ -12,7 +13,7 @@ use Rattle.data_encoding.specs.Pieces.{whole_bytes}
 use Rattle.std.proofs.lemmas.List.{append-nil}
 use Rattle.encoding_stream.specs.Decoded.{JudgesText, DecodesAll, DecodesFront, DecodesJudged, result_of}
 use Rattle.encoding_stream.specs.Judged.{fault_with_held, next_group, EndsFaulty, EndsSound, JudgesFaulty, JudgesSound}
-use Rattle.encoding_stream.specs.Reading.{whole_len, AppendsPiece, AreWholeGroups, CompletesNothing, HasNoLastBytes, ReadsAllGroups, ReadsOn}
+use Rattle.encoding_stream.specs.Reading.{whole_len, AppendsPiece, AreWholeGroups, CompletesNothing, HasNoLastBytes, HasVerdict, ReadsAllGroups, ReadsOn}
 use Rattle.encoding_stream.specs.Pieces.{base_of_pieces, paired, at_positions, held, NoneIgnored, Keeps, FillsGroups, GoesOn, bytes_due, kept_by, most_completed, verdict_of}
 use Rattle.encoding_stream.specs.declared.pieces.BufferDecoder.{BufferDecoder}
 use Rattle.encoding_stream.specs.declared.decoder.Decoder.{Decoder}
@@ -22,13 +23,13 @@ use Rattle.encoding_stream.specs.declared.kept_data.KeptData.{KeptData}
 use Rattle.encoding_stream.specs.declared.pieces.Kept.{Kept}
 use Rattle.encoding_stream.specs.declared.watch.Watch.{Watch}
 use Rattle.encoding_stream.specs.Appending.{AppendsDecoded}
-use Rattle.encoding_stream.specs.Decoder.{base_of_decoder, decoder_len, StandsAfter}
-use Rattle.encoding_stream.specs.Encoded.{EncodesAll, EncodesFront, ReadsMore}
+use Rattle.encoding_stream.specs.Decoder.{base_of_decoder, decoder_len, FinishesWith, StandsAfter}
+use Rattle.encoding_stream.specs.Encoded.{EncodesAll, EncodesFront, ReadsMore, Succeeds, WritesText}
 use Rattle.encoding_stream.specs.Printed.{printed_stream_fault}
-use Rattle.encoding_stream.specs.Blocks.{after_blocks, base_of_blocks, blocks_len, data_kept, held_data, text_of_blocks, EncodesOn, HasWritten}
-use Rattle.encoding_stream.specs.Resume.{held_bytes, held_positions, is_of_group, Ascend, HasPossibleFault, HoldsNoIgnored, MayBeKept}
+use Rattle.encoding_stream.specs.Blocks.{after_blocks, base_of_blocks, blocks_len, data_kept, held_data, piece_text, text_of_blocks, EncodesOn, EndsBlocks, HasWritten}
+use Rattle.encoding_stream.specs.Resume.{held_bytes, held_positions, is_of_group, Ascend, HasPossibleFault, HoldsNoIgnored, IsKept, MayBeKept}
 use Rattle.encoding_stream.specs.Specified.{IsBuiltAgain}
-use Rattle.encoding_stream.specs.Watch.{inner_of, has_failed, is_refused, AppendsFront}
+use Rattle.encoding_stream.specs.Watch.{from_to, has_failed, inner_of, is_refused, seen, AppendsFront, Change}
 
 abbrev Holds : (Base → Type 0) → Result Base Refusal → Type 0
 Holds P (Ok base) = P base
@@ -45,17 +46,38 @@ built_again = record { yields = refl }
 -- `Hello` was read to its end, and its text written
 encoded_all :
     Has base64_fields (λ base.
-    EncodesAll base (Some (codes "Hello")) (Some []) (Some (codes "> "))
-    (Some (codes "> SGVsbG8=")))
+    EncodesAll base (from_to (Some (codes "Hello")) (Some []))
+    (from_to (Some (codes "> ")) (Some (codes "> SGVsbG8="))))
 encoded_all = record { bytes = codes "Hello"; read = refl; at_end = refl; written = refl }
 
 -- `Hel` was read, and two characters were written
 encoded_front :
     Has base64_fields (λ base.
-    EncodesFront base (Some (codes "Hello")) (Some (codes "lo")) (Some []) (Some (codes "SG")))
+    EncodesFront base (from_to (Some (codes "Hello")) (Some (codes "lo")))
+    (from_to (Some []) (Some (codes "SG"))))
 encoded_front = record { bytes = codes "Hel"; read = refl; written = (2, refl); of_all = (2, refl) }
 
-read_more : ReadsMore 4 (Some (codes "Hello")) (Some [])
+-- the text of all that the reader had was written
+text_written :
+    Has base64_fields (λ base.
+    WritesText base (from_to (Some (codes "Hello")) (Some []))
+    (from_to (Some (codes "> ")) (Some (codes "> SGVsbG8="))))
+text_written = refl
+
+-- five bytes are few; nothing is said if a write failed, or of a reader that is not known
+succeeded :
+    Succeeds (Ok tt) (Some (codes "Hello")) false false
+    × Succeeds (Err Write) (Some (codes "Hello")) false true
+    × Succeeds (Err TooLong) None false false
+    × (Succeeds (Err TooLong) (Some (codes "Hello")) false false → ⊥)
+succeeded = (
+  λ few read write. refl,
+  λ few read write. absurd (cc write),
+  tt,
+  λ holds. absurd (cc (holds (lit< tt) refl refl)),
+)
+
+read_more : ReadsMore 4 (from_to (Some (codes "Hello")) (Some []))
 read_more = record { bytes = codes "Hello"; read = refl; more = lit< tt }
 
 abbrev symbol_at_4 : DecodeError
@@ -64,8 +86,8 @@ symbol_at_4 = record { position = 4; kind = Symbol }
 -- a text with a fault was read to its end, and the bytes of the group before it were written
 decoded_all :
     Has base64_fields (λ base.
-    DecodesAll base (Some symbol_at_4) (Some (codes "SGVs!G8=")) (Some []) (Some [])
-    (Some (codes "Hel")))
+    DecodesAll base (Some symbol_at_4) (from_to (Some (codes "SGVs!G8=")) (Some []))
+    (from_to (Some []) (Some (codes "Hel"))))
 decoded_all = record {
   text = codes "SGVs!G8=";
   read = refl;
@@ -77,8 +99,8 @@ decoded_all = record {
 -- a text without a fault was read to its end, and Ok was returned
 decoded_judged :
     Has base64_fields (λ base.
-    DecodesJudged base (Ok tt) (Some (codes "SGVsbG8=")) (Some []) (Some [])
-    (Some (codes "Hello"))
+    DecodesJudged base (Ok tt) (from_to (Some (codes "SGVsbG8=")) (Some []))
+    (from_to (Some []) (Some (codes "Hello")))
     × JudgesText base (Ok tt) (Some (codes "SGVsbG8=")) false false)
 decoded_judged = (
   record {
@@ -97,7 +119,8 @@ decoded_judged = (
 -- a whole group of a text was read, and one byte was written
 decoded_front :
     Has base64_fields (λ base.
-    DecodesFront base (Some (codes "SGVsbG8=")) (Some (codes "bG8=")) (Some []) (Some (codes "H")))
+    DecodesFront base (from_to (Some (codes "SGVsbG8=")) (Some (codes "bG8=")))
+    (from_to (Some []) (Some (codes "H"))))
 decoded_front = record {
   text = codes "SGVs";
   read = refl;
@@ -123,6 +146,20 @@ written_in_part = ((2, refl), refl, refl, refl, λ error. refl)
 watched : (w : Watch ℕ) → w.inner ≡ 7 → w.has_failed ≡ true
     → (inner_of w ≡ 7) × (has_failed w ≡ true)
 watched w inner failed = (inner, failed)
+
+-- a reader of `Hello` that has read nothing, and then three bytes
+seen_changed :
+    (before after : Watch ℕ) → before.inner ≡ 0 → after.inner ≡ 3
+    → seen (λ done. Some (drop done (codes "Hello"))) before after
+    ≡ from_to (Some (codes "Hello")) (Some (codes "lo"))
+seen_changed before after none three =
+    let left : ℕ → Option (List ℕ) = λ done. Some (drop done (codes "Hello")) in
+    ap (λ done. from_to (left done) (left after.inner)) none
+    ∙ ap (λ done. from_to (left 0) (left done)) three
+
+changed :
+    (change : Change) → from_to change.old change.new ≡ change
+changed change = refl
 
 -- what is kept of `SGVsbG` CR LF: `bG` at 4 and 5
 abbrev kept_so_far : Kept
@@ -155,6 +192,15 @@ none_ignored (suc (suc index)) k h = absurd (omega (arith, h))
 -- four bytes after two that are held fill a group, and two are held
 groups_filled : Has base64_fields (λ base. FillsGroups base 2 4 2 3)
 groups_filled = record { groups = 1; symbols = lit≤ tt; bytes = lit≤ tt }
+
+-- `SGVsbG` CR LF ends within a group
+abbrev length_at_4 : DecodeError
+length_at_4 = record { position = 4; kind = Length }
+
+verdict_given :
+    Has base64_mime_fields (λ base. (verdict : Result (Unit {0}) DecodeError)
+    → HasVerdict base kept_so_far verdict → verdict ≡ Err length_at_4)
+verdict_given verdict gives = gives _ kept_of_text.0
 
 -- whole groups only, also with a line end that is ignored
 whole_groups_alone :
@@ -262,6 +308,15 @@ pushed_so_far :
     → StandsAfter decoder (codes "SGVsbG" ++ 13 ∷ 10 ∷ []) × (decoder_len decoder ≡ 8))
 pushed_so_far = pushed_by _ _ kept_of_text.0
 
+-- the verdict of that decoder
+finished_by : (base : Base) (text : List ℕ) → Keeps base kept_so_far text
+    → (decoder : Decoder) → base_of_decoder decoder ≡ base → decoder.pieces.kept ≡ kept_so_far
+    → (verdict : Result (Unit {0}) DecodeError) → FinishesWith decoder verdict
+    → verdict ≡ verdict_of (fault_of base text)
+finished_by base text keeps decoder is kept_is verdict finishes =
+    finishes text (pushed_by base text keeps decoder is kept_is).0
+    ∙ ap (λ those. verdict_of (fault_of those text)) is
+
 stream_faults_printed :
     (map printed_stream_fault (Read ∷ Write ∷ TooLong ∷ [])
     ≡ codes "read failed" ∷ codes "write failed" ∷ codes "input too long" ∷ [])
@@ -339,6 +394,20 @@ may_be_kept = (
   λ far. omega (arith, far.in_order.2.1),
 )
 
+-- what is kept of that text; but nothing is held after a fault
+is_kept :
+    Has base64_mime_fields (λ base. IsKept base kept_so_far
+    × (IsKept base (record kept_so_far { fault = Some symbol_at_4 }) → ⊥))
+is_kept = (
+  record {
+    text = codes "SGVsbG" ++ 13 ∷ 10 ∷ [];
+    keeps = kept_of_text.0;
+    limit = lit≤ tt;
+    clear = λ some. absurd (cc some);
+  },
+  λ both. absurd (omega (arith, both.clear refl)),
+)
+
 -- `lo` is held of `hello`
 abbrev data_so_far : KeptData
 data_so_far = record { count = 2; bytes = codes "lo" ++ replicate 187 0 }
@@ -347,8 +416,10 @@ data_so_far = record { count = 2; bytes = codes "lo" ++ replicate 187 0 }
 blocks_of_data :
     Has base64_fields (λ base. (blocks_len base 5 ≡ 3)
     × (text_of_blocks base (codes "hello") ≡ codes "aGVs")
-    × (after_blocks base (codes "hello") ≡ codes "lo")) × (held_data data_so_far ≡ codes "lo")
-blocks_of_data = ((refl, refl, refl), refl)
+    × (after_blocks base (codes "hello") ≡ codes "lo")
+    × (piece_text base data_so_far (codes "w!") ≡ codes "bG93"))
+    × (held_data data_so_far ≡ codes "lo")
+blocks_of_data = ((refl, refl, refl, refl), refl)
 
 data_written :
     Has base64_fields (λ base. HasWritten base data_so_far (codes "hello") (codes "aGVs"))
@@ -359,6 +430,12 @@ data_written = record {
   is_short = lit< tt;
   is_written = refl;
 }
+
+-- what ends the text of `hello` follows `aGVs`
+blocks_ended :
+    Has base64_fields (λ base. (last : List ℕ) → EndsBlocks base data_so_far last
+    → codes "aGVsbG8=" ≡ codes "aGVs" ++ last)
+blocks_ended last ends = ends (codes "hello") (codes "aGVs") data_written
 
 -- a piece of no bytes changes nothing
 no_data : (base : Base) → EncodesOn base data_so_far data_so_far [] []

@@ -1,5 +1,5 @@
 -- Data that is encoded piece by piece into buffers.
-use Rattle.std.specs.Prelude.{ℕ, ◌*◌, ◌/◌, List, [], ◌++◌, length, take, drop}
+use Rattle.std.specs.Prelude.{◌≡◌, ℕ, ◌*◌, ◌/◌, List, [], ◌++◌, length, take, drop}
 use Rattle.data_encoding.specs.Base.{Base}
 use Rattle.data_encoding.specs.Fragments.{HasEncoded}
 use Rattle.data_encoding.specs.Lengths.{alignment}
@@ -27,6 +27,10 @@ blocks_len base len = len / alignment base * alignment base
 abbrev pub text_of_blocks : Base → List ℕ → List ℕ
 text_of_blocks base bytes = text_of base (take (blocks_len base (length bytes)) bytes)
 
+-- the text that is written for a piece, after what is kept
+abbrev pub piece_text : Base → KeptData → List ℕ → List ℕ
+piece_text base kept piece = text_of_blocks base (held_data kept ++ piece)
+
 -- the bytes after the whole blocks of data
 abbrev pub after_blocks : Base → List ℕ → List ℕ
 after_blocks base bytes = drop (blocks_len base (length bytes)) bytes
@@ -41,3 +45,9 @@ abbrev pub EncodesOn : Base → KeptData → KeptData → List ℕ → List ℕ 
 EncodesOn base old new piece text =
     (bytes before : List ℕ) → HasWritten base old bytes before
     → HasWritten base new (bytes ++ piece) (before ++ text)
+
+-- If this is kept of data, this text ends the text of the data.
+abbrev pub EndsBlocks : Base → KeptData → List ℕ → Type 0
+EndsBlocks base kept last =
+    (bytes text : List ℕ) → HasWritten base kept bytes text
+    → text_of base bytes ≡ text ++ last

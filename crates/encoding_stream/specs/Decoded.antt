@@ -9,26 +9,25 @@ use Rattle.encoding_stream.specs.declared.error.StreamFault.{StreamFault}
 use Rattle.encoding_stream.specs.declared.error.StreamFault.TheVariants.{Decode}
 use Rattle.encoding_stream.specs.declared.pieces.Kept.{Kept}
 use Rattle.encoding_stream.specs.Reading.{HasLastBytes}
-use Rattle.encoding_stream.specs.Watch.{AppendsFront}
+use Rattle.encoding_stream.specs.Watch.{AppendsFront, Change}
 
 -- The reader was read to its end, the bytes of the text before its first faulty group were written,
 -- and this is the fault of the text, if it has one.
-pub record DecodesAll (base : Base) (fault : Option DecodeError)
-    (read_old read_new written_old written_new : Option (List ℕ)) : Type 0 where
+pub record DecodesAll (base : Base) (fault : Option DecodeError) (reader writer : Change)
+    : Type 0 where
   pub text : List ℕ
-  pub read : Consumes read_old read_new text
-  pub at_end : IsAtEnd read_new
+  pub read : Consumes reader.old reader.new text
+  pub at_end : IsAtEnd reader.new
   pub fault_is : fault_of base text ≡ fault
-  pub written : Appends written_old written_new (sound_bytes base text)
+  pub written : Appends writer.old writer.new (sound_bytes base text)
 
 -- Some of a text was read, and a prefix of what it decodes to was written. The same bytes are a
 -- prefix of what the whole of the reader decodes to.
-pub record DecodesFront (base : Base)
-    (read_old read_new written_old written_new : Option (List ℕ)) : Type 0 where
+pub record DecodesFront (base : Base) (reader writer : Change) : Type 0 where
   pub text : List ℕ
-  pub read : Consumes read_old read_new text
-  pub written : AppendsFront written_old written_new (sound_bytes base text)
-  pub of_all : IfSome read_old (λ all. AppendsFront written_old written_new
+  pub read : Consumes reader.old reader.new text
+  pub written : AppendsFront writer.old writer.new (sound_bytes base text)
+  pub of_all : IfSome reader.old (λ all. AppendsFront writer.old writer.new
       (sound_bytes base all))
 
 -- what a stream returns for a text with this fault, or with none
@@ -38,10 +37,10 @@ result_of (Some error) = Err (Decode error)
 
 -- The result is Ok, or a fault of the text, only if all was read and decoded.
 pub record DecodesJudged (base : Base) (result : Result (Unit {0}) StreamFault)
-    (read_old read_new written_old written_new : Option (List ℕ)) : Type 0 where
-  pub whole : OnOk result (DecodesAll base None read_old read_new written_old written_new)
+    (reader writer : Change) : Type 0 where
+  pub whole : OnOk result (DecodesAll base None reader writer)
   pub faulty : (error : DecodeError) → result ≡ Err (Decode error)
-      → DecodesAll base (Some error) read_old read_new written_old written_new
+      → DecodesAll base (Some error) reader writer
 
 -- If neither the reader nor the writer has failed, this is the result for what the reader had,
 -- provided that it is known and within the limit.

@@ -1,11 +1,13 @@
 -- What a contract sees of a `Decoder`.
-use Rattle.std.specs.Prelude.{◌≡◌, ℕ, List, ◌++◌}
+use Rattle.std.specs.Prelude.{◌≡◌, ℕ, List, ◌++◌, Result}
+use Rattle.data_encoding.specs.declared.error.DecodeError.{DecodeError}
 use Rattle.data_encoding.specs.Base.{Base}
 use Rattle.data_encoding.specs.Fault.{sound_bytes}
 use Rattle.data_encoding.specs.Pieces.{whole_bytes, HasDecoded}
 use Rattle.encoding_stream.specs.declared.decoder.Decoder.{Decoder}
 use Rattle.encoding_stream.specs.Appending.{AppendsDecoded}
 use Rattle.encoding_stream.specs.Pieces.{base_of_pieces, Keeps}
+use Rattle.encoding_stream.specs.Reading.{HasVerdict}
 
 -- the encoding of a decoder
 abbrev pub base_of_decoder : Decoder → Base
@@ -20,6 +22,10 @@ decoder_len decoder = decoder.pieces.kept.len
 -- group was final.
 abbrev pub StandsAfter : Decoder → List ℕ → Type 0
 StandsAfter decoder text = Keeps (base_of_decoder decoder) decoder.pieces.kept text
+
+-- If the decoder was pushed a text, this is the verdict on the text.
+abbrev pub FinishesWith : Decoder → Result (Unit {0}) DecodeError → Type 0
+FinishesWith decoder verdict = HasVerdict (base_of_decoder decoder) decoder.pieces.kept verdict
 
 -- A piece was pushed, and the bytes of the groups that are then whole were appended to an output.
 pub record AppendsPushed (decoder : Decoder) (piece output_old output_new : List ℕ) : Type 0 where

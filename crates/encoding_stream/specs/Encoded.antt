@@ -1,29 +1,40 @@
 -- What encoding a reader into a writer has done.
-use Rattle.std.specs.Prelude.{IfSome, ◌<◌, ℕ, List, length, Option}
+use Rattle.std.specs.Prelude.{◌≡◌, IfSome, IsOk, ◌<◌, ◌^◌, ℕ, Bool, false, List, length, Option, Result}
 use Rattle.std.specs.Io.KnownBytes.{Appends, Consumes, IsAtEnd}
 use Rattle.data_encoding.specs.Base.{Base}
 use Rattle.data_encoding.specs.Text.{text_of}
-use Rattle.encoding_stream.specs.Watch.{AppendsFront}
+use Rattle.encoding_stream.specs.declared.error.StreamFault.{StreamFault}
+use Rattle.encoding_stream.specs.Watch.{AppendsFront, Change}
 
 -- The reader was read to its end, and the text of its bytes was written.
-pub record EncodesAll (base : Base) (read_old read_new written_old written_new : Option (List ℕ))
-    : Type 0 where
+pub record EncodesAll (base : Base) (reader writer : Change) : Type 0 where
   pub bytes : List ℕ
-  pub read : Consumes read_old read_new bytes
-  pub at_end : IsAtEnd read_new
-  pub written : Appends written_old written_new (text_of base bytes)
+  pub read : Consumes reader.old reader.new bytes
+  pub at_end : IsAtEnd reader.new
+  pub written : Appends writer.old writer.new (text_of base bytes)
+
+-- The text of all that the reader had was written, if that is known.
+abbrev pub WritesText : Base → Change → Change → Type 0
+WritesText base reader writer =
+    IfSome reader.old (λ bytes. Appends writer.old writer.new (text_of base bytes))
 
 -- Some bytes were read, and a prefix of their text was written. It is also a prefix of the text of
 -- the whole of the reader.
-pub record EncodesFront (base : Base) (read_old read_new written_old written_new : Option (List ℕ))
-    : Type 0 where
+pub record EncodesFront (base : Base) (reader writer : Change) : Type 0 where
   pub bytes : List ℕ
-  pub read : Consumes read_old read_new bytes
-  pub written : AppendsFront written_old written_new (text_of base bytes)
-  pub of_all : IfSome read_old (λ all. AppendsFront written_old written_new (text_of base all))
+  pub read : Consumes reader.old reader.new bytes
+  pub written : AppendsFront writer.old writer.new (text_of base bytes)
+  pub of_all : IfSome reader.old (λ all. AppendsFront writer.old writer.new (text_of base all))
+
+-- If neither the reader nor the writer has failed, the result is Ok, provided that what the reader
+-- had is known and less than 2 ^ 64 bytes.
+abbrev pub Succeeds : Result (Unit {0}) StreamFault → Option (List ℕ) → Bool → Bool → Type 0
+Succeeds result remaining read_failed write_failed =
+    IfSome remaining (λ bytes. length bytes < 2 ^ 64 → read_failed ≡ false
+    → write_failed ≡ false → IsOk result)
 
 -- More bytes than the limit were read.
-pub record ReadsMore (limit : ℕ) (old new : Option (List ℕ)) : Type 0 where
+pub record ReadsMore (limit : ℕ) (reader : Change) : Type 0 where
   pub bytes : List ℕ
-  pub read : Consumes old new bytes
+  pub read : Consumes reader.old reader.new bytes
   pub more : limit < length bytes

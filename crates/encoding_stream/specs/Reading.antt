@@ -1,15 +1,15 @@
 -- How a decoder by pieces continues.
-use Rattle.std.specs.Prelude.{◌≡◌, ℕ, ◌+◌, ◌*◌, ◌/◌, ◌≤◌, ◌%◌, false, List, [], ◌++◌, length, take, Option, None}
+use Rattle.std.specs.Prelude.{◌≡◌, ℕ, ◌+◌, ◌*◌, ◌/◌, ◌≤◌, ◌%◌, false, List, [], ◌++◌, length, take, Option, None, Result}
 use Rattle.std.specs.List.{list_any}
 use Rattle.data_encoding.specs.declared.error.DecodeError.{DecodeError}
 use Rattle.data_encoding.specs.Base.{Base, group_symbols, ignores_some}
-use Rattle.data_encoding.specs.Fault.{sound_bytes}
+use Rattle.data_encoding.specs.Fault.{fault_of, sound_bytes}
 use Rattle.data_encoding.specs.Grammar.{Means, groups, is_final, kept}
 use Rattle.data_encoding.specs.Laws.{further}
 use Rattle.data_encoding.specs.Pieces.{whole_bytes, HasRead}
 use Rattle.encoding_stream.specs.declared.pieces.Kept.{Kept}
 use Rattle.encoding_stream.specs.Appending.{AppendsDecoded}
-use Rattle.encoding_stream.specs.Pieces.{most_completed, Keeps}
+use Rattle.encoding_stream.specs.Pieces.{most_completed, verdict_of, Keeps}
 
 -- For each text of which the first is kept, the second is kept of the text followed by the piece,
 -- and the groups that are then whole append these bytes. They leave room for what may follow.
@@ -67,6 +67,11 @@ abbrev pub HasLastBytes : Base → Kept → List ℕ → Type 0
 HasLastBytes base kept bytes =
     (text : List ℕ) → Keeps base kept text
     → sound_bytes base text ≡ whole_bytes base text ++ bytes
+
+-- If this is kept of a text, this is the verdict on the text.
+abbrev pub HasVerdict : Base → Kept → Result (Unit {0}) DecodeError → Type 0
+HasVerdict base kept verdict =
+    (text : List ℕ) → Keeps base kept text → verdict ≡ verdict_of (fault_of base text)
 
 -- If this is kept of a text, the bytes of its last group were appended.
 abbrev pub AppendsLast : Base → Kept → List ℕ → List ℕ → Type 0

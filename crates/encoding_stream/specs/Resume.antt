@@ -1,10 +1,11 @@
 -- What a decoder may keep of a text.
-use Rattle.std.specs.Prelude.{◌≡◌, ℕ, ◌+◌, ◌<◌, ◌≤◌, Bool, true, false, List, [], ◌∷◌, take, All, None, IfSome, IsSome}
+use Rattle.std.specs.Prelude.{◌≡◌, ℕ, ◌+◌, ◌<◌, ◌≤◌, Bool, true, false, List, [], ◌∷◌, length, take, All, None, IfSome, IsSome}
 use Rattle.data_encoding.specs.declared.decode.TheConstants.{DECODE_LIMIT}
 use Rattle.data_encoding.specs.declared.error.DecodeKind.{DecodeKind}
 use Rattle.data_encoding.specs.declared.error.DecodeKind.TheVariants.{Length, Symbol, Trailing, Padding}
 use Rattle.data_encoding.specs.Base.{Base, group_symbols, is_ignored, is_padded, meaning}
 use Rattle.encoding_stream.specs.declared.pieces.Kept.{Kept}
+use Rattle.encoding_stream.specs.Pieces.{Keeps}
 
 -- The positions ascend, are not below the first bound, and are below the second.
 abbrev pub Ascend : ℕ → ℕ → List ℕ → Type 0
@@ -47,3 +48,10 @@ pub record MayBeKept (base : Base) (kept : Kept) : Type 0 where
   pub in_order : Ascend 0 kept.len (held_positions kept)
   pub none_ignored : HoldsNoIgnored base kept
   pub fault : HasPossibleFault base kept
+
+-- This is kept of a text within the limit, and nothing is held after a fault.
+pub record IsKept (base : Base) (kept : Kept) : Type 0 where
+  pub text : List ℕ
+  pub keeps : Keeps base kept text
+  pub limit : length text ≤ DECODE_LIMIT
+  pub clear : IsSome kept.fault → kept.count ≡ 0

@@ -16,6 +16,20 @@ abbrev pub is_refused : {E : Type 0} → Result ℕ E → List ℕ → Bool
 is_refused (Ok count) bytes = count == 0 && nat_lt 0 (length bytes)
 is_refused (Err error) bytes = true
 
+-- what is known of a reader or a writer, before a call and after it: what is left to read, or what
+-- was written
+pub record Change : Type 0 where
+  pub old : Option (List ℕ)
+  pub new : Option (List ℕ)
+
+-- the change from the one to the other
+abbrev pub from_to : Option (List ℕ) → Option (List ℕ) → Change
+from_to old new = record { old = old; new = new }
+
+-- what is seen of the watched, before a call and after it
+abbrev pub seen : {T : Type 0} → (T → Option (List ℕ)) → Watch T → Watch T → Change
+seen bytes_of old new = from_to (bytes_of (inner_of old)) (bytes_of (inner_of new))
+
 -- The content of a writer grew by a prefix of the bytes.
 abbrev pub AppendsFront : Option (List ℕ) → Option (List ℕ) → List ℕ → Type 0
 AppendsFront old new bytes = (count : ℕ) × Appends old new (take count bytes)

@@ -27,7 +27,7 @@ pub struct BufferEncoder<'a> {
 }
 
 impl<'a> BufferEncoder<'a> {
-    ghost use Rattle.encoding_stream.specs.Blocks.{after_blocks, base_of_blocks, data_kept, held_data, text_of_blocks, EncodesOn, HasWritten};
+    ghost use Rattle.encoding_stream.specs.Blocks.{after_blocks, base_of_blocks, data_kept, held_data, piece_text, EncodesOn, EndsBlocks, HasWritten};
 
     /// Returns an encoder that has read nothing.
     pub fn new(encoding: &'a Encoding) -> BufferEncoder<'a>
@@ -78,8 +78,7 @@ impl<'a> BufferEncoder<'a> {
     pub fn due(&self, len: usize) -> usize
         requires limit { len ≤ ENCODE_LIMIT }
         ensures value { (piece : List ℕ) → length piece ≡ len
-            → length (text_of_blocks (base_of_blocks self.now)
-            (held_data (data_kept self.now) ++ piece)) ≡ result }
+            → length (piece_text (base_of_blocks self.now) (data_kept self.now) piece) ≡ result }
     {
         join_encode();
         let missing = self.block - self.kept.count;
@@ -96,11 +95,11 @@ impl<'a> BufferEncoder<'a> {
     /// unchanged.
     pub fn read(&mut self, piece: &[u8], output: &mut [u8]) -> usize
         requires limit { length piece.now ≤ ENCODE_LIMIT }
-        requires room { length (text_of_blocks (base_of_blocks self.old)
-            (held_data (data_kept self.old) ++ piece.now)) ≤ length output.old }
+        requires room { length (piece_text (base_of_blocks self.old) (data_kept self.old) piece.now)
+            ≤ length output.old }
         ensures base { base_of_blocks self.new ≡ base_of_blocks self.old }
-        ensures text { take result output.new ≡ text_of_blocks (base_of_blocks self.old)
-            (held_data (data_kept self.old) ++ piece.now) }
+        ensures text { take result output.new
+            ≡ piece_text (base_of_blocks self.old) (data_kept self.old) piece.now }
         ensures held { held_data (data_kept self.new) ≡ after_blocks (base_of_blocks self.old)
             (held_data (data_kept self.old) ++ piece.now) }
         ensures encodes { EncodesOn (base_of_blocks self.old) (data_kept self.old)
@@ -137,9 +136,8 @@ impl<'a> BufferEncoder<'a> {
             (held_data (data_kept self.now))) ≤ length output.old }
         ensures text { take result output.new ≡ text_of (base_of_blocks self.now)
             (held_data (data_kept self.now)) }
-        ensures whole { (bytes text : List ℕ)
-            → HasWritten (base_of_blocks self.now) (data_kept self.now) bytes text
-            → text_of (base_of_blocks self.now) bytes ≡ text ++ take result output.new }
+        ensures whole { EndsBlocks (base_of_blocks self.now) (data_kept self.now)
+            (take result output.new) }
         ensures within { result ≤ length output.new }
         ensures after { drop result output.new ≡ drop result output.old }
         ensures len { length output.new ≡ length output.old }

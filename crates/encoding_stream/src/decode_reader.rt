@@ -1,12 +1,12 @@
 //! From a reader of text to a writer of data.
 
-ghost use Rattle.std.specs.Prelude.{◌≡◌, ℕ, ◌≤◌, ◌↔◌, List, length, false, Err, IfSome, IsTrue, None, OnOk, Some};
+ghost use Rattle.std.specs.Prelude.{◌≡◌, ℕ, ◌≤◌, ◌↔◌, List, length, false, Err, IsTrue, OnOk};
 ghost use Rattle.std.specs.Io.KnownBytes.{IsAtEnd};
 ghost use Rattle.data_encoding.specs.Fault.{fault_of};
 ghost use Rattle.encoding_stream.specs.Decoded.{result_of, JudgesText, DecodesFront, DecodesJudged, EndsText};
 ghost use Rattle.encoding_stream.specs.Encoded.{ReadsMore};
 ghost use Rattle.encoding_stream.specs.Pieces.{base_of_pieces, Keeps};
-ghost use Rattle.encoding_stream.specs.Watch.{has_failed, inner_of};
+ghost use Rattle.encoding_stream.specs.Watch.{has_failed, inner_of, seen};
 
 use crate::error::StreamFault;
 use crate::fill::fill;
@@ -43,13 +43,11 @@ pub fn decode_stream<R: Read, W: Write>(
     // written.
     ensures all_read { OnOk result (IsAtEnd (R.remaining (inner_of reader.new))) }
     ensures all { DecodesJudged encoding.now result
-        (R.remaining (inner_of reader.old)) (R.remaining (inner_of reader.new))
-        (W.contents (inner_of writer.old)) (W.contents (inner_of writer.new)) }
+        (seen R.remaining reader.old reader.new) (seen W.contents writer.old writer.new) }
 
     // In every case a prefix of it is written.
     ensures begun { DecodesFront encoding.now
-        (R.remaining (inner_of reader.old)) (R.remaining (inner_of reader.new))
-        (W.contents (inner_of writer.old)) (W.contents (inner_of writer.new)) }
+        (seen R.remaining reader.old reader.new) (seen W.contents writer.old writer.new) }
 
     // Each result is returned exactly for its cause.
     ensures judges { JudgesText encoding.now result (R.remaining (inner_of reader.old))
@@ -57,8 +55,7 @@ pub fn decode_stream<R: Read, W: Write>(
     ensures read { (result ≡ Err StreamFault.Read) ↔ IsTrue (has_failed reader.new) }
     ensures write { (result ≡ Err StreamFault.Write) ↔ IsTrue (has_failed writer.new) }
     ensures too_long { result ≡ Err StreamFault.TooLong
-        → ReadsMore DECODE_LIMIT (R.remaining (inner_of reader.old))
-        (R.remaining (inner_of reader.new)) }
+        → ReadsMore DECODE_LIMIT (seen R.remaining reader.old reader.new) }
 {
     steps::pieces();
     let mut pieces = BufferDecoder::new(encoding);

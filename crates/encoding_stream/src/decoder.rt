@@ -2,9 +2,8 @@
 
 ghost use Rattle.std.specs.Prelude.{◌≡◌, ℕ, ◌+◌, ◌≤◌, List, ◌++◌, length, take, vec_capacity, vec_len, IfOk, IsOk, OnErr, OnOk};
 ghost use Rattle.data_encoding.specs.declared.decode.TheConstants.{DECODE_LIMIT};
-ghost use Rattle.data_encoding.specs.Fault.{fault_of};
-ghost use Rattle.encoding_stream.specs.Pieces.{base_of_pieces, most_completed, verdict_of, Keeps};
-ghost use Rattle.encoding_stream.specs.Reading.{AppendsLast, AppendsPiece, CompletesNothing, HasNoLastBytes, ReadsOn};
+ghost use Rattle.encoding_stream.specs.Pieces.{base_of_pieces, most_completed, Keeps};
+ghost use Rattle.encoding_stream.specs.Reading.{AppendsLast, AppendsPiece, CompletesNothing, HasNoLastBytes, HasVerdict, ReadsOn};
 
 use crate::pieces::BufferDecoder;
 use data_encoding::laws::steps;
@@ -36,11 +35,10 @@ pub struct Finished {
 
 impl<'a> Decoder<'a> {
     ghost use Rattle.std.specs.Prelude.{◌≡◌, ℕ, ◌+◌, ◌≤◌, List, [], ◌++◌, length, IfErr, IfOk, IsOk, OnErr, OnOk};
-    ghost use Rattle.data_encoding.specs.Fault.{fault_of, sound_bytes};
     ghost use Rattle.data_encoding.specs.Fields.{IsSpecified};
     ghost use Rattle.data_encoding.specs.Pieces.{whole_bytes};
-    ghost use Rattle.encoding_stream.specs.Decoder.{base_of_decoder, decoder_len, AppendsFinished, AppendsPushed, StandsAfter};
-    ghost use Rattle.encoding_stream.specs.Pieces.{verdict_of};
+    ghost use Rattle.encoding_stream.specs.Decoder.{base_of_decoder, decoder_len, AppendsFinished, AppendsPushed, FinishesWith, StandsAfter};
+    ghost use Rattle.encoding_stream.specs.Reading.{CompletesNothing, HasNoLastBytes};
 
     /// Returns a decoder that was pushed nothing.
     pub fn new(encoding: &'a Encoding) -> Decoder<'a>
@@ -80,8 +78,7 @@ impl<'a> Decoder<'a> {
         ensures unchanged { OnErr result ((self.new ≡ self.old)
             × (output.new.items ≡ output.old.items)) }
         ensures no_group { (text : List ℕ) → StandsAfter self.old text
-            → whole_bytes (base_of_decoder self.old) (text ++ piece.now)
-            ≡ whole_bytes (base_of_decoder self.old) text → IsOk result }
+            → CompletesNothing (base_of_decoder self.old) text piece.now → IsOk result }
     {
         let mut pieces = self.pieces;
         append_piece(&mut pieces, piece, output)?;
@@ -95,15 +92,13 @@ impl<'a> Decoder<'a> {
     /// If memory runs out, which never happens if no byte is to be appended, the decoder is
     /// returned, and it and the output are unchanged.
     pub fn finish(self, output: &mut Vec<u8>) -> Result<Finished, Decoder<'a>>
-        ensures verdict { IfOk result (λ finished. (text : List ℕ) → StandsAfter self.entry text
-            → finished.verdict ≡ verdict_of (fault_of (base_of_decoder self.entry) text)) }
+        ensures verdict { IfOk result (λ finished. FinishesWith self.entry finished.verdict) }
         ensures appends { OnOk result (AppendsFinished self.entry output.old.items
             output.new.items) }
         ensures unchanged { IfErr result (λ decoder. (decoder ≡ self.entry)
             × (output.new.items ≡ output.old.items)) }
         ensures no_bytes { (text : List ℕ) → StandsAfter self.entry text
-            → sound_bytes (base_of_decoder self.entry) text
-            ≡ whole_bytes (base_of_decoder self.entry) text → IsOk result }
+            → HasNoLastBytes (base_of_decoder self.entry) text → IsOk result }
     {
         match append_last(&self.pieces, output) {
             Ok(verdict) => Ok(Finished { verdict }),
@@ -146,9 +141,8 @@ fn append_last<A: Allocator + Copy>(
     pieces: &BufferDecoder<'_>,
     output: &mut Vec<u8, A>,
 ) -> Result<Result<(), DecodeError>, AllocError>
-    ensures verdict { IfOk result (λ verdict. (text : List ℕ)
-        → Keeps (base_of_pieces pieces.now) pieces.now.kept text
-        → verdict ≡ verdict_of (fault_of (base_of_pieces pieces.now) text)) }
+    ensures verdict { IfOk result (λ verdict.
+        HasVerdict (base_of_pieces pieces.now) pieces.now.kept verdict) }
     ensures appends { OnOk result (AppendsLast (base_of_pieces pieces.now) pieces.now.kept
         output.old.items output.new.items) }
     ensures unchanged { OnErr result (output.new.items ≡ output.old.items) }

@@ -1,10 +1,10 @@
 //! From a reader of data to a writer of text.
 
-ghost use Rattle.std.specs.Prelude.{◌≡◌, ◌≢◌, ◌^◌, ◌-◌, ◌<◌, ◌≤◌, ◌↔◌, length, false, is_err, Err, IfSome, IsOk, IsTrue, OnOk};
+ghost use Rattle.std.specs.Prelude.{◌≡◌, ◌≢◌, ◌^◌, ◌-◌, ◌<◌, ◌≤◌, ◌↔◌, length, false, is_err, Err, IsTrue, OnOk};
 ghost use Rattle.std.specs.Io.KnownBytes.{Appends, IsAtEnd};
 ghost use Rattle.data_encoding.specs.Text.{text_of};
-ghost use Rattle.encoding_stream.specs.Encoded.{EncodesAll, EncodesFront, ReadsMore};
-ghost use Rattle.encoding_stream.specs.Watch.{AppendsFront, has_failed, inner_of};
+ghost use Rattle.encoding_stream.specs.Encoded.{EncodesAll, EncodesFront, ReadsMore, Succeeds, WritesText};
+ghost use Rattle.encoding_stream.specs.Watch.{AppendsFront, has_failed, inner_of, seen};
 
 use crate::error::StreamFault;
 use crate::fill::fill;
@@ -34,27 +34,22 @@ pub fn encode_stream<R: Read, W: Write>(
 
     // After Ok, all was read and its text was written.
     ensures all_read { OnOk result (IsAtEnd (R.remaining (inner_of reader.new))) }
-    ensures all_written { OnOk result (IfSome (R.remaining (inner_of reader.old)) (λ bytes.
-        Appends (W.contents (inner_of writer.old)) (W.contents (inner_of writer.new))
-        (text_of encoding.now bytes))) }
+    ensures all_written { OnOk result (WritesText encoding.now
+        (seen R.remaining reader.old reader.new) (seen W.contents writer.old writer.new)) }
     ensures whole { OnOk result (EncodesAll encoding.now
-        (R.remaining (inner_of reader.old)) (R.remaining (inner_of reader.new))
-        (W.contents (inner_of writer.old)) (W.contents (inner_of writer.new))) }
+        (seen R.remaining reader.old reader.new) (seen W.contents writer.old writer.new)) }
 
     // In every case a prefix of the text is written.
     ensures begun { EncodesFront encoding.now
-        (R.remaining (inner_of reader.old)) (R.remaining (inner_of reader.new))
-        (W.contents (inner_of writer.old)) (W.contents (inner_of writer.new)) }
+        (seen R.remaining reader.old reader.new) (seen W.contents writer.old writer.new) }
 
     // Each fault is returned exactly for its cause.
-    ensures succeeds { IfSome (R.remaining (inner_of reader.old)) (λ bytes.
-        length bytes < 2 ^ 64 → has_failed reader.new ≡ false → has_failed writer.new ≡ false
-        → IsOk result) }
+    ensures succeeds { Succeeds result (R.remaining (inner_of reader.old))
+        (has_failed reader.new) (has_failed writer.new) }
     ensures read { (result ≡ Err StreamFault.Read) ↔ IsTrue (has_failed reader.new) }
     ensures write { (result ≡ Err StreamFault.Write) ↔ IsTrue (has_failed writer.new) }
     ensures too_long { result ≡ Err StreamFault.TooLong
-        → ReadsMore (2 ^ 64 - 1) (R.remaining (inner_of reader.old))
-        (R.remaining (inner_of reader.new)) }
+        → ReadsMore (2 ^ 64 - 1) (seen R.remaining reader.old reader.new) }
     ensures no_text { (error : DecodeError) → result ≢ Err (StreamFault.Decode error) }
 {
     let asked = encoding.encode_piece_len(ROOM);

@@ -1,13 +1,12 @@
 //! The judgement of one group of a text that is decoded piece by piece, and the end of the text.
 
-ghost use Rattle.std.specs.Prelude.{◌≡◌, ℕ, ◌<◌, ◌≤◌, List, length, slice_index, take, IfOk, IfErr};
+ghost use Rattle.std.specs.Prelude.{◌≡◌, ◌<◌, ◌≤◌, length, slice_index, take, IfOk, IfErr};
 ghost use Rattle.std.specs.List.{Contains};
 ghost use Rattle.data_encoding.specs.Base.{group_bytes, group_symbols};
-ghost use Rattle.data_encoding.specs.Fault.{fault_of};
 ghost use Rattle.data_encoding.specs.Grammar.{is_final};
 ghost use Rattle.encoding_stream.specs.Judged.{EndsFaulty, EndsSound, JudgesFaulty, JudgesSound};
-ghost use Rattle.encoding_stream.specs.Pieces.{at_positions, base_of_pieces, kept_by, verdict_of, Keeps};
-ghost use Rattle.encoding_stream.specs.Reading.{HasLastBytes};
+ghost use Rattle.encoding_stream.specs.Pieces.{at_positions, base_of_pieces, kept_by};
+ghost use Rattle.encoding_stream.specs.Reading.{HasLastBytes, HasVerdict};
 
 use crate::pieces::BufferDecoder;
 use data_encoding::laws::steps::pieces;
@@ -79,8 +78,7 @@ impl BufferDecoder<'_> {
     /// `Encoding::decode` returns for the whole text: its fault, if it has one.
     pub fn finish(&self, output: &mut [u8]) -> (usize, Result<(), DecodeError>)
         requires room { 5 ≤ length output.old }
-        ensures verdict { (text : List ℕ) → Keeps (base_of_pieces self.now) (kept_by self.now) text
-            → result.1 ≡ verdict_of (fault_of (base_of_pieces self.now) text) }
+        ensures verdict { HasVerdict (base_of_pieces self.now) (kept_by self.now) result.1 }
         ensures position { IfErr result.1 (λ error. error.position < (kept_by self.now).len) }
         ensures bytes { HasLastBytes (base_of_pieces self.now) (kept_by self.now)
             (take result.0 output.new) }

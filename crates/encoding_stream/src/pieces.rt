@@ -59,7 +59,7 @@ impl<'a> BufferDecoder<'a> {
     ghost use Rattle.data_encoding.specs.Pieces.{whole_bytes};
     ghost use Rattle.encoding_stream.specs.Pieces.{base_of_pieces, kept_by, most_completed, GoesOn, Keeps};
     ghost use Rattle.encoding_stream.specs.Reading.{ReadsOn};
-    ghost use Rattle.encoding_stream.specs.Resume.{MayBeKept};
+    ghost use Rattle.encoding_stream.specs.Resume.{IsKept, MayBeKept};
 
     /// Returns a decoder that has read nothing.
     pub fn new(encoding: &'a Encoding) -> BufferDecoder<'a>
@@ -97,9 +97,7 @@ impl<'a> BufferDecoder<'a> {
     pub fn resumed(encoding: &'a Encoding, kept: Kept) -> Option<BufferDecoder<'a>>
         ensures goes_on { IfSome result (GoesOn encoding.now kept) }
         ensures tested { IsSome result → MayBeKept encoding.now kept }
-        ensures resumes { (text : List ℕ) → Keeps encoding.now kept text
-            → length text ≤ DECODE_LIMIT → (IsSome kept.fault → kept.count ≡ 0)
-            → IsSome result }
+        ensures resumes { IsKept encoding.now kept → IsSome result }
     {
         whole_groups();
         let mut decoder = BufferDecoder::new(encoding);

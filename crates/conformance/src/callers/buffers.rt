@@ -1,13 +1,14 @@
 //! A caller of a decoder by pieces into buffers, which continues from what is kept.
 
-ghost use Rattle.std.specs.Prelude.{◌≡◌, ◌+◌, ◌≤◌, ℕ, List, ◌++◌, length, take, None, Some, IfSome, OnOk};
+ghost use Rattle.std.specs.Prelude.{◌≡◌, ◌+◌, ◌≤◌, ◌++◌, length, Some, IfSome, OnOk};
 ghost use Rattle.std.specs.String.{string_bytes};
 ghost use Rattle.data_encoding.specs.Fault.{fault_of, first_fault, sound_bytes};
 ghost use Rattle.data_encoding.specs.Grammar.{Means};
-ghost use Rattle.data_encoding.specs.Lengths.{length_fault};
 ghost use Rattle.data_encoding.specs.Pieces.{whole_groups};
 ghost use Rattle.data_encoding.specs.Text.{text_of};
 ghost use Rattle.encoding_stream.specs.Pieces.{verdict_of};
+ghost use Rattle.conformance.specs.Results.{bytes_filled};
+ghost use Rattle.conformance.specs.Texts.{IsFaultOfAll};
 
 use data_encoding::laws::{fault_stays, sound_text};
 use data_encoding::{DECODE_LIMIT, DecodeError, ENCODE_LIMIT, Encoding};
@@ -44,14 +45,12 @@ pub fn decode_kept(
     requires front { length piece.now + 7 ≤ length front.old }
     requires next { length next_piece.now + 7 ≤ length next.old }
     requires last { 5 ≤ length last.old }
-    ensures sound { take result.front front.new ++ take result.next next.new
-        ++ take result.last last.new
+    ensures sound { bytes_filled result front.new next.new last.new
         ≡ sound_bytes encoding.now (piece.now ++ next_piece.now) }
     ensures verdict { result.verdict
         ≡ verdict_of (fault_of encoding.now (piece.now ++ next_piece.now)) }
     ensures means { OnOk result.verdict (Means encoding.now (piece.now ++ next_piece.now)
-        (take result.front front.new ++ take result.next next.new
-        ++ take result.last last.new)) }
+        (bytes_filled result front.new next.new last.new)) }
 {
     encoding.bit_width();
     sound_text();
@@ -79,9 +78,7 @@ pub fn fault_so_far(encoding: &Encoding, front: &[u8], output: &mut [u8]) -> Opt
     requires limit { length front.now ≤ DECODE_LIMIT }
     requires room { length front.now + 7 ≤ length output.old }
     ensures first { result ≡ first_fault encoding.now (whole_groups encoding.now front.now) }
-    ensures stays { IfSome result (λ error. (after : List ℕ)
-        → length_fault encoding.now (length (front.now ++ after)) ≡ None
-        → fault_of encoding.now (front.now ++ after) ≡ Some error) }
+    ensures stays { IfSome result (λ error. IsFaultOfAll encoding.now front.now error) }
 {
     encoding.bit_width();
     fault_stays();

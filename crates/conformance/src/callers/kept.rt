@@ -1,9 +1,10 @@
 //! Data and texts in pieces of which a caller keeps numbers and passes them back, and an encoding
 //! that is built again.
 
-ghost use Rattle.std.specs.Prelude.{◌≡◌, ◌<◌, ◌≤◌, ◌++◌, ◌||◌, length, take, IfSome};
+ghost use Rattle.std.specs.Prelude.{◌≡◌, ◌<◌, ◌≤◌, ◌++◌, ◌||◌, length, IfSome};
 ghost use Rattle.data_encoding.specs.Base.{is_padded};
 ghost use Rattle.data_encoding.specs.Text.{text_of};
+ghost use Rattle.conformance.specs.Results.{text_filled};
 
 use data_encoding::laws::specification_again;
 use data_encoding::{ENCODE_LIMIT, Encoding};
@@ -36,8 +37,7 @@ pub fn encode_kept(
     requires limit { length piece.now ≤ ENCODE_LIMIT }
     requires next_limit { length next_piece.now ≤ ENCODE_LIMIT }
     ensures { IfSome result (λ lengths. text_of encoding.now (piece.now ++ next_piece.now)
-        ≡ (take lengths.front front.new ++ take lengths.next next.new)
-        ++ take lengths.last last.new) }
+        ≡ text_filled lengths front.new next.new last.new) }
 {
     let mut encoder = BufferEncoder::new(encoding);
     if front.len() < encoder.due(piece.len()) {

@@ -1,16 +1,16 @@
 //! Keys of a fixed size, faults that follow from the bytes of a text, and pairs of data or texts.
 
-ghost use Rattle.std.specs.Prelude.{◌≡◌, ◌↔◌, ◌≤◌, ◌+◌, ◌%◌, ℕ, List, [], ◌∷◌, ◌++◌, length, None, Some, Ok, Err, IsTrue, is_some, IfOk, IfSome, OnOk};
+ghost use Rattle.std.specs.Prelude.{◌≡◌, ◌↔◌, ◌≤◌, ◌+◌, ◌%◌, ℕ, [], ◌∷◌, length, None, Some, Ok, Err, IsTrue, is_some, IfOk, IfSome};
 ghost use Rattle.std.specs.String.{string_bytes};
 ghost use Rattle.data_encoding.specs.Base.{is_ignored, meaning};
 ghost use Rattle.data_encoding.specs.Canonical.{AreTwoTexts};
 ghost use Rattle.data_encoding.specs.Eighteen.{Yields};
 ghost use Rattle.data_encoding.specs.Fault.{fault_of};
-ghost use Rattle.data_encoding.specs.Grammar.{Means};
 ghost use Rattle.data_encoding.specs.Order.{IsBefore, KeepsOrder};
-ghost use Rattle.data_encoding.specs.Predefined.{base32hex_nopad_fields, base64_nopad_fields, base64url_nopad_fields, hexlower_fields, hexlower_permissive_fields};
+ghost use Rattle.data_encoding.specs.Predefined.{base64_nopad_fields, base64url_nopad_fields, hexlower_fields, hexlower_permissive_fields};
 ghost use Rattle.data_encoding.specs.Text.{text_of};
 ghost use Rattle.data_encoding.specs.Told.{is_other};
+ghost use Rattle.conformance.specs.Texts.{HasFault, HasFaultAt, MeansBytes, TellsLength};
 
 use data_encoding::laws::steps::whole_groups;
 use data_encoding::laws::{
@@ -28,8 +28,7 @@ pub fn key_of(token: &[u8]) -> Option<[u8; 16]>
     ensures text { Yields (λ base. IfSome result (λ key. token.now ≡ text_of base key))
         base64url_nopad_fields }
     ensures some { Yields (λ base. IsTrue (is_some result)
-        ↔ ((bytes : List ℕ) × Means base token.now bytes × (length bytes ≡ 16)))
-        base64url_nopad_fields }
+        ↔ MeansBytes base token.now 16) base64url_nopad_fields }
 {
     canonical();
     eighteen();
@@ -57,8 +56,7 @@ fn is_no_symbol(encoding: &Encoding, byte: u8) -> bool
 pub fn first_wrong(text: &[u8]) -> Option<usize>
     requires even { length text.now % 2 ≡ 0 }
     ensures symbol { Yields (λ base. (index : ℕ) → (result ≡ Some index)
-        ↔ (fault_of base text.now ≡ Some (record { position = index; kind = DecodeKind.Symbol })))
-        hexlower_fields }
+        ↔ HasFault base text.now index DecodeKind.Symbol) hexlower_fields }
     ensures none { Yields (λ base. result ≡ None → fault_of base text.now ≡ None)
         hexlower_fields }
 {
@@ -90,8 +88,7 @@ pub fn is_same_key(
 /// Whether a text in hexadecimal digits of either case is that of a digest of 20 bytes, provided
 /// that it means data. This depends on its length only.
 pub fn is_digest(text: &[u8]) -> bool
-    ensures { Yields (λ base. (bytes : List ℕ) → Means base text.now bytes
-        → (IsTrue result ↔ (length bytes ≡ 20))) hexlower_permissive_fields }
+    ensures { Yields (λ base. TellsLength base text.now 20 result) hexlower_permissive_fields }
 {
     eighteen();
     tight();
@@ -104,10 +101,8 @@ pub fn place_behind(alloc: Global, text: &[u8], len: usize) -> Result<Option<usi
     requires limit { length text.now ≤ DECODE_LIMIT }
     requires within { len ≤ length text.now }
     requires whole { len % 4 ≡ 0 }
-    ensures { Yields (λ base. IfOk result (λ found. IfSome found (λ place. (kind : DecodeKind)
-        × (fault_of base text.now
-        ≡ Some (record { position = len + place; kind = kind })))))
-        base64_nopad_fields }
+    ensures { Yields (λ base. IfOk result (λ found. IfSome found
+        (λ more. HasFaultAt base text.now (len + more)))) base64_nopad_fields }
 {
     eighteen();
     fault_stays();

@@ -1,13 +1,13 @@
 //! Tokens, names and key files, in encodings whose laws need no test at run time.
 
-ghost use Rattle.std.specs.Prelude.{◌≡◌, ◌↔◌, ◌≤◌, ◌==◌, ℕ, List, length, take, reverse, take_while, count_by, not, is_some, Some, Ok, Err, IsTrue, IfOk, IfSome};
+ghost use Rattle.std.specs.Prelude.{◌≡◌, ◌↔◌, ◌≤◌, ◌==◌, length, take, reverse, take_while, count_by, not, is_some, Some, Ok, Err, IsTrue, IfErr, IfOk, IfSome};
 ghost use Rattle.std.specs.String.{string_bytes};
 ghost use Rattle.data_encoding.specs.Eighteen.{Yields};
-ghost use Rattle.data_encoding.specs.Fault.{fault_of};
 ghost use Rattle.data_encoding.specs.Grammar.{Means};
-ghost use Rattle.data_encoding.specs.Order.{IsBefore};
 ghost use Rattle.data_encoding.specs.Predefined.{base32hex_nopad_fields, base64_mime_fields, base64url_nopad_fields};
 ghost use Rattle.data_encoding.specs.Text.{text_of};
+ghost use Rattle.conformance.specs.Results.{Explains};
+ghost use Rattle.conformance.specs.Texts.{MeansSome, TellsLength, TellsOrder};
 
 use data_encoding::laws::{canonical, injective, order, tight};
 use data_encoding::{
@@ -30,7 +30,7 @@ pub fn token_of(alloc: Global, input: &[u8]) -> Result<String, AllocError>
 pub fn decoded_token(alloc: Global, token: &[u8]) -> Result<Option<Vec<u8>>, AllocError>
     requires limit { length token.now ≤ DECODE_LIMIT }
     ensures some { Yields (λ base. IfOk result (λ found. IsTrue (is_some found)
-        ↔ ((bytes : List ℕ) × Means base token.now bytes))) base64url_nopad_fields }
+        ↔ MeansSome base token.now)) base64url_nopad_fields }
     ensures only { Yields (λ base. IfOk result (λ found. IfSome found
         (λ bytes. token.now ≡ text_of base bytes.items))) base64url_nopad_fields }
 {
@@ -45,8 +45,7 @@ pub fn decoded_token(alloc: Global, token: &[u8]) -> Result<Option<Vec<u8>>, All
 /// Whether a token is that of 16 bytes, provided that it means data. This depends on its length
 /// only.
 pub fn is_key(token: &[u8]) -> bool
-    ensures { Yields (λ base. (bytes : List ℕ) → Means base token.now bytes
-        → (IsTrue result ↔ (length bytes ≡ 16))) base64url_nopad_fields }
+    ensures { Yields (λ base. TellsLength base token.now 16 result) base64url_nopad_fields }
 {
     canonical();
     injective();
@@ -57,9 +56,7 @@ pub fn is_key(token: &[u8]) -> bool
 /// Whether the data of one name comes before that of another, in BASE32HEX_NOPAD. The names are
 /// compared, and nothing is decoded.
 pub fn comes_before(one: &[u8], other: &[u8]) -> bool
-    ensures { Yields (λ base. (bytes others : List ℕ)
-        → Means base one.now bytes → Means base other.now others
-        → (IsTrue result ↔ IsBefore bytes others)) base32hex_nopad_fields }
+    ensures { Yields (λ base. TellsOrder base one.now other.now result) base32hex_nopad_fields }
 {
     let _encoding = base32hex_nopad();
     canonical();
@@ -110,12 +107,7 @@ pub fn data_of_body(alloc: Global, body: &[u8]) -> Result<Vec<u8>, BodyFault>
     requires limit { length body.now ≤ DECODE_LIMIT }
     ensures means { Yields (λ base. IfOk result (λ bytes. Means base body.now bytes.items))
         base64_mime_fields }
-    ensures fault { Yields (λ base. (place : Place) (kind : DecodeKind)
-        → result ≡ Err (BodyFault.Text place kind) → (position : ℕ)
-        × (fault_of base body.now ≡ Some (record { position = position; kind = kind }))
-        × (place.line ≡ count_by (λ byte. byte == 10) (take position body.now))
-        × (place.column ≡ length
-        (take_while (λ byte. not (byte == 10)) (reverse (take position body.now)))))
+    ensures fault { Yields (λ base. IfErr result (λ fault. Explains base body.now fault))
         base64_mime_fields }
 {
     match base64_mime().decode(alloc, body) {

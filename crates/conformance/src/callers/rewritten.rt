@@ -1,15 +1,15 @@
 //! Texts that are rewritten or compared, and mean the same.
 
-ghost use Rattle.std.specs.Prelude.{◌≡◌, ◌≢◌, ◌↔◌, ◌<◌, ◌&&◌, All, ℕ, List, [], ◌∷◌, ◌++◌, Ok, flat_map, is_some, IsTrue, IfOk, IfSome};
-ghost use Rattle.data_encoding.specs.Base.{Base, is_ignored, meaning};
-ghost use Rattle.data_encoding.specs.Bits.{runs};
+ghost use Rattle.std.specs.Prelude.{◌≡◌, ◌≢◌, ◌↔◌, ◌<◌, ◌&&◌, All, ℕ, List, Ok, is_some, IsTrue, IfOk, IfSome};
+ghost use Rattle.data_encoding.specs.Base.{is_ignored, meaning};
+ghost use Rattle.data_encoding.specs.Eighteen.{Yields};
 ghost use Rattle.data_encoding.specs.Fault.{fault_of};
-ghost use Rattle.data_encoding.specs.Fields.{base_of};
 ghost use Rattle.data_encoding.specs.Grammar.{Means};
 ghost use Rattle.data_encoding.specs.Order.{IsBefore};
-ghost use Rattle.data_encoding.specs.Predefined.{base32_dnssec_fields, base64_fields, base64url_fields};
+ghost use Rattle.data_encoding.specs.Predefined.{base32_dnssec_fields};
 ghost use Rattle.data_encoding.specs.SameMeaning.{exchanged, kept_bytes, own_form};
 ghost use Rattle.data_encoding.specs.Text.{text_of};
+ghost use Rattle.conformance.specs.Texts.{lines_of, MeanAlike, OfBase64, TellsOrder, TellsSame};
 
 use data_encoding::laws::{
     eighteen, one_meaning, order, same_but_symbols, same_kept_bytes, translated, unpadded,
@@ -33,8 +33,7 @@ fn kept(alloc: Global, encoding: &Encoding, text: &[u8]) -> Result<Vec<u8>, Allo
 // Returns the bytes in lines of `line`, the last of which may be shorter, each followed by CR LF.
 fn in_lines(alloc: Global, bytes: &[u8], line: usize) -> Result<Vec<u8>, AllocError>
     requires some { 0 < line }
-    ensures { IfOk result (λ output. output.items
-        ≡ flat_map (λ run. run ++ 13 ∷ 10 ∷ []) (runs line bytes.now)) }
+    ensures { IfOk result (λ output. output.items ≡ lines_of line bytes.now) }
 {
     let mut output = Vec::new(alloc);
     for run in bytes.chunks(line) {
@@ -53,11 +52,10 @@ pub fn rewrapped(
     text: &[u8],
     line: usize,
 ) -> Result<Option<Vec<u8>>, AllocError>
-    ensures same { IfOk result (λ found. IfSome found (λ output.
-        (bytes : List ℕ)
-        → Means encoding.now text.now bytes ↔ Means encoding.now output.items bytes)) }
-    ensures lines { IfOk result (λ found. IfSome found (λ output. 0 < line → output.items
-        ≡ flat_map (λ run. run ++ 13 ∷ 10 ∷ []) (runs line (kept_bytes encoding.now text.now)))) }
+    ensures same { IfOk result (λ found. IfSome found
+        (λ output. MeanAlike encoding.now text.now output.items)) }
+    ensures lines { IfOk result (λ found. IfSome found (λ made. 0 < line
+        → made.items ≡ lines_of line (kept_bytes encoding.now text.now))) }
     ensures some { IfOk result (λ found. is_some found
         ≡ (is_ignored (meaning encoding.now 13) && is_ignored (meaning encoding.now 10))) }
 {
@@ -76,9 +74,7 @@ pub fn rewrapped(
 
 // The byte of base64url for a byte of base64.
 fn url_byte(byte: u8) -> u8
-    ensures { (base url : Base)
-        → base_of base64_fields ≡ Ok base → base_of base64url_fields ≡ Ok url
-        → result ≡ exchanged base url byte }
+    ensures { OfBase64 (λ base url. result ≡ exchanged base url byte) }
 {
     match byte {
         b'+' => b'-',
@@ -91,16 +87,12 @@ fn url_byte(byte: u8) -> u8
 /// of data becomes their text in base64url. A text without `-` and `_` has the same fault as
 /// before.
 pub fn to_base64url(text: &mut [u8])
-    ensures text { (base url : Base) (bytes : List ℕ)
-        → base_of base64_fields ≡ Ok base → base_of base64url_fields ≡ Ok url
-        → text.old ≡ text_of base bytes → text.new ≡ text_of url bytes }
-    ensures means { (base url : Base) (bytes : List ℕ)
-        → base_of base64_fields ≡ Ok base → base_of base64url_fields ≡ Ok url
-        → Means base text.old bytes → Means url text.new bytes }
-    ensures fault { (base url : Base)
-        → base_of base64_fields ≡ Ok base → base_of base64url_fields ≡ Ok url
-        → All (λ byte. byte ≢ 45 × byte ≢ 95) text.old
-        → fault_of base text.old ≡ fault_of url text.new }
+    ensures text { OfBase64 (λ base url. (bytes : List ℕ)
+        → text.old ≡ text_of base bytes → text.new ≡ text_of url bytes) }
+    ensures means { OfBase64 (λ base url. (bytes : List ℕ)
+        → Means base text.old bytes → Means url text.new bytes) }
+    ensures fault { OfBase64 (λ base url. All (λ byte. byte ≢ 45 × byte ≢ 95) text.old
+        → fault_of base text.old ≡ fault_of url text.new) }
 {
     eighteen();
     same_but_symbols();
@@ -112,9 +104,7 @@ pub fn to_base64url(text: &mut [u8])
 /// Whether two names are the same in either case, as hashed names of DNSSEC are compared. Names
 /// that mean data are the same if and only if they mean the same data.
 pub fn is_same_name(one: &[u8], other: &[u8]) -> bool
-    ensures { (base : Base) (bytes others : List ℕ) → base_of base32_dnssec_fields ≡ Ok base
-        → Means base one.now bytes → Means base other.now others
-        → IsTrue result ↔ (bytes ≡ others) }
+    ensures { Yields (λ base. TellsSame base one.now other.now result) base32_dnssec_fields }
 {
     let encoding = base32_dnssec();
     one_meaning();
@@ -132,8 +122,7 @@ pub fn is_same_name(one: &[u8], other: &[u8]) -> bool
 
 // The byte that a byte of a name of BASE32_DNSSEC is translated to, or the byte itself.
 fn lower_byte(byte: u8) -> u8
-    ensures { (base : Base) → base_of base32_dnssec_fields ≡ Ok base
-        → result ≡ exchanged base base byte }
+    ensures { Yields (λ base. result ≡ exchanged base base byte) base32_dnssec_fields }
 {
     match byte {
         b'A'..=b'V' => byte + 32,
@@ -143,8 +132,7 @@ fn lower_byte(byte: u8) -> u8
 
 /// Changes a name of BASE32_DNSSEC to lower case, in place.
 pub fn to_lower_case(name: &mut [u8])
-    ensures { (base : Base) → base_of base32_dnssec_fields ≡ Ok base
-        → name.new ≡ own_form base name.old }
+    ensures { Yields (λ base. name.new ≡ own_form base name.old) base32_dnssec_fields }
 {
     for byte in name.iter_mut() {
         *byte = lower_byte(*byte);
@@ -161,9 +149,7 @@ fn is_before(one: &[u8], other: &[u8]) -> bool
 /// Whether the data of one name comes before that of another, in either case, as hashed names of
 /// DNSSEC are sorted. The names are changed to lower case and compared, and nothing is decoded.
 pub fn sorts_before(one: &mut [u8], other: &mut [u8]) -> bool
-    ensures { (base : Base) (bytes others : List ℕ) → base_of base32_dnssec_fields ≡ Ok base
-        → Means base one.old bytes → Means base other.old others
-        → IsTrue result ↔ IsBefore bytes others }
+    ensures { Yields (λ base. TellsOrder base one.old other.old result) base32_dnssec_fields }
 {
     translated();
     order();

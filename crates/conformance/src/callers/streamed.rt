@@ -1,15 +1,15 @@
 //! Callers of streams, and of texts that come in pieces.
 
-ghost use Rattle.std.specs.Prelude.{◌≡◌, ◌≢◌, ◌<◌, ◌≤◌, ℕ, List, ◌+◌, ◌%◌, ◌++◌, flat_map, length, Err, IfOk, None, Ok, OnOk, Some};
+ghost use Rattle.std.specs.Prelude.{◌≡◌, ◌≢◌, ◌<◌, ◌≤◌, ℕ, List, ◌+◌, ◌%◌, ◌++◌, flat_map, length, Err, IfOk, Ok, OnOk, Some};
 ghost use Rattle.data_encoding.specs.Eighteen.{Yields};
 ghost use Rattle.data_encoding.specs.Fault.{fault_of, sound_bytes};
 ghost use Rattle.data_encoding.specs.Fields.{base_of};
 ghost use Rattle.data_encoding.specs.Grammar.{Means};
 ghost use Rattle.data_encoding.specs.Laws.{Resumes};
-ghost use Rattle.data_encoding.specs.Lengths.{length_fault};
 ghost use Rattle.data_encoding.specs.Predefined.{base64_fields, base64_mime_fields};
 ghost use Rattle.data_encoding.specs.Text.{text_of};
 ghost use Rattle.encoding_stream.specs.Pieces.{verdict_of};
+ghost use Rattle.conformance.specs.Texts.{IsFaultOfAll, MeansSound};
 
 use data_encoding::laws::steps::whole_groups;
 use data_encoding::laws::{fault_stays, join_decode, join_fault, resume, round_trip, sound_text};
@@ -31,8 +31,7 @@ pub fn decode_pieces(
     ensures verdict { IfOk result (λ verdict. verdict
         ≡ verdict_of (fault_of encoding.now (flat_map (λ piece. piece.now) pieces.now))) }
     ensures means { IfOk result (λ verdict. OnOk verdict
-        (Means encoding.now (flat_map (λ piece. piece.now) pieces.now)
-        (sound_bytes encoding.now (flat_map (λ piece. piece.now) pieces.now)))) }
+        (MeansSound encoding.now (flat_map (λ piece. piece.now) pieces.now))) }
 {
     encoding.bit_width();
     sound_text();
@@ -115,10 +114,8 @@ pub fn decoded_early(alloc: Global, front: &[u8]) -> Result<Vec<u8>, DecodeFault
     requires whole { length front.now % 4 ≡ 0 }
     ensures means { Yields (λ base. IfOk result (λ bytes. Means base front.now bytes.items))
         base64_fields }
-    ensures fault { Yields (λ base. (error : DecodeError) (after : List ℕ)
-        → result ≡ Err (DecodeFault.Error error)
-        → length_fault base (length (front.now ++ after)) ≡ None
-        → fault_of base (front.now ++ after) ≡ Some error) base64_fields }
+    ensures fault { Yields (λ base. (error : DecodeError) → result ≡ Err (DecodeFault.Error error)
+        → IsFaultOfAll base front.now error) base64_fields }
 {
     fault_stays();
     whole_groups();

@@ -2,7 +2,7 @@ use Rattle.std.proofs.Common.{rules, arith, ◌≡◌, ◌∙◌, refl, sym, Som
 use Rattle.std.specs.Io.KnownBytes.{Appends, Keeps}
 use Rattle.data_encoding.specs.Named.{listing}
 use Rattle.basecode.specs.Run.{Begins, ByReply, Converts, Explains, OfNames, OfQuestion, Replies, TellsCanonical}
-use Rattle.encoding_stream.specs.Watch.{inner_of}
+use Rattle.encoding_stream.specs.Watch.{inner_of, seen}
 use Rattle.basecode.specs.Words.{Asks, Names, request_of, texts}
 use Rattle.basecode.specs.declared.command.Ask.TheVariants.{Conversion, Question}
 use Rattle.basecode.proofs.ConversionLemmas.{done_conversion, refused_conversion}
@@ -85,10 +85,8 @@ conversion g c =
 pub returns-in-Conversion-clause-done : goal.returns-in-Conversion-clause-done
 returns-in-Conversion-clause-done g c = λ ends.
     let converts : Converts c.in-Conversion.verb c.in-Ok-Of.task.encoding
-    (g.R.Read.remaining (inner_of c.args.reader.now))
-    (g.R.Read.remaining (inner_of c.convert.new.reader))
-    (g.W.Write.contents (inner_of c.args.writer.now))
-    (g.W.Write.contents (inner_of c.convert.new.writer)) =
+    (seen g.R.Read.remaining c.args.reader.now c.convert.new.reader)
+    (seen g.W.Write.contents c.args.writer.now c.convert.new.writer) =
     search rules in
     done_conversion _ _ _ _ _ c.sound_text.ensures.sound c.in-Conversion.verb
     c.in-Ok-Of.task.encoding (conversion g c) converts
@@ -96,10 +94,8 @@ returns-in-Conversion-clause-done g c = λ ends.
 pub returns-in-Conversion-clause-refused : goal.returns-in-Conversion-clause-refused
 returns-in-Conversion-clause-refused g c = λ ends.
     let explains : IfErr c.convert.result (Explains c.in-Conversion.verb c.in-Ok-Of.task.encoding
-    (g.R.Read.remaining (inner_of c.args.reader.now))
-    (g.R.Read.remaining (inner_of c.convert.new.reader))
-    (g.W.Write.contents (inner_of c.args.writer.now))
-    (g.W.Write.contents (inner_of c.convert.new.writer))) =
+    (seen g.R.Read.remaining c.args.reader.now c.convert.new.reader)
+    (seen g.W.Write.contents c.args.writer.now c.convert.new.writer)) =
     search rules in
     refused_conversion _ _ _ _ _ c.in-Conversion.verb c.in-Ok-Of.task.encoding c.convert.result
     (conversion g c) explains (sym c.settle-in-Conversion.ensures ∙ ends)
@@ -107,10 +103,8 @@ returns-in-Conversion-clause-refused g c = λ ends.
 pub returns-in-Conversion-clause-begun : goal.returns-in-Conversion-clause-begun
 returns-in-Conversion-clause-begun g c = λ not_2.
     let begins : Begins c.in-Conversion.verb c.in-Ok-Of.task.encoding
-    (g.R.Read.remaining (inner_of c.args.reader.now))
-    (g.R.Read.remaining (inner_of c.convert.new.reader))
-    (g.W.Write.contents (inner_of c.args.writer.now))
-    (g.W.Write.contents (inner_of c.convert.new.writer)) =
+    (seen g.R.Read.remaining c.args.reader.now c.convert.new.reader)
+    (seen g.W.Write.contents c.args.writer.now c.convert.new.writer) =
     search rules in
     record {
       is_begun = inl (record {

@@ -1,4 +1,4 @@
-use Rattle.std.proofs.Common.{◌≡◌, ◌∙◌, refl, arith}
+use Rattle.std.proofs.Common.{◌∙◌, refl, arith}
 use Rattle.data_encoding_calls.specs.Calls.{encode_len_status}
 use Rattle.data_encoding_calls.specs.Status.{ok, too_long}
 use Rattle.data_encoding_calls.proofs.BlockLemmas.{due-len, if-not, if-short}

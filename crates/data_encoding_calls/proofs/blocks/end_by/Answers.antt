@@ -1,4 +1,4 @@
-use Rattle.std.proofs.Common.{◌≡◌, ◌<◌, ◌≤◌, ◌++◌, ℕ, List, length, take, length-take-le, ◌∙◌, refl, sym, ap, subst, arith}
+use Rattle.std.proofs.Common.{◌≡◌, ◌++◌, ℕ, length, take, ◌∙◌, refl, ap, arith}
 use Rattle.data_encoding_calls.specs.Blocks.{last_text}
 use Rattle.data_encoding_calls.specs.Calls.{front_status}
 use Rattle.data_encoding_calls.specs.Status.{ok, short_buffer}

@@ -1,6 +1,5 @@
-use Rattle.std.proofs.Common.{◌≡◌, ◌<◌, ◌≤◌, ◌++◌, ℕ, List, length, take, ◌∙◌, refl, sym, ap, subst, arith}
-use Rattle.encoding_stream.specs.Blocks.{after_blocks, held_data, EncodesOn}
-use Rattle.data_encoding_calls.specs.Blocks.{piece_text}
+use Rattle.std.proofs.Common.{◌≡◌, ◌++◌, ℕ, length, take, ◌∙◌, refl, sym, ap, subst, arith}
+use Rattle.encoding_stream.specs.Blocks.{after_blocks, held_data, piece_text, EncodesOn}
 use Rattle.data_encoding_calls.specs.Status.{ok, short_buffer}
 use Rattle.data_encoding_calls.proofs.BlockLemmas.{due-len, if-less, if-not, refuses-data, status-by-room, status-long, written-len, written-over}
 use Rattle.data_encoding_calls.proofs.blocks.take_by.Goals as goal

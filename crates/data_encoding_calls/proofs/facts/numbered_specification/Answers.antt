@@ -1,4 +1,4 @@
-use Rattle.std.proofs.Common.{refl, subst}
+use Rattle.std.proofs.Common.{refl}
 use Rattle.data_encoding.specs.Base.{Base}
 use Rattle.data_encoding_calls.specs.Facts.{GivesBack}
 use Rattle.data_encoding_calls.proofs.NumberLemmas.{by-known, by-unknown}

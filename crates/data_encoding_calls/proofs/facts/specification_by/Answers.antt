@@ -1,4 +1,4 @@
-use Rattle.std.proofs.Common.{◌≡◌, ◌++◌, ℕ, List, length, drop, ◌∙◌, refl, ap, subst, arith}
+use Rattle.std.proofs.Common.{◌≡◌, ◌++◌, length, drop, ◌∙◌, refl, ap, subst, arith}
 use Rattle.data_encoding.specs.Fields.{Fields}
 use Rattle.data_encoding.specs.Layout.{fields_of}
 use Rattle.data_encoding_calls.specs.Facts.{texts_of}

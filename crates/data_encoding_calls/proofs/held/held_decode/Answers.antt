@@ -18,5 +18,5 @@ returns c =
       by_length = told.by_length;
       fault = told.fault;
       within = told.within;
-      behind = told.behind;
+      after = told.after;
     })

@@ -1,4 +1,4 @@
-use Rattle.std.proofs.Common.{refl, rules}
+use Rattle.std.proofs.Common.{refl}
 use Rattle.data_encoding_calls.proofs.NameLemmas.{named-utf8}
 use Rattle.data_encoding_calls.proofs.names.named_number.Goals as goal
 

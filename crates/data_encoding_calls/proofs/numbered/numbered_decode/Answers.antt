@@ -21,5 +21,5 @@ returns c =
       by_length = c.decode_by.ensures.by_length;
       fault = c.decode_by.ensures.fault;
       within = c.decode_by.ensures.within;
-      behind = c.decode_by.ensures.behind;
+      after = c.decode_by.ensures.after;
     })

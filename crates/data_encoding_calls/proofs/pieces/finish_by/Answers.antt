@@ -21,7 +21,7 @@ returns-in_default c =
       counted = λ known _. absurd (known refl);
       inside = λ known _ _. absurd (known refl);
       within = λ _ text stands. absurd (none text stands);
-      behind = refl;
+      after = refl;
       len = refl;
       short = λ is. absurd (cc is);
       refused = λ _. (refl, refl);
@@ -55,7 +55,7 @@ returns-in-Ok c =
           ∙ told-len c.args.plain.now (kept_by c.in-Some.decoder) c.in-Some.ensures.kept;
       inside = λ _ _ bad. absurd (bad refl);
       within = λ _ text stands. now.within;
-      behind = now.behind;
+      after = now.after;
       len = now.len;
       short = λ short. absurd (omega (arith, short));
       refused = λ refused. absurd (elim refused [
@@ -98,7 +98,7 @@ returns-in-Err c =
           (fault-inside (kept_by c.in-Some.decoder).len end.result.1 c.in-Err.error c.in-Err.is
           end.ensures.position);
       within = λ _ text stands. now.within;
-      behind = now.behind;
+      after = now.after;
       len = now.len;
       short = λ short. absurd (own 4 (inr refl) short);
       refused = λ refused. absurd (elim refused [

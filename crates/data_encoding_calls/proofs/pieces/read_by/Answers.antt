@@ -61,7 +61,7 @@ returns c =
     rw is at c.most-most.ensures.value in
     let inside : most ≤ room = omega (arith, c.if-output-most.false) in
     let front = c.read.new.output in
-    let behind = drop most c.args.output.now in
+    let after = drop most c.args.output.now in
     let size : length front ≡ most =
     c.read.ensures.len ∙ length-take-le most c.args.output.now inside in
     let reads : ReadsOn base kept (kept_by c.read.new.self) piece
@@ -88,19 +88,19 @@ returns c =
       decodes = λ _ text stands.
           reads.decodes text (stands-kept base plain kept text told stands).1
           ∙ ap (λ more. whole_bytes base text ++ more)
-          (sym (take-append-le c.read.result front behind c.read.ensures.within));
-      within = λ _. omega (arith, c.read.ensures.within, length-append front behind);
-      behind = λ _ text stands.
+          (sym (take-append-le c.read.result front after c.read.ensures.within));
+      within = λ _. omega (arith, c.read.ensures.within, length-append front after);
+      after = λ _ text stands.
           let due : most_completed base stands.kept (length piece) ≡ most =
           ap (λ k. most_completed base k (length piece))
           (stands-kept base plain kept text told stands).0
           ∙ sym most_is in
-          ap (λ n. drop n (front ++ behind)) due
+          ap (λ n. drop n (front ++ after)) due
           ∙ drop-append-drop most c.args.output.now front most (omega arith) size
           ∙ ap (λ n. drop n c.args.output.now) (sym due);
       len = omega (
         arith,
-        length-append front behind,
+        length-append front after,
         length-drop most c.args.output.now,
         size,
         inside,

@@ -1,4 +1,4 @@
-use Rattle.std.proofs.Common.{◌≡◌, refl, sym, ◌∙◌, arith, length, take, length-take-le}
+use Rattle.std.proofs.Common.{refl, sym, arith, length-take-le}
 use Rattle.encoding_stream.proofs.blocks.write_front.Goals as goal
 
 pub slice_bounds-encode_mut-end-2 : goal.slice_bounds-encode_mut-end-2

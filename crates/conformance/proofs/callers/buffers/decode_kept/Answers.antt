@@ -19,8 +19,12 @@ unreachable-requires c =
     (first.keeps [] c.new-decoder.ensures.nothing) in
     let none : IsSome {T = BufferDecoder} None =
     subst IsSome c.in_default.is
-    (c.resumed.ensures.resumes piece keeps (omega (arith, c.requires.limit))
-    c.kept-kept.ensures.clear) in
+    (c.resumed.ensures.resumes (record {
+      text = piece;
+      keeps = keeps;
+      limit = omega (arith, c.requires.limit);
+      clear = c.kept-kept.ensures.clear;
+    })) in
     absurd (cc none)
 
 pub returns : goal.returns

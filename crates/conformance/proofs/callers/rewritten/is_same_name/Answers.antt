@@ -4,7 +4,7 @@ use Rattle.conformance.proofs.RewrittenLemmas.{all_alike, lengths_alike, more_al
 use Rattle.conformance.proofs.callers.rewritten.is_same_name.Goals as goal
 
 pub returns-then-one-other : goal.returns-then-one-other
-returns-then-one-other c = λ base bytes others is.
+returns-then-one-other c = λ base is bytes others.
     let encoding = c.base32_dnssec-encoding.result in
     let laws = c.translated.ensures in
     same_name base is c.one_meaning.ensures laws.same laws.own_form laws.own_forms
@@ -16,7 +16,7 @@ returns-then-one-other c = λ base bytes others is.
     bytes others
 
 pub returns-then-ne : goal.returns-then-ne
-returns-then-ne c = λ base bytes others is.
+returns-then-ne c = λ base is bytes others.
     let encoding = c.base32_dnssec-encoding.result in
     let laws = c.translated.ensures in
     let apart : c.interpret_byte.result ≡ c.interpret_byte-in-loop-i.result → ⊥ =
@@ -40,7 +40,7 @@ loop-i-preserved c =
     (sym c.interpret_byte.ensures ∙ same ∙ c.interpret_byte-in-loop-i.ensures)
 
 pub returns : goal.returns
-returns c = λ base bytes others is.
+returns c = λ base is bytes others.
     let encoding = c.base32_dnssec-encoding.result in
     let laws = c.translated.ensures in
     same_name base is c.one_meaning.ensures laws.same laws.own_form laws.own_forms

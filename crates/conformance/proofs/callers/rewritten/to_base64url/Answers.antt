@@ -24,14 +24,14 @@ exchanged-is c base url is also =
     ∙ exchanged-all (exchanged base url) c.loop-byte.byte-index c.args.text.now (omega arith)
 
 pub returns-clause-text : goal.returns-clause-text
-returns-clause-text c = λ base url bytes is also text.
+returns-clause-text c = λ base url is also bytes text.
     exchanged-is c base url is also
     ∙ ap (exchanged_text base url) text
     ∙ sym (c.same_but_symbols.ensures.text base url (specified_by base64_fields base is)
     (differ base url is also c.eighteen.ensures).in_symbols bytes)
 
 pub returns-clause-means : goal.returns-clause-means
-returns-clause-means c = λ base url bytes is also means.
+returns-clause-means c = λ base url is also bytes means.
     subst (λ text. Means url text bytes) (sym (exchanged-is c base url is also))
     (c.same_but_symbols.ensures.means base url (specified_by base64_fields base is)
     (specified_by base64url_fields url also) (differ base url is also c.eighteen.ensures)

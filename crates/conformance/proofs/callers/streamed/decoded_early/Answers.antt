@@ -1,4 +1,4 @@
-use Rattle.std.proofs.Common.{◌≡◌, ◌%◌, ◌++◌, ℕ, false, List, length, Err, Some, None, refl, sym, ap, ◌∙◌, subst}
+use Rattle.std.proofs.Common.{◌≡◌, ◌%◌, ℕ, false, length, Err, refl, sym, ap, ◌∙◌, subst}
 use Rattle.std.specs.Prelude.{IfErr}
 use Rattle.std.specs.List.{enumerate_from}
 use Rattle.std.proofs.lemmas.List.{length-map}
@@ -6,11 +6,11 @@ use Rattle.std.proofs.lemmas.List.FromFn.{length-enumerate_from}
 use Rattle.data_encoding.specs.declared.error.DecodeError.{DecodeError}
 use Rattle.data_encoding.specs.declared.error.DecodeFault.TheVariants.{Error}
 use Rattle.data_encoding.specs.Base.{group_symbols, ignores_some}
-use Rattle.data_encoding.specs.Fault.{fault_of, IsRefusal}
+use Rattle.data_encoding.specs.Fault.{IsRefusal}
 use Rattle.data_encoding.specs.Fields.{IsSpecified}
 use Rattle.data_encoding.specs.Grammar.{Positioned, kept}
-use Rattle.data_encoding.specs.Lengths.{length_fault}
 use Rattle.data_encoding.specs.Predefined.{base64_fields}
+use Rattle.conformance.specs.Texts.{IsFaultOfAll}
 use Rattle.conformance.proofs.NameLemmas.{computed, yields-seen}
 use Rattle.conformance.proofs.callers.streamed.decoded_early.Goals as goal
 
@@ -30,10 +30,8 @@ returns-clause-fault c =
     let whole : length (kept seen front) % group_symbols seen.width ≡ 0 =
     subst (λ n. n % group_symbols seen.width ≡ 0) (sym len)
     (subst (λ n. length front % n ≡ 0) (sym size) c.requires.whole) in
-    yields-seen (λ base. (error : DecodeError) (after : List ℕ)
-    → c.decode.result ≡ Err (Error error)
-    → length_fault base (length (front ++ after)) ≡ None
-    → fault_of base (front ++ after) ≡ Some error) base64_fields seen yields
-    (λ error after told due.
+    yields-seen (λ base. (error : DecodeError) → c.decode.result ≡ Err (Error error)
+    → IsFaultOfAll base front error) base64_fields seen yields
+    (λ error told after due.
     c.fault_stays.ensures.text seen is front after error whole
     (subst (λ r. IfErr r (IsRefusal seen front)) told c.decode.ensures.refusal) due)

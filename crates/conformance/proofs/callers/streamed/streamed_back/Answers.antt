@@ -6,7 +6,7 @@ use Rattle.std.specs.Prelude.{All}
 use Rattle.data_encoding.specs.Grammar.{Means}
 use Rattle.data_encoding.specs.Text.{text_of}
 use Rattle.encoding_stream.specs.Decoded.{DecodesAll}
-use Rattle.encoding_stream.specs.Watch.{inner_of}
+use Rattle.encoding_stream.specs.Watch.{from_to, inner_of}
 use Rattle.conformance.proofs.StreamedLemmas.{all-decoded}
 use Rattle.conformance.proofs.callers.streamed.streamed_back.Goals as goal
 
@@ -23,7 +23,8 @@ returns-clause-same c =
     let nothing : (inner_of c.new-output.result).items ≡ [] = search rules in
     let same : (inner_of c.decode_stream.new.writer).items ≡ output = search rules in
     let rest = (inner_of c.decode_stream.new.reader).now in
-    let all : DecodesAll base None (Some text) (Some rest) (Some []) (Some output) =
+    let all : DecodesAll base None (from_to (Some text) (Some rest))
+    (from_to (Some []) (Some output)) =
     search rules in
     let means : Means base text input =
     subst (λ t. Means base t input) (sym encoded) (c.round_trip.ensures base is input fits) in
@@ -48,6 +49,7 @@ returns-in_err-decode_stream-clause-no_fault c = λ error faulty.
     let output = (inner_of c.decode_stream.new.writer).items in
     let nothing : (inner_of c.new-output.result).items ≡ [] = search rules in
     let read : (inner_of c.new-text_reader.result).now ≡ text = search rules in
-    let all : DecodesAll base (Some error) (Some text) (Some rest) (Some []) (Some output) =
+    let all : DecodesAll base (Some error) (from_to (Some text) (Some rest))
+    (from_to (Some []) (Some output)) =
     rw (read, nothing) at (c.decode_stream.ensures.all.faulty error answered) in
     none-some error (sym none ∙ (all-decoded base (Some error) text rest output all).0)

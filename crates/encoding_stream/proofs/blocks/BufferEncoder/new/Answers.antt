@@ -1,4 +1,4 @@
-use Rattle.std.proofs.Common.{◌<◌, ◌≡◌, subst}
+use Rattle.std.proofs.Common.{◌<◌, subst}
 use Rattle.encoding_stream.proofs.BlockLemmas.{encoded-none}
 use Rattle.encoding_stream.proofs.blocks.BufferEncoder.new.Goals as goal
 

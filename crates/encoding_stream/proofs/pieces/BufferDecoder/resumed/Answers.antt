@@ -6,17 +6,17 @@ use Rattle.encoding_stream.proofs.pieces.BufferDecoder.resumed.Goals as goal
 
 pub returns-then-kept-gt-DECODE_LIMIT-clause-resumes :
     goal.returns-then-kept-gt-DECODE_LIMIT-clause-resumes
-returns-then-kept-gt-DECODE_LIMIT-clause-resumes c = λ text keeps limit clear.
+returns-then-kept-gt-DECODE_LIMIT-clause-resumes c = λ is.
     let kept = c.args.kept in
     let decoder = c.new-decoder.result in
     let few =
-    held-few c.args.encoding.now (rw c.new-decoder.ensures.base at decoder.width) text kept.len
-    kept.count kept.fault kept.positions kept.bytes kept.ended (omega arith) (omega arith) keeps
-    clear in
+    held-few c.args.encoding.now (rw c.new-decoder.ensures.base at decoder.width) is.text kept.len
+    kept.count kept.fault kept.positions kept.bytes kept.ended (omega arith) (omega arith) is.keeps
+    is.clear in
     let size = rw c.new-decoder.ensures.base at decoder.group in
     elim c.then-kept-gt-DECODE_LIMIT.branch [
       | then-kept-gt-DECODE_LIMIT-via-then-kept-gt-DECODE_LIMIT w ↦
-          absurd (omega (arith, w.if-kept-gt-DECODE_LIMIT.true, keeps.counted, limit))
+          absurd (omega (arith, w.if-kept-gt-DECODE_LIMIT.true, is.keeps.counted, is.limit))
       | then-kept-gt-DECODE_LIMIT-via-else-kept-gt-DECODE_LIMIT+then-kept-decoder w ↦
           absurd (omega (arith, w.if-kept-decoder.true, few.0, size))
       | then-kept-gt-DECODE_LIMIT-via-else-kept-gt-DECODE_LIMIT+else-kept-decoder+then-kept w ↦
@@ -25,13 +25,13 @@ returns-then-kept-gt-DECODE_LIMIT-clause-resumes c = λ text keeps limit clear.
 
 pub returns-then-not-is_in_order-clause-resumes :
     goal.returns-then-not-is_in_order-clause-resumes
-returns-then-not-is_in_order-clause-resumes c = λ text keeps limit clear.
+returns-then-not-is_in_order-clause-resumes c = λ is.
     let decoder = c.new-decoder.result in
     let may =
     may-be-kept c.args.encoding.now c.new-decoder.ensures.specified
     (rw c.new-decoder.ensures.base at decoder.width) c.whole_groups.ensures.joins
-    c.whole_groups.ensures.ends_nowhere text c.args.kept (omega arith) (omega arith) keeps limit
-    clear in
+    c.whole_groups.ensures.ends_nowhere is.text c.args.kept (omega arith) (omega arith) is.keeps
+    is.limit is.clear in
     elim c.then-not-is_in_order.branch [
       | then-not-is_in_order-via-then-not-is_in_order w ↦
           sym w.if-not-is_in_order.true ∙ c.is_in_order.ensures.complete may.in_order
@@ -41,13 +41,13 @@ returns-then-not-is_in_order-clause-resumes c = λ text keeps limit clear.
 
 pub returns-then-not-has_possible_fault-clause-resumes :
     goal.returns-then-not-has_possible_fault-clause-resumes
-returns-then-not-has_possible_fault-clause-resumes c = λ text keeps limit clear.
+returns-then-not-has_possible_fault-clause-resumes c = λ is.
     let decoder = c.new-decoder.result in
     let may =
     may-be-kept c.args.encoding.now c.new-decoder.ensures.specified
     (rw c.new-decoder.ensures.base at decoder.width) c.whole_groups.ensures.joins
-    c.whole_groups.ensures.ends_nowhere text c.args.kept (omega arith) (omega arith) keeps limit
-    clear in
+    c.whole_groups.ensures.ends_nowhere is.text c.args.kept (omega arith) (omega arith) is.keeps
+    is.limit is.clear in
     sym c.if-not-has_possible_fault.true ∙ c.has_possible_fault.ensures.complete may.fault
 
 pub invariant_of-decoder-clause-clear : goal.invariant_of-decoder-clause-clear

@@ -1,0 +1,44 @@
+-- What callers return and write.
+use Rattle.std.specs.Prelude.{◌≡◌, ◌⊎◌, ◌<◌, ◌==◌, ⊤, ℕ, List, ◌++◌, count_by, length, not, reverse, take, take_while, Ok}
+use Rattle.data_encoding.specs.declared.decode.TheConstants.{DECODE_LIMIT}
+use Rattle.data_encoding.specs.declared.encode.TheConstants.{ENCODE_LIMIT}
+use Rattle.data_encoding.specs.declared.error.DecodeFault.{DecodeFault}
+use Rattle.data_encoding.specs.declared.error.DecodeFault.TheVariants.{Error}
+use Rattle.data_encoding.specs.declared.error.DecodeKind.{DecodeKind}
+use Rattle.data_encoding.specs.Base.{Base}
+use Rattle.data_encoding.specs.Fields.{Fields, base_of}
+use Rattle.data_encoding.specs.Text.{text_of}
+use Rattle.conformance.specs.declared.callers.buffers.Filled.{Filled}
+use Rattle.conformance.specs.declared.callers.kept.Lengths.{Lengths}
+use Rattle.conformance.specs.declared.callers.names.BodyFault.{BodyFault}
+use Rattle.conformance.specs.declared.callers.names.BodyFault.TheVariants.{OutOfMemory, Text}
+use Rattle.conformance.specs.Texts.{HasFault}
+
+-- a fault of this kind at this position, as decoding returns it
+abbrev pub fault_at : ℕ → DecodeKind → DecodeFault
+fault_at position kind = Error (record { position = position; kind = kind })
+
+-- The data is too long to be encoded, or their text by these fields is too long to be decoded.
+abbrev pub IsTooLong : Fields → List ℕ → Type 0
+IsTooLong fields bytes =
+    (ENCODE_LIMIT < length bytes)
+    ⊎ ((base : Base) × (base_of fields ≡ Ok base) × (DECODE_LIMIT < length (text_of base bytes)))
+
+-- The text has a fault of this kind at this line and column; nothing is said if memory ran out.
+abbrev pub Explains : Base → List ℕ → BodyFault → Type 0
+Explains base text (Text place kind) =
+    (position : ℕ) × HasFault base text position kind
+    × (place.line ≡ count_by (λ byte. byte == 10) (take position text))
+    × (place.column
+    ≡ length (take_while (λ byte. not (byte == 10)) (reverse (take position text))))
+Explains base text OutOfMemory = ⊤
+
+-- the bytes that were written to three buffers
+abbrev pub bytes_filled : Filled → List ℕ → List ℕ → List ℕ → List ℕ
+bytes_filled filled front next last =
+    take filled.front front ++ take filled.next next ++ take filled.last last
+
+-- the text that was written to three buffers
+abbrev pub text_filled : Lengths → List ℕ → List ℕ → List ℕ → List ℕ
+text_filled lengths front next last =
+    (take lengths.front front ++ take lengths.next next) ++ take lengths.last last
