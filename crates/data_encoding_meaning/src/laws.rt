@@ -105,7 +105,7 @@ pub fn tight()
 pub fn fault_stays()
     ensures groups { GroupFaultStays }
     ensures text { FaultStays }
-    ensures behind { NoFaultBefore }
+    ensures before { NoFaultBefore }
 {}
 
 /// Without padding and ignored bytes, the fault of a text of a valid length follows from its bytes,

@@ -12,7 +12,7 @@ returns-clause-text c base is text after error whole h valid =
     fault-stays base (IsRuled-yield is.fields base is.yields).is_width text after error valid whole
     h
 
-pub returns-clause-behind : goal.returns-clause-behind
-returns-clause-behind c base is text after error whole none h =
+pub returns-clause-before : goal.returns-clause-before
+returns-clause-before c base is text after error whole none h =
     fault-behind base (IsRuled-yield is.fields base is.yields).is_width text after error whole none
     h

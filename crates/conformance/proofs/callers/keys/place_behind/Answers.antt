@@ -25,7 +25,7 @@ behind c =
     (λ i. length-kept c.whole_groups.ensures.kept seen has.ignores front i
     % group_symbols (has.width i))
     ∙ ap (λ n. n % 4) len ∙ c.requires.whole in
-    let past = c.fault_stays.ensures.behind seen
+    let past = c.fault_stays.ensures.before seen
     (record { fields = base64_nopad_fields; yields = yields }) front (drop c.args.len text)
     c.in-Err-Error-decode.error whole c.in-Ok.ensures.sound.0
     (ap (fault_of seen) (take-append-drop c.args.len text) ∙ told c) in
