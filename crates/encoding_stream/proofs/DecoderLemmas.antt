@@ -152,8 +152,8 @@ module _ (base : Base) where
       )
 
 -- what is appended follows what was there before
-pub appended-behind : (before : List ℕ) {old new x y : List ℕ} → x ≡ before ++ old
+pub appended-after : (before : List ℕ) {old new x y : List ℕ} → x ≡ before ++ old
     → AppendsDecoded old new x y → y ≡ before ++ new
-appended-behind before {old} is appends =
+appended-after before {old} is appends =
     appends.appended ∙ ap (λ l. l ++ appends.bytes) is ∙ append_assoc before old appends.bytes
     ∙ ap (λ l. before ++ l) (sym appends.decoded)

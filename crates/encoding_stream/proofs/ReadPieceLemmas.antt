@@ -224,10 +224,10 @@ module _ {base : Base} {old now : Kept} {piece output : List ℕ} {read written 
       in omega (arith, one, rest-room room)
 
   -- what follows decodes to nothing
-  pub reads-behind : {new : Kept}
+  pub reads-after : {new : Kept}
       → ReadsOn base now new (take (length piece - read) (drop read piece)) []
       → ReadsOn base old new piece (take written output)
-  reads-behind {new} rest =
+  reads-after {new} rest =
       subst (ReadsOn base old new piece) (append-nil (take written output))
       (subst (λ whole. ReadsOn base old new whole (take written output ++ []))
       (take-append-drop read piece)

@@ -238,7 +238,7 @@ fn refuses_what_is_held_elsewhere(rt: HostRuntime) {
     }
     let hexadecimal = hexlower();
     assert!(rt; holds_one(&hexadecimal, 0, false));
-    assert!(rt; !holds_one(&hexadecimal, 1000, false), "behind the text");
+    assert!(rt; !holds_one(&hexadecimal, 1000, false), "after the text");
     assert!(rt; !holds_one(&hexadecimal, 0, true), "after a last group");
 }
 

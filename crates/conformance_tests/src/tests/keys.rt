@@ -42,7 +42,7 @@ fn keys_that_are_equal(rt: HostRuntime) -> Result<(), Fail> {
 }
 
 #[test]
-fn places_behind_a_front(rt: HostRuntime) -> Result<(), Fail> {
+fn places_after_a_front(rt: HostRuntime) -> Result<(), Fail> {
     assert_eq!(rt; place_behind(rt.alloc(), b"SGVsbG!8", 4)?, Some(2));
     assert_eq!(rt; place_behind(rt.alloc(), b"SG!sbG!8", 4)?, None);
     assert_eq!(rt; place_behind(rt.alloc(), b"SGVsbG8", 4)?, None);

@@ -3,7 +3,7 @@
 use super::*;
 
 #[test]
-fn writes_what_stands_before_a_fault(rt: HostRuntime) -> Result<(), Fail> {
+fn writes_what_comes_before_a_fault(rt: HostRuntime) -> Result<(), Fail> {
     let zeros = b"\0\0\0".as_slice();
     for (words, text, written, line) in [
         (

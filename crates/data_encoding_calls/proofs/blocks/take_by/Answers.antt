@@ -1,8 +1,11 @@
 use Rattle.std.proofs.Common.{◌≡◌, ◌++◌, ℕ, length, take, ◌∙◌, refl, sym, ap, subst, arith}
 use Rattle.encoding_stream.specs.Blocks.{after_blocks, held_data, piece_text, EncodesOn}
+use Rattle.data_encoding_calls.specs.Blocks.{if_kept, piece_status}
+use Rattle.data_encoding_calls.specs.Calls.{front_status}
 use Rattle.data_encoding_calls.specs.Status.{ok, short_buffer}
 use Rattle.data_encoding_calls.proofs.BlockLemmas.{due-len, if-less, if-not, refuses-data, status-by-room, status-long, written-len, written-over}
 use Rattle.data_encoding_calls.proofs.blocks.take_by.Goals as goal
+use Rattle.data_encoding_calls.proofs.blocks.take_by.Goals.{After-due}
 
 pub returns-then-piece-gt-ENCODE_LIMIT : goal.returns-then-piece-gt-ENCODE_LIMIT
 returns-then-piece-gt-ENCODE_LIMIT c =
@@ -14,18 +17,33 @@ returns-then-piece-gt-ENCODE_LIMIT c =
     (status-long base kept piece room c.in-Some.ensures.short
     (omega (arith, c.if-piece-gt-ENCODE_LIMIT.true)))
 
+-- a piece within the limit has the status of its room
+status_by_room : (c : After-due)
+    → front_status (piece_text c.args.encoding.now c.args.kept.now c.args.piece.now)
+    (length c.args.output.now)
+    ≡ if_kept c.args.encoding.now c.args.kept.now
+    (piece_status c.args.encoding.now c.args.kept.now c.args.piece.now
+    (length c.args.output.now))
+status_by_room c =
+    status-by-room c.args.encoding.now c.args.kept.now c.args.piece.now
+    (length c.args.output.now) c.in-Some.ensures.short
+    (omega (arith, c.if-piece-gt-ENCODE_LIMIT.false))
+
+length_due : (c : After-due)
+    → length (piece_text c.args.encoding.now c.args.kept.now c.args.piece.now) ≡ c.due.result
+length_due c =
+    due-len c.args.piece.now c.due.result c.in-Some.ensures.base c.in-Some.ensures.kept
+    (c.due.ensures.value c.args.piece.now refl)
+
 pub returns-then-output-due : goal.returns-then-output-due
 returns-then-output-due c =
     let base = c.args.encoding.now in
     let kept = c.args.kept.now in
     let piece = c.args.piece.now in
     let room : ℕ = length c.args.output.now in
-    let by_room =
-    status-by-room base kept piece room c.in-Some.ensures.short
-    (omega (arith, c.if-piece-gt-ENCODE_LIMIT.false)) in
-    let due =
-    due-len piece c.due.result c.in-Some.ensures.base c.in-Some.ensures.kept
-    (c.due.ensures.value piece refl) in
+    let here = (goal.at.returns-then-output-due c).After-due in
+    let by_room = status_by_room here in
+    let due = length_due here in
     refuses-data base piece _ _ (λ is. cc)
     (if-less room (length (piece_text base kept piece)) short_buffer ok
     (omega (arith, due, c.if-output-due.true))
@@ -37,12 +55,9 @@ returns c =
     let kept = c.args.kept.now in
     let piece = c.args.piece.now in
     let room : ℕ = length c.args.output.now in
-    let by_room =
-    status-by-room base kept piece room c.in-Some.ensures.short
-    (omega (arith, c.if-piece-gt-ENCODE_LIMIT.false)) in
-    let due =
-    due-len piece c.due.result c.in-Some.ensures.base c.in-Some.ensures.kept
-    (c.due.ensures.value piece refl) in
+    let here = (goal.at.returns c).After-due in
+    let by_room = status_by_room here in
+    let due = length_due here in
     let old = c.args.output.now in
     let new = c.read.new.output in
     let text = piece_text base kept piece in

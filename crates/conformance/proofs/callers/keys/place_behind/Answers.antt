@@ -13,8 +13,8 @@ told : (c : In-Err-Error-decode)
     → fault_of c.base64_nopad-encoding.result c.args.text.now ≡ Some c.in-Err-Error-decode.error
 told c = rw c.in-Err-Error-decode.field-0-is at c.in-Err-Error-decode.ensures.refusal
 
-behind : (c : In-Err-Error-decode) → c.args.len ≤ c.in-Err-Error-decode.error.position
-behind c =
+after_front : (c : In-Err-Error-decode) → c.args.len ≤ c.in-Err-Error-decode.error.position
+after_front c =
     let seen = c.base64_nopad-encoding.result in
     let yields = c.base64_nopad-encoding.ensures in
     let text = c.args.text.now in
@@ -32,14 +32,14 @@ behind c =
     omega (arith, past, len)
 
 pub overflow_sub-result : goal.overflow_sub-result
-overflow_sub-result c = behind (goal.at.overflow_sub-result c).In-Err-Error-decode
+overflow_sub-result c = after_front (goal.at.overflow_sub-result c).In-Err-Error-decode
 
 pub returns-in-Err-Error-decode : goal.returns-in-Err-Error-decode
 returns-in-Err-Error-decode c =
     let error = c.in-Err-Error-decode.error in
     let d = (goal.at.returns-in-Err-Error-decode c).In-Err-Error-decode in
     let place : error.position ≡ c.args.len + (error.position - c.args.len) =
-    omega (arith, behind d) in
+    omega (arith, after_front d) in
     yields-seen (λ base. (kind : DecodeKind) × (fault_of base c.args.text.now ≡ Some (record {
       position = c.args.len + (error.position - c.args.len);
       kind = kind;

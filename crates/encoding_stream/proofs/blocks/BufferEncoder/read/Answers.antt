@@ -1,11 +1,12 @@
-use Rattle.std.proofs.Common.{◌≡◌, ◌≤◌, ◌+◌, ◌-◌, ◌++◌, ℕ, [], length, take, drop, refl, sym, ap, ◌∙◌, subst, arith, length-append, length-take-le}
+use Rattle.std.proofs.Common.{◌≡◌, ◌≤◌, ◌+◌, ◌-◌, ◌++◌, ℕ, List, [], length, take, drop, refl, sym, ap, ◌∙◌, subst, arith, length-append, length-take-le}
 use Rattle.std.proofs.lemmas.List.{length-drop}
 use borrow.Rule.Slice.PartMut.{put_mid, same_len_mid}
 use Rattle.data_encoding.specs.Fragments.{HasEncoded}
 use Rattle.data_encoding.specs.Text.{text_of}
-use Rattle.encoding_stream.specs.Blocks.{base_of_blocks, held_data, text_of_blocks}
-use Rattle.encoding_stream.proofs.BlockLemmas.{both-after, both-written, built-again, reads-filled, reads-none}
+use Rattle.encoding_stream.specs.Blocks.{base_of_blocks, held_data, piece_text}
+use Rattle.encoding_stream.proofs.BlockLemmas.{both-after, both-written, built-again, reads-filled, reads-none, Reads}
 use Rattle.encoding_stream.proofs.blocks.BufferEncoder.read.Goals as goal
+use Rattle.encoding_stream.proofs.blocks.BufferEncoder.read.Goals.{After-hold-2}
 
 pub returns-then-piece-missing : goal.returns-then-piece-missing
 returns-then-piece-missing c =
@@ -31,40 +32,43 @@ returns-then-piece-missing c =
       len = refl;
     }
 
+-- the texts of the first block and of the others
+abbrev first_text : After-hold-2 → List ℕ
+first_text c =
+    text_of (base_of_blocks c.args.self.now) (take c.args.self.now.block c.hold-2.new.self.bytes)
+
+abbrev others_text : After-hold-2 → List ℕ
+others_text c = text_of (base_of_blocks c.args.self.now) c.split_at-2.result.0.now
+
+reads : (c : After-hold-2) → Reads (base_of_blocks c.args.self.now)
+    (held_data c.args.self.now.kept) c.args.piece.now (first_text c ++ others_text c)
+    c.split_at-2.result.1.now
+reads c =
+    reads-filled c.args.self.now c.join_encode.ensures.join c.args.piece.now
+    c.split_at.result.0.now c.split_at.result.1.now c.split_at-2.result.0.now
+    c.split_at-2.result.1.now c.hold-2.new.self (omega arith)
+    (omega (arith, c.if-piece-missing.false)) c.split_at.ensures.front
+    c.split_at.ensures.back c.split_at-2.ensures.front c.split_at-2.ensures.back
+    c.hold-2.ensures.held c.hold-2.ensures.count
+
+-- they are all that is written
+all_written : (c : After-hold-2)
+    → length (piece_text (base_of_blocks c.args.self.now) c.args.self.now.kept c.args.piece.now)
+    ≡ length (first_text c) + length (others_text c)
+all_written c = ap length (reads c).text_is ∙ length-append (first_text c) (others_text c)
+
 pub write_front-one-requires-clause-room : goal.write_front-one-requires-clause-room
 write_front-one-requires-clause-room c =
-    let encoder = c.args.self.now in
-    let base = base_of_blocks encoder in
-    let x = text_of base (take encoder.block c.hold-2.new.self.bytes) in
-    let y = text_of base c.split_at-2.result.0.now in
-    let reads =
-    reads-filled encoder c.join_encode.ensures.join c.args.piece.now c.split_at.result.0.now
-    c.split_at.result.1.now c.split_at-2.result.0.now c.split_at-2.result.1.now c.hold-2.new.self
-    (omega arith) (omega (arith, c.if-piece-missing.false)) c.split_at.ensures.front
-    c.split_at.ensures.back c.split_at-2.ensures.front c.split_at-2.ensures.back
-    c.hold-2.ensures.held c.hold-2.ensures.count in
+    let here = (goal.at.write_front-one-requires-clause-room c).After-hold-2 in
     let room = c.requires.room in
-    let all : length (text_of_blocks base (held_data encoder.kept ++ c.args.piece.now))
-    ≡ length x + length y =
-    ap length reads.text_is ∙ length-append x y in
+    let all = all_written here in
     omega (arith, room, all)
 
 pub write_front-others-requires-clause-room : goal.write_front-others-requires-clause-room
 write_front-others-requires-clause-room c =
-    let encoder = c.args.self.now in
-    let base = base_of_blocks encoder in
-    let x = text_of base (take encoder.block c.hold-2.new.self.bytes) in
-    let y = text_of base c.split_at-2.result.0.now in
-    let reads =
-    reads-filled encoder c.join_encode.ensures.join c.args.piece.now c.split_at.result.0.now
-    c.split_at.result.1.now c.split_at-2.result.0.now c.split_at-2.result.1.now c.hold-2.new.self
-    (omega arith) (omega (arith, c.if-piece-missing.false)) c.split_at.ensures.front
-    c.split_at.ensures.back c.split_at-2.ensures.front c.split_at-2.ensures.back
-    c.hold-2.ensures.held c.hold-2.ensures.count in
+    let here = (goal.at.write_front-others-requires-clause-room c).After-hold-2 in
     let room = c.requires.room in
-    let all : length (text_of_blocks base (held_data encoder.kept ++ c.args.piece.now))
-    ≡ length x + length y =
-    ap length reads.text_is ∙ length-append x y in
+    let all = all_written here in
     let one : ℕ = c.write_front-one.result in
     let mid = c.write_front-one.new.output in
     let end = length-drop one mid in
@@ -81,20 +85,13 @@ write_front-others-requires-clause-room c =
 
 pub returns : goal.returns
 returns c =
-    let encoder = c.args.self.now in
-    let base = base_of_blocks encoder in
-    let x = text_of base (take encoder.block c.hold-2.new.self.bytes) in
-    let y = text_of base c.split_at-2.result.0.now in
-    let reads =
-    reads-filled encoder c.join_encode.ensures.join c.args.piece.now c.split_at.result.0.now
-    c.split_at.result.1.now c.split_at-2.result.0.now c.split_at-2.result.1.now c.hold-2.new.self
-    (omega arith) (omega (arith, c.if-piece-missing.false)) c.split_at.ensures.front
-    c.split_at.ensures.back c.split_at-2.ensures.front c.split_at-2.ensures.back
-    c.hold-2.ensures.held c.hold-2.ensures.count in
+    let here = (goal.at.returns c).After-hold-2 in
+    let base = base_of_blocks c.args.self.now in
+    let x = first_text here in
+    let y = others_text here in
+    let read = reads here in
     let room = c.requires.room in
-    let all : length (text_of_blocks base (held_data encoder.kept ++ c.args.piece.now))
-    ≡ length x + length y =
-    ap length reads.text_is ∙ length-append x y in
+    let all = all_written here in
     let old = c.args.output.now in
     let mid = c.write_front-one.new.output in
     let part = c.write_front-others.new.output in
@@ -117,15 +114,15 @@ returns c =
     same_len_mid one (length mid - one) mid part second.len in
     record {
       base = refl;
-      text = written ∙ sym reads.text_is;
-      held = held_is ∙ sym reads.left_is;
+      text = written ∙ sym read.text_is;
+      held = held_is ∙ sym read.left_is;
       encodes = λ bytes before has.
           subst
           (λ t. HasEncoded base [] (bytes ++ c.args.piece.now) (before ++ t)
           (held_data c.hold-3.new.self))
           (sym written)
           (subst (HasEncoded base [] (bytes ++ c.args.piece.now) (before ++ (x ++ y)))
-          (sym held_is) (reads.encodes bytes before has));
+          (sym held_is) (read.encodes bytes before has));
       within = omega (arith, inside, few, same, size);
       after = both-after mid part one others inside same few old first.after second.after;
       len = size ∙ first.len;

@@ -1,7 +1,7 @@
 use Rattle.std.proofs.Common.{ℕ, List, ◌++◌, sym, subst}
 use Rattle.encoding_stream.specs.Decoder.{StandsAfter}
 use Rattle.encoding_stream.specs.Pieces.{base_of_pieces, Keeps}
-use Rattle.encoding_stream.proofs.DecoderLemmas.{appended-behind, piece-appended}
+use Rattle.encoding_stream.proofs.DecoderLemmas.{appended-after, piece-appended}
 use Rattle.encoding_stream.proofs.decoder.Decoder.push.Goals as goal
 
 pub returns-clause-stands : goal.returns-clause-stands
@@ -19,6 +19,6 @@ returns-clause-appends c =
     record {
       bytes = bytes;
       decoded = λ before text is has. record {
-        appended = appended-behind before has.appended (bytes text is);
+        appended = appended-after before has.appended (bytes text is);
       };
     }

@@ -1,8 +1,8 @@
-use Rattle.encoding_stream.proofs.ReadPieceLemmas.{reads-behind, reads-front}
+use Rattle.encoding_stream.proofs.ReadPieceLemmas.{reads-after, reads-front}
 use Rattle.encoding_stream.proofs.pieces.BufferDecoder.read_each.Goals as goal
 
 pub returns-then-read-piece-clause-reads : goal.returns-then-read-piece-clause-reads
 returns-then-read-piece-clause-reads c =
     let bytes = c.read_bytes-read in
-    reads-behind (reads-front bytes.ensures.reads bytes.ensures.read bytes.ensures.within)
+    reads-after (reads-front bytes.ensures.reads bytes.ensures.read bytes.ensures.within)
     (rw bytes.ensures.base at c.pass.ensures.reads)
