@@ -7,7 +7,7 @@
 # - `antt`: is part of the callers' proofs, word for word;
 # - `sh`: is run as it is, except that `rt run` runs the program that is tried.
 #
-# tests/interop.sh and tests/scale.sh run those of docs/SCALE.md, and tests/contracts.sh has those of
+# tests/interop.sh runs those of docs/SCALE.md, and tests/contracts.sh has those of
 # docs/CONTRACTS.md. Of docs/LIBRARY.md, docs/C.md, docs/RUST.md, docs/PYTHON.md and
 # docs/JAVASCRIPT.md the tests of these names run the programs, and those of the same languages in
 # README.md, which have at most eight lines each.
@@ -60,7 +60,7 @@ try_commands() {
     # It runs this test.
     .ci/run) is "$1: $2" tests/all "$(grep -x 'tests/all' .ci/run)" ;;
     '(cd crates/basecode && rt run -- list)'*'crates/basecode/install.sh ~/.local')
-        given=$(HOME=$room/home bash -e -c "$2" 2>&1)
+        given=$(HOME=$room/home bash -e -c "$2" 2>&1 | grep -v '^builds the program for x86-64-v3,')
         is "$1: $2" "$(basecode list)" "$given"
         given=$("$room/home/.local/bin/basecode" canonical HEXLOWER 2>&1)
         is "$1: what $2 installs" true "$given"
@@ -75,7 +75,7 @@ try_block() {
     is "$1: a block of at most eight lines: $3" 0 $?
     case $1:$2 in
     README.md:rust | README.md:python | README.md:c | README.md:js) ;;
-    docs/SCALE.md:sh | docs/SCALE.md:python | docs/LIBRARY.md:sh | docs/CONTRACTS.md:rust) ;;
+    docs/SCALE.md:sh | docs/LIBRARY.md:sh | docs/CONTRACTS.md:rust) ;;
     docs/C.md:* | docs/RUST.md:* | docs/PYTHON.md:* | docs/JAVASCRIPT.md:*) ;;
     *:text) try_examples "$1" "$3" ;;
     *:sh) try_commands "$1" "$3" ;;

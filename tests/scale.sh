@@ -1,6 +1,6 @@
 #!/usr/bin/env bash
-# Runs the program of docs/SCALE.md, and its functions with faulty texts and with workers that die,
-# on a cluster of two processes. It is skipped where there is no Dask.
+# Runs the program that docs/SCALE.md describes, and its functions with faulty texts and with workers
+# that die, on a cluster of two processes. It is skipped where there is no Dask.
 #
 # usage: tests/scale.sh [LIB]: where build.sh left the library for C; it is built if no folder is
 # given.
@@ -22,7 +22,7 @@ fi
 find_library "$@"
 cp -r bindings/python "$room/package"
 rm -rf "$room/package"/{build,src/*.egg-info}
-awk '/^```/ { inside = $0 == "```python"; next } inside' docs/SCALE.md >"$room/parts.py"
+cp bindings/python/examples/cluster.py "$room/parts.py"
 test=$(realpath tests/scale.py)
 cd "$room" || exit 1
 export PIP_DISABLE_PIP_VERSION_CHECK=1 PIP_ROOT_USER_ACTION=ignore PYTHONDONTWRITEBYTECODE=1
