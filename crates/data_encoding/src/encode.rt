@@ -193,7 +193,14 @@ impl EncodingRef<'_> {
             return output.len();
         };
         let count = symbol_count(G::WIDTH as u8, input.len());
-        output[count..].fill(character);
+        let symbols = G::SYMBOLS;
+        if output.len() >= symbols && output.len() - symbols <= count {
+            // A whole group, whose length is a constant. The symbols are written over its start.
+            let start = output.len() - symbols;
+            output[start..].fill(character);
+        } else {
+            output[count..].fill(character);
+        }
         count
     }
 }

@@ -1,5 +1,6 @@
 -- What is written after the symbols, by the tables of an encoding.
-use Rattle.std.proofs.Common.{◌≡◌, ℕ, ◌-◌, ◌*◌, ◌≤◌, Some, List, ◌++◌, length, take, drop, replicate, sym, ap, ◌∙◌}
+use Rattle.std.proofs.Common.{◌≡◌, ℕ, ◌+◌, ◌-◌, ◌*◌, ◌≤◌, Some, List, ◌++◌, length, take, drop, replicate, sym, ap, ◌∙◌, arith}
+use Rattle.std.proofs.lemmas.List.{drop-drop, drop-replicate}
 use borrow.Rule.Slice.PartMut.{put_mid}
 use Rattle.data_encoding.specs.Encoding.{EncodingTables, base_of_tables, KeepsRules}
 use Rattle.data_encoding_meaning.specs.text.Base.{Base}
@@ -19,16 +20,26 @@ module _ {e : EncodingTables} (rules : KeepsRules e) {seen : Base} (is : base_of
       symbols-first seen input (IsWidth-seen e rules seen is) count (length output) counted
       exact
 
-  module _ (character : ℕ) (some : e.padding ≡ Some character) (filled : List ℕ)
-      (is_padding : filled
-      ≡ replicate (length (take (length output - count) (drop count output))) character) where
+  -- padding may be written from before the last symbols on
+  module _ (character : ℕ) (some : e.padding ≡ Some character) (start : ℕ) (before : start ≤ count)
+      (filled : List ℕ) (is_padding : filled
+      ≡ replicate (length (take (length output - start) (drop start output))) character) where
     abbrev written : List ℕ
-    written = put_mid count (length output - count) output filled
+    written = put_mid start (length output - start) output filled
+
+    rest : drop count written ≡ replicate (length output - count) character
+    rest =
+        let within : start ≤ length output = omega (arith, count-inside) in
+        let apart : start + (count - start) ≡ count = omega arith in
+        ap (λ n. drop n written) (sym apart)
+        ∙ sym (drop-drop (count - start) start written)
+        ∙ ap (drop (count - start)) (drop-put_mid_at start output filled within
+        ∙ is_padding ∙ ap (λ n. replicate n character) (length-rest start output))
+        ∙ drop-replicate (count - start) (length output - start) character
+        ∙ ap (λ n. replicate n character) (omega arith)
 
     pub padding-written : padded_text seen input ≡ plain_text seen input ++ drop count written
     padding-written =
         padded_text-some seen input (IsWidth-seen e rules seen is) count (length output) counted
         exact character (ap (λ b. b.padding) (sym is) ∙ some)
-        ∙ ap (λ l. plain_text seen input ++ l)
-        (ap (λ n. replicate n character) (sym (length-rest count output))
-        ∙ sym is_padding ∙ sym (drop-put_mid_at count output filled count-inside))
+        ∙ ap (λ l. plain_text seen input ++ l) (sym rest)

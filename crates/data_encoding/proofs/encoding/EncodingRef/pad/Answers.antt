@@ -32,33 +32,57 @@ returns-in_default-clause-padding g c =
     ∙ ap (λ l. text ++ l)
     (sym (drop_all (length c.args.output.now) c.args.output.now (omega arith)))
 
-pub slice_bounds-fill-count : goal.slice_bounds-fill-count
-slice_bounds-fill-count g c =
+pub slice_bounds-fill-count-else-output-symbols :
+    goal.slice_bounds-fill-count-else-output-symbols
+slice_bounds-fill-count-else-output-symbols g c =
     count-inside c.self.invariant c.self.view_is c.args.input.now _ c.requires.exact _
     (c.symbol_count-count.ensures
     ∙ ap (λ n. run_count n (8 * length c.args.input.now))
     (c.WIDTH.ensures ∙ sym c.requires.width))
 
-pub slice_bounds-fill-start : goal.slice_bounds-fill-start
-slice_bounds-fill-start g c = slice_bounds-fill-count g c
+pub slice_bounds-fill-start-else-output-symbols :
+    goal.slice_bounds-fill-start-else-output-symbols
+slice_bounds-fill-start-else-output-symbols g c =
+    slice_bounds-fill-count-else-output-symbols g c
 
-pub returns-clause-inside : goal.returns-clause-inside
-returns-clause-inside g c =
+pub returns-then-output-symbols-2-clause-inside : goal.returns-then-output-symbols-2-clause-inside
+returns-then-output-symbols-2-clause-inside g c =
     let output = c.args.output.now in
-    let count = c.symbol_count-count.result in
+    let start = length c.args.output.now - c.SYMBOLS-symbols.result in
     let inside = count-inside c.self.invariant c.self.view_is c.args.input.now _ c.requires.exact _
     (c.symbol_count-count.ensures
     ∙ ap (λ n. run_count n (8 * length c.args.input.now))
     (c.WIDTH.ensures ∙ sym c.requires.width)) in
-    let same = length-put_mid count (length output - count) output c.fill.new.self
-    (omega (arith, inside)) (c.fill.ensures.len ∙ length-rest count output) in
+    let same = length-put_mid start (length output - start) output c.fill.new.self
+    (omega (arith, inside)) (c.fill.ensures.len ∙ length-rest start output) in
     omega (arith, same, inside)
 
-pub returns-clause-padding : goal.returns-clause-padding
-returns-clause-padding g c =
+pub returns-then-output-symbols-2-clause-padding : goal.returns-then-output-symbols-2-clause-padding
+returns-then-output-symbols-2-clause-padding g c =
     padding-written c.self.invariant c.self.view_is c.args.input.now _ c.requires.exact _
     (c.symbol_count-count.ensures
     ∙ ap (λ n. run_count n (8 * length c.args.input.now))
     (c.WIDTH.ensures ∙ sym c.requires.width))
-    c.in-Some.character (sym c.padding_character.ensures ∙ c.in-Some.is) _
-    (c.fill.ensures.after (λ y same. same))
+    c.in-Some.character (sym c.padding_character.ensures ∙ c.in-Some.is)
+    (length c.args.output.now - c.SYMBOLS-symbols.result) (omega arith) _ (c.fill.ensures.after (λ y same. same))
+
+pub returns-else-output-symbols-clause-inside : goal.returns-else-output-symbols-clause-inside
+returns-else-output-symbols-clause-inside g c =
+    let output = c.args.output.now in
+    let start = c.symbol_count-count.result in
+    let inside = count-inside c.self.invariant c.self.view_is c.args.input.now _ c.requires.exact _
+    (c.symbol_count-count.ensures
+    ∙ ap (λ n. run_count n (8 * length c.args.input.now))
+    (c.WIDTH.ensures ∙ sym c.requires.width)) in
+    let same = length-put_mid start (length output - start) output c.fill-else-output-symbols.new.self
+    (omega (arith, inside)) (c.fill-else-output-symbols.ensures.len ∙ length-rest start output) in
+    omega (arith, same, inside)
+
+pub returns-else-output-symbols-clause-padding : goal.returns-else-output-symbols-clause-padding
+returns-else-output-symbols-clause-padding g c =
+    padding-written c.self.invariant c.self.view_is c.args.input.now _ c.requires.exact _
+    (c.symbol_count-count.ensures
+    ∙ ap (λ n. run_count n (8 * length c.args.input.now))
+    (c.WIDTH.ensures ∙ sym c.requires.width))
+    c.in-Some.character (sym c.padding_character.ensures ∙ c.in-Some.is)
+    (c.symbol_count-count.result) (omega arith) _ (c.fill-else-output-symbols.ensures.after (λ y same. same))
