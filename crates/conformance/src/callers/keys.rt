@@ -97,7 +97,7 @@ pub fn is_digest(text: &[u8]) -> bool
 
 /// Returns how far after a prefix of whole groups the fault of a text is, if the prefix means data.
 /// Returns `None` if the text has no fault or the prefix has one.
-pub fn place_behind(alloc: Global, text: &[u8], len: usize) -> Result<Option<usize>, AllocError>
+pub fn place_after(alloc: Global, text: &[u8], len: usize) -> Result<Option<usize>, AllocError>
     requires limit { length text.now ≤ DECODE_LIMIT }
     requires within { len ≤ length text.now }
     requires whole { len % 4 ≡ 0 }

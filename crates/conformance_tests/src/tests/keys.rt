@@ -2,7 +2,7 @@
 
 use conformance::callers::buffers::fault_so_far;
 use conformance::callers::keys::{
-    first_wrong, is_digest, is_empty_text, is_same_key, is_sorted_by_texts, key_of, place_behind,
+    first_wrong, is_digest, is_empty_text, is_same_key, is_sorted_by_texts, key_of, place_after,
     texts_in_order,
 };
 use data_encoding::{DecodeError, DecodeKind, base32, base64_mime, base64_nopad, hexlower};
@@ -43,10 +43,10 @@ fn keys_that_are_equal(rt: HostRuntime) -> Result<(), Fail> {
 
 #[test]
 fn places_after_a_front(rt: HostRuntime) -> Result<(), Fail> {
-    assert_eq!(rt; place_behind(rt.alloc(), b"SGVsbG!8", 4)?, Some(2));
-    assert_eq!(rt; place_behind(rt.alloc(), b"SG!sbG!8", 4)?, None);
-    assert_eq!(rt; place_behind(rt.alloc(), b"SGVsbG8", 4)?, None);
-    assert_eq!(rt; place_behind(rt.alloc(), b"!GVs", 0)?, Some(0));
+    assert_eq!(rt; place_after(rt.alloc(), b"SGVsbG!8", 4)?, Some(2));
+    assert_eq!(rt; place_after(rt.alloc(), b"SG!sbG!8", 4)?, None);
+    assert_eq!(rt; place_after(rt.alloc(), b"SGVsbG8", 4)?, None);
+    assert_eq!(rt; place_after(rt.alloc(), b"!GVs", 0)?, Some(0));
     Ok(())
 }
 

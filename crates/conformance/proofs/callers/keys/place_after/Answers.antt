@@ -6,8 +6,8 @@ use Rattle.data_encoding.specs.Grammar.{kept}
 use Rattle.data_encoding.specs.Predefined.{base64_nopad_fields}
 use Rattle.conformance.proofs.KeyLemmas.{length-kept}
 use Rattle.conformance.proofs.NameLemmas.{yields-seen}
-use Rattle.conformance.proofs.callers.keys.place_behind.Goals as goal
-use Rattle.conformance.proofs.callers.keys.place_behind.Goals.{In-Err-Error-decode}
+use Rattle.conformance.proofs.callers.keys.place_after.Goals as goal
+use Rattle.conformance.proofs.callers.keys.place_after.Goals.{In-Err-Error-decode}
 
 told : (c : In-Err-Error-decode)
     → fault_of c.base64_nopad-encoding.result c.args.text.now ≡ Some c.in-Err-Error-decode.error
