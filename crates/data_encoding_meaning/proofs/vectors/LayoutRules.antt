@@ -1,5 +1,5 @@
 -- Worked rows of the rules of layouts.
-use Rattle.std.proofs.Common.{◌≡◌, ℕ, ◌/◌, ◌%◌, ◌<◌, List, length, replicate, slice_index, refl, inl, inr, arith, lit<, lit≤, ⊎_elim}
+use Rattle.std.proofs.Common.{◌≡◌, ℕ, ◌/◌, ◌%◌, ◌<◌, ◌≤◌, List, length, replicate, slice_index, refl, inl, inr, arith, lit<, lit≤, ⊎_elim}
 use Rattle.data_encoding_meaning.specs.specification.Layout.{layout}
 use Rattle.data_encoding_meaning.specs.specification.OneLayout.{IsIgnoredIn, IsLayout, IsLayoutOf, TellsLines, TellsPadding, TellsWrapping, entry_in}
 use Rattle.data_encoding_meaning.specs.specification.Predefined.{base64_mime_fields}
@@ -54,20 +54,22 @@ single_told : (bytes : List ℕ) → IsLayoutOf 6 bytes → slice_index bytes 51
     → slice_index bytes 512 ≡ 128 → ⊥
 single_told bytes rules single none = omega (arith, rules.single single, none)
 
--- of four bits, the symbols begin again at byte 16, that of value 15 is ASCII and has its value,
--- no entry is 16 or 131, and byte 200 means nothing
+-- of four bits, the symbols begin again at byte 16, that of value 15 is ASCII and has its value, an
+-- entry below 128 is below 16, any from 16 on is 128 to 130, and byte 200 means nothing
 entries_told : (bytes : List ℕ) → IsLayoutOf 4 bytes
-    → (slice_index bytes 17 ≡ slice_index bytes 1) × (slice_index bytes 15 ≡ 128 → ⊥)
-    × (entry_in bytes (slice_index bytes 15) ≡ 15) × (entry_in bytes 65 ≡ 16 → ⊥)
-    × (entry_in bytes 65 ≡ 131 → ⊥) × (entry_in bytes 200 ≡ 128)
+    → (slice_index bytes 17 ≡ slice_index bytes 1) × (slice_index bytes 15 < 128)
+    × (entry_in bytes (slice_index bytes 15) ≡ 15)
+    × (entry_in bytes 65 < 128 → entry_in bytes 65 < 16)
+    × (16 ≤ entry_in bytes 65 → (128 ≤ entry_in bytes 65) × (entry_in bytes 65 ≤ 130))
+    × (entry_in bytes 200 ≡ 128)
 entries_told bytes rules =
     let last = rules.own 15 (lit< tt) in
     let letter = rules.entries 65 (lit< tt) in (
       rules.repeated 17 (lit< tt),
-      (λ high. omega (arith, last.0, high)),
+      last.0,
       last.1,
-      (λ is. ⊎_elim (λ few. omega (arith, few, is)) (λ many. omega (arith, many.0, is)) letter),
-      (λ is. ⊎_elim (λ few. omega (arith, few, is)) (λ many. omega (arith, many.1, is)) letter),
+      (λ low. ⊎_elim (λ few. few) (λ many. absurd (omega (arith, many.0, low))) letter),
+      (λ high. ⊎_elim (λ few. absurd (omega (arith, few, high))) (λ many. many) letter),
       rules.invalid_from_128 200 (lit≤ tt) (lit< tt),
     )
 
