@@ -1,4 +1,3 @@
 -- The text of whole groups.
 pub mod PlainGroupLemmas
 pub mod GroupTextLemmas
-pub mod ZeroLemmas

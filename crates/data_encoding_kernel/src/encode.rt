@@ -1,11 +1,11 @@
 //! The symbols of data, group after group.
 
-ghost use Rattle.std.specs.Prelude.{◌≡◌, ℕ, ◌+◌, ◌-◌, ◌*◌, ◌/◌, ◌<◌, ◌≤◌, ◌++◌, ◌==◌, if◌then◌else◌, length, take, replicate};
+ghost use Rattle.std.specs.Prelude.{◌≡◌, ℕ, ◌+◌, ◌-◌, ◌*◌, ◌/◌, ◌<◌, ◌≤◌, ◌==◌, if◌then◌else◌, length, take};
 ghost use Rattle.data_encoding_meaning.specs.text.Base.{group_bytes};
 ghost use Rattle.data_encoding_kernel.specs.Tables.{IsTextBy};
 
 use crate::group_size::GroupSize;
-use crate::lanes::encode::{encode_eight, encode_four, encode_two};
+use crate::lanes::encode::{encode_eight, encode_four, encode_four_octal, encode_two};
 use crate::words::encode_group;
 use data_encoding_meaning::encoding::BitOrder;
 use data_encoding_meaning::limits::ENCODE_LIMIT;
@@ -142,10 +142,9 @@ impl EncodeTurn for EightGroups {
         input: &[u8],
         output: &mut [u8],
     ) {
-        if G::WIDTH == 3 {
-            encode_turns::<EightInRoom, G>(symbols, order, input, output);
-        } else if G::WIDTH >= 5 && input.len() >= 16 {
-            encode_by_order::<SixteenSymbols, G>(symbols, order, input, output);
+        // One by one, groups of several bytes take longer.
+        if G::BYTES > 1 && input.len() >= 16 {
+            encode_by_order::<FewGroups, G>(symbols, order, input, output);
         } else {
             encode_by_order::<OneGroup, G>(symbols, order, input, output);
         }
@@ -180,87 +179,21 @@ fn encode_by_order<T: EncodeTurn, G: GroupSize>(
     }
 }
 
-/// Eight groups in lanes, with zeros for the bytes that would be loaded after them. One by one,
-/// groups of eight symbols take longer; groups of fewer do not.
-struct EightInRoom;
+/// Four groups of three bytes, or two of five, in lanes; groups of one byte one by one.
+struct FewGroups;
 
-impl EncodeTurn for EightInRoom {
-    ghost number = { λ width. 8 };
+impl EncodeTurn for FewGroups {
+    ghost number = { λ width. if width == 5 then 2 else if width == 3 then 4
+        else if width == 6 then 4 else 1 };
 
-    ghost further = { λ width. 0 };
-
-    #[inline(always)]
-    fn groups<G: GroupSize>() -> usize {
-        8
-    }
-
-    #[inline(always)]
-    fn ahead<G: GroupSize>() -> usize {
-        0
-    }
-
-    #[inline(always)]
-    fn encode<G: GroupSize>(symbols: &[u8; 256], order: BitOrder, input: &[u8], output: &mut [u8]) {
-        encode_in_room::<G>(symbols, order, input, output);
-    }
-
-    // Up to two groups are encoded faster one by one.
-    #[inline(always)]
-    fn encode_rest<G: GroupSize>(
-        symbols: &[u8; 256],
-        order: BitOrder,
-        input: &[u8],
-        output: &mut [u8],
-    ) {
-        if input.len() > 2 * G::BYTES {
-            encode_in_room::<G>(symbols, order, input, output);
-        } else {
-            encode_by_order::<OneGroup, G>(symbols, order, input, output);
-        }
-    }
-}
-
-// Writes the text of at most eight groups.
-#[inline(always)]
-fn encode_in_room<G: GroupSize>(
-    symbols: &[u8; 256],
-    order: BitOrder,
-    input: &[u8],
-    output: &mut [u8],
-)
-    requires few { length input.now ≤ 8 * G.BYTES }
-    requires exact { length output.old ≡ (8 * length input.now + (G.WIDTH - 1)) / G.WIDTH }
-    ensures { IsTextBy symbols.now G.WIDTH order input.now output.new }
-{
-    let room = with_zeros(input);
-    let mut text = [0; 64];
-    encode_eight::<G>(symbols, order, &room, &mut text[..8 * G::SYMBOLS]);
-    output.copy_from_slice(&text[..output.len()]);
-}
-
-// Returns the bytes, followed by zeros.
-#[inline(always)]
-fn with_zeros(input: &[u8]) -> [u8; 48]
-    requires { length input.now ≤ 48 }
-    ensures { result ≡ input.now ++ replicate (48 - length input.now) 0 }
-{
-    let mut room = [0; 48];
-    room[..input.len()].copy_from_slice(input);
-    room
-}
-
-/// Sixteen symbols of five or six bits in lanes; groups of others one by one.
-struct SixteenSymbols;
-
-impl EncodeTurn for SixteenSymbols {
-    ghost number = { λ width. if width == 5 then 2 else if width == 6 then 4 else 1 };
-
-    ghost further = { λ width. if width == 5 then 6 else if width == 6 then 4 else 0 };
+    ghost further = { λ width. if width == 5 then 6 else if width == 3 then 4
+        else if width == 6 then 4 else 0 };
 
     #[inline(always)]
     fn groups<G: GroupSize>() -> usize {
         match G::WIDTH {
             5 => 2,
+            3 => 4,
             6 => 4,
             _ => 1,
         }
@@ -270,6 +203,7 @@ impl EncodeTurn for SixteenSymbols {
     fn ahead<G: GroupSize>() -> usize {
         match G::WIDTH {
             5 => 6,
+            3 => 4,
             6 => 4,
             _ => 0,
         }
@@ -278,6 +212,7 @@ impl EncodeTurn for SixteenSymbols {
     #[inline(always)]
     fn encode<G: GroupSize>(symbols: &[u8; 256], order: BitOrder, input: &[u8], output: &mut [u8]) {
         match G::WIDTH {
+            3 => encode_four_octal::<G>(symbols, order, input, output),
             5 => encode_two::<G>(symbols, order, input, output),
             6 => encode_four::<G>(symbols, order, input, output),
             _ => encode_group::<G>(symbols, order, input, output),

@@ -266,6 +266,19 @@ pub fn digits_of_four(order: BitOrder, input: &[u8]) -> u8x64
     join_fours(order, spread_six_bits(words))
 }
 
+/// Returns the digits of the first four groups of three bits a digit, one after another, twice.
+/// Four bytes after them are loaded too.
+#[inline(always)]
+pub fn octal_digits_of_four(order: BitOrder, input: &[u8]) -> u8x64
+    requires { 16 ≤ length input.now }
+    ensures digits { take 32 result
+        ≡ flat_map (digits_of order 3 8) (group_words order 3 4 input.now) }
+    ensures below { AllByRecursion (λ digit. digit < 2 ^ 3) result }
+{
+    let words = four_threes(order, input).swizzle::<8>([0, 1, 2, 3, 0, 1, 2, 3]);
+    join_eights(order, spread_three_bits(words.cast::<u64>()))
+}
+
 /// Returns the digits of the first two groups of five bits a digit, one after another, repeatedly.
 /// Six bytes after them are loaded too.
 #[inline(always)]

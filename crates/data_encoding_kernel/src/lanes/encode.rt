@@ -6,7 +6,7 @@ ghost use Rattle.data_encoding_meaning.specs.text.Base.{IsWidth};
 ghost use Rattle.data_encoding_kernel.specs.Tables.{IsTextBy};
 
 use crate::group_size::GroupSize;
-use crate::lanes::digits::{digits, digits_of_four, digits_of_two};
+use crate::lanes::digits::{digits, digits_of_four, digits_of_two, octal_digits_of_four};
 use data_encoding_meaning::encoding::BitOrder;
 use std::simd::prelude::*;
 
@@ -85,10 +85,19 @@ fn store<G: GroupSize>(lanes: u8x64, output: &mut [u8])
     if count == 8 {
         lanes.copy_to_slice(output);
     } else if count == 4 {
-        lanes.extract::<0, 32>().copy_to_slice(output);
+        store_thirty_two(lanes, output);
     } else {
         store_sixteen(lanes, output);
     }
+}
+
+// Writes the first half of the lanes.
+#[inline(always)]
+fn store_thirty_two(lanes: u8x64, output: &mut [u8])
+    requires exact { length output.old ≡ 32 }
+    ensures { output.new ≡ take 32 lanes }
+{
+    lanes.extract::<0, 32>().copy_to_slice(output);
 }
 
 // Writes the first sixteen lanes.
@@ -150,4 +159,22 @@ pub fn encode_two<G: GroupSize>(
 {
     let values = digits_of_two(order, input);
     store_sixteen(look_up::<G>(symbols, values), output);
+}
+
+/// Writes the text of the first four groups of eight symbols of three bits. Four bytes after them
+/// are loaded too.
+#[inline(always)]
+pub fn encode_four_octal<G: GroupSize>(
+    symbols: &[u8; 256],
+    order: BitOrder,
+    input: &[u8],
+    output: &mut [u8],
+)
+    requires three_bits { G.WIDTH ≡ 3 }
+    requires bytes { 16 ≤ length input.now }
+    requires exact { length output.old ≡ 4 * G.SYMBOLS }
+    ensures { IsTextBy symbols.now G.WIDTH order (take (4 * G.BYTES) input.now) output.new }
+{
+    let values = octal_digits_of_four(order, input);
+    store_thirty_two(look_up::<G>(symbols, values), output);
 }

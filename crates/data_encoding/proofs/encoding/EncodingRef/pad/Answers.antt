@@ -64,7 +64,8 @@ returns-then-output-symbols-2-clause-padding g c =
     ∙ ap (λ n. run_count n (8 * length c.args.input.now))
     (c.WIDTH.ensures ∙ sym c.requires.width))
     c.in-Some.character (sym c.padding_character.ensures ∙ c.in-Some.is)
-    (length c.args.output.now - c.SYMBOLS-symbols.result) (omega arith) _ (c.fill.ensures.after (λ y same. same))
+    (length c.args.output.now - c.SYMBOLS-symbols.result) (omega arith) _
+    (c.fill.ensures.after (λ y same. same))
 
 pub returns-else-output-symbols-clause-inside : goal.returns-else-output-symbols-clause-inside
 returns-else-output-symbols-clause-inside g c =
@@ -74,8 +75,9 @@ returns-else-output-symbols-clause-inside g c =
     (c.symbol_count-count.ensures
     ∙ ap (λ n. run_count n (8 * length c.args.input.now))
     (c.WIDTH.ensures ∙ sym c.requires.width)) in
-    let same = length-put_mid start (length output - start) output c.fill-else-output-symbols.new.self
-    (omega (arith, inside)) (c.fill-else-output-symbols.ensures.len ∙ length-rest start output) in
+    let same = length-put_mid start (length output - start) output
+    c.fill-else-output-symbols.new.self (omega (arith, inside))
+    (c.fill-else-output-symbols.ensures.len ∙ length-rest start output) in
     omega (arith, same, inside)
 
 pub returns-else-output-symbols-clause-padding : goal.returns-else-output-symbols-clause-padding
@@ -85,4 +87,5 @@ returns-else-output-symbols-clause-padding g c =
     ∙ ap (λ n. run_count n (8 * length c.args.input.now))
     (c.WIDTH.ensures ∙ sym c.requires.width))
     c.in-Some.character (sym c.padding_character.ensures ∙ c.in-Some.is)
-    (c.symbol_count-count.result) (omega arith) _ (c.fill-else-output-symbols.ensures.after (λ y same. same))
+    (c.symbol_count-count.result) (omega arith) _
+    (c.fill-else-output-symbols.ensures.after (λ y same. same))
