@@ -13,7 +13,7 @@ use Rattle.data_encoding.specs.Order.{IsBefore}
 use Rattle.data_encoding.specs.Predefined.{base64_fields, base64_mime_fields, base64url_fields, hexlower_fields}
 use Rattle.data_encoding.specs.Text.{text_of}
 use Rattle.conformance.specs.declared.callers.names.BodyFault.TheVariants.{OutOfMemory, Text}
-use Rattle.conformance.specs.Results.{bytes_filled, fault_at, text_filled, Explains, IsTooLong}
+use Rattle.conformance.specs.Results.{bytes_filled, fault_at, text_filled, Explains, IsFault, IsTooLong}
 use Rattle.conformance.specs.Texts.{lines_of, HasFault, HasFaultAt, IsFaultOfAll, MeanAlike, MeansBytes, MeansSome, MeansSound, OfBase64, TellsLength, TellsOrder, TellsSame}
 
 abbrev Holds : (Base → Type 0) → Result Base Refusal → Type 0
@@ -59,8 +59,10 @@ faults_found :
 faults_found = (refl, (Symbol, refl), λ error of. of [] refl)
 
 -- the fault that decoding returns
-fault_returned : fault_at 1 Symbol ≡ Error (record { position = 1; kind = Symbol })
-fault_returned = refl
+fault_returned :
+    (fault_at 1 Symbol ≡ Error (record { position = 1; kind = Symbol }))
+    × IsFault {T = List ℕ} (Err (fault_at 1 Symbol)) (record { position = 1; kind = Symbol })
+fault_returned = (refl, refl)
 
 -- both bases
 of_both : (P : Base → Base → Type 0) → OfBase64 P

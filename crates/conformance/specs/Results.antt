@@ -1,7 +1,8 @@
 -- What callers return and write.
-use Rattle.std.specs.Prelude.{◌≡◌, ◌⊎◌, ◌<◌, ◌==◌, ⊤, ℕ, List, ◌++◌, count_by, length, not, reverse, take, take_while, Ok}
+use Rattle.std.specs.Prelude.{◌≡◌, ◌⊎◌, ◌<◌, ◌==◌, ⊤, ℕ, List, ◌++◌, count_by, length, not, reverse, take, take_while, Result, Err, Ok}
 use Rattle.data_encoding.specs.declared.decode.TheConstants.{DECODE_LIMIT}
 use Rattle.data_encoding.specs.declared.encode.TheConstants.{ENCODE_LIMIT}
+use Rattle.data_encoding.specs.declared.error.DecodeError.{DecodeError}
 use Rattle.data_encoding.specs.declared.error.DecodeFault.{DecodeFault}
 use Rattle.data_encoding.specs.declared.error.DecodeFault.TheVariants.{Error}
 use Rattle.data_encoding.specs.declared.error.DecodeKind.{DecodeKind}
@@ -17,6 +18,10 @@ use Rattle.conformance.specs.Texts.{HasFault}
 -- a fault of this kind at this position, as decoding returns it
 abbrev pub fault_at : ℕ → DecodeKind → DecodeFault
 fault_at position kind = Error (record { position = position; kind = kind })
+
+-- The result is this fault of a text.
+abbrev pub IsFault : {T : Type 0} → Result T DecodeFault → DecodeError → Type 0
+IsFault result error = result ≡ Err (Error error)
 
 -- The data is too long to be encoded, or their text by these fields is too long to be decoded.
 abbrev pub IsTooLong : Fields → List ℕ → Type 0

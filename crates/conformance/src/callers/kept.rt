@@ -36,8 +36,8 @@ pub fn encode_kept(
 ) -> Option<Lengths>
     requires limit { length piece.now ≤ ENCODE_LIMIT }
     requires next_limit { length next_piece.now ≤ ENCODE_LIMIT }
-    ensures { IfSome result (λ lengths. text_of encoding.now (piece.now ++ next_piece.now)
-        ≡ text_filled lengths front.new next.new last.new) }
+    ensures { IfSome result (λ all. text_of encoding.now (piece.now ++ next_piece.now)
+        ≡ text_filled all front.new next.new last.new) }
 {
     let mut encoder = BufferEncoder::new(encoding);
     if front.len() < encoder.due(piece.len()) {

@@ -9,6 +9,7 @@ ghost use Rattle.data_encoding.specs.Laws.{Resumes};
 ghost use Rattle.data_encoding.specs.Predefined.{base64_fields, base64_mime_fields};
 ghost use Rattle.data_encoding.specs.Text.{text_of};
 ghost use Rattle.encoding_stream.specs.Pieces.{verdict_of};
+ghost use Rattle.conformance.specs.Results.{IsFault};
 ghost use Rattle.conformance.specs.Texts.{IsFaultOfAll, MeansSound};
 
 use data_encoding::laws::steps::whole_groups;
@@ -87,7 +88,7 @@ pub fn decode_in_two(
     requires lines { base_of base64_mime_fields ≡ Ok encoding.now }
     requires limit { length piece.now + length next.now ≤ DECODE_LIMIT }
     ensures means { IfOk result (λ bytes. Means encoding.now (piece.now ++ next.now) bytes.items) }
-    ensures fault { (error : DecodeError) → result ≡ Err (DecodeFault.Error error)
+    ensures fault { (error : DecodeError) → IsFault result error
         → fault_of encoding.now (piece.now ++ next.now) ≡ Some error }
 {
     let (read, mut bytes) = decode_front(alloc, encoding, piece)?;
@@ -114,7 +115,7 @@ pub fn decoded_early(alloc: Global, front: &[u8]) -> Result<Vec<u8>, DecodeFault
     requires whole { length front.now % 4 ≡ 0 }
     ensures means { Yields (λ base. IfOk result (λ bytes. Means base front.now bytes.items))
         base64_fields }
-    ensures fault { Yields (λ base. (error : DecodeError) → result ≡ Err (DecodeFault.Error error)
+    ensures fault { Yields (λ base. (error : DecodeError) → IsFault result error
         → IsFaultOfAll base front.now error) base64_fields }
 {
     fault_stays();
