@@ -6,7 +6,7 @@ use Rattle.data_encoding_meaning.specs.text.Base.{is_invalid, meaning}
 use Rattle.data_encoding_meaning.specs.specification.Fields.{Fields}
 use Rattle.data_encoding_meaning.specs.specification.Predefined.{base32_dnssec_fields, base64_fields, base64_mime_fields, base64_nopad_fields, base64url_fields, hexlower_fields, hexupper_fields, translated_fields}
 use Rattle.data_encoding_meaning.specs.laws.SameMeaning.{DifferInSymbols, DifferInSymbolsAlone, IsInvalidInBoth, exchanged, exchanged_text, has_one_own_form, kept_bytes, own_form}
-use Rattle.data_encoding_meaning.proofs.vectors.Examples.{Has, Hold, built, by, ignoring, single_fields, unchecked}
+use Rattle.data_encoding_meaning.proofs.vectors.Examples.{Has, Hold, built, by, ignoring, nopad_ignoring_lf_fields, single_fields, unchecked}
 
 -- two consecutive ignored bytes, and one at the end
 kept_of_lines : by (λ base. kept_bytes base (codes "SG" ++ 13 ∷ 10 ∷ codes "Vs" ++ 10 ∷ []))
@@ -48,6 +48,7 @@ forms_counted : Hold (λ fields. by has_one_own_form fields) (
     ∷ (base64_fields, Some false)
     ∷ (single_fields, Some true)
     ∷ (base64_mime_fields, Some false)
+    ∷ (nopad_ignoring_lf_fields, Some false)
     ∷ [])
 forms_counted = refl
 

@@ -1,5 +1,5 @@
 -- Worked rows of what follows from the promises of the steps of a decoding.
-use Rattle.std.proofs.Common.{◌≡◌, ℕ, ◌+◌, ◌*◌, ◌/◌, ◌≤◌, Bool, false, List, [], ◌∷◌, ◌++◌, length, map, take, drop, codes, refl, sym, arith, lit<, lit≤, ⊎_elim}
+use Rattle.std.proofs.Common.{◌≡◌, ℕ, ◌+◌, ◌*◌, ◌/◌, ◌≤◌, Bool, false, List, [], ◌∷◌, ◌++◌, length, map, take, drop, codes, Some, refl, sym, arith, lit<, lit≤, ⊎_elim}
 use Rattle.std.proofs.lemmas.Bool.{false≢true}
 use Rattle.data_encoding_meaning.specs.declared.error.DecodeError.{DecodeError}
 use Rattle.data_encoding_meaning.specs.declared.error.DecodeFault.TheVariants.{Error}
@@ -10,9 +10,9 @@ use Rattle.data_encoding_meaning.specs.text.Base.{Base, meaning}
 use Rattle.data_encoding_meaning.specs.text.Grammar.{Means, positioned, positioned_from}
 use Rattle.data_encoding_meaning.specs.decoding.Decoding.{HasDecodedTo, HasNoLastRun, HasRoom, HasSymbols, IsDecoded, IsDecodedGroup, IsGathered, IsIgnoredFront, IsLastRun, IsStop}
 use Rattle.data_encoding_meaning.specs.decoding.Fault.{AreSound, IsRefusal, group_fault, symbols_fault}
-use Rattle.data_encoding_meaning.specs.decoding.Partial.{StopsAt}
+use Rattle.data_encoding_meaning.specs.decoding.Partial.{StopsAt, read_len}
 use Rattle.data_encoding_meaning.specs.specification.Predefined.{base64_fields, base64_mime_fields, base64_nopad_fields, hexlower_fields}
-use Rattle.data_encoding_meaning.proofs.vectors.Examples.{built, nopad_ignoring_lf_fields}
+use Rattle.data_encoding_meaning.proofs.vectors.Examples.{built, by, nopad_ignoring_lf_fields}
 
 abbrev padded : Base
 padded = built base64_fields
@@ -201,3 +201,9 @@ stops_told output = (
   λ text stops. omega (arith, stops.read_before),
   λ stops. omega (arith, stops.within),
 )
+
+-- how far a text is read, given a fault at 3: only that of a length is read up to
+read_by_kind :
+    by (λ base. map (λ kind. read_len base (codes "AAAA") (record { position = 3; kind = kind }))
+    (Symbol ∷ LengthFault ∷ [])) base64_nopad_fields ≡ Some (4 ∷ 3 ∷ [])
+read_by_kind = refl
