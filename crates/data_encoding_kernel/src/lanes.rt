@@ -2,6 +2,7 @@
 
 pub mod affine;
 pub mod decode;
+pub mod decode_sixteen;
 pub mod digits;
 pub mod encode;
 pub mod groups;

@@ -4,7 +4,8 @@ ghost use Rattle.std.specs.Prelude.{◌≡◌, ℕ, ◌*◌, ◌<◌, ◌==◌, 
 ghost use Rattle.data_encoding_kernel.specs.Runs.{IsRunBy};
 
 use crate::group_size::GroupSize;
-use crate::lanes::decode::{decode_eight, decode_four, decode_two};
+use crate::lanes::decode::decode_eight;
+use crate::lanes::decode_sixteen::{decode_four, decode_two};
 use crate::lanes::look_up::LookUp;
 use crate::lanes::rows::{Rows, rows_of};
 use crate::words::{decode_entries, entry_of};

@@ -1,4 +1,4 @@
-//! Eight groups of symbols at a time, or those of sixteen symbols, with a lane for each.
+//! Eight groups of symbols at a time, with a lane for each.
 
 ghost use Rattle.std.specs.Prelude.{◌≡◌, ℕ, ◌+◌, ◌-◌, ◌*◌, ◌/◌, ◌^◌, ◌<◌, ◌≤◌, ◌⊎◌, List, length, map, slice_index, flat_map, IsTrue};
 ghost use Rattle.std.specs.List.{AllByRecursion, range_with_len};
@@ -15,7 +15,7 @@ use std::simd::prelude::*;
 
 // The two halves of each lane, each a digit of `size` bits, as one number.
 #[inline(always)]
-fn halves_16<const N: usize>(order: BitOrder, size: usize, lanes: Simd<u16, N>) -> Simd<u16, N>
+pub fn halves_16<const N: usize>(order: BitOrder, size: usize, lanes: Simd<u16, N>) -> Simd<u16, N>
     requires { size ≤ 8 }
     ensures { result ≡ map (joined order 8 size) lanes.entry }
 {
@@ -27,7 +27,7 @@ fn halves_16<const N: usize>(order: BitOrder, size: usize, lanes: Simd<u16, N>) 
 }
 
 #[inline(always)]
-fn halves_32<const N: usize>(order: BitOrder, size: usize, lanes: Simd<u32, N>) -> Simd<u32, N>
+pub fn halves_32<const N: usize>(order: BitOrder, size: usize, lanes: Simd<u32, N>) -> Simd<u32, N>
     requires { size ≤ 16 }
     ensures { result ≡ map (joined order 16 size) lanes.entry }
 {
@@ -39,7 +39,7 @@ fn halves_32<const N: usize>(order: BitOrder, size: usize, lanes: Simd<u32, N>) 
 }
 
 #[inline(always)]
-fn halves_64<const N: usize>(order: BitOrder, size: usize, lanes: Simd<u64, N>) -> Simd<u64, N>
+pub fn halves_64<const N: usize>(order: BitOrder, size: usize, lanes: Simd<u64, N>) -> Simd<u64, N>
     requires { size ≤ 32 }
     ensures { result ≡ map (joined order 32 size) lanes.entry }
 {
@@ -236,132 +236,5 @@ pub fn decode_eight<L: LookUp, G: GroupSize>(
         return false;
     }
     store::<G>(order, words, output);
-    true
-}
-
-// The words of four groups of four values.
-#[inline(always)]
-fn words_of_sixteen_by_four(order: BitOrder, width: usize, values: u8x16) -> u32x4
-    requires { width ≤ 8 }
-    ensures words { AllByRecursion (λ value. value < 2 ^ width) values
-        → result ≡ map (word_of order width 4) (first_chunks 4 4 values) }
-    ensures fit { AllByRecursion (λ value. value < 2 ^ width) values
-        → AllByRecursion (λ word. word < 2 ^ (width * 4)) result }
-{
-    let pairs = halves_16(order, width, u16x8::from_le_bytes(values));
-    halves_32(order, 2 * width, u32x4::from_le_bytes(pairs.to_le_bytes()))
-}
-
-// The words of two groups of eight values.
-#[inline(always)]
-fn words_of_sixteen_by_eight(order: BitOrder, width: usize, values: u8x16) -> u64x2
-    requires { width ≤ 8 }
-    ensures words { AllByRecursion (λ value. value < 2 ^ width) values
-        → result ≡ map (word_of order width 8) (first_chunks 8 2 values) }
-    ensures fit { AllByRecursion (λ value. value < 2 ^ width) values
-        → AllByRecursion (λ word. word < 2 ^ (width * 8)) result }
-{
-    let pairs = halves_16(order, width, u16x8::from_le_bytes(values));
-    let fours = halves_32(order, 2 * width, u32x4::from_le_bytes(pairs.to_le_bytes()));
-    halves_64(order, 4 * width, u64x2::from_le_bytes(fours.to_le_bytes()))
-}
-
-// Writes the bytes of four words of three bytes each.
-#[inline(always)]
-fn store_four_threes(order: BitOrder, words: u32x4, output: &mut [u8])
-    requires words { AllByRecursion (λ word. word < 2 ^ 24) words }
-    requires exact { length output.old ≡ 12 }
-    ensures { output.new
-        ≡ flat_map (λ word. map (digit order 8 3 word) (range_with_len 0 3)) words }
-{
-    let bytes = words.to_le_bytes();
-    match order {
-        BitOrder::MostSignificantFirst => {
-            bytes
-                .swizzle::<8>([2, 1, 0, 6, 5, 4, 10, 9])
-                .copy_to_slice(&mut output[..8]);
-            bytes
-                .swizzle::<4>([8, 14, 13, 12])
-                .copy_to_slice(&mut output[8..]);
-        }
-        BitOrder::LeastSignificantFirst => {
-            bytes
-                .swizzle::<8>([0, 1, 2, 4, 5, 6, 8, 9])
-                .copy_to_slice(&mut output[..8]);
-            bytes
-                .swizzle::<4>([10, 12, 13, 14])
-                .copy_to_slice(&mut output[8..]);
-        }
-    }
-}
-
-// Writes the bytes of two words of five bytes each.
-#[inline(always)]
-fn store_two_fives(order: BitOrder, words: u64x2, output: &mut [u8])
-    requires words { AllByRecursion (λ word. word < 2 ^ 40) words }
-    requires exact { length output.old ≡ 10 }
-    ensures { output.new
-        ≡ flat_map (λ word. map (digit order 8 5 word) (range_with_len 0 5)) words }
-{
-    let bytes = words.to_le_bytes();
-    match order {
-        BitOrder::MostSignificantFirst => {
-            bytes
-                .swizzle::<8>([4, 3, 2, 1, 0, 12, 11, 10])
-                .copy_to_slice(&mut output[..8]);
-            bytes.swizzle::<2>([9, 8]).copy_to_slice(&mut output[8..]);
-        }
-        BitOrder::LeastSignificantFirst => {
-            bytes
-                .swizzle::<8>([0, 1, 2, 3, 4, 8, 9, 10])
-                .copy_to_slice(&mut output[..8]);
-            bytes.swizzle::<2>([11, 12]).copy_to_slice(&mut output[8..]);
-        }
-    }
-}
-
-/// Decodes four whole groups of four symbols of six bits. Returns `false`, with the output
-/// unchanged, if a byte of the input is no symbol.
-#[inline(always)]
-pub fn decode_four<L: LookUp, G: GroupSize>(
-    look_up: &L,
-    order: BitOrder,
-    input: &[u8],
-    output: &mut [u8],
-) -> bool
-    requires six_bits { G.WIDTH ≡ 6 }
-    requires symbols { length input.now ≡ 4 * G.SYMBOLS }
-    requires exact { length output.old ≡ 4 * G.BYTES }
-    ensures { (values : List ℕ) → L.holds values look_up.now → IsTrue result
-        → IsRunBy values G.WIDTH order input.now 4 output.old output.new }
-{
-    let values = look_up.look_up_16(u8x16::from_slice(input));
-    if !are_below(64, values) {
-        return false;
-    }
-    store_four_threes(order, words_of_sixteen_by_four(order, 6, values), output);
-    true
-}
-
-/// Decodes two whole groups of eight symbols of five bits. Returns `false`, with the output
-/// unchanged, if a byte of the input is no symbol.
-#[inline(always)]
-pub fn decode_two<L: LookUp, G: GroupSize>(
-    look_up: &L,
-    order: BitOrder,
-    input: &[u8],
-    output: &mut [u8],
-) -> bool
-    requires five_bits { G.WIDTH ≡ 5 }
-    requires symbols { length input.now ≡ 2 * G.SYMBOLS }
-    requires exact { length output.old ≡ 2 * G.BYTES }
-    ensures { (values : List ℕ) → L.holds values look_up.now → IsTrue result
-        → IsRunBy values G.WIDTH order input.now 2 output.old output.new }
-{
-    let values = look_up.look_up_16(u8x16::from_slice(input));
-    if !are_below(32, values) {
-        return false;
-    }
-    store_two_fives(order, words_of_sixteen_by_eight(order, 5, values), output);
     true
 }

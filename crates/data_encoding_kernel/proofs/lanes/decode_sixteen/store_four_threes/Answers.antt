@@ -1,7 +1,7 @@
 use Rattle.std.proofs.Common.{refl, sym, ap, ◌∙◌}
 use Rattle.data_encoding_meaning.specs.declared.encoding.BitOrder.TheVariants.{MostSignificantFirst, LeastSignificantFirst}
 use Rattle.data_encoding_kernel.proofs.digits.GatherStoreLemmas.{bytes_of_words, stored-parts, four-threes-picked}
-use Rattle.data_encoding_kernel.proofs.lanes.decode.store_four_threes.Goals as goal
+use Rattle.data_encoding_kernel.proofs.lanes.decode_sixteen.store_four_threes.Goals as goal
 
 pub returns-in-MostSignificantFirst : goal.returns-in-MostSignificantFirst
 returns-in-MostSignificantFirst c =

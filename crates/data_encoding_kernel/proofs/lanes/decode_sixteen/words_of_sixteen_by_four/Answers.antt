@@ -3,7 +3,7 @@ use Rattle.std.proofs.Math.Nat.{mul-one, mul_comm}
 use Rattle.std.specs.Simd.Lanes.{number_l, digits_l}
 use Rattle.data_encoding_kernel.specs.Values.{joined}
 use Rattle.data_encoding_kernel.proofs.digits.GatherWordLemmas.{words-fit, words-of-one, words-step, relaned-words}
-use Rattle.data_encoding_kernel.proofs.lanes.decode.words_of_sixteen_by_four.Goals as goal
+use Rattle.data_encoding_kernel.proofs.lanes.decode_sixteen.words_of_sixteen_by_four.Goals as goal
 
 pub returns-clause-words : goal.returns-clause-words
 returns-clause-words c = λ small.
