@@ -68,6 +68,7 @@ put() {
 # by_words: no turn of groups in lanes is taken.
 by_words() {
     put encode.rt 'encode_turns::<EightGroups, G>' 'encode_turns::<OneGroup, G>'
+    put encode.rt 'EightGroups::encode_rest::<G>' 'encode_by_order::<OneGroup, G>'
     put decode.rt 'if input.len() < eight ||' 'if input.len() < eight || true ||'
     put turn.rt 'if width == 5 then 2 else 4' '4'
     put turn.rt '5 => 2,' '5 => 4,'

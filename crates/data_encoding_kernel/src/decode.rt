@@ -1,10 +1,7 @@
 //! Runs of whole groups of symbols only, which are decoded without a judgement.
 
-ghost use Rattle.std.specs.Prelude.{◌≡◌, ℕ, ◌*◌, ◌/◌, ◌<◌, ◌≤◌, ◌↔◌, List, length, map, slice_index, IsTrue, IfSome};
-ghost use Rattle.data_encoding_meaning.specs.decoding.Fault.{symbol_bytes};
-ghost use Rattle.data_encoding_meaning.specs.text.Base.{Base, meaning};
+ghost use Rattle.std.specs.Prelude.{◌≡◌, ℕ, ◌*◌, ◌/◌, ◌≤◌, List, length, IsTrue, IfSome};
 ghost use Rattle.data_encoding_kernel.specs.Runs.{IsLongestBy, IsRunBy};
-ghost use Rattle.data_encoding_kernel.specs.Tables.{Reads};
 
 use crate::group_size::GroupSize;
 use crate::lanes::look_up::LookUp;
@@ -39,7 +36,7 @@ pub fn decode_run<L: LookUp, O: ConstantOrder, G: GroupSize>(
     for index in first..count {
         let read = index * symbols;
         let written = index * bytes;
-        if !decode_whole_group::<G>(
+        if !decode_symbols::<G>(
             values,
             order,
             &input[read..read + symbols],
@@ -49,28 +46,6 @@ pub fn decode_run<L: LookUp, O: ConstantOrder, G: GroupSize>(
         }
     }
     count
-}
-
-// Decodes a whole group. Returns `false`, with any output, if a byte of the input is no symbol.
-#[inline(always)]
-fn decode_whole_group<G: GroupSize>(
-    values: &[u8; 256],
-    order: BitOrder,
-    input: &[u8],
-    output: &mut [u8],
-) -> bool
-    requires whole { length input.now ≡ G.SYMBOLS }
-    requires exact { length output.old ≡ G.WIDTH * length input.now / 8 }
-    ensures symbols { IsTrue result ↔ ((k : ℕ) → k < length input.now
-        → slice_index values.now (slice_index input.now k) < 128) }
-    ensures bytes { (base : Base) → Reads base values.now G.WIDTH order → IsTrue result
-        → output.new ≡ symbol_bytes base (map (meaning base) input.now) }
-{
-    // A run often ends at padding; then decoding eight symbols would be wasted.
-    if G::SYMBOLS == 8 && G::BYTES > 1 && entry_of(values, input[input.len() - 1]) >= 128 {
-        return false;
-    }
-    decode_symbols::<G>(values, order, input, output)
 }
 
 // By eight groups in lanes if there are as many, or else in shorter turns.

@@ -22,6 +22,10 @@ pub fn encode_plain<G: GroupSize>(
     requires exact { length output.old ≡ (8 * length input.now + (G.WIDTH - 1)) / G.WIDTH }
     ensures { IsTextBy symbols.now G.WIDTH order input.now output.new }
 {
+    // The rest of longer data is encoded by this call too.
+    if input.len() < 10 * G::BYTES - 2 {
+        return EightGroups::encode_rest::<G>(symbols, order, input, output);
+    }
     match order {
         BitOrder::MostSignificantFirst => encode_turns::<EightGroups, G>(
             symbols,

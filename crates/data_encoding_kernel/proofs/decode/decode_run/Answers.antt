@@ -9,16 +9,16 @@ nonzero_div-count g c =
     (IsWhole-same c.BYTES-bytes.ensures c.SYMBOLS-symbols.ensures
     g.G.GroupSize.is_group).some_symbols
 
-pub slice_bounds-decode_whole_group-end : goal.slice_bounds-decode_whole_group-end
-slice_bounds-decode_whole_group-end g c =
+pub slice_bounds-decode_symbols-end : goal.slice_bounds-decode_symbols-end
+slice_bounds-decode_symbols-end g c =
     group-before (length c.args.input.now) c.SYMBOLS-symbols.result c.loop-index.index
     c.loop-index-test.true
 
 pub overflow_mul-read : goal.overflow_mul-read
-overflow_mul-read g c = omega (arith, slice_bounds-decode_whole_group-end g c)
+overflow_mul-read g c = omega (arith, slice_bounds-decode_symbols-end g c)
 
 pub overflow_add-read : goal.overflow_add-read
-overflow_add-read g c = omega (arith, slice_bounds-decode_whole_group-end g c)
+overflow_add-read g c = omega (arith, slice_bounds-decode_symbols-end g c)
 
 pub overflow_mul-written : goal.overflow_mul-written
 overflow_mul-written g c =
@@ -26,22 +26,21 @@ overflow_mul-written g c =
     c.SYMBOLS-symbols.ensures c.requires.room c.loop-index-test.true in
     omega arith
 
-pub slice_bounds-decode_whole_group-end-in-loop-index :
-    goal.slice_bounds-decode_whole_group-end-in-loop-index
-slice_bounds-decode_whole_group-end-in-loop-index g c =
+pub slice_bounds-decode_symbols-end-in-loop-index :
+    goal.slice_bounds-decode_symbols-end-in-loop-index
+slice_bounds-decode_symbols-end-in-loop-index g c =
     rw (c.loop-index.auto.output, c.decode_by_several-first.auto.output)
     (group-room (length c.args.input.now) c.loop-index.index _ c.BYTES-bytes.ensures
     c.SYMBOLS-symbols.ensures c.requires.room c.loop-index-test.true)
 
 pub overflow_add-written : goal.overflow_add-written
-overflow_add-written g c = omega (arith, slice_bounds-decode_whole_group-end-in-loop-index g c)
+overflow_add-written g c = omega (arith, slice_bounds-decode_symbols-end-in-loop-index g c)
 
 pub decode_by_several-first-requires-clause-room : goal.decode_by_several-first-requires-clause-room
 decode_by_several-first-requires-clause-room g c = c.requires.room
 
-pub returns-then-not-decode_whole_group-clause-run :
-    goal.returns-then-not-decode_whole_group-clause-run
-returns-then-not-decode_whole_group-clause-run g c = λ base reads.
+pub returns-then-not-decode_symbols-clause-run : goal.returns-then-not-decode_symbols-clause-run
+returns-then-not-decode_symbols-clause-run g c = λ base reads.
     let bytes = c.BYTES-bytes.result in
     let symbols = c.SYMBOLS-symbols.result in
     let group = IsGroup-same refl c.BYTES-bytes.ensures c.SYMBOLS-symbols.ensures
@@ -53,12 +52,12 @@ returns-then-not-decode_whole_group-clause-run g c = λ base reads.
     c.SYMBOLS-symbols.ensures c.requires.room c.loop-index-test.true) in
     run-kept base reads.holds.is_width g.G.GroupSize.WIDTH bytes symbols group
     reads.width_is
-    c.args.input.now _ c.loop-index.output c.decode_whole_group.new.output i _ (omega (arith, room))
+    c.args.input.now _ c.loop-index.output c.decode_symbols.new.output i _ (omega (arith, room))
     (c.loop-index.invariant.run base (rw c.ORDER-order.ensures reads))
 
-pub returns-then-not-decode_whole_group-clause-longest :
-    goal.returns-then-not-decode_whole_group-clause-longest
-returns-then-not-decode_whole_group-clause-longest g c = λ base reads.
+pub returns-then-not-decode_symbols-clause-longest :
+    goal.returns-then-not-decode_symbols-clause-longest
+returns-then-not-decode_symbols-clause-longest g c = λ base reads.
     let bytes = c.BYTES-bytes.result in
     let symbols = c.SYMBOLS-symbols.result in
     let group = IsGroup-same refl c.BYTES-bytes.ensures c.SYMBOLS-symbols.ensures
@@ -67,7 +66,7 @@ returns-then-not-decode_whole_group-clause-longest g c = λ base reads.
     reads.width_is
     c.args.values.now c.args.input.now c.loop-index.index _ refl reads.holds
     (λ j. (c.type_inv.input j).fits)
-    (λ all. sym c.if-not-decode_whole_group.true ∙ c.decode_whole_group.ensures.symbols.1 all)
+    (λ all. sym c.if-not-decode_symbols.true ∙ c.decode_symbols.ensures.symbols.1 all)
 
 pub returns-clause-longest : goal.returns-clause-longest
 returns-clause-longest g c = λ base reads.
@@ -94,18 +93,18 @@ loop-index-preserved g c =
     rw (c.loop-index.auto.output, c.decode_by_several-first.auto.output)
     (group-room (length c.args.input.now) c.loop-index.index _ c.BYTES-bytes.ensures
     c.SYMBOLS-symbols.ensures c.requires.room c.loop-index-test.true) in
-    let shown_len : length c.decode_whole_group.new.output ≡ enc =
-    c.decode_whole_group.auto.output ∙ length-part (i * enc) enc output room in
+    let shown_len : length c.decode_symbols.new.output ≡ enc =
+    c.decode_symbols.auto.output ∙ length-part (i * enc) enc output room in
     record {
       run = λ base reads.
           group-next base reads.holds.is_width g.G.GroupSize.WIDTH enc dec group
           reads.width_is c.args.values.now
-          input _ output c.decode_whole_group.new.output i _ _ refl within (omega (arith, room))
+          input _ output c.decode_symbols.new.output i _ _ refl within (omega (arith, room))
           shown_len reads.holds (c.loop-index.invariant.run base reads)
           (λ j. (c.type_inv.input j).fits)
-          (c.decode_whole_group.ensures.symbols.0 c.if-not-decode_whole_group.false)
-          (c.decode_whole_group.ensures.bytes base reads
-          c.if-not-decode_whole_group.false);
+          (c.decode_symbols.ensures.symbols.0 c.if-not-decode_symbols.false)
+          (c.decode_symbols.ensures.bytes base reads
+          c.if-not-decode_symbols.false);
     }
 
 pub returns-clause-run : goal.returns-clause-run
@@ -124,15 +123,17 @@ loop-index-init g c =
           c.decode_by_several-first.ensures.run base (rw c.ORDER-order.ensures at reads);
     }
 
-pub decode_whole_group-requires-clause-whole : goal.decode_whole_group-requires-clause-whole
-decode_whole_group-requires-clause-whole g c =
-    length-part (c.loop-index.index * c.SYMBOLS-symbols.result) c.SYMBOLS-symbols.result
-    c.args.input.now
-    (group-before _ c.SYMBOLS-symbols.result c.loop-index.index c.loop-index-test.true)
-    ∙ c.SYMBOLS-symbols.ensures
+pub decode_symbols-requires-clause-few : goal.decode_symbols-requires-clause-few
+decode_symbols-requires-clause-few g c =
+    omega (
+      arith,
+      length-part (c.loop-index.index * c.SYMBOLS-symbols.result) c.SYMBOLS-symbols.result
+          c.args.input.now
+          (group-before _ c.SYMBOLS-symbols.result c.loop-index.index c.loop-index-test.true),
+    )
 
-pub decode_whole_group-requires-clause-exact : goal.decode_whole_group-requires-clause-exact
-decode_whole_group-requires-clause-exact g c =
+pub decode_symbols-requires-clause-exact : goal.decode_symbols-requires-clause-exact
+decode_symbols-requires-clause-exact g c =
     let bytes = c.BYTES-bytes.result in
     let symbols = c.SYMBOLS-symbols.result in
     let i = c.loop-index.index in
