@@ -1,5 +1,5 @@
 -- Worked rows of what calls return and write.
-use Rattle.std.proofs.Common.{◌≡◌, ◌∙◌, ◌⊎◌, ℕ, true, false, List, [], ◌∷◌, ◌++◌, map, length, drop, codes, replicate, Some, None, Result, Ok, Err, refl, zero, suc, sym, ap, subst, inl, inr, lit<, lit≤, arith}
+use Rattle.std.proofs.Common.{◌≡◌, ◌∙◌, ◌⊎◌, ℕ, ◌<◌, ◌≤◌, true, false, List, [], ◌∷◌, ◌++◌, map, length, take, drop, IsSome, codes, replicate, Some, None, Result, Ok, Err, refl, zero, suc, sym, ap, subst, inl, inr, lit<, lit≤, arith}
 use Rattle.std.proofs.lemmas.List.{append-nil}
 use Rattle.data_encoding.specs.declared.encoding.BitOrder.TheVariants.{MostSignificantFirst, LeastSignificantFirst}
 use Rattle.data_encoding.specs.declared.error.DecodeError.{DecodeError}
@@ -14,15 +14,15 @@ use Rattle.data_encoding.specs.Grammar.{Means}
 use Rattle.data_encoding.specs.Layout.{layout}
 use Rattle.data_encoding.specs.Plain.{base_of_plain}
 use Rattle.data_encoding.specs.declared.plain.PlainEncoding.{PlainEncoding}
-use Rattle.data_encoding.specs.Named.{IsNumbered}
+use Rattle.data_encoding.specs.Named.{IsNumbered, name_numbered}
 use Rattle.data_encoding.specs.Pieces.{whole_bytes}
 use Rattle.data_encoding.specs.Predefined.{base64_fields, base64_mime_fields}
 use Rattle.data_encoding.specs.Text.{text_of}
 use Rattle.encoding_stream.specs.declared.kept_data.KeptData.{KeptData}
 use Rattle.encoding_stream.specs.declared.pieces.Kept.{Kept}
-use Rattle.encoding_stream.specs.Blocks.{piece_text, EncodesOn, HasWritten}
-use Rattle.encoding_stream.specs.Pieces.{most_completed}
-use Rattle.encoding_stream.specs.Resume.{HoldsNoIgnored}
+use Rattle.encoding_stream.specs.Blocks.{held_data, piece_text, EncodesOn, HasWritten, EndsBlocks}
+use Rattle.encoding_stream.specs.Pieces.{most_completed, Keeps}
+use Rattle.encoding_stream.specs.Resume.{HoldsNoIgnored, MayBeKept}
 use Rattle.data_encoding_calls.specs.declared.convert.Decoded.{Decoded}
 use Rattle.data_encoding_calls.specs.declared.facts.TextLengths.{TextLengths}
 use Rattle.data_encoding_calls.specs.declared.make.Form.{Form}
@@ -38,6 +38,9 @@ use Rattle.data_encoding_calls.specs.Numbered.{DecodesByNumber, EncodesByNumber,
 use Rattle.data_encoding_calls.specs.Pieces.{fault_at_position, fault_told, kept_told, kept_with, kind_told, length_status, piece_status, EndsText, MayBeGiven, Places, ReadsPiece, StandsAfter, TellsRoom}
 use Rattle.data_encoding_calls.proofs.NumberLemmas.{by-known, by-unknown}
 use Rattle.data_encoding_calls.specs.Status.{detail_of_refusal, no_decoder, no_encoder, no_encoding, ok, short_buffer, status_of_fault, status_of_kind, status_of_refusal, too_long, unknown_encoding}
+use Rattle.data_encoding.specs.Fault.{fault_of, sound_bytes}
+use Rattle.data_encoding.specs.Lengths.{alignment, decoded_len}
+use Rattle.data_encoding.specs.Partial.{partial_of}
 
 abbrev Holds : (Base → Type 0) → Result Base Refusal → Type 0
 Holds P (Ok base) = P base
@@ -710,4 +713,374 @@ done_by_held held is = (
       (sym is) piece_encoded,
   subst (λ base. GivesBack base (places_of lines_form []) (places_of lines_form []) short_buffer)
       (sym is) given_back.1,
+)
+
+never-three : too_long ≡ ok → ⊥
+never-three is = absurd (cc is)
+
+never-four : short_buffer ≡ ok → ⊥
+never-four is = absurd (cc is)
+
+never-six : 6 ≡ too_long → ⊥
+never-six is = absurd (cc is)
+
+never-nineteen : no_decoder ≡ ok → ⊥
+never-nineteen is = absurd (cc is)
+
+never-twenty : no_encoder ≡ ok → ⊥
+never-twenty is = absurd (cc is)
+
+never-six-four : 6 ≡ short_buffer → ⊥
+never-six-four is = absurd (cc is)
+
+never-six-nineteen : 6 ≡ no_decoder → ⊥
+never-six-nineteen is = absurd (cc is)
+
+never-six-ok : 6 ≡ ok → ⊥
+never-six-ok is = absurd (cc is)
+
+never-seven : 7 ≡ too_long → ⊥
+never-seven is = absurd (cc is)
+
+never-seven-four : 7 ≡ short_buffer → ⊥
+never-seven-four is = absurd (cc is)
+
+-- where a call returned 0, it wrote; where it returned anything else, nothing is changed
+front_told : (output : List ℕ) (written answer : ℕ)
+    → (WritesFront (codes "Hi") (codes "....") output 0 written answer → answer ≡ ok)
+    × (WritesFront (codes "Hi") (codes "....") output 0 written ok
+    → (output ≡ codes "Hi..") × (written ≡ 2))
+    × (WritesFront (codes "Hi") (codes ".") output 7 written short_buffer
+    → (output ≡ codes ".") × (written ≡ 7))
+front_told output written answer = (
+  λ done. done.status,
+  λ done. (done.front refl, done.written refl),
+  λ done. done.refused never-four,
+)
+
+text_length_told :
+    Has base64_fields (λ base. (new answer : ℕ)
+    → (TellsTextLength base 5 7 new answer → answer ≡ ok)
+    × (TellsTextLength base 5 7 new ok → new ≡ 8)
+    × (TellsTextLength base 36028797018963968 7 new too_long → new ≡ 7))
+text_length_told new answer = (
+  λ tells. tells.status,
+  λ tells. sym (tells.text_length refl (codes "Hello") refl),
+  λ tells. tells.refused never-three,
+)
+
+text_encoded_told :
+    Has base64_fields (λ base. (output : List ℕ) (written answer : ℕ)
+    → (Encodes base (codes "Hello") (codes "..........") output 7 written answer → answer ≡ ok)
+    × (Encodes base (codes "Hello") (codes "..........") output 7 written ok
+    → (output ≡ codes "SGVsbG8=..") × (written ≡ 8))
+    × (Encodes base (codes "Hello") (codes ".") output 7 written short_buffer
+    → (output ≡ codes ".") × (written ≡ 7)))
+text_encoded_told output written answer = (
+  λ done. done.status,
+  λ done. (done.text refl, done.written refl),
+  λ done. done.refused never-four,
+)
+
+-- 6 bytes of a text of 8 characters; the fault of one of 7 is at 4; nothing of one too long
+most_bytes_told :
+    Has base64_fields (λ base. (new answer : ℕ)
+    → (TellsMost base 8 7 new answer → answer ≡ ok) × (TellsMost base 8 7 new ok → new ≡ 6)
+    × (TellsMost base 7 9 new 6 → new ≡ 4)
+    × (TellsMost base 2305843009213693952 7 new too_long → new ≡ 7))
+most_bytes_told new answer = (
+  λ tells. tells.status,
+  λ tells. sym (same-most (tells.value refl)),
+  λ tells. tells.fault (record { position = 4; kind = Length }) refl never-six,
+  λ tells. tells.refused refl,
+)
+
+-- where a decoding stopped, and what was read means what was written
+stopped_told : (base : Base) (text output : List ℕ) (decoded : Decoded)
+    → HasStopped base text output partial_at_4 decoded
+    → (decoded.read ≡ 4) × (decoded.written ≡ 3) × (decoded.position ≡ 4)
+    × Means base (take decoded.read text) (take decoded.written output)
+stopped_told base text output decoded stopped =
+    (stopped.read, stopped.written, stopped.position, stopped.means)
+
+-- what a decoding returned and wrote: of a text that means data, where there is no room, of one
+-- with a fault of its length, and of one that stopped at a fault
+decoding_told :
+    Has base64_fields (λ base. (output : List ℕ) (decoded : Decoded) (answer : ℕ)
+    → (Decodes base (codes "SGVsbG8=") (codes "......") output (told 7 7 7) decoded answer
+    → answer ≡ ok)
+    × (Decodes base (codes "SGVsbG8=") (codes "......") output (told 7 7 7) decoded ok
+    → Means base (codes "SGVsbG8=") (take decoded.written output) × (decoded.read ≡ 8)
+    × (decoded.position ≡ 8))
+    × (Decodes base (codes "SGVsbG8=") (codes ".....") output (told 7 7 7) decoded short_buffer
+    → (output ≡ codes ".....") × (decoded ≡ told 7 7 7))
+    × (Decodes base (codes "SGVsbG8") (codes "......") output (told 7 7 7) decoded 6
+    → (output ≡ codes "......") × (decoded ≡ told 0 0 4))
+    × (Decodes base (codes "SGVs!G8=") (codes "......") output (told 7 7 7) decoded 7
+    → HasStopped base (codes "SGVs!G8=") output partial_at_4 decoded)
+    × (Decodes base (codes "SGVsbG8=") (codes "........") output (told 7 7 7) decoded ok
+    → drop 6 output ≡ codes ".."))
+decoding_told output decoded answer = (
+  λ done. done.status,
+  λ done. (done.means refl, done.all refl, done.end refl),
+  λ done. done.refused (inr refl),
+  λ done. done.by_length (record { position = 4; kind = Length }) never-six refl,
+  λ done. done.fault partial_at_4 6 never-seven never-seven-four refl refl,
+  λ done. done.after 6 refl,
+)
+
+-- no more was written than the output has, if anything was
+within_told : (base : Base) (text : List ℕ) (answer : ℕ)
+    → Decodes base text [] [] (told 7 7 7) (told 8 1 8) answer → ⊥
+within_told base text answer done = none done.within where
+  none : (told 8 1 8 ≡ told 7 7 7) ⊎ (1 ≤ 0) → ⊥
+  none (inl is) =
+      let eight : ◌≡◌ {A = ℕ} 8 7 = ap (λ decoded. decoded.read) is in
+      omega (arith, eight)
+  none (inr few) = omega (arith, few)
+
+canonical_is_told : (base : Base) (answer : ℕ)
+    → (TellsCanonical base true answer → (answer ≡ ok) × IsCanonical base)
+canonical_is_told base answer tells = (tells.status, tells.is_canonical.0 refl)
+
+-- 12 is known, and 18 is not
+numbers_are_told : (base : Base) (answer : ℕ) → IsNumbered 12 base
+    → (ByNumber 12 answer ⊥ (λ other. other.width ≡ 6) → base.width ≡ 6)
+    × (ByNumber 18 answer (codes "." ≡ codes ".") (λ other. ⊥) → answer ≡ unknown_encoding)
+numbers_are_told base answer is =
+    (λ by. by.known base is, λ by. (by.unknown refl).0)
+
+facts_are_told :
+    Has base64_mime_fields (λ base. (new answer : ℕ)
+    → (TellsAlignment base new answer → (answer ≡ ok) × (new ≡ 57))
+    × (TellsWidth base new answer → (answer ≡ ok) × (new ≡ 6)))
+facts_are_told new answer =
+    (λ tells. (tells.status, tells.value), λ tells. (tells.status, tells.value))
+
+-- what is asked for has these fields, and these are the lengths of its texts
+asked_told : (form : Form) (lengths : TextLengths) → AsksFor base64_fields form lengths
+    → (form.wrap_width ≡ 0) × (lengths.symbols ≡ 64) × (lengths.ignore ≡ 0)
+    × (lengths.separator ≡ 0) × (lengths.translate_from ≡ 0) × (lengths.translate_to ≡ 0)
+asked_told form lengths asks = (
+  ap (λ fields. fields.column) asks.fields_are,
+  asks.symbols,
+  asks.ignore,
+  asks.separator,
+  asks.from,
+  asks.to,
+)
+
+given_back_told :
+    Has base64_fields (λ base. (new : SpecificationPlaces) (answer : ℕ)
+    → (GivesBack base (places_of lines_form []) new answer → answer ≡ short_buffer)
+    × (GivesBack base (places_of lines_form []) new short_buffer → new ≡ places_of lines_form [])
+    × (GivesBack base (places_of lines_form (replicate 65 46)) new ok
+    → (new.texts ≡ base64_fields.symbols ++ codes ".") × (new.lengths.symbols ≡ 64)))
+given_back_told new answer = (
+  λ gives. gives.status,
+  λ gives. gives.refused never-four,
+  λ gives. (gives.texts refl, (gives.asks refl).symbols),
+)
+
+-- what was made of a specification, of one that is refused, and of a layout
+made_told : (base : Base) (made : Made)
+    → (Makes (Ok base) made → (made.status ≡ ok) × (base_of_plain made.held ≡ base))
+    × (Makes (Err (Duplicate 97)) made → (made.status ≡ 12) × (made.detail ≡ 97))
+made_told base made = (λ makes. makes, λ makes. makes)
+
+made_of_layout_told : (base : Base) (bytes : List ℕ) (made : Made) → MakesOfLayout bytes made
+    → (IsSpecified base → layout base ≡ bytes → (made.status ≡ ok)
+    × (base_of_plain made.held ≡ base))
+    × (made.status ≡ ok → layout (base_of_plain made.held) ≡ bytes)
+    × ((made.status ≡ ok → ⊥) → made.status ≡ no_encoding)
+made_of_layout_told base bytes made makes =
+    (λ is same. makes.known base is same, makes.is_layout, makes.status)
+
+-- where there is room for 22 bytes, the name of 12 is not refused; 18 has none
+names_told : (output : List ℕ) (written answer : ℕ)
+    → (WritesName 12 (codes "........") output 7 written answer → answer ≡ ok)
+    × (WritesName 18 (codes "..") output 7 written answer
+    → (answer ≡ unknown_encoding) × (output ≡ codes "..") × (written ≡ 7))
+    × (WritesName 12 (replicate 22 46) output 7 written short_buffer → ⊥)
+names_told output written answer = (
+  λ writes. (writes.known (codes "BASE64") refl).status,
+  λ writes. writes.unknown refl,
+  λ writes. writes.fits (lit≤ tt) refl,
+)
+
+numbers_of_names_told : (new answer : ℕ)
+    → (FindsNumber (codes "BASE64") 7 new answer → (answer ≡ ok) × (new ≡ 12))
+    × (FindsNumber (codes "base64") 7 new answer → (answer ≡ unknown_encoding) × (new ≡ 7))
+numbers_of_names_told new answer = (λ finds. finds.known 12 refl, λ finds. finds.unknown refl)
+
+-- the numbers that were given describe this, and it passes the tests
+given_told : (base : Base) (given : MayBeGiven base plain_so_far)
+    → (given.kept ≡ kept_so_far) × MayBeKept base given.kept
+given_told base given = (sym (same-kept given.told), given.passes)
+
+abbrev plain_of_fault : PlainKept
+plain_of_fault = record plain_so_far { fault = 7; fault_position = 4 }
+
+-- eight bytes were told, within the limit; after a fault nothing is held
+stands_told : (base : Base) (text : List ℕ)
+    → ((stands : StandsAfter base plain_so_far text) → (stands.kept ≡ kept_so_far)
+    × (stands.kept.len ≡ length text) × (length text ≤ 2305843009213693951))
+    × (StandsAfter base plain_of_fault text → ⊥)
+stands_told base text = (
+  λ stands. (sym (same-kept stands.told), stands.keeps.counted, stands.limit),
+  λ stands. two-zero (subst (λ kept. IsSome kept.fault → kept.count ≡ 0)
+      (sym (same-kept stands.told)) stands.clear refl),
+) where
+  two-zero : ◌≡◌ {A = ℕ} 2 0 → ⊥
+  two-zero is = omega (arith, is)
+
+room_is_told :
+    Has base64_mime_fields (λ base. (new answer : ℕ)
+    → (TellsRoom base plain_so_far 5 7 new answer → answer ≡ ok)
+    × (TellsRoom base plain_so_far 5 7 new ok → new ≡ 3)
+    × (TellsRoom base plain_of_none 5 7 new no_decoder → new ≡ 7))
+unfolding decoder_stands
+room_is_told new answer = (
+  λ tells. tells.status _ decoder_stands,
+  λ tells. tells.value refl _ decoder_stands,
+  λ tells. tells.refused never-nineteen,
+)
+
+-- `8=` ends the group that is held, and means `lo` with it
+piece_told :
+    Has base64_mime_fields (λ base. (new : Places) (answer : ℕ)
+    → (ReadsPiece base (codes "8=") (places_so_far 7) new answer
+    → (answer ≡ ok) × (length new.output ≡ 3))
+    × (ReadsPiece base (codes "8=") (places_so_far 7) new ok
+    → StandsAfter base new.decoder (codes "SGVsbG" ++ 13 ∷ 10 ∷ codes "8=")
+    × (take new.written new.output ≡ codes "lo") × (new.written ≤ length new.output)
+    × (drop 3 new.output ≡ []))
+    × (ReadsPiece base (codes "8=") places_of_none new no_decoder → new ≡ places_of_none))
+unfolding decoder_stands
+piece_told new answer = (
+  λ reads. (reads.status _ decoder_stands, reads.len),
+  λ reads. (
+    reads.stands refl _ decoder_stands,
+    sym (ap (drop 3) (reads.decodes refl _ decoder_stands)),
+    reads.within refl,
+    reads.after refl _ decoder_stands,
+  ),
+  λ reads. reads.refused never-nineteen,
+)
+
+abbrev Ends : Base → List ℕ → Decoded → ℕ → Type 0
+Ends base output decoded answer =
+    EndsText base plain_so_far (codes ".....") output (told 7 7 7) decoded answer
+
+-- `SGVsbG` CR LF has a fault of its length at 4, and its last group no bytes
+verdict_told :
+    Has base64_mime_fields (λ base. (output : List ℕ) (decoded : Decoded) (answer : ℕ)
+    → (Ends base output decoded answer → (answer ≡ short_buffer → ⊥) → answer ≡ 6)
+    × (Ends base output decoded 6 → (take decoded.written output ≡ [])
+    × (decoded.position ≡ 4) × (decoded.read ≡ 8) × (decoded.written ≤ length output)))
+verdict_told output decoded answer = (
+  λ ends other. ends.verdict other _ decoder_stands,
+  λ ends. (
+    sym (ap (drop 3) (ends.bytes never-six-four _ decoder_stands)),
+    ends.position never-six-four _ (record { position = 4; kind = Length }) decoder_stands refl,
+    ends.read never-six-four _ decoder_stands,
+    ends.within never-six-four _ decoder_stands,
+  ),
+)
+
+-- of whatever was told
+end_told : (base : Base) (output : List ℕ) (decoded : Decoded)
+    → (Ends base output decoded ok → decoded.position ≡ decoded.read)
+    × (Ends base output decoded 6 → MayBeGiven base plain_so_far × (decoded.read ≡ 8)
+    × (decoded.position < decoded.read) × (length output ≡ 5)
+    × (drop decoded.written output ≡ drop decoded.written (codes ".....")))
+    × (Ends base output decoded short_buffer → ⊥)
+    × (Ends base output decoded no_decoder → (output ≡ codes ".....") × (decoded ≡ told 7 7 7))
+end_told base output decoded = (
+  λ ends. ends.end refl,
+  λ ends. (
+    ends.given never-six-nineteen,
+    ends.counted never-six-nineteen never-six-four,
+    ends.inside never-six-nineteen never-six-four never-six-ok,
+    ends.len,
+    ends.after,
+  ),
+  λ ends. omega (arith, ends.short refl),
+  λ ends. ends.refused (inl refl),
+)
+
+-- `w!` completes a block with `lo`, of which four characters are due
+due_is_told :
+    Has base64_fields (λ base. (new answer : ℕ)
+    → (TellsDue base data_so_far 2 7 new answer → answer ≡ ok)
+    × (TellsDue base data_so_far 2 7 new ok → new ≡ 4)
+    × (TellsDue base whole_block 2 7 new no_encoder → new ≡ 7))
+due_is_told new answer = (
+  λ tells. tells.status,
+  λ tells. sym (tells.value refl (codes "w!") refl),
+  λ tells. tells.refused never-twenty,
+)
+
+data_read_told :
+    Has base64_fields (λ base. (new : DataPlaces) (answer : ℕ)
+    → (EncodesPiece base (codes "w!") (places_with data_so_far 7) new answer → answer ≡ ok)
+    × (EncodesPiece base (codes "w!") (places_with data_so_far 7) new ok
+    → (new.output ≡ codes "bG93") × (new.written ≡ 4) × (held_data new.encoder ≡ codes "!")
+    × EncodesOn base data_so_far new.encoder (codes "w!") (codes "bG93"))
+    × (EncodesPiece base (codes "w!") (places_with whole_block 7) new no_encoder
+    → new ≡ places_with whole_block 7))
+data_read_told new answer = (
+  λ reads. reads.status,
+  λ reads. (reads.text refl, reads.written refl, reads.held refl, reads.encodes refl),
+  λ reads. reads.refused never-twenty,
+)
+
+-- `lo` ends as `bG8=`
+data_ended_told :
+    Has base64_fields (λ base. (output : List ℕ) (written answer : ℕ)
+    → (EndsData base data_so_far (codes "....") output 7 written answer → answer ≡ ok)
+    × (EndsData base data_so_far (codes "....") output 7 written ok
+    → (output ≡ codes "bG8=") × (written ≡ 4) × EndsBlocks base data_so_far (codes "bG8="))
+    × (EndsData base whole_block (codes "....") output 7 written no_encoder
+    → (output ≡ codes "....") × (written ≡ 7)))
+data_ended_told output written answer = (
+  λ ends. ends.status,
+  λ ends. (ends.text refl, ends.written refl, ends.whole refl),
+  λ ends. ends.refused never-twenty,
+)
+
+-- 18 is refused by each call
+eighteen_told : (plain : PlainKept) (kept : KeptData) (decoded : Decoded) (form : Form)
+    (lengths : TextLengths) (answer : ℕ)
+    → (EncodesByNumber 18 (codes "Hi") [] [] 7 7 answer → answer ≡ unknown_encoding)
+    × (DecodesByNumber 18 (codes "SGk=") [] [] decoded decoded answer
+    → answer ≡ unknown_encoding)
+    × (EndsTextByNumber 18 plain [] [] decoded decoded answer → answer ≡ unknown_encoding)
+    × (EndsDataByNumber 18 kept [] [] 7 7 answer → answer ≡ unknown_encoding)
+    × (ReadsPieceByNumber 18 [] plain plain [] [] 7 7 answer → answer ≡ unknown_encoding)
+    × (EncodesPieceByNumber 18 [] kept kept [] [] 7 7 answer → answer ≡ unknown_encoding)
+    × (GivesBackByNumber 18 form form lengths lengths [] [] answer → answer ≡ unknown_encoding)
+eighteen_told plain kept decoded form lengths answer = (
+  λ by. (by.unknown refl).0,
+  λ by. (by.unknown refl).0,
+  λ by. (by.unknown refl).0,
+  λ by. (by.unknown refl).0,
+  λ by. (by.unknown refl).0,
+  λ by. (by.unknown refl).0,
+  λ by. (by.unknown refl).0,
+)
+
+-- by an encoding that a caller holds, a call that refuses changes nothing
+held_told : (held : PlainEncoding) (plain : PlainKept) (kept : KeptData) (form : Form)
+    (lengths : TextLengths) (output : List ℕ) (written : ℕ)
+    → (ReadsPieceByHeld held [] plain_of_none plain (codes "...") output 7 written no_decoder
+    → output ≡ codes "...")
+    × (EncodesPieceByHeld held [] whole_block kept (codes "...") output 7 written no_encoder
+    → output ≡ codes "...")
+    × (GivesBackByHeld held lines_form form lengths lengths (codes "...") output short_buffer
+    → output ≡ codes "...")
+held_told held plain kept form lengths output written = (
+  λ reads. ap (λ places. places.output) (reads.refused never-nineteen),
+  λ reads. ap (λ places. places.output) (reads.refused never-twenty),
+  λ gives. ap (λ places. places.texts) (gives.refused never-four),
 )

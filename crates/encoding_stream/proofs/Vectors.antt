@@ -1,19 +1,19 @@
 -- Worked rows for what streams and decoders have done.
-use Rattle.std.proofs.Common.{◌∙◌, ◌≡◌, ℕ, ◌+◌, ◌≤◌, zero-add, true, false, List, [], ◌∷◌, ◌++◌, drop, map, codes, replicate, Option, Some, None, Result, Ok, Err, refl, zero, suc, sym, ap, subst, lit<, lit≤, arith}
+use Rattle.std.proofs.Common.{◌∙◌, ◌≡◌, ℕ, ◌+◌, ◌≤◌, zero-add, true, false, List, [], ◌∷◌, ◌++◌, drop, map, codes, replicate, Option, Some, None, Result, Ok, Err, refl, zero, suc, sym, ap, subst, lit<, lit≤, arith, length, take}
 use Rattle.std.proofs.lemmas.Fmt.{decimal_digit}
 use Rattle.data_encoding.specs.declared.error.DecodeError.{DecodeError}
 use Rattle.data_encoding.specs.declared.error.DecodeKind.TheVariants.{Length, Symbol, Trailing, Padding}
 use Rattle.data_encoding.specs.declared.specification.meanings.Refusal.{Refusal}
 use Rattle.data_encoding.specs.Base.{Base}
-use Rattle.data_encoding.specs.Fault.{fault_of}
+use Rattle.data_encoding.specs.Fault.{fault_of, sound_bytes}
 use Rattle.data_encoding.specs.Fields.{Fields, base_of}
-use Rattle.data_encoding.specs.Grammar.{positioned_from}
+use Rattle.data_encoding.specs.Grammar.{positioned_from, Means}
 use Rattle.data_encoding.specs.Predefined.{base64_fields, base64_mime_fields, base64_mime_permissive_fields, base64_nopad_fields}
-use Rattle.data_encoding.specs.Pieces.{whole_bytes}
+use Rattle.data_encoding.specs.Pieces.{whole_bytes, HasRead}
 use Rattle.std.proofs.lemmas.List.{append-nil}
-use Rattle.encoding_stream.specs.Decoded.{JudgesText, DecodesAll, DecodesFront, DecodesJudged, result_of}
+use Rattle.encoding_stream.specs.Decoded.{JudgesText, DecodesAll, DecodesFront, DecodesJudged, result_of, EndsText}
 use Rattle.encoding_stream.specs.Judged.{fault_with_held, next_group, EndsFaulty, EndsSound, JudgesFaulty, JudgesSound}
-use Rattle.encoding_stream.specs.Reading.{whole_len, AppendsPiece, AreWholeGroups, CompletesNothing, HasNoLastBytes, HasVerdict, ReadsAllGroups, ReadsOn}
+use Rattle.encoding_stream.specs.Reading.{whole_len, AppendsPiece, AreWholeGroups, CompletesNothing, HasNoLastBytes, HasVerdict, ReadsAllGroups, ReadsOn, AppendsLast, HasLastBytes, ReadsRun}
 use Rattle.encoding_stream.specs.Pieces.{base_of_pieces, paired, at_positions, held, NoneIgnored, Keeps, FillsGroups, GoesOn, bytes_due, kept_by, most_completed, verdict_of}
 use Rattle.encoding_stream.specs.declared.pieces.BufferDecoder.{BufferDecoder}
 use Rattle.encoding_stream.specs.declared.decoder.Decoder.{Decoder}
@@ -23,13 +23,17 @@ use Rattle.encoding_stream.specs.declared.kept_data.KeptData.{KeptData}
 use Rattle.encoding_stream.specs.declared.pieces.Kept.{Kept}
 use Rattle.encoding_stream.specs.declared.watch.Watch.{Watch}
 use Rattle.encoding_stream.specs.Appending.{AppendsDecoded}
-use Rattle.encoding_stream.specs.Decoder.{base_of_decoder, decoder_len, FinishesWith, StandsAfter}
+use Rattle.encoding_stream.specs.Decoder.{base_of_decoder, decoder_len, FinishesWith, StandsAfter, AppendsFinished, AppendsPushed}
 use Rattle.encoding_stream.specs.Encoded.{EncodesAll, EncodesFront, ReadsMore, Succeeds, WritesText}
 use Rattle.encoding_stream.specs.Printed.{printed_stream_fault}
 use Rattle.encoding_stream.specs.Blocks.{after_blocks, base_of_blocks, blocks_len, data_kept, held_data, piece_text, text_of_blocks, EncodesOn, EndsBlocks, HasWritten}
 use Rattle.encoding_stream.specs.Resume.{held_bytes, held_positions, is_of_group, Ascend, HasPossibleFault, HoldsNoIgnored, IsKept, MayBeKept}
 use Rattle.encoding_stream.specs.Specified.{IsBuiltAgain}
 use Rattle.encoding_stream.specs.Watch.{from_to, has_failed, inner_of, is_refused, seen, AppendsFront, Change}
+use Rattle.data_encoding.specs.declared.error.DecodeKind.{DecodeKind}
+use Rattle.data_encoding.specs.Layout.{fields_of}
+use Rattle.data_encoding.specs.Text.{text_of}
+use Rattle.encoding_stream.specs.declared.error.StreamFault.{StreamFault}
 
 abbrev Holds : (Base → Type 0) → Result Base Refusal → Type 0
 Holds P (Ok base) = P base
@@ -448,3 +452,389 @@ base_of_encoding : (base : Base) (encoder : BufferEncoder) → encoder.encoding.
     → encoder.kept ≡ data_so_far
     → (base_of_blocks encoder ≡ base) × (data_kept encoder ≡ data_so_far)
 base_of_encoding base encoder is kept_is = (is, kept_is)
+
+same-error : {one other : DecodeError} → Some one ≡ Some other → one ≡ other
+same-error is = cc
+
+-- what was read of a reader that has nothing left
+all-read : (bytes had left : List ℕ) → had ≡ bytes ++ left → left ≡ [] → bytes ≡ had
+all-read bytes had left read none =
+    sym (append-nil bytes) ∙ ap (λ rest. bytes ++ rest) (sym none) ∙ sym read
+
+-- `Hello` was read to its end, so nothing is left, and its text was written
+encoded_by : (base : Base) → text_of base (codes "Hello") ≡ codes "SGVsbG8="
+    → (left written : List ℕ)
+    → EncodesAll base (from_to (Some (codes "Hello")) (Some left))
+    (from_to (Some (codes "> ")) (Some written))
+    → (left ≡ []) × (written ≡ codes "> SGVsbG8=")
+encoded_by base text left written done = (
+  done.at_end,
+  done.written ∙ ap (λ bytes. codes "> " ++ text_of base bytes)
+      (all-read done.bytes (codes "Hello") left done.read done.at_end)
+      ∙ ap (λ those. codes "> " ++ those) text,
+)
+
+encoded_told :
+    Has base64_fields (λ base. (left written : List ℕ)
+    → EncodesAll base (from_to (Some (codes "Hello")) (Some left))
+    (from_to (Some (codes "> ")) (Some written))
+    → (left ≡ []) × (written ≡ codes "> SGVsbG8="))
+encoded_told = encoded_by _ refl
+
+text_told :
+    Has base64_fields (λ base. (left : Option (List ℕ)) (written : List ℕ)
+    → WritesText base (from_to (Some (codes "Hello")) left)
+    (from_to (Some (codes "> ")) (Some written)) → written ≡ codes "> SGVsbG8=")
+text_told left written done = done
+
+-- what was read of `Hello` and nothing is left of; a prefix of its text was written, by what was
+-- read and by what the reader had
+front_encoded_told : (base : Base) (written : List ℕ)
+    → EncodesFront base (from_to (Some (codes "Hello")) (Some []))
+    (from_to (Some []) (Some written))
+    → (bytes : List ℕ) × (bytes ≡ codes "Hello")
+    × AppendsFront (Some []) (Some written) (text_of base bytes)
+    × AppendsFront (Some []) (Some written) (text_of base (codes "Hello"))
+front_encoded_told base written done = (
+  done.bytes,
+  all-read done.bytes (codes "Hello") [] done.read refl,
+  done.written,
+  done.of_all,
+)
+
+-- four bytes are no more than four
+more_told : ReadsMore 4 (from_to (Some (codes "Hell")) (Some [])) → ⊥
+more_told done =
+    let four = ap length (all-read done.bytes (codes "Hell") [] done.read refl) in
+    omega (arith, four, done.more)
+
+-- a text was read to its end, so nothing is left, it has no fault, and its bytes were written
+decoded_by : (base : Base) → fault_of base (codes "SGVsbG8=") ≡ None
+    → sound_bytes base (codes "SGVsbG8=") ≡ codes "Hello"
+    → (fault : Option DecodeError) (left written : List ℕ)
+    → DecodesAll base fault (from_to (Some (codes "SGVsbG8=")) (Some left))
+    (from_to (Some []) (Some written))
+    → (left ≡ []) × (fault ≡ None) × (written ≡ codes "Hello")
+decoded_by base none bytes fault left written done =
+    let text = all-read done.text (codes "SGVsbG8=") left done.read done.at_end in (
+      done.at_end,
+      sym done.fault_is ∙ ap (fault_of base) text ∙ none,
+      done.written ∙ ap (sound_bytes base) text ∙ bytes,
+    )
+
+decoded_told :
+    Has base64_fields (λ base. (fault : Option DecodeError) (left written : List ℕ)
+    → DecodesAll base fault (from_to (Some (codes "SGVsbG8=")) (Some left))
+    (from_to (Some []) (Some written))
+    → (left ≡ []) × (fault ≡ None) × (written ≡ codes "Hello"))
+decoded_told = decoded_by _ refl refl
+
+-- what was read of a text that nothing is left of; a prefix of its bytes was written, by what was
+-- read and by what the reader had
+front_decoded_told : (base : Base) (written : List ℕ)
+    → DecodesFront base (from_to (Some (codes "SGVs")) (Some []))
+    (from_to (Some []) (Some written))
+    → (text : List ℕ) × (text ≡ codes "SGVs")
+    × AppendsFront (Some []) (Some written) (sound_bytes base text)
+    × AppendsFront (Some []) (Some written) (sound_bytes base (codes "SGVs"))
+front_decoded_told base written done = (
+  done.text,
+  all-read done.text (codes "SGVs") [] done.read refl,
+  done.written,
+  done.of_all,
+)
+
+-- `Ok` is returned only if all was decoded, and a fault only if the text has it
+judged_told : (base : Base) (reader writer : Option (List ℕ))
+    → (DecodesJudged base (Ok tt) (from_to reader reader) (from_to writer writer)
+    → DecodesAll base None (from_to reader reader) (from_to writer writer))
+    × (DecodesJudged base (Err (Decode symbol_at_4)) (from_to reader reader)
+    (from_to writer writer)
+    → DecodesAll base (Some symbol_at_4) (from_to reader reader) (from_to writer writer))
+judged_told base reader writer = (λ judged. judged.whole, λ judged. judged.faulty _ refl)
+
+-- a text without a fault is not refused
+text_judged_told :
+    Has base64_fields (λ base. (result : Result (Unit {0}) StreamFault)
+    → JudgesText base result (Some (codes "SGVsbG8=")) false false → result ≡ Ok tt)
+text_judged_told result judges = judges (lit≤ tt) refl refl
+
+-- a prefix cannot be written by taking bytes away
+front_told : (bytes : List ℕ) → AppendsFront (Some (codes "> ")) (Some []) bytes → ⊥
+front_told bytes done = absurd (cc done.1)
+
+-- after `Hel`, exactly `lo` was appended
+appended_told : (output : List ℕ)
+    → AppendsDecoded (codes "Hel") (codes "Hello") (codes "> ") output → output ≡ codes "> lo"
+appended_told output done =
+    done.appended ∙ ap (λ bytes. codes "> " ++ bytes) (sym (ap (drop 3) done.decoded))
+
+-- no whole block is held
+written_told :
+    Has base64_fields (λ base. (bytes text : List ℕ)
+    → HasWritten base (record data_so_far { count = 3 }) bytes text → ⊥)
+written_told bytes text has = omega (arith, has.is_short)
+
+-- after `hello`, of which `lo` is held, a piece goes on
+encoded_on_told :
+    Has base64_fields (λ base. (new : KeptData) (text : List ℕ)
+    → EncodesOn base data_so_far new (codes "w!") text
+    → HasWritten base new (codes "hellow!") (codes "aGVs" ++ text))
+encoded_on_told new text on = on (codes "hello") (codes "aGVs") data_written
+
+-- what is kept of a text has its length
+keeps_told : (base : Base) (text : List ℕ) → Keeps base kept_so_far text → length text ≡ 8
+keeps_told base text keeps = sym keeps.counted
+
+stands_told : (decoder : Decoder) (text : List ℕ) → StandsAfter decoder text
+    → decoder_len decoder ≡ length text
+stands_told decoder text stands = stands.counted
+
+gone_on_told : (base : Base) (pieces : BufferDecoder) → GoesOn base kept_so_far pieces
+    → (pieces.encoding.now ≡ base) × (pieces.kept ≡ kept_so_far)
+gone_on_told base pieces goes = (goes.base_is, goes.kept_is)
+
+-- a line end is ignored
+ignored_told : Has base64_mime_fields (λ base. NoneIgnored base (positioned_from 4 (13 ∷ [])) → ⊥)
+ignored_told none = never (none 0 (record { position = 0; byte = 0 }) (lit< tt))
+
+-- six bytes, of which two are held, fill one group, which has three bytes
+groups_told : Has base64_fields (λ base. (written : ℕ) → FillsGroups base 2 4 2 written
+    → written ≤ 3)
+groups_told written fills = omega (arith, fills.symbols, fills.bytes)
+
+-- a text that is built from its own specification
+built_told : (base : Base) → IsBuiltAgain base → fields_of base ≡ base64_fields
+    → base_of base64_fields ≡ Ok base
+built_told base built is = sym (ap base_of is) ∙ built.yields
+
+-- `SGVsbG8` is kept but for its first group
+abbrev kept_last : Kept
+kept_last = record {
+  len = 7;
+  fault = None;
+  positions = 4 ∷ 5 ∷ 6 ∷ replicate 5 0;
+  bytes = codes "bG8" ++ replicate 5 0;
+  count = 3;
+  ended = false;
+}
+
+last_kept : Has base64_nopad_fields (λ base. Keeps base kept_last (codes "SGVsbG8"))
+last_kept = record { counted = refl; first = refl; holds = λ h. refl; ends = λ h. refl }
+
+-- what is held of it means `lo`
+ends_sound_told :
+    Has base64_nopad_fields (λ base. (bytes : List ℕ) → EndsSound base kept_last bytes
+    → bytes ≡ codes "lo")
+ends_sound_told bytes ends = sym (ends _ last_kept).1
+
+-- the same text with a fault in its last group
+faulty_kept : Has base64_nopad_fields (λ base.
+    Keeps base (record kept_last { bytes = codes "!G8" ++ replicate 5 0 }) (codes "SGVs!G8"))
+faulty_kept = record { counted = refl; first = refl; holds = λ h. refl; ends = λ h. refl }
+
+ends_faulty_told :
+    Has base64_nopad_fields (λ base. (error : DecodeError)
+    → EndsFaulty base (record kept_last { bytes = codes "!G8" ++ replicate 5 0 }) error
+    → error ≡ symbol_at_4)
+ends_faulty_told error ends = sym (same-error (ends _ faulty_kept))
+
+-- its last group has the bytes `lo`, and these are written
+last_bytes_told :
+    Has base64_nopad_fields (λ base. (bytes : List ℕ) → HasLastBytes base kept_last bytes
+    → bytes ≡ codes "lo")
+last_bytes_told bytes has = sym (ap (drop 3) (has _ last_kept))
+
+last_appended_told :
+    Has base64_nopad_fields (λ base. (output : List ℕ)
+    → AppendsLast base kept_last (codes "> Hel") output → output ≡ codes "> Hello")
+last_appended_told output appends =
+    let done = appends _ last_kept in
+    done.appended ∙ ap (λ bytes. codes "> Hel" ++ bytes) (sym (ap (drop 3) done.decoded))
+
+-- all of the last bytes unless a write failed, and else a prefix
+text_ended_by : (base : Base)
+    → ((bytes : List ℕ) → HasLastBytes base kept_last bytes → bytes ≡ codes "lo")
+    → (written : List ℕ)
+    → (EndsText base kept_last false (Some []) (Some written) → written ≡ codes "lo")
+    × (EndsText base kept_last true (Some []) (Some written)
+    → (count : ℕ) × (written ≡ take count (codes "lo")))
+text_ended_by base last written = (
+  λ ends. ends.all refl ∙ last ends.bytes ends.sound,
+  λ ends. (ends.begun.0, ends.begun.1 ∙ ap (take ends.begun.0) (last ends.bytes ends.sound)),
+)
+
+text_ended_told :
+    Has base64_nopad_fields (λ base. (written : List ℕ)
+    → (EndsText base kept_last false (Some []) (Some written) → written ≡ codes "lo")
+    × (EndsText base kept_last true (Some []) (Some written)
+    → (count : ℕ) × (written ≡ take count (codes "lo"))))
+text_ended_told = text_ended_by _ last_bytes_told
+
+-- `8=` ends the group that is held of `SGVsbG`, and means `lo` with it
+read_on_told :
+    Has base64_mime_fields (λ base. (new : Kept) (bytes : List ℕ)
+    → ReadsOn base kept_so_far new (codes "8=") bytes
+    → Keeps base new (codes "SGVsbG" ++ 13 ∷ 10 ∷ codes "8=") × (bytes ≡ codes "lo")
+    × (new.len ≡ 10) × (length bytes ≤ 3))
+read_on_told new bytes reads = (
+  reads.keeps _ kept_of_text.0,
+  sym (ap (drop 3) (reads.decodes _ kept_of_text.0)),
+  reads.counted,
+  omega (arith, reads.few 0),
+)
+
+piece_told :
+    Has base64_mime_fields (λ base. (new : Kept) (output : List ℕ)
+    → AppendsPiece base kept_so_far new (codes "8=") (codes "> ") output
+    → output ≡ codes "> lo")
+piece_told new output appends =
+    appends.appended
+    ∙ ap (λ bytes. codes "> " ++ bytes)
+    (sym (ap (drop 3) (appends.reads.decodes _ kept_of_text.0)))
+
+one-over : ◌≡◌ {A = ℕ} 1 0 → ⊥
+one-over is = omega (arith, is)
+
+three-of-five : ◌≡◌ {A = ℕ} 5 3 → ⊥
+three-of-five is = omega (arith, is)
+
+-- five bytes are no whole groups, and where texts are not concatenated, nothing follows padding
+whole_told :
+    Has base64_fields (λ base. AreWholeGroups base (codes "SGVsb") → ⊥)
+    × Has (record base64_fields { concatenates = false }) (λ base.
+    AreWholeGroups base (codes "SGVsbG8=") → ⊥)
+whole_told = (λ whole. one-over whole.whole, λ whole. never whole.not_final)
+
+first_group_read : Has base64_fields (λ base. HasRead base (codes "SGVs") 4 None [] false)
+first_group_read = record { counted = refl; first = refl; holds = λ h. refl; ends = λ h. refl }
+
+-- after `SGVs`, the groups of `bG8=` append `lo`
+run_told :
+    Has base64_fields (λ base. (bytes : List ℕ) (fault : Option DecodeError)
+    → ReadsRun base (codes "bG8=") bytes fault → bytes ≡ codes "lo")
+run_told bytes fault reads = sym (ap (drop 3) (reads (codes "SGVs") 4 first_group_read).1)
+
+-- a whole group has bytes, and so has a last group
+bytes_told :
+    Has base64_fields (λ base. CompletesNothing base (codes "SGVs") (codes "bG8=") → ⊥)
+    × Has base64_nopad_fields (λ base. HasNoLastBytes base (codes "SGVsbG8") → ⊥)
+bytes_told = (λ none. three-of-five (ap length none), λ none. three-of-five (ap length none))
+
+-- a fault is inside the text and of a whole group's kind; a final group has nothing after it
+possible_told :
+    Has base64_fields (λ base.
+    (HasPossibleFault base (record kept_so_far { len = 4; fault = Some symbol_at_4; count = 0 })
+    → ⊥)
+    × (HasPossibleFault base (record kept_so_far { fault = Some length_at_4; count = 0 }) → ⊥)
+    × (HasPossibleFault base (record kept_so_far { ended = true }) → ⊥))
+possible_told = (
+  λ possible. omega (arith, possible.inside),
+  λ possible. never (sym possible.kind),
+  λ possible. never (possible.ends refl refl),
+)
+
+-- not more than the limit is kept, less than a group is held, no line end, and nothing after a
+-- fault
+may_be_kept_told :
+    Has base64_mime_fields (λ base.
+    (MayBeKept base (record kept_so_far { len = 2305843009213693952 }) → ⊥)
+    × (MayBeKept base (record kept_so_far { count = 4 }) → ⊥)
+    × (MayBeKept base (record kept_so_far { bytes = 98 ∷ 13 ∷ replicate 6 0 }) → ⊥)
+    × (MayBeKept base (record kept_so_far { fault = Some symbol_at_4 }) → ⊥))
+may_be_kept_told = (
+  λ may. omega (arith, may.limit),
+  λ may. omega (arith, may.short),
+  λ may. none_held_ignored.2.1 may.none_ignored,
+  λ may. absurd (omega (arith, may.fault.clear refl)),
+)
+
+-- what is kept has the length of its text, which is within the limit
+is_kept_told : (base : Base) (kept : Kept) (is : IsKept base kept)
+    → (kept.len ≡ length is.text) × (kept.len ≤ 2305843009213693951)
+is_kept_told base kept is = (is.keeps.counted, omega (arith, is.keeps.counted, is.limit))
+
+-- pushed first, `SGVs` appends `Hel`
+pushed_bytes : (decoder : Decoder) (output : List ℕ)
+    → whole_bytes (base_of_decoder decoder) [] ≡ []
+    → whole_bytes (base_of_decoder decoder) (codes "SGVs") ≡ codes "Hel"
+    → StandsAfter decoder [] → AppendsPushed decoder (codes "SGVs") (codes "> ") output
+    → (output ≡ codes "> Hel") × (output ≡ codes "> Hel")
+pushed_bytes decoder output none some stands pushed =
+    let done = pushed.bytes [] stands in (
+      done.appended ∙ ap (λ bytes. codes "> " ++ bytes)
+          (sym (done.decoded ∙ ap (λ before. before ++ done.bytes) none) ∙ some),
+      (pushed.decoded (codes "> ") [] stands
+          (record { appended = sym (ap (λ bytes. codes "> " ++ bytes) none) })).appended
+          ∙ ap (λ bytes. codes "> " ++ bytes) some,
+    )
+
+pushed_told :
+    Has base64_fields (λ base. (decoder : Decoder) (output : List ℕ)
+    → base_of_decoder decoder ≡ base → StandsAfter decoder []
+    → AppendsPushed decoder (codes "SGVs") (codes "> ") output
+    → (output ≡ codes "> Hel") × (output ≡ codes "> Hel"))
+pushed_told decoder output is = pushed_bytes decoder output
+    (ap (λ base. whole_bytes base []) is) (ap (λ base. whole_bytes base (codes "SGVs")) is)
+
+-- at the end of `SGVsbG8`, `lo` is appended
+finished_bytes : (decoder : Decoder) (output : List ℕ)
+    → whole_bytes (base_of_decoder decoder) (codes "SGVsbG8") ≡ codes "Hel"
+    → sound_bytes (base_of_decoder decoder) (codes "SGVsbG8") ≡ codes "Hello"
+    → StandsAfter decoder (codes "SGVsbG8")
+    → AppendsFinished decoder (codes "> Hel") output
+    → (output ≡ codes "> Hello") × (output ≡ codes "> Hello")
+finished_bytes decoder output whole sound stands finished =
+    let done = finished.bytes (codes "SGVsbG8") stands in
+    let all = sym sound ∙ done.decoded ∙ ap (λ before. before ++ done.bytes) whole in (
+      done.appended ∙ ap (λ bytes. codes "> Hel" ++ bytes) (sym (ap (drop 3) all)),
+      finished.decoded (codes "> ") (codes "SGVsbG8") stands
+          (record { appended = sym (ap (λ bytes. codes "> " ++ bytes) whole) })
+          ∙ ap (λ bytes. codes "> " ++ bytes) sound,
+    )
+
+finished_told :
+    Has base64_nopad_fields (λ base. (decoder : Decoder) (output : List ℕ)
+    → base_of_decoder decoder ≡ base → StandsAfter decoder (codes "SGVsbG8")
+    → AppendsFinished decoder (codes "> Hel") output
+    → (output ≡ codes "> Hello") × (output ≡ codes "> Hello"))
+finished_told decoder output is = finished_bytes decoder output
+    (ap (λ base. whole_bytes base (codes "SGVsbG8")) is)
+    (ap (λ base. sound_bytes base (codes "SGVsbG8")) is)
+
+none_of_group : Has base64_fields (λ base.
+    NoneIgnored base (next_group (kept_group (codes "bG8=")) 4))
+none_of_group zero k h = refl
+none_of_group (suc zero) k h = refl
+none_of_group (suc (suc zero)) k h = refl
+none_of_group (suc (suc (suc zero))) k h = refl
+none_of_group (suc (suc (suc (suc index)))) k h = absurd (omega (arith, h))
+
+none_of_faulty : Has base64_fields (λ base.
+    NoneIgnored base (next_group (kept_group (codes "!G8=")) 4))
+none_of_faulty zero k h = refl
+none_of_faulty (suc zero) k h = refl
+none_of_faulty (suc (suc zero)) k h = refl
+none_of_faulty (suc (suc (suc zero))) k h = refl
+none_of_faulty (suc (suc (suc (suc index)))) k h = absurd (omega (arith, h))
+
+-- `bG8=` and `!G8=` as groups, of which no byte is ignored
+four_symbols : Has base64_fields (λ base.
+    NoneIgnored base (next_group (kept_group (codes "bG8=")) 4)
+    × NoneIgnored base (next_group (kept_group (codes "!G8=")) 4))
+four_symbols = (none_of_group, none_of_faulty)
+
+group_judged_told :
+    Has base64_fields (λ base. (bytes : List ℕ) (error : DecodeError)
+    → (JudgesSound base (kept_group (codes "bG8=")) 4 bytes → bytes ≡ codes "lo")
+    × (JudgesFaulty base (kept_group (codes "!G8=")) 4 error → error ≡ symbol_at_4))
+group_judged_told bytes error = (
+  λ judges. sym (judges four_symbols.0).1,
+  λ judges. sym (same-error (judges four_symbols.1)),
+)
+
+-- whole groups of nine bytes that mean something are the first eight
+all_groups_told :
+    Has base64_fields (λ base. (read : ℕ) (bytes : List ℕ) → Means base (codes "SGVsbG8=") bytes
+    → ReadsAllGroups base (codes "SGVsbG8=S") read → read ≡ 8)
+all_groups_told read bytes means reads = reads refl bytes means
