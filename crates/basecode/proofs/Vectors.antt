@@ -1,5 +1,5 @@
 -- Worked rows of the program: its names, its arguments, and what a run has done.
-use Rattle.std.proofs.Common.{◌≡◌, ℕ, true, false, take, sym, Result, List, [], ◌∷◌, ◌++◌, map, codes, length, Option, Some, None, Ok, Err, refl, inl, inr}
+use Rattle.std.proofs.Common.{◌≡◌, ℕ, true, false, take, sym, Result, List, [], ◌∷◌, ◌++◌, map, codes, length, Option, Some, None, Ok, Err, refl, inl, inr, ◌⊎◌, ◌∙◌, ap, subst}
 use Rattle.std.specs.Borrow.{Bor}
 use Rattle.data_encoding.specs.declared.error.DecodeError.{DecodeError}
 use Rattle.data_encoding.specs.declared.error.DecodeKind.TheVariants.{Symbol}
@@ -9,18 +9,25 @@ use Rattle.data_encoding.specs.Canonical.{IsCanonical}
 use Rattle.data_encoding.specs.Fields.{Fields, base_of}
 use Rattle.data_encoding.specs.Fault.{fault_of, sound_bytes}
 use Rattle.data_encoding.specs.Text.{text_of}
-use Rattle.encoding_stream.specs.Decoded.{DecodesAll}
+use Rattle.encoding_stream.specs.Decoded.{DecodesAll, DecodesFront}
 use Rattle.data_encoding.specs.Predefined.{hexlower_fields, base64_fields}
 use Rattle.encoding_stream.specs.declared.error.StreamFault.TheVariants.{Decode as DecodeFault, TooLong, Read, Write}
-use Rattle.encoding_stream.specs.Watch.{from_to}
+use Rattle.encoding_stream.specs.Watch.{from_to, AppendsFront, Change}
 use Rattle.basecode.specs.declared.command.Ask.TheVariants.{Conversion, Question}
-use Rattle.basecode.specs.declared.command.Request.TheVariants.{List as ListRequested}
+use Rattle.basecode.specs.declared.command.Request.TheVariants.{List as ListRequested, Of as OfRequested}
 use Rattle.basecode.specs.declared.command.Verb.TheVariants.{Encode, Decode}
 use Rattle.basecode.specs.declared.fault.WordFault.TheVariants.{Usage, UnknownName}
 use Rattle.basecode.specs.Faults.{line_of, printed_word_fault, status_of, status_after}
 use Rattle.data_encoding.specs.Named.{IsNamed, fields_named, listing, names}
 use Rattle.basecode.specs.Run.{DecodesFaulty, AskConversion, Answers, Begins, BeginsAnswer, BeginsReply, Begun, Converts, Done, Explains, Fulfils, ByAnswer, ByReply, IsAnswer, Refused, Replies, OfNames, OfQuestion, TellsCanonical, truth}
 use Rattle.basecode.specs.Words.{Task, Request, AreRequest, Asks, IsWrong, Names, Of, ask_of, both, limit_of, request_of, texts}
+use Rattle.std.proofs.lemmas.List.{append-nil}
+use Rattle.std.specs.Io.KnownBytes.{Keeps}
+use Rattle.data_encoding.specs.Grammar.{Means}
+use Rattle.encoding_stream.specs.declared.error.StreamFault.{StreamFault}
+use Rattle.encoding_stream.specs.Encoded.{EncodesAll, EncodesFront, ReadsMore}
+use Rattle.basecode.specs.declared.command.Task.{Task as TaskRequested}
+use Rattle.basecode.specs.declared.command.Verb.{Verb}
 
 abbrev words : List (List ℕ)
 words = codes "encode" ∷ codes "BASE64" ∷ []
@@ -246,3 +253,118 @@ statuses :
     (map status_of (DecodeFault symbol_at_4 ∷ TooLong ∷ Read ∷ Write ∷ []) ≡ 1 ∷ 1 ∷ 3 ∷ 3 ∷ [])
     × (status_after (Ok _) ≡ 0) × (status_after (Err Write) ≡ 3)
 statuses = (refl, refl, refl)
+
+some-none : {T : Type 0} {given : T} → Some given ≡ None → ⊥
+some-none is = absurd (cc is)
+
+-- the answer to `Hello` is its text, with nothing left to read; that to a text is what it means
+answered_by : (base : Base) → text_of base (codes "Hello") ≡ codes "SGVsbG8="
+    → (left output : List ℕ) → Answers Encode base hello (Some left) output
+    → (left ≡ []) × (output ≡ codes "SGVsbG8=")
+answered_by base text left output answers =
+    let input = sym (append-nil answers.input)
+    ∙ ap (λ rest. answers.input ++ rest) (sym answers.at_end) ∙ sym answers.read in
+    (answers.at_end, answers.is_answer ∙ ap (text_of base) input ∙ text)
+
+answered_told :
+    Has base64_fields (λ base. (left output : List ℕ)
+    → Answers Encode base hello (Some left) output
+    → (left ≡ []) × (output ≡ codes "SGVsbG8="))
+answered_told = answered_by _ refl
+
+answer_told :
+    Has base64_fields (λ base. (input output : List ℕ)
+    → (IsAnswer Encode base (codes "Hello") output → output ≡ codes "SGVsbG8=")
+    × (IsAnswer Decode base input output → Means base input output))
+answer_told input output = (λ is. is, λ means. means)
+
+-- what converting, and what beginning to, has done
+converted_told : (base : Base) (reader writer : Change)
+    → (Converts Encode base reader writer → EncodesAll base reader writer)
+    × (Converts Decode base reader writer → DecodesAll base None reader writer)
+    × (Begins Encode base reader writer → EncodesFront base reader writer)
+    × (Begins Decode base reader writer → DecodesFront base reader writer)
+converted_told base reader writer =
+    (λ converts. converts, λ converts. converts, λ begins. begins, λ begins. begins)
+
+-- a fault of a text is one of decoding, and an input that is too long is longer than the limit
+explained_told : (base : Base) (reader writer : Change)
+    → (Explains Decode base reader writer (DecodeFault symbol_at_4)
+    → DecodesAll base (Some symbol_at_4) reader writer)
+    × (Explains Decode base reader writer TooLong → ReadsMore 2305843009213693951 reader)
+explained_told base reader writer = (λ explains. explains.1, λ more. more)
+
+-- a line is `true` or `false`
+line_told : (base : Base) (line : List ℕ) → TellsCanonical base line
+    → (line ≡ codes "true" ++ 10 ∷ []) ⊎ (line ≡ codes "false" ++ 10 ∷ [])
+line_told base line (inl is) = inl is.1
+line_told base line (inr is_not) = inr is_not.1
+
+-- what was written is what was asked for
+done_told : (output : List ℕ)
+    → Done words (from_to hello nothing) (from_to nothing (Some output))
+    → Fulfils words hello nothing output
+done_told output done = subst (Fulfils words hello nothing) (sym done.written) done.fulfils
+
+begun_told : (reader writer : Change)
+    → ((answer : BeginsAnswer words reader writer) → Asks words (Conversion answer.verb) answer.base
+    × Begins answer.verb answer.base reader writer)
+    × ((reply : BeginsReply words reader writer)
+    → Replies words reader.old reader.new reply.output
+    × AppendsFront writer.old writer.new reply.output)
+    × (Begun words reader writer → BeginsAnswer words reader writer
+    ⊎ BeginsReply words reader writer)
+begun_told reader writer = (
+  λ answer. (answer.asked, answer.begins),
+  λ reply. (reply.replies, reply.written),
+  λ begun. begun.is_begun,
+)
+
+-- only a text to decode has a fault
+refused_told : (base : Base) (reader writer : Change)
+    → ((faulty : DecodesFaulty Decode base reader writer)
+    → DecodesAll base (Some faulty.error) reader writer)
+    × ((faulty : DecodesFaulty Encode base reader writer) → Encode ≡ Decode)
+    × ((refused : Refused words reader writer)
+    → Asks words (Conversion refused.verb) refused.base
+    × (ReadsMore (limit_of refused.verb) reader
+    ⊎ DecodesFaulty refused.verb refused.base reader writer))
+    × ((ask : AskConversion words) → Asks words (Conversion ask.verb) ask.base)
+refused_told base reader writer = (
+  λ faulty. faulty.decodes,
+  λ faulty. faulty.is_decoding,
+  λ refused. (refused.asked, refused.reason),
+  λ ask. ask.asked,
+)
+
+abbrev fields_in : Option Request → Fields
+fields_in (Some (Of task)) = task.fields
+fields_in (Some Names) = hexlower_fields
+fields_in None = hexlower_fields
+
+-- `encode BASE64` asks about the base that is built from the specification of BASE64
+asked_told : (base : Base) → Asks words (Conversion Encode) base → base_of base64_fields ≡ Ok base
+asked_told base asks = ap (λ request. base_of (fields_in request)) asks.is_request ∙ asks.is_built
+
+request_told : (given : List (List ℕ)) (task : TaskRequested)
+    → (AreRequest given ListRequested → request_of given ≡ Some the_names)
+    × (AreRequest given (OfRequested task) → Asks given task.ask task.encoding)
+request_told given task = (λ are. are, λ are. are)
+
+-- the usage of `encode BASE64` is not wrong; a name that is unknown has no specification
+wrong_told : (IsWrong words Usage → ⊥)
+    × (IsWrong words (UnknownName unknown) → fields_named (codes "base64") ≡ None)
+wrong_told = (λ wrong. some-none (wrong _ _ refl), λ wrong. wrong.3)
+
+-- a reply reads nothing, and what is asked for is an answer or a reply
+reply_told : (given : List (List ℕ)) (old new : Option (List ℕ)) (output : List ℕ)
+    → Replies given old new output → Keeps old new
+reply_told given old new output (OfQuestion base asks keeps tells) = keeps
+reply_told given old new output (OfNames is keeps listed) = keeps
+
+fulfilled_told : (given : List (List ℕ)) (old new : Option (List ℕ)) (output : List ℕ)
+    → Fulfils given old new output
+    → ((verb : Verb) × (base : Base) × Answers verb base old new output)
+    ⊎ Replies given old new output
+fulfilled_told given old new output (ByAnswer verb base asks answers) = inl (verb, base, answers)
+fulfilled_told given old new output (ByReply replies) = inr replies

@@ -10,6 +10,7 @@ use Rattle.data_encoding.specs.Encoder.{base_of_encoder, output_name, written, h
 use Rattle.data_encoding.specs.declared.encode.display.Display.{Display}
 use Rattle.data_encoding.specs.Shown.{shown_data, shown_text}
 use Rattle.data_encoding_meaning.proofs.vectors.Examples.{bytes, Has}
+use Rattle.data_encoding_meaning.specs.text.Lengths.{alignment}
 
 -- an encoder that has taken `hello`
 encoder_so_far :
@@ -58,3 +59,11 @@ text_shown :
     Has base64_fields (λ base. (shown : Display) → shown.encoding.now ≡ base
     → shown_data shown ≡ codes "Hello world" → shown_text shown ≡ codes "SGVsbG8gd29ybGQ=")
 text_shown = shown_of _ _ _ refl
+
+-- less than a block is held
+taken_told :
+    Has base64_fields (λ base. (encoder : Encoder) (before taken : List ℕ)
+    → base_of_encoder encoder ≡ base → HasTaken encoder before taken
+    → length (held encoder) < 3)
+taken_told = λ encoder before taken is has.
+    subst (λ base. length (held encoder) < alignment base) is has.is_short

@@ -1,5 +1,5 @@
 -- Worked rows of specifications.
-use Rattle.std.proofs.Common.{◌≡◌, [], ◌∷◌, codes, refl}
+use Rattle.std.proofs.Common.{◌≡◌, [], ◌∷◌, codes, refl, ◌∙◌, sym}
 use Rattle.data_encoding_meaning.specs.declared.refusal.Refusal.TheVariants.{WrapWidth}
 use Rattle.data_encoding_meaning.specs.specification.Predefined.{unpadded_fields}
 use Rattle.data_encoding.specs.Specification.{no_fields, specified, refusal_of, fields_of_bytes, fields_of_parts, SameTranslate, SameWrap}
@@ -35,3 +35,14 @@ bytes_said s symbols column from = (symbols, column, from)
 
 refusal_told : refusal_of (record { refusal = WrapWidth 4 }) ≡ WrapWidth 4
 refusal_told = refl
+
+-- the copy of a translation and of lines has the same texts
+same_told : (t u : TranslateTexts) (w v : Wrap)
+    → (SameTranslate t u → string_bytes t.from ≡ codes "o" → string_bytes t.to ≡ codes "0"
+    → (string_bytes u.from ≡ codes "o") × (string_bytes u.to ≡ codes "0"))
+    × (SameWrap w v → w.width ≡ 8 → string_bytes w.separator ≡ 10 ∷ []
+    → (v.width ≡ 8) × (string_bytes v.separator ≡ 10 ∷ []))
+same_told t u w v = (
+  λ same from to. (sym same.from ∙ from, sym same.to ∙ to),
+  λ same width separator. (sym same.width ∙ width, sym same.separator ∙ separator),
+)

@@ -1,10 +1,10 @@
 -- Worked rows of tables, and of the steps of a decoding.
-use Rattle.std.proofs.Common.{◌≡◌, true, [], ◌∷◌, ◌++◌, map, drop, codes, replicate, Some, None, refl, ap, lit<, lit≤, sym, inl, subst, take}
+use Rattle.std.proofs.Common.{◌≡◌, true, [], ◌∷◌, ◌++◌, map, drop, codes, replicate, Some, None, refl, ap, lit<, lit≤, sym, inl, subst, take, ℕ, ◌<◌, ◌≤◌, List, length, false, arith}
 use Rattle.std.proofs.lemmas.Bool.{false≢true}
 use Rattle.data_encoding_meaning.specs.declared.encoding.Character.TheVariants.{Invalid}
 use Rattle.data_encoding.specs.declared.decode.Stop.{Stop}
-use Rattle.data_encoding.specs.declared.decode.steps.Step.TheVariants.{Ended}
-use Rattle.data_encoding_meaning.specs.declared.error.DecodeKind.TheVariants.{Symbol}
+use Rattle.data_encoding.specs.declared.decode.steps.Step.TheVariants.{Ended, More, Faulty}
+use Rattle.data_encoding_meaning.specs.declared.error.DecodeKind.TheVariants.{Symbol, Length}
 use Rattle.data_encoding_meaning.specs.text.Base.{Base, ignores_some, wrapping_by}
 use Rattle.data_encoding_meaning.specs.specification.Layout.{layout, column_of, separator_of}
 use Rattle.data_encoding_meaning.specs.specification.Predefined.{unpadded_fields, base64_nopad_fields, base64_mime_fields}
@@ -16,11 +16,15 @@ use Rattle.data_encoding_meaning.specs.specification.Entries.{meaning_of_entry, 
 use Rattle.data_encoding.specs.Meanings.{meanings_of_table, HasEntries}
 use Rattle.data_encoding.specs.Tables.{HasTables}
 use Rattle.data_encoding_kernel.specs.Tables.{HoldsSymbols, HoldsValues, Reads, Writes}
-use Rattle.data_encoding_meaning.specs.decoding.Decoding.{IsStop}
-use Rattle.data_encoding.specs.Steps.{HasEnded, HasStepped, fault_of_stop}
+use Rattle.data_encoding_meaning.specs.decoding.Decoding.{IsStop, HasRoom, IsDecoded}
+use Rattle.data_encoding.specs.Steps.{HasEnded, HasStepped, fault_of_stop, HasStopped}
 use Rattle.data_encoding.proofs.tables.TableLemmas.{Reads-seen, Writes-tables}
 use Rattle.data_encoding_meaning.proofs.vectors.Examples.{built, Has}
 use Rattle.data_encoding_meaning.proofs.vectors.Steps.{text_decoded}
+use Rattle.std.specs.Prelude.{◌-◌}
+use Rattle.data_encoding_meaning.specs.declared.error.DecodePartial.{DecodePartial}
+use Rattle.data_encoding_meaning.specs.text.Grammar.{kept}
+use Rattle.data_encoding_meaning.specs.decoding.Partial.{StopsAt}
 
 -- the tables of a base: what its layout says
 abbrev tables_from : Base → EncodingTables
@@ -115,3 +119,96 @@ meanings_held table h = (
   ap (λ values. map meaning_of_entry (take 128 values)) h,
   subst HoldsEntries (sym h) (record { entries = refl; invalid_from_128 = refl }),
 )
+
+-- padding is ASCII, and without it no byte means padding; without lines nothing separates them, and
+-- a line is short
+kept_told : (width : ℕ) (separator values : List ℕ)
+    → (KeepsPadding None width (replicate 128 130) → ⊥)
+    × (KeepsPadding (Some 128) width values → ⊥)
+    × (KeepsWrapping 0 separator width values → separator ≡ [])
+    × (KeepsWrapping 256 separator width values → ⊥)
+kept_told width separator values = (
+  λ keeps. false≢true keeps,
+  λ keeps. omega (arith, keeps.0),
+  λ keeps. keeps,
+  λ keeps. omega (arith, keeps.0),
+)
+
+-- tables that break one rule each
+rules_told : (e : EncodingTables)
+    → (KeepsRules (record e { width = 7 }) → ⊥)
+    × (KeepsRules (record e { concatenates = false; padding = None }) → ⊥)
+    × (KeepsRules (record e { checks_trailing_bits = false; width = 4 }) → ⊥)
+    × (KeepsRules (record e { symbols = 65 ∷ []; width = 6 }) → ⊥)
+    × (KeepsRules (record e { symbols = 128 ∷ []; width = 6 }) → ⊥)
+    × (KeepsRules (record e { symbols = []; width = 6 }) → ⊥)
+    × (KeepsRules (record e { values = 131 ∷ []; width = 6 }) → ⊥)
+    × (KeepsRules (record e { values = [] }) → ⊥)
+    × (KeepsRules (record e { padding = Some 128 }) → ⊥)
+    × (KeepsRules (record e { values = []; ignores = true }) → ⊥)
+    × (KeepsRules (record e { column = 256 }) → ⊥)
+rules_told e = (
+  λ rules. omega (arith, rules.is_width.few),
+  λ rules. false≢true rules.unpadded_concatenates,
+  λ rules. false≢true rules.whole_checked,
+  λ rules. one-of-four (ap length rules.symbols_repeat),
+  λ rules. false≢true rules.symbols_are_ascii,
+  λ rules. none-of-sixty-four (ap length rules.own_values),
+  λ rules. false≢true rules.entries,
+  λ rules. none-of-a-half (ap length rules.invalid_from_128),
+  λ rules. omega (arith, rules.padding.0),
+  λ rules. false≢true (sym rules.ignores),
+  λ rules. omega (arith, rules.wrapping.0),
+) where
+  one-of-four : ◌≡◌ {A = ℕ} 1 4 → ⊥
+  one-of-four is = omega (arith, is)
+
+  none-of-sixty-four : ◌≡◌ {A = ℕ} 0 64 → ⊥
+  none-of-sixty-four is = omega (arith, is)
+
+  none-of-a-half : ◌≡◌ {A = ℕ} 0 128 → ⊥
+  none-of-a-half is = omega (arith, is)
+
+-- each byte from 128 on is invalid
+entries_told : (table : BuilderInside) → HasEntries table
+    → drop 128 table.values ≡ replicate 128 128
+entries_told table has = has.invalid_from_128
+
+tables_told :
+    Has (unpadded_fields (codes "01")) (λ base. (tables : Tables) → HasTables base tables
+    → (tables.symbols.now ≡ codes "01") × (tables.padding ≡ None)
+    × (length (map meaning_of_entry tables.values.now) ≡ 128))
+tables_told tables has = (sym has.symbols, sym has.padding, sym (ap length has.meanings))
+
+-- what the last step says: all was decoded, or the steps stopped
+ended_told : (base : Base) (output : List ℕ) (stop : Stop)
+    → (HasEnded base (codes "QUI") output stop true
+    → IsDecoded base (codes "QUI") stop.written output)
+    × (HasEnded base (codes "QUI") output stop false
+    → HasStopped base (codes "QUI") output stop)
+    × (HasStepped base (codes "QUI") 2 output stop More → 2 < stop.read)
+    × (HasStepped base (codes "QUI") 2 output stop Ended
+    → IsDecoded base (codes "QUI") stop.written output)
+    × (HasStepped base (codes "QUI") 2 output stop Faulty
+    → HasStopped base (codes "QUI") output stop)
+ended_told base output stop =
+    (λ ended. ended, λ ended. ended, λ step. step.0, λ step. step, λ step. step)
+
+abbrev stop_of_length : ℕ → ℕ → Stop
+stop_of_length read written =
+    record { read = read; written = written; index = 0; kind = Length }
+
+-- where a decoding stopped in a text of two bytes
+stop_told : (base : Base) (read written : ℕ)
+    → HasStopped base (codes "!A") (65 ∷ []) (stop_of_length read written)
+    → (read ≤ 2) × (written ≤ 1) × (0 < length (kept base (drop read (codes "!A"))))
+    × HasRoom base (drop read (codes "!A")) (1 - written)
+stop_told base read written stopped =
+    (stopped.within, stopped.fits, stopped.inside, stopped.room refl)
+
+-- what is reported of its group is what is reported of the text
+stop_reported : (base : Base) (new : List ℕ) (partial : DecodePartial)
+    → HasStopped base (codes "!A") [] (stop_of_length 0 0)
+    → IsStop base (codes "!A") 0 0 (fault_of_stop (stop_of_length 0 0)) new partial
+    → StopsAt base (codes "!A") new partial
+stop_reported base new partial stopped stop = stopped.stops new partial (omega arith) refl stop
