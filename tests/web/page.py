@@ -226,7 +226,7 @@ class Sides(Page):
             if name != "BASE32_DNSCURVE":
                 self.assertEqual(said["Symbols"], symbols)
             self.assertEqual("Also reads" in said, " as " in reads)
-            self.assertEqual("Ignored" in said, reads == "CR, LF")
+            self.assertEqual("Ignored" in said, reads == "CR, LF (ignored)")
 
     def test_faults(self) -> None:
         for name, text in (
