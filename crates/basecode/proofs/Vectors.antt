@@ -1,5 +1,5 @@
 -- Worked rows of the program: its names, its arguments, and what a run has done.
-use Rattle.std.proofs.Common.{◌≡◌, ℕ, true, false, take, sym, Result, List, [], ◌∷◌, ◌++◌, map, codes, length, Option, Some, None, Ok, Err, refl, inl, inr, ◌⊎◌, ◌∙◌, ap, subst}
+use Rattle.std.proofs.Common.{IsSome, ◌≡◌, ℕ, true, false, take, sym, Result, List, [], ◌∷◌, ◌++◌, map, codes, length, Option, Some, None, Ok, Err, refl, inl, inr, ◌⊎◌, ◌∙◌, ap, subst}
 use Rattle.std.specs.Borrow.{Bor}
 use Rattle.data_encoding.specs.declared.error.DecodeError.{DecodeError}
 use Rattle.data_encoding.specs.declared.error.DecodeKind.TheVariants.{Symbol}
@@ -288,17 +288,17 @@ converted_told base reader writer =
     (λ converts. converts, λ converts. converts, λ begins. begins, λ begins. begins)
 
 -- a fault of a text is one of decoding, and an input that is too long is longer than the limit
-explained_told : (base : Base) (reader writer : Change)
-    → (Explains Decode base reader writer (DecodeFault symbol_at_4)
-    → DecodesAll base (Some symbol_at_4) reader writer)
+explained_told : (base : Base) (verb : Verb) (reader writer : Change)
+    → (Explains verb base reader writer (DecodeFault symbol_at_4)
+    → (verb ≡ Decode) × DecodesAll base (Some symbol_at_4) reader writer)
     × (Explains Decode base reader writer TooLong → ReadsMore 2305843009213693951 reader)
-explained_told base reader writer = (λ explains. explains.1, λ more. more)
+explained_told base verb reader writer = (λ explains. explains, λ more. more)
 
--- a line is `true` or `false`
+-- a line is `true` of a canonical base, or `false` of another
 line_told : (base : Base) (line : List ℕ) → TellsCanonical base line
-    → (line ≡ codes "true" ++ 10 ∷ []) ⊎ (line ≡ codes "false" ++ 10 ∷ [])
-line_told base line (inl is) = inl is.1
-line_told base line (inr is_not) = inr is_not.1
+    → (IsCanonical base × (line ≡ codes "true" ++ 10 ∷ []))
+    ⊎ ((¬ IsCanonical base) × (line ≡ codes "false" ++ 10 ∷ []))
+line_told base line tells = tells
 
 -- what was written is what was asked for
 done_told : (output : List ℕ)
@@ -351,10 +351,13 @@ request_told : (given : List (List ℕ)) (task : TaskRequested)
     × (AreRequest given (OfRequested task) → Asks given task.ask task.encoding)
 request_told given task = (λ are. are, λ are. are)
 
--- the usage of `encode BASE64` is not wrong; a name that is unknown has no specification
-wrong_told : (IsWrong words Usage → ⊥)
-    × (IsWrong words (UnknownName unknown) → fields_named (codes "base64") ≡ None)
-wrong_told = (λ wrong. some-none (wrong _ _ refl), λ wrong. wrong.3)
+-- the usage of `encode BASE64` is not wrong; a name that is unknown is the second of two words, of
+-- which the first asks for something, and has no specification
+wrong_told : (given : List (List ℕ)) → (IsWrong words Usage → ⊥)
+    × (IsWrong given (UnknownName unknown) → (word : List ℕ)
+    × (given ≡ word ∷ codes "base64" ∷ []) × IsSome (ask_of word)
+    × (fields_named (codes "base64") ≡ None))
+wrong_told given = (λ wrong. some-none (wrong _ _ refl), λ wrong. wrong)
 
 -- a reply reads nothing, and what is asked for is an answer or a reply
 reply_told : (given : List (List ℕ)) (old new : Option (List ℕ)) (output : List ℕ)

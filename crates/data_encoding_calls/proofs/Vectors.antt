@@ -1,5 +1,6 @@
 -- Worked rows of what calls return and write.
 use Rattle.std.proofs.Common.{◌≡◌, ◌∙◌, ◌⊎◌, ℕ, ◌<◌, ◌≤◌, true, false, List, [], ◌∷◌, ◌++◌, map, length, take, drop, IsSome, codes, replicate, Some, None, Result, Ok, Err, refl, zero, suc, sym, ap, subst, inl, inr, lit<, lit≤, arith}
+use Rattle.std.proofs.lemmas.Bool.{false≢true}
 use Rattle.std.proofs.lemmas.List.{append-nil}
 use Rattle.data_encoding.specs.declared.encoding.BitOrder.TheVariants.{MostSignificantFirst, LeastSignificantFirst}
 use Rattle.data_encoding.specs.declared.error.DecodeError.{DecodeError}
@@ -841,14 +842,18 @@ within_told base text answer done = none done.within where
 
 canonical_is_told : (base : Base) (answer : ℕ)
     → (TellsCanonical base true answer → (answer ≡ ok) × IsCanonical base)
-canonical_is_told base answer tells = (tells.status, tells.is_canonical.0 refl)
+    × (TellsCanonical base false answer → IsCanonical base → ⊥)
+canonical_is_told base answer = (
+  λ tells. (tells.status, tells.is_canonical.0 refl),
+  λ tells canonical. false≢true (tells.is_canonical.1 canonical),
+)
 
 -- 12 is known, and 18 is not
-numbers_are_told : (base : Base) (answer : ℕ) → IsNumbered 12 base
+numbers_are_told : (base : Base) (new old answer : ℕ) → IsNumbered 12 base
     → (ByNumber 12 answer ⊥ (λ other. other.width ≡ 6) → base.width ≡ 6)
-    × (ByNumber 18 answer (codes "." ≡ codes ".") (λ other. ⊥) → answer ≡ unknown_encoding)
-numbers_are_told base answer is =
-    (λ by. by.known base is, λ by. (by.unknown refl).0)
+    × (ByNumber 18 answer (new ≡ old) (λ other. ⊥)
+    → (answer ≡ unknown_encoding) × (new ≡ old))
+numbers_are_told base new old answer is = (λ by. by.known base is, λ by. by.unknown refl)
 
 facts_are_told :
     Has base64_mime_fields (λ base. (new answer : ℕ)

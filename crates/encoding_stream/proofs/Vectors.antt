@@ -1,5 +1,6 @@
 -- Worked rows for what streams and decoders have done.
-use Rattle.std.proofs.Common.{◌∙◌, ◌≡◌, ℕ, ◌+◌, ◌≤◌, zero-add, true, false, List, [], ◌∷◌, ◌++◌, drop, map, codes, replicate, Option, Some, None, Result, Ok, Err, refl, zero, suc, sym, ap, subst, lit<, lit≤, arith, length, take}
+use Rattle.std.proofs.Common.{is_some, ◌∙◌, ◌≡◌, ℕ, ◌+◌, ◌≤◌, zero-add, true, false, List, [], ◌∷◌, ◌++◌, drop, map, codes, replicate, Option, Some, None, Result, Ok, Err, refl, zero, suc, sym, ap, subst, lit<, lit≤, arith, length, take}
+use Rattle.std.proofs.lemmas.Bool.{false≢true}
 use Rattle.std.proofs.lemmas.Fmt.{decimal_digit}
 use Rattle.data_encoding.specs.declared.error.DecodeError.{DecodeError}
 use Rattle.data_encoding.specs.declared.error.DecodeKind.TheVariants.{Length, Symbol, Trailing, Padding}
@@ -7,6 +8,7 @@ use Rattle.data_encoding.specs.declared.specification.meanings.Refusal.{Refusal}
 use Rattle.data_encoding.specs.Base.{Base}
 use Rattle.data_encoding.specs.Fault.{fault_of, sound_bytes}
 use Rattle.data_encoding.specs.Fields.{Fields, base_of}
+use Rattle.data_encoding.specs.Laws.{further}
 use Rattle.data_encoding.specs.Grammar.{positioned_from, Means}
 use Rattle.data_encoding.specs.Predefined.{base64_fields, base64_mime_fields, base64_mime_permissive_fields, base64_nopad_fields}
 use Rattle.data_encoding.specs.Pieces.{whole_bytes, HasRead}
@@ -633,6 +635,11 @@ faulty_kept : Has base64_nopad_fields (λ base.
     Keeps base (record kept_last { bytes = codes "!G8" ++ replicate 5 0 }) (codes "SGVs!G8"))
 faulty_kept = record { counted = refl; first = refl; holds = λ h. refl; ends = λ h. refl }
 
+ends_sound_refused :
+    Has base64_nopad_fields (λ base. (bytes : List ℕ)
+    → EndsSound base (record kept_last { bytes = codes "!G8" ++ replicate 5 0 }) bytes → ⊥)
+ends_sound_refused bytes ends = false≢true (sym (ap is_some (ends _ faulty_kept).0))
+
 ends_faulty_told :
     Has base64_nopad_fields (λ base. (error : DecodeError)
     → EndsFaulty base (record kept_last { bytes = codes "!G8" ++ replicate 5 0 }) error
@@ -709,11 +716,14 @@ whole_told = (λ whole. one-over whole.whole, λ whole. never whole.not_final)
 first_group_read : Has base64_fields (λ base. HasRead base (codes "SGVs") 4 None [] false)
 first_group_read = record { counted = refl; first = refl; holds = λ h. refl; ends = λ h. refl }
 
--- after `SGVs`, the groups of `bG8=` append `lo`
+-- after `SGVs`, the groups of `bG8=` append `lo`, and eight bytes are read
 run_told :
     Has base64_fields (λ base. (bytes : List ℕ) (fault : Option DecodeError)
-    → ReadsRun base (codes "bG8=") bytes fault → bytes ≡ codes "lo")
-run_told bytes fault reads = sym (ap (drop 3) (reads (codes "SGVs") 4 first_group_read).1)
+    → ReadsRun base (codes "bG8=") bytes fault
+    → HasRead base (codes "SGVsbG8=") 8 (further 4 fault) [] false × (bytes ≡ codes "lo"))
+run_told bytes fault reads =
+    let after = reads (codes "SGVs") 4 first_group_read in
+    (after.0, sym (ap (drop 3) after.1))
 
 -- a whole group has bytes, and so has a last group
 bytes_told :
@@ -827,9 +837,11 @@ four_symbols = (none_of_group, none_of_faulty)
 group_judged_told :
     Has base64_fields (λ base. (bytes : List ℕ) (error : DecodeError)
     → (JudgesSound base (kept_group (codes "bG8=")) 4 bytes → bytes ≡ codes "lo")
+    × (JudgesSound base (kept_group (codes "!G8=")) 4 bytes → ⊥)
     × (JudgesFaulty base (kept_group (codes "!G8=")) 4 error → error ≡ symbol_at_4))
 group_judged_told bytes error = (
   λ judges. sym (judges four_symbols.0).1,
+  λ judges. false≢true (sym (ap is_some (judges four_symbols.1).0)),
   λ judges. sym (same-error (judges four_symbols.1)),
 )
 

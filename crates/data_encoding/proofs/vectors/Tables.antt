@@ -16,12 +16,12 @@ use Rattle.data_encoding_meaning.specs.specification.Entries.{meaning_of_entry, 
 use Rattle.data_encoding.specs.Meanings.{meanings_of_table, HasEntries}
 use Rattle.data_encoding.specs.Tables.{HasTables}
 use Rattle.data_encoding_kernel.specs.Tables.{HoldsSymbols, HoldsValues, Reads, Writes}
-use Rattle.data_encoding_meaning.specs.decoding.Decoding.{IsStop, HasRoom, IsDecoded}
+use Rattle.data_encoding_meaning.specs.decoding.Decoding.{HasDecodedTo, IsStop, HasRoom, IsDecoded}
 use Rattle.data_encoding.specs.Steps.{HasEnded, HasStepped, fault_of_stop, HasStopped}
 use Rattle.data_encoding.proofs.tables.TableLemmas.{Reads-seen, Writes-tables}
 use Rattle.data_encoding_meaning.proofs.vectors.Examples.{built, Has}
 use Rattle.data_encoding_meaning.proofs.vectors.Steps.{text_decoded}
-use Rattle.std.specs.Prelude.{◌-◌}
+use Rattle.std.specs.Prelude.{◌-◌, slice_index}
 use Rattle.data_encoding_meaning.specs.declared.error.DecodePartial.{DecodePartial}
 use Rattle.data_encoding_meaning.specs.text.Grammar.{kept}
 use Rattle.data_encoding_meaning.specs.decoding.Partial.{StopsAt}
@@ -120,19 +120,36 @@ meanings_held table h = (
   subst HoldsEntries (sym h) (record { entries = refl; invalid_from_128 = refl }),
 )
 
--- padding is ASCII, and without it no byte means padding; without lines nothing separates them, and
--- a line is short
-kept_told : (width : ℕ) (separator values : List ℕ)
+-- padding is ASCII, has its entry, and is none of four bits; without it no byte means padding
+padding_told : (width : ℕ) (values : List ℕ)
     → (KeepsPadding None width (replicate 128 130) → ⊥)
     × (KeepsPadding (Some 128) width values → ⊥)
-    × (KeepsWrapping 0 separator width values → separator ≡ [])
-    × (KeepsWrapping 256 separator width values → ⊥)
-kept_told width separator values = (
+    × (KeepsPadding (Some 61) width values → slice_index values 61 ≡ 130)
+    × (KeepsPadding (Some 61) 4 values → ⊥)
+padding_told width values = (
   λ keeps. false≢true keeps,
   λ keeps. omega (arith, keeps.0),
+  λ keeps. keeps.1,
+  λ keeps. false≢true keeps.2,
+)
+
+-- without lines nothing separates them; a line is short and of whole groups, and something short,
+-- which is ignored, separates lines
+wrapping_told : (width : ℕ) (separator values : List ℕ)
+    → (KeepsWrapping 0 separator width values → separator ≡ [])
+    × (KeepsWrapping 256 separator width values → ⊥)
+    × (KeepsWrapping 75 separator 6 values → ⊥)
+    × (KeepsWrapping 76 separator 6 values → (0 < length separator) × (length separator < 256))
+    × (KeepsWrapping 76 (13 ∷ []) 6 (replicate 128 128) → ⊥)
+wrapping_told width separator values = (
   λ keeps. keeps,
   λ keeps. omega (arith, keeps.0),
-)
+  λ keeps. three-of-none keeps.1,
+  λ keeps. (keeps.2, keeps.3),
+  λ keeps. false≢true keeps.4,
+) where
+  three-of-none : ◌≡◌ {A = ℕ} 3 0 → ⊥
+  three-of-none is = omega (arith, is)
 
 -- tables that break one rule each
 rules_told : (e : EncodingTables)
@@ -186,13 +203,14 @@ ended_told : (base : Base) (output : List ℕ) (stop : Stop)
     → IsDecoded base (codes "QUI") stop.written output)
     × (HasEnded base (codes "QUI") output stop false
     → HasStopped base (codes "QUI") output stop)
-    × (HasStepped base (codes "QUI") 2 output stop More → 2 < stop.read)
+    × (HasStepped base (codes "QUI") 2 output stop More
+    → (2 < stop.read) × HasDecodedTo base (codes "QUI") stop.read stop.written false output)
     × (HasStepped base (codes "QUI") 2 output stop Ended
     → IsDecoded base (codes "QUI") stop.written output)
     × (HasStepped base (codes "QUI") 2 output stop Faulty
     → HasStopped base (codes "QUI") output stop)
 ended_told base output stop =
-    (λ ended. ended, λ ended. ended, λ step. step.0, λ step. step, λ step. step)
+    (λ ended. ended, λ ended. ended, λ step. step, λ step. step, λ step. step)
 
 abbrev stop_of_length : ℕ → ℕ → Stop
 stop_of_length read written =
