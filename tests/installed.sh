@@ -72,17 +72,17 @@ is 'bash: the names' "${names//$'\n'/ }" "$(completed basecode encode '')"
 is 'bash: names that begin so' 'HEXUPPER HEXUPPER_PERMISSIVE' "$(completed basecode decode HEXU)"
 is 'bash: a question' 'BASE32_DNSCURVE' "$(completed basecode canonical BASE32_DNSC)"
 is 'bash: no such name' '' "$(completed basecode encode NOPE)"
-is 'bash: nothing behind a list' '' "$(completed basecode list '')"
-is 'bash: nothing behind a name' '' "$(completed basecode encode HEXLOWER '')"
-is 'bash: nothing behind no verb' '' "$(completed basecode recode '')"
-is 'bash: a verb behind an input' 'encode' "$(completed basecode '<' file enc)"
-is 'bash: a verb behind two files' 'encode' "$(completed basecode '<' a:b 2 '>>' err enc)"
-is 'bash: a verb behind a file in parts' 'encode' "$(completed basecode '<' a : b = c enc)"
-is 'bash: a name behind an input' 'HEXUPPER HEXUPPER_PERMISSIVE' \
+is 'bash: nothing after a list' '' "$(completed basecode list '')"
+is 'bash: nothing after a name' '' "$(completed basecode encode HEXLOWER '')"
+is 'bash: nothing after no verb' '' "$(completed basecode recode '')"
+is 'bash: a verb after an input' 'encode' "$(completed basecode '<' file enc)"
+is 'bash: a verb after two files' 'encode' "$(completed basecode '<' a:b 2 '>>' err enc)"
+is 'bash: a verb after a file in parts' 'encode' "$(completed basecode '<' a : b = c enc)"
+is 'bash: a name after an input' 'HEXUPPER HEXUPPER_PERMISSIVE' \
     "$(completed basecode encode '<' file HEXU)"
 is 'bash: a name between files' 'HEXUPPER HEXUPPER_PERMISSIVE' \
     "$(completed basecode 2 '>' err encode '>' out HEXU)"
-is 'bash: nothing behind a name and a file' '' "$(completed basecode encode HEXLOWER '<' file '')"
+is 'bash: nothing after a name and a file' '' "$(completed basecode encode HEXLOWER '<' file '')"
 is 'bash: no verb for an input' '' "$(completed basecode '<' e)"
 is 'bash: no name for an output' '' "$(completed basecode encode '>' HEXU)"
 is 'bash: nothing for a redirection' '' "$(completed basecode encode '<')"
@@ -133,7 +133,7 @@ completes() {
     is "$shell, typed: $3, a name, a file" 48656C6C6F "$(cat typed.output 2>&1)"
     rm -f typed.output
     typed "$1" "$2" "$3 <file-with-a-name >typed.output enc\\t HEXUPPER_\\t"
-    is "$shell, typed: $3, behind files" 48656C6C6F "$(cat typed.output 2>&1)"
+    is "$shell, typed: $3, after files" 48656C6C6F "$(cat typed.output 2>&1)"
 }
 
 printf Hello >file-with-a-name
@@ -173,12 +173,12 @@ if command -v fish >/dev/null; then
     }
     is 'fish: the verbs' 'canonical decode encode list ' "$(offered 'basecode ')"
     is 'fish: names' 'HEXUPPER HEXUPPER_PERMISSIVE ' "$(offered 'basecode decode HEXU')"
-    is 'fish: nothing behind a list' '' "$(offered 'basecode list ')"
-    is 'fish: nothing behind a name' '' "$(offered 'basecode encode HEXLOWER ')"
-    is 'fish: a verb behind an input' 'encode ' "$(offered 'basecode < file enc')"
+    is 'fish: nothing after a list' '' "$(offered 'basecode list ')"
+    is 'fish: nothing after a name' '' "$(offered 'basecode encode HEXLOWER ')"
+    is 'fish: a verb after an input' 'encode ' "$(offered 'basecode < file enc')"
     is 'fish: names between files' 'HEXUPPER HEXUPPER_PERMISSIVE ' \
         "$(offered 'basecode 2>err decode >>out HEXU')"
-    is 'fish: nothing behind a name and a file' '' "$(offered 'basecode encode HEXLOWER <file ')"
+    is 'fish: nothing after a name and a file' '' "$(offered 'basecode encode HEXLOWER <file ')"
 else
     skip 'completions of fish: no fish'
 fi

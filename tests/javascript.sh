@@ -48,11 +48,10 @@ is 'the version of the package' "$(sed -n 's/^## //p' "$OLDPWD/CHANGELOG.md" | h
 
 # The lines of the kernel that go by words in a package that is built without --lanes.
 kernel=$OLDPWD/crates/data_encoding_kernel/src
-is 'what goes by words' '2 1 1 1 1 2' "$(grep -cF 'encode_turns::<EightGroups, G>' "$kernel/encode.rt") \
+is 'what goes by words' '2 1 1 1' "$(grep -cF 'encode_turns::<EightGroups, G>' "$kernel/encode.rt") \
 $(grep -cF 'EightGroups::encode_rest::<G>' "$kernel/encode.rt") \
 $(grep -cF 'if input.len() < eight ||' "$kernel/decode.rt") \
-$(grep -cF 'if width == 5 then 2 else 4' "$kernel/turn.rt") $(grep -cF '5 => 2,' "$kernel/turn.rt") \
-$(grep -cE '[56] => decode_(two|four)::<Rows, G>\(&rows_of\(self\),' "$kernel/turn.rt")"
+$(grep -cF 'return decode_turns::<Few<L>, G>(&Few { look_up: ' "$kernel/decode.rt")"
 
 wanted="the WebAssembly module is not here: \`bindings/javascript/build.sh DIR\` makes a package \
 with it from the sources of Bamsturk"

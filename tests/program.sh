@@ -47,10 +47,10 @@ check 'an invalid symbol' 1 '' 'basecode: invalid symbol at 1' 4G decode HEXLOWE
 check 'an invalid length' 1 '' 'basecode: invalid length at 2' 4G4 decode HEXLOWER
 check 'an upper case symbol' 1 '' 'basecode: invalid symbol at 0' DE decode HEXLOWER
 check 'a line feed' 1 hi 'basecode: invalid length at 4' '6869\n' decode HEXLOWER
-check 'a fault behind sound groups' 1 Hel 'basecode: invalid symbol at 7' 48656c6g decode HEXLOWER
+check 'a fault after sound groups' 1 Hel 'basecode: invalid symbol at 7' 48656c6g decode HEXLOWER
 zeros='\x00\x00\x00'
 check 'a symbol too many' 1 "$zeros" 'basecode: invalid length at 4' AAAAA decode BASE64_NOPAD
-check 'a byte behind a group' 1 "$zeros" 'basecode: invalid length at 4' 'AAAA!' decode BASE64
+check 'a byte after a group' 1 "$zeros" 'basecode: invalid length at 4' 'AAAA!' decode BASE64
 
 check 'an unknown name' 2 '' 'basecode: unknown encoding: NOPE' 4G decode NOPE
 check 'a name in lower case' 2 '' 'basecode: unknown encoding: hexlower' 4G encode hexlower
@@ -92,7 +92,7 @@ if command -v python3 >/dev/null; then
     holds 'a fault in one write' one_write 'basecode: invalid symbol at 1' decode HEXLOWER
     holds 'the usage in one write' one_write "$usage" recode NOPE
     holds 'a name in one write' one_write 'basecode: unknown encoding: NOPE' decode NOPE
-    # With 28 bytes before the name and LF behind it, the line has 4096 bytes.
+    # With 28 bytes before the name and LF after it, the line has 4096 bytes.
     name=${long::4067}
     holds '4096 bytes in one write' one_write "basecode: unknown encoding: $name" decode "$name"
 
@@ -212,7 +212,7 @@ holds '64 MiB come back' cmp input back
 { cat text; printf 4G; } | { "$program" decode HEXLOWER >back 2>line; echo $? >status; }
 status=$(cat status)
 : >output
-holds 'a fault behind 128 MiB' is_run 1 '' 'basecode: invalid symbol at 134217729'
+holds 'a fault after 128 MiB' is_run 1 '' 'basecode: invalid symbol at 134217729'
 holds 'and 64 MiB before it' cmp input back
 
 # Neither encoding nor decoding takes memory.

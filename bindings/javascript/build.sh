@@ -70,12 +70,8 @@ by_words() {
     put encode.rt 'encode_turns::<EightGroups, G>' 'encode_turns::<OneGroup, G>'
     put encode.rt 'EightGroups::encode_rest::<G>' 'encode_by_order::<OneGroup, G>'
     put decode.rt 'if input.len() < eight ||' 'if input.len() < eight || true ||'
-    put turn.rt 'if width == 5 then 2 else 4' '4'
-    put turn.rt '5 => 2,' '5 => 4,'
-    put turn.rt '5 => decode_two::<Rows, G>(&rows_of(self),' '5 => decode_four_groups::<G>(self,'
-    put turn.rt '6 => decode_four::<Rows, G>(&rows_of(self),' '6 => decode_four_groups::<G>(self,'
-    # The turn needs no answers then.
-    rm -r "$room/crates/data_encoding_kernel/proofs/turn/ArrayU8256DecodeTurn"
+    put decode.rt 'return decode_turns::<Few<L>, G>(&Few { look_up: ' \
+        'return decode_turns::<[u8; 256], G>(values, O::ORDER, input, output); \/\/ '
 }
 
 # Nothing is proved again where no source is newer than the module.

@@ -57,7 +57,7 @@ static void fault(de_number number, const char *text, size_t len, de_status stat
     holds("the same bytes", memcmp(front, output, again.written) == 0);
     for (index = most; index < 64; index++) {
         if (output[index] != 0xa5) {
-            holds("nothing behind what is due", false);
+            holds("nothing after what is due", false);
         }
     }
 }

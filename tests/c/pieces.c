@@ -40,8 +40,8 @@ static de_status finish(const struct by *by, const de_decoder *decoder, void *ou
                            : de_decoder_finish(by->number, decoder, output, room, decoded);
 }
 
-/* Reads a piece into exactly as much room as it asks for, and refuses less; what stands behind is
- * unchanged. Each piece is in memory of its own, so that sanitizers see a read behind it. */
+/* Reads a piece into exactly as much room as it asks for, and refuses less; what follows is
+ * unchanged. Each piece is in memory of its own, so that sanitizers see a read past it. */
 static size_t read_on(const struct by *by, de_decoder *decoder, const char *piece, size_t len,
                       unsigned char *output) {
     unsigned char room[64];
@@ -174,10 +174,10 @@ static void statuses(const struct by *by) {
     refused("more than the text", by, &other);
     other.len = 3;
     other.fault = DE_INVALID_SYMBOL;
-    refused("behind a fault", by, &other);
+    refused("after a fault", by, &other);
     other.count = 0;
-    is("behind a fault", DE_OK, most(by, &other, 100, &size));
-    is("behind a fault", 0, size);
+    is("after a fault", DE_OK, most(by, &other, 100, &size));
+    is("after a fault", 0, size);
     other.fault = DE_SHORT_BUFFER;
     refused("no fault", by, &other);
     is("text", 0, strcmp(de_status_text(DE_NO_DECODER), "no decoder"));

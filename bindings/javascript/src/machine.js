@@ -21,12 +21,12 @@ export const RESULT = 0;
 export const DECODER = 32;
 export const FORM = 144;
 export const MADE = 160;
-export const TABLES = 960;
-const ROOM = 1744;
+export const TABLES = 1008;
+const ROOM = 1840;
 
 /** The sizes of those that are copied. */
 export const DECODER_SIZE = 104;
-export const TABLES_SIZE = 775;
+export const TABLES_SIZE = 824;
 
 function moduleBytes() {
   const text = atob(MODULE);

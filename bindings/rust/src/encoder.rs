@@ -5,9 +5,9 @@ use crate::Encoding;
 /// The greatest `encode_align`: that of lines of 252 symbols of six bits.
 const ALIGN_LIMIT: usize = 189;
 
-/// Appends the text of data that comes in fragments to a string.
+/// Appends the text of data that comes in pieces to a string.
 ///
-/// The text is that of the whole data: lines and padding do not show where a fragment ended. The
+/// The text is that of the whole data: lines and padding do not show where a piece ended. The
 /// end of the text is written by [`finalize`](Encoder::finalize), or when the encoder is dropped.
 ///
 /// ```

@@ -182,7 +182,7 @@ impl Encoding {
         });
     }
 
-    /// Returns an encoder, which appends the text of data that comes in fragments to the output.
+    /// Returns an encoder, which appends the text of data that comes in pieces to the output.
     #[cfg(feature = "alloc")]
     pub fn new_encoder<'a>(&'a self, output: &'a mut String) -> Encoder<'a> {
         Encoder::new(self, output)

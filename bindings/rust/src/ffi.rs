@@ -40,7 +40,7 @@ mod refused {
 }
 
 /// The size of a `de_encoding`, or more.
-const TABLES_SIZE: usize = 784;
+const TABLES_SIZE: usize = 832;
 
 /// The greatest length of a layout.
 #[cfg(feature = "alloc")]

@@ -15,7 +15,7 @@
 //! ```
 //!
 //! Data may also be encoded in place ([`Encoding::encode_mut`]), at the end of a `String`
-//! ([`Encoding::encode_append`]), in fragments ([`Encoding::new_encoder`]), to a writer
+//! ([`Encoding::encode_append`]), in pieces ([`Encoding::new_encoder`]), to a writer
 //! ([`Encoding::encode_write`]), and when it is printed ([`Encoding::encode_display`]).
 //!
 //! # Features

@@ -34,7 +34,7 @@ fn appended() {
 }
 
 #[test]
-fn fragments() {
+fn pieces() {
     let data = data(130);
     for encoding in encodings() {
         let whole = String::from("é") + &encoding.encode(&data);

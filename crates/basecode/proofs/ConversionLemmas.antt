@@ -55,7 +55,7 @@ module _ (words : List (List ℕ)) (read_old read_new written_old written_new : 
     }
     done_conversion law Decode base asked all =
         let specified : IsSpecified base =
-        record { fields = asked.fields; yields = asked.is_built } in
+        record { fields = asked.fields; is_built = asked.is_built } in
         record {
           output = sound_bytes base all.text;
           fulfils = ByAnswer Decode base asked (record {

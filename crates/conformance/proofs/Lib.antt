@@ -2,7 +2,7 @@ pub mod LineLemmas
 pub mod OrderLemmas
 pub mod NameLemmas
 pub mod FaultLemmas
-pub mod YieldLemmas
+pub mod BuiltLemmas
 pub mod StreamedLemmas
 pub mod RewrittenLemmas
 pub mod ResumedLemmas

@@ -4,16 +4,16 @@ use Rattle.std.proofs.lemmas.Bool.Decides.{nat_tests}
 use Rattle.data_encoding.specs.declared.error.DecodeError.{DecodeError}
 use Rattle.data_encoding.specs.declared.specification.meanings.Refusal.{Refusal}
 use Rattle.data_encoding.specs.Base.{Base}
-use Rattle.data_encoding.specs.Eighteen.{Yields}
+use Rattle.data_encoding.specs.Eighteen.{Builds}
 use Rattle.data_encoding.specs.Fields.{Fields, base_of}
 use Rattle.data_encoding.specs.Lengths.{unless_fault}
-use Rattle.conformance.proofs.YieldLemmas.{same_yield}
+use Rattle.conformance.proofs.BuiltLemmas.{same_built}
 
 -- what holds for one base holds for each that the fields have
-pub yields-seen : (P : Base → Type 0) (fields : Fields) (seen : Base)
-    → base_of fields ≡ Ok seen → P seen → Yields P fields
-yields-seen P fields seen is h base other =
-    subst P (same_yield (base_of fields) seen base is other) h
+pub is_built-seen : (P : Base → Type 0) (fields : Fields) (seen : Base)
+    → base_of fields ≡ Ok seen → P seen → Builds P fields
+is_built-seen P fields seen is h base other =
+    subst P (same_built (base_of fields) seen base is other) h
 
 -- There is a base, and the property holds for it.
 abbrev pub IsOfBase : (Base → Type 0) → Result Base Refusal → Type 0

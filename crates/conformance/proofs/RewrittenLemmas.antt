@@ -17,7 +17,7 @@ use Rattle.data_encoding.specs.Laws.{OneMeaning}
 use Rattle.data_encoding.specs.Predefined.{base32_dnssec_fields, base64_fields, base64url_fields}
 use Rattle.data_encoding.specs.Rules.{EighteenRules}
 use Rattle.data_encoding.specs.SameMeaning.{DifferInSymbolsAlone, OwnForm, OwnForms, Translated, exchanged, has_one_own_form}
-use Rattle.conformance.proofs.YieldLemmas.{same_yield}
+use Rattle.conformance.proofs.BuiltLemmas.{same_built}
 
 -- what is known about the base of some fields is computed
 abbrev pub got : {X : Type 0} → (Base → X) → X → Result Base Refusal → X
@@ -29,7 +29,7 @@ pub known : {X : Type 0} (f : Base → X) (otherwise : X) (fields : Fields) (bas
 known f otherwise fields base is = sym (ap (got f otherwise) is)
 
 pub specified_by : (fields : Fields) (base : Base) → base_of fields ≡ Ok base → IsSpecified base
-specified_by fields base is = record { fields = fields; yields = is }
+specified_by fields base is = record { fields = fields; is_built = is }
 
 -- what is computed for each byte below 128
 pub each_byte : (test : ℕ → Bool) → list_all test (range_with_len 0 128) ≡ true → (byte : ℕ)
@@ -62,7 +62,7 @@ module _ (base : Base) (is : base_of base32_dnssec_fields ≡ Ok base)
             ∙ sym (own base specified other)),
       )
 
-  module _ (encoding : Base) (yields : base_of base32_dnssec_fields ≡ Ok encoding)
+  module _ (encoding : Base) (is_built : base_of base32_dnssec_fields ≡ Ok encoding)
       (one other : List ℕ) where
     -- so it depends on whether their bytes mean the same
     pub same_name : (result : Bool)
@@ -70,7 +70,7 @@ module _ (base : Base) (is : base_of base32_dnssec_fields ≡ Ok base)
         → (bytes others : List ℕ) → Means base one bytes → Means base other others
         → IsTrue result ↔ (bytes ≡ others)
     same_name result tells bytes others means more =
-        let equal = same_yield (base_of base32_dnssec_fields) encoding base yields is in
+        let equal = same_built (base_of base32_dnssec_fields) encoding base is_built is in
         let told = subst
         (λ b. IsTrue result ↔ (map (meaning b) one ≡ map (meaning b) other)) equal tells in
         let data_same = same_data one other bytes others means more in

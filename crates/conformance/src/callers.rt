@@ -137,7 +137,7 @@ pub fn is_refused_alike(alloc: Global, encoding: &Encoding, text: &[u8]) -> bool
 
 /// Whether the encoding that is built from the specification of the one is equal to the other: it
 /// is if the two are equal.
-pub fn is_yielded_again(
+pub fn is_built_again(
     alloc: Global,
     encoding: &Encoding,
     other: &Encoding,
@@ -148,7 +148,7 @@ pub fn is_yielded_again(
     specification_again();
     let specification = encoding.specification(alloc)?;
     match specification.encoding() {
-        Ok(yielded) => Ok(yielded == *other),
+        Ok(built) => Ok(built == *other),
         Err(_) => Ok(false),
     }
 }

@@ -8,7 +8,7 @@ use Rattle.std.specs.contracts.string.String as string
 use mathlib.Core.Option as maybe
 use Rattle.data_encoding.specs.declared.encode.encoder.Encoder.{Encoder}
 use Rattle.data_encoding_meaning.specs.text.Base.{Base}
-use Rattle.data_encoding_meaning.specs.text.Fragments.{HasEncoded}
+use Rattle.data_encoding_meaning.specs.text.EncodedPieces.{HasEncoded}
 use Rattle.data_encoding_meaning.specs.text.Text.{text_of}
 
 -- the encoding of an encoder

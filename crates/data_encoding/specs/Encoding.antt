@@ -4,6 +4,8 @@ use Rattle.std.specs.List.{concat, list_all, range_with_len}
 use Rattle.data_encoding_meaning.specs.declared.encoding.BitOrder.{BitOrder}
 use Rattle.data_encoding_meaning.specs.text.Base.{Base, IsWidth, ignores_some, group_symbols, wrapping_by}
 use Rattle.data_encoding_meaning.specs.specification.Entries.{meaning_of_entry, is_entry_of}
+use Rattle.data_encoding_kernel.specs.declared.lanes.affine.PlainAffine.{PlainAffine}
+use Rattle.data_encoding_kernel.specs.Affine.{agrees}
 
 -- the tables by which an encoding encodes and decodes
 pub record EncodingTables : Type 0 where
@@ -17,6 +19,7 @@ pub record EncodingTables : Type 0 where
   pub ignores : Bool
   pub column : ℕ
   pub separator : List ℕ
+  pub form : PlainAffine
 
 -- the base that the tables of an encoding describe
 abbrev pub base_of_tables : EncodingTables → Base
@@ -48,7 +51,8 @@ KeepsWrapping (suc n) separator width values =
 
 -- A symbol has one to six bits, and trailing bits are checked if eight bits are whole symbols. The
 -- symbols are ASCII, and are repeated to fill their table. Each has its own value; any other byte
--- has the value of a symbol, or 128 to 130; each from 128 on has 128.
+-- has the value of a symbol, or 128 to 130; each from 128 on has 128. The affine form agrees with
+-- the values.
 pub record KeepsRules (e : EncodingTables) : Type 0 where
   pub is_width : IsWidth e.width
   pub unpadded_concatenates : IsTrue (e.concatenates || is_some e.padding)
@@ -63,3 +67,4 @@ pub record KeepsRules (e : EncodingTables) : Type 0 where
   pub padding : KeepsPadding e.padding e.width e.values
   pub ignores : e.ignores ≡ ignores_some (base_of_tables e)
   pub wrapping : KeepsWrapping e.column e.separator e.width e.values
+  pub form_agrees : IsTrue (agrees e.values e.form)

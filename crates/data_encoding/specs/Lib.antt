@@ -13,7 +13,7 @@ pub use Rattle.data_encoding_meaning.specs.text.Bits
 pub use Rattle.data_encoding_meaning.specs.text.Text
 pub use Rattle.data_encoding_meaning.specs.text.Grammar
 pub use Rattle.data_encoding_meaning.specs.text.Lengths
-pub use Rattle.data_encoding_meaning.specs.text.Fragments
+pub use Rattle.data_encoding_meaning.specs.text.EncodedPieces
 pub use Rattle.data_encoding_meaning.specs.decoding.Fault
 pub use Rattle.data_encoding_meaning.specs.decoding.Partial
 pub use Rattle.data_encoding_meaning.specs.decoding.Pieces

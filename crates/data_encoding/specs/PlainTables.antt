@@ -17,7 +17,7 @@ padding_by entry = if nat_lt entry 128 then Some entry else None
 abbrev pub plain_tables : PlainFields → List ℕ → EncodingTables
 plain_tables f separator = record {
   symbols = f.symbols;
-  values = f.values;
+  values = f.values.entries;
   width = f.width;
   order = order_by f.least_significant_first;
   checks_trailing_bits = f.checks_trailing_bits;
@@ -26,4 +26,5 @@ plain_tables f separator = record {
   ignores = f.ignores;
   column = f.column;
   separator = separator;
+  form = f.values.form;
 }

@@ -191,7 +191,7 @@ impl Encoding {
     pub fn interpret_byte(&self, byte: u8) -> Character
         ensures { result ≡ meaning self.now byte }
     {
-        let entry = self.fields.values[byte as usize];
+        let entry = self.fields.values.entries[byte as usize];
         if entry < MOST_SYMBOLS {
             Character::Symbol {
                 value: entry as usize,
@@ -296,7 +296,8 @@ impl PartialEq for Encoding {
         one == another
             && self.fields.symbols[..MOST_SYMBOLS as usize]
                 == other.fields.symbols[..MOST_SYMBOLS as usize]
-            && self.fields.values[..ASCII as usize] == other.fields.values[..ASCII as usize]
+            && self.fields.values.entries[..ASCII as usize]
+                == other.fields.values.entries[..ASCII as usize]
             && self.separator.as_slice() == other.separator.as_slice()
     }
 }

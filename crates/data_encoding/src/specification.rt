@@ -113,7 +113,7 @@ impl Specification {
     /// may use what an earlier one defined. If eight bits are whole symbols, trailing bits are
     /// always checked.
     pub fn encoding(&self) -> Result<Encoding, SpecificationError>
-        ensures yields { IfOk result (λ base. base_of (specified self.now) ≡ Ok base) }
+        ensures is_built { IfOk result (λ base. base_of (specified self.now) ≡ Ok base) }
         ensures refused { IfErr result
             (λ error. base_of (specified self.now) ≡ Err (refusal_of error)) }
     {
@@ -209,7 +209,7 @@ impl EncodingRef<'_> {
     {
         Tables {
             symbols: &self.fields.symbols[..alphabet_len(self.fields.width)],
-            values: &self.fields.values[..ASCII as usize],
+            values: &self.fields.values.entries[..ASCII as usize],
             padding: self.fields.padding_character(),
         }
     }

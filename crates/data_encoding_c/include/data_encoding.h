@@ -373,7 +373,7 @@ de_status de_specification_of(de_number number, de_specification *specification,
                               size_t texts_len);
 
 /* The length of the tables of an encoding. */
-#define DE_TABLES 775
+#define DE_TABLES 824
 
 /* An encoding of the caller: plain bytes, which may be copied within the program and need no
  * cleanup. They are trusted, and not judged again; de_encoding_read reads bytes from elsewhere.

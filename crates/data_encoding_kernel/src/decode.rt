@@ -1,28 +1,27 @@
 //! Runs of whole groups of symbols only, which are decoded without a judgement.
 
-ghost use Rattle.std.specs.Prelude.{◌≡◌, ℕ, ◌*◌, ◌/◌, ◌≤◌, List, length, IsTrue, IfSome};
+ghost use Rattle.std.specs.Prelude.{◌≡◌, ℕ, ◌*◌, ◌/◌, ◌≤◌, List, length};
 ghost use Rattle.data_encoding_kernel.specs.Runs.{IsLongestBy, IsRunBy};
 
 use crate::group_size::GroupSize;
 use crate::lanes::look_up::LookUp;
-use crate::lanes::rows::{Rows, rows_of};
 use crate::order::ConstantOrder;
-use crate::turn::{DecodeTurn, Lanes};
+use crate::turn::{DecodeTurn, Few, Lanes};
 use crate::words::{decode_symbols, entry_of};
 use data_encoding_meaning::encoding::BitOrder;
 
 /// Decodes whole groups from the start of the input to the start of the output, up to the first
 /// group with a byte that is no symbol, and returns their number. Output bytes after theirs are
-/// unspecified. If there is no look-up and the input has eight groups, one is prepared.
+/// unspecified.
 // Inlined, since a call costs more than decoding a short text.
 #[inline(always)]
 pub fn decode_run<L: LookUp, O: ConstantOrder, G: GroupSize>(
     values: &[u8; 256],
-    look_up: Option<&L>,
+    look_up: &L,
     input: &[u8],
     output: &mut [u8],
 ) -> usize
-    requires held { IfSome look_up (λ look_up. L.holds values.now look_up.now) }
+    requires held { L.holds values.now look_up.now }
     requires room { length input.now / G.SYMBOLS * G.BYTES ≤ length output.old }
     ensures run { IsRunBy values.now G.WIDTH O.ORDER input.now result output.old output.new }
     ensures longest { IsLongestBy values.now G.WIDTH O.ORDER input.now result }
@@ -52,11 +51,11 @@ pub fn decode_run<L: LookUp, O: ConstantOrder, G: GroupSize>(
 #[inline(always)]
 fn decode_by_several<L: LookUp, O: ConstantOrder, G: GroupSize>(
     values: &[u8; 256],
-    look_up: Option<&L>,
+    look_up: &L,
     input: &[u8],
     output: &mut [u8],
 ) -> usize
-    requires held { IfSome look_up (λ look_up. L.holds values.now look_up.now) }
+    requires held { L.holds values.now look_up.now }
     requires room { length input.now / G.SYMBOLS * G.BYTES ≤ length output.old }
     ensures run { IsRunBy values.now G.WIDTH O.ORDER input.now result output.old output.new }
     ensures within { result ≤ length input.now / G.SYMBOLS }
@@ -64,34 +63,28 @@ fn decode_by_several<L: LookUp, O: ConstantOrder, G: GroupSize>(
     let eight = 8 * G::SYMBOLS;
     // The eighth group may be padded; then decoding eight would be wasted.
     if input.len() < eight || 8 % G::WIDTH != 0 && entry_of(values, input[eight - 1]) >= 128 {
-        return decode_turns::<[u8; 256], G>(values, O::ORDER, input, output);
+        return decode_turns::<Few<L>, G>(&Few { look_up: *look_up }, O::ORDER, input, output);
     }
-    match look_up {
-        Some(look_up) => {
-            decode_turns::<Lanes<L>, G>(&Lanes { look_up: *look_up }, O::ORDER, input, output)
-        }
-        None => decode_by_lanes::<O, G>(values, input, output),
-    }
+    decode_by_lanes::<L, O, G>(values, look_up, input, output)
 }
 
-// By rows of the table, and what is left in shorter turns. Not inlined, so that shorter texts do
-// not pay for the stack that lanes take.
+// Not inlined, so that shorter texts do not pay for the stack that lanes take.
 #[inline(never)]
-fn decode_by_lanes<O: ConstantOrder, G: GroupSize>(
+fn decode_by_lanes<L: LookUp, O: ConstantOrder, G: GroupSize>(
     values: &[u8; 256],
+    look_up: &L,
     input: &[u8],
     output: &mut [u8],
 ) -> usize
+    requires held { L.holds values.now look_up.now }
     requires room { length input.now / G.SYMBOLS * G.BYTES ≤ length output.old }
     ensures run { IsRunBy values.now G.WIDTH O.ORDER input.now result output.old output.new }
     ensures within { result ≤ length input.now / G.SYMBOLS }
 {
     let symbols = G::SYMBOLS;
     let bytes = G::BYTES;
-    let lanes = Lanes {
-        look_up: rows_of(values),
-    };
-    let first = decode_turns::<Lanes<Rows>, G>(&lanes, O::ORDER, input, output);
+    let lanes = Lanes { look_up: *look_up };
+    let first = decode_turns::<Lanes<L>, G>(&lanes, O::ORDER, input, output);
     let read = first * symbols;
     let written = first * bytes;
     let left = input.len() - read;
@@ -103,8 +96,8 @@ fn decode_by_lanes<O: ConstantOrder, G: GroupSize>(
     if entry_of(values, input[read + (16 - symbols)]) >= 128 {
         return first;
     }
-    let further = decode_turns::<[u8; 256], G>(
-        values,
+    let further = decode_turns::<Few<L>, G>(
+        &Few { look_up: *look_up },
         O::ORDER,
         &input[read..],
         &mut output[written..],

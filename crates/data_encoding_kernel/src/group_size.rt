@@ -8,14 +8,14 @@ ghost use Rattle.data_encoding_meaning.specs.text.Base.{IsGroup};
 /// the sizes of a group are then constants, and loops over a group are unrolled.
 #[macro_export]
 macro_rules! call_by_width {
-    ($width:expr, $this:ident.$call:ident::<$($order:ident)?>($($argument:expr),*)) => {
+    ($width:expr, $this:ident.$call:ident::<$($fixed:ident),*>($($argument:expr),*)) => {
         match $width {
-            1 => $this.$call::<$($order,)? $crate::group_size::Base2>($($argument),*),
-            2 => $this.$call::<$($order,)? $crate::group_size::Base4>($($argument),*),
-            3 => $this.$call::<$($order,)? $crate::group_size::Base8>($($argument),*),
-            4 => $this.$call::<$($order,)? $crate::group_size::Base16>($($argument),*),
-            5 => $this.$call::<$($order,)? $crate::group_size::Base32>($($argument),*),
-            _ => $this.$call::<$($order,)? $crate::group_size::Base64>($($argument),*),
+            1 => $this.$call::<$($fixed,)* $crate::group_size::Base2>($($argument),*),
+            2 => $this.$call::<$($fixed,)* $crate::group_size::Base4>($($argument),*),
+            3 => $this.$call::<$($fixed,)* $crate::group_size::Base8>($($argument),*),
+            4 => $this.$call::<$($fixed,)* $crate::group_size::Base16>($($argument),*),
+            5 => $this.$call::<$($fixed,)* $crate::group_size::Base32>($($argument),*),
+            _ => $this.$call::<$($fixed,)* $crate::group_size::Base64>($($argument),*),
         }
     };
 }

@@ -11,4 +11,5 @@ pub mod group_size;
 pub mod lanes;
 pub mod order;
 pub mod turn;
+pub mod value_table;
 pub mod words;

@@ -1,14 +1,14 @@
 //! Several whole groups of symbols at a time.
 
-ghost use Rattle.std.specs.Prelude.{◌≡◌, ℕ, ◌*◌, ◌<◌, ◌==◌, if◌then◌else◌, List, length, IsTrue};
+ghost use Rattle.std.specs.Prelude.{◌≡◌, ℕ, ◌*◌, ◌/◌, ◌<◌, List, length, IsTrue};
 ghost use Rattle.data_encoding_kernel.specs.Runs.{IsRunBy};
+ghost use Rattle.data_encoding_meaning.specs.text.Base.{group_symbols};
 
 use crate::group_size::GroupSize;
 use crate::lanes::decode::decode_eight;
-use crate::lanes::decode_sixteen::{decode_four, decode_two};
+use crate::lanes::decode_sixteen::decode_sixteen;
 use crate::lanes::look_up::LookUp;
-use crate::lanes::rows::{Rows, rows_of};
-use crate::words::{decode_entries, entry_of};
+use crate::words::decode_entries;
 use data_encoding_meaning::encoding::BitOrder;
 
 /// A way to decode a fixed number of whole groups in each turn of a loop.
@@ -52,32 +52,42 @@ impl<L: LookUp> DecodeTurn for Lanes<L> {
     }
 }
 
-// By the table itself: sixteen symbols of five or six bits in lanes, and four groups of others word
-// by word.
+/// The groups of sixteen symbols, in lanes.
+#[derive(Clone, Copy, Drop)]
+pub struct Few<L> {
+    pub look_up: L,
+}
+
+impl<L: LookUp> DecodeTurn for Few<L> {
+    ghost number = { λ width. 16 / group_symbols width };
+
+    ghost holds = { λ values few. L.holds values few.look_up };
+
+    #[inline(always)]
+    fn groups<G: GroupSize>() -> usize {
+        16 / G::SYMBOLS
+    }
+
+    #[inline(always)]
+    fn decode<G: GroupSize>(&self, order: BitOrder, input: &[u8], output: &mut [u8]) -> bool {
+        decode_sixteen::<L, G>(&self.look_up, order, input, output)
+    }
+}
+
+// Four groups word by word, by the table itself: what a platform without vectors takes for `Few`.
 impl DecodeTurn for [u8; 256] {
-    ghost number = { λ width. if width == 5 then 2 else 4 };
+    ghost number = { λ width. 4 };
 
     ghost holds = { λ values table. table ≡ values };
 
     #[inline(always)]
     fn groups<G: GroupSize>() -> usize {
-        match G::WIDTH {
-            5 => 2,
-            _ => 4,
-        }
+        4
     }
 
     #[inline(always)]
     fn decode<G: GroupSize>(&self, order: BitOrder, input: &[u8], output: &mut [u8]) -> bool {
-        // The last group may be padded; then decoding the others would be wasted.
-        if 8 % G::WIDTH != 0 && entry_of(self, input[input.len() - 1]) >= 128 {
-            return false;
-        }
-        match G::WIDTH {
-            5 => decode_two::<Rows, G>(&rows_of(self), order, input, output),
-            6 => decode_four::<Rows, G>(&rows_of(self), order, input, output),
-            _ => decode_four_groups::<G>(self, order, input, output),
-        }
+        decode_four_groups::<G>(self, order, input, output)
     }
 }
 

@@ -3,4 +3,4 @@ pub mod JudgementLemmas
 pub mod RuleLemmas
 pub mod RoundTripLemmas
 pub mod TranslationLemmas
-pub mod YieldLemmas
+pub mod BuiltLemmas

@@ -2,7 +2,7 @@
 pub mod PlainTextLemmas
 pub mod PaddedTextLemmas
 pub mod TextJoinLemmas
-pub mod FragmentLemmas
+pub mod EncodedPieceLemmas
 pub mod LineLemmas
 pub mod BlockLemmas
 pub mod WrittenLemmas

@@ -3,4 +3,4 @@ pub mod Bits
 pub mod Text
 pub mod Grammar
 pub mod Lengths
-pub mod Fragments
+pub mod EncodedPieces

@@ -7,7 +7,7 @@ use Rattle.std.proofs.lemmas.Nat.{div-add-mod', mod_below}
 use borrow.Rule.Slice.PartMut.{post_of, put_mid}
 use Rattle.data_encoding.specs.Base.{Base}
 use Rattle.data_encoding.specs.Fields.{IsSpecified}
-use Rattle.data_encoding.specs.Fragments.{HasEncoded}
+use Rattle.data_encoding.specs.EncodedPieces.{HasEncoded}
 use Rattle.data_encoding.specs.Laws.{JoinEncode}
 use Rattle.data_encoding.specs.Layout.{fields_of}
 use Rattle.data_encoding.specs.Lengths.{alignment}
@@ -99,7 +99,7 @@ module _ (base : Base) (specified : IsSpecified base) (join : JoinEncode) where
       ∙ ap (λ t. t ++ text_of base held) (sym has.is_written)
 
 pub built-again : {base : Base} → IsBuiltAgain base → IsSpecified base
-built-again {base} is = record { fields = fields_of base; yields = is.yields }
+built-again {base} is = record { fields = fields_of base; is_built = is.is_built }
 
 -- The effect of a piece: the text that is written, and the bytes that are then held.
 pub record Reads (base : Base) (held piece text left : List ℕ) : Type 0 where

@@ -22,7 +22,7 @@ use Rattle.encoding_stream.proofs.SizeLemmas.{symbols-few}
 pub is-specified : (pieces : BufferDecoder) → IsSpecified (base_of_pieces pieces)
 is-specified pieces = record {
   fields = fields_of (base_of_pieces pieces);
-  yields = pieces.specified.yields;
+  is_built = pieces.specified.is_built;
 }
 
 -- Bytes at their positions.

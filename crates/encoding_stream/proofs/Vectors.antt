@@ -47,7 +47,7 @@ Has fields P = Holds P (base_of fields)
 
 -- BASE64 is built from its own specification
 built_again : Has base64_fields IsBuiltAgain
-built_again = record { yields = refl }
+built_again = record { is_built = refl }
 
 -- `Hello` was read to its end, and its text written
 encoded_all :
@@ -608,7 +608,7 @@ groups_told written fills = omega (arith, fills.symbols, fills.bytes)
 -- a text that is built from its own specification
 built_told : (base : Base) → IsBuiltAgain base → fields_of base ≡ base64_fields
     → base_of base64_fields ≡ Ok base
-built_told base built is = sym (ap base_of is) ∙ built.yields
+built_told base built is = sym (ap base_of is) ∙ built.is_built
 
 -- `SGVsbG8` is kept but for its first group
 abbrev kept_last : Kept

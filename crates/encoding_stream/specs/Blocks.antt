@@ -1,7 +1,7 @@
 -- Data that is encoded piece by piece into buffers.
 use Rattle.std.specs.Prelude.{◌≡◌, ℕ, ◌*◌, ◌/◌, List, [], ◌++◌, length, take, drop}
 use Rattle.data_encoding.specs.Base.{Base}
-use Rattle.data_encoding.specs.Fragments.{HasEncoded}
+use Rattle.data_encoding.specs.EncodedPieces.{HasEncoded}
 use Rattle.data_encoding.specs.Lengths.{alignment}
 use Rattle.data_encoding.specs.Text.{text_of}
 use Rattle.encoding_stream.specs.declared.blocks.BufferEncoder.{BufferEncoder}

@@ -6,4 +6,4 @@ use Rattle.data_encoding.specs.Layout.{fields_of}
 
 -- The base is built from its own specification.
 pub record IsBuiltAgain (base : Base) : Type 0 where
-  pub yields : base_of (fields_of base) ≡ Ok base
+  pub is_built : base_of (fields_of base) ≡ Ok base

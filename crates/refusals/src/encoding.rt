@@ -6,7 +6,7 @@ use data_encoding::{ENCODE_LIMIT, Encoding, base64, base64_mime};
 const HELLO: &[u8] = b"Hello";
 
 // Some data: two lines and more if there are lines.
-const DATA: &[u8] = b"Data that come in fragments are encoded block by block, and the few bytes \
+const DATA: &[u8] = b"Data that come in pieces are encoded block by block, and the few bytes \
     that complete no block are held until they do, or until the text is finished.";
 
 const BEFORE: &str = "Result: ";
@@ -67,7 +67,7 @@ fn is_appended(hog: &mut Hog, encoding: &Encoding, input: &[u8]) -> bool {
 }
 
 /// `Encoder::append`, followed by `finalize`.
-pub fn appends_fragments(hog: &mut Hog) -> bool {
+pub fn appends_pieces(hog: &mut Hog) -> bool {
     for encoding in [base64(), base64_mime()] {
         for blocks in 0..3usize {
             let len = blocks * encoding.encode_align() + 2;

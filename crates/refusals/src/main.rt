@@ -32,7 +32,7 @@ fn rows(hog: &mut Hog) -> [Row; 11] {
         ),
         (
             "Encoder::append",
-            encoding::appends_fragments(hog),
+            encoding::appends_pieces(hog),
             hog.take_refused_one(),
         ),
         (

@@ -4,7 +4,7 @@ ghost use Rattle.std.specs.Prelude.{◌≡◌, ◌↔◌, ◌≤◌, ◌+◌, �
 ghost use Rattle.std.specs.String.{string_bytes};
 ghost use Rattle.data_encoding.specs.Base.{is_ignored, meaning};
 ghost use Rattle.data_encoding.specs.Canonical.{AreTwoTexts};
-ghost use Rattle.data_encoding.specs.Eighteen.{Yields};
+ghost use Rattle.data_encoding.specs.Eighteen.{Builds};
 ghost use Rattle.data_encoding.specs.Fault.{fault_of};
 ghost use Rattle.data_encoding.specs.Order.{IsBefore, KeepsOrder};
 ghost use Rattle.data_encoding.specs.Predefined.{base64_nopad_fields, base64url_nopad_fields, hexlower_fields, hexlower_permissive_fields};
@@ -25,9 +25,9 @@ use std::alloc::{AllocError, Global};
 /// Returns the key of 16 bytes that a token in BASE64URL_NOPAD means, if it means 16 bytes. No
 /// other token means that key.
 pub fn key_of(token: &[u8]) -> Option<[u8; 16]>
-    ensures text { Yields (λ base. IfSome result (λ key. token.now ≡ text_of base key))
+    ensures text { Builds (λ base. IfSome result (λ key. token.now ≡ text_of base key))
         base64url_nopad_fields }
-    ensures some { Yields (λ base. IsTrue (is_some result)
+    ensures some { Builds (λ base. IsTrue (is_some result)
         ↔ MeansBytes base token.now 16) base64url_nopad_fields }
 {
     canonical();
@@ -55,9 +55,9 @@ fn is_no_symbol(encoding: &Encoding, byte: u8) -> bool
 /// fault of a text of an even length there; if each byte is a digit, the text has no fault.
 pub fn first_wrong(text: &[u8]) -> Option<usize>
     requires even { length text.now % 2 ≡ 0 }
-    ensures symbol { Yields (λ base. (index : ℕ) → (result ≡ Some index)
+    ensures symbol { Builds (λ base. (index : ℕ) → (result ≡ Some index)
         ↔ HasFault base text.now index DecodeKind.Symbol) hexlower_fields }
-    ensures none { Yields (λ base. result ≡ None → fault_of base text.now ≡ None)
+    ensures none { Builds (λ base. result ≡ None → fault_of base text.now ≡ None)
         hexlower_fields }
 {
     eighteen();
@@ -88,7 +88,7 @@ pub fn is_same_key(
 /// Whether a text in hexadecimal digits of either case is that of a digest of 20 bytes, provided
 /// that it means data. This depends on its length only.
 pub fn is_digest(text: &[u8]) -> bool
-    ensures { Yields (λ base. TellsLength base text.now 20 result) hexlower_permissive_fields }
+    ensures { Builds (λ base. TellsLength base text.now 20 result) hexlower_permissive_fields }
 {
     eighteen();
     tight();
@@ -101,7 +101,7 @@ pub fn place_after(alloc: Global, text: &[u8], len: usize) -> Result<Option<usiz
     requires limit { length text.now ≤ DECODE_LIMIT }
     requires within { len ≤ length text.now }
     requires whole { len % 4 ≡ 0 }
-    ensures { Yields (λ base. IfOk result (λ found. IfSome found
+    ensures { Builds (λ base. IfOk result (λ found. IfSome found
         (λ more. HasFaultAt base text.now (len + more)))) base64_nopad_fields }
 {
     eighteen();
@@ -141,7 +141,7 @@ pub fn texts_in_order(
 /// Whether data in BASE64_NOPAD may be sorted by their texts. It may not: `0` has a greater value
 /// than `z`, but comes before it.
 pub fn is_sorted_by_texts() -> bool
-    ensures { Yields (λ base. IsTrue result ↔ KeepsOrder base) base64_nopad_fields }
+    ensures { Builds (λ base. IsTrue result ↔ KeepsOrder base) base64_nopad_fields }
 {
     eighteen();
     order();

@@ -2,7 +2,7 @@
 
 ghost use Rattle.std.specs.Prelude.{◌≡◌, ◌↔◌, ◌≤◌, ◌==◌, length, take, reverse, take_while, count_by, not, is_some, Some, Ok, Err, IsTrue, IfErr, IfOk, IfSome};
 ghost use Rattle.std.specs.String.{string_bytes};
-ghost use Rattle.data_encoding.specs.Eighteen.{Yields};
+ghost use Rattle.data_encoding.specs.Eighteen.{Builds};
 ghost use Rattle.data_encoding.specs.Grammar.{Means};
 ghost use Rattle.data_encoding.specs.Predefined.{base32hex_nopad_fields, base64_mime_fields, base64url_nopad_fields};
 ghost use Rattle.data_encoding.specs.Text.{text_of};
@@ -19,7 +19,7 @@ use std::alloc::{AllocError, Global};
 /// Returns the token of data, in BASE64URL_NOPAD.
 pub fn token_of(alloc: Global, input: &[u8]) -> Result<String, AllocError>
     requires limit { length input.now ≤ ENCODE_LIMIT }
-    ensures { Yields (λ base. IfOk result
+    ensures { Builds (λ base. IfOk result
         (λ token. string_bytes token ≡ text_of base input.now)) base64url_nopad_fields }
 {
     base64url_nopad().encode(alloc, input)
@@ -29,9 +29,9 @@ pub fn token_of(alloc: Global, input: &[u8]) -> Result<String, AllocError>
 /// `laws::canonical` states this for BASE64URL_NOPAD, so nothing is tested.
 pub fn decoded_token(alloc: Global, token: &[u8]) -> Result<Option<Vec<u8>>, AllocError>
     requires limit { length token.now ≤ DECODE_LIMIT }
-    ensures some { Yields (λ base. IfOk result (λ found. IsTrue (is_some found)
+    ensures some { Builds (λ base. IfOk result (λ found. IsTrue (is_some found)
         ↔ MeansSome base token.now)) base64url_nopad_fields }
-    ensures only { Yields (λ base. IfOk result (λ found. IfSome found
+    ensures only { Builds (λ base. IfOk result (λ found. IfSome found
         (λ bytes. token.now ≡ text_of base bytes.items))) base64url_nopad_fields }
 {
     canonical();
@@ -45,7 +45,7 @@ pub fn decoded_token(alloc: Global, token: &[u8]) -> Result<Option<Vec<u8>>, All
 /// Whether a token is that of 16 bytes, provided that it means data. This depends on its length
 /// only.
 pub fn is_key(token: &[u8]) -> bool
-    ensures { Yields (λ base. TellsLength base token.now 16 result) base64url_nopad_fields }
+    ensures { Builds (λ base. TellsLength base token.now 16 result) base64url_nopad_fields }
 {
     canonical();
     injective();
@@ -56,7 +56,7 @@ pub fn is_key(token: &[u8]) -> bool
 /// Whether the data of one name comes before that of another, in BASE32HEX_NOPAD. The names are
 /// compared, and nothing is decoded.
 pub fn comes_before(one: &[u8], other: &[u8]) -> bool
-    ensures { Yields (λ base. TellsOrder base one.now other.now result) base32hex_nopad_fields }
+    ensures { Builds (λ base. TellsOrder base one.now other.now result) base32hex_nopad_fields }
 {
     let _encoding = base32hex_nopad();
     canonical();
@@ -105,9 +105,9 @@ pub enum BodyFault {
 /// with its line and its column.
 pub fn data_of_body(alloc: Global, body: &[u8]) -> Result<Vec<u8>, BodyFault>
     requires limit { length body.now ≤ DECODE_LIMIT }
-    ensures means { Yields (λ base. IfOk result (λ bytes. Means base body.now bytes.items))
+    ensures means { Builds (λ base. IfOk result (λ bytes. Means base body.now bytes.items))
         base64_mime_fields }
-    ensures fault { Yields (λ base. IfErr result (λ fault. Explains base body.now fault))
+    ensures fault { Builds (λ base. IfErr result (λ fault. Explains base body.now fault))
         base64_mime_fields }
 {
     match base64_mime().decode(alloc, body) {

@@ -2,7 +2,7 @@
 
 ghost use Rattle.std.specs.Prelude.{◌≡◌, ◌≢◌, ◌↔◌, ◌<◌, ◌&&◌, All, ℕ, List, Ok, is_some, IsTrue, IfOk, IfSome};
 ghost use Rattle.data_encoding.specs.Base.{is_ignored, meaning};
-ghost use Rattle.data_encoding.specs.Eighteen.{Yields};
+ghost use Rattle.data_encoding.specs.Eighteen.{Builds};
 ghost use Rattle.data_encoding.specs.Fault.{fault_of};
 ghost use Rattle.data_encoding.specs.Grammar.{Means};
 ghost use Rattle.data_encoding.specs.Order.{IsBefore};
@@ -104,7 +104,7 @@ pub fn to_base64url(text: &mut [u8])
 /// Whether two names are the same in either case, as hashed names of DNSSEC are compared. Names
 /// that mean data are the same if and only if they mean the same data.
 pub fn is_same_name(one: &[u8], other: &[u8]) -> bool
-    ensures { Yields (λ base. TellsSame base one.now other.now result) base32_dnssec_fields }
+    ensures { Builds (λ base. TellsSame base one.now other.now result) base32_dnssec_fields }
 {
     let encoding = base32_dnssec();
     one_meaning();
@@ -122,7 +122,7 @@ pub fn is_same_name(one: &[u8], other: &[u8]) -> bool
 
 // The byte that a byte of a name of BASE32_DNSSEC is translated to, or the byte itself.
 fn lower_byte(byte: u8) -> u8
-    ensures { Yields (λ base. result ≡ exchanged base base byte) base32_dnssec_fields }
+    ensures { Builds (λ base. result ≡ exchanged base base byte) base32_dnssec_fields }
 {
     match byte {
         b'A'..=b'V' => byte + 32,
@@ -132,7 +132,7 @@ fn lower_byte(byte: u8) -> u8
 
 /// Changes a name of BASE32_DNSSEC to lower case, in place.
 pub fn to_lower_case(name: &mut [u8])
-    ensures { Yields (λ base. name.new ≡ own_form base name.old) base32_dnssec_fields }
+    ensures { Builds (λ base. name.new ≡ own_form base name.old) base32_dnssec_fields }
 {
     for byte in name.iter_mut() {
         *byte = lower_byte(*byte);
@@ -149,7 +149,7 @@ fn is_before(one: &[u8], other: &[u8]) -> bool
 /// Whether the data of one name comes before that of another, in either case, as hashed names of
 /// DNSSEC are sorted. The names are changed to lower case and compared, and nothing is decoded.
 pub fn sorts_before(one: &mut [u8], other: &mut [u8]) -> bool
-    ensures { Yields (λ base. TellsOrder base one.old other.old result) base32_dnssec_fields }
+    ensures { Builds (λ base. TellsOrder base one.old other.old result) base32_dnssec_fields }
 {
     translated();
     order();

@@ -1,7 +1,7 @@
 //! Callers of streams, and of texts that come in pieces.
 
 ghost use Rattle.std.specs.Prelude.{◌≡◌, ◌≢◌, ◌<◌, ◌≤◌, ℕ, List, ◌+◌, ◌%◌, ◌++◌, flat_map, length, Err, IfOk, Ok, OnOk, Some};
-ghost use Rattle.data_encoding.specs.Eighteen.{Yields};
+ghost use Rattle.data_encoding.specs.Eighteen.{Builds};
 ghost use Rattle.data_encoding.specs.Fault.{fault_of, sound_bytes};
 ghost use Rattle.data_encoding.specs.Fields.{base_of};
 ghost use Rattle.data_encoding.specs.Grammar.{Means};
@@ -113,9 +113,9 @@ pub fn decode_in_two(
 pub fn decoded_early(alloc: Global, front: &[u8]) -> Result<Vec<u8>, DecodeFault>
     requires limit { length front.now ≤ DECODE_LIMIT }
     requires whole { length front.now % 4 ≡ 0 }
-    ensures means { Yields (λ base. IfOk result (λ bytes. Means base front.now bytes.items))
+    ensures means { Builds (λ base. IfOk result (λ bytes. Means base front.now bytes.items))
         base64_fields }
-    ensures fault { Yields (λ base. (error : DecodeError) → IsFault result error
+    ensures fault { Builds (λ base. (error : DecodeError) → IsFault result error
         → IsFaultOfAll base front.now error) base64_fields }
 {
     fault_stays();

@@ -37,17 +37,17 @@ pub(super) fn appended(alloc: Global, encoding: &Encoding, data: &str) -> Result
 }
 
 // Appends the text of the pieces; if memory runs out, that of the pieces before.
-fn append_fragments(
+fn append_pieces(
     encoding: &Encoding,
-    fragments: &str,
+    pieces: &str,
     output: &mut String,
     is_finalized: bool,
 ) -> Result<(), AllocError> {
     let mut encoder = encoding.new_encoder(output);
     let mut appended = Ok(());
-    for fragment in fragments.split('/') {
-        if appended.is_ok() && fragment.len() <= ENCODE_LIMIT {
-            appended = encoder.append(fragment.as_bytes());
+    for piece in pieces.split('/') {
+        if appended.is_ok() && piece.len() <= ENCODE_LIMIT {
+            appended = encoder.append(piece.as_bytes());
         }
     }
     let ended = if is_finalized {
@@ -61,15 +61,15 @@ fn append_fragments(
 }
 
 // What is appended for data that comes in pieces.
-pub(super) fn appended_fragments(
+pub(super) fn appended_pieces(
     alloc: Global,
     encoding: &Encoding,
-    fragments: &str,
+    pieces: &str,
     is_finalized: bool,
 ) -> Result<String, Fail> {
     let mut output = String::from_str(alloc, "Result: ")?;
-    let fragments = text_of(alloc, fragments)?;
-    append_fragments(encoding, fragments.as_str(), &mut output, is_finalized)?;
+    let pieces = text_of(alloc, pieces)?;
+    append_pieces(encoding, pieces.as_str(), &mut output, is_finalized)?;
     rest_of(alloc, &output)
 }
 
@@ -129,7 +129,7 @@ fn compare_cuts(comparison: &Comparison<'_>, input: &[u8]) -> Result<(), Differs
 }
 
 // Compares the texts of each prefix of some data, however it is cut.
-pub(super) fn compare_fragments(comparison: &Comparison<'_>) -> Result<(), Differs> {
+pub(super) fn compare_data_pieces(comparison: &Comparison<'_>) -> Result<(), Differs> {
     let data = bytes_of_length(comparison.alloc, 200)?;
     for len in 0..=200 {
         compare_cuts(comparison, data.get(..len).unwrap_or(&[]))?;

@@ -13,7 +13,7 @@ use conformance::callers::rewritten::{
 };
 use conformance::callers::streamed::{decode_in_two, decode_pieces, decoded_early, streamed_back};
 use conformance::callers::{
-    data_of_token, encoded_in_two, is_one_text, is_refused_alike, is_yielded_again, no_symbol,
+    data_of_token, encoded_in_two, is_built_again, is_one_text, is_refused_alike, no_symbol,
     odd_length,
 };
 use data_encoding::{DECODE_LIMIT, DecodeFault, ENCODE_LIMIT, Encoding, base64_mime};
@@ -34,7 +34,7 @@ enum Caller {
     IsSameName,
     IsSortedBefore,
     IsStored,
-    IsYieldedAgain,
+    IsBuiltAgain,
     LowerCase,
     NoSymbol,
     OddLength,
@@ -121,7 +121,7 @@ BASE64_MIME|BASE64|true
 HEXLOWER|HEXLOWER_PERMISSIVE|true",
     ),
     (
-        Caller::IsYieldedAgain,
+        Caller::IsBuiltAgain,
         "\
 BASE64|BASE64|true
 BASE64|BASE64_NOPAD|false",
@@ -281,7 +281,7 @@ fn returned_of_two(
         return Ok(String::from_str(alloc, "no such name")?);
     };
     let is_so = match caller {
-        Caller::IsYieldedAgain => is_yielded_again(alloc, encoding, &other)?,
+        Caller::IsBuiltAgain => is_built_again(alloc, encoding, &other)?,
         _ => is_stored(encoding, &other),
     };
     told_if_so(alloc, Ok(is_so))
@@ -355,7 +355,7 @@ fn returned(
 // What a caller returns for a row.
 fn returned_of_row(alloc: Global, caller: Caller, case: &Case<'_>) -> Result<String, Fail> {
     match caller {
-        Caller::IsYieldedAgain | Caller::IsStored => {
+        Caller::IsBuiltAgain | Caller::IsStored => {
             returned_of_two(alloc, caller, &case.encoding, case.input)
         }
         Caller::IsBefore

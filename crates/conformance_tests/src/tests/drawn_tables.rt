@@ -1,8 +1,10 @@
-//! Tables drawn at random, and tables whose symbols are consecutive bytes except for one, with
-//! texts that are looked up in lanes. Data has the text that lists of bits give. With each byte
-//! instead of a symbol, the text means what the symbols of that group mean, or has their fault.
+//! Tables drawn at random, tables whose symbols are consecutive bytes except for one, and tables of
+//! which several rows of sixteen bytes share one, with texts that are looked up in lanes. Data has
+//! the text that lists of bits give, and comes back if symbols are replaced by bytes that are
+//! translated to them. With each byte instead of a symbol, the text means what the symbols of that
+//! group mean, or has their fault.
 
-use super::comparison::{Comparison, Differs, Tally};
+use super::comparison::{Comparison, Differs, Tally, is_decoded_alike};
 use super::judge::{Judge, Judgement};
 use super::round_trips::compare_whole;
 use data_encoding::{BitOrder, DECODE_LIMIT, DecodeError, Specification};
@@ -32,6 +34,15 @@ impl Draw {
         }
         Ok(())
     }
+
+    // Fills a slice with the numbers below its length, in a drawn order.
+    fn put_order(&mut self, bytes: &mut [u8]) {
+        for index in 0..bytes.len() {
+            let other = self.below(index.wrapping_add(1)).min(index);
+            bytes[index] = bytes[other];
+            bytes[other] = (index % 256) as u8;
+        }
+    }
 }
 
 // A table, what it is compared with, and data that is encoded with it.
@@ -57,6 +68,42 @@ impl Sweep<'_> {
             }
         }
         byte
+    }
+
+    // A drawn one of the bytes that are translated to this byte, or the byte itself if none is.
+    fn translated(&self, byte: u8, draw: &mut Draw) -> u8 {
+        let translate = &self.specification.translate;
+        let (mut drawn, mut count) = (byte, 0usize);
+        for (from, to) in translate
+            .from
+            .as_bytes()
+            .iter()
+            .zip(translate.to.as_bytes())
+        {
+            if *to == byte {
+                count = count.wrapping_add(1);
+                // The last of `count` bytes is drawn with a chance of one in `count`.
+                if draw.below(count) == 0 {
+                    drawn = *from;
+                }
+            }
+        }
+        drawn
+    }
+
+    // Replaces about half of the bytes of a text by bytes that are translated to them, if there are
+    // any, and compares what it means with the data.
+    fn compare_translated(&self, text: &mut [u8], draw: &mut Draw) -> Result<(), Differs> {
+        for index in 0..text.len() {
+            if draw.below(2) == 0 {
+                text[index] = self.translated(text[index], draw);
+            }
+        }
+        let (alloc, encoding) = (self.comparison.alloc, self.comparison.encoding);
+        if text.len() <= DECODE_LIMIT && is_decoded_alike(alloc, encoding, &self.data, text) {
+            return Ok(());
+        }
+        Err(Differs {})
     }
 
     // What the judge returns for the first group.
@@ -138,10 +185,11 @@ impl Sweep<'_> {
         self.compare(text, position)
     }
 
-    // Compares the text of the data with that of the judge, and what it means with each byte at
-    // some positions.
+    // Compares the text of the data with that of the judge, and what it means with other bytes for
+    // its symbols, and then with each byte at some positions.
     fn compare_all(&self, draw: &mut Draw) -> Result<(), Differs> {
         let mut text = compare_whole(&self.comparison, &self.data)?.into_bytes();
+        self.compare_translated(&mut text, draw)?;
         for _ in 0..2 {
             let position = draw.below(text.len());
             self.compare_damaged(&mut text, position)?;
@@ -170,7 +218,7 @@ fn is_alike(
     Ok(sweep.compare_all(draw).is_ok())
 }
 
-// The same for a few groups, and for as many as the affine form of a table is looked for in.
+// The same for a few groups, and for those of 704 symbols or more.
 fn compare_lengths(
     alloc: Global,
     specification: &Specification,
@@ -193,11 +241,7 @@ fn specify_drawn(
     count: usize,
 ) -> Result<(), AllocError> {
     let mut bytes = [0; 128];
-    for index in 0..128 {
-        let other = draw.below(index + 1) % 128;
-        bytes[index] = bytes[other];
-        bytes[other] = index as u8;
-    }
+    draw.put_order(&mut bytes);
     for (index, byte) in bytes.iter().enumerate() {
         let character = char::from(*byte);
         if index < count {
@@ -235,6 +279,47 @@ fn specify_odd(
     Ok(())
 }
 
+// Sets a symbol of a column in one of the first five rows, and translates the column's bytes of
+// some of the other four to it.
+fn put_in_rows(
+    specification: &mut Specification,
+    draw: &mut Draw,
+    column: u8,
+) -> Result<(), AllocError> {
+    let own = draw.below(5);
+    let symbol = char::from(column.wrapping_add((16 * (own % 5)) as u8));
+    specification.symbols.push(symbol)?;
+    for row in 0..5usize {
+        if row != own && draw.below(2) == 0 {
+            let byte = column.wrapping_add((16 * row) as u8);
+            specification.translate.from.push(char::from(byte))?;
+            specification.translate.to.push(symbol)?;
+        }
+    }
+    Ok(())
+}
+
+// Sets symbols of which the first sixteen are each in a column of their own, the lowest four bits
+// of the byte, so that rows can share one. The others are in the last three rows, each of which has
+// a constant.
+fn specify_shared(
+    specification: &mut Specification,
+    draw: &mut Draw,
+    count: usize,
+) -> Result<(), AllocError> {
+    let mut columns = [0; 16];
+    draw.put_order(&mut columns);
+    for column in columns.iter().take(count) {
+        put_in_rows(specification, draw, *column)?;
+    }
+    let turned = draw.below(3).wrapping_mul(16);
+    for index in 16..count {
+        let byte = 80 + index.wrapping_add(turned) % 48;
+        specification.symbols.push(char::from(byte as u8))?;
+    }
+    Ok(())
+}
+
 // The order of every second turn.
 fn order_of(turn: u32) -> BitOrder {
     match turn % 2 {
@@ -266,6 +351,19 @@ fn compare_odd(alloc: Global, draw: &mut Draw, turn: u32) -> Result<(), Fail> {
     compare_lengths(alloc, &specification, draw, turn)
 }
 
+// Compares a table with rows that share one, in a text of some 16 to 100 symbols.
+fn compare_shared(alloc: Global, draw: &mut Draw, turn: u32) -> Result<(), Fail> {
+    let mut specification = Specification::new(alloc);
+    specification.bit_order = order_of(turn / 6);
+    specify_shared(&mut specification, draw, 1 << (turn % 6 + 1))?;
+    let symbols = draw.below(81).wrapping_add(16);
+    let groups = symbols / Judge::of(&specification).group_len();
+    if is_alike(alloc, &specification, draw, groups)? {
+        return Ok(());
+    }
+    Err(Fail::new(format_args!("turn {turn}")))
+}
+
 #[test]
 fn drawn_tables_are_looked_up(rt: HostRuntime) -> Result<(), Fail> {
     let mut draw = Draw { state: 1 };
@@ -280,6 +378,15 @@ fn odd_symbols_are_looked_up(rt: HostRuntime) -> Result<(), Fail> {
     let mut draw = Draw { state: 2 };
     for turn in 0..512u32 {
         compare_odd(rt.alloc(), &mut draw, turn)?;
+    }
+    Ok(())
+}
+
+#[test]
+fn rows_that_share_one_are_looked_up(rt: HostRuntime) -> Result<(), Fail> {
+    let mut draw = Draw { state: 3 };
+    for turn in 0..96u32 {
+        compare_shared(rt.alloc(), &mut draw, turn)?;
     }
     Ok(())
 }

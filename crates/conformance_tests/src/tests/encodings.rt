@@ -2,7 +2,7 @@
 
 ghost use Rattle.std.specs.Prelude.{◌≤◌, length};
 
-use super::appending::{appended, appended_fragments};
+use super::appending::{appended, appended_pieces};
 use super::decoding::{beginning, decoded, most};
 use super::encoding::{both, encoded};
 use super::layouts::{has_layout_of, shown};
@@ -145,13 +145,13 @@ fn returned_to_words(
     words: &str,
 ) -> Result<String, Fail> {
     match call {
-        Call::Abandon => appended_fragments(alloc, encoding, words, false),
+        Call::Abandon => appended_pieces(alloc, encoding, words, false),
         Call::Append => appended(alloc, encoding, words),
         Call::Buffer => written_by(alloc, encoding, Writer::Buffer, words),
         Call::Display => written_by(alloc, encoding, Writer::Display, words),
         Call::EncodeCalls => encode_calls(alloc, encoding, words),
         Call::EncodeLen => encoded_len(alloc, encoding, words),
-        Call::Finalize => appended_fragments(alloc, encoding, words, true),
+        Call::Finalize => appended_pieces(alloc, encoding, words, true),
         Call::Layout => shown(alloc, encoding, words),
         Call::NoBuffer => written_by(alloc, encoding, Writer::NoBuffer, words),
         Call::Pieces => pieces(alloc, encoding, words),

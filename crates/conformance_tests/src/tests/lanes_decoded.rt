@@ -8,7 +8,7 @@ use std::alloc::{AllocError, Global};
 // One or two turns of eight groups, with a group fewer, exactly, and one more.
 const GROUPS: [usize; 7] = [7, 8, 9, 15, 16, 17, 33];
 
-// The number of characters from which on the affine form of a table is used, if it has one.
+// A number of characters that is several turns of eight groups, of every width.
 const LONG: usize = 704;
 
 // The room for the data of a text, in bytes.

@@ -1,12 +1,12 @@
-//! Data of each length up to 200 bytes, and of 200 lengths whose texts are looked up by the affine
-//! form of a table, for every width and both orders, padded (if a group has room for padding) or
-//! not, in lines or not: the texts are those that lists of bits give, and mean the data.
+//! Data of each length up to 200 bytes, and of 200 lengths whose texts are longer, for every width
+//! and both orders, padded (if a group has room for padding) or not, in lines or not: the texts are
+//! those that lists of bits give, and mean the data.
 
 use super::comparison::{Comparison, Differs};
 use super::judge::Judgement;
 use super::round_trips::compare_whole;
 
-// The number of characters from which on the affine form of a table is used, if it has one.
+// The least number of characters of the longer texts, without padding and separators.
 const LONG: usize = 704;
 
 // Compares each prefix of the data that has this length or more.

@@ -134,12 +134,12 @@ fn parts_of(specification: &Specification) -> SpecificationParts<'_> {
 
 // Whether the encoding that is built from the bytes of a specification is the same, also as plain
 // data.
-fn is_yielded(
+fn is_built_alike(
     alloc: Global,
-    yielded: &Result<Encoding, SpecificationError>,
+    built: &Result<Encoding, SpecificationError>,
     by_parts: Result<Encoding, SpecificationError>,
 ) -> Result<bool, AllocError> {
-    Ok(match (yielded, by_parts) {
+    Ok(match (built, by_parts) {
         (Ok(encoding), Ok(same)) => {
             same == *encoding && encoding.to_plain().encoding() == *encoding
         }
@@ -164,7 +164,7 @@ fn sum_of(bytes: &[u8]) -> u64 {
 // The length of a layout and its sum, if the encoding is built from its specification again.
 fn summed(alloc: Global, encoding: &Encoding) -> Result<String, Fail> {
     if encoding.specification(alloc)?.encoding()? != *encoding {
-        return Ok(String::from_str(alloc, "yields another")?);
+        return Ok(String::from_str(alloc, "builds another")?);
     }
     let layout = encoding.internal_implementation();
     let (len, sum) = (layout.as_slice().len(), sum_of(layout.as_slice()));
@@ -197,12 +197,12 @@ const TABLES: [(Asked, &str); 4] = [
 
 // What is built from a specification: an encoding, of which what is asked for is written, or a
 // refusal.
-fn yielded(alloc: Global, specification: &Specification, asked: Asked) -> Result<String, Fail> {
-    let yielded = specification.encoding();
-    if !is_yielded(alloc, &yielded, parts_of(specification).encoding())? {
-        return Ok(String::from_str(alloc, "yielded otherwise by its parts")?);
+fn built(alloc: Global, specification: &Specification, asked: Asked) -> Result<String, Fail> {
+    let built = specification.encoding();
+    if !is_built_alike(alloc, &built, parts_of(specification).encoding())? {
+        return Ok(String::from_str(alloc, "built otherwise by its parts")?);
     }
-    match yielded {
+    match built {
         Ok(encoding) => match asked {
             Asked::Description => Ok(described(alloc, &encoding.specification(alloc)?)?),
             Asked::Sum => summed(alloc, &encoding),
@@ -217,13 +217,13 @@ fn compare_row(alloc: Global, asked: Asked, line: &str) -> Result<(), Fail> {
     let row = row_of(alloc, line)?;
     let answer = match asked {
         Asked::Symbols => symbols(alloc, &row.specification)?,
-        _ => yielded(alloc, &row.specification, asked)?,
+        _ => built(alloc, &row.specification, asked)?,
     };
     compare(alloc, line, answer.as_str(), row.want)
 }
 
 #[test]
-fn specifications_yield_what_rows_want(rt: HostRuntime) -> Result<(), Fail> {
+fn specifications_build_what_rows_want(rt: HostRuntime) -> Result<(), Fail> {
     assert!(rt; table::ROWS.split('\n').count() == 200);
     for (asked, lines) in &TABLES {
         for line in lines.split('\n') {

@@ -1,6 +1,6 @@
 //! Sweeps over short texts and short data, for every width and both orders.
 
-use super::appending::compare_fragments;
+use super::appending::compare_data_pieces;
 use super::comparison::{Comparison, Differs, Tally};
 use super::each_length::compare_each_length;
 use super::ignored::{compare_faults, compare_ignored, compare_pairs};
@@ -66,7 +66,7 @@ base64|least|single|=||0||||";
 
 // Each width in both orders, padded if a group may be incomplete; then with an ignored byte, and in
 // lines from one group to the longest, with separators of 1, 2 and 255 bytes.
-const FRAGMENTS: &str = "\
+const DATA_PIECES: &str = "\
 binary|most|check|||0||||
 binary|least|check|||0||||
 quaternary|most|check|||0||||
@@ -189,7 +189,7 @@ enum Sweep {
     Short,
     Long,
     Lines(usize, &'static str),
-    Fragments,
+    DataPieces,
     EachLength,
     FewGroups,
     ManyGroups,
@@ -227,7 +227,7 @@ fn compare_all(comparison: &mut Comparison<'_>, sweep: Sweep) -> Result<(), Diff
         Sweep::Short => compare_short(comparison),
         Sweep::Long => compare_long(comparison),
         Sweep::Lines(_, _) => compare_in_lines(comparison),
-        Sweep::Fragments => compare_fragments(comparison),
+        Sweep::DataPieces => compare_data_pieces(comparison),
         Sweep::EachLength => compare_each_length(comparison),
         Sweep::FewGroups => compare_few_groups(comparison),
         Sweep::ManyGroups => compare_many_groups(comparison),
@@ -347,8 +347,8 @@ fn long_texts_are_judged_alike_in_pieces(rt: HostRuntime) -> Result<(), Fail> {
 }
 
 #[test]
-fn fragments_have_the_text_of_the_whole(rt: HostRuntime) -> Result<(), Fail> {
-    sweep_rows(rt.alloc(), &[FRAGMENTS], Sweep::Fragments, Tally::zero())?;
+fn data_pieces_have_the_text_of_the_whole(rt: HostRuntime) -> Result<(), Fail> {
+    sweep_rows(rt.alloc(), &[DATA_PIECES], Sweep::DataPieces, Tally::zero())?;
     Ok(())
 }
 

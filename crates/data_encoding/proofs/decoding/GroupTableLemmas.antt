@@ -96,8 +96,8 @@ module _ (base : Base) (values : List ℕ) (holds : HoldsValues base values) (gr
           let few : length all ≤ length group = omega (arith, length-map group (meaning base)) in
           rw (has.count_is, is, drop_all (length group) all few) tt
 
-    behind : all ≡ judged ++ replicate (length (drop count all)) PaddingCharacter
-    behind =
+    later : all ≡ judged ++ replicate (length (drop count all)) PaddingCharacter
+    later =
         sym (take-append-drop count all)
         ∙ (λ i. take-map (meaning base) count group i ++ all_padding (drop count all) rest_pads i)
 
@@ -108,7 +108,7 @@ module _ (base : Base) (values : List ℕ) (holds : HoldsValues base values) (gr
         (list_any-none is_padding _ (symbols_alone (filter_map value_of judged))) in
         let some : nat_lt 0 (length group - count) ≡ nat_lt count (length group) =
         grind (arith, nat_tests) in
-        ap (list_any is_padding) behind
+        ap (list_any is_padding) later
         ∙ rw (list_any-append, none, any_padding padding, length-drop, length-map, some)
 
     -- and if there are none, the group is sound
@@ -121,6 +121,6 @@ module _ (base : Base) (values : List ℕ) (holds : HoldsValues base values) (gr
       within = has.within;
       sound = fault-symbols ∙ rw quiet;
       final = has_padding;
-      bytes = rw (take_at new rest (base.width * count / 8) len, bytes, behind)
+      bytes = rw (take_at new rest (base.width * count / 8) len, bytes, later)
           (sym (bytes_before_padding base judged (length (drop count all))));
     }

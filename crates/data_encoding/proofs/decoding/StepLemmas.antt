@@ -28,7 +28,7 @@ use Rattle.data_encoding_meaning.proofs.decoding.LastRunLemmas.{last-none, last-
 use Rattle.data_encoding_meaning.proofs.decoding.ProgressLemmas.{IsNext, after-group, after-run, at-end, room-group, room-run, same-output}
 use Rattle.data_encoding_meaning.proofs.decoding.StopLemmas.{IsAtFault, at-fault_front}
 use Rattle.data_encoding_meaning.proofs.grammar.KeptLemmas.{nothing-left}
-use Rattle.data_encoding_meaning.proofs.decoding.IgnoredFrontLemmas.{gathered-behind, nothing-behind}
+use Rattle.data_encoding_meaning.proofs.decoding.IgnoredFrontLemmas.{gathered-after, nothing-after}
 
 -- The sizes of a group, as constants of the code.
 pub record Sizes : Type 0 where
@@ -339,31 +339,31 @@ module _ {base : Base} {text : List ℕ} {sizes : Sizes} {read written : ℕ} {o
           ∙ ap (λ l. take written output ++ l) here.bytes)))
 
     -- nothing is left if nothing follows the ignored bytes
-    pub decoded-behind : length text ≤ read + skip → IsDecoded base text written output
-    decoded-behind past =
+    pub decoded-after : length text ≤ read + skip → IsDecoded base text written output
+    decoded-after past =
         let all : length text ≡ read + skip = omega (arith, past, start-within) in
-        decoded s (nothing-behind base text read skip s.so_far.within front
+        decoded s (nothing-after base text read skip s.so_far.within front
         (rw (← all) (nothing-left base text)))
 
     -- what is gathered there is gathered from before them
     module _ {group : List ℕ} {span : ℕ}
         (is : IsGathered base sizes.symbols
         (take (length text - (read + skip)) (drop (read + skip) text)) group span) where
-      found_behind : IsGathered base sizes.symbols (drop skip (drop read text)) group span
-      found_behind = rw (take_rest text start, ← drop-drop skip read text) at is
+      found_after : IsGathered base sizes.symbols (drop skip (drop read text)) group span
+      found_after = rw (take_rest text start, ← drop-drop skip read text) at is
 
       pub gathered-next : 0 < length group
           → IsGathered base sizes.symbols (take (length text - read) (drop read text)) group
           (skip + span)
       gathered-next some =
           rw (take_rest text read)
-          (gathered-behind base sizes.symbols (drop read text) group skip span front found_behind
-          (omega (arith, some, gathered-few found_behind)))
+          (gathered-after base sizes.symbols (drop read text) group skip span front found_after
+          (omega (arith, some, gathered-few found_after)))
 
       pub decoded-none : {empty : Bool} → empty ≡ (length group == 0) → empty ≡ true
           → IsDecoded base text written output
       decoded-none empty_is empty =
-          decoded s (nothing-behind base text read skip s.so_far.within front
+          decoded s (nothing-after base text read skip s.so_far.within front
           (none-left s start start-within is empty_is empty))
 
   -- what a group does

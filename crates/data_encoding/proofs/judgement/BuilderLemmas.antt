@@ -3,13 +3,15 @@ use Rattle.std.proofs.Common.{◌≡◌, ℕ, zero, suc, ◌%◌, ◌/◌, ◌^�
 use Rattle.std.specs.List.{concat, list_any}
 use Rattle.data_encoding_meaning.specs.declared.encoding.Character.{Character}
 use Rattle.data_encoding_meaning.specs.text.Base.{IsWidth, is_ignored, wrapping_by}
+use Rattle.std.specs.Bool.{IsTrue}
+use Rattle.data_encoding_kernel.specs.Affine.{agrees}
 use Rattle.data_encoding.specs.Encoding.{EncodingTables, KeepsRules, base_of_tables}
 use Rattle.data_encoding_meaning.specs.specification.Entries.{HoldsEntries, meaning_of_entry}
 use Rattle.data_encoding_meaning.specs.specification.Fields.{Fields, Judgement, base_of, base_with, ignored_judgements, judgements, meanings_after, no_meanings, padding_judgements, symbol_judgements, translation_judgements, width_of, wrapping_judgements, wraps}
 use Rattle.data_encoding_meaning.proofs.judgement.JudgementLemmas.{Judged, meanings_after-append}
 use Rattle.data_encoding.proofs.tables.TableRuleLemmas.{KeepsRules-ruled}
 use Rattle.data_encoding_meaning.proofs.lists.RepeatLemmas.{take-repeats}
-use Rattle.data_encoding_meaning.proofs.judgement.RuleLemmas.{IsRuled, IsRuledPadding, IsRuledWrapping, IsRuled-from, IsRuled-yield, base_from, base_of-width}
+use Rattle.data_encoding_meaning.proofs.judgement.RuleLemmas.{IsRuled, IsRuledPadding, IsRuledWrapping, IsRuled-from, IsRuled-built, base_from, base_of-width}
 use Rattle.data_encoding_meaning.proofs.digits.WidthLemmas.{times-pos}
 
 -- the judgements up to each field
@@ -142,6 +144,7 @@ pub record IsMadeOf (fields : Fields) (e : EncodingTables) (meanings : List Char
   pub column : e.column ≡ cond (wraps fields.column fields.separator) fields.column 0
   pub separator : e.separator
       ≡ cond (wraps fields.column fields.separator) fields.separator []
+  pub form_agrees : IsTrue (agrees e.values e.form)
 
 module _ (fields : Fields) (e : EncodingTables) (meanings : List Character)
     (made : IsMadeOf fields e meanings) where
@@ -168,17 +171,18 @@ module _ (fields : Fields) (e : EncodingTables) (meanings : List Character)
         wrapping = wrapping i;
       }
 
-  pub yields-made : base_of fields ≡ Ok (base_of_tables e)
-  yields-made =
+  pub is_built-made : base_of fields ≡ Ok (base_of_tables e)
+  is_built-made =
       base_of-width fields e.width made.width_is made.is_width.some
       ∙ ap (base_with e.width fields) made.judged
       ∙ ap (λ b. Ok b) (sym (base-made))
 
   pub rules-made : KeepsRules e
   rules-made =
-      KeepsRules-ruled e (IsRuled-yield fields (base_of_tables e) (yields-made)) made.holds
+      KeepsRules-ruled e (IsRuled-built fields (base_of_tables e) (is_built-made)) made.holds
       (made.ignores ∙ ap (list_any is_ignored) (sym made.values))
       (made.repeat
       ∙ ap (λ l. concat (replicate (256 / 2 ^ e.width) l)) (sym (take-symbols)))
       (λ none. made.separator
       ∙ nothing-kept fields.column fields.separator (sym made.column ∙ none))
+      made.form_agrees

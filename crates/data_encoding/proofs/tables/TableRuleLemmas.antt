@@ -8,6 +8,8 @@ use Rattle.std.specs.List.{AllByRecursion, concat, list_all, range_with_len}
 use Rattle.data_encoding_meaning.specs.declared.encoding.Character.{Character}
 use Rattle.data_encoding_meaning.specs.declared.encoding.Character.TheVariants.{Symbol, Padding, Ignored}
 use Rattle.data_encoding_meaning.specs.text.Base.{meaning, ignores_some, wrapping_by}
+use Rattle.std.specs.Bool.{IsTrue}
+use Rattle.data_encoding_kernel.specs.Affine.{agrees}
 use Rattle.data_encoding.specs.Encoding.{EncodingTables, KeepsPadding, KeepsRules, KeepsWrapping, base_of_tables}
 use Rattle.data_encoding_meaning.specs.specification.Entries.{HoldsEntries, is_entry_of, meaning_of_entry}
 use Rattle.data_encoding_meaning.specs.specification.Fields.{IsSpecified}
@@ -238,8 +240,8 @@ module _ (e : EncodingTables) (ruled : IsRuled (base_of_tables e))
   pub KeepsRules-ruled : e.ignores ≡ ignores_some (base_of_tables e)
       → e.symbols
       ≡ concat (replicate (256 / 2 ^ e.width) (take (2 ^ e.width) e.symbols))
-      → (e.column ≡ 0 → e.separator ≡ []) → KeepsRules e
-  KeepsRules-ruled ignores repeat none = record {
+      → (e.column ≡ 0 → e.separator ≡ []) → IsTrue (agrees e.values e.form) → KeepsRules e
+  KeepsRules-ruled ignores repeat none agreed = record {
     is_width = ruled.is_width;
     unpadded_concatenates = (concatenated-rule e.concatenates e.padding).1 ruled.concatenated;
     whole_checked = (checked-rule e.checks_trailing_bits (8 % e.width == 0)).1 ruled.checked;
@@ -260,4 +262,5 @@ module _ (e : EncodingTables) (ruled : IsRuled (base_of_tables e))
     padding = keeps-padding e.padding ruled.padding;
     ignores = ignores;
     wrapping = keeps-wrapping e.column e.separator none ruled.wrapping;
+    form_agrees = agreed;
   }

@@ -2,16 +2,21 @@
 use Rattle.std.proofs.Common.{◌≡◌, true, false, [], ◌∷◌, take, Some, None, refl}
 use Rattle.data_encoding_meaning.specs.declared.encoding.BitOrder.TheVariants.{MostSignificantFirst, LeastSignificantFirst}
 use Rattle.data_encoding_meaning.specs.text.Base.{wrapping_by}
+use Rattle.data_encoding_kernel.specs.declared.lanes.affine.PlainAffine.{PlainAffine}
 use Rattle.data_encoding.specs.declared.plain.PlainEncoding.{PlainEncoding}
 use Rattle.data_encoding.specs.declared.plain.PlainFields.{PlainFields}
 use Rattle.data_encoding.specs.Plain.{base_of_plain}
 use Rattle.data_encoding.specs.PlainTables.{order_by, padding_by, plain_tables}
 
+-- the form of a table that has none
+abbrev no_form : PlainAffine
+no_form = record { symbols = []; deltas = []; shared = []; is_affine = false }
+
 -- what is kept besides the tables of BASE64_MIME
 abbrev plain_mime : PlainFields
 plain_mime = record {
   symbols = [];
-  values = [];
+  values = record { entries = []; form = no_form };
   width = 6;
   column = 76;
   padding = 61;

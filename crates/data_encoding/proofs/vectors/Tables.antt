@@ -2,6 +2,7 @@
 use Rattle.std.proofs.Common.{◌≡◌, true, [], ◌∷◌, ◌++◌, map, drop, codes, replicate, Some, None, refl, ap, lit<, lit≤, sym, inl, subst, take, ℕ, ◌<◌, ◌≤◌, List, length, false, arith}
 use Rattle.std.proofs.lemmas.Bool.{false≢true}
 use Rattle.data_encoding_meaning.specs.declared.encoding.Character.TheVariants.{Invalid}
+use Rattle.data_encoding_kernel.specs.declared.lanes.affine.PlainAffine.{PlainAffine}
 use Rattle.data_encoding.specs.declared.decode.Stop.{Stop}
 use Rattle.data_encoding.specs.declared.decode.steps.Step.TheVariants.{Ended, More, Faulty}
 use Rattle.data_encoding_meaning.specs.declared.error.DecodeKind.TheVariants.{Symbol, Length}
@@ -26,9 +27,18 @@ use Rattle.data_encoding_meaning.specs.declared.error.DecodePartial.{DecodeParti
 use Rattle.data_encoding_meaning.specs.text.Grammar.{kept}
 use Rattle.data_encoding_meaning.specs.decoding.Partial.{StopsAt}
 
--- the tables of a base: what its layout says
-abbrev tables_from : Base → EncodingTables
-tables_from base = record {
+-- the form of the values of base64, with those of `+` and `/` in the shared row
+abbrev base64_form : PlainAffine
+base64_form = record {
+  symbols = 168 ∷ replicate 9 248 ++ 240 ∷ 84 ∷ 80 ∷ 80 ∷ 80 ∷ 84 ∷ [];
+  deltas = 0 ∷ 0 ∷ 96 ∷ 4 ∷ 191 ∷ 191 ∷ 185 ∷ 185 ∷ replicate 8 0;
+  shared = replicate 11 0 ++ 62 ∷ 0 ∷ 0 ∷ 0 ∷ 63 ∷ [];
+  is_affine = true;
+}
+
+-- the tables of a base: what its layout says, and a form
+abbrev tables_from : Base → PlainAffine → EncodingTables
+tables_from base form = record {
   symbols = take 256 (layout base);
   values = take 256 (drop 256 (layout base));
   width = base.width;
@@ -39,12 +49,14 @@ tables_from base = record {
   ignores = ignores_some base;
   column = column_of base.wrapping;
   separator = separator_of base.wrapping;
+  form = form;
 }
 
 -- tables from which the same base is read, under the rules
 tables_read :
     Has base64_mime_fields (λ base.
-    (base_of_tables (tables_from base) ≡ base) × KeepsRules (tables_from base))
+    (base_of_tables (tables_from base base64_form) ≡ base)
+    × KeepsRules (tables_from base base64_form))
 tables_read = (
   refl,
   record {
@@ -59,6 +71,7 @@ tables_read = (
     padding = (lit< tt, refl, refl);
     ignores = refl;
     wrapping = (lit< tt, refl, lit< tt, lit< tt, refl);
+    form_agrees = refl;
   },
 )
 
@@ -97,7 +110,7 @@ tables_hold :
     × Writes base (take 256 (layout base)) 6 MostSignificantFirst
     × Reads base (take 256 (drop 256 (layout base))) 6 MostSignificantFirst)
 tables_hold =
-    let tables = tables_from (built base64_mime_fields) in
+    let tables = tables_from (built base64_mime_fields) base64_form in
     let rules = tables_read.1 in
     let writes = Writes-tables tables rules (built base64_mime_fields) refl 6 refl in
     let reads = Reads-seen tables rules (built base64_mime_fields) refl 6 MostSignificantFirst refl
@@ -185,6 +198,12 @@ rules_told e = (
 
   none-of-a-half : ◌≡◌ {A = ℕ} 0 128 → ⊥
   none-of-a-half is = omega (arith, is)
+
+-- with another value of `/`, the form breaks the rule that the tables above keep
+form_told :
+    Has base64_mime_fields (λ base.
+    KeepsRules (tables_from base (record base64_form { shared = replicate 16 62 })) → ⊥)
+form_told rules = false≢true rules.form_agrees
 
 -- each byte from 128 on is invalid
 entries_told : (table : BuilderInside) → HasEntries table

@@ -40,20 +40,20 @@ impl EncodingRef<'_> {
         let symbols = &group[..count];
         // A run stopped at this group, so it is likely to have a byte that is no symbol.
         if count == G::SYMBOLS {
-            let index = symbol_position(&self.fields.values, symbols);
+            let index = symbol_position(&self.fields.values.entries, symbols);
             if index < count {
                 return Err(faulty(index, DecodeKind::Symbol));
             }
         }
         let room = &mut output[..G::WIDTH * count / 8];
-        if !decode_symbols::<G>(&self.fields.values, order, symbols, room) {
+        if !decode_symbols::<G>(&self.fields.values.entries, order, symbols, room) {
             return Err(faulty(
-                symbol_position(&self.fields.values, symbols),
+                symbol_position(&self.fields.values.entries, symbols),
                 DecodeKind::Symbol,
             ));
         }
         if self.fields.checks_trailing_bits
-            && has_trailing::<G>(&self.fields.values, order, symbols)
+            && has_trailing::<G>(&self.fields.values.entries, order, symbols)
         {
             return Err(faulty(count - 1, DecodeKind::Trailing));
         }
@@ -82,7 +82,7 @@ impl EncodingRef<'_> {
         if group.len() < G::SYMBOLS {
             return Err(faulty(0, DecodeKind::Length));
         }
-        let count = before_padding(&self.fields.values, group);
+        let count = before_padding(&self.fields.values.entries, group);
         if count == 0 || width * count % 8 >= width {
             return Err(faulty(count, DecodeKind::Padding));
         }

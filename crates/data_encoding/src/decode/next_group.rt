@@ -36,7 +36,7 @@ impl EncodingRef<'_> {
         ensures { IsGathered self.now G.SYMBOLS rest.now result.bytes.now result.span }
     {
         if self.fields.ignores {
-            let gathered = gather::<G>(&self.fields.values, rest, room);
+            let gathered = gather::<G>(&self.fields.values.entries, rest, room);
             return Group {
                 bytes: &room[..gathered.count],
                 span: gathered.span,
@@ -67,7 +67,7 @@ impl EncodingRef<'_> {
         }
         let mut left = index;
         for position in 0..part.len() {
-            if self.fields.values[part[position] as usize] != IGNORED {
+            if self.fields.values.entries[part[position] as usize] != IGNORED {
                 if left == 0 {
                     return position;
                 }

@@ -1,6 +1,6 @@
 //! Decoding step by step: a run of whole groups, and the group that follows it.
 
-ghost use Rattle.std.specs.Prelude.{◌≡◌, ℕ, List, true, false, ◌≤◌, length, drop, Ok, IfSome};
+ghost use Rattle.std.specs.Prelude.{◌≡◌, ℕ, List, true, false, ◌≤◌, length, drop, Ok};
 ghost use Rattle.data_encoding_meaning.specs.text.Base.{Base};
 ghost use Rattle.data_encoding_meaning.specs.decoding.Decoding.{HasDecodedTo, IsIgnoredFront};
 ghost use Rattle.data_encoding.specs.Steps.{HasEnded, HasStepped};
@@ -37,10 +37,10 @@ pub(crate) struct Reached {
 }
 
 impl EncodingRef<'_> {
-    /// Decodes the rest of a text, and returns whether it has no fault. Not inlined: with the
-    /// search in the same function, the loop over lanes was slower by a fifth.
-    #[inline(never)]
-    pub(crate) fn decode_from<L: LookUp, O: ConstantOrder, G: GroupSize>(
+    /// Decodes step by step, up to the end of the text or its first fault, and returns whether it
+    /// has none.
+    #[inline(always)]
+    pub(crate) fn decode_steps<L: LookUp, O: ConstantOrder, G: GroupSize>(
         &self,
         values: &[u8; 256],
         look_up: &L,
@@ -50,28 +50,6 @@ impl EncodingRef<'_> {
     ) -> bool
         requires reads { Reads self.now values.now G.WIDTH O.ORDER }
         requires held { L.holds values.now look_up.now }
-        requires limit { length input.now ≤ DECODE_LIMIT }
-        requires exact { decoded_len self.now (length input.now) ≡ Ok (length output.old) }
-        requires so_far { HasDecodedTo self.now input.now stop.old.read stop.old.written false
-            output.old }
-        ensures { HasEnded self.now input.now output.new stop.new result }
-    {
-        self.decode_steps::<L, O, G>(values, Some(look_up), input, output, stop)
-    }
-
-    /// Decodes step by step, up to the end of the text or its first fault, and returns whether it
-    /// has none.
-    #[inline(always)]
-    pub(crate) fn decode_steps<L: LookUp, O: ConstantOrder, G: GroupSize>(
-        &self,
-        values: &[u8; 256],
-        look_up: Option<&L>,
-        input: &[u8],
-        output: &mut [u8],
-        stop: &mut Stop,
-    ) -> bool
-        requires reads { Reads self.now values.now G.WIDTH O.ORDER }
-        requires held { IfSome look_up (λ look_up. L.holds values.now look_up.now) }
         requires limit { length input.now ≤ DECODE_LIMIT }
         requires exact { decoded_len self.now (length input.now) ≡ Ok (length output.old) }
         requires so_far { HasDecodedTo self.now input.now stop.old.read stop.old.written false
@@ -102,14 +80,14 @@ impl EncodingRef<'_> {
     fn decode_runs<L: LookUp, O: ConstantOrder, G: GroupSize>(
         &self,
         values: &[u8; 256],
-        look_up: Option<&L>,
+        look_up: &L,
         read: usize,
         written: usize,
         input: &[u8],
         output: &mut [u8],
     ) -> Reached
         requires reads { Reads self.now values.now G.WIDTH O.ORDER }
-        requires held { IfSome look_up (λ look_up. L.holds values.now look_up.now) }
+        requires held { L.holds values.now look_up.now }
         requires limit { length input.now ≤ DECODE_LIMIT }
         requires exact { decoded_len self.now (length input.now) ≡ Ok (length output.old) }
         requires so_far { HasDecodedTo self.now input.now read written false output.old }
@@ -140,19 +118,18 @@ impl EncodingRef<'_> {
     }
 
     /// Decodes a run of whole groups of symbols only, which follows ignored bytes. The ignored
-    /// bytes are read only if the run has a group. If there is no look-up, the run prepares its
-    /// own.
+    /// bytes are read only if the run has a group.
     #[inline(always)]
     pub(crate) fn decode_run_after_ignored<L: LookUp, O: ConstantOrder, G: GroupSize>(
         &self,
         values: &[u8; 256],
-        look_up: Option<&L>,
+        look_up: &L,
         at: Reached,
         input: &[u8],
         output: &mut [u8],
     ) -> Reached
         requires reads { Reads self.now values.now G.WIDTH O.ORDER }
-        requires held { IfSome look_up (λ look_up. L.holds values.now look_up.now) }
+        requires held { L.holds values.now look_up.now }
         requires limit { length input.now ≤ DECODE_LIMIT }
         requires exact { decoded_len self.now (length input.now) ≡ Ok (length output.old) }
         requires so_far { HasDecodedTo self.now input.now at.read at.written false output.old }
@@ -188,7 +165,7 @@ impl EncodingRef<'_> {
         if !self.fields.ignores {
             return 0;
         }
-        ignored_front(&self.fields.values, &input[read..])
+        ignored_front(&self.fields.values.entries, &input[read..])
     }
 
     /// Decodes the group after what was read, and judges it alone.

@@ -1,6 +1,6 @@
-//! Decoding a text: its bit order, its length and its width are tested once.
+//! Decoding a text: its bit order, its look-up and its width are chosen once.
 
-ghost use Rattle.std.specs.Prelude.{◌≡◌, false, ◌≤◌, length, Ok, IsTrue};
+ghost use Rattle.std.specs.Prelude.{◌≡◌, false, ◌≤◌, length, Ok};
 ghost use Rattle.data_encoding_meaning.specs.text.Base.{IsWidth};
 ghost use Rattle.data_encoding_meaning.specs.decoding.Decoding.{HasDecodedTo};
 ghost use Rattle.data_encoding.specs.Steps.{HasEnded};
@@ -9,15 +9,12 @@ ghost use Rattle.data_encoding_meaning.specs.text.Lengths.{decoded_len};
 use crate::decode::steps::{Reached, Step};
 use crate::decode::{DECODE_LIMIT, Stop};
 use crate::encoding::{BitOrder, EncodingRef};
-use crate::error::DecodeKind;
 use data_encoding_kernel::call_by_width;
 use data_encoding_kernel::group_size::GroupSize;
-use data_encoding_kernel::lanes::affine::{Affine, affine_of};
-use data_encoding_kernel::lanes::rows::{Rows, rows_of};
+use data_encoding_kernel::lanes::affine::Affine;
+use data_encoding_kernel::lanes::look_up::LookUp;
+use data_encoding_kernel::lanes::rows::Rows;
 use data_encoding_kernel::order::{ConstantOrder, LeastSignificantFirst, MostSignificantFirst};
-
-// From this length of a text on, finding the affine form of a table takes less time than it saves.
-const AFFINE_FROM: usize = 704;
 
 impl EncodingRef<'_> {
     /// Decodes a text up to its first fault, and returns whether it has none.
@@ -31,17 +28,17 @@ impl EncodingRef<'_> {
     {
         match self.fields.order() {
             BitOrder::MostSignificantFirst => {
-                self.decode_by_length::<MostSignificantFirst>(input, output, stop)
+                self.decode_by_look_up::<MostSignificantFirst>(input, output, stop)
             }
             BitOrder::LeastSignificantFirst => {
-                self.decode_by_length::<LeastSignificantFirst>(input, output, stop)
+                self.decode_by_look_up::<LeastSignificantFirst>(input, output, stop)
             }
         }
     }
 
-    // With the order as a constant.
+    // By the affine form of the table if it has one, or else by its rows.
     #[inline(always)]
-    fn decode_by_length<O: ConstantOrder>(
+    fn decode_by_look_up<O: ConstantOrder>(
         &self,
         input: &[u8],
         output: &mut [u8],
@@ -53,15 +50,15 @@ impl EncodingRef<'_> {
         ensures ends { HasEnded self.now input.now output.new stop.new result }
         ensures width { IsWidth self.now.width }
     {
-        if input.len() < AFFINE_FROM {
-            return self.decode_short_by_width::<O>(input, output, stop);
+        if self.fields.values.is_affine() {
+            return self.decode_by_width::<Affine, O>(input, output, stop);
         }
-        self.decode_long_by_width::<O>(input, output, stop)
+        self.decode_by_width::<Rows, O>(input, output, stop)
     }
 
-    // A short text. It took more time in the same function as the test of the length.
+    // Not inlined, so that a call has the stack of its own look-up only.
     #[inline(never)]
-    fn decode_short_by_width<O: ConstantOrder>(
+    fn decode_by_width<L: LookUp, O: ConstantOrder>(
         &self,
         input: &[u8],
         output: &mut [u8],
@@ -75,33 +72,13 @@ impl EncodingRef<'_> {
     {
         call_by_width!(
             self.fields.width,
-            self.decode_text::<O>(input, output, stop)
-        )
-    }
-
-    // A long text.
-    #[inline(never)]
-    fn decode_long_by_width<O: ConstantOrder>(
-        &self,
-        input: &[u8],
-        output: &mut [u8],
-        stop: &mut Stop,
-    ) -> bool
-        requires order { self.now.order ≡ O.ORDER }
-        requires limit { length input.now ≤ DECODE_LIMIT }
-        requires exact { decoded_len self.now (length input.now) ≡ Ok (length output.old) }
-        ensures ends { HasEnded self.now input.now output.new stop.new result }
-        ensures width { IsWidth self.now.width }
-    {
-        call_by_width!(
-            self.fields.width,
-            self.decode_long::<O>(input, output, stop)
+            self.decode_text::<L, O>(input, output, stop)
         )
     }
 
     // With the width and the sizes of a group as constants too. Most texts end with the first step.
     #[inline(always)]
-    fn decode_text<O: ConstantOrder, G: GroupSize>(
+    fn decode_text<L: LookUp, O: ConstantOrder, G: GroupSize>(
         &self,
         input: &[u8],
         output: &mut [u8],
@@ -113,9 +90,10 @@ impl EncodingRef<'_> {
         requires exact { decoded_len self.now (length input.now) ≡ Ok (length output.old) }
         ensures { HasEnded self.now input.now output.new stop.new result }
     {
-        let at = self.decode_run_after_ignored::<Rows, O, G>(
-            &self.fields.values,
-            None,
+        let look_up = L::of(&self.fields.values);
+        let at = self.decode_run_after_ignored::<L, O, G>(
+            &self.fields.values.entries,
+            &look_up,
             Reached {
                 read: 0,
                 written: 0,
@@ -126,16 +104,15 @@ impl EncodingRef<'_> {
         );
         match self.decode_next::<G>(O::ORDER, at, input, output, stop) {
             Step::More if stop.read == input.len() => true,
-            Step::More => self.decode_rest::<O, G>(input, output, stop),
+            Step::More => self.decode_rest::<L, O, G>(input, output, stop),
             Step::Ended => true,
             Step::Faulty => false,
         }
     }
 
-    // The remaining steps: further padded texts, or ignored bytes. Usually they are too few to
-    // prepare a look-up for them.
+    // The remaining steps: further padded texts, or ignored bytes.
     #[inline(never)]
-    fn decode_rest<O: ConstantOrder, G: GroupSize>(
+    fn decode_rest<L: LookUp, O: ConstantOrder, G: GroupSize>(
         &self,
         input: &[u8],
         output: &mut [u8],
@@ -149,34 +126,7 @@ impl EncodingRef<'_> {
             output.old }
         ensures { HasEnded self.now input.now output.new stop.new result }
     {
-        self.decode_steps::<Rows, O, G>(&self.fields.values, None, input, output, stop)
-    }
-
-    // By the affine form of the table if it has one, or else by its rows. Not inlined, so that
-    // shorter texts do not pay for the stack that the search takes.
-    #[inline(never)]
-    fn decode_long<O: ConstantOrder, G: GroupSize>(
-        &self,
-        input: &[u8],
-        output: &mut [u8],
-        stop: &mut Stop,
-    ) -> bool
-        requires width { self.now.width ≡ G.WIDTH }
-        requires order { self.now.order ≡ O.ORDER }
-        requires limit { length input.now ≤ DECODE_LIMIT }
-        requires exact { decoded_len self.now (length input.now) ≡ Ok (length output.old) }
-        ensures { HasEnded self.now input.now output.new stop.new result }
-    {
-        *stop = Stop::new(0, 0, 0, DecodeKind::Length);
-        let values = &self.fields.values;
-        match affine_of(values, 1 << G::WIDTH) {
-            Some(affine) => {
-                self.decode_from::<Affine, O, G>(values, &affine, input, output, stop)
-            }
-            None => {
-                let rows = rows_of(values);
-                self.decode_from::<Rows, O, G>(values, &rows, input, output, stop)
-            }
-        }
+        let look_up = L::of(&self.fields.values);
+        self.decode_steps::<L, O, G>(&self.fields.values.entries, &look_up, input, output, stop)
     }
 }

@@ -3,7 +3,7 @@
 ghost use Rattle.std.specs.Prelude.{◌≡◌, ℕ, ◌+◌, ◌<◌, ◌≤◌, List, [], ◌++◌, length, IfErr, IsOk, OnErr, OnOk};
 ghost use Rattle.std.specs.Borrow.{sem};
 ghost use Rattle.std.specs.String.{string_bytes};
-ghost use Rattle.data_encoding_meaning.specs.text.Fragments.{HasEncoded};
+ghost use Rattle.data_encoding_meaning.specs.text.EncodedPieces.{HasEncoded};
 ghost use Rattle.data_encoding_meaning.specs.text.Lengths.{alignment};
 ghost use Rattle.data_encoding_meaning.specs.text.Text.{text_of};
 
@@ -35,7 +35,7 @@ impl Encoding {
     pub fn new_encoder<'a>(&'a self, output: &'a mut String) -> Encoder<'a>
         ensures output { output_name result ≡ output.entry.ghost_name }
         ensures base { base_of_encoder result ≡ self.now }
-        ensures fragments { HasTaken result (string_bytes output.old) [] }
+        ensures pieces { HasTaken result (string_bytes output.old) [] }
     {
         let Ok(encoding) = self.clone() else {
             unreachable!();
@@ -61,7 +61,7 @@ impl Encoding {
         requires block { block_len ≡ alignment self.now }
         requires most { block_len ≤ 189 }
         requires short { length held.old.items < block_len }
-        ensures fragments { OnOk result ((before bytes : List ℕ)
+        ensures pieces { OnOk result ((before bytes : List ℕ)
             → HasEncoded self.now before bytes (string_bytes output.old) held.old.items
             → HasEncoded self.now before (bytes ++ input.now) (string_bytes output.new)
             held.new.items) }
@@ -115,7 +115,7 @@ impl<'a> Encoder<'a> {
         requires limit { length input.now ≤ ENCODE_LIMIT }
         ensures output { output_name self.new ≡ output_name self.old }
         ensures base { base_of_encoder self.new ≡ base_of_encoder self.old }
-        ensures fragments { OnOk result ((before bytes : List ℕ)
+        ensures pieces { OnOk result ((before bytes : List ℕ)
             → HasTaken self.old before bytes → HasTaken self.new before (bytes ++ input.now)) }
         ensures unchanged { OnErr result (IsUnchanged self.old self.new) }
         ensures no_block { length (held self.old) + length input.now

@@ -12,6 +12,7 @@ use crate::encoding::{BitOrder, Encoding, INVALID, copied};
 use crate::plain::PlainFields;
 use crate::specification::meanings::{Meanings, Refusal, wraps};
 use crate::specification::parts::SpecificationParts;
+use data_encoding_kernel::value_table::ValueTable;
 
 // The numbers of symbols, in order of their bits; a single symbol has none.
 const SIZES: [usize; 7] = [1, 2, 4, 8, 16, 32, 64];
@@ -137,7 +138,7 @@ fn assembled(parts: &SpecificationParts<'_>, width: u8, meanings: Meanings) -> E
     Encoding {
         fields: PlainFields {
             symbols: repeated(parts.symbols, width),
-            values: meanings.into_values(),
+            values: ValueTable::new(meanings.into_values(), 1 << width),
             width,
             column,
             padding: padding_entry(parts.padding),
@@ -152,7 +153,7 @@ fn assembled(parts: &SpecificationParts<'_>, width: u8, meanings: Meanings) -> E
 
 // The encoding that is built from the fields, or the first refusal.
 pub(crate) fn define(parts: &SpecificationParts<'_>) -> Result<Encoding, Refusal>
-    ensures yields { IfOk result (λ base. base_of (fields_of_parts parts.now) ≡ Ok base) }
+    ensures is_built { IfOk result (λ base. base_of (fields_of_parts parts.now) ≡ Ok base) }
     ensures refused { IfErr result
         (λ refusal. base_of (fields_of_parts parts.now) ≡ Err refusal) }
 {

@@ -69,7 +69,7 @@ impl EncodingRef<'_> {
     {
         let mut bytes = ArrayVec::new();
         put(&mut bytes, &self.fields.symbols);
-        put(&mut bytes, &self.fields.values);
+        put(&mut bytes, &self.fields.values.entries);
         put(
             &mut bytes,
             &[self.fields.padding.min(INVALID), self.flags()],

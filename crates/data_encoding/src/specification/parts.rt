@@ -49,7 +49,7 @@ impl SpecificationParts<'_> {
     /// Returns the encoding that is asked for, or the first reason why there is none, as
     /// [`Specification::encoding`](crate::Specification::encoding) does.
     pub fn encoding(&self) -> Result<Encoding, SpecificationError>
-        ensures yields { IfOk result (λ base. base_of (fields_of_parts self.now) ≡ Ok base) }
+        ensures is_built { IfOk result (λ base. base_of (fields_of_parts self.now) ≡ Ok base) }
         ensures refused { IfErr result
             (λ error. base_of (fields_of_parts self.now) ≡ Err (refusal_of error)) }
     {

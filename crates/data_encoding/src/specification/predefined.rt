@@ -18,6 +18,7 @@ macro_rules! values {
     };
 }
 
+mod forms;
 mod hexadecimal;
 mod named;
 mod sixty_four;

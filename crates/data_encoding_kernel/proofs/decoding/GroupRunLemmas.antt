@@ -1,8 +1,9 @@
 -- Groups of symbols that are decoded together.
-use Rattle.std.proofs.Common.{◌≡◌, ℕ, zero, suc, ◌+◌, ◌*◌, ◌/◌, ◌%◌, ◌^◌, ◌<◌, ◌≤◌, List, [], length, length-take-le, map, take, drop, slice_index, sym, ap, ◌∙◌, arith, flat_map}
+use Rattle.std.proofs.Common.{◌≡◌, ℕ, zero, suc, ◌+◌, ◌*◌, ◌/◌, ◌%◌, ◌^◌, ◌<◌, ◌≤◌, List, [], length, length-take-le, map, take, drop, slice_index, refl, sym, ap, ◌∙◌, subst, arith, flat_map}
 use Rattle.std.proofs.lemmas.List.{drop-map, get_or-drop, get_or-map, get_or-take, length-drop, length-map, nil_from_length, take-map, take_all}
 use Rattle.std.specs.List.{AllByRecursion, range_with_len}
 use Rattle.std.specs.Simd.{first_chunks}
+use Rattle.std.specs.Simd.Lanes.{put_chunk}
 use Rattle.data_encoding_meaning.specs.declared.encoding.Character.{Character}
 use Rattle.data_encoding_meaning.specs.declared.encoding.BitOrder.{BitOrder}
 use Rattle.data_encoding_meaning.specs.text.Base.{Base, IsWidth, group_bytes, group_symbols, is_symbol, meaning, IsGroup}
@@ -11,8 +12,10 @@ use Rattle.data_encoding_kernel.specs.Runs.{IsRun}
 use Rattle.data_encoding_meaning.specs.decoding.Fault.{symbol_bytes}
 use Rattle.data_encoding_kernel.specs.Tables.{Reads}
 use Rattle.data_encoding_kernel.specs.Words.{digit, word_of}
+use Rattle.data_encoding_kernel.proofs.digits.GatherStoreLemmas.{bytes_of_words, stored-ones}
+use Rattle.data_encoding_kernel.proofs.digits.GatherWordLemmas.{length-words}
 use Rattle.data_encoding_kernel.proofs.digits.KernelLemmas.{symbol_bytes-word}
-use Rattle.data_encoding_meaning.proofs.digits.WidthLemmas.{symbols-few}
+use Rattle.data_encoding_meaning.proofs.digits.WidthLemmas.{by_width, symbols-few}
 use Rattle.data_encoding_meaning.proofs.lists.EachLemmas.{all-at, all_weaker}
 use Rattle.data_encoding_meaning.proofs.decoding.GroupJudgementLemmas.{part_bytes}
 use Rattle.data_encoding_meaning.proofs.lists.PartLemmas.{IsWhole, IsWhole-group}
@@ -96,6 +99,33 @@ module _ (base : Base) (values : List ℕ) (width bytes symbols : ℕ) (order : 
 limit-is : (width : ℕ) → IsWidth width → 1 * 2 ^ width % 256 ≡ 2 ^ width
 limit-is width is = omega (arith, symbols-few width is)
 
+pub all-small : {width read : ℕ} → IsWidth width → read ≡ width → (entries : List ℕ)
+    → AllByRecursion (λ entry. entry < 1 * 2 ^ read % 256) entries
+    → AllByRecursion (λ entry. entry < 2 ^ width) entries
+all-small {width} is same entries below = rw (same, limit-is width is) at below
+
+-- values below the limit are those of bytes, each a symbol
+pub values-found : {width count : ℕ} → IsWidth width → (values input entries : List ℕ)
+    → length input ≡ count → AllByRecursion (λ entry. entry < 2 ^ width) entries
+    → (AllByRecursion (λ entry. entry < 128) entries
+    → entries ≡ map (slice_index values) (take count input))
+    → record {
+      entries : entries ≡ map (slice_index values) input;
+      symbols : (j : ℕ) → j < length input → slice_index values (slice_index input j) < 128;
+    }
+values-found {width} {count} is values input entries long small found =
+    let low = all_weaker (λ entry. entry < 2 ^ width) (λ entry. entry < 128)
+    (λ entry less. omega (arith, less, symbols-few width is)) entries small in
+    let are : entries ≡ map (slice_index values) input =
+    found low ∙ ap (map (slice_index values)) (take_all count input (omega (arith, long))) in
+    record {
+      entries = are;
+      symbols = λ j inside.
+          rw (← get_or-map (slice_index values) input j 0 0 inside)
+          (all-at (λ entry. entry < 128) (map (slice_index values) input) (rw are at low) j
+          (omega (arith, inside, length-map input (slice_index values))));
+    }
+
 -- what is found for groups: their words, and that each byte is a symbol
 pub words-found : (n : ℕ) {width number read count : ℕ} → IsWidth width → read ≡ width
     → number ≡ count → (holds : List ℕ → Type 0) (all : Type 0) (order : BitOrder)
@@ -116,23 +146,60 @@ pub words-found : (n : ℕ) {width number read count : ℕ} → IsWidth width �
           → slice_index values (slice_index input j) < 128;
       fit : all → AllByRecursion (λ word. word < 2 ^ (width * number)) made;
     }
-words-found n {width} {number} is same many holds all order input entries made long =
-    rw (same, ← many) (λ small found are fit.
-    let below : all → AllByRecursion (λ entry. entry < 2 ^ width) entries =
-    λ h. rw (limit-is width is) at (small h) in
-    let low : all → AllByRecursion (λ entry. entry < 128) entries =
-    λ h. all_weaker (λ entry. entry < 2 ^ width) (λ entry. entry < 128)
-    (λ entry less. omega (arith, less, symbols-few width is)) entries (below h) in
-    let entries_are : (values : List ℕ) → holds values → all
-    → entries ≡ map (slice_index values) input =
-    λ values held h. found values held (low h)
-    ∙ ap (map (slice_index values)) (take_all (n * number) input (omega (arith, long))) in
+words-found n {width} {number} is same many holds all order input entries made long below =
+    let small : all → AllByRecursion (λ entry. entry < 2 ^ width) entries =
+    λ h. all-small is same entries (below h) in
+    rw (same, ← many) (λ found are fit.
+    let each = λ (values : List ℕ) (held : holds values) (h : all).
+    values-found is values input entries long (small h) (found values held) in
     record {
-      words = λ values held h. rw (entries_are values held h) at (are (below h));
-      symbols = λ values held h j inside.
-          rw (← get_or-map (slice_index values) input j 0 0 inside)
-          (all-at (λ entry. entry < 128) (map (slice_index values) input)
-          (rw (entries_are values held h) at (low h)) j
-          (omega (arith, inside, length-map input (slice_index values))));
-      fit = λ h. fit (below h);
+      words = λ values held h. rw (each values held h).entries at (are (small h));
+      symbols = λ values held h. (each values held h).symbols;
+      fit = λ h. fit (small h);
     })
+
+-- whole groups of sixteen symbols
+pub sixteen-symbols : {width bytes symbols : ℕ} → IsGroup width bytes symbols
+    → 16 / group_symbols width * symbols ≡ 16
+sixteen-symbols {width} group =
+    rw group.has_symbols
+    (by_width (λ w. 16 / group_symbols w * group_symbols w ≡ 16) refl refl refl refl refl refl
+    width group.is_width)
+
+-- the bytes of sixteen values, at one of the widths
+module _ (w : ℕ) {width bytes symbols : ℕ} (group : IsGroup width bytes symbols)
+    (is : width ≡ w) (order : BitOrder) (values words : List ℕ) where
+  abbrev Small : ℕ → Type 0
+  Small size = AllByRecursion (λ value. value < 2 ^ size) values
+
+  abbrev AreWords : Type 0
+  AreWords =
+      Small w → words ≡ map (word_of order w (group_symbols w))
+      (first_chunks (group_symbols w) (16 / group_symbols w) values)
+
+  abbrev StoredAs : List ℕ → Type 0
+  StoredAs new =
+      new ≡ bytes_of_words order bytes (map (word_of order width symbols)
+      (first_chunks symbols (16 / group_symbols width) values))
+
+  pub values-stored : (new : List ℕ) → Small width → AreWords
+      → new ≡ bytes_of_words order (group_bytes w) words → StoredAs new
+  values-stored new =
+      rw (group.has_bytes, group.has_symbols, is) (λ small are stored.
+      stored ∙ ap (bytes_of_words order (group_bytes w)) (are small))
+
+  -- if each word is one byte
+  pub values-stored-ones : group_bytes w ≡ 1 → (output : List ℕ)
+      → length output ≡ 16 / group_symbols width * bytes → Small width → AreWords
+      → (Small w → AllByRecursion (λ word. word < 256) words)
+      → StoredAs (put_chunk 0 output (map (λ x. x) words))
+  values-stored-ones one output exact small are fit =
+      let low = subst Small is small in
+      let count : length words ≡ 16 / group_symbols w =
+      ap length (are low) ∙ length-words order w (group_symbols w) (16 / group_symbols w) values in
+      let single : bytes ≡ 1 = group.has_bytes ∙ ap group_bytes is ∙ one in
+      let long : length output ≡ 16 / group_symbols w * 1 =
+      exact ∙ (λ i. 16 / group_symbols (is i) * single i) in
+      values-stored (put_chunk 0 output (map (λ x. x) words)) small are
+      (stored-ones order words output (omega (arith, long, count)) (fit low)
+      ∙ ap (λ b. bytes_of_words order b words) (sym one))

@@ -149,12 +149,12 @@ module _ (base : Base) (width : IsWidth base.width) (w bytes symbols : ℕ)
       omega (arith, add-mul i m size, others.within, rest_len, first.within) in
       let front = take (i * count) output in
       let front_len : length front ≡ i * count = length-take-le (i * count) output fits in
-      let behind = drop k (drop (i * count) output) in
+      let later = drop k (drop (i * count) output) in
       let taken : take (i * count + m * count) (put_mid (i * count) k output piece)
       ≡ front ++ take (m * count) piece =
       ap (λ n. take (n + m * count) (put_mid (i * count) k output piece)) (sym front_len)
-      ∙ take-append-add front (piece ++ behind) (m * count)
-      ∙ ap (λ l. front ++ l) (take-append-le (m * count) piece behind enough) in
+      ∙ take-append-add front (piece ++ later) (m * count)
+      ∙ ap (λ l. front ++ l) (take-append-le (m * count) piece later enough) in
       let twice : run_bytes base (take (m * size) rest)
       ≡ run_bytes base (take (m * size) (take (m * size) rest)) =
       ap (run_bytes base) (sym (take_all (m * size) (take (m * size) rest)

@@ -9,9 +9,9 @@ use Rattle.std.proofs.lemmas.Simd.{length-chunk, zip2_of_maps, zip2_splat, splat
 use Rattle.std.specs.List.{AllByRecursion, range_with_len}
 use Rattle.std.specs.Simd.Lanes.{Each1, chunk, zip2, sel_l, top}
 use Rattle.data_encoding_kernel.specs.declared.lanes.affine.Affine.{Affine}
-use Rattle.data_encoding_kernel.specs.Affine.{HoldsAffine, affine_entry, affine_value, bits_of_rows, symbol_bit}
+use Rattle.data_encoding_kernel.specs.Affine.{HoldsAffine, affine_entry, affine_value, bits_of_rows, moved_byte, symbol_bit}
 use Rattle.data_encoding_kernel.specs.Values.{IsRow, in_row}
-use Rattle.data_encoding_kernel.proofs.digits.GatherRowLemmas.{row-of}
+use Rattle.data_encoding_kernel.proofs.digits.GatherRowLemmas.{at_most, chosen-high, row-of}
 use Rattle.data_encoding_kernel.proofs.digits.LaneLemmas.{selected}
 use Rattle.data_encoding_kernel.proofs.digits.WordLemmas.{map-range-same}
 use Rattle.data_encoding_meaning.proofs.lists.EachLemmas.{all-at}
@@ -32,7 +32,7 @@ chosen-equal f g h k bytes us vs {xs} {ys} at_f at_g at_h at_k =
     tops_compared w8 eqb xs ys ∙ zip2_of_maps eqb f g bytes at_f at_g in
     (λ i. sel_l (tests i) (at_h i) (at_k i)) ∙ selected (λ byte. eqb (f byte) (g byte)) h k bytes
 
-abbrev at_row : List ℕ → ℕ → ℕ
+abbrev pub at_row : List ℕ → ℕ → ℕ
 at_row row byte = in_row row 0 (byte / 16)
 
 -- a row, as the entries from its own start on
@@ -56,36 +56,44 @@ LooksUp row places found =
     → found ≡ map (in_row values start) places
 
 -- what is looked up for the entries of bytes
-pub rows-found : (affine : Affine) (count : ℕ) (bytes bits : List ℕ) {symbols found deltas : List ℕ}
+pub rows-found : (affine : Affine) (count : ℕ) (bytes bits : List ℕ)
+    {symbols found deltas shared : List ℕ}
     → bits ≡ bits_of_rows → length bytes ≡ count → LooksUp affine.symbols bytes symbols
     → LooksUp bits (zip2 down bytes (replicate count 4)) found
     → LooksUp affine.deltas (zip2 down bytes (replicate count 4)) deltas
+    → LooksUp affine.shared bytes shared
     → (symbols ≡ map (in_row affine.symbols 0) bytes) × (found ≡ map (at_row bits_of_rows) bytes)
-    × (deltas ≡ map (at_row affine.deltas) bytes)
-rows-found affine count bytes bits {symbols} {found} {deltas} is long first second third = (
-  first affine.symbols 0 (own-row affine.symbols),
-  at-rows bits_of_rows count bytes found long
-      (second bits_of_rows 0 (subst (IsRow bits_of_rows 0) (sym is) (own-row bits_of_rows))),
-  at-rows affine.deltas count bytes deltas long (third affine.deltas 0 (own-row affine.deltas)),
-)
+    × (deltas ≡ map (at_row affine.deltas) bytes) × (shared ≡ map (in_row affine.shared 0) bytes)
+rows-found affine count bytes bits {symbols} {found} {deltas} {shared} is long first second third
+    fourth = (
+      first affine.symbols 0 (own-row affine.symbols),
+      at-rows bits_of_rows count bytes found long
+          (second bits_of_rows 0 (subst (IsRow bits_of_rows 0) (sym is) (own-row bits_of_rows))),
+      at-rows affine.deltas count bytes deltas long (third affine.deltas 0 (own-row affine.deltas)),
+      fourth affine.shared 0 (own-row affine.shared),
+    )
 
-pub found-are : (affine : Affine) (count : ℕ) (bytes symbols bits deltas : List ℕ)
+pub found-are : (affine : Affine) (count : ℕ) (bytes symbols bits deltas shared : List ℕ)
     → length bytes ≡ count → symbols ≡ map (in_row affine.symbols 0) bytes
     → bits ≡ map (at_row bits_of_rows) bytes → deltas ≡ map (at_row affine.deltas) bytes
+    → shared ≡ map (in_row affine.shared 0) bytes
     → sel_l (map (top 7) (zip2 equal (zip2 bit_and symbols bits) (replicate count 0)))
     (replicate count 255)
-    (sel_l (map (top 7) (zip2 equal bytes (replicate count affine.odd)))
-    (replicate count affine.odd_value) (zip2 plus bytes deltas))
+    (sel_l (map (top 7) (zip2 at_most (replicate count 128) (zip2 plus bytes deltas))) shared
+    (zip2 plus bytes deltas))
     ≡ map (affine_entry affine) bytes
-found-are affine count bytes symbols bits deltas long at_symbols at_bits at_deltas =
+found-are affine count bytes symbols bits deltas shared long at_symbols at_bits at_deltas
+    at_shared =
     let own : bytes ≡ map (λ (byte : ℕ). byte) bytes = sym (map-id bytes) in
+    let moved : zip2 plus bytes deltas ≡ map (moved_byte affine) bytes =
+    zip2_of_maps plus (λ byte. byte) (at_row affine.deltas) bytes own at_deltas in
     chosen-equal (symbol_bit affine) (λ _. 0) (λ _. 255) (affine_value affine) bytes _ _
     (zip2_of_maps bit_and (in_row affine.symbols 0) (at_row bits_of_rows) bytes at_symbols at_bits)
     (splat_is_map bytes count 0 long) (splat_is_map bytes count 255 long)
-    (chosen-equal (λ byte. byte) (λ _. affine.odd) (λ _. affine.odd_value)
-    (λ byte. plus byte (at_row affine.deltas byte)) bytes _ _ own
-    (splat_is_map bytes count affine.odd long) (splat_is_map bytes count affine.odd_value long)
-    (zip2_of_maps plus (λ byte. byte) (at_row affine.deltas) bytes own at_deltas))
+    ((λ i. sel_l (map (top 7) (zip2 at_most (replicate count 128) (zip2 plus bytes deltas)))
+    (at_shared i) (moved i))
+    ∙ chosen-high count (moved_byte affine) (in_row affine.shared 0) (moved_byte affine) bytes
+    (zip2 plus bytes deltas) long moved)
 
 -- no row from 128 on has a bit
 no-bit : (row : ℕ) → 8 ≤ row → row < 16 → get_or bits_of_rows row 0 ≡ 0

@@ -130,23 +130,28 @@ looked-up times values row bytes start sixteen long is_row =
 abbrev pub up : ℕ → ℕ → ℕ
 up a b = a * 2 ^ b % 2 ^ 8
 
+-- lanes chosen by whether another is 128 or more
+pub chosen-high : (count : ℕ) (shown f g : ℕ → ℕ) (bytes lanes : List ℕ) → length bytes ≡ count
+    → lanes ≡ map shown bytes
+    → sel_l (map (top 7) (zip2 at_most (replicate count 128) lanes)) (map f bytes) (map g bytes)
+    ≡ map (λ byte. cond (leb 128 (shown byte)) (f byte) (g byte)) bytes
+chosen-high count shown f g bytes lanes long lanes_are =
+    let tests : map (top 7) (zip2 at_most (replicate count 128) lanes)
+    ≡ map (λ byte. leb 128 (shown byte)) bytes =
+    tops_compared w8 leb (replicate count 128) lanes
+    ∙ zip2_splat_left leb 128 count lanes (ap length lanes_are ∙ length-map bytes shown ∙ long)
+    ∙ ap (map (leb 128)) lanes_are
+    ∙ map-map (leb 128) shown bytes in
+    ap (λ l. sel_l l (map f bytes) (map g bytes)) tests
+    ∙ selected (λ byte. leb 128 (shown byte)) f g bytes
+
 pub chosen-lanes : (shift count : ℕ) (f g : ℕ → ℕ) (bytes : List ℕ) → length bytes ≡ count
     → sel_l (map (top 7) (zip2 at_most (replicate count 128)
     (zip2 up bytes (replicate count shift)))) (map f bytes) (map g bytes)
     ≡ map (chosen_by shift f g) bytes
 chosen-lanes shift count f g bytes long =
-    let shifted = λ (byte : ℕ). up byte shift in
-    let lanes = zip2 up bytes (replicate count shift) in
-    let lanes_are : lanes ≡ map shifted bytes = zip2_splat up bytes count shift long in
-    let tests : map (top 7) (zip2 at_most (replicate count 128) lanes)
-    ≡ map (λ byte. leb 128 (shifted byte)) bytes =
-    tops_compared w8 leb (replicate count 128) lanes
-    ∙ zip2_splat_left leb 128 count lanes
-    (ap length lanes_are ∙ length-map bytes shifted ∙ long)
-    ∙ ap (map (leb 128)) lanes_are
-    ∙ map-map (leb 128) shifted bytes in
-    ap (λ l. sel_l l (map f bytes) (map g bytes)) tests
-    ∙ selected (λ byte. leb 128 (shifted byte)) f g bytes
+    chosen-high count (λ byte. up byte shift) f g bytes (zip2 up bytes (replicate count shift)) long
+    (zip2_splat up bytes count shift long)
 
 -- what is chosen from all rows
 abbrev pub of_rows : List ℕ → ℕ → ℕ

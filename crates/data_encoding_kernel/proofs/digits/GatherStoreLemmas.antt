@@ -122,6 +122,19 @@ four-threes-picked LeastSignificantFirst =
     four-bytes (λ word. refl)
     (by_four (Picks LeastSignificantFirst 3 4 8 4) (λ a b c d. refl))
 
+pub two-threes-picked : (order : BitOrder) (words : List ℕ) → length words ≡ 2
+    → AllByRecursion (λ word. word < 2 ^ 24) words
+    → picked-words order 3 8 4 2 (digits_l 256 16 (number_l 18446744073709551616 words))
+    ≡ bytes_of_words order 3 words
+two-threes-picked MostSignificantFirst =
+    words-picked MostSignificantFirst 3 8 4 2 18446744073709551616 (2 ^ 24) refl (omega arith)
+    eight-bytes (λ word. refl)
+    (by_two (Picks MostSignificantFirst 3 8 4 2) (λ a b. refl))
+two-threes-picked LeastSignificantFirst =
+    words-picked LeastSignificantFirst 3 8 4 2 18446744073709551616 (2 ^ 24) refl (omega arith)
+    eight-bytes (λ word. refl)
+    (by_two (Picks LeastSignificantFirst 3 8 4 2) (λ a b. refl))
+
 pub fives-picked : (order : BitOrder) (words : List ℕ) → length words ≡ 8
     → AllByRecursion (λ word. word < 2 ^ 40) words
     → picked-words order 5 8 32 8 (digits_l 256 64 (number_l 18446744073709551616 words))
@@ -161,10 +174,10 @@ one-bytes : (order : BitOrder) (words : List ℕ) → AllByRecursion (λ word. w
 one-bytes order [] h = refl
 one-bytes order (w ∷ words) h = λ i. one-byte order w h.0 i ++ one-bytes order words h.1 i
 
-pub stored-ones : (order : BitOrder) (words output : List ℕ) → length words ≡ 8
-    → length output ≡ 8 → AllByRecursion (λ word. word < 256) words
+pub stored-ones : (order : BitOrder) (words output : List ℕ) → length output ≡ length words
+    → AllByRecursion (λ word. word < 256) words
     → put_chunk 0 output (map (λ x. x) words) ≡ bytes_of_words order 1 words
-stored-ones order words output long exact h =
+stored-ones order words output exact h =
     ap (put_chunk 0 output) (map-id words)
-    ∙ put_chunk_whole output words (exact ∙ sym long)
+    ∙ put_chunk_whole output words exact
     ∙ one-bytes order words h

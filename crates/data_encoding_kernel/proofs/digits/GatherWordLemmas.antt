@@ -145,7 +145,7 @@ module _ (order : BitOrder) (size : ℕ) where
             (length-drop count values ∙ omega (arith, e)),
       )
 
-  length-words : (count n : ℕ) (values : List ℕ)
+  pub length-words : (count n : ℕ) (values : List ℕ)
       → length (map (word count) (first_chunks count n values)) ≡ n
   length-words count zero values = refl
   length-words count (suc n) values = ap suc (length-words count n (drop count values))

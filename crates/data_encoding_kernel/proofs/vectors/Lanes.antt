@@ -1,13 +1,15 @@
 -- Worked rows of lanes: groups as words, their digits, and tables as rows.
-use Rattle.std.proofs.Common.{◌≡◌, ℕ, ◌+◌, ◌≤◌, List, [], ◌∷◌, map, get_or, codes, refl, sym, ap, ◌∙◌, arith, lit≤}
+use Rattle.std.proofs.Common.{◌≡◌, ℕ, ◌+◌, ◌≤◌, true, false, List, [], ◌∷◌, ◌++◌, length, map, get_or, replicate, slice_index, codes, refl, sym, ap, ◌∙◌, arith, lit<, lit≤}
 use Rattle.std.proofs.lemmas.List.{get_or-map}
 use Rattle.std.proofs.lemmas.List.FromFn.{get_or-range_with_len, length-range_with_len}
 use Rattle.std.specs.List.{range_with_len}
 use Rattle.data_encoding_meaning.specs.declared.encoding.BitOrder.TheVariants.{MostSignificantFirst}
 use Rattle.data_encoding_kernel.specs.declared.lanes.affine.Affine.{Affine}
-use Rattle.data_encoding_kernel.specs.Affine.{HoldsAffine, affine_entry, affine_value, bits_of_rows, symbol_bit}
+use Rattle.data_encoding_kernel.specs.declared.lanes.affine.PlainAffine.{PlainAffine}
+use Rattle.data_encoding_kernel.specs.Affine.{HoldsAffine, affine_entry, affine_value, agrees, agrees_from, bits_of_rows, form_of, moved_byte, symbol_bit}
 use Rattle.data_encoding_kernel.specs.Lanes.{digits_of, group_word, group_words, halved_lane, spread_word}
 use Rattle.data_encoding_kernel.specs.Values.{HoldsRows, IsRow, chosen_by, in_row, joined}
+use Rattle.data_encoding_kernel.proofs.digits.PlainAffineLemmas.{agrees-holds}
 
 -- the words of `Hel` and `lo!`, the digits of the first, those a byte each, and its upper half
 -- moved four bits up
@@ -60,25 +62,26 @@ row_of_five :
     × (chosen_by 3 (in_row table 48) (in_row table 32) 53 ≡ 1053)
 row_of_five = (refl, refl)
 
--- digits in the row from 48 on, less 48, and `+` with a value of its own: 62
+-- digits in the row from 48 on, less 48, and `+` in the shared row: 62
 digits_and_plus : Affine
 digits_and_plus = record {
   symbols = 8 ∷ 8 ∷ 8 ∷ 8 ∷ 8 ∷ 8 ∷ 8 ∷ 8 ∷ 8 ∷ 8 ∷ 0 ∷ 4 ∷ 0 ∷ 0 ∷ 0 ∷ 0 ∷ [];
-  deltas = 0 ∷ 0 ∷ 0 ∷ 208 ∷ 0 ∷ 0 ∷ 0 ∷ 0 ∷ 0 ∷ 0 ∷ 0 ∷ 0 ∷ 0 ∷ 0 ∷ 0 ∷ 0 ∷ [];
-  odd = 43;
-  odd_value = 62;
+  deltas = 0 ∷ 0 ∷ 96 ∷ 208 ∷ 0 ∷ 0 ∷ 0 ∷ 0 ∷ 0 ∷ 0 ∷ 0 ∷ 0 ∷ 0 ∷ 0 ∷ 0 ∷ 0 ∷ [];
+  shared = 0 ∷ 0 ∷ 0 ∷ 0 ∷ 0 ∷ 0 ∷ 0 ∷ 0 ∷ 0 ∷ 0 ∷ 0 ∷ 62 ∷ 0 ∷ 0 ∷ 0 ∷ 0 ∷ [];
 }
 
 -- the digit `5`, byte 53, in the row with the bit 8, is 5; `+`, byte 43, is 62; `A` is invalid
 affine_digits :
     (symbol_bit digits_and_plus 53 ≡ 8)
     × (get_or bits_of_rows 3 0 ≡ 8)
+    × (moved_byte digits_and_plus 53 ≡ 5)
+    × (moved_byte digits_and_plus 43 ≡ 139)
     × (affine_value digits_and_plus 53 ≡ 5)
     × (affine_entry digits_and_plus 53 ≡ 5)
     × (affine_entry digits_and_plus 43 ≡ 62)
     × (affine_entry digits_and_plus 65 ≡ 255)
 unfolding digits_and_plus
-affine_digits = (refl, refl, refl, refl, refl, refl)
+affine_digits = (refl, refl, refl, refl, refl, refl, refl, refl)
 
 -- the table of these values has this form
 affine_held :
@@ -90,3 +93,48 @@ affine_held = record {
       ∙ ap (affine_entry digits_and_plus)
       (get_or-range_with_len 0 128 byte 0 h ∙ omega arith));
 }
+
+-- a table of this form has 5 at `5`, and 62 at `+`
+affine_told : (values : List ℕ) → HoldsAffine values digits_and_plus
+    → (slice_index values 53 ≡ 5) × (slice_index values 43 ≡ 62)
+unfolding digits_and_plus
+affine_told values held =
+    (sym (held.agrees 53 (lit< tt) (lit< tt)), sym (held.agrees 43 (lit< tt) (lit< tt)))
+
+-- the same form as plain data, and that of a table that has none
+abbrev plain_digits_and_plus : PlainAffine
+plain_digits_and_plus = record {
+  symbols = digits_and_plus.symbols;
+  deltas = digits_and_plus.deltas;
+  shared = digits_and_plus.shared;
+  is_affine = true;
+}
+
+abbrev no_form : PlainAffine
+no_form = record {
+  symbols = replicate 16 0;
+  deltas = replicate 16 0;
+  shared = replicate 16 0;
+  is_affine = false;
+}
+
+-- the table of the digits and, with this value, of `+`
+abbrev values_with_plus : ℕ → List ℕ
+values_with_plus plus =
+    replicate 43 128 ++ plus ∷ replicate 4 128 ++ range_with_len 0 10 ++ replicate 70 128
+
+-- from `9` on: 9, and at `:` anything, since no entry is found there; without a form, any table
+forms_agree :
+    (form_of plain_digits_and_plus ≡ digits_and_plus)
+    × (agrees_from digits_and_plus 57 (9 ∷ 7 ∷ []) ≡ true)
+    × (agrees_from digits_and_plus 57 (8 ∷ 7 ∷ []) ≡ false)
+    × (agrees (values_with_plus 62) plain_digits_and_plus ≡ true)
+    × (agrees (values_with_plus 61) plain_digits_and_plus ≡ false)
+    × (agrees (values_with_plus 61) no_form ≡ true)
+unfolding digits_and_plus
+forms_agree = (refl, refl, refl, refl, refl, refl)
+
+-- a table that agrees with a form has it
+agreement_told : (values : List ℕ) → 128 ≤ length values
+    → agrees values plain_digits_and_plus ≡ true → HoldsAffine values digits_and_plus
+agreement_told values = agrees-holds digits_and_plus values

@@ -2,35 +2,81 @@
 
 ghost use Rattle.std.specs.Prelude.{◌≡◌, ℕ, ◌+◌, ◌*◌, ◌%◌, ◌/◌, ◌<◌, List, length, map, slice_index, IsTrue, IfSome};
 ghost use Rattle.std.specs.List.{AllByRecursion, range_with_len};
-ghost use Rattle.data_encoding_kernel.specs.Affine.{HoldsAffine, affine_entry, bits_of_rows};
+ghost use Rattle.data_encoding_kernel.specs.Affine.{HoldsAffine, affine_entry, agrees, bits_of_rows, form_of};
 ghost use Rattle.data_encoding_kernel.specs.Values.{in_row};
 
 use crate::lanes::decode::are_below;
 use crate::lanes::rows::{in_row_16, in_row_32, in_row_64};
 use std::simd::prelude::*;
 
-/// A table in which the value of each symbol is its byte plus a constant of the row of sixteen,
-/// except for at most one symbol.
+/// A table in which the value of each symbol is its byte plus a constant of the row of sixteen, or
+/// an entry of one further row, which several rows may share.
 #[derive(Clone, Copy, Drop)]
 pub struct Affine {
     /// By the lowest four bits of a byte: the bits of those rows in which such a byte is a symbol.
     pub symbols: u8x16,
-    /// By row: the number that is added to a byte, modulo 256.
+    /// By row: the number that is added to a byte, modulo 256. The sum is 128 or more if the value
+    /// is in the shared row.
     pub deltas: u8x16,
-    /// The byte with a value of its own.
-    pub odd: u8,
-    pub odd_value: u8,
+    /// By the lowest four bits of a byte.
+    pub shared: u8x16,
 }
 
-/// Returns the affine form of a table, if this search finds one; the symbols are the bytes whose
-/// value is below the limit.
-#[inline(always)]
-pub fn affine_of(values: &[u8; 256], limit: u8) -> Option<Affine>
+/// An affine form as plain data, which is kept beside its table.
+#[repr(C)]
+#[derive(Clone, Copy, Debug, Drop)]
+pub struct PlainAffine {
+    pub symbols: [u8; 16],
+    pub deltas: [u8; 16],
+    pub shared: [u8; 16],
+    /// Whether the table has an affine form. Without one, no byte is a symbol by `symbols`.
+    pub is_affine: bool,
+}
+
+impl PlainAffine {
+    /// The form of a table that has none.
+    pub const NONE: PlainAffine = PlainAffine {
+        symbols: [0; 16],
+        deltas: [0; 16],
+        shared: [0; 16],
+        is_affine: false,
+    };
+
+    /// Returns the form, with its rows in lanes.
+    #[inline(always)]
+    pub fn form(&self) -> Affine
+        ensures { result ≡ form_of self.now }
+    {
+        Affine {
+            symbols: u8x16::from_array(self.symbols),
+            deltas: u8x16::from_array(self.deltas),
+            shared: u8x16::from_array(self.shared),
+        }
+    }
+}
+
+/// Returns the affine form of a table as plain data, or `PlainAffine::NONE` if the search finds
+/// none. The symbols are the bytes whose value is below the limit.
+#[inline(never)]
+pub fn plain_affine_of(values: &[u8; 256], limit: u8) -> PlainAffine
+    ensures { IsTrue (agrees values.now result) }
+{
+    match affine_of(values, limit) {
+        Some(affine) => PlainAffine {
+            symbols: affine.symbols.to_array(),
+            deltas: affine.deltas.to_array(),
+            shared: affine.shared.to_array(),
+            is_affine: true,
+        },
+        None => PlainAffine::NONE,
+    }
+}
+
+// The affine form of a table, if the search finds one.
+fn affine_of(values: &[u8; 256], limit: u8) -> Option<Affine>
     ensures { IfSome result (HoldsAffine values.now) }
 {
-    let Some(affine) = guess(values, limit) else {
-        return None;
-    };
+    let affine = guess(values, limit);
     for row in 0..8 {
         if !agrees_in_row(&affine, values, row) {
             return None;
@@ -39,59 +85,42 @@ pub fn affine_of(values: &[u8; 256], limit: u8) -> Option<Affine>
     Some(affine)
 }
 
-// The affine form that the rows of the table suggest, or `None` if two symbols have a constant of
-// their own.
-#[inline(always)]
-fn guess(values: &[u8; 256], limit: u8) -> Option<Affine> {
+// The affine form that the rows of the table suggest: those without a constant of their own share
+// one row, the last of them that has a symbol there.
+fn guess(values: &[u8; 256], limit: u8) -> Affine {
     let mut symbols = u8x16::splat(0);
     let mut deltas = [0; 16];
-    let mut odd = 0;
-    let mut odd_value = 255;
+    let mut shared = u8x16::splat(0);
     for row in 0..8 {
         let start = 16 * row;
         let entries = u8x16::from_slice(&values[start..start + 16]);
         let are_symbols = entries.simd_lt(u8x16::splat(limit));
         symbols = symbols | are_symbols.select(u8x16::splat(1 << row), u8x16::splat(0));
-        let (delta, others) = constant_and_others(
-            entries - bytes_of_row(row),
-            are_symbols.to_bitmask(),
-        );
-        deltas[row] = delta;
-        if others != 0 {
-            if odd_value != 255 || others & (others - 1) != 0 {
-                return None;
+        match constant_of(entries - bytes_of_row(row), are_symbols.to_bitmask()) {
+            Some(delta) => deltas[row] = delta,
+            None => {
+                deltas[row] = (128 - start) as u8;
+                shared = are_symbols.select(entries, shared);
             }
-            let place = others.trailing_zeros() as usize % 16;
-            odd = (start + place) as u8;
-            odd_value = values[start + place];
         }
     }
-    Some(Affine {
+    Affine {
         symbols,
         deltas: u8x16::from_array(deltas),
-        odd,
-        odd_value,
-    })
+        shared,
+    }
 }
 
-// The constant of a row, from the numbers at the positions of its symbols, and the positions with
-// another number. It is the first number, or the last if all others differ from the first.
-#[inline(always)]
-fn constant_and_others(numbers: u8x16, places: u64) -> (u8, u64) {
+// The number at all these positions, or `None` if they have several; 0 if there is none.
+fn constant_of(numbers: u8x16, places: u64) -> Option<u8> {
     if places == 0 {
-        return (0, 0);
+        return Some(0);
     }
-    let behind = places & (places - 1);
     let first = numbers.to_array()[places.trailing_zeros() as usize % 16];
-    let others = places & numbers.simd_ne(u8x16::splat(first)).to_bitmask();
-    if others == 0 || others != behind {
-        return (first, others);
+    if places & numbers.simd_ne(u8x16::splat(first)).to_bitmask() != 0 {
+        return None;
     }
-    let last = numbers.to_array()[places.ilog2() as usize % 16];
-    (
-        last,
-        places & numbers.simd_ne(u8x16::splat(last)).to_bitmask(),
-    )
+    Some(first)
 }
 
 // The bytes of a row.
@@ -128,6 +157,7 @@ macro_rules! found_by_rows {
             $in_row($affine.symbols, $bytes),
             $in_row(bits(), rows),
             $in_row($affine.deltas, rows),
+            $in_row($affine.shared, $bytes),
         )
     }};
 }
@@ -162,7 +192,7 @@ fn bits() -> u8x16
     u8x16::from_array([1, 2, 4, 8, 16, 32, 64, 128, 0, 0, 0, 0, 0, 0, 0, 0])
 }
 
-// The entries found, from the three rows of sixteen.
+// The entries found, from the four rows of sixteen.
 #[inline(always)]
 fn found<const N: usize>(
     affine: &Affine,
@@ -170,15 +200,17 @@ fn found<const N: usize>(
     symbols: Simd<u8, N>,
     bits: Simd<u8, N>,
     deltas: Simd<u8, N>,
+    shared: Simd<u8, N>,
 ) -> Simd<u8, N>
     requires symbols { symbols ≡ map (in_row affine.now.symbols 0) bytes }
     requires bits { bits ≡ map (λ byte. in_row bits_of_rows 0 (byte / 16)) bytes }
     requires deltas { deltas ≡ map (λ byte. in_row affine.now.deltas 0 (byte / 16)) bytes }
+    requires shared { shared ≡ map (in_row affine.now.shared 0) bytes }
     ensures { result ≡ map (affine_entry affine.now) bytes.entry }
 {
     let moved = bytes + deltas;
-    let is_odd = bytes.simd_eq(Simd::<u8, N>::splat(affine.odd));
-    let values = is_odd.select(Simd::<u8, N>::splat(affine.odd_value), moved);
+    let are_shared = moved.simd_ge(Simd::<u8, N>::splat(128));
+    let values = are_shared.select(shared, moved);
     let is_none = (symbols & bits).simd_eq(Simd::<u8, N>::splat(0));
     is_none.select(Simd::<u8, N>::splat(255), values)
 }

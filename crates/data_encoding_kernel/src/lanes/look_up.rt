@@ -1,18 +1,24 @@
 //! Ways to find the entries of bytes, in a lane for each.
 
-ghost use Rattle.std.specs.Prelude.{◌≡◌, ℕ, ◌<◌, List, map, slice_index};
+ghost use Rattle.std.specs.Prelude.{◌≡◌, ℕ, ◌<◌, List, map, slice_index, IsTrue};
 ghost use Rattle.std.specs.List.{AllByRecursion};
-ghost use Rattle.data_encoding_kernel.specs.Affine.{HoldsAffine};
+ghost use Rattle.data_encoding_kernel.specs.Affine.{HoldsAffine, agrees};
 ghost use Rattle.data_encoding_kernel.specs.Values.{HoldsRows};
 
 use crate::lanes::affine::{Affine, affine_entries_16, affine_entries_32, affine_entries_64};
-use crate::lanes::rows::{Rows, entries_16, entries_32, entries_64};
+use crate::lanes::rows::{Rows, entries_16, entries_32, entries_64, rows_of};
+use crate::value_table::ValueTable;
 use std::simd::prelude::*;
 
 /// A way to find the entries of a table for bytes. If each entry found is below 128, they are those
 /// of the table.
 pub trait LookUp: Copy {
     ghost holds: { List ℕ → Self → Type 0 };
+
+    /// Returns the look-up in this table.
+    fn of(table: &ValueTable) -> Self
+        requires { IsTrue (agrees table.now.entries table.now.form) }
+        ensures { holds table.now.entries result };
 
     fn look_up_16(&self, bytes: u8x16) -> u8x16
         ensures { (values : List ℕ) → holds values self.now
@@ -34,6 +40,11 @@ impl LookUp for Rows {
     ghost holds = { λ values rows. HoldsRows values rows };
 
     #[inline(always)]
+    fn of(table: &ValueTable) -> Rows {
+        rows_of(&table.entries)
+    }
+
+    #[inline(always)]
     fn look_up_16(&self, bytes: u8x16) -> u8x16 {
         entries_16(self, bytes)
     }
@@ -51,6 +62,11 @@ impl LookUp for Rows {
 
 impl LookUp for Affine {
     ghost holds = { λ values affine. HoldsAffine values affine };
+
+    #[inline(always)]
+    fn of(table: &ValueTable) -> Affine {
+        table.affine()
+    }
 
     #[inline(always)]
     fn look_up_16(&self, bytes: u8x16) -> u8x16 {

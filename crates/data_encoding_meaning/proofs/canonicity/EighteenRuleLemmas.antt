@@ -2,7 +2,7 @@
 use Rattle.std.proofs.Common.{◌≡◌, ◌==◌, Bool, false, not, length, Option, Some, None, Result, Ok, Err, refl, sym, ap, ◌∙◌}
 use Rattle.data_encoding_meaning.specs.declared.refusal.Refusal.{Refusal}
 use Rattle.data_encoding_meaning.specs.text.Base.{Base, ignores_some}
-use Rattle.data_encoding_meaning.specs.laws.Eighteen.{Yields}
+use Rattle.data_encoding_meaning.specs.laws.Eighteen.{Builds}
 use Rattle.data_encoding_meaning.specs.laws.Rules.{EighteenRules, HasRules, Rules, mime_rules, padded_rules, plain_rules, reversed_rules}
 use Rattle.data_encoding_meaning.specs.specification.Fields.{Fields, base_of}
 use Rattle.data_encoding_meaning.specs.specification.Layout.{ignored_bytes}
@@ -31,7 +31,7 @@ same : (p q : Rules × Bool) → Some p ≡ Some q → p ≡ q
 same p q h = cc
 
 has : (rules : Rules) (fields : Fields) → rules_in (base_of fields) ≡ told rules
-    → Yields (HasRules rules) fields
+    → Builds (HasRules rules) fields
 has rules fields shown base is =
     let equal = same (rules_of base, ignores_some base) (rules, not (length rules.ignored == 0))
     (sym (ap rules_in is) ∙ shown) in

@@ -57,11 +57,11 @@ module _ (base : Base) (width : IsWidth base.width) (text : List ℕ) where
         group_fault-stays (sym first ∙ h)
 
 -- after whole groups without a fault, a fault is not before their end
-pub fault-behind : (base : Base) → IsWidth base.width → (text after : List ℕ)
+pub fault-after : (base : Base) → IsWidth base.width → (text after : List ℕ)
     (error : DecodeError) → length (kept base text) % group_symbols base.width ≡ 0
     → fault_of base text ≡ None → fault_of base (text ++ after) ≡ Some error
     → length text ≤ error.position
-fault-behind base width text after error whole none h =
+fault-after base width text after error whole none h =
     later (or_else (length_fault base (length after))
     (first_after (ends_after base false gs) base (groups base after)))
     (sym (fault-after_whole base width text after whole (ends_after base false gs)

@@ -21,40 +21,40 @@ module _ (base : Base) where
       (length-by_bytes (kept_in base read bytes) [] (rw h at same))
 
   -- the kept bytes are those after the ignored ones
-  bytes-behind : (front rest : List ℕ) → kept base front ≡ []
+  bytes-after : (front rest : List ℕ) → kept base front ≡ []
       → map (λ (k : Positioned). k.byte) (kept base (front ++ rest))
       ≡ map (λ (k : Positioned). k.byte) (kept base rest)
-  bytes-behind front rest h =
+  bytes-after front rest h =
       rw (kept_in-append base 0 front rest, h)
       (bytes-kept_in base (0 + length front) rest ∙ sym (bytes-kept_in base 0 rest))
 
-  pub length-behind : (part : List ℕ) (skip : ℕ) → IsIgnoredFront base part skip
+  pub length-after : (part : List ℕ) (skip : ℕ) → IsIgnoredFront base part skip
       → length (kept base part) ≡ length (kept base (drop skip part))
-  length-behind part skip front =
+  length-after part skip front =
       simp length-map at (ap length (rw (take-append-drop skip part) at
-      (bytes-behind (take skip part) (drop skip part) front.none)))
+      (bytes-after (take skip part) (drop skip part) front.none)))
 
   -- what was gathered after ignored bytes was gathered from before them
-  pub gathered-behind : (size : ℕ) (part group : List ℕ) (skip span : ℕ)
+  pub gathered-after : (size : ℕ) (part group : List ℕ) (skip span : ℕ)
       → IsIgnoredFront base part skip → IsGathered base size (drop skip part) group span
       → 0 < span → IsGathered base size part group (skip + span)
-  gathered-behind size part group skip span front is some =
+  gathered-after size part group skip span front is some =
       let place : skip + (span - 1) ≡ skip + span - 1 = omega (arith, some) in
       record {
         within = omega (arith, front.within, is.within, length-drop skip part);
         bytes_are = rw (take-add skip span part)
-            (bytes-behind (take skip part) (take span (drop skip part)) front.none
+            (bytes-after (take skip part) (take span (drop skip part)) front.none
             ∙ is.bytes_are);
         ends = λ _. rw (← place, ← get_or-drop skip part (span - 1) 0) (is.ends some);
         few = is.few;
-        last = rw (length-behind part skip front) is.last;
+        last = rw (length-after part skip front) is.last;
       }
 
   -- nothing is left if nothing follows them
-  pub nothing-behind : (text : List ℕ) (read skip : ℕ) → read ≤ length text
+  pub nothing-after : (text : List ℕ) (read skip : ℕ) → read ≤ length text
       → IsIgnoredFront base (drop read text) skip → kept_from base (read + skip) text ≡ []
       → kept_from base read text ≡ []
-  nothing-behind text read skip within front none =
+  nothing-after text read skip within front none =
       let width : read + skip - read ≡ skip = omega arith in
       let more = kept_from-more base read text within (read + skip) (omega arith)
       (omega (arith, within, front.within, length-drop read text)) in

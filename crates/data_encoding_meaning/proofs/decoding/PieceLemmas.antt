@@ -37,12 +37,12 @@ module _ (base : Base) where
       decides (fault_after begun base g) _ _ error g _ _ (stays (is_final base g) error gs hs) h
 
   -- after sound groups the bytes of others follow
-  pub bytes-behind : (begun ended : Bool) (gs hs : List (List Positioned))
+  pub bytes-after : (begun ended : Bool) (gs hs : List (List Positioned))
       → AreSound base begun gs ended
       → flat_map (bytes_of_group base) (sound_after begun base (gs ++ hs))
       ≡ flat_map (bytes_of_group base) (sound_after begun base gs)
       ++ flat_map (bytes_of_group base) (sound_after ended base hs)
-  bytes-behind begun ended gs hs h =
+  bytes-after begun ended gs hs h =
       rw (bytes-AreSound base begun ended gs hs h, sound-all base begun ended gs h)
 
   -- the bytes of a group alone, unless it has a fault
@@ -113,7 +113,7 @@ module _ (base : Base) (width : IsWidth base.width) where
       by None h =
           let ended = ends_after base false gs in (
             flat_map (bytes_of_group base) (sound_after ended base hs),
-            rw (joined.0, bytes-behind base false ended gs hs (AreSound-none base false gs h)),
+            rw (joined.0, bytes-after base false ended gs hs (AreSound-none base false gs h)),
           )
 
     module _ (len : ℕ) (held : List Positioned) (ended : Bool) where
@@ -187,7 +187,7 @@ module _ (base : Base) (width : IsWidth base.width) where
               ≡ whole_bytes base text
               ++ cond (is_some (fault_after ended base group)) [] (bytes_of_group base group)
           whole_bytes-group =
-              rw (groups_are, bytes-behind base false ended gs (group ∷ []) sound)
+              rw (groups_are, bytes-after base false ended gs (group ∷ []) sound)
               (ap (λ l. whole_bytes base text ++ l)
               (bytes_unless base (is_some (fault_after ended base group)) group))
 
@@ -223,7 +223,7 @@ module _ (base : Base) (width : IsWidth base.width) where
         (rw (read.holds refl) (left_len size pos (kept base text))) in
         rw (runs-left size pos (kept base text), ← read.holds refl) (
           first-AreSound base false ended wholes (runs size held) fine ∙ last.0,
-          rw (bytes-behind base false ended wholes (runs size held) fine, last.1),
+          rw (bytes-after base false ended wholes (runs size held) fine, last.1),
         )
 
     -- the fault of the text, from what was kept of it

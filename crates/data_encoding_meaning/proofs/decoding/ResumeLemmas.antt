@@ -86,17 +86,17 @@ module _ (base : Base) (width : IsWidth base.width) (text : List ℕ)
     len = greatest_valid_length base (length (drop read text))
 
     -- what was written, followed by bytes
-    behind_len : (bytes : List ℕ) → written + length bytes ≡ length (take written output ++ bytes)
-    behind_len bytes =
+    after_len : (bytes : List ℕ) → written + length bytes ≡ length (take written output ++ bytes)
+    after_len bytes =
         let len = written_len base width text so_far in
         omega (arith, len, length-append (take written output) bytes)
 
-    behind_all : (bytes : List ℕ)
+    after_all : (bytes : List ℕ)
         → take (written + length bytes) (take written output ++ bytes)
         ≡ take written output ++ bytes
-    behind_all bytes =
+    after_all bytes =
         take_all (written + length bytes) (take written output ++ bytes)
-        (omega (arith, behind_len bytes))
+        (omega (arith, after_len bytes))
 
     -- at a faulty group, or after a last run
     at_group : (stop : ℕ) (group : List Positioned) (error : DecodeError)
@@ -133,7 +133,7 @@ module _ (base : Base) (width : IsWidth base.width) (text : List ℕ)
           by true kind (inl some) (inr few) None is =
               let bytes = symbol_bytes base (map (meaning base) front) in
               let at = last-sound here kind some few is (length bytes)
-              (take written output ++ bytes) (omega (arith, behind_len bytes)) (behind_all bytes) in
+              (take written output ++ bytes) (omega (arith, after_len bytes)) (after_all bytes) in
               (_, _, at, λ other. cc)
 
     -- the next group is faulty, or is read, and others are left
@@ -162,7 +162,7 @@ module _ (base : Base) (width : IsWidth base.width) (text : List ℕ)
               (take written output ++ bytes)
               (after-group base width text (length bytes) (take written output ++ bytes) so_far
               (is-next base width text read so_far.within next.2 some) sound
-              (omega (arith, behind_len bytes)) (behind_all bytes))
+              (omega (arith, after_len bytes)) (after_all bytes))
               (omega (arith, some, gathered-few next.2))
 
   -- an induction on a bound of the bytes that are left

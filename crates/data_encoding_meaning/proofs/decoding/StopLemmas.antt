@@ -3,7 +3,7 @@ use Rattle.std.proofs.Common.{◌≡◌, ℕ, ◌+◌, ◌-◌, ◌%◌, ◌<◌
 use Rattle.std.proofs.lemmas.List.{length-drop, append-nil}
 use Rattle.std.proofs.Math.Nat.{mod_self}
 use Rattle.std.specs.List.{list_any, position}
-use Rattle.data_encoding_meaning.proofs.grammar.JoinFaultLemmas.{valid_behind}
+use Rattle.data_encoding_meaning.proofs.grammar.JoinFaultLemmas.{valid_after}
 use Rattle.data_encoding_meaning.specs.declared.encoding.Character.{Character}
 use Rattle.data_encoding_meaning.specs.declared.error.GroupFault.{GroupFault}
 use Rattle.data_encoding_meaning.specs.declared.error.DecodeError.{DecodeError}
@@ -229,7 +229,7 @@ module _ {base : Base} {text : List ℕ} {read written : ℕ} {output : List ℕ
         (λ len.
         whole-length base at.width (length at.group) (rw len (mod_self size)))
         (λ empty.
-        rw (← valid_behind base at.width read (length at.group) read_whole, last_stop empty)
+        rw (← valid_after base at.width read (length at.group) read_whole, last_stop empty)
         (length_fault-valid base (length text) at.no_length_fault none))
         at.next.last)
 

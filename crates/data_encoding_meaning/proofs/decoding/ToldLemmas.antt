@@ -126,10 +126,10 @@ module _ (base : Base) where
   trailing-whole ms whole len = drop_all _ (symbol_bits base ms) (omega (arith, len))
 
   -- nor do they change the trailing bits of what follows
-  trailing-behind : (ms ns : List Character) (whole : ℕ)
+  trailing-after : (ms ns : List Character) (whole : ℕ)
       → length (symbol_bits base ms) ≡ 8 * whole
       → trailing_bits base (ms ++ ns) ≡ trailing_bits base ns
-  trailing-behind ms ns whole len =
+  trailing-after ms ns whole len =
       let front = symbol_bits base ms in
       let back = symbol_bits base ns in
       let joined : symbol_bits base (ms ++ ns) ≡ front ++ back =
@@ -138,17 +138,17 @@ module _ (base : Base) where
       omega (arith, length-append front back, len) in
       rw (joined, count) (drop-past front back (8 * whole) (length back / 8 * 8) len)
 
-  leaves-behind : (text after : List ℕ) (whole : ℕ) → base.width * length text ≡ 8 * whole
+  leaves-after : (text after : List ℕ) (whole : ℕ) → base.width * length text ≡ 8 * whole
       → AllFail (is_other base) text
       → (leaves_bits base (text ++ after) ≡ leaves_bits base after)
       × (leaves_bits base text ≡ false)
-  leaves-behind text after whole bits all =
+  leaves-after text after whole bits all =
       let ms = map (meaning base) text in
       let long : length (symbol_bits base ms) ≡ 8 * whole =
       symbols-long ms (fail-map text all)
       ∙ ap (λ n. base.width * n) (length-map text (meaning base))
       ∙ bits in (
-        rw (map-append, trailing-behind ms (map (meaning base) after) whole long),
+        rw (map-append, trailing-after ms (map (meaning base) after) whole long),
         rw (trailing-whole ms whole long, and-false base.checks_trailing_bits),
       )
 
@@ -171,7 +171,7 @@ module _ (base : Base) where
       rw (from-append (is_other base) start text after, len)
       (by first later (leaves_bits base (text ++ after)) (leaves_bits base text)
       (leaves_bits base after) (start + length text) (start + length text + length after)
-      (λ none. leaves-behind text after whole bits (from-none (is_other base) start text none)))
+      (λ none. leaves-after text after whole bits (from-none (is_other base) start text none)))
     where
       by : (o p : Option ℕ) (both here there : Bool) (middle end : ℕ)
           → (o ≡ None → (both ≡ there) × (here ≡ false))
@@ -274,8 +274,8 @@ module _ (base : Base) (width : IsWidth base.width) (unpadded : is_padded base �
       let len : length front ≡ size = length-take-le size text long in
       let back_len = length-drop size text in
       let placed = positioned_from start front in
-      let behind = positioned_from (start + length front) back in
-      let parts : ks ≡ placed ++ behind =
+      let further = positioned_from (start + length front) back in
+      let parts : ks ≡ placed ++ further =
       ap (positioned_from start) (sym (take-append-drop size text))
       ∙ positioned_from-append start front back in
       let front_valid : is_valid_count base.width (length front) ≡ true =
@@ -284,13 +284,13 @@ module _ (base : Base) (width : IsWidth base.width) (unpadded : is_padded base �
       rw back_len (valid-less base.width width (length text) long valid) in
       let bits : base.width * length front ≡ 8 * group_bytes base.width =
       rw len (group_bits base.width width) in
-      let cut : runs size ks ≡ placed ∷ runs size behind =
+      let cut : runs size ks ≡ placed ∷ runs size further =
       ap (runs size) parts
-      ∙ runs-append size placed behind size-pos (length-positioned_from start front ∙ len) in
+      ∙ runs-append size placed further size-pos (length-positioned_from start front ∙ len) in
       let judged = judged-told base start front (omega (arith, len, size-pos)) unpadded
       front_valid in
       ap (first_after false base) cut
-      ∙ (λ i. or_else (judged i) (first_after (never_final placed i) base (runs size behind)))
+      ∙ (λ i. or_else (judged i) (first_after (never_final placed i) base (runs size further)))
       ∙ ap (or_else (told_from base start front)) (others (start + length front) back_valid)
       ∙ sym (told-append base start front back (group_bytes base.width) bits)
       ∙ ap (told_from base start) (take-append-drop size text))
@@ -316,7 +316,7 @@ module _ (base : Base) (width : IsWidth base.width) (unpadded : is_padded base �
       none-left alone =
           let all = from-none (is_other base) 0 text
           (sym (position_from-zero (is_other base) text) ∙ alone) in
-          (leaves-behind base text [] (base.width * length text / 8)
+          (leaves-after base text [] (base.width * length text / 8)
           (whole-eight base.width width eight (length text) valid) all).1
 
       pub whole-told : fault_of base text ≡ told_by (first_other base text) false 0

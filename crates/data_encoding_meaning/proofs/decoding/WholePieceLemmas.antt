@@ -13,7 +13,7 @@ use Rattle.data_encoding_meaning.specs.laws.Laws.{further}
 use Rattle.data_encoding_meaning.specs.text.Lengths.{length_fault, is_valid_count, most_bytes}
 use Rattle.data_encoding_meaning.specs.decoding.Partial.{partial_of, is_length_fault}
 use Rattle.data_encoding_meaning.specs.decoding.Pieces.{HasRead, IsOfWholeGroup, unfinished, whole_bytes, whole_groups, held_fault}
-use Rattle.data_encoding_meaning.proofs.decoding.PieceLemmas.{bytes-behind, more, sound, sound_bytes-read, joined, fault_of-read}
+use Rattle.data_encoding_meaning.proofs.decoding.PieceLemmas.{bytes-after, more, sound, sound_bytes-read, joined, fault_of-read}
 use Rattle.data_encoding_meaning.proofs.decoding.StopLemmas.{fault-partial}
 use Rattle.data_encoding_meaning.proofs.digits.WidthLemmas.{group_symbols-pos}
 use Rattle.data_encoding_meaning.proofs.grammar.JoinFaultLemmas.{AreFew, final-moved, first-moved, kept_in-moved, moved, sound-moved}
@@ -95,32 +95,32 @@ module _ (base : Base) (width : IsWidth base.width) where
         rw (whole_runs-front size pos (kept base piece))
         (few_runs size (front_of size (kept base piece)) pos)
 
-    behind : unfinished base text ++ more base width text piece ≡ moved len (kept base piece)
-    behind =
+    later : unfinished base text ++ more base width text piece ≡ moved len (kept base piece)
+    later =
         let start : length text ≡ len + 0 = omega (arith, read.counted) in
         rw (← read.holds refl, start) (kept_in-moved base width len 0 piece)
 
     groups_are : whole_groups base (text ++ piece) ≡ before ++ others
     groups_are =
-        rw ((joined base width text piece).0, behind)
+        rw ((joined base width text piece).0, later)
         (ap (λ gs. before ++ gs) (whole_runs-map size pos further_on (kept base piece)))
 
     before_sound : AreSound base false before false
     before_sound = sound base width text piece len [] false read
 
     -- what is kept of the piece alone, with the length before it added
-    HasRead-behind : (fault : Option DecodeError) (held : List Positioned) (ended : Bool)
+    HasRead-after : (fault : Option DecodeError) (held : List Positioned) (ended : Bool)
         → HasRead base piece (length piece) fault held ended
         → HasRead base (text ++ piece) (len + length piece) (further len fault) (moved len held)
         ended
-    HasRead-behind fault held ended alone = record {
+    HasRead-after fault held ended alone = record {
       counted = omega (arith, read.counted, length-append text piece);
       first = rw (alone.first, groups_are)
           (sym (first-AreSound base false false before others before_sound
           ∙ first-moved base width len false (whole_groups base piece) few));
       holds = λ none.
           let is = alone.holds (none_further fault none) in
-          rw (is, (joined base width text piece).1, behind)
+          rw (is, (joined base width text piece).1, later)
           (sym (left-map size pos further_on (kept base piece)));
       ends = λ none.
           let is = alone.ends (none_further fault none) in
@@ -131,10 +131,10 @@ module _ (base : Base) (width : IsWidth base.width) where
       none_further o h = grind arith
 
     -- and its bytes are appended
-    whole_bytes-behind : whole_bytes base (text ++ piece)
+    whole_bytes-after : whole_bytes base (text ++ piece)
         ≡ whole_bytes base text ++ whole_bytes base piece
-    whole_bytes-behind =
-        rw (groups_are, bytes-behind base false false before others before_sound)
+    whole_bytes-after =
+        rw (groups_are, bytes-after base false false before others before_sound)
         (rw (sound-moved base width len false (whole_groups base piece) few))
 
     -- if it means data and is whole groups
@@ -147,13 +147,13 @@ module _ (base : Base) (width : IsWidth base.width) where
         let all = whole_runs-all size pos (kept base piece) whole in
         let none = neither_fault (length_fault base (length piece))
         (first_fault base (groups base piece)) (no_fault-Means base width piece bytes means) in (
-          HasRead-behind None [] (list_any (is_final base) (groups base piece)) (record {
+          HasRead-after None [] (list_any (is_final base) (groups base piece)) (record {
             counted = refl;
             first = rw all.0 (sym none.1);
             holds = λ _. sym all.1;
             ends = λ _. rw all.0;
           }),
-          rw (whole_bytes-behind, all.0, sound_bytes-Means base width piece bytes means),
+          rw (whole_bytes-after, all.0, sound_bytes-Means base width piece bytes means),
         )
 
     -- if it has the fault of a whole group
@@ -177,8 +177,8 @@ module _ (base : Base) (width : IsWidth base.width) where
         alone in
         let read = Means-partial base width piece partial
         (no-length_fault piece partial.error fault of_whole) is in (
-          HasRead-behind (Some partial.error) [] false alone,
-          rw (whole_bytes-behind, ← sound_bytes-Means base width _ bytes means)
+          HasRead-after (Some partial.error) [] false alone,
+          rw (whole_bytes-after, ← sound_bytes-Means base width _ bytes means)
               (rw (← read.2 of_whole.not_length, all, append-nil (whole_bytes base piece))),
         )
 

@@ -73,8 +73,8 @@ pub located-further : (ks js : List Positioned) (count : ℕ) (o : Option GroupF
     → IsInside (length ks) o
     → ((index : ℕ) → index < length ks → position_of js index ≡ count + position_of ks index)
     → located js o ≡ further count (located ks o)
-located-further ks js count None inside behind = refl
-located-further ks js count (Some fault) inside behind = rw (behind fault.index inside)
+located-further ks js count None inside later = refl
+located-further ks js count (Some fault) inside later = rw (later fault.index inside)
 
 -- symbols are a group: a whole one, or any if there is no padding
 pub GroupMeans-symbols : (base : Base) (group : List Character) (bytes : List ℕ)
@@ -127,10 +127,10 @@ pub bytes_before_padding : (base : Base) (symbols : List Character) (count : ℕ
 bytes_before_padding base symbols count = simp (filter_map-append, no_values, append-nil)
 
 -- the symbols of a group, and the padding after them
-padding-behind : (group : List Character)
+padding-after : (group : List Character)
     → group ≡ take (count_before_padding group) group
     ++ replicate (length (drop (count_before_padding group) group)) Padding
-padding-behind group =
+padding-after group =
     rw (← (all_padding (drop (count_before_padding group) group) (end-passes is_padding group)))
     (sym (take-append-drop (count_before_padding group) group))
 
@@ -174,11 +174,11 @@ module _ (base : Base) (width : IsWidth base.width) (group : List Character) whe
         let sound : plain_fault base symbols ≡ None =
         plain_fault-valid base symbols (rw len judged.2) ∙ judged.3 in
         let same : symbol_bytes base group ≡ symbol_bytes base symbols =
-        ap (symbol_bytes base) (padding-behind group) ∙ bytes_before_padding base symbols _ in
+        ap (symbol_bytes base) (padding-after group) ∙ bytes_before_padding base symbols _ in
         record {
           symbols = symbols;
           padding = length (drop count group);
-          is_group = padding-behind group;
+          is_group = padding-after group;
           is_whole = λ padded. omega arith;
           is_plain = λ unpadded. cc;
           is_begun = omega arith;

@@ -48,27 +48,27 @@ further-or_else count o p = grind arith
 
 -- What follows whole groups is as valid as it is alone: its bits and the greatest valid count, and
 -- the rest of a group and the whole groups.
-is_behind : (width : ℕ) → IsWidth width → (m n : ℕ) → m % group_symbols width ≡ 0
+is_after : (width : ℕ) → IsWidth width → (m n : ℕ) → m % group_symbols width ≡ 0
     → (width * (m + n) % 8 ≡ width * n % 8)
     × (greatest_valid_count width (m + n) ≡ m + greatest_valid_count width n)
     × ((m + n) % group_symbols width ≡ n % group_symbols width)
     × ((m + n) / group_symbols width * group_symbols width
     ≡ m + n / group_symbols width * group_symbols width)
-is_behind width is m n h = grind (arith, nat_tests, widths width is)
+is_after width is m n h = grind (arith, nat_tests, widths width is)
 
 module _ (base : Base) (width : IsWidth base.width) where
   abbrev size : ℕ
   size = group_symbols base.width
 
-  pub valid_behind : (m n : ℕ) → m % size ≡ 0
+  pub valid_after : (m n : ℕ) → m % size ≡ 0
       → is_valid_length base (m + n) ≡ is_valid_length base n
-  valid_behind m n h =
-      grind (arith, is_behind base.width width m n h)
+  valid_after m n h =
+      grind (arith, is_after base.width width m n h)
 
-  pub length_fault-behind : (m n : ℕ) → (ignores_some base ≡ false → m % size ≡ 0)
+  pub length_fault-after : (m n : ℕ) → (ignores_some base ≡ false → m % size ≡ 0)
       → length_fault base (m + n) ≡ further m (length_fault base n)
-  length_fault-behind m n whole =
-      let is = λ (none : ignores_some base ≡ false). is_behind base.width width m n (whole none) in
+  length_fault-after m n whole =
+      let is = λ (none : ignores_some base ≡ false). is_after base.width width m n (whole none) in
       grind (arith, is)
 
   -- the kept bytes of a piece at a later position
@@ -143,7 +143,7 @@ module _ (base : Base) (width : IsWidth base.width) (text after : List ℕ)
         ≡ further count (or_else (length_fault base (length after))
         (first_after ended base (groups base after)))
     fault-after_whole =
-        let lengths = length_fault-behind base width count (length after)
+        let lengths = length_fault-after base width count (length after)
         (λ none. rw (← (length-kept_plain base text none)) whole) in
         rw (
           length-append text after,

@@ -98,13 +98,13 @@ module _ (base : Base) (width : IsWidth base.width) where
     first-PlainMeans : (group : List Character) (others : List (List Character))
         (bytes more : List ℕ) → 0 < length group → PlainMeans base group bytes
         → GroupsMean base others more → GroupsMean base (group ∷ others) (bytes ++ more)
-    first-PlainMeans group others bytes more some means behind = (
+    first-PlainMeans group others bytes more some means later = (
       bytes,
       more,
       refl,
       GroupMeans-symbols base group bytes some (λ padded. cc) means,
       (λ final. cc (symbols-not_final base group means.values means.are_symbols)),
-      behind,
+      later,
     )
 
     -- the groups of symbols mean what the symbols mean

@@ -13,7 +13,7 @@ use Rattle.data_encoding_meaning.specs.specification.Layout.{column_of, fields_o
 use Rattle.data_encoding_meaning.proofs.tables.EntryLemmas.{apart_test, defined_by, false_or, ignored-is, is_same-self, same-is_same}
 use Rattle.data_encoding_meaning.proofs.judgement.JudgementLemmas.{AreKept, AreKept-join, AreSteps, IsHeld, Judged, after-ok, judged-ok, meanings_after-append, meanings_after-ok, symbols-held}
 use Rattle.data_encoding_meaning.proofs.lists.EachLemmas.{all_parts, all_in_range, at_in_range, passes_at}
-use Rattle.data_encoding_meaning.proofs.judgement.RuleLemmas.{IsRuled, IsRuledPadding, IsRuledWrapping, base_of-width, first_judgements, from_parts, ignored-held, is_no_padding, is_within, IsRuled-yield, parts_of, width_of-power}
+use Rattle.data_encoding_meaning.proofs.judgement.RuleLemmas.{IsRuled, IsRuledPadding, IsRuledWrapping, base_of-width, first_judgements, from_parts, ignored-held, is_no_padding, is_within, IsRuled-built, parts_of, width_of-power}
 
 -- A judgement agrees with the meanings in the end, if what is translated to is known before.
 abbrev Agrees : List Character → List Character → Judgement → Type 0
@@ -416,9 +416,9 @@ module _ (base : Base) (ruled : IsRuled base) where
       }))
 
 pub specification-again : (base : Base) → IsSpecified base → base_of (fields_of base) ≡ Ok base
-specification-again base is = base_of-again base (IsRuled-yield is.fields base is.yields)
+specification-again base is = base_of-again base (IsRuled-built is.fields base is.is_built)
 
 -- what keeps the rules is a base
 pub IsSpecified-ruled : (base : Base) → IsRuled base → IsSpecified base
 IsSpecified-ruled base ruled =
-    record { fields = fields_of base; yields = base_of-again base ruled }
+    record { fields = fields_of base; is_built = base_of-again base ruled }

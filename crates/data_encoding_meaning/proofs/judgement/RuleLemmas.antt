@@ -103,7 +103,7 @@ base_from width fields meanings = record {
 }
 
 -- What a base is built from.
-record IsYield (fields : Fields) (base : Base) : Type 0 where
+record HasBuilt (fields : Fields) (base : Base) : Type 0 where
   pub width : ℕ
   pub meanings : List Character
   pub width_is : width_of (length fields.symbols) ≡ Some width
@@ -119,7 +119,7 @@ with-ok width fields (Ok meanings) base h =
 with-ok width fields (Err refusal) base h = cc
 
 by-ok : (o : Option ℕ) (fields : Fields) (base : Base) → width_of (length fields.symbols) ≡ o
-    → base_by o fields ≡ Ok base → IsYield fields base
+    → base_by o fields ≡ Ok base → HasBuilt fields base
 by-ok (Some (suc n)) fields base w h =
     let is = with-ok (suc n) fields
     (meanings_after (Ok no_meanings) (judgements (suc n) fields)) base h in
@@ -301,8 +301,8 @@ module _ (width : ℕ) (fields : Fields) (meanings : List Character)
       }
 
 -- each base that is built keeps the rules
-pub IsRuled-yield : (fields : Fields) (base : Base) → base_of fields ≡ Ok base → IsRuled base
-IsRuled-yield fields base h =
+pub IsRuled-built : (fields : Fields) (base : Base) → base_of fields ≡ Ok base → IsRuled base
+IsRuled-built fields base h =
     let is = by-ok (width_of (length fields.symbols)) fields base refl h in
     subst IsRuled (sym is.is_base)
     (IsRuled-from is.width fields is.meanings is.width_is is.some is.judged)

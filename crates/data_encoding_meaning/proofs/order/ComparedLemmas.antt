@@ -33,13 +33,13 @@ one_of_three (x ∷ xs) (y ∷ ys) =
           ⊎ (((x ∷ xs) ≡ (y ∷ ys)) ⊎ IsBefore (y ∷ ys) (x ∷ xs))
       by same (inl before) = inl (inr (same, before))
       by same (inr (inl equal)) = inr (inl (λ i. same i ∷ equal i))
-      by same (inr (inr behind)) = inr (inr (inr (sym same, behind)))
+      by same (inr (inr later)) = inr (inr (inr (sym same, later)))
 
 -- if lists in order have others in order, and equal ones equal others
 alike : (one other first second : List ℕ) → (IsBefore one other → IsBefore first second)
     → (IsBefore other one → IsBefore second first) → (one ≡ other → first ≡ second)
     → CompareAlike one other first second
-alike one other first second before behind equal = record {
+alike one other first second before later equal = record {
   order = (before, λ h. is_before h (one_of_three one other));
   equality = (equal, λ h. is_equal h (one_of_three one other));
 } where
@@ -49,7 +49,7 @@ alike one other first second before behind equal = record {
   is_before h (inr (inl same)) =
       let k = subst (λ l. IsBefore l second) (equal same) h in
       absurd (never_both second second k k)
-  is_before h (inr (inr is)) = absurd (never_both first second h (behind is))
+  is_before h (inr (inr is)) = absurd (never_both first second h (later is))
 
   is_equal : first ≡ second → IsBefore one other ⊎ ((one ≡ other) ⊎ IsBefore other one)
       → one ≡ other
@@ -58,7 +58,7 @@ alike one other first second before behind equal = record {
       absurd (never_both second second k k)
   is_equal h (inr (inl same)) = same
   is_equal h (inr (inr is)) =
-      let k = subst (IsBefore second) h (behind is) in
+      let k = subst (IsBefore second) h (later is) in
       absurd (never_both second second k k)
 
 module _ (base : Base) (ruled : IsRuled base) where

@@ -7,12 +7,12 @@ use Rattle.std.specs.List.{AllByRecursion, list_all}
 use Rattle.data_encoding_meaning.specs.declared.encoding.BitOrder.{BitOrder}
 use Rattle.data_encoding_meaning.specs.declared.encoding.BitOrder.TheVariants.{MostSignificantFirst, LeastSignificantFirst}
 use Rattle.data_encoding_meaning.specs.text.Base.{Base}
-use Rattle.data_encoding_meaning.specs.laws.Eighteen.{Yields, ordered_fields, unordered_fields}
+use Rattle.data_encoding_meaning.specs.laws.Eighteen.{Builds, ordered_fields, unordered_fields}
 use Rattle.data_encoding_meaning.specs.specification.Fields.{Fields, base_of}
 use Rattle.data_encoding_meaning.specs.specification.Layout.{order_flag}
 use Rattle.data_encoding_meaning.specs.laws.Order.{IsOrdered}
 use Rattle.data_encoding_meaning.specs.specification.Predefined.{base32_fields, base32_nopad_fields, base32_nopad_nocase_fields, base32_nopad_visual_fields, base32hex_fields, base32_dnscurve_fields, base64_fields, base64_nopad_fields, base64url_fields, base64url_nopad_fields}
-use Rattle.data_encoding_meaning.proofs.judgement.YieldLemmas.{IsOfBase, yields, yields_all}
+use Rattle.data_encoding_meaning.proofs.judgement.BuiltLemmas.{IsOfBase, Builds-by, Builds-all}
 
 -- each is below all that follow
 abbrev ascends : List ℕ → Bool
@@ -50,8 +50,8 @@ is_ordered base h =
       padding_first = λ character padded. absurd (false≢true (sym (ap is_none padded) ∙ both.1));
     }
 
-pub six-ordered : All (Yields IsOrdered) ordered_fields
-six-ordered = yields_all IsOrdered is_ascending (λ base ruled. is_ordered base) ordered_fields refl
+pub six-ordered : All (Builds IsOrdered) ordered_fields
+six-ordered = Builds-all IsOrdered is_ascending (λ base ruled. is_ordered base) ordered_fields refl
 
 -- a symbol that is not below the next
 abbrev Descends : ℕ → Base → Type 0
@@ -60,9 +60,9 @@ Descends index base =
     × (nat_lt (get_or base.symbols index 0) (get_or base.symbols (index + 1) 0) ≡ false)
 
 descends : (index : ℕ) (fields : Fields) → IsOfBase (Descends index) (base_of fields)
-    → Yields (λ base. IsOrdered base → ⊥) fields
+    → Builds (λ base. IsOrdered base → ⊥) fields
 descends index fields h base is ordered =
-    let shown = yields (Descends index) fields h base is in
+    let shown = Builds-by (Descends index) fields h base is in
     let less =
     ordered.ascending index (index + 1) 0 (omega arith) (ltb-true _ _ shown.0) in
     false≢true (sym shown.1 ∙ lt-ltb _ _ less)
@@ -74,21 +74,21 @@ PadsLater base =
     × (get_or base.symbols 0 0 ≡ 48)
 
 padded_later : (fields : Fields) → IsOfBase PadsLater (base_of fields)
-    → Yields (λ base. IsOrdered base → ⊥) fields
+    → Builds (λ base. IsOrdered base → ⊥) fields
 padded_later fields h base is ordered =
-    let shown = yields PadsLater fields h base is in
+    let shown = Builds-by PadsLater fields h base is in
     let below = ordered.padding_first 61 shown.0 0 0 (ltb-true _ _ shown.1) in
     omega (arith, below, shown.2)
 
 least_first : (fields : Fields)
     → IsOfBase (λ base. base.order ≡ LeastSignificantFirst) (base_of fields)
-    → Yields (λ base. IsOrdered base → ⊥) fields
+    → Builds (λ base. IsOrdered base → ⊥) fields
 least_first fields h base is ordered =
-    let least = yields (λ b. b.order ≡ LeastSignificantFirst) fields h base is in
+    let least = Builds-by (λ b. b.order ≡ LeastSignificantFirst) fields h base is in
     let most = ordered.most_significant_first in
     cc
 
-pub ten-not : All (Yields (λ base. IsOrdered base → ⊥)) unordered_fields
+pub ten-not : All (Builds (λ base. IsOrdered base → ⊥)) unordered_fields
 ten-not =
     let one = descends 25 base32_fields (refl, refl) in
     let two = descends 25 base32_nopad_fields (refl, refl) in
@@ -100,5 +100,5 @@ ten-not =
     let eight = descends 51 base64_nopad_fields (refl, refl) in
     let nine = descends 51 base64url_fields (refl, refl) in
     let ten = descends 51 base64url_nopad_fields (refl, refl) in
-    All-from_recursion (Yields (λ base. IsOrdered base → ⊥)) unordered_fields
+    All-from_recursion (Builds (λ base. IsOrdered base → ⊥)) unordered_fields
     (one, (two, (three, (four, (five, (six, (seven, (eight, (nine, (ten, tt))))))))))

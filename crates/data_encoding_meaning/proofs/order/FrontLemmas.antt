@@ -72,10 +72,10 @@ IsBeforeBy n [] ys = n ≤ length ys
 IsBeforeBy n (x ∷ xs) [] = ⊥
 IsBeforeBy n (x ∷ xs) (y ∷ ys) = (x < y) ⊎ ((x ≡ y) × IsBeforeBy n xs ys)
 
-before-behind : (n : ℕ) (same xs ys : List ℕ) → IsBeforeBy n xs ys
+before-after : (n : ℕ) (same xs ys : List ℕ) → IsBeforeBy n xs ys
     → IsBeforeBy n (same ++ xs) (same ++ ys)
-before-behind n [] xs ys h = h
-before-behind n (x ∷ same) xs ys h = inr (refl, before-behind n same xs ys h)
+before-after n [] xs ys h = h
+before-after n (x ∷ same) xs ys h = inr (refl, before-after n same xs ys h)
 
 -- the bits of a number, the last of them apart
 bits_of-last : (count x : ℕ) (xs : List ℕ)
@@ -96,7 +96,7 @@ before-bits n (suc count) x y xs ys h k =
     before-bits n count (x / 2) (y / 2) (x % 2 ∷ xs) (y % 2 ∷ ys) less (omega (arith, below)))
     (λ (more : y / 2 ≤ x / 2).
     let same : y / 2 ≡ x / 2 = omega (arith, h, more) in
-    rw same (before-behind n (bits_of MostSignificantFirst count (x / 2)) (x % 2 ∷ xs) (y % 2 ∷ ys)
+    rw same (before-after n (bits_of MostSignificantFirst count (x / 2)) (x % 2 ∷ xs) (y % 2 ∷ ys)
     (inl (omega (arith, h, same)))))
     (cases_lt (x / 2) (y / 2)))
 
@@ -116,7 +116,7 @@ before-bytes (x ∷ xs) (y ∷ ys) all h =
     (λ (less : x < y). before-bits 8 8 x y bits more less all.0)
     (λ (same : (x ≡ y) × IsBefore xs ys).
     rw (← same.0)
-    (before-behind 8 (bits_of MostSignificantFirst 8 x) bits more
+    (before-after 8 (bits_of MostSignificantFirst 8 x) bits more
     (before-bytes xs ys all.1 same.1)))
     h
 

@@ -23,7 +23,7 @@ use Rattle.data_encoding_meaning.proofs.digits.WidthLemmas.{symbols-few, times_s
 use Rattle.data_encoding_meaning.proofs.lists.EachLemmas.{all-at, list_all-places, none_passes, passes_at}
 use Rattle.data_encoding_meaning.proofs.lists.RepeatLemmas.{get_or-repeats, length-repeats}
 use Rattle.data_encoding_meaning.proofs.judgement.RoundTripLemmas.{IsSpecified-ruled}
-use Rattle.data_encoding_meaning.proofs.judgement.RuleLemmas.{IsRuled, IsRuledPadding, IsRuledWrapping, IsRuled-yield, is_no_padding, is_within}
+use Rattle.data_encoding_meaning.proofs.judgement.RuleLemmas.{IsRuled, IsRuledPadding, IsRuledWrapping, IsRuled-built, is_no_padding, is_within}
 use Rattle.data_encoding_meaning.proofs.tables.EntryLemmas.{apart_test, ignored-is, test_apart}
 use Rattle.data_encoding_meaning.proofs.tables.LayoutLemmas.{codes-back}
 use Rattle.data_encoding_meaning.proofs.tables.ReadingLemmas.{IsReadAs, character-back, code-read, end-read, ends, flags, high-read, is_read_as, long-layout, symbol-read, symbol_table}
@@ -210,7 +210,7 @@ module _ (base : Base) (ruled : IsRuled base) where
 layout-rules : (base : Base) (bytes : List ℕ) → IsSpecified base → layout base ≡ bytes
     → IsLayout bytes
 layout-rules base bytes is same =
-    subst IsLayout same (is_layout base (IsRuled-yield is.fields base is.yields))
+    subst IsLayout same (is_layout base (IsRuled-built is.fields base is.is_built))
 
 entry-is : (n v : ℕ) → (v < n) ⊎ ((128 ≤ v) × (v ≤ 130)) → is_entry_of n v ≡ true
 entry-is n v (inl less) = grind (arith, nat_tests)

@@ -17,7 +17,7 @@ use Rattle.data_encoding_meaning.specs.specification.Fields.{Fields, IsSpecified
 use Rattle.data_encoding_meaning.specs.specification.Layout.{code_of, column_of, layout, order_flag, separator_of, wrapping_bytes}
 use Rattle.data_encoding_meaning.proofs.digits.WidthLemmas.{symbols-few, times_symbols, times-pos}
 use Rattle.data_encoding_meaning.proofs.lists.RepeatLemmas.{length-repeats, take-repeats}
-use Rattle.data_encoding_meaning.proofs.judgement.RuleLemmas.{IsRuled, IsRuledPadding, IsRuledWrapping, IsRuled-yield, is_within}
+use Rattle.data_encoding_meaning.proofs.judgement.RuleLemmas.{IsRuled, IsRuledPadding, IsRuledWrapping, IsRuled-built, is_within}
 use Rattle.data_encoding_meaning.proofs.tables.EntryRuleLemmas.{value-symbol}
 
 abbrev pub flags : ℕ → BitOrder → Bool → Bool → ℕ
@@ -175,13 +175,13 @@ module _ (base : Base) (ruled : IsRuled base) where
       ∙ get_or_append_left (symbol_table base) (codes ++ rest) 0 k
       (omega (arith, h, length-table base ruled))
 
-  behind-table : drop 256 (layout base) ≡ codes ++ rest
-  behind-table =
+  after-table : drop 256 (layout base) ≡ codes ++ rest
+  after-table =
       ap (drop 256) in_parts
       ∙ drop_at (symbol_table base) (codes ++ rest) 256 (length-table base ruled)
 
   codes-read : take 128 (drop 256 (layout base)) ≡ codes
-  codes-read = ap (take 128) behind-table ∙ take_at codes rest 128 long-codes
+  codes-read = ap (take 128) after-table ∙ take_at codes rest 128 long-codes
 
   pub code-read : (byte : ℕ) → byte < 128
       → get_or (layout base) (256 + byte) 0 ≡ code_of (meaning base byte)
@@ -193,7 +193,7 @@ module _ (base : Base) (ruled : IsRuled base) where
 
   pub high-read : (k : ℕ) → 128 ≤ k → k < 256 → get_or (layout base) (256 + k) 0 ≡ 128
   high-read k from to =
-      sym (get_or-drop 256 (layout base) k 0) ∙ ap (λ l. get_or l k 0) behind-table
+      sym (get_or-drop 256 (layout base) k 0) ∙ ap (λ l. get_or l k 0) after-table
       ∙ get_or-append_right codes rest 128 k 0 long-codes from
       ∙ get_or_append_left (replicate 128 128) (ends base) 0 (k - 128)
       (omega (arith, length-replicate {A = ℕ} 128 128))
@@ -241,17 +241,17 @@ module _ (base : Base) (ruled : IsRuled base) where
 pub read-layout : (base : Base) (bytes : List ℕ) → IsSpecified base → layout base ≡ bytes
     → IsReadAs base bytes
 read-layout base bytes is same =
-    subst (IsReadAs base) same (is_read_as base (IsRuled-yield is.fields base is.yields))
+    subst (IsReadAs base) same (is_read_as base (IsRuled-built is.fields base is.is_built))
 
 -- what is built from fields is the base that they have
 pub built-is : (r : Result Base Refusal) (fields : Fields) (base : Base)
     → base_of fields ≡ Ok base → IfOk r (λ b. base_of fields ≡ Ok b)
     → IfErr r (λ refusal. base_of fields ≡ Err refusal) → result_ok r ≡ Some base
-built-is (Ok b) fields base has yields refused =
+built-is (Ok b) fields base has is_built refused =
     let same : b ≡ base = cc in ap (λ n. Some n) same
-built-is (Err refusal) fields base has yields refused = cc
+built-is (Err refusal) fields base has is_built refused = cc
 
 pub built-specified : (r : Result Base Refusal) (fields : Fields)
     → IfOk r (λ b. base_of fields ≡ Ok b) → IfSome (result_ok r) IsSpecified
-built-specified (Ok b) fields yields = record { fields = fields; yields = yields }
-built-specified (Err refusal) fields yields = tt
+built-specified (Ok b) fields is_built = record { fields = fields; is_built = is_built }
+built-specified (Err refusal) fields is_built = tt

@@ -10,14 +10,14 @@ use Rattle.data_encoding_meaning.specs.specification.OneLayout.{IsLayout, Layout
 use Rattle.data_encoding_meaning.specs.specification.Predefined.{base32_dnssec_fields, base64_fields, base64_mime_fields, base64url_fields}
 use Rattle.data_encoding_meaning.specs.laws.SameMeaning.{OwnForm, OwnForms, OwnText, SameButSymbols, SameKeptBytes, Translated, exchanged}
 use Rattle.data_encoding_meaning.proofs.vectors.Examples.{built}
-use Rattle.data_encoding_meaning.proofs.vectors.Laws.{is_yielded}
+use Rattle.data_encoding_meaning.proofs.vectors.Laws.{is_specified}
 
 -- LF among the characters changes nothing
 lines_alike : SameKeptBytes → (bytes : List ℕ)
     → Means (built base64_mime_fields) (codes "SG" ++ 10 ∷ codes "Vs") bytes
     → Means (built base64_mime_fields) (codes "SGVs") bytes
 lines_alike law bytes =
-    law (built base64_mime_fields) (is_yielded base64_mime_fields refl)
+    law (built base64_mime_fields) (is_specified base64_mime_fields refl)
     (codes "SG" ++ 10 ∷ codes "Vs") (codes "SGVs") bytes refl
 
 -- names of DNSSEC in either case: the fault, what is meant, and the own form
@@ -28,7 +28,7 @@ case_alike : Translated
     → Means (built base32_dnssec_fields) (codes "co") bytes)
 case_alike law =
     let base = built base32_dnssec_fields in
-    let is = is_yielded base32_dnssec_fields refl in (
+    let is = is_specified base32_dnssec_fields refl in (
       (law base is (codes "CPNM!") (codes "cpnm!") refl).0,
       (law base is (codes "CO") (codes "co") refl).1,
     )
@@ -37,7 +37,7 @@ own_form_told : OwnForm
     → map (meaning (built base32_dnssec_fields)) (codes "0P9mWw")
     ≡ map (meaning (built base32_dnssec_fields)) (codes "0p9mWw")
 own_form_told law =
-    law (built base32_dnssec_fields) (is_yielded base32_dnssec_fields refl) (codes "0P9mWw")
+    law (built base32_dnssec_fields) (is_specified base32_dnssec_fields refl) (codes "0P9mWw")
 
 -- `CO` and `co` mean the same, and `CO` and `cs` do not; `co` is the text of what `CO` means
 own_forms_told : OwnForms → (bytes others : List ℕ)
@@ -46,7 +46,7 @@ own_forms_told : OwnForms → (bytes others : List ℕ)
     × (Means (built base32_dnssec_fields) (codes "cs") others → bytes ≡ others → ⊥)
 own_forms_told law bytes others means =
     let base = built base32_dnssec_fields in
-    let is = is_yielded base32_dnssec_fields refl in (
+    let is = is_specified base32_dnssec_fields refl in (
       (λ other. (law base is refl (codes "CO") (codes "co") bytes others means other).1 refl),
       (λ other same.
           let last : 111 ≡ 115 = ap (λ l. get_or l 1 0)
@@ -58,7 +58,8 @@ own_text_told : OwnText → (bytes : List ℕ)
     → Means (built base32_dnssec_fields) (codes "CO") bytes
     → codes "co" ≡ text_of (built base32_dnssec_fields) bytes
 own_text_told law bytes means =
-    law (built base32_dnssec_fields) (is_yielded base32_dnssec_fields refl) refl (codes "CO") bytes
+    law (built base32_dnssec_fields) (is_specified base32_dnssec_fields refl) refl
+    (codes "CO") bytes
     means
 
 -- the text of data in base64url, by that in base64
@@ -66,14 +67,14 @@ symbols_exchanged : SameButSymbols → (bytes : List ℕ) → text_of (built bas
     ≡ map (exchanged (built base64_fields) (built base64url_fields))
     (text_of (built base64_fields) bytes)
 symbols_exchanged law bytes =
-    law (built base64_fields) (built base64url_fields) (is_yielded base64_fields refl)
+    law (built base64_fields) (built base64url_fields) (is_specified base64_fields refl)
     (record { width = refl; order = refl; padded = refl; wrapping = refl }) bytes
 
 -- a base with the layout of base64 is that of base64
 layout_is_one : OneLayout → (base : Base) → IsSpecified base
     → layout base ≡ layout (built base64_fields) → base ≡ built base64_fields
 layout_is_one law base is same =
-    law base (built base64_fields) is (is_yielded base64_fields refl) same
+    law base (built base64_fields) is (is_specified base64_fields refl) same
 
 -- the layout of BASE64_MIME is one, and each that is one has a base
 layouts_told : Layouts → IsLayout (layout (built base64_mime_fields))
@@ -81,6 +82,6 @@ layouts_told : Layouts → IsLayout (layout (built base64_mime_fields))
     → (base : Base) × IsSpecified base × (layout base ≡ bytes))
 layouts_told law = (
   (law (layout (built base64_mime_fields))).0
-      (built base64_mime_fields, is_yielded base64_mime_fields refl, refl),
+      (built base64_mime_fields, is_specified base64_mime_fields refl, refl),
   λ bytes rules. (law bytes).1 rules,
 )

@@ -3,11 +3,11 @@ use Rattle.std.proofs.Common.{◌≡◌, ℕ, true, false, List, [], ◌∷◌, 
 use Rattle.data_encoding_meaning.specs.text.Base.{Base}
 use Rattle.data_encoding_meaning.specs.laws.Canonical.{has_one_text}
 use Rattle.data_encoding_meaning.specs.laws.Compared.{CompareAlike}
-use Rattle.data_encoding_meaning.specs.laws.Eighteen.{Yields, canonical_fields, second_text_fields, ordered_fields, unordered_fields}
+use Rattle.data_encoding_meaning.specs.laws.Eighteen.{Builds, canonical_fields, second_text_fields, ordered_fields, unordered_fields}
 use Rattle.data_encoding_meaning.specs.laws.Order.{BreaksOrder, IsBefore, IsBroken, KeepsOrder}
 use Rattle.data_encoding_meaning.specs.specification.Predefined.{base32_dnscurve_fields, base64_nopad_fields, hexlower_fields, padded_fields}
 use Rattle.data_encoding_meaning.specs.text.Text.{text_of}
-use Rattle.data_encoding_meaning.proofs.judgement.YieldLemmas.{yields}
+use Rattle.data_encoding_meaning.proofs.judgement.BuiltLemmas.{Builds-by}
 use Rattle.data_encoding_meaning.proofs.vectors.Examples.{Has, built, by, octal_fields}
 
 -- of the eighteen, by the test of causes; sixteen have no lines
@@ -18,8 +18,8 @@ eighteen_told :
     ≡ replicate 16 (Some false))
 eighteen_told = (refl, refl, refl)
 
-width_yielded : Yields (λ base. base.width ≡ 4) hexlower_fields
-width_yielded = yields (λ base. base.width ≡ 4) hexlower_fields refl
+width_built : Builds (λ base. base.width ≡ 4) hexlower_fields
+width_built = Builds-by (λ base. base.width ≡ 4) hexlower_fields refl
 
 -- `J` is before `k`, and `4a` before `6b`
 letters_compared :

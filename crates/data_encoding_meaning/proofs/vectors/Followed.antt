@@ -7,7 +7,7 @@ use Rattle.data_encoding_meaning.specs.declared.encoding.Character.{Character}
 use Rattle.data_encoding_meaning.specs.declared.encoding.Character.TheVariants.{Padding, Symbol}
 use Rattle.data_encoding_meaning.specs.text.Base.{Base, IsGroup, is_padding, meaning}
 use Rattle.data_encoding_meaning.specs.text.Bits.{bits_of, bits_of_bytes}
-use Rattle.data_encoding_meaning.specs.text.Fragments.{HasEncoded}
+use Rattle.data_encoding_meaning.specs.text.EncodedPieces.{HasEncoded}
 use Rattle.data_encoding_meaning.specs.text.Grammar.{GroupMeans, GroupsMean, Means, PlainMeans}
 use Rattle.data_encoding_meaning.specs.text.Text.{text_of}
 use Rattle.data_encoding_meaning.specs.specification.Entries.{HoldsEntries}
@@ -144,7 +144,7 @@ some_same one other same = cc
 -- a base that is built from the fields of hexadecimal is that of hexadecimal
 specified_told : (base : Base) → (is : IsSpecified base) → is.fields ≡ hexlower_fields
     → base_of hexlower_fields ≡ Ok base
-specified_told base is same = ap base_of (sym same) ∙ is.yields
+specified_told base is same = ap base_of (sym same) ∙ is.is_built
 
 -- and the base of the name `BASE64`, or of the number 12, is that of base64; 18 has none
 named_told : (base : Base) → (IsNamed (codes "BASE64") base → base_of base64_fields ≡ Ok base)

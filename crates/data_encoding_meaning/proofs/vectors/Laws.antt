@@ -29,8 +29,9 @@ abbrev at : DecodeKind → ℕ → DecodeError
 at kind position = record { position = position; kind = kind }
 
 -- what is built from some fields
-pub is_yielded : (fields : Fields) → base_of fields ≡ Ok (built fields) → IsSpecified (built fields)
-is_yielded fields yields = record { fields = fields; yields = yields }
+pub is_specified : (fields : Fields) → base_of fields ≡ Ok (built fields) → IsSpecified
+    (built fields)
+is_specified fields is_built = record { fields = fields; is_built = is_built }
 
 -- two keys, of which one is longer
 keys_differ : Injective → (base : Base) → IsSpecified base
@@ -45,20 +46,20 @@ keys_differ law base is same =
 lengths_told : LengthOfText → (text : List ℕ)
     → Means (built hexlower_permissive_fields) text (74 ∷ 107 ∷ []) → length text ≡ 4
 lengths_told law text means =
-    law (built hexlower_permissive_fields) (is_yielded hexlower_permissive_fields refl) refl refl
+    law (built hexlower_permissive_fields) (is_specified hexlower_permissive_fields refl) refl refl
     text (74 ∷ 107 ∷ []) (0 ∷ 0 ∷ []) means refl
 
 -- the fault of a whole group, with an unfinished one after it, and what follows
 fault_stayed : GroupFaultStays
     → fault_of (built base64_nopad_fields) (codes "SG!sQ" ++ codes "UI") ≡ Some (at Symbol 2)
 fault_stayed law =
-    law (built base64_nopad_fields) (is_yielded base64_nopad_fields refl) (codes "SG!sQ")
+    law (built base64_nopad_fields) (is_specified base64_nopad_fields refl) (codes "SG!sQ")
     (codes "UI") (at Symbol 2) refl refl
 
 text_fault_stayed : FaultStays
     → fault_of (built base64_nopad_fields) (codes "SG!s" ++ codes "QUI") ≡ Some (at Symbol 2)
 text_fault_stayed law =
-    law (built base64_nopad_fields) (is_yielded base64_nopad_fields refl) (codes "SG!s")
+    law (built base64_nopad_fields) (is_specified base64_nopad_fields refl) (codes "SG!s")
     (codes "QUI") (at Symbol 2) refl refl refl
 
 -- after a sound group, any fault is further on
@@ -66,7 +67,8 @@ none_before : NoFaultBefore → (after : List ℕ) (error : DecodeError)
     → fault_of (built base64_nopad_fields) (codes "SGVs" ++ after) ≡ Some error
     → 4 ≤ error.position
 none_before law after error =
-    law (built base64_nopad_fields) (is_yielded base64_nopad_fields refl) (codes "SGVs") after error
+    law (built base64_nopad_fields) (is_specified base64_nopad_fields refl)
+    (codes "SGVs") after error
     refl refl
 
 -- an encoding without lines that keeps order has the most significant bit first
@@ -77,7 +79,8 @@ order_told law base is unwrapped keeps = ((law base is unwrapped).1 keeps).most_
 -- and base64 does not: of `zA` and `0A` the second is before the first
 broken_told : NoOrder → BreaksOrder (built base64_nopad_fields) (204 ∷ []) (208 ∷ [])
 broken_told law =
-    (law (built base64_nopad_fields) (is_yielded base64_nopad_fields refl) refl).descending refl 51
+    (law (built base64_nopad_fields) (is_specified base64_nopad_fields refl) refl).descending
+    refl 51
     (lit< tt) (lit< tt)
 
 -- each cause of a second text
@@ -93,12 +96,12 @@ second_texts law =
     let tilde = translated_fields single_fields (codes "~") (codes "=") in
     let unchecked_fields = unchecked base64_nopad_fields in
     let lower = hexlower_permissive_fields in (
-      (law (built base64_mime_fields) (is_yielded base64_mime_fields refl)).0 10 refl,
-      (law (built unchecked_fields) (is_yielded unchecked_fields refl)).1 refl,
-      (law (built base64_fields) (is_yielded base64_fields refl)).2 refl refl,
-      (law (built lower) (is_yielded lower refl)).3 65 10 refl
+      (law (built base64_mime_fields) (is_specified base64_mime_fields refl)).0 10 refl,
+      (law (built unchecked_fields) (is_specified unchecked_fields refl)).1 refl,
+      (law (built base64_fields) (is_specified base64_fields refl)).2 refl refl,
+      (law (built lower) (is_specified lower refl)).3 65 10 refl
           (λ same. let no : 97 ≡ 65 = same in omega (arith, no)),
-      (law (built tilde) (is_yielded tilde refl)).4 126 61 refl refl
+      (law (built tilde) (is_specified tilde refl)).4 126 61 refl refl
           (λ same. let no : 61 ≡ 126 = same in omega (arith, no)),
     )
 
@@ -111,12 +114,13 @@ told_of_text : FaultTold → SymbolTold → TrailingTold → WholeTold
     × (fault_of (built hexlower_fields) (codes "4G4g") ≡ Some (at Symbol 1))
 told_of_text told symbol trailing whole =
     let base = built base64_nopad_fields in
-    let is = is_yielded base64_nopad_fields refl in
+    let is = is_specified base64_nopad_fields refl in
     let some : (a b : ℕ) → Some a ≡ Some b → b ≡ a = λ a b h. cc in (
       told base is refl refl (codes "SGVsQR") refl,
       (λ index h. some 3 index ((symbol base is refl refl (codes "SGV!Q!") refl index).0 h)),
       (trailing base is refl refl (codes "SGVsQR") refl 5).1 (refl, refl, refl),
-      whole (built hexlower_fields) (is_yielded hexlower_fields refl) refl refl (codes "4G4g") refl,
+      whole (built hexlower_fields) (is_specified hexlower_fields refl) refl refl
+          (codes "4G4g") refl,
     )
 
 -- the other way round: a first byte that is no symbol is the fault, and trailing bits are one only
@@ -129,7 +133,7 @@ told_back : SymbolTold → TrailingTold
     × (leaves_bits (built base64_nopad_fields) text ≡ true) × (index + 1 ≡ length text))
 told_back symbol trailing =
     let base = built base64_nopad_fields in
-    let is = is_yielded base64_nopad_fields refl in (
+    let is = is_specified base64_nopad_fields refl in (
       (symbol base is refl refl (codes "SGV!Q!") refl 3).1 refl,
       (λ text valid index. (trailing base is refl refl text valid index).0),
     )
@@ -155,8 +159,8 @@ exchanged_told : MeansExchanged → FaultExchanged → SameInBoth → (bytes : L
 exchanged_told means fault both bytes meant =
     let one = built base64_fields in
     let url = built base64url_fields in
-    let is = is_yielded base64_fields refl in
-    let also = is_yielded base64url_fields refl in
+    let is = is_specified base64_fields refl in
+    let also = is_specified base64url_fields refl in
     let stays = λ (byte : ℕ).
     is_invalid (meaning one byte) ≡ true → is_invalid (meaning url byte) ≡ true in (
       means one url is also base64_and_url (codes "+A==+A==") bytes meant,

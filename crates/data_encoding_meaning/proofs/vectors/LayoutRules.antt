@@ -21,7 +21,7 @@ layout_ruled =
     let bytes = layout (built base64_mime_fields) in
     let rules : IsLayoutOf 6 bytes =
     (layouts bytes).0
-    (built base64_mime_fields, record { fields = base64_mime_fields; yields = refl }, refl)
+    (built base64_mime_fields, record { fields = base64_mime_fields; is_built = refl }, refl)
     in (
       refl,
       (lit< tt, refl),

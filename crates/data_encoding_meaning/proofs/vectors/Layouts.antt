@@ -227,7 +227,7 @@ layout_flags = (refl, refl)
 
 -- each of the eighteen is built from its specification
 built_from_fields : Has hexlower_fields IsSpecified
-built_from_fields = record { fields = hexlower_fields; yields = refl }
+built_from_fields = record { fields = hexlower_fields; is_built = refl }
 
 kinds_printed : map printed_kind (Length ∷ Symbol ∷ Trailing ∷ Padding ∷ [])
     ≡ codes "invalid length" ∷ codes "invalid symbol" ∷ codes "non-zero trailing bits"

@@ -22,7 +22,7 @@ use Rattle.data_encoding_meaning.proofs.grammar.MeaningLemmas.{Means-no_fault, f
 use Rattle.data_encoding_meaning.proofs.grammar.UnpaddedGrammarLemmas.{unpadded-Means}
 use Rattle.data_encoding_meaning.proofs.order.OrderPairLemmas.{IsBroken-ruled}
 use Rattle.data_encoding_meaning.proofs.order.TextOrderLemmas.{KeepsOrder-ordered}
-use Rattle.data_encoding_meaning.proofs.judgement.RuleLemmas.{IsRuled-yield}
+use Rattle.data_encoding_meaning.proofs.judgement.RuleLemmas.{IsRuled-built}
 use Rattle.data_encoding_meaning.proofs.text.BlockLemmas.{IsBlockLength-group, IsBlockLength-line}
 use Rattle.data_encoding_meaning.proofs.canonicity.ConcatenatedTextLemmas.{concatenated-second}
 use Rattle.data_encoding_meaning.proofs.canonicity.IgnoredTextLemmas.{ignored-second}
@@ -185,13 +185,13 @@ causes_of_texts :
     × Has (translated_fields single_fields (codes "~") (codes "=")) PaddingIsSecond
 causes_of_texts =
     let lines : Base = built base64_mime_permissive_fields in
-    let ruled = IsRuled-yield base64_mime_permissive_fields lines refl in
+    let ruled = IsRuled-built base64_mime_permissive_fields lines refl in
     let letters : Base = built hexlower_permissive_fields in
     let translates = translated_fields single_fields (codes "~") (codes "=") in
     let tilde : Base = built translates in (
       (ignored-second lines ruled, trailing-second lines ruled, concatenated-second lines ruled),
-      symbol-second letters (IsRuled-yield hexlower_permissive_fields letters refl),
-      padding-second tilde (IsRuled-yield translates tilde refl),
+      symbol-second letters (IsRuled-built hexlower_permissive_fields letters refl),
+      padding-second tilde (IsRuled-built translates tilde refl),
     )
 
 -- how the texts of such pairs are made
@@ -206,7 +206,7 @@ canonical_or_not :
     Has hexlower_fields IsCanonical × Has base64_fields (λ base. IsCanonical base → ⊥)
 canonical_or_not = (
   λ text other found short other_is_short means other_means.
-      let ruled = IsRuled-yield hexlower_fields _ refl in
+      let ruled = IsRuled-built hexlower_fields _ refl in
       Means-text_of_only _ ruled refl text found means
       ∙ sym (Means-text_of_only _ ruled refl other found other_means),
   λ canonical.
@@ -238,7 +238,7 @@ resumed_text :
     Resumes base (codes "SGVs" ++ 13 ∷ 10 ∷ codes "bG") (codes "8=" ++ 13 ∷ 10 ∷ []) 4
     (codes "Hel"))
 resumed_text =
-    resumed _ (IsRuled-yield base64_mime_fields _ refl) _ _ _ refl refl (inl (refl, inl refl))
+    resumed _ (IsRuled-built base64_mime_fields _ refl) _ _ _ refl refl (inl (refl, inl refl))
 
 -- how far a decoding got, and what it wrote
 stopped_text :
@@ -279,13 +279,13 @@ order_kept =
     } in (
       ordered,
       KeepsOrder-ordered (built (unpadded_fields (codes "01")))
-          (IsRuled-yield (unpadded_fields (codes "01")) _ refl) refl ordered,
+          (IsRuled-built (unpadded_fields (codes "01")) _ refl) refl ordered,
     )
 
 -- base64 does not: the text of 204 is `zA==`, and that of 208 is `0A==`
 order_broken : Has base64_fields (λ base. BreaksOrder base (204 ∷ []) (208 ∷ []))
 order_broken =
-    (IsBroken-ruled (built base64_fields) (IsRuled-yield base64_fields _ refl) refl).descending
+    (IsBroken-ruled (built base64_fields) (IsRuled-built base64_fields _ refl) refl).descending
     refl 51 (lit< tt) (lit< tt)
 
 -- a group of base64 text, and a line of 76 with its separator
@@ -293,8 +293,8 @@ block_lengths :
     Has base64_fields (λ base. IsBlockLength base 4)
     × Has base64_mime_fields (λ base. IsBlockLength base 78)
 block_lengths = (
-  IsBlockLength-group _ (IsRuled-yield base64_fields _ refl) refl,
-  IsBlockLength-line _ (IsRuled-yield base64_mime_fields _ refl) _ refl,
+  IsBlockLength-group _ (IsRuled-built base64_fields _ refl) refl,
+  IsBlockLength-line _ (IsRuled-built base64_mime_fields _ refl) _ refl,
 )
 
 -- what is kept of `SGVsbG` CR LF, of which `Hel` was decoded

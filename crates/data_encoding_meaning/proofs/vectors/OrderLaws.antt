@@ -11,21 +11,21 @@ use Rattle.data_encoding_meaning.specs.laws.Eighteen.{CanonicalByCauses, SixAreC
 use Rattle.data_encoding_meaning.specs.laws.Laws.{Order}
 use Rattle.data_encoding_meaning.specs.laws.Order.{IsOrdered, KeepsOrder}
 use Rattle.data_encoding_meaning.proofs.vectors.Examples.{built}
-use Rattle.data_encoding_meaning.proofs.vectors.Laws.{is_yielded}
+use Rattle.data_encoding_meaning.proofs.vectors.Laws.{is_specified}
 
 -- a text of hexadecimal that means `J` is `4a`
 canonical_told : Canonical → (text : List ℕ) → Means (built hexlower_fields) text (codes "J")
     → text ≡ codes "4a"
 canonical_told law text means =
-    law (built hexlower_fields) (is_yielded hexlower_fields refl) refl text (codes "J") means
+    law (built hexlower_fields) (is_specified hexlower_fields refl) refl text (codes "J") means
 
 -- hexadecimal has no cause of a second text, and base64 has one
 causes_told : CanonicalByCauses
     → IsCanonical (built hexlower_fields) × (IsCanonical (built base64_fields) → ⊥)
 causes_told law = (
-  (law (built hexlower_fields) (is_yielded hexlower_fields refl)).0 refl,
+  (law (built hexlower_fields) (is_specified hexlower_fields refl)).0 refl,
   λ canonical. false≢true
-      ((law (built base64_fields) (is_yielded base64_fields refl)).1 canonical),
+      ((law (built base64_fields) (is_specified base64_fields refl)).1 canonical),
 )
 
 -- which six are canonical
@@ -108,13 +108,13 @@ ordered_others law = (
 -- if it is ordered a base keeps the order, as `order_told` has it the other way round
 ordered_keeps : Order → IsOrdered (built hexlower_fields) → KeepsOrder (built hexlower_fields)
 ordered_keeps law =
-    (law (built hexlower_fields) (is_yielded hexlower_fields refl) refl).0
+    (law (built hexlower_fields) (is_specified hexlower_fields refl) refl).0
 
 -- hexadecimal `J` and `k`: they compare as `4a` and `6b`
 data_compared : OrderOfData → IsOrdered (built hexlower_fields)
     → CompareAlike (codes "J") (codes "k") (codes "4a") (codes "6b")
 data_compared law ordered =
-    law (built hexlower_fields) (is_yielded hexlower_fields refl) refl ordered (codes "J")
+    law (built hexlower_fields) (is_specified hexlower_fields refl) refl ordered (codes "J")
     (codes "k") (All-from_recursion (λ byte. byte < 256) (codes "J") (lit< tt, tt))
     (All-from_recursion (λ byte. byte < 256) (codes "k") (lit< tt, tt))
 
@@ -125,5 +125,5 @@ texts_compared : OrderOfTexts → IsCanonical (built hexlower_fields)
     → Means (built hexlower_fields) (codes "6b") others
     → CompareAlike bytes others (codes "4a") (codes "6b")
 texts_compared law canonical ordered =
-    law (built hexlower_fields) (is_yielded hexlower_fields refl) canonical ordered (codes "4a")
+    law (built hexlower_fields) (is_specified hexlower_fields refl) canonical ordered (codes "4a")
     (codes "6b")

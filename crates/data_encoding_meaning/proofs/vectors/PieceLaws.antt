@@ -14,7 +14,7 @@ use Rattle.data_encoding_meaning.specs.decoding.Pieces.{AreWhole, CountsGroups, 
 use Rattle.data_encoding_meaning.specs.specification.Fields.{IsSpecified}
 use Rattle.data_encoding_meaning.specs.specification.Predefined.{base64_fields, base64_mime_fields, base64_nopad_fields, hexlower_fields}
 use Rattle.data_encoding_meaning.proofs.vectors.Examples.{built, nopad_ignoring_lf_fields, single_fields}
-use Rattle.data_encoding_meaning.proofs.vectors.Laws.{is_yielded}
+use Rattle.data_encoding_meaning.proofs.vectors.Laws.{is_specified}
 
 abbrev lines : Base
 lines = built base64_mime_fields
@@ -31,7 +31,7 @@ abbrev HoldsNone : List ℕ → ℕ → Option DecodeError → Type 0
 HoldsNone text len fault = HasRead lines text len fault [] false
 
 nothing_read : ReadsNothing → HoldsNone [] 0 None × (whole_bytes lines [] ≡ [])
-nothing_read law = law lines (is_yielded base64_mime_fields refl)
+nothing_read law = law lines (is_specified base64_mime_fields refl)
 
 abbrev eight_and_lf : List ℕ
 eight_and_lf = 56 ∷ 10 ∷ []
@@ -42,14 +42,14 @@ piece_held : HoldsPiece → (text : List ℕ) → HoldsTwo text
     (positioned_from 4 (codes "bG") ++ positioned_from 8 (codes "8")) false
     × (whole_bytes lines (text ++ eight_and_lf) ≡ whole_bytes lines text)
 piece_held law text read =
-    law lines (is_yielded base64_mime_fields refl) text eight_and_lf 8
+    law lines (is_specified base64_mime_fields refl) text eight_and_lf 8
     (positioned_from 4 (codes "bG")) false read (lit< tt)
 
 group_read : ReadsGroup → (text : List ℕ) → HoldsTwo text
     → HoldsNone (text ++ codes "8=") 10 None
     × (whole_bytes lines (text ++ codes "8=") ≡ whole_bytes lines text ++ codes "lo")
 group_read law text read =
-    law lines (is_yielded base64_mime_fields refl) text (codes "8=") 8
+    law lines (is_specified base64_mime_fields refl) text (codes "8=") 8
     (positioned_from 4 (codes "bG"))
     (positioned_from 4 (codes "bG") ++ positioned_from 8 (codes "8=")) false read refl refl
 
@@ -58,18 +58,18 @@ fault_kept : KeepsFault → (text : List ℕ) → HoldsNone text 8 (at Symbol 5)
     → HoldsNone (text ++ codes "8=") 10 (at Symbol 5)
     × (whole_bytes lines (text ++ codes "8=") ≡ whole_bytes lines text)
 fault_kept law text read =
-    law lines (is_yielded base64_mime_fields refl) text (codes "8=") 8
+    law lines (is_specified base64_mime_fields refl) text (codes "8=") 8
     (record { position = 5; kind = Symbol }) [] [] false false read
 
 bytes_kept : KeepsBytes → (piece : List ℕ)
     → (more : List ℕ) × (whole_bytes lines (codes "SGVs" ++ piece) ≡ codes "Hel" ++ more)
-bytes_kept law piece = law lines (is_yielded base64_mime_fields refl) (codes "SGVs") piece
+bytes_kept law piece = law lines (is_specified base64_mime_fields refl) (codes "SGVs") piece
 
 -- a text that ends there has a fault of its length; without padding its bytes are decoded
 fault_of_held : TellsFault → (text : List ℕ) → HoldsTwo text
     → fault_of lines text ≡ at LengthFault 4
 fault_of_held law text read =
-    law lines (is_yielded base64_mime_fields refl) text 8 None (positioned_from 4 (codes "bG"))
+    law lines (is_specified base64_mime_fields refl) text 8 None (positioned_from 4 (codes "bG"))
     false read
 
 bytes_of_held : TellsBytes → (text : List ℕ)
@@ -77,7 +77,7 @@ bytes_of_held : TellsBytes → (text : List ℕ)
     → sound_bytes (built base64_nopad_fields) text
     ≡ whole_bytes (built base64_nopad_fields) text ++ codes "l"
 bytes_of_held law text read =
-    law (built base64_nopad_fields) (is_yielded base64_nopad_fields refl) text 6 None
+    law (built base64_nopad_fields) (is_specified base64_nopad_fields refl) text 6 None
     (positioned_from 4 (codes "bA")) false read
 
 -- a group with a fault, and one without
@@ -86,7 +86,7 @@ groups_judged : JudgesGroup
     × (bytes_of_group lines (positioned_from 4 (codes "bG8=")) ≡ codes "lo")
 groups_judged law =
     let kept_one = λ (k : Positioned). is_ignored (meaning lines k.byte) ≡ false in
-    let is = is_yielded base64_mime_fields refl in
+    let is = is_specified base64_mime_fields refl in
     let faulty = positioned_from 4 (codes "b!8=") in
     let sound = positioned_from 4 (codes "bG8=") in (
       (law lines is faulty (All-from_recursion kept_one faulty (refl, (refl, (refl, (refl, tt)))))
@@ -101,14 +101,14 @@ sound_read : ReadsSound → (text bytes : List ℕ) → HoldsNone text 8 None
     → HoldsNone (text ++ codes "SGVs") 12 None
     × (whole_bytes lines (text ++ codes "SGVs") ≡ whole_bytes lines text ++ bytes)
 sound_read law text bytes read means =
-    law lines (is_yielded base64_mime_fields refl) text (codes "SGVs") bytes 8 read means refl
+    law lines (is_specified base64_mime_fields refl) text (codes "SGVs") bytes 8 read means refl
 
 faulty_read : ReadsFaulty → (text bytes : List ℕ) → HoldsNone text 8 None
     → Means lines (codes "SGVs") bytes
     → HoldsNone (text ++ codes "SGVs!G8=") 16 (at Symbol 12)
     × (whole_bytes lines (text ++ codes "SGVs!G8=") ≡ whole_bytes lines text ++ bytes)
 faulty_read law text bytes read means =
-    law lines (is_yielded base64_mime_fields refl) text (codes "SGVs!G8=") bytes 8
+    law lines (is_specified base64_mime_fields refl) text (codes "SGVs!G8=") bytes 8
     (record { read = 4; written = 3; error = record { position = 4; kind = Symbol } })
     read refl (record { not_length = refl; joins = refl; whole = inr refl }) means
 
@@ -123,16 +123,17 @@ wholes_told : AreWhole
     × ((bytes : List ℕ) → Means (built base64_nopad_fields) (codes "SGVs") bytes
     → IsWhole (built base64_nopad_fields) (codes "SGVs") 4)
 wholes_told law = (
-  λ text bytes means. law lines (is_yielded base64_mime_fields refl) text bytes means (inl refl),
-  λ text bytes means. law (built hexlower_fields) (is_yielded hexlower_fields refl) text bytes means
+  λ text bytes means. law lines (is_specified base64_mime_fields refl) text bytes means (inl refl),
+  λ text bytes means. law (built hexlower_fields)
+      (is_specified hexlower_fields refl) text bytes means
       (inr (inl refl)),
-  λ bytes means. law (built base64_nopad_fields) (is_yielded base64_nopad_fields refl)
+  λ bytes means. law (built base64_nopad_fields) (is_specified base64_nopad_fields refl)
       (codes "SGVs") bytes means (inr (inr (refl, refl))),
 )
 
 groups_counted : CountsGroups → (count : ℕ)
     → decoded_len (built base64_fields) (count * 4) ≡ Ok (count * 3)
-groups_counted law count = law (built base64_fields) (is_yielded base64_fields refl) count
+groups_counted law count = law (built base64_fields) (is_specified base64_fields refl) count
 
 -- base64 ignores no byte
 each_kept : KeepsEach
@@ -161,17 +162,17 @@ ends_told : TellsEnd → (text : List ℕ)
     × (Means (built base64_fields) text (codes "A") → HasFinal (built base64_fields) text false)
 ends_told law text =
     let base = built single_fields in
-    let is = is_yielded single_fields refl in (
+    let is = is_specified single_fields refl in (
       law base is text (codes "A"),
       law base is text (codes "Hel"),
-      law (built base64_fields) (is_yielded base64_fields refl) text (codes "A"),
+      law (built base64_fields) (is_specified base64_fields refl) text (codes "A"),
     )
 
 three_are_whole : MeansWhole → (text : List ℕ)
     → Means (built base64_nopad_fields) text (codes "Hel")
     → IsWhole (built base64_nopad_fields) text 4
 three_are_whole law text means =
-    law (built base64_nopad_fields) (is_yielded base64_nopad_fields refl) text (codes "Hel") means
+    law (built base64_nopad_fields) (is_specified base64_nopad_fields refl) text (codes "Hel") means
     refl
 
 -- what is kept of `SGVsbG` CR LF, and what was appended

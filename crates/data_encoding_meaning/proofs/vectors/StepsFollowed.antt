@@ -26,7 +26,7 @@ lines = built base64_mime_fields
 abbrev loose : Base
 loose = built nopad_ignoring_lf_fields
 
--- four bytes of `QUJD!` are `ABC`, and the group is not final; no text is read behind its end
+-- four bytes of `QUJD!` are `ABC`, and the group is not final; no text is read past its end
 front_told : (written : ℕ) (ended : Bool) (output : List ℕ)
     → HasDecodedTo plain (codes "QUJD!") 4 written ended output
     → (ended ≡ false) × (written ≤ length output) × (take written output ≡ codes "ABC")
@@ -74,7 +74,7 @@ symbols_told = (
   λ group has. has.fault_is,
 )
 
--- the group of `SG` LF `Vs`; none ends with LF, reads behind the end, has five bytes, or two if
+-- the group of `SG` LF `Vs`; none ends with LF, reads past the end, has five bytes, or two if
 -- there are four
 gathered_told :
     ((bytes : List ℕ) → IsGathered lines 4 (codes "SG" ++ 10 ∷ codes "Vs") bytes 5

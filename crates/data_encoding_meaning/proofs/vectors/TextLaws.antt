@@ -14,16 +14,16 @@ use Rattle.data_encoding_meaning.specs.laws.Laws.{JoinDecode, JoinEncode, JoinFa
 use Rattle.data_encoding_meaning.specs.laws.Tight.{LengthAgain, MeansMost}
 use Rattle.data_encoding_meaning.specs.laws.Verdicts.{FixedLength, MeansSound}
 use Rattle.data_encoding_meaning.proofs.vectors.Examples.{built, single_fields}
-use Rattle.data_encoding_meaning.proofs.vectors.Laws.{is_yielded}
+use Rattle.data_encoding_meaning.proofs.vectors.Laws.{is_specified}
 
 -- base64 is built from the fields that its base gives back
 fields_told : SpecificationAgain → base_of base64_fields ≡ Ok (built base64_fields)
-fields_told law = law (built base64_fields) (is_yielded base64_fields refl)
+fields_told law = law (built base64_fields) (is_specified base64_fields refl)
 
 -- the text of `Hi` means `Hi`, and no text means two things
 round_told : RoundTrip → Means (built base64_fields) (codes "SGk=") (codes "Hi")
 round_told law =
-    law (built base64_fields) (is_yielded base64_fields refl) (codes "Hi")
+    law (built base64_fields) (is_specified base64_fields refl) (codes "Hi")
     (All-from_recursion (λ byte. byte < 256) (codes "Hi") (lit< tt, (lit< tt, tt)))
 
 one_told : OneMeaning → (base : Base) → IsSpecified base → (text : List ℕ)
@@ -35,14 +35,14 @@ one_told law base is text one other =
 
 -- without a fault a text means its sound bytes, and these alone; with a fault it means nothing
 sound_told : SoundMeans → Means (built base64_fields) (codes "SGk=") (codes "Hi")
-sound_told law = law (built base64_fields) (is_yielded base64_fields refl) (codes "SGk=") refl
+sound_told law = law (built base64_fields) (is_specified base64_fields refl) (codes "SGk=") refl
 
 meant_told : MeansSound → Means (built base64_fields) (codes "SGk=") (codes "Hi")
     × ((bytes : List ℕ) → Means (built base64_fields) (codes "SGk=") bytes → codes "Hi" ≡ bytes)
     × ((bytes : List ℕ) → Means (built base64_fields) (codes "SG!=") bytes → ⊥)
 meant_told law =
     let base = built base64_fields in
-    let is = is_yielded base64_fields refl in (
+    let is = is_specified base64_fields refl in (
       (law base is (codes "SGk=") (codes "Hi")).1 (refl, refl),
       (λ bytes means. ((law base is (codes "SGk=") bytes).0 means).1),
       (λ bytes means. let none = ((law base is (codes "SG!=") bytes).0 means).0 in cc),
@@ -59,7 +59,7 @@ unpadded_told : Unpadded → (two_symbols (codes "A")
     × ((bytes : List ℕ) → Means (built base64_nopad_fields) (codes "QQ") bytes → two_symbols bytes)
 unpadded_told law =
     let base = built base64_nopad_fields in
-    let is = is_yielded base64_nopad_fields refl in (
+    let is = is_specified base64_nopad_fields refl in (
       (law base is refl (codes "QQ") (codes "A")).1,
       λ bytes. (law base is refl (codes "QQ") bytes).0,
     )
@@ -68,7 +68,7 @@ unpadded_told law =
 text_joined : JoinEncode → (more : List ℕ) → text_of (built base64_fields) (codes "Hel" ++ more)
     ≡ codes "SGVs" ++ text_of (built base64_fields) more
 text_joined law more =
-    law (built base64_fields) (is_yielded base64_fields refl) (codes "Hel") more refl
+    law (built base64_fields) (is_specified base64_fields refl) (codes "Hel") more refl
 
 -- texts joined: of base64, of one that ends with its first padded group, after a group without
 -- padding, and of hexadecimal
@@ -81,16 +81,18 @@ texts_joined : JoinDecode
     → Joins (built base64_fields) (codes "QQ==") × Joins (built single_fields) (codes "QUJD")
     × Joins (built hexlower_fields) (codes "4a")
 texts_joined law = (
-  λ after bytes more. law (built base64_fields) (is_yielded base64_fields refl) (codes "QQ==") after
+  λ after bytes more. law (built base64_fields) (is_specified base64_fields refl)
+      (codes "QQ==") after
       bytes more (inl (refl, inl refl)),
-  λ after bytes more. law (built single_fields) (is_yielded single_fields refl) (codes "QUJD") after
+  λ after bytes more. law (built single_fields) (is_specified single_fields refl)
+      (codes "QUJD") after
       bytes more (inl (
         refl,
         inr (All-from_recursion
             (λ byte. is_padding (meaning (built single_fields) byte) ≡ false) (codes "QUJD")
             (refl, (refl, (refl, (refl, tt))))),
       )),
-  λ after bytes more. law (built hexlower_fields) (is_yielded hexlower_fields refl) (codes "4a")
+  λ after bytes more. law (built hexlower_fields) (is_specified hexlower_fields refl) (codes "4a")
       after bytes more (inr refl),
 )
 
@@ -100,7 +102,7 @@ fault_joined : JoinFault → (text bytes : List ℕ) → Means (built base64_fie
     ≡ Some (record { position = length text + 5; kind = Symbol }))
     × (sound_bytes (built base64_fields) (text ++ codes "QQ==S!Vs") ≡ bytes ++ codes "A")
 fault_joined law text bytes means =
-    law (built base64_fields) (is_yielded base64_fields refl) text (codes "QQ==S!Vs") bytes
+    law (built base64_fields) (is_specified base64_fields refl) text (codes "QQ==S!Vs") bytes
     (inl (refl, inl refl)) means
 
 -- what a decoding of `SGVs` CR LF `bG` in lines did not read, with whatever comes next
@@ -110,7 +112,7 @@ stopped = codes "SGVs" ++ 13 ∷ 10 ∷ codes "bG"
 lines_resumed : Resume → (next : List ℕ)
     → Resumes (built base64_mime_fields) stopped next 4 (codes "Hel")
 lines_resumed law next =
-    law (built base64_mime_fields) (is_yielded base64_mime_fields refl) stopped next
+    law (built base64_mime_fields) (is_specified base64_mime_fields refl) stopped next
     (record {
       read = 4;
       written = 3;
@@ -133,17 +135,18 @@ resumed_told next more resumes =
 most_told : MeansMost → (text : List ℕ) → Means (built hexlower_fields) text (codes "Hi")
     → 2 ≡ 4 * length text / 8
 most_told law text means =
-    law (built hexlower_fields) (is_yielded hexlower_fields refl) refl refl text (codes "Hi") means
+    law (built hexlower_fields) (is_specified hexlower_fields refl) refl refl text
+    (codes "Hi") means
 
 length_again_told : LengthAgain → (bytes : List ℕ)
     → decoded_len (built base64_nopad_fields) (length (text_of (built base64_nopad_fields) bytes))
     ≡ Ok (length bytes)
 length_again_told law bytes =
-    law (built base64_nopad_fields) (is_yielded base64_nopad_fields refl) refl refl bytes
+    law (built base64_nopad_fields) (is_specified base64_nopad_fields refl) refl refl bytes
 
 -- if base64 without padding is canonical, each text that means two bytes has three characters
 length_fixed : FixedLength → IsCanonical (built base64_nopad_fields) → (text : List ℕ)
     → Means (built base64_nopad_fields) text (codes "Hi") → length text ≡ 3
 length_fixed law canonical text means =
-    law (built base64_nopad_fields) (is_yielded base64_nopad_fields refl) canonical text
+    law (built base64_nopad_fields) (is_specified base64_nopad_fields refl) canonical text
     (codes "Hi") (codes "AA") means refl

@@ -7,7 +7,7 @@ use Rattle.data_encoding_meaning.specs.specification.Fields.{Fields}
 use Rattle.data_encoding_meaning.specs.specification.Predefined.{padded_fields, hexlower_fields, hexlower_permissive_fields, hexupper_fields, hexupper_permissive_fields, base32_fields, base32_nopad_fields, base32_nopad_nocase_fields, base32_nopad_visual_fields, base32hex_fields, base32hex_nopad_fields, base32_dnssec_fields, base32_dnscurve_fields, base64_fields, base64_nopad_fields, base64_mime_fields, base64_mime_permissive_fields, base64url_fields, base64url_nopad_fields}
 use Rattle.data_encoding_meaning.specs.text.Text.{text_of, filled_with, plain_text, with_padding, padded_text, in_lines}
 use Rattle.data_encoding_meaning.specs.text.Bits.{low_bits, number_of_low_bits, bits_of, number_of, bits_of_bytes, missing, runs}
-use Rattle.data_encoding_meaning.specs.text.Fragments.{HasEncoded}
+use Rattle.data_encoding_meaning.specs.text.EncodedPieces.{HasEncoded}
 use Rattle.data_encoding_meaning.specs.text.Lengths.{IsBlockLength}
 use Rattle.data_encoding_meaning.proofs.vectors.Examples.{Hold, built, by, encoded, Has, octal_fields, reversed, lines_of_8_fields}
 

@@ -12,8 +12,8 @@ CanonicalByCauses =
     (base : Base) → IsSpecified base → (has_one_text base ≡ true) ↔ IsCanonical base
 
 -- The base that is built from these fields has the property.
-abbrev pub Yields : (Base → Type 0) → Fields → Type 0
-Yields P fields = (base : Base) → base_of fields ≡ Ok base → P base
+abbrev pub Builds : (Base → Type 0) → Fields → Type 0
+Builds P fields = (base : Base) → base_of fields ≡ Ok base → P base
 
 -- the fields of those of the eighteen that are canonical
 abbrev pub canonical_fields : List Fields
@@ -32,8 +32,8 @@ second_text_fields =
 -- Six of the eighteen are canonical, and the other twelve are not.
 abbrev pub SixAreCanonical : Type 0
 SixAreCanonical =
-    All (Yields IsCanonical) canonical_fields
-    × All (Yields (λ base. IsCanonical base → ⊥)) second_text_fields
+    All (Builds IsCanonical) canonical_fields
+    × All (Builds (λ base. IsCanonical base → ⊥)) second_text_fields
 
 -- the fields of those of the sixteen without lines whose texts keep the order of data
 abbrev pub ordered_fields : List Fields
@@ -51,5 +51,5 @@ unordered_fields =
 -- Of the sixteen without lines, six are ordered, and the other ten are not.
 abbrev pub SixAreOrdered : Type 0
 SixAreOrdered =
-    All (Yields IsOrdered) ordered_fields
-    × All (Yields (λ base. IsOrdered base → ⊥)) unordered_fields
+    All (Builds IsOrdered) ordered_fields
+    × All (Builds (λ base. IsOrdered base → ⊥)) unordered_fields

@@ -3,7 +3,7 @@ use Rattle.std.specs.Prelude.{◌≡◌, ◌==◌, ℕ, Bool, true, false, not, 
 use Rattle.data_encoding_meaning.specs.declared.encoding.BitOrder.{BitOrder}
 use Rattle.data_encoding_meaning.specs.declared.encoding.BitOrder.TheVariants.{MostSignificantFirst, LeastSignificantFirst}
 use Rattle.data_encoding_meaning.specs.text.Base.{Base, Wrapping, ignores_some}
-use Rattle.data_encoding_meaning.specs.laws.Eighteen.{Yields}
+use Rattle.data_encoding_meaning.specs.laws.Eighteen.{Builds}
 use Rattle.data_encoding_meaning.specs.specification.Layout.{ignored_bytes}
 use Rattle.data_encoding_meaning.specs.specification.Predefined.{hexlower_fields, hexlower_permissive_fields, hexupper_fields, hexupper_permissive_fields, base32_fields, base32_nopad_fields, base32_nopad_nocase_fields, base32_nopad_visual_fields, base32hex_fields, base32hex_nopad_fields, base32_dnssec_fields, base32_dnscurve_fields, base64_fields, base64_nopad_fields, base64_mime_fields, base64_mime_permissive_fields, base64url_fields, base64url_nopad_fields}
 
@@ -57,23 +57,23 @@ mime_rules = record (padded_rules 6) {
 
 -- Each of the eighteen has these rules.
 pub record EighteenRules : Type 0 where
-  pub hexlower : Yields (HasRules (plain_rules 4)) hexlower_fields
-  pub hexlower_permissive : Yields (HasRules (plain_rules 4)) hexlower_permissive_fields
-  pub hexupper : Yields (HasRules (plain_rules 4)) hexupper_fields
-  pub hexupper_permissive : Yields (HasRules (plain_rules 4)) hexupper_permissive_fields
-  pub base32 : Yields (HasRules (padded_rules 5)) base32_fields
-  pub base32_nopad : Yields (HasRules (plain_rules 5)) base32_nopad_fields
-  pub base32_nopad_nocase : Yields (HasRules (plain_rules 5)) base32_nopad_nocase_fields
-  pub base32_nopad_visual : Yields (HasRules (plain_rules 5)) base32_nopad_visual_fields
-  pub base32hex : Yields (HasRules (padded_rules 5)) base32hex_fields
-  pub base32hex_nopad : Yields (HasRules (plain_rules 5)) base32hex_nopad_fields
-  pub base32_dnssec : Yields (HasRules (plain_rules 5)) base32_dnssec_fields
-  pub base32_dnscurve : Yields (HasRules (reversed_rules 5)) base32_dnscurve_fields
-  pub base64 : Yields (HasRules (padded_rules 6)) base64_fields
-  pub base64_nopad : Yields (HasRules (plain_rules 6)) base64_nopad_fields
-  pub base64_mime : Yields (HasRules mime_rules) base64_mime_fields
+  pub hexlower : Builds (HasRules (plain_rules 4)) hexlower_fields
+  pub hexlower_permissive : Builds (HasRules (plain_rules 4)) hexlower_permissive_fields
+  pub hexupper : Builds (HasRules (plain_rules 4)) hexupper_fields
+  pub hexupper_permissive : Builds (HasRules (plain_rules 4)) hexupper_permissive_fields
+  pub base32 : Builds (HasRules (padded_rules 5)) base32_fields
+  pub base32_nopad : Builds (HasRules (plain_rules 5)) base32_nopad_fields
+  pub base32_nopad_nocase : Builds (HasRules (plain_rules 5)) base32_nopad_nocase_fields
+  pub base32_nopad_visual : Builds (HasRules (plain_rules 5)) base32_nopad_visual_fields
+  pub base32hex : Builds (HasRules (padded_rules 5)) base32hex_fields
+  pub base32hex_nopad : Builds (HasRules (plain_rules 5)) base32hex_nopad_fields
+  pub base32_dnssec : Builds (HasRules (plain_rules 5)) base32_dnssec_fields
+  pub base32_dnscurve : Builds (HasRules (reversed_rules 5)) base32_dnscurve_fields
+  pub base64 : Builds (HasRules (padded_rules 6)) base64_fields
+  pub base64_nopad : Builds (HasRules (plain_rules 6)) base64_nopad_fields
+  pub base64_mime : Builds (HasRules mime_rules) base64_mime_fields
   pub base64_mime_permissive :
-      Yields (HasRules (record mime_rules { checks_trailing_bits = false }))
+      Builds (HasRules (record mime_rules { checks_trailing_bits = false }))
       base64_mime_permissive_fields
-  pub base64url : Yields (HasRules (padded_rules 6)) base64url_fields
-  pub base64url_nopad : Yields (HasRules (plain_rules 6)) base64url_nopad_fields
+  pub base64url : Builds (HasRules (padded_rules 6)) base64url_fields
+  pub base64url_nopad : Builds (HasRules (plain_rules 6)) base64url_nopad_fields

@@ -153,4 +153,4 @@ base_of fields = base_by (width_of (length fields.symbols)) fields
 -- The base is built from some specification.
 pub record IsSpecified (base : Base) : Type 0 where
   pub fields : Fields
-  pub yields : base_of fields ≡ Ok base
+  pub is_built : base_of fields ≡ Ok base

@@ -9,11 +9,11 @@ where_ok (Err error) none holds = cc
 
 pub returns-in-Ok : goal.returns-in-Ok
 returns-in-Ok c =
-    let start = c.new_encoder-encoder.ensures.fragments in
+    let start = c.new_encoder-encoder.ensures.pieces in
     let once =
-    where_ok c.append.result c.if-is_err.ensures.value c.append.ensures.fragments _ _ start in
+    where_ok c.append.result c.if-is_err.ensures.value c.append.ensures.pieces _ _ start in
     let twice =
     where_ok c.append-else-is_err.result c.if-is_err-2.ensures.value
-    c.append-else-is_err.ensures.fragments _ _ once in
+    c.append-else-is_err.ensures.pieces _ _ once in
     let written = IfOk-at_ok _ c.in-Ok.is c.finalize.follows.holds-at-none _ _ twice in
     search rules

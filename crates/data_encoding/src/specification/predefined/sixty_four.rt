@@ -6,6 +6,8 @@ ghost use Rattle.data_encoding_meaning.specs.specification.Predefined.{base64_fi
 
 use crate::encoding::{Encoding, EncodingRef, INVALID};
 use crate::plain::PlainFields;
+use crate::specification::predefined::forms::{BASE64_FORM, BASE64URL_FORM};
+use data_encoding_kernel::value_table::ValueTable;
 
 // The values of the symbols of RFC 4648, section 4, and the entries of CR and LF and of `=`.
 macro_rules! base64_values {
@@ -44,7 +46,10 @@ static BASE64_NOPAD: PlainFields = PlainFields {
         ABCDEFGHIJKLMNOPQRSTUVWXYZabcdefghijklmnopqrstuvwxyz0123456789+/\
         ABCDEFGHIJKLMNOPQRSTUVWXYZabcdefghijklmnopqrstuvwxyz0123456789+/\
         ABCDEFGHIJKLMNOPQRSTUVWXYZabcdefghijklmnopqrstuvwxyz0123456789+/",
-    values: base64_values!(128, 128),
+    values: ValueTable {
+        entries: base64_values!(128, 128),
+        form: BASE64_FORM,
+    },
     width: 6,
     least_significant_first: false,
     checks_trailing_bits: true,
@@ -55,13 +60,19 @@ static BASE64_NOPAD: PlainFields = PlainFields {
 };
 
 static BASE64: PlainFields = PlainFields {
-    values: base64_values!(128, 130),
+    values: ValueTable {
+        entries: base64_values!(128, 130),
+        form: BASE64_FORM,
+    },
     padding: b'=',
     ..BASE64_NOPAD
 };
 
 static BASE64_MIME: PlainFields = PlainFields {
-    values: base64_values!(129, 130),
+    values: ValueTable {
+        entries: base64_values!(129, 130),
+        form: BASE64_FORM,
+    },
     ignores: true,
     column: 76,
     ..BASE64
@@ -77,12 +88,18 @@ static BASE64URL_NOPAD: PlainFields = PlainFields {
         ABCDEFGHIJKLMNOPQRSTUVWXYZabcdefghijklmnopqrstuvwxyz0123456789-_\
         ABCDEFGHIJKLMNOPQRSTUVWXYZabcdefghijklmnopqrstuvwxyz0123456789-_\
         ABCDEFGHIJKLMNOPQRSTUVWXYZabcdefghijklmnopqrstuvwxyz0123456789-_",
-    values: base64url_values!(128),
+    values: ValueTable {
+        entries: base64url_values!(128),
+        form: BASE64URL_FORM,
+    },
     ..BASE64_NOPAD
 };
 
 static BASE64URL: PlainFields = PlainFields {
-    values: base64url_values!(130),
+    values: ValueTable {
+        entries: base64url_values!(130),
+        form: BASE64URL_FORM,
+    },
     padding: b'=',
     ..BASE64URL_NOPAD
 };

@@ -6,12 +6,12 @@ use Rattle.data_encoding_kernel.proofs.decode.decode_by_lanes.Goals as goal
 
 pub returns-then-left-symbols-clause-run : goal.returns-then-left-symbols-clause-run
 returns-then-left-symbols-clause-run g c =
-    let run = c.decode_turns-first.ensures.run c.args.values.now c.rows_of.ensures in
+    let run = c.decode_turns-first.ensures.run c.args.values.now c.requires.held in
     rw c.ORDER.ensures at run
 
 pub returns-then-entry_of-ge128-clause-run : goal.returns-then-entry_of-ge128-clause-run
 returns-then-entry_of-ge128-clause-run g c =
-    let run = c.decode_turns-first.ensures.run c.args.values.now c.rows_of.ensures in
+    let run = c.decode_turns-first.ensures.run c.args.values.now c.requires.held in
     rw c.ORDER.ensures at run
 
 pub decode_turns-further-requires : goal.decode_turns-further-requires
@@ -39,8 +39,8 @@ returns-clause-run g c = λ base reads.
     omega (arith, c.requires.room, c.decode_turns-first.auto.output) in
     let left = room-left input output first c.BYTES-bytes.ensures c.SYMBOLS-symbols.ensures
     whole.some_symbols within room in
-    let run = c.decode_turns-first.ensures.run c.args.values.now c.rows_of.ensures in
-    let further = c.decode_turns-further.ensures.run c.args.values.now refl in
+    let run = c.decode_turns-first.ensures.run c.args.values.now c.requires.held in
+    let further = c.decode_turns-further.ensures.run c.args.values.now c.requires.held in
     run-after base reads.holds.is_width g.G.GroupSize.WIDTH c.BYTES-bytes.result
     c.SYMBOLS-symbols.result group reads.width_is input c.args.output.now output _
     c.decode_turns-further.new.output first c.decode_turns-further.result _

@@ -8,15 +8,3 @@ overflow_mul-eight g c =
     record {
       fits = omega (arith, few, g.G.GroupSize.is_group.has_symbols, c.SYMBOLS-eight.ensures);
     }
-
-pub returns-in-Some-clause-run : goal.returns-in-Some-clause-run
-returns-in-Some-clause-run g c =
-    let run = c.decode_turns-in-Some.ensures.run c.args.values.now
-    (rw c.in-Some.is at c.requires.held) in
-    rw c.ORDER-in-Some.ensures at run
-
-pub returns-in-Some-clause-within : goal.returns-in-Some-clause-within
-returns-in-Some-clause-within g c = c.decode_turns-in-Some.ensures.within
-
-pub returns-in-None-clause-within : goal.returns-in-None-clause-within
-returns-in-None-clause-within g c = c.decode_by_lanes.ensures.within

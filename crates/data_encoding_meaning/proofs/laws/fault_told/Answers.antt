@@ -2,17 +2,17 @@ use Rattle.std.proofs.Common.{◌∙◌, sym, ap, is_some, length}
 use Rattle.data_encoding_meaning.specs.laws.Told.{first_other, leaves_bits}
 use Rattle.data_encoding_meaning.proofs.decoding.ToldLemmas.{fault-told, leaves-some, symbol-told, trailing-told, whole-told}
 use Rattle.data_encoding_meaning.proofs.decoding.WholeLengthLemmas.{joins-unpadded}
-use Rattle.data_encoding_meaning.proofs.judgement.RuleLemmas.{IsRuled-yield, whole-unpadded}
+use Rattle.data_encoding_meaning.proofs.judgement.RuleLemmas.{IsRuled-built, whole-unpadded}
 use Rattle.data_encoding_meaning.proofs.laws.fault_told.Goals as goal
 
 pub returns-clause-told : goal.returns-clause-told
 returns-clause-told c base is unpadded =
-    let ruled = IsRuled-yield is.fields base is.yields in
+    let ruled = IsRuled-built is.fields base is.is_built in
     fault-told base ruled.is_width (ap is_some unpadded) (joins-unpadded base ruled unpadded)
 
 pub returns-clause-whole : goal.returns-clause-whole
 returns-clause-whole c base is eight none text no_fault =
-    let ruled = IsRuled-yield is.fields base is.yields in
+    let ruled = IsRuled-built is.fields base is.is_built in
     let unpadded = whole-unpadded base base.padding ruled.padding eight in
     whole-told base ruled.is_width (ap is_some unpadded) (joins-unpadded base ruled unpadded) none
     text no_fault eight

@@ -19,6 +19,6 @@ unreachable-requires c =
 
 pub returns : goal.returns
 returns c =
-    ok-one (sym c.in-Ok.ensures.yields
+    ok-one (sym c.in-Ok.ensures.is_built
     ∙ ap base_of (c.parts.ensures ∙ c.specification_bytes-given.ensures)
     ∙ c.specification_again.ensures c.args.encoding.now c.group_len.ensures.base)

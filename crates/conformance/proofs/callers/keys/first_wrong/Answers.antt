@@ -7,7 +7,7 @@ use Rattle.data_encoding.specs.Predefined.{hexlower_fields}
 use Rattle.data_encoding.specs.Told.{first_other, is_other, told_by}
 use Rattle.conformance.proofs.KeyLemmas.{even-length}
 use Rattle.conformance.proofs.RewrittenLemmas.{specified_by}
-use Rattle.conformance.proofs.YieldLemmas.{same_yield}
+use Rattle.conformance.proofs.BuiltLemmas.{same_built}
 use Rattle.conformance.proofs.callers.keys.first_wrong.Goals as goal
 
 found : (c : goal.After-position) (base : Base) → base_of hexlower_fields ≡ Ok base
@@ -16,7 +16,7 @@ found c base is =
     position_from_yields_List (is_other c.hexlower-encoding.result) _ _ c.position.result
     c.position.ensures.ran (YieldsList-from_slice c.args.text.now cc)
     (λ x b q h. search (rules, tests))
-    ∙ ap (λ b. first_other b c.args.text.now) (same_yield (base_of hexlower_fields)
+    ∙ ap (λ b. first_other b c.args.text.now) (same_built (base_of hexlower_fields)
     c.hexlower-encoding.result base c.hexlower-encoding.ensures is)
 
 pub returns-clause-symbol : goal.returns-clause-symbol

@@ -5,22 +5,23 @@ use Rattle.data_encoding.specs.Grammar.{Means}
 use Rattle.data_encoding.specs.Lengths.{decoded_len, length_fault, most_bytes}
 use Rattle.data_encoding.specs.Predefined.{hexlower_permissive_fields}
 use Rattle.data_encoding.specs.Text.{text_of}
-use Rattle.conformance.proofs.NameLemmas.{counted, equal-tested, yields-seen}
+use Rattle.conformance.proofs.NameLemmas.{counted, equal-tested, is_built-seen}
 use Rattle.conformance.proofs.callers.keys.is_digest.Goals as goal
 
 pub returns : goal.returns
 returns c =
     let seen = c.hexlower_permissive.result in
-    let yields = c.hexlower_permissive.ensures in
-    let rules = c.eighteen.ensures.hexlower_permissive seen yields in
-    let is : IsSpecified seen = record { fields = hexlower_permissive_fields; yields = yields } in
+    let is_built = c.hexlower_permissive.ensures in
+    let rules = c.eighteen.ensures.hexlower_permissive seen is_built in
+    let is : IsSpecified seen = record { fields = hexlower_permissive_fields; is_built = is_built }
+    in
     let text = c.args.text.now in
     let some : List ℕ = replicate 20 0 in
     let len : length (text_of seen some) ≡ c.encode_len.result =
     c.encode_len.ensures.length some refl in
-    yields-seen (λ base. (bytes : List ℕ) → Means base text bytes
+    is_built-seen (λ base. (bytes : List ℕ) → Means base text bytes
     → IsTrue (length text == c.encode_len.result) ↔ (length bytes ≡ 20))
-    hexlower_permissive_fields seen yields (λ bytes means. (
+    hexlower_permissive_fields seen is_built (λ bytes means. (
       (λ equal.
           let same = eqb-true (length text) c.encode_len.result equal ∙ sym len in
           let again = ap (decoded_len seen) same

@@ -8,7 +8,7 @@ use Rattle.data_encoding.specs.Predefined.{base64url_nopad_fields}
 use Rattle.data_encoding.specs.Text.{text_of}
 use Rattle.conformance.proofs.NameLemmas.{computed}
 use Rattle.conformance.proofs.RewrittenLemmas.{specified_by}
-use Rattle.conformance.proofs.YieldLemmas.{same_yield}
+use Rattle.conformance.proofs.BuiltLemmas.{same_built}
 use Rattle.conformance.proofs.callers.keys.key_of.Goals as goal
 
 pub returns-then-token-ne22-clause-some : goal.returns-then-token-ne22-clause-some
@@ -28,10 +28,10 @@ means : (c : goal.In-Ok) (base : Base) → base_of base64url_nopad_fields ≡ Ok
     → Means base c.args.token.now c.decode_mut.new.output
 means c base is =
     let seen = c.base64url_nopad-encoding.result in
-    let yields = c.base64url_nopad-encoding.ensures in
-    let has = c.eighteen.ensures.base64url_nopad seen yields in
+    let is_built = c.base64url_nopad-encoding.ensures in
+    let has = c.eighteen.ensures.base64url_nopad seen is_built in
     subst (λ b. Means b c.args.token.now c.decode_mut.new.output)
-    (same_yield (base_of base64url_nopad_fields) seen base yields is)
+    (same_built (base_of base64url_nopad_fields) seen base is_built is)
     (subst (Means seen c.args.token.now) (take_all c.in-Ok.field-0 c.decode_mut.new.output
     (omega (arith, c.in-Ok.ensures.full has.padding has.ignores))) c.in-Ok.ensures.decoded.1)
 
@@ -50,6 +50,6 @@ pub returns-in-Err-clause-some : goal.returns-in-Err-clause-some
 returns-in-Err-clause-some c = λ base is. (
   (λ never. absurd (false≢true never)),
   (λ key. c.in-Err.ensures.accepted key.0
-      (subst (λ b. Means b c.args.token.now key.0) (same_yield (base_of base64url_nopad_fields) base
+      (subst (λ b. Means b c.args.token.now key.0) (same_built (base_of base64url_nopad_fields) base
       c.base64url_nopad-encoding.result is c.base64url_nopad-encoding.ensures) key.1)),
 )

@@ -5,7 +5,7 @@ use Rattle.data_encoding.specs.Fault.{fault_of}
 use Rattle.data_encoding.specs.Grammar.{kept}
 use Rattle.data_encoding.specs.Predefined.{base64_nopad_fields}
 use Rattle.conformance.proofs.KeyLemmas.{length-kept}
-use Rattle.conformance.proofs.NameLemmas.{yields-seen}
+use Rattle.conformance.proofs.NameLemmas.{is_built-seen}
 use Rattle.conformance.proofs.callers.keys.place_after.Goals as goal
 use Rattle.conformance.proofs.callers.keys.place_after.Goals.{In-Err-Error-decode}
 
@@ -16,17 +16,17 @@ told c = rw c.in-Err-Error-decode.field-0-is at c.in-Err-Error-decode.ensures.re
 after_front : (c : In-Err-Error-decode) → c.args.len ≤ c.in-Err-Error-decode.error.position
 after_front c =
     let seen = c.base64_nopad-encoding.result in
-    let yields = c.base64_nopad-encoding.ensures in
+    let is_built = c.base64_nopad-encoding.ensures in
     let text = c.args.text.now in
     let front = take c.args.len text in
-    let has = c.eighteen.ensures.base64_nopad seen yields in
+    let has = c.eighteen.ensures.base64_nopad seen is_built in
     let len : length front ≡ c.args.len = length-take-le c.args.len text c.requires.within in
     let whole : length (kept seen front) % group_symbols seen.width ≡ 0 =
     (λ i. length-kept c.whole_groups.ensures.kept seen has.ignores front i
     % group_symbols (has.width i))
     ∙ ap (λ n. n % 4) len ∙ c.requires.whole in
     let past = c.fault_stays.ensures.before seen
-    (record { fields = base64_nopad_fields; yields = yields }) front (drop c.args.len text)
+    (record { fields = base64_nopad_fields; is_built = is_built }) front (drop c.args.len text)
     c.in-Err-Error-decode.error whole c.in-Ok.ensures.sound.0
     (ap (fault_of seen) (take-append-drop c.args.len text) ∙ told c) in
     omega (arith, past, len)
@@ -40,7 +40,7 @@ returns-in-Err-Error-decode c =
     let d = (goal.at.returns-in-Err-Error-decode c).In-Err-Error-decode in
     let place : error.position ≡ c.args.len + (error.position - c.args.len) =
     omega (arith, after_front d) in
-    yields-seen (λ base. (kind : DecodeKind) × (fault_of base c.args.text.now ≡ Some (record {
+    is_built-seen (λ base. (kind : DecodeKind) × (fault_of base c.args.text.now ≡ Some (record {
       position = c.args.len + (error.position - c.args.len);
       kind = kind;
     }))) base64_nopad_fields c.base64_nopad-encoding.result c.base64_nopad-encoding.ensures

@@ -10,10 +10,10 @@ use Rattle.conformance.proofs.callers.keys.texts_in_order.Goals as goal
 pub returns : goal.returns
 returns c =
     let seen = c.base32hex_nopad-encoding.result in
-    let yields = c.base32hex_nopad-encoding.ensures in
-    let is : IsSpecified seen = record { fields = base32hex_nopad_fields; yields = yields } in
-    let has = c.eighteen.ensures.base32hex_nopad seen yields in
-    let ordered = c.order.ensures.sixteen.0 4 base32hex_nopad_fields (lit< tt) seen yields in
+    let is_built = c.base32hex_nopad-encoding.ensures in
+    let is : IsSpecified seen = record { fields = base32hex_nopad_fields; is_built = is_built } in
+    let has = c.eighteen.ensures.base32hex_nopad seen is_built in
+    let ordered = c.order.ensures.sixteen.0 4 base32hex_nopad_fields (lit< tt) seen is_built in
     let each = λ (l : List ℕ) (h : (i : ℕ) → Fits w8 (get_or l i 0)).
     All-from_get_or (λ byte. byte < 256) l 0 (λ i _. omega (arith, h i)) in
     let keeps = (c.order.ensures.kept seen is has.wrapping).0 ordered c.args.one.now

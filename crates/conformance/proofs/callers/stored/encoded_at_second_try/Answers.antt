@@ -3,7 +3,7 @@ use Rattle.std.proofs.lemmas.Result.{IfOk-at_ok}
 use Rattle.std.specs.String.{string_bytes}
 use Rattle.data_encoding.specs.declared.encode.encoder.Encoder.{Encoder}
 use Rattle.data_encoding.specs.Encoder.{HasTaken, IsUnchanged, base_of_encoder, held, written}
-use Rattle.data_encoding.specs.Fragments.{HasEncoded}
+use Rattle.data_encoding.specs.EncodedPieces.{HasEncoded}
 use Rattle.data_encoding.specs.Text.{text_of}
 use Rattle.conformance.proofs.callers.stored.encoded_at_second_try.Goals as goal
 
@@ -29,7 +29,7 @@ still_taken old new same before bytes has =
 
 pub returns-in-Ok : goal.returns-in-Ok
 returns-in-Ok c =
-    let start = c.new_encoder-encoder.ensures.fragments in
+    let start = c.new_encoder-encoder.ensures.pieces in
     let once =
     where_ok c.append_again.result c.if-is_err.ensures.value c.append_again.ensures.taken _ _ start
     in
@@ -41,7 +41,7 @@ returns-in-Ok c =
 
 pub returns-in-Ok-finalize : goal.returns-in-Ok-finalize
 returns-in-Ok-finalize c =
-    let start = c.new_encoder-encoder.ensures.fragments in
+    let start = c.new_encoder-encoder.ensures.pieces in
     let once =
     where_ok c.append_again.result c.if-is_err.ensures.value c.append_again.ensures.taken _ _ start
     in

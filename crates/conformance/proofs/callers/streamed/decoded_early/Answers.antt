@@ -11,17 +11,17 @@ use Rattle.data_encoding.specs.Fields.{IsSpecified}
 use Rattle.data_encoding.specs.Grammar.{Positioned, kept}
 use Rattle.data_encoding.specs.Predefined.{base64_fields}
 use Rattle.conformance.specs.Texts.{IsFaultOfAll}
-use Rattle.conformance.proofs.NameLemmas.{computed, yields-seen}
+use Rattle.conformance.proofs.NameLemmas.{computed, is_built-seen}
 use Rattle.conformance.proofs.callers.streamed.decoded_early.Goals as goal
 
 pub returns-clause-fault : goal.returns-clause-fault
 returns-clause-fault c =
     let seen = c.base64.result in
-    let yields = c.base64.ensures in
+    let is_built = c.base64.ensures in
     let front = c.args.front.now in
-    let is : IsSpecified seen = record { fields = base64_fields; yields = yields } in
-    let none = computed (λ b. ignores_some b ≡ false) base64_fields seen yields refl in
-    let size = computed (λ b. group_symbols b.width ≡ 4) base64_fields seen yields refl in
+    let is : IsSpecified seen = record { fields = base64_fields; is_built = is_built } in
+    let none = computed (λ b. ignores_some b ≡ false) base64_fields seen is_built refl in
+    let size = computed (λ b. group_symbols b.width ≡ 4) base64_fields seen is_built refl in
     let len : length (kept seen front) ≡ length front =
     ap length ((c.whole_groups.ensures.kept seen none).1 front)
     ∙ length-map (enumerate_from 0 front)
@@ -30,8 +30,8 @@ returns-clause-fault c =
     let whole : length (kept seen front) % group_symbols seen.width ≡ 0 =
     subst (λ n. n % group_symbols seen.width ≡ 0) (sym len)
     (subst (λ n. length front % n ≡ 0) (sym size) c.requires.whole) in
-    yields-seen (λ base. (error : DecodeError) → c.decode.result ≡ Err (Error error)
-    → IsFaultOfAll base front error) base64_fields seen yields
+    is_built-seen (λ base. (error : DecodeError) → c.decode.result ≡ Err (Error error)
+    → IsFaultOfAll base front error) base64_fields seen is_built
     (λ error told after due.
     c.fault_stays.ensures.text seen is front after error whole
     (subst (λ r. IfErr r (IsRefusal seen front)) told c.decode.ensures.refusal) due)

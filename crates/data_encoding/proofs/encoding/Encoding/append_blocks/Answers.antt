@@ -4,8 +4,8 @@ use Rattle.std.proofs.lemmas.Nat.{div-add-mod', mod_below}
 use Rattle.std.specs.String.{string_bytes}
 use Rattle.data_encoding_meaning.specs.text.Lengths.{alignment}
 use Rattle.data_encoding_meaning.specs.text.Text.{text_of}
-use Rattle.data_encoding_meaning.proofs.judgement.RuleLemmas.{IsRuled-yield}
-use Rattle.data_encoding_meaning.proofs.text.FragmentLemmas.{HasEncoded-blocks}
+use Rattle.data_encoding_meaning.proofs.judgement.RuleLemmas.{IsRuled-built}
+use Rattle.data_encoding_meaning.proofs.text.EncodedPieceLemmas.{HasEncoded-blocks}
 use Rattle.data_encoding.proofs.encoding.Encoding.append_blocks.Goals as goal
 
 -- what is left without the rest is a multiple
@@ -14,11 +14,11 @@ whole-front n size =
     let is : n - n % size ≡ n / size * size = omega (arith, div-add-mod' n size) in
     ap (λ k. k % size) is ∙ mul-mod_left (n / size) size
 
-pub returns-clause-fragments : goal.returns-clause-fragments
-returns-clause-fragments g c =
+pub returns-clause-pieces : goal.returns-clause-pieces
+returns-clause-pieces g c =
     let seen = c.args.self.now in
     let specified = c.encode_len.ensures.base in
-    let ruled = IsRuled-yield specified.fields seen specified.yields in
+    let ruled = IsRuled-built specified.fields seen specified.is_built in
     let first = c.split_at.result.0.now in
     let rest = c.split_at.result.1.now in
     let block = c.as_slice.result.now in

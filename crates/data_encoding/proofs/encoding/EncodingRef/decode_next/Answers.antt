@@ -1,6 +1,6 @@
 use Rattle.std.proofs.Common.{◌≡◌, ℕ, ◌+◌, ◌*◌, ◌/◌, ◌∙◌, ◌&&◌, Bool, not, nat_lt, length, inl, inr, refl, sym, ap, arith, length-drop, Ok}
 use Rattle.data_encoding_meaning.proofs.decoding.GroupJudgementLemmas.{few-bits}
-use Rattle.data_encoding.proofs.decoding.StepLemmas.{IsUnderWay, after_group, decoded-behind, decoded-none, final-is, final-not, gathered-next, group-stopped, room-next_group, some-group, under_way, written-few}
+use Rattle.data_encoding.proofs.decoding.StepLemmas.{IsUnderWay, after_group, decoded-after, decoded-none, final-is, final-not, gathered-next, group-stopped, room-next_group, some-group, under_way, written-few}
 use Rattle.data_encoding_meaning.specs.text.Lengths.{decoded_len}
 use Rattle.data_encoding_meaning.proofs.decoding.GatherLemmas.{gathered-few}
 use Rattle.data_encoding_meaning.proofs.digits.SizeLemmas.{IsGroup-same}
@@ -11,7 +11,7 @@ use Rattle.data_encoding.proofs.encoding.EncodingRef.decode_next.Goals.{After-WI
 
 pub returns-then-start-input : goal.returns-then-start-input
 returns-then-start-input g c =
-    decoded-behind (under_way g.G.GroupSize.is_group c.requires.width c.requires.exact
+    decoded-after (under_way g.G.GroupSize.is_group c.requires.width c.requires.exact
     c.requires.so_far) c.requires.front (omega arith)
 
 pub returns-then-is_empty : goal.returns-then-is_empty

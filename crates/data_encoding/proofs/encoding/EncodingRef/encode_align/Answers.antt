@@ -38,7 +38,7 @@ returns-then-self-ne0-clause-some c =
 pub returns-then-self-ne0-clause-few : goal.returns-then-self-ne0-clause-few
 returns-then-self-ne0-clause-few c =
     few-lines c.self.inside.fields.now.column _ c.self.inside.fields.now.width
-    c.self.inside.fields.now.values c.self.invariant.is_width c.self.invariant.wrapping
+    c.self.inside.fields.now.values.entries c.self.invariant.is_width c.self.invariant.wrapping
 
 pub returns-clause-some : goal.returns-clause-some
 returns-clause-some c =

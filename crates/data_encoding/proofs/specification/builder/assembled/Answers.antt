@@ -1,8 +1,11 @@
-use Rattle.std.proofs.Common.{◌∙◌}
+use Rattle.std.proofs.Common.{◌∙◌, ap, map, take, subst, sym}
+use Rattle.data_encoding_meaning.specs.specification.Entries.{HoldsEntries, meaning_of_entry}
+use Rattle.std.specs.Bool.{IsTrue}
+use Rattle.data_encoding_kernel.specs.Affine.{agrees}
 use Rattle.data_encoding.specs.Encoding.{EncodingTables}
 use Rattle.data_encoding.specs.PlainTables.{order_by, padding_by}
 use Rattle.data_encoding.specs.Specification.{fields_of_parts}
-use Rattle.data_encoding.proofs.judgement.BuilderLemmas.{IsMadeOf, lines-short, padding-ascii, rules-made, yields-made}
+use Rattle.data_encoding.proofs.judgement.BuilderLemmas.{IsMadeOf, lines-short, padding-ascii, rules-made, is_built-made}
 use Rattle.data_encoding.proofs.specification.builder.assembled.Goals as goal
 
 pub padding_entry-requires : goal.padding_entry-requires
@@ -23,7 +26,7 @@ lines_of-column-requires-clause-separator c = λ on.
 tables : goal.After-copied → EncodingTables
 tables c = record {
   symbols = c.repeated.result;
-  values = c.into_values.result;
+  values = c.new.result.entries;
   width = c.args.width;
   order = order_by c.is_least_first.result;
   checks_trailing_bits = c.checks_trailing_bits.result;
@@ -32,6 +35,7 @@ tables c = record {
   ignores = c.ignores_some-ignores.result;
   column = c.lines_of-column.result.0;
   separator = c.copied.result.items;
+  form = c.new.result.form;
 }
 
 made : (c : goal.After-copied)
@@ -43,8 +47,10 @@ made c = record {
   count = c.requires.count;
   judged = c.requires.judged;
   repeat = c.repeated.ensures;
-  holds = c.into_values.ensures.entries;
-  values = c.into_values.ensures.meanings;
+  holds = subst HoldsEntries (sym c.new.ensures.entries) c.into_values.ensures.entries;
+  values =
+      ap (λ l. map meaning_of_entry (take 128 l)) c.new.ensures.entries
+      ∙ c.into_values.ensures.meanings;
   order = c.is_least_first.ensures;
   checks = c.checks_trailing_bits.ensures;
   concatenates = c.concatenates.ensures;
@@ -52,6 +58,9 @@ made c = record {
   ignores = c.ignores_some-ignores.ensures;
   column = c.lines_of-column.ensures.column;
   separator = c.copied.ensures ∙ c.lines_of-column.ensures.separator;
+  form_agrees =
+      subst (λ l. IsTrue (agrees l c.new.result.form)) (sym c.new.ensures.entries)
+      c.new.ensures.agrees;
 }
 
 pub invariant_of-result : goal.invariant_of-result
@@ -62,4 +71,4 @@ invariant_of-result c =
 pub returns : goal.returns
 unfolding tables
 returns c =
-    yields-made (fields_of_parts c.args.parts.now) (tables c) c.args.meanings (made c)
+    is_built-made (fields_of_parts c.args.parts.now) (tables c) c.args.meanings (made c)

@@ -4,7 +4,7 @@ use Rattle.data_encoding_meaning.specs.text.Base.{Base, IsWidth}
 use Rattle.data_encoding_meaning.specs.specification.Fields.{Fields, base_of}
 use Rattle.data_encoding_meaning.specs.specification.Layout.{fields_of}
 use Rattle.data_encoding_meaning.proofs.judgement.RoundTripLemmas.{specification-again}
-use Rattle.data_encoding_meaning.proofs.judgement.RuleLemmas.{IsRuled-yield}
+use Rattle.data_encoding_meaning.proofs.judgement.RuleLemmas.{IsRuled-built}
 use Rattle.data_encoding_meaning.proofs.tables.ReadingLemmas.{IsReadAs, built-is, built-specified, read-layout}
 use Rattle.data_encoding.proofs.tables.ReadTableLemmas.{has_tables}
 use Rattle.data_encoding.proofs.specification.layout.described.Goals as goal
@@ -14,7 +14,8 @@ pub returns-then-width-eq0-clause-found : goal.returns-then-width-eq0-clause-fou
 returns-then-width-eq0-clause-found c = λ base is same.
     let read = read-layout base c.args.bytes.now is same in
     let width : IsWidth (get_or c.args.bytes.now 513 0 % 8) =
-    subst IsWidth (sym read.has_flags.width_is) (IsRuled-yield is.fields base is.yields).is_width in
+    subst IsWidth (sym read.has_flags.width_is)
+    (IsRuled-built is.fields base is.is_built).is_width in
     elim c.then-width-eq0.branch [
       | then-width-eq0-via-then-width-eq0 w ↦
           absurd (omega (arith, width.some, w.if-width-eq0.true))
@@ -77,7 +78,7 @@ fields-of_base c base read =
 pub returns-clause-base : goal.returns-clause-base
 unfolding fields
 returns-clause-base c =
-    rw c.ok.ensures.value (built-specified c.define.result (fields c) c.define.ensures.yields)
+    rw c.ok.ensures.value (built-specified c.define.result (fields c) c.define.ensures.is_built)
 
 pub returns-clause-found : goal.returns-clause-found
 unfolding fields
@@ -86,5 +87,5 @@ returns-clause-found c = λ base is same.
     ap base_of (fields-of_base c base (read-layout base c.args.bytes.now is same))
     ∙ specification-again base is in
     c.ok.ensures.value
-    ∙ built-is c.define.result (fields c) base again c.define.ensures.yields
+    ∙ built-is c.define.result (fields c) base again c.define.ensures.is_built
     c.define.ensures.refused

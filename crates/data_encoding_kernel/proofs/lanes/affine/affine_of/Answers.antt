@@ -7,7 +7,7 @@ loop-row-init c = λ byte h. absurd (omega (arith, h))
 
 pub loop-row-preserved : goal.loop-row-preserved
 loop-row-preserved c =
-    row-more c.in-Some.affine c.args.values.now c.loop-row.row c.loop-row.invariant
+    row-more c.guess-affine.result c.args.values.now c.loop-row.row c.loop-row.invariant
     (c.agrees_in_row.ensures c.if-not-agrees_in_row.false)
 
 pub returns : goal.returns

@@ -7,8 +7,8 @@ use Rattle.data_encoding_kernel.proofs.lanes.decode.store.Goals as goal
 pub returns-in-1 : goal.returns-in-1
 returns-in-1 g c =
     let one : g.G.GroupSize.BYTES ≡ 1 = sym c.BYTES.ensures ∙ c.in-1.is in
-    stored-ones c.args.order c.args.words c.args.output.now c.fits-words.0
-    (c.requires.exact ∙ ap (λ n. 8 * n) one)
+    stored-ones c.args.order c.args.words c.args.output.now
+    (c.requires.exact ∙ ap (λ n. 8 * n) one ∙ sym c.fits-words.0)
     (subst (λ n. AllByRecursion (λ word. word < 2 ^ (8 * n)) c.args.words) one c.requires.words)
     ∙ ap (λ n. bytes_of_words c.args.order n c.args.words) (sym one)
 

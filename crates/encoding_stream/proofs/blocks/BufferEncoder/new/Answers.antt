@@ -4,7 +4,7 @@ use Rattle.encoding_stream.proofs.blocks.BufferEncoder.new.Goals as goal
 
 pub invariant_of-result-clause-specified : goal.invariant_of-result-clause-specified
 invariant_of-result-clause-specified c = record {
-  yields = c.specification_again.ensures c.args.encoding.now c.encode_align.ensures.base;
+  is_built = c.specification_again.ensures c.args.encoding.now c.encode_align.ensures.base;
 }
 
 pub returns-clause-nothing : goal.returns-clause-nothing

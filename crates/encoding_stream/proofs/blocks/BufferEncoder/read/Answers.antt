@@ -1,7 +1,7 @@
 use Rattle.std.proofs.Common.{◌≡◌, ◌≤◌, ◌+◌, ◌-◌, ◌++◌, ℕ, List, [], length, take, drop, refl, sym, ap, ◌∙◌, subst, arith, length-append, length-take-le}
 use Rattle.std.proofs.lemmas.List.{length-drop}
 use borrow.Rule.Slice.PartMut.{put_mid, same_len_mid}
-use Rattle.data_encoding.specs.Fragments.{HasEncoded}
+use Rattle.data_encoding.specs.EncodedPieces.{HasEncoded}
 use Rattle.data_encoding.specs.Text.{text_of}
 use Rattle.encoding_stream.specs.Blocks.{base_of_blocks, held_data, piece_text}
 use Rattle.encoding_stream.proofs.BlockLemmas.{both-after, both-written, built-again, reads-filled, reads-none, Reads}

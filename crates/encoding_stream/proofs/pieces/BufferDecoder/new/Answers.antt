@@ -4,7 +4,7 @@ use Rattle.encoding_stream.proofs.pieces.BufferDecoder.new.Goals as goal
 
 pub invariant_of-result-clause-specified : goal.invariant_of-result-clause-specified
 invariant_of-result-clause-specified c = record {
-  yields = c.specification_again.ensures c.args.encoding.now c.group_len.ensures.base;
+  is_built = c.specification_again.ensures c.args.encoding.now c.group_len.ensures.base;
 }
 
 pub invariant_of-result-clause-short : goal.invariant_of-result-clause-short

@@ -1,4 +1,4 @@
 use Rattle.data_encoding.proofs.encode.encoder.Encoder.append.Goals as goal
 
-pub returns-clause-fragments : goal.returns-clause-fragments
-returns-clause-fragments c = c.append_blocks.ensures.fragments
+pub returns-clause-pieces : goal.returns-clause-pieces
+returns-clause-pieces c = c.append_blocks.ensures.pieces

@@ -6,9 +6,9 @@ use Rattle.data_encoding.specs.Base.{Base}
 use Rattle.data_encoding.specs.Fields.{Fields, base_of, base_by, base_with, judgements, meanings_after, no_meanings, width_of}
 
 -- one base, and no refusal
-pub same_yield : (result : Result Base Refusal) (base other : Base) → result ≡ Ok base
+pub same_built : (result : Result Base Refusal) (base other : Base) → result ≡ Ok base
     → result ≡ Ok other → base ≡ other
-same_yield result base other h k = cc
+same_built result base other h k = cc
 
 pub no_refusal : (result : Result Base Refusal) (base : Base) (refusal : Refusal)
     → result ≡ Ok base → result ≡ Err refusal → ⊥
@@ -34,7 +34,7 @@ module _ (fields : Fields) where
       symbols-with (suc n) (meanings_after (Ok no_meanings) (judgements (suc n) fields))
 
   -- the symbols are those that were asked for
-  pub symbols-yield : (base : Base) → base_of fields ≡ Ok base → base.symbols ≡ fields.symbols
+  pub symbols-built : (base : Base) → base_of fields ≡ Ok base → base.symbols ≡ fields.symbols
   unfolding symbols_in
-  symbols-yield base is =
+  symbols-built base is =
       sym (ap (λ r. symbols_in r fields.symbols) is) ∙ symbols-by (width_of (length fields.symbols))

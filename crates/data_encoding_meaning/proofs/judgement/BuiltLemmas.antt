@@ -6,17 +6,18 @@ use Rattle.std.specs.Cmp.{first_so, second_so}
 use Rattle.std.specs.List.{AllByRecursion, list_all}
 use Rattle.data_encoding_meaning.specs.declared.refusal.Refusal.{Refusal}
 use Rattle.data_encoding_meaning.specs.text.Base.{Base}
-use Rattle.data_encoding_meaning.specs.laws.Eighteen.{Yields}
+use Rattle.data_encoding_meaning.specs.laws.Eighteen.{Builds}
 use Rattle.data_encoding_meaning.specs.specification.Fields.{Fields, base_of}
-use Rattle.data_encoding_meaning.proofs.judgement.RuleLemmas.{IsRuled, IsRuled-yield}
+use Rattle.data_encoding_meaning.proofs.judgement.RuleLemmas.{IsRuled, IsRuled-built}
 
 -- There is a base, and the property holds for it.
 abbrev pub IsOfBase : (Base → Type 0) → Result Base Refusal → Type 0
 IsOfBase P (Ok base) = P base
 IsOfBase P (Err refusal) = ⊥
 
-pub yields : (P : Base → Type 0) (fields : Fields) → IsOfBase P (base_of fields) → Yields P fields
-yields P fields h base is = subst (IsOfBase P) is h
+pub Builds-by : (P : Base → Type 0) (fields : Fields) → IsOfBase P (base_of fields)
+    → Builds P fields
+Builds-by P fields h base is = subst (IsOfBase P) is h
 
 -- There is a base, and it passes the test.
 abbrev pub passes : (Base → Bool) → Result Base Refusal → Bool
@@ -24,17 +25,17 @@ passes test (Ok base) = test base
 passes test (Err refusal) = false
 
 -- what a test shows of the base of each of these fields
-pub yields_all : (P : Base → Type 0) (test : Base → Bool)
+pub Builds-all : (P : Base → Type 0) (test : Base → Bool)
     → ((base : Base) → IsRuled base → test base ≡ true → P base) → (all : List Fields)
-    → list_all (λ fields. passes test (base_of fields)) all ≡ true → All (Yields P) all
-yields_all P test step all h = All-from_recursion (Yields P) all (each all h) where
+    → list_all (λ fields. passes test (base_of fields)) all ≡ true → All (Builds P) all
+Builds-all P test step all h = All-from_recursion (Builds P) all (each all h) where
   each : (some : List Fields) → list_all (λ fields. passes test (base_of fields)) some ≡ true
-      → AllByRecursion (Yields P) some
+      → AllByRecursion (Builds P) some
   each [] h = tt
   each (fields ∷ some) h =
       let shown = λ (f : Fields). passes test (base_of f) in (
         λ base is.
-            step base (IsRuled-yield fields base is)
+            step base (IsRuled-built fields base is)
             (sym (ap (passes test) is) ∙ first_so (shown fields) (list_all shown some) h),
         each some (second_so (shown fields) (list_all shown some) h),
       )

@@ -2,7 +2,7 @@
 use Rattle.std.proofs.Common.{[], refl, append-nil, ◌≡◌, ℕ, ◌+◌, ◌%◌, ◌<◌, List, ◌++◌, length, append_assoc, length-append}
 use Rattle.std.proofs.Math.Nat.{mod-add-mod, mod-eq_of_lt, mod_self, zero-add}
 use Rattle.data_encoding_meaning.specs.text.Base.{Base}
-use Rattle.data_encoding_meaning.specs.text.Fragments.{HasEncoded}
+use Rattle.data_encoding_meaning.specs.text.EncodedPieces.{HasEncoded}
 use Rattle.data_encoding_meaning.specs.text.Lengths.{alignment}
 use Rattle.data_encoding_meaning.specs.text.Text.{text_of}
 use Rattle.data_encoding_meaning.proofs.judgement.RuleLemmas.{IsRuled}
@@ -53,8 +53,8 @@ module _ (base : Base) (ruled : IsRuled base) (before bytes text held : List ℕ
       }
 
   -- what is held is encoded at the end
-  pub text_of-fragments : (whole : List ℕ) → whole ≡ text ++ text_of base held
+  pub text_of-pieces : (whole : List ℕ) → whole ≡ text ++ text_of base held
       → whole ≡ before ++ text_of base bytes
-  text_of-fragments whole written =
+  text_of-pieces whole written =
       let all = text_of-join base ruled has.encoded held has.is_aligned in
       simp (written, has.is_written, has.are_bytes, all, append_assoc)
