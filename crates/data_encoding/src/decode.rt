@@ -30,8 +30,9 @@ pub const DECODE_LIMIT: usize = limits::DECODE_LIMIT;
 // 2^61 - 1
 const _: () = prove!(DECODE_LIMIT == 2305843009213693951);
 
-// How far a decoding has read and written and, after a fault, its index in the next group and its
-// kind. The fields are scalars, so that they can stay in registers.
+// How many bytes a decoding has read and written. After a fault, also the index of the faulty byte
+// in the next group, and the kind of the fault. The fields are scalars, so that they can stay in
+// registers.
 #[derive(Clone, Copy, Drop)]
 pub(crate) struct Stop {
     pub(crate) read: usize,
@@ -55,18 +56,20 @@ impl Stop {
 }
 
 impl Encoding {
-    /// Decodes the text `input` to the start of `output`, and returns the length of the data.
-    /// `output` must have exactly the length that `decode_len` returns for `input.len()`, which
-    /// must be at most `DECODE_LIMIT`.
+    /// Decodes the text `input`, writes the data to the start of `output`, and returns the length
+    /// of the data. `input` must have at most `DECODE_LIMIT` bytes. `output` must have exactly the
+    /// length that `decode_len` returns for `input.len()`.
     ///
-    /// If the encoding allows it, padded texts may be concatenated. The error has the one fault of
-    /// a text that means nothing. The prefix that was read means the bytes that were written: those
-    /// of the groups before the faulty one. The last group can be too short only if bytes are
-    /// ignored; then the longest prefix of the rest that has a valid length is read too, unless it
-    /// has an ignored byte or a fault. Output bytes after those that were written are unspecified.
+    /// Padded texts may be concatenated if the encoding allows it.
     ///
-    /// If the encoding has no padding and ignores no byte, the length that is returned is that of
-    /// `output`.
+    /// A text that means nothing has one fault, which the error contains. After an error, the first
+    /// `read` bytes of `input` mean the first `written` bytes of `output`: those of the groups
+    /// before the faulty one. The last group can be too short only if the encoding ignores bytes.
+    /// In that case, the text is read up to the position of the fault, unless the longest prefix of
+    /// the rest that has a valid length has an ignored byte or a fault. Bytes of `output` after
+    /// those that were written are unspecified.
+    ///
+    /// If the encoding has no padding and ignores no byte, the returned length is `output.len()`.
     pub fn decode_mut(&self, input: &[u8], output: &mut [u8]) -> Result<usize, DecodePartial>
         requires limit { length input.now ≤ DECODE_LIMIT }
         requires exact { decoded_len self.now (length input.now) ≡ Ok (length output.old) }
@@ -77,10 +80,11 @@ impl Encoding {
 
     /// Returns the data that the text means. `input` must have at most `DECODE_LIMIT` bytes.
     ///
-    /// If the encoding allows it, padded texts may be concatenated. A text that means nothing has
-    /// one fault: of its length, or else of its first faulty group, in which padding is judged
-    /// before symbols. `OutOfMemory` is returned only if `decode_len` returns more than 0 for the
-    /// length.
+    /// Padded texts may be concatenated if the encoding allows it.
+    ///
+    /// A text that means nothing has one fault: that of its length or, if the length has no fault,
+    /// that of its first faulty group. In a group, the padding is checked before the symbols.
+    /// `OutOfMemory` is returned only if `decode_len` returns more than 0 for `input.len()`.
     pub fn decode(&self, alloc: Global, input: &[u8]) -> Result<Vec<u8>, DecodeFault>
         requires limit { length input.now ≤ DECODE_LIMIT }
         ensures means { IfOk result (λ bytes. Means self.now input.now bytes.items) }
@@ -105,18 +109,20 @@ impl Encoding {
 }
 
 impl EncodingRef<'_> {
-    /// Decodes the text `input` to the start of `output`, and returns the length of the data.
-    /// `output` must have exactly the length that `decode_len` returns for `input.len()`, which
-    /// must be at most `DECODE_LIMIT`.
+    /// Decodes the text `input`, writes the data to the start of `output`, and returns the length
+    /// of the data. `input` must have at most `DECODE_LIMIT` bytes. `output` must have exactly the
+    /// length that `decode_len` returns for `input.len()`.
     ///
-    /// If the encoding allows it, padded texts may be concatenated. The error has the one fault of
-    /// a text that means nothing. The prefix that was read means the bytes that were written: those
-    /// of the groups before the faulty one. The last group can be too short only if bytes are
-    /// ignored; then the longest prefix of the rest that has a valid length is read too, unless it
-    /// has an ignored byte or a fault. Output bytes after those that were written are unspecified.
+    /// Padded texts may be concatenated if the encoding allows it.
     ///
-    /// If the encoding has no padding and ignores no byte, the length that is returned is that of
-    /// `output`.
+    /// A text that means nothing has one fault, which the error contains. After an error, the first
+    /// `read` bytes of `input` mean the first `written` bytes of `output`: those of the groups
+    /// before the faulty one. The last group can be too short only if the encoding ignores bytes.
+    /// In that case, the text is read up to the position of the fault, unless the longest prefix of
+    /// the rest that has a valid length has an ignored byte or a fault. Bytes of `output` after
+    /// those that were written are unspecified.
+    ///
+    /// If the encoding has no padding and ignores no byte, the returned length is `output.len()`.
     #[inline(always)]
     pub fn decode_mut(&self, input: &[u8], output: &mut [u8]) -> Result<usize, DecodePartial>
         requires limit { length input.now ≤ DECODE_LIMIT }
@@ -130,7 +136,8 @@ impl EncodingRef<'_> {
         Err(self.stopped(input, output, stop))
     }
 
-    // Returns the error of a faulty group. Only if it is too short, a prefix of it may be decoded.
+    // Returns the error of a faulty group. A prefix of the group may be decoded, but only if the
+    // group is too short.
     #[inline(always)]
     fn stopped(&self, input: &[u8], output: &mut [u8], stop: Stop) -> DecodePartial
         requires limit { length input.now ≤ DECODE_LIMIT }
@@ -163,8 +170,9 @@ impl EncodingRef<'_> {
         }
     }
 
-    // Decodes the longest prefix of `rest` that has a valid length. Returns how many bytes it
-    // means, or `None` if it has an ignored byte, a fault, or more than a group.
+    // Decodes the longest prefix of `rest` that has a valid length. Returns how many bytes the
+    // prefix means, or `None` if the prefix has an ignored byte, has a fault, or is longer than a
+    // group.
     #[cold]
     #[inline(never)]
     fn decode_front(&self, rest: &[u8], output: &mut [u8]) -> Option<usize>

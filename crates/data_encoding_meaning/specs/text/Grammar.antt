@@ -11,7 +11,7 @@ pub record Positioned : Type 0 where
   pub position : ℕ
   pub byte : ℕ
 
--- the bytes of a piece of a text, with positions from this one on
+-- the bytes of a part of a text that starts at this position, with their positions in the text
 abbrev pub positioned_from : ℕ → List ℕ → List Positioned
 positioned_from position part =
     map (λ (p : ℕ × ℕ). record { position = p.0; byte = p.1 }) (enumerate_from position part)
@@ -20,7 +20,7 @@ positioned_from position part =
 abbrev pub positioned : List ℕ → List Positioned
 positioned text = positioned_from 0 text
 
--- those of `positioned_from` that are not ignored
+-- the elements of `positioned_from` whose bytes are not ignored
 abbrev pub kept_in : Base → ℕ → List ℕ → List Positioned
 kept_in base start part =
     filter (λ k. not (is_ignored (meaning base k.byte))) (positioned_from start part)
@@ -33,7 +33,7 @@ kept base text = kept_in base 0 text
 abbrev pub kept_from : Base → ℕ → List ℕ → List Positioned
 kept_from base read text = kept_in base read (drop read text)
 
--- the kept bytes of a text, `group_symbols` to a group; the last group may have fewer
+-- the kept bytes of a text, in groups of `group_symbols` bytes; the last group may have fewer
 abbrev pub groups : Base → List ℕ → List (List Positioned)
 groups base text = runs (group_symbols base.width) (kept base text)
 
@@ -45,8 +45,9 @@ bytes_in group = map (λ k. k.byte) group
 abbrev pub meanings_in : Base → List Positioned → List Character
 meanings_in base group = map (meaning base) (bytes_in group)
 
--- The characters are symbols of these values. Their bits are those of the bytes, and then a rest,
--- the trailing bits: fewer than a symbol has, and zeros if `checks_trailing_bits`.
+-- The characters are symbols with these values. The bits of the values are the bits of the bytes,
+-- followed by `rest`, the trailing bits. There are fewer trailing bits than a symbol has bits. If
+-- `checks_trailing_bits` is true, the trailing bits are all zeros.
 pub record PlainMeans (base : Base) (characters : List Character) (bytes : List ℕ) : Type 0 where
   pub values : List ℕ
   pub rest : List ℕ
@@ -57,8 +58,9 @@ pub record PlainMeans (base : Base) (characters : List Character) (bytes : List 
   pub rest_is_zero : base.checks_trailing_bits ≡ true → rest ≡ replicate (length rest) 0
   pub are_bytes : All (λ byte. byte < 256) bytes
 
--- One or more symbols, and then any number of padding characters, mean what the symbols mean. The
--- group is whole if the base is padded; otherwise it has no padding and may be shorter.
+-- The group is one or more symbols, followed by any number of padding characters, and means what
+-- the symbols mean. If the base is padded, the group is whole. Otherwise the group has no padding,
+-- and may be shorter than a whole group.
 pub record GroupMeans (base : Base) (group : List Character) (bytes : List ℕ) : Type 0 where
   pub symbols : List Character
   pub padding : ℕ
@@ -68,15 +70,15 @@ pub record GroupMeans (base : Base) (group : List Character) (bytes : List ℕ) 
   pub is_begun : 0 < length symbols
   pub means : PlainMeans base symbols bytes
 
--- whether a group is final: it has padding, and texts may not be concatenated
+-- whether a group is final: it has padding, and the base does not allow concatenated texts
 abbrev pub ends_text : Base → List Character → Bool
 ends_text base group = not base.concatenates && list_any is_padding group
 
--- whether a group is final, by its bytes
+-- whether a group that is given by its bytes is final
 abbrev pub is_final : Base → List Positioned → Bool
 is_final base group = ends_text base (meanings_in base group)
 
--- The bytes are what each group means, joined; a final group is the last one.
+-- The bytes are those that the groups mean, joined in order. No group follows a final group.
 abbrev pub GroupsMean : Base → List (List Character) → List ℕ → Type 0
 GroupsMean base [] bytes = bytes ≡ []
 GroupsMean base (group ∷ others) bytes =
@@ -84,6 +86,7 @@ GroupsMean base (group ∷ others) bytes =
     × GroupMeans base group piece × (ends_text base group ≡ true → others ≡ [])
     × GroupsMean base others more
 
--- A text means what its groups mean, joined; only the last may be short.
+-- A text means the bytes that its groups mean, joined in order. Only the last group may have fewer
+-- than `group_symbols` bytes.
 abbrev pub Means : Base → List ℕ → List ℕ → Type 0
 Means base text bytes = GroupsMean base (map (meanings_in base) (groups base text)) bytes
