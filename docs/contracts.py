@@ -25,13 +25,17 @@ COLUMNS = 110
 # section of their own.
 PASSED_ON = {"data_encoding": ("data_encoding_meaning", "data_encoding_kernel")}
 
+# The callers of this crate are examples: docs/EXAMPLES.md lists them, and their contracts are read with
+# their code.
+EXAMPLES = {"conformance"}
+
 # The functions of these modules have one entry, except those of the modules of APART.
 TOGETHER = {("specification", "predefined"): "The predefined encodings"}
 APART = {("specification", "predefined", "named")}
 
 # The definitions of these crates are shown with the first call whose clauses name them; those of
 # data_encoding are in docs/DEFINITIONS.md.
-SHOWN = {"encoding_stream", "basecode", "data_encoding_calls", "conformance"}
+SHOWN = {"encoding_stream", "basecode", "data_encoding_calls"}
 
 # What calls of several types promise alike: each field of these records is told as a clause.
 RECORDS = TOP / "crates/data_encoding/specs/Calls.antt"
@@ -360,9 +364,9 @@ def all_calls():
     """The public calls of each crate that has some, by its name, in the order of crates.txt."""
     lines = (TOP / "crates.txt").read_text().split("\n")
     crates = [line.split(":")[0].split(" ")[0].strip() for line in lines]
-    below = {crate for crates_below in PASSED_ON.values() for crate in crates_below}
+    left_out = EXAMPLES.union(*PASSED_ON.values())
     found = {crate: of_crate(TOP / "crates" / crate)
-             for crate in crates if crate and not crate.startswith("#") and crate not in below}
+             for crate in crates if crate and not crate.startswith("#") and crate not in left_out}
     return {crate: calls for crate, calls in found.items() if calls}
 
 

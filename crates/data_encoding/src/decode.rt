@@ -31,8 +31,8 @@ pub const DECODE_LIMIT: usize = limits::DECODE_LIMIT;
 const _: () = prove!(DECODE_LIMIT == 2305843009213693951);
 
 // How many bytes a decoding has read and written. After a fault, also the index of the faulty byte
-// in the next group, and the kind of the fault. The fields are scalars, so that they can stay in
-// registers.
+// in its group, where ignored bytes do not count, and the kind of the fault. The fields are
+// scalars, so that they can stay in registers.
 #[derive(Clone, Copy, Drop)]
 pub(crate) struct Stop {
     pub(crate) read: usize,
@@ -60,14 +60,19 @@ impl Encoding {
     /// of the data. `input` must have at most `DECODE_LIMIT` bytes. `output` must have exactly the
     /// length that `decode_len` returns for `input.len()`.
     ///
-    /// Padded texts may be concatenated if the encoding allows it.
+    /// `input` may be several padded texts in a row, if the encoding allows texts to be
+    /// concatenated.
     ///
-    /// A text that means nothing has one fault, which the error contains. After an error, the first
-    /// `read` bytes of `input` mean the first `written` bytes of `output`: those of the groups
-    /// before the faulty one. The last group can be too short only if the encoding ignores bytes.
-    /// In that case, the text is read up to the position of the fault, unless the longest prefix of
-    /// the rest that has a valid length has an ignored byte or a fault. Bytes of `output` after
-    /// those that were written are unspecified.
+    /// An invalid text has one fault, which the error contains. After an error, the first `read`
+    /// bytes of `input` mean the first `written` bytes of `output`. `read` is the end of the last
+    /// group before the faulty one, or 0 if there is none, except after some `Length` faults.
+    ///
+    /// Only the last group can have a `Length` fault, and only if the encoding ignores bytes. Let
+    /// `rest` be the bytes of `input` after the groups before it, and `front` the longest prefix of
+    /// `rest` with a valid length. If `front` has no ignored byte and no fault, `read` is the
+    /// position of the fault.
+    ///
+    /// Bytes of `output` after the first `written` are unspecified.
     ///
     /// If the encoding has no padding and ignores no byte, the returned length is `output.len()`.
     pub fn decode_mut(&self, input: &[u8], output: &mut [u8]) -> Result<usize, DecodePartial>
@@ -78,12 +83,13 @@ impl Encoding {
         self.by_ref().decode_mut(input, output)
     }
 
-    /// Returns the data that the text means. `input` must have at most `DECODE_LIMIT` bytes.
+    /// Returns the data that `input` means. `input` must have at most `DECODE_LIMIT` bytes.
     ///
-    /// Padded texts may be concatenated if the encoding allows it.
+    /// `input` may be several padded texts in a row, if the encoding allows texts to be
+    /// concatenated.
     ///
-    /// A text that means nothing has one fault: that of its length or, if the length has no fault,
-    /// that of its first faulty group. In a group, the padding is checked before the symbols.
+    /// An invalid text has one fault: that of its length or, if the length has no fault, that of
+    /// its first faulty group. In a group, the padding is checked before the symbols.
     /// `OutOfMemory` is returned only if `decode_len` returns more than 0 for `input.len()`.
     pub fn decode(&self, alloc: Global, input: &[u8]) -> Result<Vec<u8>, DecodeFault>
         requires limit { length input.now ≤ DECODE_LIMIT }
@@ -113,14 +119,19 @@ impl EncodingRef<'_> {
     /// of the data. `input` must have at most `DECODE_LIMIT` bytes. `output` must have exactly the
     /// length that `decode_len` returns for `input.len()`.
     ///
-    /// Padded texts may be concatenated if the encoding allows it.
+    /// `input` may be several padded texts in a row, if the encoding allows texts to be
+    /// concatenated.
     ///
-    /// A text that means nothing has one fault, which the error contains. After an error, the first
-    /// `read` bytes of `input` mean the first `written` bytes of `output`: those of the groups
-    /// before the faulty one. The last group can be too short only if the encoding ignores bytes.
-    /// In that case, the text is read up to the position of the fault, unless the longest prefix of
-    /// the rest that has a valid length has an ignored byte or a fault. Bytes of `output` after
-    /// those that were written are unspecified.
+    /// An invalid text has one fault, which the error contains. After an error, the first `read`
+    /// bytes of `input` mean the first `written` bytes of `output`. `read` is the end of the last
+    /// group before the faulty one, or 0 if there is none, except after some `Length` faults.
+    ///
+    /// Only the last group can have a `Length` fault, and only if the encoding ignores bytes. Let
+    /// `rest` be the bytes of `input` after the groups before it, and `front` the longest prefix of
+    /// `rest` with a valid length. If `front` has no ignored byte and no fault, `read` is the
+    /// position of the fault.
+    ///
+    /// Bytes of `output` after the first `written` are unspecified.
     ///
     /// If the encoding has no padding and ignores no byte, the returned length is `output.len()`.
     #[inline(always)]
@@ -136,8 +147,8 @@ impl EncodingRef<'_> {
         Err(self.stopped(input, output, stop))
     }
 
-    // Returns the error of a faulty group. A prefix of the group may be decoded, but only if the
-    // group is too short.
+    // Returns the error of the faulty group that follows the first `stop.read` bytes. After a
+    // `Length` fault, what `decode_front` decodes of that group is read and written too.
     #[inline(always)]
     fn stopped(&self, input: &[u8], output: &mut [u8], stop: Stop) -> DecodePartial
         requires limit { length input.now ≤ DECODE_LIMIT }

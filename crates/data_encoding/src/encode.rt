@@ -29,8 +29,9 @@ pub const ENCODE_LIMIT: usize = limits::ENCODE_LIMIT;
 const _: () = prove!(ENCODE_LIMIT == 36028797018963967);
 
 impl Encoding {
-    /// Returns the length of the text of `len` bytes of data, at most `ENCODE_LIMIT`, with its
-    /// padding and the separators of its lines. It is at most 263 for each byte.
+    /// Returns the length of the text of `len` bytes of data, including the padding and the
+    /// separators of lines. `len` must be at most `ENCODE_LIMIT`. The result is at most
+    /// `263 * len`.
     pub fn encode_len(&self, len: usize) -> usize
         requires limit { len ≤ ENCODE_LIMIT }
         ensures { IsEncodeLen self.now len result }
@@ -38,11 +39,11 @@ impl Encoding {
         self.by_ref().encode_len(len)
     }
 
-    /// Returns the number of bytes of data in a whole group of symbols, or in a whole line. It is
-    /// from 1 to 189.
+    /// Returns the number of bytes of data in a whole line, or in a whole group of symbols if the
+    /// encoding has no lines. The number is from 1 to 189.
     ///
-    /// The texts of pieces of data may be joined if the length of each piece but the last is a
-    /// multiple of it.
+    /// If the length of each piece of data but the last is a multiple of this number, the texts of
+    /// the pieces, joined in order, are the text of the joined data.
     pub fn encode_align(&self) -> usize
         ensures value { result ≡ alignment self.now }
         ensures some { 0 < result }
@@ -52,8 +53,8 @@ impl Encoding {
         self.by_ref().encode_align()
     }
 
-    /// Writes the text of the data, of at most `ENCODE_LIMIT` bytes, to `output`, which has exactly
-    /// the length that `encode_len` returns for the data.
+    /// Writes the text of the data `input` to `output`. `input` must have at most `ENCODE_LIMIT`
+    /// bytes. `output` must have exactly the length that `encode_len` returns for `input.len()`.
     pub fn encode_mut(&self, input: &[u8], output: &mut [u8])
         requires limit { length input.now ≤ ENCODE_LIMIT }
         requires exact { length output.old ≡ length (text_of self.now input.now) }
@@ -63,7 +64,7 @@ impl Encoding {
         self.by_ref().encode_mut(input, output);
     }
 
-    /// The same as `encode_mut`, on the same conditions, but returns the output as text.
+    /// Does what `encode_mut` does, under the same conditions, and returns `output` as a `str`.
     pub fn encode_mut_str<'a>(&self, input: &[u8], output: &'a mut [u8]) -> &'a str
         requires limit { length input.now ≤ ENCODE_LIMIT }
         requires exact { length output.old ≡ length (text_of self.now input.now) }
@@ -73,11 +74,11 @@ impl Encoding {
         unsafe { str::from_utf8_unchecked(output) }
     }
 
-    /// Returns the text of the data, of at most `ENCODE_LIMIT` bytes: its symbols, with padding
-    /// that fills the last group. If the encoding has lines, the text is in lines, each followed by
-    /// the separator.
+    /// Returns the text of the data `input`, which must have at most `ENCODE_LIMIT` bytes. If the
+    /// encoding has padding, the padding fills the last group. If the encoding has lines, each line
+    /// is followed by the separator.
     ///
-    /// Returns an error only if memory runs out, and never for no data.
+    /// Returns an error only if memory runs out, and never if `input` is empty.
     pub fn encode(&self, alloc: Global, input: &[u8]) -> Result<String, AllocError>
         requires limit { length input.now ≤ ENCODE_LIMIT }
         ensures text { IfOk result (λ text. string_bytes text ≡ text_of self.now input.now) }
@@ -90,8 +91,9 @@ impl Encoding {
 }
 
 impl EncodingRef<'_> {
-    /// Returns the length of the text of `len` bytes of data, at most `ENCODE_LIMIT`, with its
-    /// padding and the separators of its lines. It is at most 263 for each byte.
+    /// Returns the length of the text of `len` bytes of data, including the padding and the
+    /// separators of lines. `len` must be at most `ENCODE_LIMIT`. The result is at most
+    /// `263 * len`.
     #[inline(always)]
     pub fn encode_len(&self, len: usize) -> usize
         requires limit { len ≤ ENCODE_LIMIT }
@@ -104,7 +106,7 @@ impl EncodingRef<'_> {
         count + count.div_ceil(self.fields.column as usize) * self.separator.len()
     }
 
-    // The same without separators.
+    // Returns the length that `encode_len` returns, without the separators.
     #[inline(always)]
     fn padded_len(&self, len: usize) -> usize
         requires limit { len ≤ ENCODE_LIMIT }
@@ -118,11 +120,11 @@ impl EncodingRef<'_> {
         symbol_count(self.fields.width, len)
     }
 
-    /// Returns the number of bytes of data in a whole group of symbols, or in a whole line. It is
-    /// from 1 to 189.
+    /// Returns the number of bytes of data in a whole line, or in a whole group of symbols if the
+    /// encoding has no lines. The number is from 1 to 189.
     ///
-    /// The texts of pieces of data may be joined if the length of each piece but the last is a
-    /// multiple of it.
+    /// If the length of each piece of data but the last is a multiple of this number, the texts of
+    /// the pieces, joined in order, are the text of the joined data.
     pub(crate) fn encode_align(&self) -> usize
         ensures value { result ≡ alignment self.now }
         ensures some { 0 < result }
@@ -135,8 +137,8 @@ impl EncodingRef<'_> {
         group_bytes(self.fields.width) as usize
     }
 
-    /// Writes the text of the data, of at most `ENCODE_LIMIT` bytes, to `output`, which has exactly
-    /// the length that `encode_len` returns for the data.
+    /// Writes the text of the data `input` to `output`. `input` must have at most `ENCODE_LIMIT`
+    /// bytes. `output` must have exactly the length that `encode_len` returns for `input.len()`.
     #[inline(always)]
     pub fn encode_mut(&self, input: &[u8], output: &mut [u8])
         requires limit { length input.now ≤ ENCODE_LIMIT }
@@ -195,7 +197,8 @@ impl EncodingRef<'_> {
         let count = symbol_count(G::WIDTH as u8, input.len());
         let symbols = G::SYMBOLS;
         if output.len() >= symbols && output.len() - symbols <= count {
-            // A whole group, whose length is a constant. The symbols are written over its start.
+            // Fills the whole last group, since its length is a constant. The symbols are written
+            // over its start later.
             let start = output.len() - symbols;
             output[start..].fill(character);
         } else {
@@ -205,8 +208,8 @@ impl EncodingRef<'_> {
     }
 }
 
-// The number of symbols of `len` bytes. The divisor is a constant, since a division by a variable
-// takes as long as encoding a group.
+// The number of symbols of `len` bytes, without padding. Each division is by a constant, since a
+// division by a variable takes as long as encoding a group.
 fn symbol_count(width: u8, len: usize) -> usize
     requires width { IsWidth width }
     requires limit { len ≤ ENCODE_LIMIT }
@@ -222,7 +225,8 @@ fn symbol_count(width: u8, len: usize) -> usize
     }
 }
 
-// The same with the padding that fills the last group. Groups of one byte are always whole.
+// The number of symbols of `len` bytes, with the padding that fills the last group. Groups of one
+// byte, those of the other widths, need no padding.
 fn filled_count(width: u8, len: usize) -> usize
     requires width { IsWidth width }
     requires limit { len ≤ ENCODE_LIMIT }

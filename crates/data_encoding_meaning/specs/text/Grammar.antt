@@ -11,7 +11,7 @@ pub record Positioned : Type 0 where
   pub position : ℕ
   pub byte : ℕ
 
--- the bytes of a part of a text that starts at this position, with their positions in the text
+-- the bytes of `part`, which starts at `position` in a text, with their positions in that text
 abbrev pub positioned_from : ℕ → List ℕ → List Positioned
 positioned_from position part =
     map (λ (p : ℕ × ℕ). record { position = p.0; byte = p.1 }) (enumerate_from position part)
@@ -20,7 +20,7 @@ positioned_from position part =
 abbrev pub positioned : List ℕ → List Positioned
 positioned text = positioned_from 0 text
 
--- the elements of `positioned_from` whose bytes are not ignored
+-- the bytes of `part` that are not ignored, with their positions in the text
 abbrev pub kept_in : Base → ℕ → List ℕ → List Positioned
 kept_in base start part =
     filter (λ k. not (is_ignored (meaning base k.byte))) (positioned_from start part)
@@ -58,9 +58,9 @@ pub record PlainMeans (base : Base) (characters : List Character) (bytes : List 
   pub rest_is_zero : base.checks_trailing_bits ≡ true → rest ≡ replicate (length rest) 0
   pub are_bytes : All (λ byte. byte < 256) bytes
 
--- The group is one or more symbols, followed by any number of padding characters, and means what
--- the symbols mean. If the base is padded, the group is whole. Otherwise the group has no padding,
--- and may be shorter than a whole group.
+-- The group is one or more symbols, followed by any number of padding characters. The bytes are
+-- those that the symbols mean. If the base is padded, the group has `group_symbols` characters.
+-- Otherwise the group has no padding, and may have fewer.
 pub record GroupMeans (base : Base) (group : List Character) (bytes : List ℕ) : Type 0 where
   pub symbols : List Character
   pub padding : ℕ
@@ -87,6 +87,6 @@ GroupsMean base (group ∷ others) bytes =
     × GroupsMean base others more
 
 -- A text means the bytes that its groups mean, joined in order. Only the last group may have fewer
--- than `group_symbols` bytes.
+-- than `group_symbols` bytes, and only if the base is not padded.
 abbrev pub Means : Base → List ℕ → List ℕ → Type 0
 Means base text bytes = GroupsMean base (map (meanings_in base) (groups base text)) bytes
