@@ -1,7 +1,7 @@
 //! The next group of a text: the bytes that are not ignored.
 
-ghost use Rattle.std.specs.Prelude.{◌≡◌, ◌<◌, ◌≤◌, length, take};
-ghost use Rattle.data_encoding_meaning.specs.text.Base.{Base};
+ghost use Rattle.std.specs.Prelude.{◌≡◌, ◌<◌, ◌≤◌, length, take, IsTrue};
+ghost use Rattle.data_encoding_meaning.specs.text.Base.{Base, ignores_some};
 ghost use Rattle.data_encoding_meaning.specs.decoding.Decoding.{IsGathered};
 ghost use Rattle.data_encoding_meaning.specs.decoding.Fault.{position_of};
 ghost use Rattle.data_encoding_meaning.specs.text.Grammar.{kept};
@@ -26,16 +26,18 @@ struct Gathered {
 
 impl EncodingRef<'_> {
     /// Returns the next group of the rest of a text, or the fewer bytes that are left and not
-    /// ignored. If bytes are ignored, the group is gathered in `room`.
+    /// ignored. If a byte among them is ignored, the group is gathered in `room`.
     #[inline(always)]
     pub(crate) fn next_group<'a, G: GroupSize>(
         &self,
+        ignores: bool,
         rest: &'a [u8],
         room: &'a mut [u8; 8],
     ) -> Group<'a>
+        requires { ignores ≡ ignores_some self.now }
         ensures { IsGathered self.now G.SYMBOLS rest.now result.bytes.now result.span }
     {
-        if self.fields.ignores {
+        if ignores && !starts_whole::<G>(&self.fields.values.entries, rest) {
             let gathered = gather::<G>(&self.fields.values.entries, rest, room);
             return Group {
                 bytes: &room[..gathered.count],
@@ -76,6 +78,24 @@ impl EncodingRef<'_> {
         }
         part.len()
     }
+}
+
+// Whether the first bytes, as many as a group has, are not ignored.
+#[inline(always)]
+fn starts_whole<G: GroupSize>(values: &[u8; 256], rest: &[u8]) -> bool
+    ensures { IsTrue result → (base : Base) → HoldsValues base values.now
+        → IsGathered base G.SYMBOLS rest.now (take G.SYMBOLS rest.now) G.SYMBOLS }
+{
+    let most = G::SYMBOLS;
+    if rest.len() < most {
+        return false;
+    }
+    for index in 0..most {
+        if values[rest[index] as usize] == IGNORED {
+            return false;
+        }
+    }
+    true
 }
 
 // Gathers the first bytes that are not ignored at the start of `room`.

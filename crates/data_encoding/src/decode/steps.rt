@@ -1,7 +1,7 @@
 //! Decoding step by step: a run of whole groups, and the group that follows it.
 
 ghost use Rattle.std.specs.Prelude.{◌≡◌, ℕ, List, true, false, ◌≤◌, length, drop, Ok};
-ghost use Rattle.data_encoding_meaning.specs.text.Base.{Base};
+ghost use Rattle.data_encoding_meaning.specs.text.Base.{Base, ignores_some};
 ghost use Rattle.data_encoding_meaning.specs.decoding.Decoding.{HasDecodedTo, IsIgnoredFront};
 ghost use Rattle.data_encoding.specs.Steps.{HasEnded, HasStepped};
 ghost use Rattle.data_encoding_meaning.specs.text.Lengths.{decoded_len};
@@ -66,7 +66,7 @@ impl EncodingRef<'_> {
                 input,
                 output,
             );
-            match self.decode_next::<G>(order, at, input, output, stop) {
+            match self.decode_next::<G>(order, self.fields.ignores, at, input, output, stop) {
                 Step::More => {}
                 Step::Ended => return true,
                 Step::Faulty => return false,
@@ -101,7 +101,7 @@ impl EncodingRef<'_> {
             written,
             ignored: self.count_ignored(read, input),
         };
-        let mut goes_on = true;
+        let mut goes_on = at.read + at.ignored < input.len();
         while goes_on {
             let next = self.decode_run_after_ignored::<L, O, G>(values, look_up, at, input, output);
             if next.read == at.read {
@@ -112,7 +112,7 @@ impl EncodingRef<'_> {
                 written: next.written,
                 ignored: self.count_ignored(next.read, input),
             };
-            goes_on = at.ignored != 0;
+            goes_on = at.ignored != 0 && at.read + at.ignored < input.len();
         }
         at
     }
@@ -174,6 +174,7 @@ impl EncodingRef<'_> {
     pub(crate) fn decode_next<G: GroupSize>(
         &self,
         order: BitOrder,
+        ignores: bool,
         at: Reached,
         input: &[u8],
         output: &mut [u8],
@@ -181,6 +182,7 @@ impl EncodingRef<'_> {
     ) -> Step
         requires width { self.now.width ≡ G.WIDTH }
         requires order { self.now.order ≡ order }
+        requires ignores { ignores ≡ ignores_some self.now }
         requires limit { length input.now ≤ DECODE_LIMIT }
         requires exact { decoded_len self.now (length input.now) ≡ Ok (length output.old) }
         requires so_far { HasDecodedTo self.now input.now at.read at.written false output.old }
@@ -193,7 +195,7 @@ impl EncodingRef<'_> {
             return Step::Ended;
         }
         let mut room = [0; 8];
-        let group = self.next_group::<G>(&input[start..], &mut room);
+        let group = self.next_group::<G>(ignores, &input[start..], &mut room);
         if group.bytes.is_empty() {
             stop.written = at.written;
             return Step::Ended;
@@ -228,7 +230,10 @@ impl EncodingRef<'_> {
             → HasEnded self.now input.now output stop.new result }
     {
         let mut room = [0; 8];
-        let group = self.next_group::<G>(&input[stop.read..], &mut room).bytes;
+        let rest = &input[stop.read..];
+        let group = self
+            .next_group::<G>(self.fields.ignores, rest, &mut room)
+            .bytes;
         if group.is_empty() {
             return true;
         }

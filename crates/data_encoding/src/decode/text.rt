@@ -76,7 +76,8 @@ impl EncodingRef<'_> {
         )
     }
 
-    // With the width and the sizes of a group as constants too. Most texts end with the first step.
+    // With the width and the sizes of a group as constants too. If no byte is ignored, most texts
+    // end with the first step.
     #[inline(always)]
     fn decode_text<L: LookUp, O: ConstantOrder, G: GroupSize>(
         &self,
@@ -90,6 +91,11 @@ impl EncodingRef<'_> {
         requires exact { decoded_len self.now (length input.now) ≡ Ok (length output.old) }
         ensures { HasEnded self.now input.now output.new stop.new result }
     {
+        if self.fields.ignores {
+            stop.read = 0;
+            stop.written = 0;
+            return self.decode_rest::<L, O, G>(input, output, stop);
+        }
         let look_up = L::of(&self.fields.values);
         let at = self.decode_run_after_ignored::<L, O, G>(
             &self.fields.values.entries,
@@ -102,7 +108,7 @@ impl EncodingRef<'_> {
             input,
             output,
         );
-        match self.decode_next::<G>(O::ORDER, at, input, output, stop) {
+        match self.decode_next::<G>(O::ORDER, false, at, input, output, stop) {
             Step::More if stop.read == input.len() => true,
             Step::More => self.decode_rest::<L, O, G>(input, output, stop),
             Step::Ended => true,
@@ -110,7 +116,7 @@ impl EncodingRef<'_> {
         }
     }
 
-    // The remaining steps: further padded texts, or ignored bytes.
+    // The remaining steps: further padded texts; or all, if bytes are ignored.
     #[inline(never)]
     fn decode_rest<L: LookUp, O: ConstantOrder, G: GroupSize>(
         &self,

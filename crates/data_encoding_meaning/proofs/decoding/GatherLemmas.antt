@@ -54,6 +54,22 @@ module _ (base : Base) (part : List ℕ) (index : ℕ) (inside : index < length 
       → kept base (take (index + 1) part) ≡ kept base (take index part)
   next-ignored h = next-is ∙ rw h (append-nil (kept base (take index part)))
 
+  -- a byte that is not ignored stays in its place
+  pub gather-in_place : is_ignored (meaning base here) ≡ false
+      → HasGathered base part index index index part
+      → HasGathered base part (index + 1) (index + 1) (index + 1) part
+  gather-in_place h so_far =
+      let before = kept base (take index part) in
+      let bytes = map-append (λ (k : Positioned). k.byte) before (found ∷ []) in
+      let place : index + 1 - 1 ≡ index = omega arith in
+      record {
+        before = omega arith;
+        same = refl;
+        bytes_are = rw (next-kept h, bytes, so_far.bytes_are) (sym (take_more part index 0 inside));
+        count_is = rw (next-kept h, length-append before (found ∷ []), so_far.count_is);
+        ends = λ _. rw place h;
+      }
+
   module _ (count span : ℕ) (room : List ℕ)
       (so_far : HasGathered base part index count span room) where
     pub gather-kept : is_ignored (meaning base here) ≡ false → count < length room

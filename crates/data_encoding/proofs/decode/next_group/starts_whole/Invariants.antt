@@ -1,0 +1,10 @@
+use Rattle.std.proofs.Common.{◌≤◌, length}
+use Rattle.data_encoding_meaning.specs.text.Base.{Base}
+use Rattle.data_encoding_kernel.specs.Tables.{HoldsValues}
+use Rattle.data_encoding_meaning.proofs.decoding.GatherLemmas.{HasGathered}
+use Rattle.data_encoding.proofs.decode.next_group.starts_whole.Given as goal
+
+abbrev pub invariant-loop-index : goal.invariant-loop-index
+invariant-loop-index g l =
+    (base : Base) → HoldsValues base l.values
+    → HasGathered base l.rest l.index l.index l.index l.rest
