@@ -60,8 +60,7 @@ impl Encoding {
     /// of the data. `input` must have at most `DECODE_LIMIT` bytes. `output` must have exactly the
     /// length that `decode_len` returns for `input.len()`.
     ///
-    /// `input` may be several padded texts in a row, if the encoding allows texts to be
-    /// concatenated.
+    /// `input` may be several concatenated padded texts, if the encoding allows it.
     ///
     /// An invalid text has one fault, which the error contains. After an error, the first `read`
     /// bytes of `input` mean the first `written` bytes of `output`. `read` is the end of the last
@@ -85,8 +84,7 @@ impl Encoding {
 
     /// Returns the data that `input` means. `input` must have at most `DECODE_LIMIT` bytes.
     ///
-    /// `input` may be several padded texts in a row, if the encoding allows texts to be
-    /// concatenated.
+    /// `input` may be several concatenated padded texts, if the encoding allows it.
     ///
     /// An invalid text has one fault: that of its length or, if the length has no fault, that of
     /// its first faulty group. In a group, the padding is checked before the symbols.
@@ -119,8 +117,7 @@ impl EncodingRef<'_> {
     /// of the data. `input` must have at most `DECODE_LIMIT` bytes. `output` must have exactly the
     /// length that `decode_len` returns for `input.len()`.
     ///
-    /// `input` may be several padded texts in a row, if the encoding allows texts to be
-    /// concatenated.
+    /// `input` may be several concatenated padded texts, if the encoding allows it.
     ///
     /// An invalid text has one fault, which the error contains. After an error, the first `read`
     /// bytes of `input` mean the first `written` bytes of `output`. `read` is the end of the last
