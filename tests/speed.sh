@@ -43,7 +43,10 @@ is 'too many libraries' 2 $?
 rows() {
     cut -d '|' -f 2 | grep -E '^ (encode |decode |)[A-Z0-9_]+ $'
 }
-names=$(sed -n '/names\[NAMES\] = /,/;/p' benches/memory.c | grep -o '"[A-Z0-9_]*"' | tr -d '"')
+names=$({
+    sed -n '/names\[NAMES\] = /,/;/p' benches/memory.c
+    sed -n '/^const NAMES/,/^];/p' benches/memory.mjs
+} | grep -o '"[A-Z0-9_]*"' | tr -d '"')
 is 'the rows of docs/SPEED.md' "$(rows <<<"$table")"$'\n'"$(sed 's/.*/ & /' <<<"$names")" \
     "$(rows <docs/SPEED.md)"
 
