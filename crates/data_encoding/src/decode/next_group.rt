@@ -26,7 +26,7 @@ struct Gathered {
 
 impl EncodingRef<'_> {
     /// Returns the next group of the rest of a text, or the fewer bytes that are left and not
-    /// ignored. If a byte among them is ignored, the group is gathered in `room`.
+    /// ignored. If one of the next bytes is ignored, the group is gathered in `room`.
     #[inline(always)]
     pub(crate) fn next_group<'a, G: GroupSize>(
         &self,
