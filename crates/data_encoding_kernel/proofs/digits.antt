@@ -13,3 +13,4 @@ pub mod GatherWordLemmas
 pub mod GatherRowLemmas
 pub mod GatherStoreLemmas
 pub mod AffineLemmas
+pub mod AffineSymbolLemmas

@@ -3,4 +3,5 @@ pub mod Tables
 pub mod Lanes
 pub mod Values
 pub mod Affine
+pub mod AffineSymbols
 pub mod Runs

@@ -1,14 +1,22 @@
 //! The symbols of data, group after group.
 
-ghost use Rattle.std.specs.Prelude.{◌≡◌, ℕ, ◌+◌, ◌-◌, ◌*◌, ◌/◌, ◌<◌, ◌≤◌, ◌==◌, if◌then◌else◌, length, take};
+ghost use Rattle.std.specs.Prelude.{◌≡◌, ℕ, ◌+◌, ◌-◌, ◌*◌, ◌/◌, ◌<◌, ◌≤◌, ◌==◌, if◌then◌else◌, List, length, take};
 ghost use Rattle.data_encoding_meaning.specs.text.Base.{group_bytes};
+ghost use Rattle.data_encoding_kernel.specs.AffineSymbols.{HoldsAffineSymbols};
 ghost use Rattle.data_encoding_kernel.specs.Tables.{IsTextBy};
 
 use crate::group_size::GroupSize;
-use crate::lanes::encode::{encode_eight, encode_four, encode_four_octal, encode_two};
+use crate::lanes::affine_symbols::{AffineSymbols, affine_symbols_of};
+use crate::lanes::encode::{
+    encode_eight, encode_eight_by_sums, encode_four, encode_four_octal, encode_two,
+};
 use crate::words::encode_group;
 use data_encoding_meaning::encoding::BitOrder;
 use data_encoding_meaning::limits::ENCODE_LIMIT;
+
+// From this many bytes on, symbols of six bits are looked for as sums: the search takes as long as
+// it saves in half as many.
+const LONG: usize = 192;
 
 // The order is a constant from here on, so that each digit is at a known bit of its word.
 #[inline(always)]
@@ -26,19 +34,25 @@ pub fn encode_plain<G: GroupSize>(
     if input.len() < 10 * G::BYTES - 2 {
         return EightGroups::encode_rest::<G>(symbols, order, input, output);
     }
-    match order {
-        BitOrder::MostSignificantFirst => encode_turns::<EightGroups, G>(
-            symbols,
-            BitOrder::MostSignificantFirst,
-            input,
-            output,
-        ),
-        BitOrder::LeastSignificantFirst => encode_turns::<EightGroups, G>(
-            symbols,
-            BitOrder::LeastSignificantFirst,
-            input,
-            output,
-        ),
+    if G::WIDTH == 6 && input.len() >= LONG {
+        return encode_long::<G>(symbols, order, input, output);
+    }
+    encode_by_order::<EightGroups, G>(&EightGroups, symbols, order, input, output);
+}
+
+// The symbols as sums if they have that form. Not inlined, so that shorter data does not pay for
+// what the sums take.
+#[inline(never)]
+fn encode_long<G: GroupSize>(symbols: &[u8; 256], order: BitOrder, input: &[u8], output: &mut [u8])
+    requires limit { length input.now ≤ ENCODE_LIMIT }
+    requires exact { length output.old ≡ (8 * length input.now + (G.WIDTH - 1)) / G.WIDTH }
+    ensures { IsTextBy symbols.now G.WIDTH order input.now output.new }
+{
+    match affine_symbols_of(symbols) {
+        Some(affine) => {
+            encode_by_order::<EightSums, G>(&EightSums { affine }, symbols, order, input, output);
+        }
+        None => encode_by_order::<EightGroups, G>(&EightGroups, symbols, order, input, output),
     }
 }
 
@@ -46,11 +60,13 @@ pub fn encode_plain<G: GroupSize>(
 // rest.
 #[inline(always)]
 fn encode_turns<T: EncodeTurn, G: GroupSize>(
+    turn: &T,
     symbols: &[u8; 256],
     order: BitOrder,
     input: &[u8],
     output: &mut [u8],
 )
+    requires held { T.holds symbols.now turn.now }
     requires limit { length input.now ≤ ENCODE_LIMIT }
     requires exact { length output.old ≡ (8 * length input.now + (G.WIDTH - 1)) / G.WIDTH }
     ensures { IsTextBy symbols.now G.WIDTH order input.now output.new }
@@ -64,7 +80,7 @@ fn encode_turns<T: EncodeTurn, G: GroupSize>(
     for index in 0..count {
         let read = index * read_len;
         let written = index * written_len;
-        T::encode::<G>(
+        turn.encode::<G>(
             symbols,
             order,
             &input[read..read + (read_len + ahead_len)],
@@ -87,6 +103,9 @@ trait EncodeTurn {
 
     ghost further: { ℕ → ℕ };
 
+    // Whether what the turn looks up is that of a table of symbols.
+    ghost holds: { List ℕ → Self → Type 0 };
+
     fn groups<G: GroupSize>() -> usize
         ensures number { result ≡ number G.WIDTH }
         ensures some { 0 < result }
@@ -96,7 +115,14 @@ trait EncodeTurn {
         ensures number { result ≡ further G.WIDTH }
         ensures few { result ≤ 8 };
 
-    fn encode<G: GroupSize>(symbols: &[u8; 256], order: BitOrder, input: &[u8], output: &mut [u8])
+    fn encode<G: GroupSize>(
+        &self,
+        symbols: &[u8; 256],
+        order: BitOrder,
+        input: &[u8],
+        output: &mut [u8],
+    )
+        requires held { holds symbols.now self.now }
         requires loaded { length input.now ≡ number G.WIDTH * G.BYTES + further G.WIDTH }
         requires exact { length output.old ≡ number G.WIDTH * G.SYMBOLS }
         ensures { IsTextBy symbols.now G.WIDTH order (take (number G.WIDTH * G.BYTES) input.now)
@@ -123,6 +149,8 @@ impl EncodeTurn for EightGroups {
 
     ghost further = { λ width. 2 * (group_bytes width - 1) };
 
+    ghost holds = { λ symbols turn. Unit {0} };
+
     #[inline(always)]
     fn groups<G: GroupSize>() -> usize {
         8
@@ -134,7 +162,13 @@ impl EncodeTurn for EightGroups {
     }
 
     #[inline(always)]
-    fn encode<G: GroupSize>(symbols: &[u8; 256], order: BitOrder, input: &[u8], output: &mut [u8]) {
+    fn encode<G: GroupSize>(
+        &self,
+        symbols: &[u8; 256],
+        order: BitOrder,
+        input: &[u8],
+        output: &mut [u8],
+    ) {
         encode_eight::<G>(symbols, order, input, output);
     }
 
@@ -148,33 +182,82 @@ impl EncodeTurn for EightGroups {
     ) {
         // One by one, groups of several bytes take longer.
         if G::BYTES > 1 && input.len() >= 16 {
-            encode_by_order::<FewGroups, G>(symbols, order, input, output);
+            encode_by_order::<FewGroups, G>(&FewGroups, symbols, order, input, output);
         } else {
-            encode_by_order::<OneGroup, G>(symbols, order, input, output);
+            encode_by_order::<OneGroup, G>(&OneGroup, symbols, order, input, output);
         }
+    }
+}
+
+/// Eight groups in lanes, of which the symbols of six bits are sums.
+#[derive(Clone, Copy, Drop)]
+struct EightSums {
+    affine: AffineSymbols,
+}
+
+impl EncodeTurn for EightSums {
+    ghost number = { λ width. 8 };
+
+    ghost further = { λ width. 2 * (group_bytes width - 1) };
+
+    ghost holds = { λ symbols turn. HoldsAffineSymbols symbols turn.affine };
+
+    #[inline(always)]
+    fn groups<G: GroupSize>() -> usize {
+        8
+    }
+
+    #[inline(always)]
+    fn ahead<G: GroupSize>() -> usize {
+        2 * (G::BYTES - 1)
+    }
+
+    #[inline(always)]
+    fn encode<G: GroupSize>(
+        &self,
+        symbols: &[u8; 256],
+        order: BitOrder,
+        input: &[u8],
+        output: &mut [u8],
+    ) {
+        encode_eight_by_sums::<G>(&self.affine, symbols, order, input, output);
+    }
+
+    #[inline(always)]
+    fn encode_rest<G: GroupSize>(
+        symbols: &[u8; 256],
+        order: BitOrder,
+        input: &[u8],
+        output: &mut [u8],
+    ) {
+        EightGroups::encode_rest::<G>(symbols, order, input, output);
     }
 }
 
 // With the order as a constant.
 #[inline(always)]
 fn encode_by_order<T: EncodeTurn, G: GroupSize>(
+    turn: &T,
     symbols: &[u8; 256],
     order: BitOrder,
     input: &[u8],
     output: &mut [u8],
 )
+    requires held { T.holds symbols.now turn.now }
     requires limit { length input.now ≤ ENCODE_LIMIT }
     requires exact { length output.old ≡ (8 * length input.now + (G.WIDTH - 1)) / G.WIDTH }
     ensures { IsTextBy symbols.now G.WIDTH order input.now output.new }
 {
     match order {
         BitOrder::MostSignificantFirst => encode_turns::<T, G>(
+            turn,
             symbols,
             BitOrder::MostSignificantFirst,
             input,
             output,
         ),
         BitOrder::LeastSignificantFirst => encode_turns::<T, G>(
+            turn,
             symbols,
             BitOrder::LeastSignificantFirst,
             input,
@@ -192,6 +275,8 @@ impl EncodeTurn for FewGroups {
 
     ghost further = { λ width. if width == 5 then 6 else if width == 3 then 4
         else if width == 6 then 4 else 0 };
+
+    ghost holds = { λ symbols turn. Unit {0} };
 
     #[inline(always)]
     fn groups<G: GroupSize>() -> usize {
@@ -214,7 +299,13 @@ impl EncodeTurn for FewGroups {
     }
 
     #[inline(always)]
-    fn encode<G: GroupSize>(symbols: &[u8; 256], order: BitOrder, input: &[u8], output: &mut [u8]) {
+    fn encode<G: GroupSize>(
+        &self,
+        symbols: &[u8; 256],
+        order: BitOrder,
+        input: &[u8],
+        output: &mut [u8],
+    ) {
         match G::WIDTH {
             3 => encode_four_octal::<G>(symbols, order, input, output),
             5 => encode_two::<G>(symbols, order, input, output),
@@ -230,7 +321,7 @@ impl EncodeTurn for FewGroups {
         input: &[u8],
         output: &mut [u8],
     ) {
-        encode_turns::<OneGroup, G>(symbols, order, input, output);
+        encode_turns::<OneGroup, G>(&OneGroup, symbols, order, input, output);
     }
 }
 
@@ -241,6 +332,8 @@ impl EncodeTurn for OneGroup {
     ghost number = { λ width. 1 };
 
     ghost further = { λ width. 0 };
+
+    ghost holds = { λ symbols turn. Unit {0} };
 
     #[inline(always)]
     fn groups<G: GroupSize>() -> usize {
@@ -253,7 +346,13 @@ impl EncodeTurn for OneGroup {
     }
 
     #[inline(always)]
-    fn encode<G: GroupSize>(symbols: &[u8; 256], order: BitOrder, input: &[u8], output: &mut [u8]) {
+    fn encode<G: GroupSize>(
+        &self,
+        symbols: &[u8; 256],
+        order: BitOrder,
+        input: &[u8],
+        output: &mut [u8],
+    ) {
         encode_group::<G>(symbols, order, input, output);
     }
 

@@ -1,6 +1,7 @@
 //! Eight groups at a time, with a lane for each.
 
 pub mod affine;
+pub mod affine_symbols;
 pub mod decode;
 pub mod decode_sixteen;
 pub mod digits;

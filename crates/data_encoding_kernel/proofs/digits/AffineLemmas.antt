@@ -23,7 +23,7 @@ abbrev plus : ℕ → ℕ → ℕ
 plus a b = (a + b) % 2 ^ 8
 
 -- lanes chosen by whether two others are equal
-chosen-equal : (f g h k : ℕ → ℕ) (bytes us vs : List ℕ) {xs ys : List ℕ} → xs ≡ map f bytes
+pub chosen-equal : (f g h k : ℕ → ℕ) (bytes us vs : List ℕ) {xs ys : List ℕ} → xs ≡ map f bytes
     → ys ≡ map g bytes → us ≡ map h bytes → vs ≡ map k bytes
     → sel_l (map (top 7) (zip2 equal xs ys)) us vs
     ≡ map (λ byte. cond (eqb (f byte) (g byte)) (h byte) (k byte)) bytes
@@ -138,12 +138,12 @@ pub row-bytes : (row : ℕ) → row < 8
 row-bytes row few =
     map-range-same (λ k. (k + 16 * row) % 256) (λ k. 16 * row + k) 16 (λ k h. omega (arith, few, h))
 
-counted-at : (f : ℕ → ℕ) (count k : ℕ) → k < count
+pub counted-at : (f : ℕ → ℕ) (count k : ℕ) → k < count
     → get_or (map f (range_with_len 0 count)) k 0 ≡ f k
 counted-at f count k h = get_or-map-range_with_len f 0 count k k 0 h (omega arith)
 
 -- lanes that are counted from 0
-listed : (f : ℕ → ℕ) (count : ℕ) (lanes : List ℕ) → length lanes ≡ count
+pub listed : (f : ℕ → ℕ) (count : ℕ) (lanes : List ℕ) → length lanes ≡ count
     → ((k : ℕ) → k < count → get_or lanes k 0 ≡ f k) → lanes ≡ map f (range_with_len 0 count)
 listed f count lanes long each =
     ext_get_or 0 lanes (map f (range_with_len 0 count))

@@ -14,7 +14,7 @@ use Rattle.data_encoding_kernel.specs.Values.{IsRow, chosen_by, in_row}
 use Rattle.data_encoding_kernel.proofs.digits.LaneLemmas.{selected}
 use Rattle.data_encoding_meaning.proofs.lists.RepeatLemmas.{get_or-repeats}
 
-abbrev repeats : ℕ → List ℕ → List ℕ
+abbrev pub repeats : ℕ → List ℕ → List ℕ
 repeats times xs = concat (replicate times xs)
 
 -- no lane is at least the limit

@@ -6,7 +6,9 @@ use Rattle.std.specs.List.{range_with_len}
 use Rattle.data_encoding_meaning.specs.declared.encoding.BitOrder.TheVariants.{MostSignificantFirst}
 use Rattle.data_encoding_kernel.specs.declared.lanes.affine.Affine.{Affine}
 use Rattle.data_encoding_kernel.specs.declared.lanes.affine.PlainAffine.{PlainAffine}
+use Rattle.data_encoding_kernel.specs.declared.lanes.affine_symbols.AffineSymbols.{AffineSymbols}
 use Rattle.data_encoding_kernel.specs.Affine.{HoldsAffine, affine_entry, affine_value, agrees, agrees_from, bits_of_rows, form_of, moved_byte, symbol_bit}
+use Rattle.data_encoding_kernel.specs.AffineSymbols.{HoldsAffineSymbols, affine_symbol, first_of}
 use Rattle.data_encoding_kernel.specs.Lanes.{digits_of, group_word, group_words, halved_lane, spread_word}
 use Rattle.data_encoding_kernel.specs.Values.{HoldsRows, IsRow, chosen_by, in_row, joined}
 use Rattle.data_encoding_kernel.proofs.digits.PlainAffineLemmas.{agrees-holds}
@@ -101,7 +103,46 @@ unfolding digits_and_plus
 affine_told values held =
     (sym (held.agrees 53 (lit< tt) (lit< tt)), sym (held.agrees 43 (lit< tt) (lit< tt)))
 
--- the same form as plain data, and that of a table that has none
+-- the symbols of base64 for URLs: the letters are 71 above their value and, below 26, 250 more,
+-- modulo 256; each later one has a number of its own
+url_symbols : AffineSymbols
+url_symbols = record {
+  last = 71 ∷ 71 ∷ 71 ∷ 71 ∷ 252 ∷ 252 ∷ 252 ∷ 252 ∷ 252 ∷ 252 ∷ 252 ∷ 252 ∷ 252 ∷ 252 ∷ 239
+      ∷ 32 ∷ [];
+  bound = 26;
+  first = 250;
+}
+
+-- `Z` and `a` are the symbols of 25 and 26, `0` is that of 52, and `-` and `_` are the last
+symbols_added :
+    (first_of url_symbols 25 ≡ 250)
+    × (first_of url_symbols 26 ≡ 0)
+    × (affine_symbol url_symbols 25 ≡ 90)
+    × (affine_symbol url_symbols 26 ≡ 97)
+    × (affine_symbol url_symbols 52 ≡ 48)
+    × (affine_symbol url_symbols 62 ≡ 45)
+    × (affine_symbol url_symbols 63 ≡ 95)
+unfolding url_symbols
+symbols_added = (refl, refl, refl, refl, refl, refl, refl)
+
+-- the table of these symbols has this form
+symbols_held : HoldsAffineSymbols (map (affine_symbol url_symbols) (range_with_len 0 64)) url_symbols
+symbols_held = record {
+  agrees = λ value h.
+      sym (get_or-map (affine_symbol url_symbols) (range_with_len 0 64) value 0 0
+      (omega (arith, h, length-range_with_len 0 64))
+      ∙ ap (affine_symbol url_symbols)
+      (get_or-range_with_len 0 64 value 0 h ∙ omega arith));
+}
+
+-- a table of this form has `Z` at 25, and `-` at 62
+symbols_told : (symbols : List ℕ) → HoldsAffineSymbols symbols url_symbols
+    → (slice_index symbols 25 ≡ 90) × (slice_index symbols 62 ≡ 45)
+unfolding url_symbols
+symbols_told symbols held =
+    (sym (held.agrees 25 (lit< tt)), sym (held.agrees 62 (lit< tt)))
+
+-- the affine form of digits and `+` as plain data, and that of a table that has none
 abbrev plain_digits_and_plus : PlainAffine
 plain_digits_and_plus = record {
   symbols = digits_and_plus.symbols;

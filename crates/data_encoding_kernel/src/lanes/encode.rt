@@ -3,9 +3,11 @@
 ghost use Rattle.std.specs.Prelude.{◌≡◌, ◌⊎◌, ◌+◌, ◌*◌, ◌%◌, ◌^◌, ◌<◌, ◌≤◌, length, map, take, slice_index};
 ghost use Rattle.std.specs.List.{AllByRecursion, range_with_len};
 ghost use Rattle.data_encoding_meaning.specs.text.Base.{IsWidth};
+ghost use Rattle.data_encoding_kernel.specs.AffineSymbols.{HoldsAffineSymbols};
 ghost use Rattle.data_encoding_kernel.specs.Tables.{IsTextBy};
 
 use crate::group_size::GroupSize;
+use crate::lanes::affine_symbols::{AffineSymbols, affine_symbols_64};
 use crate::lanes::digits::{digits, digits_of_four, digits_of_two, octal_digits_of_four};
 use data_encoding_meaning::encoding::BitOrder;
 use std::simd::prelude::*;
@@ -75,6 +77,19 @@ fn look_up<G: GroupSize>(symbols: &[u8; 256], values: u8x64) -> u8x64
     look_in_sixteen(symbols, values)
 }
 
+// The symbols of values; those of six bits as sums.
+#[inline(always)]
+fn look_up_sums<G: GroupSize>(affine: &AffineSymbols, symbols: &[u8; 256], values: u8x64) -> u8x64
+    requires held { HoldsAffineSymbols symbols.now affine.now }
+    requires below { AllByRecursion (λ value. value < 2 ^ G.WIDTH) values }
+    ensures { result ≡ map (slice_index symbols.now) values }
+{
+    if G::WIDTH == 6 {
+        return affine_symbols_64(affine, values);
+    }
+    look_up::<G>(symbols, values)
+}
+
 // Writes the first lanes.
 #[inline(always)]
 fn store<G: GroupSize>(lanes: u8x64, output: &mut [u8])
@@ -123,6 +138,25 @@ pub fn encode_eight<G: GroupSize>(
 {
     let values = digits::<G>(order, input);
     store::<G>(look_up::<G>(symbols, values), output);
+}
+
+/// Writes the text of the first eight groups; symbols of six bits are found as sums. Up to six bytes
+/// after these groups are loaded too.
+#[inline(always)]
+pub fn encode_eight_by_sums<G: GroupSize>(
+    affine: &AffineSymbols,
+    symbols: &[u8; 256],
+    order: BitOrder,
+    input: &[u8],
+    output: &mut [u8],
+)
+    requires held { HoldsAffineSymbols symbols.now affine.now }
+    requires bytes { 10 * G.BYTES ≤ length input.now + 2 }
+    requires exact { length output.old ≡ 8 * G.SYMBOLS }
+    ensures { IsTextBy symbols.now G.WIDTH order (take (8 * G.BYTES) input.now) output.new }
+{
+    let lanes = look_up_sums::<G>(affine, symbols, digits::<G>(order, input));
+    store::<G>(lanes, output);
 }
 
 /// Writes the text of the first four groups of four symbols of six bits. Four bytes after them are
