@@ -1,17 +1,17 @@
 -- Lemmas on whole groups that are decoded in place.
-use Rattle.std.proofs.Common.{◌≡◌, inr, ℕ, ◌+◌, ◌*◌, ◌/◌, ◌%◌, ◌<◌, ◌≤◌, ◌==◌, Bool, true, false, not, ◌&&◌, if◌then◌else◌, List, [], Option, None, Some, Ok, is_some, length, refl, sym, subst, ap, ◌∙◌, arith, IsOkAnd}
+use Rattle.std.proofs.Common.{◌≡◌, ℕ, ◌+◌, ◌*◌, ◌/◌, ◌%◌, ◌<◌, ◌≤◌, Bool, true, false, if◌then◌else◌, List, [], Option, None, Some, Ok, is_some, length, refl, sym, subst, ap, arith, IsOkAnd}
 use Rattle.std.proofs.Math.Nat.{div-mul-le_self, le-div_iff_mul-le, le_of_mul-le-mul_left, mul-le-mul_left, mul-le-mul_right}
 use Rattle.data_encoding.specs.declared.error.DecodeError.{DecodeError}
 use Rattle.data_encoding.specs.declared.error.DecodePartial.{DecodePartial}
-use Rattle.data_encoding.specs.Base.{Base, IsWidth, group_bytes, group_symbols, ignores_some, is_padded}
+use Rattle.data_encoding.specs.Base.{Base, IsWidth, group_bytes, group_symbols, is_padded}
 use Rattle.data_encoding.specs.Fields.{IsSpecified}
 use Rattle.data_encoding.specs.Grammar.{Means}
 use Rattle.data_encoding.specs.Laws.{further}
 use Rattle.data_encoding.specs.Lengths.{decoded_len, length_fault, most_bytes, unless_fault}
-use Rattle.data_encoding.specs.Pieces.{AreWhole, CountsGroups, EndsNowhere, MeansWhole, ReadsSound, TellsEnd}
+use Rattle.data_encoding.specs.Pieces.{CountsGroups, ReadsSound}
 use Rattle.encoding_stream.specs.declared.pieces.Kept.{Kept}
 use Rattle.encoding_stream.specs.Pieces.{at_positions, FillsGroups, Keeps}
-use Rattle.encoding_stream.specs.Reading.{AreWholeGroups, ReadsOn, ReadsRun}
+use Rattle.encoding_stream.specs.Reading.{has_final, AreWholeGroups, ReadsOn, ReadsRun}
 use Rattle.encoding_stream.proofs.PieceLemmas.{no-fault}
 use Rattle.encoding_stream.proofs.ReadPieceLemmas.{fills-few}
 use Rattle.encoding_stream.proofs.SizeLemmas.{bytes-some, due-most, symbols-some}
@@ -28,17 +28,19 @@ nothing-held : (count : ℕ) (positions bytes : List ℕ) → count ≡ 0
 nothing-held count positions bytes none = ap (λ n. at_positions n positions bytes) none
 
 pub reads-run : (base : Base) → IsWidth base.width → (old : Kept) → IsFresh old
-    → (piece bytes : List ℕ) (error : Option DecodeError) → ReadsRun base piece bytes error
+    → (piece bytes : List ℕ) (error : Option DecodeError) (ended : Bool)
+    → ReadsRun base piece bytes error ended
     → FillsGroups base 0 (length piece) 0 (length bytes)
     → ReadsOn base old
-    (record old { len = old.len + length piece; fault = further old.len error }) piece bytes
-reads-run base width old fresh piece bytes error run few =
+    (record old { len = old.len + length piece; fault = further old.len error; ended = ended }) piece
+    bytes
+reads-run base width old fresh piece bytes error ended run few =
     let sound = no-fault old.fault fresh.sound in
     let nothing = nothing-held old.count old.positions old.bytes fresh.none in
     let next = λ (text : List ℕ) (keeps : Keeps base old text).
     run text old.len (rw (sound, nothing, fresh.goes_on) at keeps) in
     record {
-      keeps = λ text keeps. rw (nothing, fresh.goes_on) (next text keeps).0;
+      keeps = λ text keeps. rw nothing (next text keeps).0;
       decodes = λ text keeps. (next text keeps).1;
       counted = refl;
       few =
@@ -49,35 +51,24 @@ reads-run base width old fresh piece bytes error run few =
 
 -- whole groups that mean bytes
 pub run-sound : (base : Base) → IsSpecified base → ReadsSound → (piece bytes : List ℕ)
-    → Means base piece bytes → AreWholeGroups base piece → ReadsRun base piece bytes None
-run-sound base is law piece bytes means whole text len reads =
-    let next = law base is text piece bytes len reads means whole.whole in
-    (rw whole.not_final at next.0, next.1)
+    (ended : Bool) → Means base piece bytes → AreWholeGroups base piece
+    → has_final base piece ≡ ended → ReadsRun base piece bytes None ended
+run-sound base is law piece bytes ended means whole ends text len reads =
+    let next = law base is text piece bytes len reads means whole in
+    (rw ends at next.0, next.1)
 
--- no group is final if the bytes are whole groups
-not-both : (a b : Bool) → b ≡ true → (a && not b) ≡ false
-not-both true b is = ap not is
-not-both false b is = refl
-
-pub whole-by_bytes : (base : Base) → IsSpecified base → MeansWhole → TellsEnd
-    → (text bytes : List ℕ) → length bytes % group_bytes base.width ≡ 0 → Means base text bytes
-    → AreWholeGroups base text
-whole-by_bytes base is whole ends text bytes divides means = record {
-  whole = whole base is text bytes means divides;
-  not_final =
-      ends base is text bytes means
-      ∙ not-both (not base.concatenates) (length bytes % group_bytes base.width == 0)
-      (ap (λ n. n == 0) divides);
-}
-
-pub whole-by_length : (base : Base) → IsSpecified base → AreWhole → EndsNowhere
-    → base.concatenates ≡ true → ignores_some base ≡ false → (text bytes : List ℕ)
-    → length text % group_symbols base.width ≡ 0 → Means base text bytes
-    → AreWholeGroups base text
-whole-by_length base is whole nowhere joins none text bytes divides means = record {
-  whole = whole base is text bytes means (inr (inr (none, divides)));
-  not_final = nowhere base joins _;
-}
+-- padded texts are whole groups
+pub fills-by_padding : (base : Base) → is_padded base ≡ true → (read written : ℕ)
+    → written ≤ most_bytes base read → FillsGroups base 0 read 0 written
+fills-by_padding base padded read written most =
+    let all = subst
+    (λ (p : Bool). written ≤ (if p then read / group_symbols base.width * group_bytes base.width
+    else base.width * read / 8)) padded most in
+    record {
+      groups = read / group_symbols base.width;
+      symbols = omega (arith, div-mul-le_self read (group_symbols base.width));
+      bytes = all;
+    }
 
 -- whole groups by their length
 pub fills-by_length : (base : Base) → IsSpecified base → CountsGroups → (read written : ℕ)

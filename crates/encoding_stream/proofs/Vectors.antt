@@ -1,5 +1,5 @@
 -- Worked rows for what streams and decoders have done.
-use Rattle.std.proofs.Common.{is_some, ◌∙◌, ◌≡◌, ℕ, ◌+◌, ◌≤◌, zero-add, true, false, List, [], ◌∷◌, ◌++◌, drop, map, codes, replicate, Option, Some, None, Result, Ok, Err, refl, zero, suc, sym, ap, subst, lit<, lit≤, arith, length, take}
+use Rattle.std.proofs.Common.{is_some, ◌∙◌, ◌≡◌, ℕ, ◌+◌, ◌≤◌, zero-add, Bool, true, false, List, [], ◌∷◌, ◌++◌, drop, map, codes, replicate, Option, Some, None, Result, Ok, Err, refl, zero, suc, sym, ap, subst, lit<, lit≤, arith, length, take}
 use Rattle.std.proofs.lemmas.Bool.{false≢true}
 use Rattle.std.proofs.lemmas.Fmt.{decimal_digit}
 use Rattle.data_encoding.specs.declared.error.DecodeError.{DecodeError}
@@ -15,7 +15,7 @@ use Rattle.data_encoding.specs.Pieces.{whole_bytes, HasRead}
 use Rattle.std.proofs.lemmas.List.{append-nil}
 use Rattle.encoding_stream.specs.Decoded.{JudgesText, DecodesAll, DecodesFront, DecodesJudged, result_of, EndsText}
 use Rattle.encoding_stream.specs.Judged.{fault_with_held, next_group, EndsFaulty, EndsSound, JudgesFaulty, JudgesSound}
-use Rattle.encoding_stream.specs.Reading.{whole_len, AppendsPiece, AreWholeGroups, CompletesNothing, HasNoLastBytes, HasVerdict, ReadsAllGroups, ReadsOn, AppendsLast, HasLastBytes, ReadsRun}
+use Rattle.encoding_stream.specs.Reading.{has_final, whole_len, AppendsPiece, AreWholeGroups, CompletesNothing, HasNoLastBytes, HasVerdict, ReadsAllGroups, ReadsOn, AppendsLast, HasLastBytes, ReadsRun}
 use Rattle.encoding_stream.specs.Pieces.{base_of_pieces, paired, at_positions, held, NoneIgnored, Keeps, FillsGroups, GoesOn, bytes_due, kept_by, most_completed, verdict_of}
 use Rattle.encoding_stream.specs.declared.pieces.BufferDecoder.{BufferDecoder}
 use Rattle.encoding_stream.specs.declared.decoder.Decoder.{Decoder}
@@ -32,7 +32,6 @@ use Rattle.encoding_stream.specs.Blocks.{after_blocks, base_of_blocks, blocks_le
 use Rattle.encoding_stream.specs.Resume.{held_bytes, held_positions, is_of_group, Ascend, HasPossibleFault, HoldsNoIgnored, IsKept, MayBeKept}
 use Rattle.encoding_stream.specs.Specified.{IsBuiltAgain}
 use Rattle.encoding_stream.specs.Watch.{from_to, has_failed, inner_of, is_refused, seen, AppendsFront, Change}
-use Rattle.data_encoding.specs.declared.error.DecodeKind.{DecodeKind}
 use Rattle.data_encoding.specs.Layout.{fields_of}
 use Rattle.data_encoding.specs.Text.{text_of}
 use Rattle.encoding_stream.specs.declared.error.StreamFault.{StreamFault}
@@ -212,10 +211,14 @@ verdict_given verdict gives = gives _ kept_of_text.0
 whole_groups_alone :
     Has base64_fields (λ base. AreWholeGroups base (codes "SGVsbG8="))
     × Has base64_mime_fields (λ base. AreWholeGroups base (codes "SGVs" ++ 13 ∷ 10 ∷ []))
-whole_groups_alone = (
-  record { whole = refl; not_final = refl },
-  record { whole = refl; not_final = refl },
-)
+whole_groups_alone = (refl, refl)
+
+-- padding ends a text only where texts may not be concatenated
+final_group :
+    Has base64_fields (λ base. has_final base (codes "SGVsbG8=") ≡ false)
+    × Has (record base64_fields { concatenates = false }) (λ base.
+    (has_final base (codes "SGVsbG8=") ≡ true) × (has_final base (codes "SGVs") ≡ false))
+final_group = (refl, (refl, refl))
 
 -- `8` completes no group after `SGVsbG`, and there is no last one after `SGVs`
 nothing_completed :
@@ -706,22 +709,19 @@ one-over is = omega (arith, is)
 three-of-five : ◌≡◌ {A = ℕ} 5 3 → ⊥
 three-of-five is = omega (arith, is)
 
--- five bytes are no whole groups, and where texts are not concatenated, nothing follows padding
-whole_told :
-    Has base64_fields (λ base. AreWholeGroups base (codes "SGVsb") → ⊥)
-    × Has (record base64_fields { concatenates = false }) (λ base.
-    AreWholeGroups base (codes "SGVsbG8=") → ⊥)
-whole_told = (λ whole. one-over whole.whole, λ whole. never whole.not_final)
+-- five bytes are no whole groups
+whole_told : Has base64_fields (λ base. AreWholeGroups base (codes "SGVsb") → ⊥)
+whole_told = one-over
 
 first_group_read : Has base64_fields (λ base. HasRead base (codes "SGVs") 4 None [] false)
 first_group_read = record { counted = refl; first = refl; holds = λ h. refl; ends = λ h. refl }
 
 -- after `SGVs`, the groups of `bG8=` append `lo`, and eight bytes are read
 run_told :
-    Has base64_fields (λ base. (bytes : List ℕ) (fault : Option DecodeError)
-    → ReadsRun base (codes "bG8=") bytes fault
-    → HasRead base (codes "SGVsbG8=") 8 (further 4 fault) [] false × (bytes ≡ codes "lo"))
-run_told bytes fault reads =
+    Has base64_fields (λ base. (bytes : List ℕ) (fault : Option DecodeError) (ended : Bool)
+    → ReadsRun base (codes "bG8=") bytes fault ended
+    → HasRead base (codes "SGVsbG8=") 8 (further 4 fault) [] ended × (bytes ≡ codes "lo"))
+run_told bytes fault ended reads =
     let after = reads (codes "SGVs") 4 first_group_read in
     (after.0, sym (ap (drop 3) after.1))
 

@@ -1,5 +1,5 @@
 -- How a decoder by pieces continues.
-use Rattle.std.specs.Prelude.{◌≡◌, ℕ, ◌+◌, ◌*◌, ◌/◌, ◌≤◌, ◌%◌, false, List, [], ◌++◌, length, take, Option, None, Result}
+use Rattle.std.specs.Prelude.{◌≡◌, ℕ, ◌+◌, ◌*◌, ◌/◌, ◌≤◌, ◌%◌, Bool, false, List, [], ◌++◌, length, take, Option, None, Result}
 use Rattle.std.specs.List.{list_any}
 use Rattle.data_encoding.specs.declared.error.DecodeError.{DecodeError}
 use Rattle.data_encoding.specs.Base.{Base, group_symbols, ignores_some}
@@ -28,18 +28,21 @@ pub record AppendsPiece (base : Base) (old new : Kept) (piece output_old output_
   pub reads : ReadsOn base old new piece bytes
   pub appended : output_new ≡ output_old ++ bytes
 
--- The text is whole groups, of which none is final.
-pub record AreWholeGroups (base : Base) (text : List ℕ) : Type 0 where
-  pub whole : length (kept base text) % group_symbols base.width ≡ 0
-  pub not_final : list_any (is_final base) (groups base text) ≡ false
+-- The text is whole groups.
+abbrev pub AreWholeGroups : Base → List ℕ → Type 0
+AreWholeGroups base text = length (kept base text) % group_symbols base.width ≡ 0
+
+-- whether one of the groups is final
+abbrev pub has_final : Base → List ℕ → Bool
+has_final base text = list_any (is_final base) (groups base text)
 
 -- After whole groups of which none is final or faulty, a piece of whole groups has this fault or
 -- none, with the length before it added to its position, and its groups before the fault append
--- these bytes.
-abbrev pub ReadsRun : Base → List ℕ → List ℕ → Option DecodeError → Type 0
-ReadsRun base piece bytes fault =
+-- these bytes. If it has none, this says whether one of its groups is final.
+abbrev pub ReadsRun : Base → List ℕ → List ℕ → Option DecodeError → Bool → Type 0
+ReadsRun base piece bytes fault ended =
     (text : List ℕ) (len : ℕ) → HasRead base text len None [] false
-    → HasRead base (text ++ piece) (len + length piece) (further len fault) [] false
+    → HasRead base (text ++ piece) (len + length piece) (further len fault) [] ended
     × (whole_bytes base (text ++ piece) ≡ whole_bytes base text ++ bytes)
 
 -- the length of the whole groups in this many bytes

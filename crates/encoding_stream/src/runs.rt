@@ -2,12 +2,12 @@
 
 ghost use Rattle.std.specs.Prelude.{◌≡◌, ℕ, ◌+◌, ◌≤◌, ◌<◌, ◌%◌, true, false, List, length, take, IfOk, IfErr, None, Ok, Some};
 ghost use Rattle.data_encoding.specs.declared.decode.TheConstants.{DECODE_LIMIT};
-ghost use Rattle.data_encoding.specs.Base.{group_bytes, group_symbols, ignores_some};
+ghost use Rattle.data_encoding.specs.Base.{group_bytes, group_symbols, ignores_some, is_padded};
 ghost use Rattle.data_encoding.specs.Grammar.{Means};
 ghost use Rattle.data_encoding.specs.Lengths.{decoded_len, most_bytes};
 ghost use Rattle.data_encoding.specs.Pieces.{IsOfWholeGroup};
 ghost use Rattle.encoding_stream.specs.Pieces.{base_of_pieces, bytes_due, most_completed, FillsGroups};
-ghost use Rattle.encoding_stream.specs.Reading.{whole_len, AreWholeGroups, ReadsAllGroups, ReadsOn, ReadsRun};
+ghost use Rattle.encoding_stream.specs.Reading.{has_final, whole_len, AreWholeGroups, ReadsAllGroups, ReadsOn, ReadsRun};
 
 use crate::pieces::BufferDecoder;
 use data_encoding::laws::steps::{pieces, whole_groups};
@@ -39,7 +39,7 @@ impl BufferDecoder<'_> {
         ensures reads { ReadsOn (base_of_pieces self.old) self.old.kept self.new.kept
             (take result.0 piece.now) (take result.1 output.new) }
         ensures all { self.old.kept.count ≡ 0 → self.old.kept.fault ≡ None
-            → self.old.kept.ended ≡ false → (base_of_pieces self.old).concatenates ≡ true
+            → self.old.kept.ended ≡ false
             → ReadsAllGroups (base_of_pieces self.old) piece.now result.0 }
         ensures read { result.0 ≤ length piece.now }
         ensures within { result.1 ≤ length output.new }
@@ -65,6 +65,7 @@ impl BufferDecoder<'_> {
         }
         pieces();
         self.kept.len += read;
+        self.kept.ended = self.has_final(written);
         (read, written)
     }
 
@@ -84,7 +85,7 @@ impl BufferDecoder<'_> {
         ensures read { IfOk result (λ run. run.0 ≤ length text.now) }
         ensures written { IfOk result (λ run. run.1 ≤ length output.new) }
         ensures fault { IfErr result (λ partial. ReadsRun (base_of_pieces self.now) text.now
-            (take partial.written output.new) (Some partial.error)) }
+            (take partial.written output.new) (Some partial.error) false) }
         ensures position { IfErr result (λ partial. partial.error.position < length text.now) }
         ensures within { IfErr result (λ partial. partial.written ≤ length output.new) }
         ensures len { length output.new ≡ length output.old }
@@ -110,26 +111,36 @@ impl BufferDecoder<'_> {
         !self.encoding.ignores_bytes() || self.encoding.completes_groups()
     }
 
-    // Whether a text of this length that means this many bytes is whole groups of which none is
-    // final. This follows from the number of bytes, or from the length if nothing is ignored and no
-    // group is final.
+    // Whether a text of this length that means this many bytes is whole groups. Padded texts are.
+    // Otherwise it follows from the length if nothing is ignored, or from the number of bytes.
     fn are_whole(&self, read: usize, written: usize) -> bool
         ensures whole { result ≡ true → (text bytes : List ℕ) → length text ≡ read
             → length bytes ≡ written → Means (base_of_pieces self.now) text bytes
             → AreWholeGroups (base_of_pieces self.now) text }
         ensures few { result ≡ true → written ≤ most_bytes (base_of_pieces self.now) read
             → FillsGroups (base_of_pieces self.now) 0 read 0 written }
+        ensures by_padding { is_padded (base_of_pieces self.now) ≡ true → result ≡ true }
         ensures by_bytes { written % group_bytes (base_of_pieces self.now).width ≡ 0
             → result ≡ true }
         ensures by_length { ignores_some (base_of_pieces self.now) ≡ false
-            → (base_of_pieces self.now).concatenates ≡ true
             → read % group_symbols (base_of_pieces self.now).width ≡ 0 → result ≡ true }
     {
         pieces();
         whole_groups();
-        if self.encoding.concatenates() && !self.encoding.ignores_bytes() && read % self.size == 0 {
+        if !self.encoding.ignores_bytes() && read % self.size == 0 {
             return true;
         }
-        written % self.encoding.group_bytes() == 0
+        self.encoding.is_padded() || written % self.encoding.group_bytes() == 0
+    }
+
+    // Whether one of the groups of a text that means this many bytes is final. If texts may not be
+    // concatenated, it is the group that does not mean a whole group of bytes.
+    fn has_final(&self, written: usize) -> bool
+        ensures { (text bytes : List ℕ) → length bytes ≡ written
+            → Means (base_of_pieces self.now) text bytes
+            → has_final (base_of_pieces self.now) text ≡ result }
+    {
+        whole_groups();
+        !self.encoding.concatenates() && written % self.encoding.group_bytes() != 0
     }
 }

@@ -1,7 +1,8 @@
-use Rattle.std.proofs.Common.{◌≡◌, ◌+◌, ◌/◌, None, Some, take, drop, length, rules, sym, subst, arith, length-take, length-take-le}
+use Rattle.std.proofs.Common.{◌≡◌, ◌+◌, ◌/◌, false, None, Some, take, drop, length, rules, sym, subst, arith, length-take, length-take-le}
 use Rattle.std.proofs.lemmas.List.{take-append-le, take-take}
 use Rattle.data_encoding.specs.Base.{group_symbols}
 use Rattle.data_encoding.specs.Grammar.{Means}
+use Rattle.data_encoding.specs.Laws.{further}
 use Rattle.encoding_stream.specs.Pieces.{base_of_pieces, FillsGroups}
 use Rattle.encoding_stream.specs.Reading.{ReadsOn}
 use Rattle.encoding_stream.proofs.PieceLemmas.{is-specified, no-fault}
@@ -38,14 +39,18 @@ returns-in-Err-clause-reads c =
       goes_on = search rules;
     } in
     rw (take-append-le partial.written new (drop c.due-len.result.1 c.args.output.now) within)
+    (subst (λ e. ReadsOn base old (record old {
+      len = old.len + c.due-len.result.0;
+      fault = further old.len (Some partial.error);
+      ended = e;
+    }) text bytes) (sym fresh.goes_on)
     (subst (λ n. ReadsOn base old (record old {
       len = old.len + n;
-      fault = Some (record {
-        position = old.len + partial.error.position;
-        kind = partial.error.kind;
-      });
+      fault = further old.len (Some partial.error);
+      ended = false;
     }) text bytes) text-is
-    (reads-run base s.width old fresh text bytes (Some partial.error) c.in-Err.ensures.fault few))
+    (reads-run base s.width old fresh text bytes (Some partial.error) false c.in-Err.ensures.fault
+    few)))
 
 pub returns-clause-reads : goal.returns-clause-reads
 returns-clause-reads c =
@@ -76,12 +81,16 @@ returns-clause-reads c =
       sound = search rules;
       goes_on = search rules;
     } in
+    let ends = c.has_final-self.ensures front bytes bytes-is means in
     rw (take-append-le written new (drop c.due-len.result.1 c.args.output.now)
     run.ensures.written)
-    (subst (λ f. ReadsOn base old (record old { len = old.len + read; fault = f }) front bytes)
+    (subst (λ f. ReadsOn base old
+    (record old { len = old.len + read; fault = f; ended = c.has_final-self.result }) front bytes)
     (sym (no-fault old.fault fresh.sound))
-    (subst (λ n. ReadsOn base old (record old { len = old.len + n; fault = None }) front bytes)
+    (subst (λ n. ReadsOn base old
+    (record old { len = old.len + n; fault = None; ended = c.has_final-self.result }) front bytes)
     front-is
-    (reads-run base s.width old fresh front bytes None
-    (run-sound base (is-specified s) c.pieces.ensures.sound front bytes means whole)
+    (reads-run base s.width old fresh front bytes None c.has_final-self.result
+    (run-sound base (is-specified s) c.pieces.ensures.sound front bytes c.has_final-self.result means
+    whole ends)
     few)))

@@ -1,0 +1,23 @@
+use Rattle.std.proofs.Common.{◌%◌, ◌==◌, ◌&&◌, not, length, ap, sym, ◌∙◌}
+use Rattle.data_encoding.specs.Base.{group_bytes}
+use Rattle.data_encoding.specs.Grammar.{groups}
+use Rattle.encoding_stream.specs.Pieces.{base_of_pieces}
+use Rattle.encoding_stream.proofs.PieceLemmas.{is-specified}
+use Rattle.encoding_stream.proofs.pieces.BufferDecoder.has_final.Goals as goal
+
+pub returns-then-not-concatenates : goal.returns-then-not-concatenates
+returns-then-not-concatenates c = λ text bytes same means.
+    let s = c.args.self.now in
+    let base = base_of_pieces s in
+    c.whole_groups.ensures.ends base (is-specified s) text bytes means
+    ∙ ap (λ joins. not joins && not (length bytes % group_bytes base.width == 0))
+    (sym c.concatenates.ensures ∙ c.if-not-concatenates.true)
+    ∙ ap (λ n. not (n % group_bytes base.width == 0)) same
+    ∙ ap (λ n. not (c.args.written % n == 0)) (sym c.group_bytes.ensures.value)
+
+pub returns-else-not-concatenates : goal.returns-else-not-concatenates
+returns-else-not-concatenates c = λ text _ _ _.
+    let base = base_of_pieces c.args.self.now in
+    c.whole_groups.ensures.ends_nowhere base
+    (sym c.concatenates.ensures ∙ c.if-not-concatenates.false) (groups base text)
+    ∙ ap not (sym c.if-not-concatenates.false)
