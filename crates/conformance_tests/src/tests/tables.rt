@@ -344,7 +344,11 @@ base64|most|check|||0||||A/A|//\0/
 base64|most|check|||0||||!/AAAA|///invalid length at 4
 base64|most|check|=||76|←↵|||SGVs←/↵bG/8=|Hel//lo//
 octal|most|check|| |0||||00/1/00|////invalid length at 3
-base64|most|single check|=||0||||AA=/=/AA==|/\0///invalid padding length at 4";
+base64|most|single check|=||0||||AA=/=/AA==|/\0///invalid padding length at 4
+base64|most|check|=||76|←↵|||AA==←↵/AA==AAA=←↵AAA!/AA|\0/\0\0\0///invalid symbol at 19
+base64|most|single check|=|-|0||||AAAAAA=-=/-/A|\0\0\0\0////invalid padding length at 10
+base64|most|single check|=|-|0||||AAAAAA==-BB-BB!/AAAA|\0\0\0\0///invalid padding length at 9
+base64|most|check||-|0||||AAAA-AA-/AA-A/A!AA|\0\0\0/\0\0\0///invalid symbol at 13";
 
 // What is written for a text, and after a slash, the fault.
 pub(super) const DECODED_STREAMS: &str = "\
