@@ -151,6 +151,13 @@ module _ (base : Base) where
         length-append (whole_bytes base text) bytes,
       )
 
+-- if a piece adds no byte, it decodes to none
+pub adds-none : (base : Base) (text piece bytes : List ℕ)
+    → whole_bytes base (text ++ piece) ≡ whole_bytes base text ++ bytes
+    → whole_bytes base (text ++ piece) ≡ whole_bytes base text → length bytes ≤ 0
+adds-none base text piece bytes adds none =
+    omega (arith, ap length (sym none ∙ adds), length-append (whole_bytes base text) bytes)
+
 -- what is appended follows what was there before
 pub appended-after : (before : List ℕ) {old new x y : List ℕ} → x ≡ before ++ old
     → AppendsDecoded old new x y → y ≡ before ++ new

@@ -16,6 +16,12 @@ const CHUNK: usize = 1024;
 // The room for what they decode to.
 const ROOM: usize = CHUNK + 8;
 
+// The most bytes of a short piece, for which less memory is filled with zeros.
+const SHORT: usize = 64;
+
+// The room for what they decode to.
+const SHORT_ROOM: usize = SHORT + 8;
+
 /// Decodes a text that comes in pieces, cut anywhere.
 ///
 /// The bytes of a group are appended once the group is whole. The decoder keeps the length of the
@@ -111,6 +117,52 @@ impl<'a> Decoder<'a> {
 // output grows once, before the first byte is appended; if that fails, the decoder is no longer
 // usable.
 fn append_piece<A: Allocator + Copy>(
+    pieces: &mut BufferDecoder<'_>,
+    piece: &[u8],
+    output: &mut Vec<u8, A>,
+) -> Result<(), AllocError>
+    requires limit { pieces.old.kept.len + length piece.now ≤ DECODE_LIMIT }
+    ensures base { base_of_pieces pieces.new ≡ base_of_pieces pieces.old }
+    ensures appends { OnOk result (AppendsPiece (base_of_pieces pieces.old) pieces.old.kept
+        pieces.new.kept piece.now output.old.items output.new.items) }
+    ensures unchanged { OnErr result (output.new.items ≡ output.old.items) }
+    ensures no_group { (text : List ℕ)
+        → Keeps (base_of_pieces pieces.old) pieces.old.kept text
+        → CompletesNothing (base_of_pieces pieces.old) text piece.now → IsOk result }
+{
+    if piece.len() <= SHORT {
+        return append_short(pieces, piece, output);
+    }
+    append_long(pieces, piece, output)
+}
+
+// The same for a piece that is read at once.
+fn append_short<A: Allocator + Copy>(
+    pieces: &mut BufferDecoder<'_>,
+    piece: &[u8],
+    output: &mut Vec<u8, A>,
+) -> Result<(), AllocError>
+    requires short { length piece.now ≤ SHORT }
+    requires limit { pieces.old.kept.len + length piece.now ≤ DECODE_LIMIT }
+    ensures base { base_of_pieces pieces.new ≡ base_of_pieces pieces.old }
+    ensures appends { OnOk result (AppendsPiece (base_of_pieces pieces.old) pieces.old.kept
+        pieces.new.kept piece.now output.old.items output.new.items) }
+    ensures unchanged { OnErr result (output.new.items ≡ output.old.items) }
+    ensures no_group { (text : List ℕ)
+        → Keeps (base_of_pieces pieces.old) pieces.old.kept text
+        → CompletesNothing (base_of_pieces pieces.old) text piece.now → IsOk result }
+{
+    let mut buffer = [0; SHORT_ROOM];
+    let written = pieces.read(piece, &mut buffer);
+    steps::pieces();
+    if written == 0 {
+        return Ok(());
+    }
+    output.extend_from_slice(&buffer[..written])
+}
+
+// The same for a piece of any length.
+fn append_long<A: Allocator + Copy>(
     pieces: &mut BufferDecoder<'_>,
     piece: &[u8],
     output: &mut Vec<u8, A>,

@@ -18,10 +18,12 @@ impl BufferDecoder<'_> {
         ensures { result ≡ is_final (base_of_pieces self.now) (at_positions self.now.size
             self.now.kept.positions self.now.kept.bytes) }
     {
-        let is_padded = self.kept.bytes[..self.size]
+        if self.encoding.concatenates() {
+            return false;
+        }
+        self.kept.bytes[..self.size]
             .iter()
-            .any(|byte| self.encoding.interpret_byte(*byte).is_padding());
-        !self.encoding.concatenates() && is_padded
+            .any(|byte| self.encoding.interpret_byte(*byte).is_padding())
     }
 
     /// Judges the first `count` bytes kept as the next group, and returns its fault or writes its

@@ -1,6 +1,6 @@
 //! Whole groups of a text that is decoded piece by piece, which are decoded in place.
 
-ghost use Rattle.std.specs.Prelude.{◌≡◌, ℕ, ◌+◌, ◌≤◌, ◌<◌, ◌%◌, true, false, List, length, take, IfOk, IfErr, None, Ok, Some};
+ghost use Rattle.std.specs.Prelude.{◌≡◌, ℕ, ◌+◌, ◌≤◌, ◌<◌, ◌/◌, ◌%◌, true, false, List, length, take, IfOk, IfErr, None, Ok, Some};
 ghost use Rattle.data_encoding.specs.declared.decode.TheConstants.{DECODE_LIMIT};
 ghost use Rattle.data_encoding.specs.Base.{group_bytes, group_symbols, ignores_some, is_padded};
 ghost use Rattle.data_encoding.specs.Grammar.{Means};
@@ -25,8 +25,22 @@ impl BufferDecoder<'_> {
         ensures bytes { result.1 ≡ bytes_due (base_of_pieces self.now) len }
     {
         whole_groups();
-        let groups = len / self.size;
+        let groups = self.count_groups(len);
         (groups * self.size, groups * self.encoding.group_bytes())
+    }
+
+    // Returns how many whole groups this many bytes have. It divides by constants, since each piece
+    // is divided, however short.
+    fn count_groups(&self, len: usize) -> usize
+        ensures { result ≡ len / self.now.size }
+    {
+        if self.size == 8 {
+            return len / 8;
+        }
+        if self.size == 4 {
+            return len / 4;
+        }
+        len / 2
     }
 
     /// Reads whole groups in place: those before a fault, or all if the fault is that of a whole
@@ -46,6 +60,9 @@ impl BufferDecoder<'_> {
         ensures len { length output.new ≡ length output.old }
     {
         if self.kept.count != 0 || self.kept.fault.is_some() || self.kept.ended {
+            return (0, 0);
+        }
+        if piece.len() < self.size {
             return (0, 0);
         }
         let (len, most) = self.due(piece.len());

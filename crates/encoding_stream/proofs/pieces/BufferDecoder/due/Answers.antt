@@ -1,4 +1,4 @@
-use Rattle.std.proofs.Common.{◌≡◌, ◌*◌, ◌/◌, Ok, sym, ap, subst, ◌∙◌}
+use Rattle.std.proofs.Common.{◌≡◌, ◌*◌, Ok, sym, ap, subst, ◌∙◌}
 use Rattle.std.proofs.Math.Nat.{mul-mod_left}
 use Rattle.data_encoding.specs.Base.{group_bytes}
 use Rattle.data_encoding.specs.Lengths.{decoded_len}
@@ -10,10 +10,10 @@ pub returns-clause-due : goal.returns-clause-due
 returns-clause-due c =
     let s = c.args.self.now in
     let base = base_of_pieces s in
-    let count = c.args.len / s.size in
+    let count = c.count_groups-groups.result in
     subst (λ n. decoded_len base (count * n) ≡ Ok (count * group_bytes base.width)) (sym s.group)
     (c.whole_groups.ensures.bytes base (is-specified s) count)
     ∙ ap (λ n. Ok (count * n)) (sym c.group_bytes.ensures.value)
 
 pub returns-clause-whole : goal.returns-clause-whole
-returns-clause-whole c = mul-mod_left (c.args.len / c.args.self.now.size) c.args.self.now.size
+returns-clause-whole c = mul-mod_left c.count_groups-groups.result c.args.self.now.size

@@ -11,17 +11,17 @@ shared_ref_as_front-iter c =
     let s = c.args.self.now in
     omega (arith, symbols-few s.encoding.now.width s.width, s.group)
 
-pub returns-then-not-concatenates : goal.returns-then-not-concatenates
-returns-then-not-concatenates c =
+pub returns : goal.returns
+returns c =
     let s = c.args.self.now in
     let k = s.kept in
     let few = symbols-few s.encoding.now.width s.width in
     let found =
     any_from_yields_List (λ (b : ℕ). is_padding (meaning s.encoding.now b)) _ _
-    c.any-is_padded.result c.any-is_padded.ensures.ran
+    c.any.result c.any.ensures.ran
     (YieldsList-from_slice (take s.size k.bytes) cc)
     (λ x b q h. search (rules, tests)) in
     found
     ∙ any-final s.encoding.now s.size k.positions k.bytes
     (omega (arith, few, s.group)) (omega (arith, few, s.group))
-    (sym c.concatenates.ensures ∙ c.if-not-concatenates.true)
+    (sym c.concatenates.ensures ∙ c.if-concatenates.false)

@@ -7,7 +7,7 @@ use Rattle.encoding_stream.specs.Pieces.{base_of_pieces}
 use Rattle.encoding_stream.specs.Reading.{ReadsOn}
 use Rattle.encoding_stream.proofs.DecoderLemmas.{appends-none, appends-rest, front-adds-none}
 use Rattle.encoding_stream.proofs.PieceLemmas.{is-specified}
-use Rattle.encoding_stream.proofs.decoder.append_piece.Goals as goal
+use Rattle.encoding_stream.proofs.decoder.append_long.Goals as goal
 
 -- what holds, holds also if an error is returned
 where_err : {T E P : Type 0} (result : Result T E) → P → OnErr result P
