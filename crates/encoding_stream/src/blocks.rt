@@ -116,9 +116,8 @@ impl<'a> BufferEncoder<'a> {
         }
         let (first, rest) = piece.split_at(missing);
         let (blocks, left) = rest.split_at(rest.len() - rest.len() % self.block);
-        let mut full = self.kept;
-        full.hold(first);
-        let one = write_front(self.encoding, &full.bytes[..self.block], output);
+        self.kept.hold(first);
+        let one = write_front(self.encoding, &self.kept.bytes[..self.block], output);
         let others = write_front(self.encoding, blocks, &mut output[one..]);
         self.kept = KeptData {
             count: 0,
