@@ -154,7 +154,6 @@ fn append_short<A: Allocator + Copy>(
 {
     let mut buffer = [0; SHORT_ROOM];
     let written = pieces.read(piece, &mut buffer);
-    steps::pieces();
     if written == 0 {
         return Ok(());
     }
