@@ -46,12 +46,14 @@ quietly() {
 is 'the version of the package' "$(sed -n 's/^## //p' "$OLDPWD/CHANGELOG.md" | head -n 1)" \
     "$(sed -n 's/^  "version": "\(.*\)",$/\1/p' package/package.json)"
 
-# The lines of the kernel that go by words in a package that is built without --lanes.
+# The lines that go by words in a package that is built without --lanes.
 kernel=$OLDPWD/crates/data_encoding_kernel/src
-is 'what goes by words' '2 1 1 1' "$(grep -cF 'encode_turns::<EightGroups, G>' "$kernel/encode.rt") \
+lines=$OLDPWD/crates/data_encoding/src/encode/lines.rt
+is 'what goes by words' '2 1 1 1 1' "$(grep -cF 'encode_turns::<EightGroups, G>' "$kernel/encode.rt") \
 $(grep -cF 'EightGroups::encode_rest::<G>' "$kernel/encode.rt") \
 $(grep -cF 'if input.len() < eight ||' "$kernel/decode.rt") \
-$(grep -cF 'return decode_turns::<Few<L>, G>(&Few { look_up: ' "$kernel/decode.rt")"
+$(grep -cF 'return decode_turns::<Few<L>, G>(&Few { look_up: ' "$kernel/decode.rt") \
+$(grep -cF 'line_bytes / 8 >= G::BYTES' "$lines")"
 
 wanted="the WebAssembly module is not here: \`bindings/javascript/build.sh DIR\` makes a package \
 with it from the sources of Bamsturk"

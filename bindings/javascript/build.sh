@@ -7,7 +7,7 @@
 #
 # The calls are those of data_encoding_c. crates.txt lists a crate for one platform, so that this is
 # done in a copy of the crates, outside the checkout, where that crate is one for WebAssembly. There
-# the kernel goes by words in place of lanes, which are taken apart where vectors are not used: with
+# groups go by words in place of lanes, which are taken apart where vectors are not used: with
 # the same contracts, which are proved again. --lanes leaves it as it is, so that no crate below that
 # one is proved twice; large data then takes five times as long. The module is kept in out/.
 set -euo pipefail
@@ -55,23 +55,26 @@ copy_crates() {
     cp "$top/HANDLES" "$room/HANDLES"
 }
 
-# put FILE OLD NEW: replaces one text by the other in a file of the copied kernel.
+# put CRATE FILE OLD NEW: replaces one text by the other in a file of the copied crate.
 put() {
-    local file=$room/crates/data_encoding_kernel/src/$1
-    if ! grep -qF "$2" "$file"; then
-        echo "the kernel has no line with \`$2\`: build with --lanes" >&2
+    local file=$room/crates/$1/src/$2
+    if ! grep -qF "$3" "$file"; then
+        echo "$1 has no line with \`$3\`: build with --lanes" >&2
         exit 1
     fi
-    sed -i "s/$2/$3/" "$file"
+    sed -i "s~$3~$4~" "$file"
 }
 
 # by_words: no turn of groups in lanes is taken.
 by_words() {
-    put encode.rt 'encode_turns::<EightGroups, G>' 'encode_turns::<OneGroup, G>'
-    put encode.rt 'EightGroups::encode_rest::<G>' 'encode_by_order::<OneGroup, G>'
-    put decode.rt 'if input.len() < eight ||' 'if input.len() < eight || true ||'
-    put decode.rt 'return decode_turns::<Few<L>, G>(&Few { look_up: ' \
-        'return decode_turns::<[u8; 256], G>(values, O::ORDER, input, output); \/\/ '
+    local kernel=data_encoding_kernel
+    put $kernel encode.rt 'encode_turns::<EightGroups, G>' 'encode_turns::<OneGroup, G>'
+    put $kernel encode.rt 'EightGroups::encode_rest::<G>' 'encode_by_order::<OneGroup, G>'
+    put $kernel decode.rt 'if input.len() < eight ||' 'if input.len() < eight || true ||'
+    put $kernel decode.rt 'return decode_turns::<Few<L>, G>(&Few { look_up: ' \
+        'return decode_turns::<[u8; 256], G>(values, O::ORDER, input, output); // '
+    put data_encoding encode/lines.rt 'line_bytes / 8 >= G::BYTES' \
+        'line_bytes / 8 >= G::BYTES \&\& false'
 }
 
 # Nothing is proved again where no source is newer than the module.

@@ -7,6 +7,7 @@ mod callers;
 mod comparison;
 mod decoding;
 mod drawn_tables;
+mod each_column;
 mod each_length;
 mod encoding;
 mod encodings;

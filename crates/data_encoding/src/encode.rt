@@ -4,6 +4,7 @@ pub(crate) mod append;
 pub(crate) mod display;
 pub(crate) mod encoder;
 pub(crate) mod lines;
+pub(crate) mod long_lines;
 
 ghost use Rattle.std.specs.Prelude.{◌≡◌, All, ℕ, ◌<◌, ◌+◌, ◌-◌, ◌*◌, ◌/◌, ◌≤◌, List, ◌++◌, length, drop, flat_map, IfOk, IsOk, IsSome};
 ghost use Rattle.std.specs.String.{string_bytes};

@@ -2,6 +2,7 @@
 
 use super::appending::compare_data_pieces;
 use super::comparison::{Comparison, Differs, Tally};
+use super::each_column::compare_lines;
 use super::each_length::compare_each_length;
 use super::ignored::{compare_faults, compare_ignored, compare_pairs};
 use super::judge::Judge;
@@ -144,6 +145,21 @@ base64|most|check|=||252|↵|||
 base64|least|check|||252|↵|||
 base64|least|check|=||252|↵|||";
 
+// Lines of each length are compared in each width, in both orders.
+const COLUMNS: &str = "\
+binary|most|check|||0||||
+binary|least|check|||0||||
+quaternary|most|check|||0||||
+quaternary|least|check|||0||||
+octal|most|check|=||0||||
+octal|least|check|||0||||
+hex|most|check|||0||||
+hex|least|check|||0||||
+base32|most|check|=||0||||
+base32|least|check|||0||||
+base64|most|check|=||0||||
+base64|least|check|||0||||";
+
 // Widths from one bit to six, with padding and lines; the last has 263 characters for a byte.
 const STREAMS: &str = "\
 hex|most|check|||0||||
@@ -189,6 +205,7 @@ enum Sweep {
     Short,
     Long,
     Lines(usize, &'static str),
+    Columns(usize, &'static str),
     DataPieces,
     EachLength,
     FewGroups,
@@ -208,7 +225,7 @@ fn specification_of(alloc: Global, line: &str, sweep: Sweep) -> Result<Specifica
             specification.ignore.push('-')?
         }
         Sweep::CountedUnwrapped | Sweep::EqualBytes => specification.wrap.width = 0,
-        Sweep::Lines(groups, separator) => {
+        Sweep::Lines(groups, separator) | Sweep::Columns(groups, separator) => {
             specification.wrap.width = Judge::of(&specification).group_len().wrapping_mul(groups);
             put_separator(&mut specification, separator)?;
         }
@@ -227,6 +244,7 @@ fn compare_all(comparison: &mut Comparison<'_>, sweep: Sweep) -> Result<(), Diff
         Sweep::Short => compare_short(comparison),
         Sweep::Long => compare_long(comparison),
         Sweep::Lines(_, _) => compare_in_lines(comparison),
+        Sweep::Columns(_, _) => compare_lines(comparison),
         Sweep::DataPieces => compare_data_pieces(comparison),
         Sweep::EachLength => compare_each_length(comparison),
         Sweep::FewGroups => compare_few_groups(comparison),
@@ -337,6 +355,27 @@ fn counts_in_lines(alloc: Global) -> Result<(usize, usize), Fail> {
 #[test]
 fn texts_in_lines_are_alike(rt: HostRuntime) -> Result<(), Fail> {
     assert_eq!(rt; counts_in_lines(rt.alloc())?, (4_230, 822_330));
+    Ok(())
+}
+
+// Sweeps over lines of each length that ends with a group.
+fn sweep_columns(alloc: Global, separator: &'static str) -> Result<(), Fail> {
+    for line in COLUMNS.split('\n') {
+        let specification = row_of(alloc, line)?.specification;
+        let most = 255 / Judge::of(&specification).group_len();
+        for groups in 1..=most {
+            let columns = Sweep::Columns(groups, separator);
+            sweep_row(alloc, line, columns, Tally::zero())?;
+        }
+    }
+    Ok(())
+}
+
+#[test]
+fn lines_of_each_length_are_encoded(rt: HostRuntime) -> Result<(), Fail> {
+    for separator in ["-", "←↵", "~-~", "-~-~-~~--~-~~--~", "dashes"] {
+        sweep_columns(rt.alloc(), separator)?;
+    }
     Ok(())
 }
 

@@ -60,13 +60,13 @@ IsByPieces-blocks base ruled lines wrapped count some =
 -- the same by what the tables say
 module _ {e : EncodingTables} {seen : Base} (rules : KeepsRules e) (is : base_of_tables e ≡ seen)
     (wraps : IsSome seen.wrapping) where
-  abbrev lines : Wrapping
+  abbrev pub lines : Wrapping
   lines = record { column = e.column; separator = e.separator }
 
-  ruled : IsRuled seen
+  pub ruled : IsRuled seen
   ruled = IsRuled-seen e rules seen is
 
-  wrapped : seen.wrapping ≡ Some lines
+  pub wrapped : seen.wrapping ≡ Some lines
   wrapped = wrapping-seen e rules seen is (column-some e rules seen is wraps)
 
   lines-are : AreLines seen lines

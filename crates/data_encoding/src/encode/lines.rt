@@ -31,6 +31,8 @@ impl EncodingRef<'_> {
         let line_bytes = self.encode_align();
         if !input.is_empty() && input.len() <= line_bytes {
             self.encode_line::<G>(input, output);
+        } else if line_bytes / 8 >= G::BYTES {
+            self.encode_long_lines::<G>(input, output);
         } else if input.len() <= FEW_LINES * line_bytes {
             self.encode_each_line::<G>(input, output);
         } else {
@@ -40,7 +42,7 @@ impl EncodingRef<'_> {
 
     // Line by line; the last may be shorter.
     #[inline(always)]
-    fn encode_each_line<G: GroupSize>(&self, input: &[u8], output: &mut [u8])
+    pub(super) fn encode_each_line<G: GroupSize>(&self, input: &[u8], output: &mut [u8])
         requires width { self.now.width ≡ G.WIDTH }
         requires lines { IsSome self.now.wrapping }
         requires limit { length input.now ≤ ENCODE_LIMIT }
@@ -113,7 +115,7 @@ impl EncodingRef<'_> {
 
     // The text of at most one line, and the separator.
     #[inline(always)]
-    fn encode_line<G: GroupSize>(&self, input: &[u8], output: &mut [u8])
+    pub(super) fn encode_line<G: GroupSize>(&self, input: &[u8], output: &mut [u8])
         requires width { self.now.width ≡ G.WIDTH }
         requires limit { length input.now ≤ ENCODE_LIMIT }
         requires some { 0 < length input.now }
@@ -161,13 +163,15 @@ fn write_line(line: &[u8], separator: &[u8], output: &mut [u8])
     write_separator(separator, &mut output[line.len()..]);
 }
 
-// Two stores for CR LF take less time than a call that copies any number of bytes.
+// A store for LF, and two for CR LF, take less time than a call that copies any number of bytes.
 #[inline(always)]
-fn write_separator(separator: &[u8], output: &mut [u8])
+pub(super) fn write_separator(separator: &[u8], output: &mut [u8])
     requires { length output.old ≡ length separator.now }
     ensures { output.new ≡ separator.now }
 {
-    if separator.len() == 2 {
+    if let [only] = separator {
+        output[0] = *only;
+    } else if separator.len() == 2 {
         output[0] = separator[0];
         output[1] = separator[1];
     } else {

@@ -1,0 +1,59 @@
+use Rattle.std.proofs.Common.{◌+◌, ◌*◌, ◌≤◌, length, take, refl, sym, ◌∙◌, arith}
+use Rattle.std.proofs.lemmas.List.{take_rest}
+use Rattle.data_encoding_meaning.specs.text.Text.{plain_text}
+use Rattle.data_encoding_kernel.proofs.text.PlainGroupLemmas.{IsWhole-turn, written-next}
+use Rattle.data_encoding.proofs.text.LastTurnLemmas.{turn-before}
+use Rattle.data_encoding.proofs.encode.long_lines.encode_groups.Goals as goal
+
+pub slice_bounds-encode_eight-end-in-loop-index : goal.slice_bounds-encode_eight-end-in-loop-index
+slice_bounds-encode_eight-end-in-loop-index g c =
+    omega (
+      arith,
+      turn-before c.SYMBOLS-written_len.ensures c.args.groups c.loop-index.index
+          c.loop-index-test.true,
+      c.loop-index.auto.output,
+      c.requires.exact,
+    )
+
+pub overflow_mul-written : goal.overflow_mul-written
+overflow_mul-written g c =
+    let room = turn-before c.SYMBOLS-written_len.ensures c.args.groups c.loop-index.index
+    c.loop-index-test.true in
+    omega (arith, room, c.requires.exact)
+
+pub overflow_add-written : goal.overflow_add-written
+overflow_add-written g c =
+    let room = turn-before c.SYMBOLS-written_len.ensures c.args.groups c.loop-index.index
+    c.loop-index-test.true in
+    omega (arith, room, c.requires.exact)
+
+pub loop-index-preserved : goal.loop-index-preserved
+loop-index-preserved g c =
+    let i = c.loop-index.index in
+    let read_len = 8 * c.BYTES-read_len.result in
+    let written_len = 8 * c.SYMBOLS-written_len.result in
+    let input = c.args.input.now in
+    let within : i * read_len + read_len ≤ length input =
+    omega (
+      arith,
+      turn-before c.BYTES-read_len.ensures c.args.groups i c.loop-index-test.true,
+      c.requires.loaded,
+    ) in
+    let room : i * written_len + written_len ≤ length c.loop-index.output =
+    omega (
+      arith,
+      turn-before c.SYMBOLS-written_len.ensures c.args.groups i c.loop-index-test.true,
+      c.loop-index.auto.output,
+      c.requires.exact,
+    ) in
+    record {
+      written = λ base writes.
+          written-next
+          (IsWhole-turn {groups = 8} refl c.BYTES-read_len.ensures c.SYMBOLS-written_len.ensures
+          (omega arith) g.G.GroupSize.is_group)
+          base writes.width_is input c.loop-index.output c.encode_eight.new.output i
+          (c.loop-index.invariant.written base writes) within room c.encode_eight.auto.output
+          (c.encode_eight.ensures base writes
+          ∙ (λ k. plain_text base (take (8 * sym c.BYTES-read_len.ensures k)
+          (take_rest input (i * read_len) k))));
+    }

@@ -1,0 +1,202 @@
+//! Texts in lines of at least eight groups.
+
+ghost use Rattle.std.specs.Prelude.{◌≡◌, ◌+◌, ◌-◌, ◌*◌, ◌/◌, ◌≤◌, length, take, IsSome};
+ghost use Rattle.data_encoding_kernel.specs.Tables.{IsTextBy};
+ghost use Rattle.data_encoding_meaning.specs.text.Lengths.{alignment};
+ghost use Rattle.data_encoding_meaning.specs.text.Text.{text_of};
+
+use crate::encode::ENCODE_LIMIT;
+use crate::encode::lines::write_separator;
+use crate::encoding::EncodingRef;
+use data_encoding_kernel::group_size::GroupSize;
+use data_encoding_kernel::lanes::encode::{
+    encode_eight, encode_four, encode_four_octal, encode_two,
+};
+use data_encoding_meaning::encoding::BitOrder;
+
+impl EncodingRef<'_> {
+    // The order is a constant from here on.
+    #[inline(always)]
+    pub(super) fn encode_long_lines<G: GroupSize>(&self, input: &[u8], output: &mut [u8])
+        requires width { self.now.width ≡ G.WIDTH }
+        requires lines { IsSome self.now.wrapping }
+        requires long { 8 * G.BYTES ≤ alignment self.now }
+        requires limit { length input.now ≤ ENCODE_LIMIT }
+        requires exact { length output.old ≡ length (text_of self.now input.now) }
+        ensures { output.new ≡ text_of self.now input.now }
+    {
+        match self.fields.order() {
+            BitOrder::MostSignificantFirst => self.encode_long_lines_by_order::<G>(
+                BitOrder::MostSignificantFirst,
+                input,
+                output,
+            ),
+            BitOrder::LeastSignificantFirst => self.encode_long_lines_by_order::<G>(
+                BitOrder::LeastSignificantFirst,
+                input,
+                output,
+            ),
+        }
+    }
+
+    // In lanes, while the input has a whole line and what a turn loads after it; then the last one or
+    // two lines.
+    #[inline(always)]
+    fn encode_long_lines_by_order<G: GroupSize>(
+        &self,
+        order: BitOrder,
+        input: &[u8],
+        output: &mut [u8],
+    )
+        requires width { self.now.width ≡ G.WIDTH }
+        requires order { self.now.order ≡ order }
+        requires lines { IsSome self.now.wrapping }
+        requires long { 8 * G.BYTES ≤ alignment self.now }
+        requires limit { length input.now ≤ ENCODE_LIMIT }
+        requires exact { length output.old ≡ length (text_of self.now input.now) }
+        ensures { output.new ≡ text_of self.now input.now }
+    {
+        let line_bytes = self.encode_align();
+        let line_len = self.fields.column as usize + self.separator.len();
+        let count = input.len().saturating_sub(2 * (G::BYTES - 1)) / line_bytes;
+        for index in 0..count {
+            let read = index * line_bytes;
+            let written = index * line_len;
+            self.encode_long_line::<G>(
+                order,
+                &input[read..],
+                &mut output[written..written + line_len],
+            );
+        }
+        self.encode_last_lines::<G>(
+            &input[count * line_bytes..],
+            &mut output[count * line_len..],
+        );
+    }
+
+    // Not inlined, so that the loop over lines is small.
+    #[inline(never)]
+    fn encode_last_lines<G: GroupSize>(&self, input: &[u8], output: &mut [u8])
+        requires width { self.now.width ≡ G.WIDTH }
+        requires lines { IsSome self.now.wrapping }
+        requires limit { length input.now ≤ ENCODE_LIMIT }
+        requires exact { length output.old ≡ length (text_of self.now input.now) }
+        ensures { output.new ≡ text_of self.now input.now }
+    {
+        if !input.is_empty() && input.len() <= self.encode_align() {
+            self.encode_line::<G>(input, output);
+        } else {
+            self.encode_each_line::<G>(input, output);
+        }
+    }
+
+    // The text of the first line of the input, and the separator.
+    #[inline(always)]
+    fn encode_long_line<G: GroupSize>(&self, order: BitOrder, input: &[u8], output: &mut [u8])
+        requires width { self.now.width ≡ G.WIDTH }
+        requires order { self.now.order ≡ order }
+        requires lines { IsSome self.now.wrapping }
+        requires long { 8 * G.BYTES ≤ alignment self.now }
+        requires loaded { alignment self.now + 2 * (G.BYTES - 1) ≤ length input.now }
+        requires exact { length output.old
+            ≡ length (text_of self.now (take (alignment self.now) input.now)) }
+        ensures { output.new ≡ text_of self.now (take (alignment self.now) input.now) }
+    {
+        let column = self.fields.column as usize;
+        encode_groups::<G>(
+            &self.fields.symbols,
+            order,
+            column / G::SYMBOLS,
+            input,
+            &mut output[..column],
+        );
+        write_separator(self.separator, &mut output[column..]);
+    }
+}
+
+// Writes the text of the first groups, of which there are at least eight, all in lanes. Up to eight
+// bytes after them are loaded too.
+#[inline(always)]
+fn encode_groups<G: GroupSize>(
+    symbols: &[u8; 256],
+    order: BitOrder,
+    groups: usize,
+    input: &[u8],
+    output: &mut [u8],
+)
+    requires eight { 8 ≤ groups }
+    requires loaded { groups * G.BYTES + 2 * (G.BYTES - 1) ≤ length input.now }
+    requires exact { length output.old ≡ groups * G.SYMBOLS }
+    ensures { IsTextBy symbols.now G.WIDTH order (take (groups * G.BYTES) input.now) output.new }
+{
+    let read_len = 8 * G::BYTES;
+    let written_len = 8 * G::SYMBOLS;
+    for index in 0..groups / 8 {
+        let read = index * read_len;
+        let written = index * written_len;
+        encode_eight::<G>(
+            symbols,
+            order,
+            &input[read..],
+            &mut output[written..written + written_len],
+        );
+    }
+    encode_last_groups::<G>(symbols, order, groups, input, output);
+}
+
+// Writes the text of the groups after the last eight: by a turn that ends with them, and writes
+// again the text of some groups before them.
+#[inline(always)]
+fn encode_last_groups<G: GroupSize>(
+    symbols: &[u8; 256],
+    order: BitOrder,
+    groups: usize,
+    input: &[u8],
+    output: &mut [u8],
+)
+    requires eight { 8 ≤ groups }
+    requires loaded { groups * G.BYTES + 2 * (G.BYTES - 1) ≤ length input.now }
+    requires exact { length output.old ≡ groups * G.SYMBOLS }
+    requires written { IsTextBy symbols.now G.WIDTH order
+        (take (groups / 8 * (8 * G.BYTES)) input.now)
+        (take (groups / 8 * (8 * G.SYMBOLS)) output.old) }
+    ensures { IsTextBy symbols.now G.WIDTH order (take (groups * G.BYTES) input.now) output.new }
+{
+    let left = groups % 8;
+    if left == 0 {
+        return;
+    }
+    let four = groups - 4;
+    match G::WIDTH {
+        3 if left <= 4 => encode_four_octal::<G>(
+            symbols,
+            order,
+            &input[four * G::BYTES..],
+            &mut output[four * G::SYMBOLS..],
+        ),
+        5 if left <= 2 => {
+            let two = groups - 2;
+            encode_two::<G>(
+                symbols,
+                order,
+                &input[two * G::BYTES..],
+                &mut output[two * G::SYMBOLS..],
+            );
+        }
+        6 if left <= 4 => encode_four::<G>(
+            symbols,
+            order,
+            &input[four * G::BYTES..],
+            &mut output[four * G::SYMBOLS..],
+        ),
+        _ => {
+            let eight = groups - 8;
+            encode_eight::<G>(
+                symbols,
+                order,
+                &input[eight * G::BYTES..],
+                &mut output[eight * G::SYMBOLS..],
+            );
+        }
+    }
+}
