@@ -1,4 +1,5 @@
 -- The steps of a decoding.
 pub mod TrailingBitLemmas
 pub mod StepLemmas
+pub mod GatheredLemmas
 pub mod GroupTableLemmas

@@ -1,0 +1,158 @@
+-- Symbols that are gathered among ignored bytes, and decoded as one run.
+use Rattle.std.proofs.Common.{◌≡◌, ℕ, zero, suc, ◌+◌, ◌-◌, ◌*◌, ◌<◌, ◌≤◌, true, false, List, [], ◌∷◌, ◌++◌, length, take, drop, get_or, refl, sym, ap, ◌∙◌, arith, append_assoc, length-append, length-take-le, inl}
+use Rattle.std.specs.Prelude.{flat_map}
+use Rattle.std.proofs.Math.Nat.{zero-mod, add-mod, mul-le-mul_right, mul-mod_left}
+use Rattle.std.proofs.Math.Seq.{take-suc}
+use Rattle.std.proofs.lemmas.List.{get_or-take, length-drop, length-map, map-append, take-take, take_at}
+use Rattle.std.proofs.lemmas.List.Concat.{flat_map-append}
+use Rattle.std.proofs.lemmas.List.Folds.{flat_map-map}
+use Rattle.data_encoding_meaning.specs.text.Base.{Base, IsWidth, group_bytes, group_symbols, is_ignored, is_symbol, meaning}
+use Rattle.data_encoding_meaning.specs.text.Bits.{runs}
+use Rattle.data_encoding_meaning.specs.text.Grammar.{Positioned, bytes_in, groups, kept, kept_from, kept_in, meanings_in}
+use Rattle.data_encoding_meaning.specs.decoding.Decoding.{HasDecodedTo, IsGathered, run_bytes}
+use Rattle.data_encoding_meaning.specs.decoding.Fault.{bytes_of_group, symbol_bytes}
+use Rattle.data_encoding_meaning.specs.decoding.Partial.{position_after}
+use Rattle.data_encoding_meaning.proofs.decoding.GatherLemmas.{HasGathered}
+use Rattle.data_encoding_meaning.proofs.decoding.ProgressLemmas.{IsPart, whole-before}
+use Rattle.data_encoding_meaning.proofs.digits.WidthLemmas.{group_symbols-pos}
+use Rattle.data_encoding_meaning.proofs.grammar.KeptLemmas.{between, kept-more, kept-split, kept_in-append, position_after-append}
+use Rattle.data_encoding_meaning.proofs.grammar.PositionLemmas.{length-by_bytes, runs-meanings}
+use Rattle.data_encoding_meaning.proofs.grammar.SameBytesLemmas.{bytes-kept_in}
+use Rattle.data_encoding_meaning.proofs.grammar.SoundLemmas.{AreSound-append}
+use Rattle.data_encoding_meaning.proofs.grammar.WholeGroupLemmas.{AreSound-symbols}
+use Rattle.data_encoding_meaning.proofs.lists.EndLemmas.{AllSo}
+use Rattle.data_encoding_meaning.proofs.lists.RunLemmas.{runs-join}
+use Rattle.data_encoding.specs.Gathered.{AreKept, EndsBefore}
+
+-- what was gathered holds if other bytes follow it in the room
+pub gathered-room : {base : Base} {part : List ℕ} {index count span : ℕ} {room : List ℕ}
+    (other : List ℕ) → take count other ≡ take count room
+    → HasGathered base part index count span room → HasGathered base part index count span other
+gathered-room other same so_far = record {
+  before = so_far.before;
+  same = so_far.same;
+  bytes_are = so_far.bytes_are ∙ sym same;
+  count_is = so_far.count_is;
+  ends = so_far.ends;
+}
+
+-- Without the last of the gathered bytes, those before them are gathered.
+pub gathered-before : {base : Base} {part bytes : List ℕ} {span last short : ℕ}
+    → AreKept base part span bytes → span ≤ length part → EndsBefore base (take span part) last short
+    → short ≤ length (take span part) → (count : ℕ) → length bytes ≡ count + last
+    → IsGathered base count part (take count bytes) short
+gathered-before {base} {part} {bytes} {span} {last} {short} are within ends inside count many =
+    let front = take span part in
+    let first = kept base (take short front) in
+    let rest = kept_from base short front in
+    let byte_of : Positioned → ℕ = λ k. k.byte in
+    let few : short ≤ span = omega (arith, inside, length-take-le span part within) in
+    let all = length-by_bytes (kept base front) bytes are in
+    let first_len : length first ≡ count = omega (arith, ends.before, all, many) in
+    let first_bytes : length (bytes_in first) ≡ count = length-map first byte_of ∙ first_len in
+    let parts : bytes ≡ bytes_in first ++ bytes_in rest =
+    sym are ∙ ap bytes_in (kept-split base short front inside) ∙ map-append byte_of first rest in
+    let front_is : take short front ≡ take short part = take-take short span part few in
+    let taken : take count bytes ≡ bytes_in first =
+    ap (take count) parts ∙ take_at (bytes_in first) (bytes_in rest) count first_bytes in
+    record {
+      within = omega (arith, few, within);
+      bytes_are = ap (λ l. bytes_in (kept base l)) (sym front_is) ∙ sym taken;
+      ends = λ some.
+          rw (get_or-take span part (short - 1) 0 (omega (arith, some, few))) at (ends.ends some);
+      few = omega (arith, ap length taken, first_bytes);
+      last = inl (ap length taken ∙ first_bytes);
+    }
+
+-- each is a symbol if each of the bytes is
+symbols-in : (base : Base) (ks : List Positioned)
+    → ((k : ℕ) → k < length ks → is_symbol (meaning base (get_or (bytes_in ks) k 0)) ≡ true)
+    → AllSo (λ k. is_symbol (meaning base k.byte)) ks
+symbols-in base [] h = tt
+symbols-in base (k ∷ ks) h =
+    (h 0 (omega arith), symbols-in base ks (λ n less. h (suc n) (omega (arith, less))))
+
+-- the kept bytes of a part that ends with one of them end where it does
+kept-ends : (base : Base) (read : ℕ) (xs : List ℕ) (n : ℕ) → n ≤ length xs
+    → (0 < n → is_ignored (meaning base (get_or xs (n - 1) 0)) ≡ false)
+    → 0 < length (kept_in base read (take n xs))
+    → position_after (kept_in base read (take n xs)) ≡ read + n
+kept-ends base read xs zero few ends some = absurd (omega (arith, some))
+kept-ends base read xs (suc n) few ends some =
+    let front = take n xs in
+    let byte = get_or xs n 0 in
+    let place : n ≡ suc n - 1 = omega arith in
+    let last : is_ignored (meaning base byte) ≡ false = rw place (ends (omega arith)) in
+    let front_len : length front ≡ n = length-take-le n xs (omega (arith, few)) in
+    let split = take-suc xs n 0 (omega (arith, few)) in
+    rw (split, kept_in-append base read front (byte ∷ []), last)
+    (position_after-append (kept_in base read front)
+    (record { position = read + length front; byte = byte } ∷ []) (omega arith)
+    ∙ omega (arith, front_len))
+
+-- the bytes of a run are those of its groups, wherever they were gathered
+run_bytes-gathered : (base : Base) → IsWidth base.width → (ks : List Positioned)
+    → run_bytes base (bytes_in ks)
+    ≡ flat_map (bytes_of_group base) (runs (group_symbols base.width) ks)
+run_bytes-gathered base width ks =
+    let size = group_symbols base.width in
+    ap (flat_map (symbol_bytes base))
+    (runs-meanings base size ks (group_symbols-pos base.width width))
+    ∙ flat_map-map (symbol_bytes base) (meanings_in base) (runs size ks)
+
+-- This many whole groups of symbols, gathered among ignored bytes that precede and separate them:
+-- a text is decoded to the end of the last, if their bytes were written.
+pub after-gathered : (base : Base) → IsWidth base.width → (text : List ℕ)
+    → {read written size span : ℕ} (count : ℕ) {bytes old : List ℕ} (new : List ℕ)
+    → HasDecodedTo base text read written false old
+    → IsGathered base size (drop read text) bytes span
+    → 0 < count
+    → length bytes ≡ count * group_symbols base.width
+    → ((k : ℕ) → k < count * group_symbols base.width
+    → is_symbol (meaning base (get_or bytes k 0)) ≡ true)
+    → written + count * group_bytes base.width ≤ length new
+    → take (written + count * group_bytes base.width) new
+    ≡ take written old ++ run_bytes base bytes
+    → HasDecodedTo base text (read + span) (written + count * group_bytes base.width) false new
+after-gathered base width text {read} {written} {size} {span} count {bytes} {old} new so_far is
+    many whole symbols fits writes =
+    let dec = group_symbols base.width in
+    let pos : 0 < dec = group_symbols-pos base.width width in
+    let stop = read + span in
+    let rest = drop read text in
+    let part = kept_in base read (take span rest) in
+    let bytes_are : bytes_in part ≡ bytes =
+    bytes-kept_in base read (take span rest) ∙ sym (bytes-kept_in base 0 (take span rest))
+    ∙ is.bytes_are in
+    let len : length part ≡ count * dec = length-by_bytes part bytes bytes_are ∙ whole in
+    let some : 0 < length part = omega (arith, len, mul-le-mul_right dec many, pos) in
+    let place : stop - read ≡ span = omega arith in
+    let next : IsPart base text read stop part = record {
+      after = omega arith;
+      within = omega (arith, is.within, length-drop read text, so_far.within);
+      is_kept = rw place;
+      some = some;
+      ends = kept-ends base read rest span is.within is.ends some;
+    } in
+    let before = whole-before base width text so_far next in
+    let parts : kept base (take stop text) ≡ kept base (take read text) ++ part =
+    rw next.is_kept (kept-more base read text so_far.within stop next.after next.within) in
+    let more : groups base (take stop text) ≡ groups base (take read text) ++ runs dec part =
+    rw parts (runs-join dec (kept base (take read text)) part pos before) in
+    let all = symbols-in base part
+    (λ k less. rw bytes_are (symbols k (omega (arith, less, len)))) in
+    record {
+      within = next.within;
+      sound = rw more
+          (AreSound-append base false false false (groups base (take read text)) (runs dec part)
+          so_far.sound (AreSound-symbols base width count part len all));
+      whole = inl (rw (parts, length-append, add-mod, before, len, mul-mod_left count dec)
+          (zero-mod dec));
+      ends = rw parts
+          (position_after-append (kept base (take read text)) part some ∙ next.ends);
+      fits = fits;
+      writes = rw (more, flat_map-append, ← so_far.writes)
+          (writes
+          ∙ ap (λ l. take written old ++ l)
+          (ap (run_bytes base) (sym bytes_are) ∙ run_bytes-gathered base width part));
+    }
