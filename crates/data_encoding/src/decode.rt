@@ -1,5 +1,6 @@
 //! From text to data.
 
+pub(crate) mod gathered;
 pub(crate) mod group;
 pub(crate) mod length;
 pub(crate) mod next_group;

@@ -1,9 +1,9 @@
 -- Symbols that are gathered among ignored bytes, and decoded as one run.
-use Rattle.std.proofs.Common.{◌≡◌, ℕ, zero, suc, ◌+◌, ◌-◌, ◌*◌, ◌<◌, ◌≤◌, true, false, List, [], ◌∷◌, ◌++◌, length, take, drop, get_or, refl, sym, ap, ◌∙◌, arith, append_assoc, length-append, length-take-le, inl}
+use Rattle.std.proofs.Common.{◌≡◌, ℕ, zero, suc, ◌+◌, ◌-◌, ◌*◌, ◌/◌, ◌<◌, ◌≤◌, true, false, List, [], ◌∷◌, ◌++◌, length, take, drop, get_or, refl, sym, ap, ◌∙◌, arith, append_assoc, length-append, length-take-le, inl}
 use Rattle.std.specs.Prelude.{flat_map}
 use Rattle.std.proofs.Math.Nat.{zero-mod, add-mod, mul-le-mul_right, mul-mod_left}
 use Rattle.std.proofs.Math.Seq.{take-suc}
-use Rattle.std.proofs.lemmas.List.{get_or-take, length-drop, length-map, map-append, take-take, take_at}
+use Rattle.std.proofs.lemmas.List.{get_or-take, length-drop, length-map, map-append, take-take, take_at, take_rest}
 use Rattle.std.proofs.lemmas.List.Concat.{flat_map-append}
 use Rattle.std.proofs.lemmas.List.Folds.{flat_map-map}
 use Rattle.data_encoding_meaning.specs.text.Base.{Base, IsWidth, group_bytes, group_symbols, is_ignored, is_symbol, meaning}
@@ -13,16 +13,20 @@ use Rattle.data_encoding_meaning.specs.decoding.Decoding.{HasDecodedTo, IsGather
 use Rattle.data_encoding_meaning.specs.decoding.Fault.{bytes_of_group, symbol_bytes}
 use Rattle.data_encoding_meaning.specs.decoding.Partial.{position_after}
 use Rattle.data_encoding_meaning.proofs.decoding.GatherLemmas.{HasGathered}
-use Rattle.data_encoding_meaning.proofs.decoding.ProgressLemmas.{IsPart, whole-before}
+use Rattle.data_encoding_meaning.proofs.decoding.ProgressLemmas.{IsPart, room-run, whole-before}
 use Rattle.data_encoding_meaning.proofs.digits.WidthLemmas.{group_symbols-pos}
 use Rattle.data_encoding_meaning.proofs.grammar.KeptLemmas.{between, kept-more, kept-split, kept_in-append, position_after-append}
-use Rattle.data_encoding_meaning.proofs.grammar.PositionLemmas.{length-by_bytes, runs-meanings}
+use Rattle.data_encoding_meaning.proofs.grammar.PositionLemmas.{length-by_bytes, length-kept, runs-meanings}
 use Rattle.data_encoding_meaning.proofs.grammar.SameBytesLemmas.{bytes-kept_in}
 use Rattle.data_encoding_meaning.proofs.grammar.SoundLemmas.{AreSound-append}
 use Rattle.data_encoding_meaning.proofs.grammar.WholeGroupLemmas.{AreSound-symbols}
 use Rattle.data_encoding_meaning.proofs.lists.EndLemmas.{AllSo}
 use Rattle.data_encoding_meaning.proofs.lists.RunLemmas.{runs-join}
+use Rattle.data_encoding_meaning.proofs.lists.PartLemmas.{groups-within}
+use Rattle.data_encoding_meaning.proofs.lists.WriteLemmas.{length-rewritten_same, rewritten, take-rewritten}
+use Rattle.data_encoding_kernel.specs.Runs.{IsRun}
 use Rattle.data_encoding.specs.Gathered.{AreKept, EndsBefore}
+use Rattle.data_encoding.proofs.decoding.StepLemmas.{IsUnderWay, Sizes}
 
 -- what was gathered holds if other bytes follow it in the room
 pub gathered-room : {base : Base} {part : List ℕ} {index count span : ℕ} {room : List ℕ}
@@ -156,3 +160,70 @@ after-gathered base width text {read} {written} {size} {span} count {bytes} {old
           ∙ ap (λ l. take written old ++ l)
           (ap (run_bytes base) (sym bytes_are) ∙ run_bytes-gathered base width part));
     }
+
+-- A block was gathered from the next bytes of a text.
+module _ {base : Base} {text : List ℕ} {sizes : Sizes} {read written : ℕ} {output : List ℕ}
+    (s : IsUnderWay base text sizes read written false output) (span : ℕ) (block : List ℕ)
+    (within : read + span ≤ length text) (are : AreKept base (drop read text) span block) where
+  inside : span ≤ length (drop read text)
+  inside = omega (arith, within, length-drop read text)
+
+  pub length-block : length (kept base (take span (drop read text))) ≡ length block
+  length-block = length-by_bytes (kept base (take span (drop read text))) block are
+
+  few-block : length block ≤ length text - read
+  few-block =
+      omega (
+        arith,
+        within,
+        length-block,
+        length-kept base (take span (drop read text)),
+        length-take-le span (drop read text) inside,
+      )
+
+  -- its groups have room
+  pub room-block : length block / sizes.symbols * sizes.bytes
+      ≤ length (take (length output - written) (drop written output))
+  room-block =
+      let dec = group_symbols base.width in
+      let count = length block / dec in
+      let whole : count * dec ≤ length text - read =
+      omega (arith, groups-within (length block) dec, few-block) in
+      rw (take_rest output written, s.symbols_is, s.bytes_is)
+      (omega (arith, room-run base s.width text s.so_far count whole, length-drop written output))
+
+  -- what a run at its start does, whose groups end before the last of its bytes
+  pub after_block : {count last short : ℕ} {rest old : List ℕ}
+      → length rest ≡ length (take (length output - written) (drop written output))
+      → IsRun base block count old rest → 0 < count
+      → length block ≡ count * sizes.symbols + last
+      → EndsBefore base (take span (drop read text)) last short
+      → short ≤ length (take span (drop read text))
+      → IsUnderWay base text sizes (read + short) (written + count * sizes.bytes) false
+      (rewritten written output rest)
+  after_block {count} {last} {short} {rest} {old} rest_len run some many ends few =
+      let dec = group_symbols base.width in
+      let enc = group_bytes base.width in
+      let new = rewritten written output rest in
+      let whole = count * dec in
+      let all : length block ≡ whole + last = rw s.symbols_is at many in
+      let is = gathered-before are inside ends few whole all in
+      let bytes = take whole block in
+      let bytes_len : length bytes ≡ whole = length-take-le whole block run.within in
+      let groups : whole ≤ length text - read = omega (arith, all, few-block) in
+      let same = length-rewritten_same written output rest s.so_far.fits rest_len in
+      let most = room-run base s.width text s.so_far count groups in
+      let fits : written + count * enc ≤ length new = omega (arith, most, s.size_is, same) in
+      record {
+        width = s.width;
+        symbols_is = s.symbols_is;
+        bytes_is = s.bytes_is;
+        width_is = s.width_is;
+        no_fault = s.no_fault;
+        size_is = s.size_is ∙ sym same;
+        so_far = rw s.bytes_is
+            (after-gathered base s.width text count new s.so_far is some bytes_len
+            (λ k less. rw (get_or-take whole block k 0 less) (run.are_symbols k less)) fits
+            (take-rewritten written output rest s.so_far.fits (count * enc)
+            ∙ ap (λ l. take written output ++ l) run.bytes));
+      }

@@ -19,9 +19,9 @@ pub(crate) struct Group<'a> {
 
 // How many bytes were gathered, and up to which length of the text.
 #[derive(Clone, Copy, Drop)]
-struct Gathered {
-    count: usize,
-    span: usize,
+pub(crate) struct Gathered {
+    pub(crate) count: usize,
+    pub(crate) span: usize,
 }
 
 impl EncodingRef<'_> {

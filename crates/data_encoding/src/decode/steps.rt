@@ -7,6 +7,7 @@ ghost use Rattle.data_encoding.specs.Steps.{HasEnded, HasStepped};
 ghost use Rattle.data_encoding_meaning.specs.text.Lengths.{decoded_len};
 ghost use Rattle.data_encoding_kernel.specs.Tables.{HoldsValues, Reads};
 
+use crate::decode::gathered::is_for_blocks;
 use crate::decode::{DECODE_LIMIT, Stop};
 use crate::encoding::{BitOrder, EncodingRef, IGNORED};
 use crate::error::DecodeKind;
@@ -57,8 +58,10 @@ impl EncodingRef<'_> {
         ensures { HasEnded self.now input.now output.new stop.new result }
     {
         let order = O::ORDER;
+        let mut gathers = false;
         while stop.read < input.len() {
-            let at = self.decode_runs::<L, O, G>(
+            let begun = stop.read;
+            let mut at = self.decode_runs::<L, O, G>(
                 values,
                 look_up,
                 stop.read,
@@ -66,11 +69,16 @@ impl EncodingRef<'_> {
                 input,
                 output,
             );
+            if gathers && is_for_blocks(at.read - begun, input.len() - at.read) {
+                at = self.decode_gathered::<L, O, G>(values, look_up, at, input, output);
+            }
             match self.decode_next::<G>(order, self.fields.ignores, at, input, output, stop) {
                 Step::More => {}
                 Step::Ended => return true,
                 Step::Faulty => return false,
             }
+            // A group of symbols only is no run of its own if bytes are ignored among them.
+            gathers = stop.written == at.written + G::BYTES;
         }
         true
     }

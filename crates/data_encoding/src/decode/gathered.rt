@@ -1,0 +1,170 @@
+//! Groups with ignored bytes among their symbols: the symbols of a block of the text are gathered,
+//! and decoded as one run.
+
+ghost use Rattle.std.specs.Prelude.{◌≡◌, ℕ, List, true, false, ◌+◌, ◌≤◌, length, take, drop, Ok};
+ghost use Rattle.data_encoding_meaning.specs.text.Base.{Base};
+ghost use Rattle.data_encoding_meaning.specs.text.Grammar.{kept};
+ghost use Rattle.data_encoding_meaning.specs.text.Lengths.{decoded_len};
+ghost use Rattle.data_encoding_meaning.specs.decoding.Decoding.{HasDecodedTo, IsIgnoredFront};
+ghost use Rattle.data_encoding_kernel.specs.Tables.{HoldsValues, Reads};
+ghost use Rattle.data_encoding.specs.Gathered.{AreKept, EndsBefore};
+
+use crate::decode::DECODE_LIMIT;
+use crate::decode::next_group::Gathered;
+use crate::decode::steps::Reached;
+use crate::encoding::{EncodingRef, IGNORED};
+use data_encoding_kernel::decode::decode_run;
+use data_encoding_kernel::group_size::GroupSize;
+use data_encoding_kernel::lanes::look_up::LookUp;
+use data_encoding_kernel::order::ConstantOrder;
+
+// The length of the first block, and that of the further ones. The first is short, since ignored
+// bytes that are few may follow.
+const FIRST: usize = 64;
+
+const BLOCK: usize = 512;
+
+// Fewer bytes than these make no block, and more of them are a run that is better decoded in place.
+const SHORT: usize = 32;
+
+/// Whether to go on by blocks, after groups with ignored bytes and a run of this length.
+#[inline(always)]
+pub(crate) fn is_for_blocks(run: usize, left: usize) -> bool {
+    run < SHORT && left >= SHORT
+}
+
+impl EncodingRef<'_> {
+    /// Decodes whole groups of symbols only, with ignored bytes among them, block by block while
+    /// many bytes are ignored.
+    // Not inlined, so that other texts do not pay for the stack that a block takes.
+    #[inline(never)]
+    pub(crate) fn decode_gathered<L: LookUp, O: ConstantOrder, G: GroupSize>(
+        &self,
+        values: &[u8; 256],
+        look_up: &L,
+        at: Reached,
+        input: &[u8],
+        output: &mut [u8],
+    ) -> Reached
+        requires reads { Reads self.now values.now G.WIDTH O.ORDER }
+        requires held { L.holds values.now look_up.now }
+        requires limit { length input.now ≤ DECODE_LIMIT }
+        requires exact { decoded_len self.now (length input.now) ≡ Ok (length output.old) }
+        requires so_far { HasDecodedTo self.now input.now at.read at.written false output.old }
+        requires front { IsIgnoredFront self.now (drop at.read input.now) at.ignored }
+        ensures so_far { HasDecodedTo self.now input.now result.read result.written false
+            output.new }
+        ensures front { IsIgnoredFront self.now (drop result.read input.now) result.ignored }
+        ensures further { at.read ≤ result.read }
+    {
+        let mut block = [0; BLOCK];
+        let mut reached = at;
+        let mut len = FIRST;
+        let mut goes_on = true;
+        while goes_on {
+            let gathered = gather_symbols(values, &input[reached.read..], &mut block[..len]);
+            let next = self.decode_block::<L, O, G>(
+                values,
+                look_up,
+                reached,
+                gathered.span,
+                &block[..gathered.count],
+                input,
+                output,
+            );
+            if next.read == reached.read {
+                return next;
+            }
+            reached = next;
+            len = BLOCK;
+            goes_on = gathered.count <= gathered.span - gathered.span / 32;
+        }
+        reached
+    }
+
+    // Decodes the whole groups at the start of a block, which are the bytes that are not ignored
+    // among the next ones, as many as the span.
+    #[inline(always)]
+    fn decode_block<L: LookUp, O: ConstantOrder, G: GroupSize>(
+        &self,
+        values: &[u8; 256],
+        look_up: &L,
+        at: Reached,
+        span: usize,
+        block: &[u8],
+        input: &[u8],
+        output: &mut [u8],
+    ) -> Reached
+        requires reads { Reads self.now values.now G.WIDTH O.ORDER }
+        requires held { L.holds values.now look_up.now }
+        requires limit { length input.now ≤ DECODE_LIMIT }
+        requires exact { decoded_len self.now (length input.now) ≡ Ok (length output.old) }
+        requires so_far { HasDecodedTo self.now input.now at.read at.written false output.old }
+        requires front { IsIgnoredFront self.now (drop at.read input.now) at.ignored }
+        requires within { at.read + span ≤ length input.now }
+        requires gathered { AreKept self.now (drop at.read input.now) span block.now }
+        ensures so_far { HasDecodedTo self.now input.now result.read result.written false
+            output.new }
+        ensures front { IsIgnoredFront self.now (drop result.read input.now) result.ignored }
+        ensures further { at.read ≤ result.read }
+    {
+        let count = decode_run::<L, O, G>(values, look_up, block, &mut output[at.written..]);
+        if count == 0 {
+            return at;
+        }
+        let part = &input[at.read..at.read + span];
+        let span = span_before(values, part, block.len() - count * G::SYMBOLS);
+        Reached {
+            read: at.read + span,
+            written: at.written + count * G::BYTES,
+            ignored: 0,
+        }
+    }
+}
+
+// Gathers the symbols at the start of the rest of a text, without the ignored bytes among them, up
+// to the first byte that is neither, or from as many bytes as the block has.
+// Each byte is written, also if it is ignored, so that no branch depends on that.
+#[inline(always)]
+fn gather_symbols(values: &[u8; 256], rest: &[u8], block: &mut [u8]) -> Gathered
+    ensures within { result.span ≤ length rest.now }
+    ensures few { result.count ≤ length block.new }
+    ensures bytes { (base : Base) → HoldsValues base values.now
+        → AreKept base rest.now result.span (take result.count block.new) }
+{
+    let most = rest.len().min(block.len());
+    let mut count = 0;
+    for index in 0..most {
+        let byte = rest[index];
+        let entry = values[byte as usize];
+        if entry >= 128 && entry != IGNORED {
+            return Gathered { count, span: index };
+        }
+        block[count] = byte;
+        if entry != IGNORED {
+            count += 1;
+        }
+    }
+    Gathered { count, span: most }
+}
+
+// Returns the length of a part without its last bytes that are not ignored, as many as these, and
+// without the ignored bytes before and after them.
+#[inline(always)]
+fn span_before(values: &[u8; 256], part: &[u8], last: usize) -> usize
+    ensures within { result ≤ length part.now }
+    ensures ends { (base : Base) → HoldsValues base values.now
+        → last ≤ length (kept base part.now) → EndsBefore base part.now last result }
+{
+    let mut left = last;
+    for index in 0..part.len() {
+        let end = part.len() - index;
+        if values[part[end - 1] as usize] != IGNORED {
+            if left == 0 {
+                return end;
+            }
+            left -= 1;
+        }
+    }
+    0
+}
