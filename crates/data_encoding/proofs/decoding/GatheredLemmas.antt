@@ -2,7 +2,7 @@
 use Rattle.std.proofs.Common.{◌≡◌, ℕ, zero, suc, ◌+◌, ◌-◌, ◌*◌, ◌/◌, ◌<◌, ◌≤◌, true, false, List, [], ◌∷◌, ◌++◌, length, take, drop, get_or, refl, sym, ap, ◌∙◌, arith, append_assoc, length-append, length-take-le, inl}
 use Rattle.std.specs.Prelude.{flat_map}
 use Rattle.std.proofs.Math.Nat.{zero-mod, add-mod, mul-le-mul_right, mul-mod_left}
-use Rattle.std.proofs.Math.Seq.{take-suc}
+use Rattle.std.proofs.Math.Seq.{take-add, take-suc}
 use Rattle.std.proofs.lemmas.List.{get_or-take, length-drop, length-map, map-append, take-take, take_at, take_rest}
 use Rattle.std.proofs.lemmas.List.Concat.{flat_map-append}
 use Rattle.std.proofs.lemmas.List.Folds.{flat_map-map}
@@ -39,6 +39,27 @@ gathered-room other same so_far = record {
   count_is = so_far.count_is;
   ends = so_far.ends;
 }
+
+-- what is gathered from the next bytes follows what was gathered before them
+pub gathered-further : (base : Base) (part block new : List ℕ) (read size count more : ℕ)
+    → AreKept base part read (take count block) → count ≤ length block
+    → bytes_in (kept base (take size (drop read part))) ≡ take more new
+    → AreKept base part (read + size) (take (count + more) (rewritten count block new))
+gathered-further base part block new read size count more are within next =
+    let front = take read part in
+    let back = take size (drop read part) in
+    let behind = kept_in base (0 + length front) back in
+    let byte_of : Positioned → ℕ = λ k. k.byte in
+    let bytes : bytes_in behind ≡ take more new =
+    bytes-kept_in base (0 + length front) back ∙ sym (bytes-kept_in base 0 back) ∙ next in
+    rw (
+      take-add read size part,
+      kept_in-append base 0 front back,
+      map-append byte_of (kept base front) behind,
+      are,
+      bytes,
+    )
+    (sym (take-rewritten count block new within more))
 
 -- Without the last of the gathered bytes, those before them are gathered.
 pub gathered-before : {base : Base} {part bytes : List ℕ} {span last short : ℕ}

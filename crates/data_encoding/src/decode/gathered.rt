@@ -1,9 +1,9 @@
 //! Groups with ignored bytes among their symbols: the symbols of a block of the text are gathered,
 //! and decoded as one run.
 
-ghost use Rattle.std.specs.Prelude.{◌≡◌, ℕ, List, true, false, ◌+◌, ◌≤◌, length, take, drop, Ok};
+ghost use Rattle.std.specs.Prelude.{◌≡◌, ℕ, List, true, false, ◌+◌, ◌≤◌, length, take, drop, Ok, IfSome};
 ghost use Rattle.data_encoding_meaning.specs.text.Base.{Base};
-ghost use Rattle.data_encoding_meaning.specs.text.Grammar.{kept};
+ghost use Rattle.data_encoding_meaning.specs.text.Grammar.{bytes_in, kept};
 ghost use Rattle.data_encoding_meaning.specs.text.Lengths.{decoded_len};
 ghost use Rattle.data_encoding_meaning.specs.decoding.Decoding.{HasDecodedTo, IsIgnoredFront};
 ghost use Rattle.data_encoding_kernel.specs.Tables.{HoldsValues, Reads};
@@ -122,9 +122,9 @@ impl EncodingRef<'_> {
     }
 }
 
-// Gathers the symbols at the start of the rest of a text, without the ignored bytes among them, up
-// to the first byte that is neither, or from as many bytes as the block has.
-// Each byte is written, also if it is ignored, so that no branch depends on that.
+// Gathers the symbols at the start of the rest of a text, without the ignored bytes among them,
+// eight bytes at a time, up to the first eight of which one is neither, or from as many bytes as
+// the block has.
 #[inline(always)]
 fn gather_symbols(values: &[u8; 256], rest: &[u8], block: &mut [u8]) -> Gathered
     ensures within { result.span ≤ length rest.now }
@@ -132,20 +132,44 @@ fn gather_symbols(values: &[u8; 256], rest: &[u8], block: &mut [u8]) -> Gathered
     ensures bytes { (base : Base) → HoldsValues base values.now
         → AreKept base rest.now result.span (take result.count block.new) }
 {
-    let most = rest.len().min(block.len());
+    let turns = rest.len().min(block.len()) / 8;
     let mut count = 0;
-    for index in 0..most {
-        let byte = rest[index];
+    for turn in 0..turns {
+        let read = 8 * turn;
+        let more = gather_eight(values, &rest[read..read + 8], &mut block[count..]);
+        let Some(more) = more else {
+            return Gathered { count, span: read };
+        };
+        count += more;
+    }
+    Gathered {
+        count,
+        span: 8 * turns,
+    }
+}
+
+// Gathers the bytes that are not ignored, and returns how many they are, or `None` if one of them
+// is no symbol.
+// Each byte is written, also if it is ignored, so that no branch depends on that.
+#[inline(always)]
+fn gather_eight(values: &[u8; 256], bytes: &[u8], block: &mut [u8]) -> Option<usize>
+    requires room { length bytes.now ≤ length block.old }
+    ensures few { IfSome result (λ count. count ≤ length bytes.now) }
+    ensures bytes { IfSome result (λ count. (base : Base) → HoldsValues base values.now
+        → bytes_in (kept base bytes.now) ≡ take count block.new) }
+{
+    let mut count = 0;
+    let mut others = false;
+    for index in 0..bytes.len() {
+        let byte = bytes[index];
         let entry = values[byte as usize];
-        if entry >= 128 && entry != IGNORED {
-            return Gathered { count, span: index };
-        }
         block[count] = byte;
+        others |= entry & 129 == 128;
         if entry != IGNORED {
             count += 1;
         }
     }
-    Gathered { count, span: most }
+    if others { None } else { Some(count) }
 }
 
 // Returns the length of a part without its last bytes that are not ignored, as many as these, and

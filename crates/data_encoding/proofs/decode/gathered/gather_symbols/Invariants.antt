@@ -1,11 +1,11 @@
-use Rattle.std.proofs.Common.{ℕ, ◌≤◌}
+use Rattle.std.proofs.Common.{◌*◌, ◌≤◌, take}
 use Rattle.data_encoding_meaning.specs.text.Base.{Base}
 use Rattle.data_encoding_kernel.specs.Tables.{HoldsValues}
-use Rattle.data_encoding_meaning.proofs.decoding.GatherLemmas.{HasGathered}
+use Rattle.data_encoding.specs.Gathered.{AreKept}
 use Rattle.data_encoding.proofs.decode.gathered.gather_symbols.Given as goal
 
-abbrev pub invariant-loop-index : goal.invariant-loop-index
-invariant-loop-index l =
-    (l.count ≤ l.index)
+abbrev pub invariant-loop-turn : goal.invariant-loop-turn
+invariant-loop-turn l =
+    (l.count ≤ 8 * l.turn)
     × ((base : Base) → HoldsValues base l.values
-    → (span : ℕ) × HasGathered base l.rest l.index l.count span l.block)
+    → AreKept base l.rest (8 * l.turn) (take l.count l.block))
