@@ -5,3 +5,4 @@ pub mod PlainLemmas
 pub mod EqualityLemmas
 pub mod LayoutTableLemmas
 pub mod ReadTableLemmas
+pub mod SeparatorLemmas
