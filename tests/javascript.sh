@@ -49,8 +49,10 @@ is 'the version of the package' "$(sed -n 's/^## //p' "$OLDPWD/CHANGELOG.md" | h
 # The lines that go by words in a package that is built without --lanes.
 kernel=$OLDPWD/crates/data_encoding_kernel/src
 lines=$OLDPWD/crates/data_encoding/src/encode/lines.rt
-is 'what goes by words' '2 1 1 1 1' "$(grep -cF 'encode_turns::<EightGroups, G>' "$kernel/encode.rt") \
-$(grep -cF 'EightGroups::encode_rest::<G>' "$kernel/encode.rt") \
+is 'what goes by words' '2 2 1 1 1 1' \
+    "$(grep -cF 'encode_by_order::<EightGroups, G>(&EightGroups,' "$kernel/encode.rt") \
+$(grep -cF 'EightGroups::encode_rest::<G>(' "$kernel/encode.rt") \
+$(grep -cF 'input.len() >= LONG' "$kernel/encode.rt") \
 $(grep -cF 'if input.len() < eight ||' "$kernel/decode.rt") \
 $(grep -cF 'return decode_turns::<Few<L>, G>(&Few { look_up: ' "$kernel/decode.rt") \
 $(grep -cF 'line_bytes / 8 >= G::BYTES' "$lines")"

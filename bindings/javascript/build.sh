@@ -68,8 +68,10 @@ put() {
 # by_words: no turn of groups in lanes is taken.
 by_words() {
     local kernel=data_encoding_kernel
-    put $kernel encode.rt 'encode_turns::<EightGroups, G>' 'encode_turns::<OneGroup, G>'
-    put $kernel encode.rt 'EightGroups::encode_rest::<G>' 'encode_by_order::<OneGroup, G>'
+    put $kernel encode.rt 'encode_by_order::<EightGroups, G>(&EightGroups,' \
+        'encode_by_order::<OneGroup, G>(\&OneGroup,'
+    put $kernel encode.rt 'EightGroups::encode_rest::<G>(' 'encode_by_order::<OneGroup, G>(\&OneGroup, '
+    put $kernel encode.rt 'input.len() >= LONG' 'input.len() >= LONG \&\& false'
     put $kernel decode.rt 'if input.len() < eight ||' 'if input.len() < eight || true ||'
     put $kernel decode.rt 'return decode_turns::<Few<L>, G>(&Few { look_up: ' \
         'return decode_turns::<[u8; 256], G>(values, O::ORDER, input, output); // '
