@@ -48,27 +48,33 @@ impl Encoding {
             return Ok(());
         }
         output.reserve(len)?;
-        self.append_within(input, output);
+        self.append_within(input, len, output);
         Ok(())
     }
 
-    // The same if there is room: the text is written in place.
-    pub(crate) fn append_within<A: Allocator + Copy>(&self, input: &[u8], output: &mut String<A>)
+    // The same if there is room: the text, which has this length, is written in place.
+    pub(crate) fn append_within<A: Allocator + Copy>(
+        &self,
+        input: &[u8],
+        len: usize,
+        output: &mut String<A>,
+    )
         requires limit { length input.now ≤ ENCODE_LIMIT }
-        requires room { string_len output.old + length (text_of self.now input.now)
-            ≤ string_capacity output.old }
+        requires len { len ≡ length (text_of self.now input.now) }
+        requires room { string_len output.old + len ≤ string_capacity output.old }
         ensures text { string_bytes output.new
             ≡ string_bytes output.old ++ text_of self.now input.now }
         ensures len { string_len output.new
             ≡ string_len output.old + length (text_of self.now input.now) }
         ensures capacity { string_capacity output.old ≤ string_capacity output.new }
     {
+        if len == 0 {
+            return;
+        }
         let empty = String::new(*output.allocator());
         let mut bytes = mem::replace(output, empty).into_bytes();
         let start = bytes.len();
-        bytes
-            .resize(start + self.encode_len(input.len()), 0)
-            .unwrap();
+        bytes.resize(start + len, 0).unwrap();
         self.encode_mut(input, &mut bytes[start..]);
         *output = unsafe { String::from_utf8_unchecked(bytes) };
     }

@@ -77,10 +77,12 @@ impl Encoding {
         }
         let (first, rest) = input.split_at(missing);
         let (blocks, left) = rest.split_at(rest.len() - rest.len() % block_len);
-        output.reserve(self.encode_len(block_len) + self.encode_len(blocks.len()))?;
+        let len = self.encode_len(block_len);
+        let blocks_len = self.encode_len(blocks.len());
+        output.reserve(len + blocks_len)?;
         held.try_extend_from_slice(first).unwrap();
-        self.append_within(held.as_slice(), output);
-        self.append_within(blocks, output);
+        self.append_within(held.as_slice(), len, output);
+        self.append_within(blocks, blocks_len, output);
         held.clear();
         held.try_extend_from_slice(left).unwrap();
         Ok(())

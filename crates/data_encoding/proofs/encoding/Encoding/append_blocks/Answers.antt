@@ -17,7 +17,7 @@ whole-front n size =
 pub returns-clause-pieces : goal.returns-clause-pieces
 returns-clause-pieces g c =
     let seen = c.args.self.now in
-    let specified = c.encode_len.ensures.base in
+    let specified = c.encode_len-len.ensures.base in
     let ruled = IsRuled-built specified.fields seen specified.is_built in
     let first = c.split_at.result.0.now in
     let rest = c.split_at.result.1.now in
@@ -75,12 +75,12 @@ nonzero_rem-rest g c = omega (arith, c.requires.short)
 pub overflow_sub-rest : goal.overflow_sub-rest
 overflow_sub-rest g c = omega (arith, c.requires.short)
 
-pub overflow_add-encode_len : goal.overflow_add-encode_len
-overflow_add-encode_len g c =
+pub overflow_add-len : goal.overflow_add-len
+overflow_add-len g c =
     omega (
       arith,
-      c.encode_len.ensures.most,
-      c.encode_len-2.ensures.most,
+      c.encode_len-len.ensures.most,
+      c.encode_len-blocks_len.ensures.most,
       c.split_at-2.ensures.front_len,
       c.split_at.ensures.back_len,
       c.requires.limit,
