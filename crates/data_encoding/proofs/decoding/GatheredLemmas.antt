@@ -1,5 +1,5 @@
 -- Symbols that are gathered among ignored bytes, and decoded as one run.
-use Rattle.std.proofs.Common.{◌≡◌, ℕ, zero, suc, ◌+◌, ◌-◌, ◌*◌, ◌/◌, ◌<◌, ◌≤◌, true, false, List, [], ◌∷◌, ◌++◌, length, take, drop, get_or, refl, sym, ap, ◌∙◌, arith, append_assoc, length-append, length-take-le, inl}
+use Rattle.std.proofs.Common.{◌≡◌, ℕ, zero, suc, ◌+◌, ◌-◌, ◌*◌, ◌/◌, ◌<◌, ◌≤◌, true, false, List, [], ◌∷◌, ◌++◌, length, take, drop, get_or, sym, ap, ◌∙◌, arith, length-append, length-take-le, inl}
 use Rattle.std.specs.Prelude.{flat_map}
 use Rattle.std.proofs.Math.Nat.{zero-mod, add-mod, mul-le-mul_right, mul-mod_left}
 use Rattle.std.proofs.Math.Seq.{take-add, take-suc}
@@ -15,7 +15,7 @@ use Rattle.data_encoding_meaning.specs.decoding.Partial.{position_after}
 use Rattle.data_encoding_meaning.proofs.decoding.GatherLemmas.{HasGathered}
 use Rattle.data_encoding_meaning.proofs.decoding.ProgressLemmas.{IsPart, room-run, whole-before}
 use Rattle.data_encoding_meaning.proofs.digits.WidthLemmas.{group_symbols-pos}
-use Rattle.data_encoding_meaning.proofs.grammar.KeptLemmas.{between, kept-more, kept-split, kept_in-append, position_after-append}
+use Rattle.data_encoding_meaning.proofs.grammar.KeptLemmas.{kept-more, kept-split, kept_in-append, position_after-append}
 use Rattle.data_encoding_meaning.proofs.grammar.PositionLemmas.{length-by_bytes, length-kept, runs-meanings}
 use Rattle.data_encoding_meaning.proofs.grammar.SameBytesLemmas.{bytes-kept_in}
 use Rattle.data_encoding_meaning.proofs.grammar.SoundLemmas.{AreSound-append}

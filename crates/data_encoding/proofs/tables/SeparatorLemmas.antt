@@ -1,8 +1,8 @@
 -- The separator of an encoding is ignored.
-use Rattle.std.proofs.Common.{◌≡◌, ℕ, zero, suc, ◌+◌, ◌-◌, ◌<◌, ◌≤◌, ◌==◌, true, List, [], ◌∷◌, length, take, drop, get_or, refl, ap, ◌∙◌, arith, length-take-le, ⊎_elim}
+use Rattle.std.proofs.Common.{◌≡◌, ℕ, zero, suc, ◌+◌, ◌<◌, ◌≤◌, ◌==◌, true, List, [], ◌∷◌, length, take, drop, get_or, refl, ap, ◌∙◌, arith, length-take-le, ⊎_elim}
 use Rattle.std.proofs.Math.Seq.{take-add}
 use Rattle.std.proofs.lemmas.Bool.{cases_lt, eqb-true, eq-eqb}
-use Rattle.std.proofs.lemmas.List.{get_or_past, length-drop}
+use Rattle.std.proofs.lemmas.List.{get_or_past, length-drop, take-take}
 use Rattle.std.specs.Cmp.{first_so, second_so}
 use Rattle.std.specs.List.{list_all}
 use Rattle.data_encoding_meaning.specs.text.Base.{Base, is_ignored, meaning}
@@ -59,4 +59,15 @@ front-further base part front more within none next =
       within = omega (arith, within, next.within, length-drop front part);
       none = rw (take-add front more part, kept_in-append base 0 first second, none)
           (nothing-kept_in base (0 + length first) second next.none);
+    }
+
+-- ignored bytes at the start of a prefix
+pub front-of_prefix : (base : Base) (part : List ℕ) (many count : ℕ) → many ≤ length part
+    → IsIgnoredFront base (take many part) count → IsIgnoredFront base part count
+front-of_prefix base part many count within is =
+    let len = length-take-le many part within in
+    let few : count ≤ many = omega (arith, is.within, len) in
+    record {
+      within = omega (arith, few, within);
+      none = rw (take-take count many part few) at is.none;
     }

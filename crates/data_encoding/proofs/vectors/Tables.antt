@@ -18,6 +18,7 @@ use Rattle.data_encoding.specs.Meanings.{meanings_of_table, HasEntries}
 use Rattle.data_encoding.specs.Tables.{HasTables}
 use Rattle.data_encoding_kernel.specs.Tables.{HoldsSymbols, HoldsValues, Reads, Writes}
 use Rattle.data_encoding_meaning.specs.decoding.Decoding.{HasDecodedTo, IsStop, HasRoom, IsDecoded}
+use Rattle.data_encoding.specs.Gathered.{AreKept, EndsBefore}
 use Rattle.data_encoding.specs.Steps.{HasEnded, HasStepped, fault_of_stop, HasStopped}
 use Rattle.data_encoding.proofs.tables.TableLemmas.{Reads-seen, Writes-tables}
 use Rattle.data_encoding_meaning.proofs.vectors.Examples.{built, Has}
@@ -90,6 +91,26 @@ text_stepped :
     HasStepped base (codes "QUI") 0 (65 ∷ 66 ∷ 0 ∷ []) stop_at_end Ended
     × HasEnded base (codes "QUI") (65 ∷ 66 ∷ 0 ∷ []) stop_at_end true)
 text_stepped = (text_decoded, text_decoded)
+
+-- of `SG` LF `Vs` LF the four that are not ignored; `SG` LF `V` has all but the last of them
+front_gathered :
+    Has base64_mime_fields (λ base.
+    AreKept base (codes "SG" ++ 10 ∷ codes "Vs" ++ 10 ∷ []) 6 (codes "SGVs")
+    × EndsBefore base (codes "SG" ++ 10 ∷ codes "Vs" ++ 10 ∷ []) 1 4)
+front_gathered = (refl, record { before = refl; ends = λ h. refl })
+
+-- no prefix ends with LF, or lacks another number of bytes
+front_told :
+    Has base64_mime_fields (λ base.
+    ((bytes : List ℕ) → AreKept base (codes "SG" ++ 10 ∷ codes "Vs") 5 bytes
+    → codes "SGVs" ≡ bytes)
+    × (EndsBefore base (codes "SG" ++ 10 ∷ codes "V") 1 3 → ⊥)
+    × (EndsBefore base (codes "SGV") 2 2 → ⊥))
+front_told = (
+  λ bytes is. is,
+  λ is. false≢true (sym (is.ends (lit< tt))),
+  λ is. let before = is.before in omega (arith, before),
+)
 
 text_stopped :
     Has base64_nopad_fields (λ base.

@@ -16,7 +16,7 @@ use data_encoding_kernel::group_size::GroupSize;
 use data_encoding_kernel::lanes::look_up::LookUp;
 use data_encoding_kernel::order::ConstantOrder;
 
-// The length of a separator from which on it is compared as a whole, before each byte is looked up.
+// The length of a separator from which on it is compared as a whole.
 const LONG: usize = 16;
 
 // How a step ended.
@@ -63,7 +63,6 @@ impl EncodingRef<'_> {
         let order = O::ORDER;
         let mut gathers = false;
         while stop.read < input.len() {
-            let begun = stop.read;
             let mut at = self.decode_runs::<L, O, G>(
                 values,
                 look_up,
@@ -72,7 +71,7 @@ impl EncodingRef<'_> {
                 input,
                 output,
             );
-            if gathers && is_for_blocks(at.read - begun, input.len() - at.read) {
+            if gathers && is_for_blocks(at.read - stop.read, input.len() - at.read) {
                 at = self.decode_gathered::<L, O, G>(values, look_up, at, input, output);
             }
             match self.decode_next::<G>(order, self.fields.ignores, at, input, output, stop) {
@@ -177,6 +176,20 @@ impl EncodingRef<'_> {
             return 0;
         }
         let rest = &input[read..];
+        let first = &rest[..rest.len().min(LONG)];
+        let front = ignored_front(&self.fields.values.entries, first);
+        if front < LONG {
+            return front;
+        }
+        self.count_many_ignored(rest)
+    }
+
+    // The same if many bytes are ignored, such as those of a long separator.
+    // Not inlined, so that a short separator takes no longer.
+    #[inline(never)]
+    fn count_many_ignored(&self, rest: &[u8]) -> usize
+        ensures { IsIgnoredFront self.now rest.now result }
+    {
         let mut front = 0;
         if self.separator.len() >= LONG && begins_with(rest, self.separator) {
             front = self.separator.len();

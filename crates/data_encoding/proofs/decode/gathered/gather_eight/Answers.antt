@@ -1,4 +1,4 @@
-use Rattle.std.proofs.Common.{◌≡◌, ◌+◌, ◌<◌, ◌≤◌, length, set, take, get_or, arith}
+use Rattle.std.proofs.Common.{◌+◌, ◌<◌, length, set, get_or, arith}
 use Rattle.std.proofs.lemmas.List.{take-set}
 use Rattle.std.proofs.lemmas.Bool.Decides.{nat_tests}
 use Rattle.data_encoding_meaning.proofs.decoding.GatherLemmas.{gather-ignored, gather-kept}

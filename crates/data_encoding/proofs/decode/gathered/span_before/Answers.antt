@@ -1,7 +1,6 @@
-use Rattle.std.proofs.Common.{◌≡◌, ◌+◌, ◌-◌, ◌<◌, ◌≤◌, false, length, take, get_or, sym, ap, ◌∙◌, arith}
+use Rattle.std.proofs.Common.{◌≡◌, ◌+◌, ◌-◌, ◌<◌, length, get_or, arith}
 use Rattle.std.proofs.lemmas.Bool.Decides.{nat_tests}
 use Rattle.std.proofs.lemmas.List.{take_all}
-use Rattle.data_encoding_meaning.specs.text.Grammar.{kept}
 use Rattle.data_encoding_meaning.proofs.decoding.GatherLemmas.{more-here, none-here}
 use Rattle.data_encoding.proofs.decode.gathered.span_before.Goals as goal
 use Rattle.data_encoding.proofs.decode.gathered.span_before.Goals.{then-values-part+else-left-eq0, else-values-part}

@@ -1,28 +1,17 @@
-use Rattle.std.proofs.Common.{◌≡◌, ◌+◌, ◌-◌, ◌≤◌, [], length, take, drop, refl, subst, arith}
+use Rattle.std.proofs.Common.{◌-◌, length, take, drop, subst, arith}
 use Rattle.std.proofs.lemmas.List.{take_rest}
-use Rattle.data_encoding_meaning.specs.text.Grammar.{kept}
 use Rattle.data_encoding_meaning.specs.decoding.Decoding.{IsIgnoredFront}
-use Rattle.data_encoding.proofs.tables.SeparatorLemmas.{front-further, kept-separator}
+use Rattle.data_encoding.proofs.tables.SeparatorLemmas.{front-of_prefix}
 use Rattle.data_encoding.proofs.tables.TableLemmas.{HoldsValues-seen}
 use Rattle.data_encoding.proofs.encoding.EncodingRef.count_ignored.Goals as goal
-use Rattle.data_encoding.proofs.encoding.EncodingRef.count_ignored.Goals.{then-self-ge-LONG+then-begins_with, else-self-ge-LONG}
 
-pub returns : goal.returns
-returns c =
+pub returns-then-front-lt-LONG : goal.returns-then-front-lt-LONG
+returns-then-front-lt-LONG c =
     let seen = c.args.self.now in
     let holds = HoldsValues-seen _ c.self.invariant seen c.self.view_is in
     let input = c.args.input.now in
     let rest = take (length input - c.args.read) (drop c.args.read input) in
-    let front = c.if-self-ge-LONG.front in
-    let skipped : (front ≤ length rest) × (kept seen (take front rest) ≡ []) =
-    elim c.if-self-ge-LONG.branch [
-      | then-self-ge-LONG+then-begins_with w ↦
-          let within = w.begins_with.ensures.within w.if-begins_with.true in
-          let same = w.begins_with.ensures.same w.if-begins_with.true in
-          rw w.front-is (within, rw same (kept-separator _ c.self.invariant seen holds))
-      | else-self-ge-LONG w ↦ rw w.front-is (omega arith, refl)
-    ] in
-    let next = rw (take_rest rest front) at (c.ignored_front.ensures.front seen holds) in
-    subst (λ part. IsIgnoredFront seen part (front + c.ignored_front.result))
-    (take_rest input c.args.read)
-    (front-further seen rest front c.ignored_front.result skipped.0 skipped.1 next)
+    let count = c.ignored_front-front.result in
+    subst (λ part. IsIgnoredFront seen part count) (take_rest input c.args.read)
+    (front-of_prefix seen rest c.min.result count (omega (arith, c.min.ensures))
+    (c.ignored_front-front.ensures.front seen holds))

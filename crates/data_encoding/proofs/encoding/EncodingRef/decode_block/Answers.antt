@@ -1,8 +1,7 @@
-use Rattle.std.proofs.Common.{◌≡◌, ℕ, ◌+◌, ◌-◌, ◌*◌, ◌≤◌, false, length, take, drop, refl, sym, ap, subst, arith}
+use Rattle.std.proofs.Common.{◌≡◌, ◌+◌, ◌-◌, ◌*◌, false, length, take, drop, refl, ap, arith}
 use Rattle.data_encoding_meaning.proofs.digits.SizeLemmas.{IsGroup-same}
 use Rattle.data_encoding_meaning.proofs.lists.PartLemmas.{part-is}
 use Rattle.data_encoding_meaning.proofs.lists.WriteLemmas.{rewritten}
-use Rattle.data_encoding_meaning.specs.text.Grammar.{kept}
 use Rattle.data_encoding.specs.Gathered.{EndsBefore}
 use Rattle.data_encoding.proofs.decoding.StepLemmas.{IsUnderWay, under_way, written-few}
 use Rattle.data_encoding.proofs.decoding.GatheredLemmas.{after_block, length-block, room-block}

@@ -2,7 +2,6 @@ use Rattle.std.proofs.Common.{◌≡◌, length, take, sym, ◌∙◌, subst, ar
 use Rattle.std.proofs.lemmas.List.{take_all}
 use Rattle.data_encoding_meaning.specs.decoding.Decoding.{IsGathered}
 use Rattle.data_encoding_meaning.proofs.decoding.GatherLemmas.{gathered-plain}
-use Rattle.data_encoding_meaning.proofs.digits.SizeLemmas.{IsSmall-group}
 use Rattle.data_encoding.proofs.tables.TableLemmas.{HoldsValues-seen}
 use Rattle.data_encoding.proofs.encoding.EncodingRef.next_group.Goals as goal
 use Rattle.data_encoding.proofs.encoding.EncodingRef.next_group.Goals.{else-ignores-via-then-ignores+else-not-starts_whole, else-ignores-via-else-ignores, then-rest-count, else-rest-count}
