@@ -48,6 +48,7 @@ data_encoding/src/specification.rt:text.push(char::from(byte))
 data_encoding/src/specification.rt:from: self.from.clone()?,
 data_encoding/src/specification.rt:to: self.to.clone()?,
 data_encoding/src/specification.rt:separator: self.separator.clone()?,
+encoding_stream/src/decoder.rt:output.extend_from_slice(&buffer[..written])
 encoding_stream/src/decoder.rt:output.reserve(written + pieces.most(rest.len()))?;
 encoding_stream/src/decoder.rt:output.extend_from_slice(&buffer[..written]).unwrap();
 encoding_stream/src/decoder.rt:output.extend_from_slice(&bytes[..count])?;
@@ -55,6 +56,7 @@ encoding_stream/src/decoder.rt:output.extend_from_slice(&buffer[..written]).unwr
 data_encoding/src/decode.rt:let len = self.decode_len(input.len())?;
 data_encoding/src/decode.rt:let len = self.greatest_valid_length(rest.len());
 data_encoding/src/encode/append.rt:let len = self.encode_len(input.len());
+encoding_stream/src/decoder.rt:let written = pieces.read(piece, &mut buffer);
 encoding_stream/src/decoder.rt:let (read, written) = read_first(pieces, piece, &mut buffer);
 encoding_stream/src/decoder.rt:let rest = &piece[read..];
 encoding_stream/src/decoder.rt:let (count, verdict) = pieces.finish(&mut bytes);
