@@ -3,3 +3,4 @@ pub mod TrailingBitLemmas
 pub mod StepLemmas
 pub mod GatheredLemmas
 pub mod GroupTableLemmas
+pub mod LineLemmas

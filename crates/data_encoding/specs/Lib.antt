@@ -9,6 +9,7 @@ pub mod PlainTables
 pub mod Plain
 pub mod Steps
 pub mod Gathered
+pub mod Lines
 pub use Rattle.data_encoding_meaning.specs.text.Base
 pub use Rattle.data_encoding_meaning.specs.text.Bits
 pub use Rattle.data_encoding_meaning.specs.text.Text

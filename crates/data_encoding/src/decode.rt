@@ -3,6 +3,7 @@
 pub(crate) mod gathered;
 pub(crate) mod group;
 pub(crate) mod length;
+pub(crate) mod lines;
 pub(crate) mod next_group;
 pub(crate) mod steps;
 pub(crate) mod text;

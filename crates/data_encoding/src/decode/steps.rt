@@ -1,6 +1,6 @@
 //! Decoding step by step: a run of whole groups, and the group that follows it.
 
-ghost use Rattle.std.specs.Prelude.{◌≡◌, ℕ, List, true, false, ◌<◌, ◌≤◌, length, take, drop, IsTrue, Ok};
+ghost use Rattle.std.specs.Prelude.{◌≡◌, ℕ, List, true, false, ◌+◌, ◌-◌, ◌%◌, ◌<◌, ◌≤◌, length, take, drop, IsTrue, Ok};
 ghost use Rattle.data_encoding_meaning.specs.text.Base.{Base, ignores_some};
 ghost use Rattle.data_encoding_meaning.specs.decoding.Decoding.{HasDecodedTo, IsIgnoredFront};
 ghost use Rattle.data_encoding.specs.Steps.{HasEnded, HasStepped};
@@ -117,11 +117,13 @@ impl EncodingRef<'_> {
             if next.read == at.read {
                 return next;
             }
+            let len = next.read - at.read - at.ignored;
             at = Reached {
                 read: next.read,
                 written: next.written,
                 ignored: self.count_ignored(next.read, input),
             };
+            at = self.decode_expected_lines::<L, O, G>(values, len, at, input, output);
             goes_on = at.ignored != 0 && at.read + at.ignored < input.len();
         }
         at
@@ -148,6 +150,8 @@ impl EncodingRef<'_> {
             output.new }
         ensures front { IsIgnoredFront self.now (drop result.read input.now) result.ignored }
         ensures further { at.read ≤ result.read }
+        ensures past { at.read < result.read → at.read + at.ignored ≤ result.read }
+        ensures whole { (result.read - at.read - at.ignored) % G.SYMBOLS ≡ 0 }
     {
         let start = at.read + at.ignored;
         let count = decode_run::<L, O, G>(

@@ -1,4 +1,5 @@
-use Rattle.std.proofs.Common.{ℕ, ◌+◌, ◌*◌, refl, ap, arith, length-drop}
+use Rattle.std.proofs.Common.{◌≡◌, ℕ, ◌+◌, ◌-◌, ◌*◌, refl, ap, arith, length-drop}
+use Rattle.std.proofs.Math.Nat.{mul-mod_left, zero-mod}
 use Rattle.data_encoding.proofs.decoding.StepLemmas.{after_none, after_run, room-next_run, under_way, written-few}
 use Rattle.data_encoding_meaning.proofs.digits.SizeLemmas.{IsGroup-same}
 use Rattle.data_encoding_meaning.proofs.lists.PartLemmas.{length-rest}
@@ -36,6 +37,18 @@ returns-clause-so_far g c =
     (after_run (under_way group c.requires.reads.width_is c.requires.exact
     c.requires.so_far) c.requires.front c.decode_run-count.auto.output
     (c.decode_run-count.ensures.run c.args.self.now c.requires.reads) (omega arith)).so_far
+
+pub returns-then-count-eq0-clause-whole : goal.returns-then-count-eq0-clause-whole
+returns-then-count-eq0-clause-whole g c =
+    let none : c.args.at.read - c.args.at.read - c.args.at.ignored ≡ 0 = omega arith in
+    rw none (zero-mod g.G.GroupSize.SYMBOLS)
+
+pub returns-clause-whole : goal.returns-clause-whole
+returns-clause-whole g c =
+    let count = c.decode_run-count.result in
+    let symbols : c.args.at.read + c.args.at.ignored + count * c.SYMBOLS.result - c.args.at.read
+    - c.args.at.ignored ≡ count * c.SYMBOLS.result = omega arith in
+    rw (symbols, c.SYMBOLS.ensures) (mul-mod_left count g.G.GroupSize.SYMBOLS)
 
 pub overflow_mul-result : goal.overflow_mul-result
 overflow_mul-result g c =
