@@ -24,8 +24,9 @@ const FIRST: usize = 64;
 
 const BLOCK: usize = 512;
 
-// Fewer bytes than these make no block, and more of them are a run that is better decoded in place.
-const SHORT: usize = 32;
+// Fewer bytes than these make no block. A longer run is better decoded in place, and a group among
+// more bytes by itself.
+pub(crate) const SHORT: usize = 32;
 
 /// Whether to go on by blocks, after groups with ignored bytes and a run of this length.
 #[inline(always)]

@@ -7,7 +7,7 @@ ghost use Rattle.data_encoding.specs.Steps.{HasEnded, HasStepped};
 ghost use Rattle.data_encoding_meaning.specs.text.Lengths.{decoded_len};
 ghost use Rattle.data_encoding_kernel.specs.Tables.{HoldsValues, Reads};
 
-use crate::decode::gathered::is_for_blocks;
+use crate::decode::gathered::{SHORT, is_for_blocks};
 use crate::decode::{DECODE_LIMIT, Stop};
 use crate::encoding::{BitOrder, EncodingRef, IGNORED};
 use crate::error::DecodeKind;
@@ -81,6 +81,7 @@ impl EncodingRef<'_> {
             }
             // A group of symbols only is no run of its own if bytes are ignored among them.
             gathers = stop.written == at.written + G::BYTES;
+            gathers &= stop.read - at.read <= SHORT;
         }
         true
     }
@@ -190,6 +191,7 @@ impl EncodingRef<'_> {
 
     // The same if many bytes are ignored, such as those of a long separator.
     // Not inlined, so that a short separator takes no longer.
+    #[cold]
     #[inline(never)]
     fn count_many_ignored(&self, rest: &[u8]) -> usize
         ensures { IsIgnoredFront self.now rest.now result }
