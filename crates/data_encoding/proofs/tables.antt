@@ -5,4 +5,3 @@ pub mod PlainLemmas
 pub mod EqualityLemmas
 pub mod LayoutTableLemmas
 pub mod ReadTableLemmas
-pub mod SeparatorLemmas

@@ -64,7 +64,7 @@ impl EncodingRef<'_> {
         let mut goes_on = true;
         while goes_on {
             let gathered = gather_symbols(values, &input[reached.read..], &mut block[..len]);
-            let next = self.decode_block::<L, O, G>(
+            let next = self.decode_gathered_groups::<L, O, G>(
                 values,
                 look_up,
                 reached,
@@ -86,7 +86,7 @@ impl EncodingRef<'_> {
     // Decodes the whole groups at the start of a block, which are the bytes that are not ignored
     // among the next ones, as many as the span.
     #[inline(always)]
-    fn decode_block<L: LookUp, O: ConstantOrder, G: GroupSize>(
+    fn decode_gathered_groups<L: LookUp, O: ConstantOrder, G: GroupSize>(
         &self,
         values: &[u8; 256],
         look_up: &L,

@@ -1,6 +1,6 @@
 //! Decoding step by step: a run of whole groups, and the group that follows it.
 
-ghost use Rattle.std.specs.Prelude.{◌≡◌, ℕ, List, true, false, ◌+◌, ◌-◌, ◌%◌, ◌<◌, ◌≤◌, length, take, drop, IsTrue, Ok};
+ghost use Rattle.std.specs.Prelude.{◌≡◌, ℕ, List, true, false, ◌-◌, ◌+◌, ◌%◌, ◌<◌, ◌≤◌, length, drop, Ok};
 ghost use Rattle.data_encoding_meaning.specs.text.Base.{Base, ignores_some};
 ghost use Rattle.data_encoding_meaning.specs.decoding.Decoding.{HasDecodedTo, IsIgnoredFront};
 ghost use Rattle.data_encoding.specs.Steps.{HasEnded, HasStepped};
@@ -15,9 +15,6 @@ use data_encoding_kernel::decode::decode_run;
 use data_encoding_kernel::group_size::GroupSize;
 use data_encoding_kernel::lanes::look_up::LookUp;
 use data_encoding_kernel::order::ConstantOrder;
-
-// The length of a separator from which on it is compared as a whole.
-const LONG: usize = 16;
 
 // How a step ended.
 #[derive(Clone, Copy, Drop)]
@@ -180,27 +177,7 @@ impl EncodingRef<'_> {
         if !self.fields.ignores {
             return 0;
         }
-        let rest = &input[read..];
-        let first = &rest[..rest.len().min(LONG)];
-        let front = ignored_front(&self.fields.values.entries, first);
-        if front < LONG {
-            return front;
-        }
-        self.count_many_ignored(rest)
-    }
-
-    // The same if many bytes are ignored, such as those of a long separator.
-    // Not inlined, so that a short separator takes no longer.
-    #[cold]
-    #[inline(never)]
-    fn count_many_ignored(&self, rest: &[u8]) -> usize
-        ensures { IsIgnoredFront self.now rest.now result }
-    {
-        let mut front = 0;
-        if self.separator.len() >= LONG && begins_with(rest, self.separator) {
-            front = self.separator.len();
-        }
-        front + ignored_front(&self.fields.values.entries, &rest[front..])
+        ignored_front(&self.fields.values.entries, &input[read..])
     }
 
     /// Decodes the group after what was read, and judges it alone.
@@ -291,24 +268,4 @@ fn ignored_front(values: &[u8; 256], rest: &[u8]) -> usize
         }
     }
     rest.len()
-}
-
-// Whether the rest of a text begins with the separator. All bytes are compared without a branch, so
-// that the compiler takes several at a time; the last one is compared first, so that a text with
-// another separator seldom costs more than that.
-#[inline(never)]
-fn begins_with(rest: &[u8], separator: &[u8]) -> bool
-    requires some { 0 < length separator.now }
-    ensures within { IsTrue result → length separator.now ≤ length rest.now }
-    ensures same { IsTrue result → take (length separator.now) rest.now ≡ separator.now }
-{
-    let len = separator.len();
-    if rest.len() < len || rest[len - 1] != separator[len - 1] {
-        return false;
-    }
-    let mut differs = false;
-    for index in 0..len {
-        differs |= rest[index] != separator[index];
-    }
-    !differs
 }

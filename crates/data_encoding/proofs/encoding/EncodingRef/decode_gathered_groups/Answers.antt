@@ -5,9 +5,9 @@ use Rattle.data_encoding_meaning.proofs.lists.WriteLemmas.{rewritten}
 use Rattle.data_encoding.specs.Gathered.{EndsBefore}
 use Rattle.data_encoding.proofs.decoding.StepLemmas.{IsUnderWay, under_way, written-few}
 use Rattle.data_encoding.proofs.decoding.GatheredLemmas.{after_block, length-block, room-block}
-use Rattle.data_encoding.proofs.encoding.EncodingRef.decode_block.Given.{Over}
-use Rattle.data_encoding.proofs.encoding.EncodingRef.decode_block.Goals as goal
-use Rattle.data_encoding.proofs.encoding.EncodingRef.decode_block.Goals.{After-BYTES}
+use Rattle.data_encoding.proofs.encoding.EncodingRef.decode_gathered_groups.Given.{Over}
+use Rattle.data_encoding.proofs.encoding.EncodingRef.decode_gathered_groups.Goals as goal
+use Rattle.data_encoding.proofs.encoding.EncodingRef.decode_gathered_groups.Goals.{After-BYTES}
 
 pub decode_run-count-requires-clause-room : goal.decode_run-count-requires-clause-room
 decode_run-count-requires-clause-room g c =
