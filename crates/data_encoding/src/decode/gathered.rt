@@ -34,9 +34,17 @@ pub(crate) fn is_for_blocks(run: usize, left: usize) -> bool {
     run < SHORT && left >= SHORT
 }
 
+// Whether a block like this one is worth its copy: at least one byte of 32 is ignored, and one of
+// four is not.
+#[inline(always)]
+fn is_mixed(gathered: Gathered) -> bool {
+    let span = gathered.span;
+    gathered.count <= span - span / 32 && gathered.count >= span / 4
+}
+
 impl EncodingRef<'_> {
     /// Decodes whole groups of symbols only, with ignored bytes among them, block by block while
-    /// many bytes are ignored.
+    /// many bytes are ignored and many are not.
     // Not inlined, so that other texts do not pay for the stack that a block takes.
     #[inline(never)]
     pub(crate) fn decode_gathered<L: LookUp, O: ConstantOrder, G: GroupSize>(
@@ -78,7 +86,7 @@ impl EncodingRef<'_> {
             }
             reached = next;
             len = BLOCK;
-            goes_on = gathered.count <= gathered.span - gathered.span / 32;
+            goes_on = is_mixed(gathered);
         }
         reached
     }
