@@ -13,6 +13,10 @@ use data_encoding_kernel::group_size::GroupSize;
 // lines.
 const BLOCK_LEN: usize = 1024;
 
+// No turn loads more bytes after its groups: with fewer after the first line, none is encoded in
+// lanes where it stands.
+const MOST_AHEAD: usize = 8;
+
 // Up to this many lines, line by line takes less time.
 const FEW_LINES: usize = 3;
 
@@ -31,7 +35,7 @@ impl EncodingRef<'_> {
         let line_bytes = self.encode_align();
         if !input.is_empty() && input.len() <= line_bytes {
             self.encode_line::<G>(input, output);
-        } else if line_bytes / 8 >= G::BYTES {
+        } else if line_bytes / 8 >= G::BYTES && input.len() >= line_bytes + MOST_AHEAD {
             self.encode_long_lines::<G>(input, output);
         } else if input.len() <= FEW_LINES * line_bytes {
             self.encode_each_line::<G>(input, output);

@@ -1,7 +1,8 @@
 //! Texts in lines of at least eight groups.
 
 ghost use Rattle.std.specs.Prelude.{◌≡◌, ◌+◌, ◌-◌, ◌*◌, ◌/◌, ◌≤◌, length, take, IsSome};
-ghost use Rattle.data_encoding_kernel.specs.Tables.{IsTextBy};
+ghost use Rattle.data_encoding_kernel.specs.AffineSymbols.{HoldsAffineSymbols};
+ghost use Rattle.data_encoding_kernel.specs.Tables.{HoldsSymbols, IsTextBy};
 ghost use Rattle.data_encoding_meaning.specs.text.Lengths.{alignment};
 ghost use Rattle.data_encoding_meaning.specs.text.Text.{text_of};
 
@@ -9,13 +10,17 @@ use crate::encode::ENCODE_LIMIT;
 use crate::encode::lines::write_separator;
 use crate::encoding::EncodingRef;
 use data_encoding_kernel::group_size::GroupSize;
+use data_encoding_kernel::lanes::affine_symbols::{AffineSymbols, affine_symbols_of};
 use data_encoding_kernel::lanes::encode::{
-    encode_eight, encode_four, encode_four_octal, encode_two,
+    EightByRows, EncodeEight, encode_four, encode_four_octal, encode_two,
 };
 use data_encoding_meaning::encoding::BitOrder;
 
+// From this many bytes on, symbols of six bits are looked for as sums.
+const LONG: usize = 192;
+
 impl EncodingRef<'_> {
-    // The order is a constant from here on.
+    // By the symbols as sums if the data is long and they have that form.
     #[inline(always)]
     pub(super) fn encode_long_lines<G: GroupSize>(&self, input: &[u8], output: &mut [u8])
         requires width { self.now.width ≡ G.WIDTH }
@@ -25,13 +30,66 @@ impl EncodingRef<'_> {
         requires exact { length output.old ≡ length (text_of self.now input.now) }
         ensures { output.new ≡ text_of self.now input.now }
     {
+        let symbols = &self.fields.symbols;
+        if G::WIDTH == 6 && input.len() >= LONG {
+            if let Some(affine) = affine_symbols_of(symbols) {
+                self.encode_long_lines_by_sums::<G>(symbols, &affine, input, output);
+                return;
+            }
+        }
+        self.encode_long_lines_by::<EightByRows, G>(symbols, &EightByRows, input, output);
+    }
+
+    // Not inlined, so that each loop over lines is small.
+    #[inline(never)]
+    fn encode_long_lines_by_sums<G: GroupSize>(
+        &self,
+        symbols: &[u8; 256],
+        affine: &AffineSymbols,
+        input: &[u8],
+        output: &mut [u8],
+    )
+        requires width { self.now.width ≡ G.WIDTH }
+        requires holds { HoldsSymbols self.now symbols.now }
+        requires held { HoldsAffineSymbols symbols.now affine.now }
+        requires lines { IsSome self.now.wrapping }
+        requires long { 8 * G.BYTES ≤ alignment self.now }
+        requires limit { length input.now ≤ ENCODE_LIMIT }
+        requires exact { length output.old ≡ length (text_of self.now input.now) }
+        ensures { output.new ≡ text_of self.now input.now }
+    {
+        self.encode_long_lines_by::<AffineSymbols, G>(symbols, affine, input, output);
+    }
+
+    // The order is a constant from here on.
+    #[inline(always)]
+    fn encode_long_lines_by<E: EncodeEight, G: GroupSize>(
+        &self,
+        symbols: &[u8; 256],
+        eight: &E,
+        input: &[u8],
+        output: &mut [u8],
+    )
+        requires width { self.now.width ≡ G.WIDTH }
+        requires holds { HoldsSymbols self.now symbols.now }
+        requires held { E.holds symbols.now eight.now }
+        requires lines { IsSome self.now.wrapping }
+        requires long { 8 * G.BYTES ≤ alignment self.now }
+        requires limit { length input.now ≤ ENCODE_LIMIT }
+        requires exact { length output.old ≡ length (text_of self.now input.now) }
+        ensures { output.new ≡ text_of self.now input.now }
+    {
         match self.fields.order() {
-            BitOrder::MostSignificantFirst => self.encode_long_lines_by_order::<G>(
+            BitOrder::MostSignificantFirst => self.encode_long_lines_by_order::<E, G>(
+                symbols,
+                eight,
                 BitOrder::MostSignificantFirst,
                 input,
                 output,
             ),
-            BitOrder::LeastSignificantFirst => self.encode_long_lines_by_order::<G>(
+            BitOrder::LeastSignificantFirst => self.encode_long_lines_by_order::<E, G>(
+                symbols,
+                eight,
                 BitOrder::LeastSignificantFirst,
                 input,
                 output,
@@ -42,13 +100,17 @@ impl EncodingRef<'_> {
     // In lanes, while the input has a whole line and what a turn loads after it; then the last one or
     // two lines.
     #[inline(always)]
-    fn encode_long_lines_by_order<G: GroupSize>(
+    fn encode_long_lines_by_order<E: EncodeEight, G: GroupSize>(
         &self,
+        symbols: &[u8; 256],
+        eight: &E,
         order: BitOrder,
         input: &[u8],
         output: &mut [u8],
     )
         requires width { self.now.width ≡ G.WIDTH }
+        requires holds { HoldsSymbols self.now symbols.now }
+        requires held { E.holds symbols.now eight.now }
         requires order { self.now.order ≡ order }
         requires lines { IsSome self.now.wrapping }
         requires long { 8 * G.BYTES ≤ alignment self.now }
@@ -62,7 +124,9 @@ impl EncodingRef<'_> {
         for index in 0..count {
             let read = index * line_bytes;
             let written = index * line_len;
-            self.encode_long_line::<G>(
+            self.encode_long_line::<E, G>(
+                symbols,
+                eight,
                 order,
                 &input[read..],
                 &mut output[written..written + line_len],
@@ -92,8 +156,17 @@ impl EncodingRef<'_> {
 
     // The text of the first line of the input, and the separator.
     #[inline(always)]
-    fn encode_long_line<G: GroupSize>(&self, order: BitOrder, input: &[u8], output: &mut [u8])
+    fn encode_long_line<E: EncodeEight, G: GroupSize>(
+        &self,
+        symbols: &[u8; 256],
+        eight: &E,
+        order: BitOrder,
+        input: &[u8],
+        output: &mut [u8],
+    )
         requires width { self.now.width ≡ G.WIDTH }
+        requires holds { HoldsSymbols self.now symbols.now }
+        requires held { E.holds symbols.now eight.now }
         requires order { self.now.order ≡ order }
         requires lines { IsSome self.now.wrapping }
         requires long { 8 * G.BYTES ≤ alignment self.now }
@@ -103,8 +176,9 @@ impl EncodingRef<'_> {
         ensures { output.new ≡ text_of self.now (take (alignment self.now) input.now) }
     {
         let column = self.fields.column as usize;
-        encode_groups::<G>(
-            &self.fields.symbols,
+        encode_groups::<E, G>(
+            symbols,
+            eight,
             order,
             column / G::SYMBOLS,
             input,
@@ -117,13 +191,15 @@ impl EncodingRef<'_> {
 // Writes the text of the first groups, of which there are at least eight, all in lanes. Up to eight
 // bytes after them are loaded too.
 #[inline(always)]
-fn encode_groups<G: GroupSize>(
+fn encode_groups<E: EncodeEight, G: GroupSize>(
     symbols: &[u8; 256],
+    turn: &E,
     order: BitOrder,
     groups: usize,
     input: &[u8],
     output: &mut [u8],
 )
+    requires held { E.holds symbols.now turn.now }
     requires eight { 8 ≤ groups }
     requires loaded { groups * G.BYTES + 2 * (G.BYTES - 1) ≤ length input.now }
     requires exact { length output.old ≡ groups * G.SYMBOLS }
@@ -134,26 +210,28 @@ fn encode_groups<G: GroupSize>(
     for index in 0..groups / 8 {
         let read = index * read_len;
         let written = index * written_len;
-        encode_eight::<G>(
+        turn.encode_eight::<G>(
             symbols,
             order,
             &input[read..],
             &mut output[written..written + written_len],
         );
     }
-    encode_last_groups::<G>(symbols, order, groups, input, output);
+    encode_last_groups::<E, G>(symbols, turn, order, groups, input, output);
 }
 
 // Writes the text of the groups after the last eight: by a turn that ends with them, and writes
 // again the text of some groups before them.
 #[inline(always)]
-fn encode_last_groups<G: GroupSize>(
+fn encode_last_groups<E: EncodeEight, G: GroupSize>(
     symbols: &[u8; 256],
+    turn: &E,
     order: BitOrder,
     groups: usize,
     input: &[u8],
     output: &mut [u8],
 )
+    requires held { E.holds symbols.now turn.now }
     requires eight { 8 ≤ groups }
     requires loaded { groups * G.BYTES + 2 * (G.BYTES - 1) ≤ length input.now }
     requires exact { length output.old ≡ groups * G.SYMBOLS }
@@ -191,7 +269,7 @@ fn encode_last_groups<G: GroupSize>(
         ),
         _ => {
             let eight = groups - 8;
-            encode_eight::<G>(
+            turn.encode_eight::<G>(
                 symbols,
                 order,
                 &input[eight * G::BYTES..],

@@ -1,6 +1,6 @@
 //! The symbols of eight groups of bytes at a time, or sixteen symbols, with a lane for each digit.
 
-ghost use Rattle.std.specs.Prelude.{◌≡◌, ◌⊎◌, ◌+◌, ◌*◌, ◌%◌, ◌^◌, ◌<◌, ◌≤◌, length, map, take, slice_index};
+ghost use Rattle.std.specs.Prelude.{◌≡◌, ◌⊎◌, ℕ, ◌+◌, ◌*◌, ◌%◌, ◌^◌, ◌<◌, ◌≤◌, List, length, map, take, slice_index};
 ghost use Rattle.std.specs.List.{AllByRecursion, range_with_len};
 ghost use Rattle.data_encoding_meaning.specs.text.Base.{IsWidth};
 ghost use Rattle.data_encoding_kernel.specs.AffineSymbols.{HoldsAffineSymbols};
@@ -211,4 +211,57 @@ pub fn encode_four_octal<G: GroupSize>(
 {
     let values = octal_digits_of_four(order, input);
     store_thirty_two(look_up::<G>(symbols, values), output);
+}
+
+/// A way to find the symbols of eight groups.
+pub trait EncodeEight {
+    // Whether what is looked up is that of a table of symbols.
+    ghost holds: { List ℕ → Self → Type 0 };
+
+    // Writes the text of the first eight groups. Up to six bytes after them are loaded too.
+    fn encode_eight<G: GroupSize>(
+        &self,
+        symbols: &[u8; 256],
+        order: BitOrder,
+        input: &[u8],
+        output: &mut [u8],
+    )
+        requires held { holds symbols.now self.now }
+        requires bytes { 10 * G.BYTES ≤ length input.now + 2 }
+        requires exact { length output.old ≡ 8 * G.SYMBOLS }
+        ensures { IsTextBy symbols.now G.WIDTH order (take (8 * G.BYTES) input.now) output.new };
+}
+
+/// By the rows of the table.
+#[derive(Clone, Copy, Drop)]
+pub struct EightByRows;
+
+impl EncodeEight for EightByRows {
+    ghost holds = { λ symbols rows. Unit {0} };
+
+    #[inline(always)]
+    fn encode_eight<G: GroupSize>(
+        &self,
+        symbols: &[u8; 256],
+        order: BitOrder,
+        input: &[u8],
+        output: &mut [u8],
+    ) {
+        encode_eight::<G>(symbols, order, input, output);
+    }
+}
+
+impl EncodeEight for AffineSymbols {
+    ghost holds = { λ symbols affine. HoldsAffineSymbols symbols affine };
+
+    #[inline(always)]
+    fn encode_eight<G: GroupSize>(
+        &self,
+        symbols: &[u8; 256],
+        order: BitOrder,
+        input: &[u8],
+        output: &mut [u8],
+    ) {
+        encode_eight_by_sums::<G>(self, symbols, order, input, output);
+    }
 }

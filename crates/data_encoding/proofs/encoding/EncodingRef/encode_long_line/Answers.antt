@@ -1,9 +1,7 @@
-use Rattle.std.proofs.Common.{◌≡◌, ℕ, ◌+◌, ◌-◌, ◌≤◌, List, ◌++◌, length, take, drop, sym, ap, ◌∙◌, arith, length-append, length-take-le}
+use Rattle.std.proofs.Common.{◌≡◌, ℕ, ◌+◌, ◌-◌, ◌≤◌, List, ◌++◌, length, take, drop, sym, ◌∙◌, arith, length-append, length-take-le}
 use Rattle.std.proofs.lemmas.List.{length-drop}
-use Rattle.data_encoding_meaning.specs.text.Base.{Base}
 use Rattle.data_encoding_meaning.specs.text.Lengths.{alignment}
 use Rattle.data_encoding_meaning.proofs.lists.PartLemmas.{IsWhole-group, length-rest}
-use Rattle.data_encoding.proofs.tables.TableLemmas.{Writes-tables}
 use Rattle.data_encoding.proofs.text.LongLineLemmas.{length-text-line, line-bytes, line-eight, line-symbols, written-line}
 use Rattle.data_encoding.proofs.encoding.EncodingRef.encode_long_line.Goals as goal
 
@@ -107,8 +105,6 @@ pub returns : goal.returns
 returns g c =
     let seen = c.args.self.now in
     let within : alignment seen ≤ length c.args.input.now = omega (arith, c.requires.loaded) in
-    let width = ap (λ (b : Base). b.width) c.self.view_is ∙ c.requires.width in
-    let tables = Writes-tables _ c.self.invariant seen c.self.view_is g.G.GroupSize.WIDTH width in
     written-line c.self.invariant c.self.view_is c.requires.lines g.G.GroupSize.is_group
     c.requires.width c.SYMBOLS.ensures c.args.input.now within
     (drop c.self.inside.fields.now.column c.args.output.now) c.encode_groups.new.output
@@ -121,5 +117,5 @@ returns g c =
     (c.encode_groups.ensures seen (record {
       width_is = c.requires.width;
       order_is = c.requires.order;
-      holds = tables.holds;
+      holds = c.requires.holds;
     })) c.write_separator.ensures
