@@ -20,6 +20,7 @@ mod lanes_encoded;
 mod laws;
 mod layouts;
 mod long_texts;
+mod mixed;
 mod order;
 mod pieces;
 mod predefined;

@@ -224,12 +224,23 @@ pub(super) fn is_decoded_alike(
 pub(super) fn is_written_alike(encoding: &Encoding, want: &Judgement, text: &[u8]) -> bool
     requires limit { length text.now ≤ DECODE_LIMIT }
 {
-    let mut output = [0; ROOM];
+    is_written_within(encoding, want, text, &mut [0; ROOM])
+}
+
+// The same into an output that may have more room.
+pub(super) fn is_written_within(
+    encoding: &Encoding,
+    want: &Judgement,
+    text: &[u8],
+    output: &mut [u8],
+) -> bool
+    requires limit { length text.now ≤ DECODE_LIMIT }
+{
     let len = match encoding.decode_len(text.len()) {
         Ok(len) => len,
         Err(error) => return want.fault == Some(error),
     };
-    if len > ROOM {
+    if len > output.len() {
         return false;
     }
     let (written, is_same) = match encoding.decode_mut(text, &mut output[..len]) {

@@ -4,7 +4,7 @@ use super::comparison::{Comparison, Differs};
 use super::rows::bytes_of_length;
 
 // Compares a text that comes in pieces of a few lengths.
-fn compare_cuts(comparison: &mut Comparison<'_>, text: &[u8]) -> Result<(), Differs> {
+pub(super) fn compare_cuts(comparison: &mut Comparison<'_>, text: &[u8]) -> Result<(), Differs> {
     let whole = comparison.judge.decode(comparison.alloc, text)?;
     let want = comparison.judge.in_pieces(comparison.alloc, text, whole)?;
     for (position, size) in [

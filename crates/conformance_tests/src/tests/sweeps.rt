@@ -9,6 +9,7 @@ use super::judge::Judge;
 use super::lanes_decoded::{compare_few_groups, compare_many_groups};
 use super::lanes_encoded::{compare_counted, compare_equal_bytes};
 use super::long_texts::compare_long;
+use super::mixed::{compare_mixed, compare_mixed_faults};
 use super::round_trips::{compare_in_lines, compare_short};
 use super::rows::{put_separator, row_of};
 use super::short_texts::{compare_bytes, compare_symbols};
@@ -193,6 +194,19 @@ base64|most|single check|=||0||||
 base64|most|single check|=||76|-|||
 octal|most|single|=|-|0||||";
 
+// Each width, padded if a group may be incomplete; then unpadded, and not concatenated.
+const MIXED: &str = "\
+binary|least|check|||0||||
+quaternary|most|check|||0||||
+octal|least|check|=||0||||
+hex|most|check|||0||||
+base32|most||=||0||||
+base64|most|check|=||0||||
+octal|most|check|||0||||
+base32|least|check|||0||||
+base64|most||||0||||
+base64|least|single check|=||0||||";
+
 // What is compared. Lines are of this many groups, and end with this separator.
 #[derive(Clone, Copy)]
 enum Sweep {
@@ -204,6 +218,8 @@ enum Sweep {
     Faults,
     Short,
     Long,
+    Mixed,
+    MixedFaults,
     Lines(usize, &'static str),
     Columns(usize, &'static str),
     DataPieces,
@@ -221,9 +237,12 @@ enum Sweep {
 fn specification_of(alloc: Global, line: &str, sweep: Sweep) -> Result<Specification, Fail> {
     let mut specification = row_of(alloc, line)?.specification;
     match sweep {
-        Sweep::SymbolsIgnoring | Sweep::Pairs | Sweep::Ignored | Sweep::Faults => {
-            specification.ignore.push('-')?
-        }
+        Sweep::SymbolsIgnoring
+        | Sweep::Pairs
+        | Sweep::Ignored
+        | Sweep::Faults
+        | Sweep::Mixed
+        | Sweep::MixedFaults => specification.ignore.push('-')?,
         Sweep::CountedUnwrapped | Sweep::EqualBytes => specification.wrap.width = 0,
         Sweep::Lines(groups, separator) | Sweep::Columns(groups, separator) => {
             specification.wrap.width = Judge::of(&specification).group_len().wrapping_mul(groups);
@@ -243,6 +262,8 @@ fn compare_all(comparison: &mut Comparison<'_>, sweep: Sweep) -> Result<(), Diff
         Sweep::Faults => compare_faults(comparison),
         Sweep::Short => compare_short(comparison),
         Sweep::Long => compare_long(comparison),
+        Sweep::Mixed => compare_mixed(comparison),
+        Sweep::MixedFaults => compare_mixed_faults(comparison),
         Sweep::Lines(_, _) => compare_in_lines(comparison),
         Sweep::Columns(_, _) => compare_lines(comparison),
         Sweep::DataPieces => compare_data_pieces(comparison),
@@ -382,6 +403,18 @@ fn lines_of_each_length_are_encoded(rt: HostRuntime) -> Result<(), Fail> {
 #[test]
 fn long_texts_are_judged_alike_in_pieces(rt: HostRuntime) -> Result<(), Fail> {
     sweep_rows(rt.alloc(), &[LONG], Sweep::Long, Tally::zero())?;
+    Ok(())
+}
+
+#[test]
+fn mixed_texts_are_judged_alike(rt: HostRuntime) -> Result<(), Fail> {
+    sweep_rows(rt.alloc(), &[MIXED], Sweep::Mixed, Tally::zero())?;
+    Ok(())
+}
+
+#[test]
+fn faults_of_mixed_texts_are_judged_alike(rt: HostRuntime) -> Result<(), Fail> {
+    sweep_rows(rt.alloc(), &[MIXED], Sweep::MixedFaults, Tally::zero())?;
     Ok(())
 }
 
