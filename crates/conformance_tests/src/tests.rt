@@ -19,6 +19,7 @@ mod lanes_decoded;
 mod lanes_encoded;
 mod laws;
 mod layouts;
+mod lines_decoded;
 mod long_texts;
 mod mixed;
 mod order;

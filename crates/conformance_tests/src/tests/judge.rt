@@ -18,7 +18,7 @@ pub(super) struct Judge<'a> {
     pub(super) padding: Option<u8>,
     ignored: &'a [u8],
     column: usize,
-    separator: &'a [u8],
+    pub(super) separator: &'a [u8],
 }
 
 // What is returned for a text: the bytes that are written before the first fault, the length of the

@@ -8,6 +8,7 @@ use super::ignored::{compare_faults, compare_ignored, compare_pairs};
 use super::judge::Judge;
 use super::lanes_decoded::{compare_few_groups, compare_many_groups};
 use super::lanes_encoded::{compare_counted, compare_equal_bytes};
+use super::lines_decoded::compare_many_lines;
 use super::long_texts::compare_long;
 use super::mixed::{compare_mixed, compare_mixed_faults};
 use super::round_trips::{compare_in_lines, compare_short};
@@ -207,6 +208,12 @@ base32|least|check|||0||||
 base64|most||||0||||
 base64|least|single check|=||0||||";
 
+// Separators of 1, 2 and 255 bytes.
+const MANY_LINES: &str = "\
+base64|most|check|=||76|←↵|||
+hex|least|check|||64|-|||
+base32|most||=||16|dashes|||";
+
 // What is compared. Lines are of this many groups, and end with this separator.
 #[derive(Clone, Copy)]
 enum Sweep {
@@ -222,6 +229,7 @@ enum Sweep {
     MixedFaults,
     Lines(usize, &'static str),
     Columns(usize, &'static str),
+    ManyLines,
     DataPieces,
     EachLength,
     FewGroups,
@@ -266,6 +274,7 @@ fn compare_all(comparison: &mut Comparison<'_>, sweep: Sweep) -> Result<(), Diff
         Sweep::MixedFaults => compare_mixed_faults(comparison),
         Sweep::Lines(_, _) => compare_in_lines(comparison),
         Sweep::Columns(_, _) => compare_lines(comparison),
+        Sweep::ManyLines => compare_many_lines(comparison),
         Sweep::DataPieces => compare_data_pieces(comparison),
         Sweep::EachLength => compare_each_length(comparison),
         Sweep::FewGroups => compare_few_groups(comparison),
@@ -397,6 +406,12 @@ fn lines_of_each_length_are_encoded(rt: HostRuntime) -> Result<(), Fail> {
     for separator in ["-", "←↵", "~-~", "-~-~-~~--~-~~--~", "dashes"] {
         sweep_columns(rt.alloc(), separator)?;
     }
+    Ok(())
+}
+
+#[test]
+fn many_lines_are_judged_alike(rt: HostRuntime) -> Result<(), Fail> {
+    sweep_rows(rt.alloc(), &[MANY_LINES], Sweep::ManyLines, Tally::zero())?;
     Ok(())
 }
 
