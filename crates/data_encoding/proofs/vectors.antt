@@ -4,3 +4,4 @@ pub mod Calls
 pub mod Encoders
 pub mod Specifications
 pub mod Tables
+pub mod Lines
