@@ -1,5 +1,5 @@
 -- Worked rows of lines of one length.
-use Rattle.std.proofs.Common.{◌≡◌, ℕ, zero, suc, ◌+◌, ◌*◌, ◌<◌, List, [], ◌∷◌, ◌++◌, length, take, drop, codes, refl, arith, lit<, lit≤}
+use Rattle.std.proofs.Common.{◌≡◌, ℕ, zero, suc, ◌+◌, ◌*◌, ◌<◌, List, [], ◌∷◌, ◌++◌, take, drop, codes, refl, arith, lit<, lit≤}
 use Rattle.data_encoding.specs.Lines.{HasLines, IsLineLength}
 
 -- two lines of sixteen symbols, each followed by LF, and what follows them
