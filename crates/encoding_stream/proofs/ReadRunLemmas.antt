@@ -32,7 +32,8 @@ pub reads-run : (base : Base) → IsWidth base.width → (old : Kept) → IsFres
     → ReadsRun base piece bytes error ended
     → FillsGroups base 0 (length piece) 0 (length bytes)
     → ReadsOn base old
-    (record old { len = old.len + length piece; fault = further old.len error; ended = ended }) piece
+    (record old { len = old.len + length piece; fault = further old.len error; ended = ended })
+    piece
     bytes
 reads-run base width old fresh piece bytes error ended run few =
     let sound = no-fault old.fault fresh.sound in

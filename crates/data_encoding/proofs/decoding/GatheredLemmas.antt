@@ -63,7 +63,8 @@ gathered-further base part block new read size count more are within next =
 
 -- Without the last of the gathered bytes, those before them are gathered.
 pub gathered-before : {base : Base} {part bytes : List ℕ} {span last short : ℕ}
-    → AreKept base part span bytes → span ≤ length part → EndsBefore base (take span part) last short
+    → AreKept base part span bytes → span ≤ length part → EndsBefore base (take span part) last
+    short
     → short ≤ length (take span part) → (count : ℕ) → length bytes ≡ count + last
     → IsGathered base count part (take count bytes) short
 gathered-before {base} {part} {bytes} {span} {last} {short} are within ends inside count many =

@@ -46,7 +46,8 @@ piece-copied at size k line room piece exact fits same piece_is =
 -- and the last, which may overlap the one before it
 pub last-copied : (before size k : ℕ) (line room piece : List ℕ) → length room ≡ length line
     → size ≤ length line → length line - size ≤ before → take before room ≡ take before line
-    → piece ≡ take (length line - size + size - (length line - size)) (drop (length line - size) line)
+    → piece ≡ take (length line - size + size - (length line - size)) (drop (length line - size)
+    line)
     → length (put_mid (length line - size) k room piece) ≡ length line
     → put_mid (length line - size) k room piece ≡ line
 last-copied before size k line room piece exact fits past same piece_is kept =
@@ -55,7 +56,8 @@ last-copied before size k line room piece exact fits past same piece_is kept =
     let new = put_mid at k room piece in
     let front : take at room ≡ take at line =
     sym (take-take at before room past) ∙ ap (take at) same ∙ take-take at before line past in
-    let written = piece-copied at size k line room piece exact (omega (arith, all)) front piece_is in
+    let written = piece-copied at size k line room piece exact (omega (arith, all)) front piece_is
+    in
     sym (take_all (at + size) new (omega (arith, all, kept))) ∙ written
     ∙ take_all (at + size) line (omega (arith, all))
 
@@ -162,7 +164,8 @@ module _ (base : Base) (width : IsWidth base.width) where
 
     module _ {count : ℕ} {old new : List ℕ} (run : IsRun base part count old new)
         (room : count * enc ≤ length new) where
-      front-len : (i m : ℕ) → i + m ≡ count → length (run_bytes base (take (i * dec) part)) ≡ i * enc
+      front-len : (i m : ℕ) → i + m ≡ count → length (run_bytes base (take (i * dec) part)) ≡ i *
+          enc
       front-len i m sum =
           let rest = drop (i * dec) part in
           let sums = add-mul i m enc in
@@ -173,7 +176,13 @@ module _ (base : Base) (width : IsWidth base.width) where
           let back = few-run_bytes m (take (m * dec) rest)
           (omega (
             arith,
-            length-take-le (m * dec) rest (omega (arith, within, split, length-drop (i * dec) part)),
+            length-take-le (m * dec) rest (omega (
+              arith,
+              within,
+              split,
+              length-drop (i * dec)
+                  part,
+            )),
           )) in
           let all : length (run_bytes base (take ((i + m) * dec) part)) ≡ (i + m) * enc =
           rw sum (ap length (sym run.bytes) ∙ length-take-le (count * enc) new room) in
@@ -225,7 +234,8 @@ lines-alone len n separator rest block has = record {
 
 -- The lines after what was read, as they were copied.
 module _ (base : Base) (width : IsWidth base.width) (text : List ℕ) {read skip : ℕ}
-    (front : IsIgnoredFront base (drop read text) skip) (inside : read ≤ length text) (len g lines : ℕ)
+    (front : IsIgnoredFront base (drop read text) skip) (inside : read ≤ length text) (len g lines
+    : ℕ)
     (block : List ℕ) (len_is : len ≡ g * group_symbols base.width) (some : 0 < g)
     (has : HasLines len (take skip (drop read text)) (drop (read + skip) text) lines block) where
   -- the position after this many lines
@@ -416,7 +426,11 @@ module _ {base : Base} {text : List ℕ} {sizes : Sizes} {read written : ℕ} {o
       let many = length-take-le (lines * len) block has.fits in
       let count = length (take (lines * len) block) / group_symbols base.width in
       let all : count * group_symbols base.width ≤ lines * len =
-      omega (arith, groups-within (length (take (lines * len) block)) (group_symbols base.width), many)
+      omega (
+        arith,
+        groups-within (length (take (lines * len) block)) (group_symbols base.width),
+        many,
+      )
       in
       rw (take_rest output written, s.symbols_is, s.bytes_is)
       (omega (arith, room-count count all, length-drop written output))

@@ -64,8 +64,8 @@ impl EncodingRef<'_> {
 
     // Decodes the lines that follow, if they have this length and if the bytes that are ignored
     // before the first of them also follow each, and returns their number.
-    // Not inlined, so that texts without lines do not pay for the stack that a block takes; and with
-    // scalars only, so that what the caller holds can stay in registers.
+    // Not inlined, so that texts without lines do not pay for the stack that a block takes; and
+    // with scalars only, so that what the caller holds can stay in registers.
     #[inline(never)]
     fn decode_lines<L: LookUp, O: ConstantOrder, G: GroupSize>(
         &self,
@@ -108,9 +108,9 @@ impl EncodingRef<'_> {
         )
     }
 
-    // Decodes block after block, and returns the number of lines. Each block has twice as many lines
-    // as the one before it, as long as there is room, so that no more is copied in vain than was
-    // decoded before.
+    // Decodes block after block, and returns the number of lines. Each block has twice as many
+    // lines as the one before it, as long as there is room, so that no more is copied in vain than
+    // was decoded before.
     #[inline(always)]
     fn decode_blocks<L: LookUp, O: ConstantOrder, G: GroupSize>(
         &self,

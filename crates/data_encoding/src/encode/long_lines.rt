@@ -97,8 +97,8 @@ impl EncodingRef<'_> {
         }
     }
 
-    // In lanes, while the input has a whole line and what a turn loads after it; then the last one or
-    // two lines.
+    // In lanes, while the input has a whole line and what a turn loads after it; then the last one
+    // or two lines.
     #[inline(always)]
     fn encode_long_lines_by_order<E: EncodeEight, G: GroupSize>(
         &self,

@@ -126,7 +126,8 @@ unfolding url_symbols
 symbols_added = (refl, refl, refl, refl, refl, refl, refl)
 
 -- the table of these symbols has this form
-symbols_held : HoldsAffineSymbols (map (affine_symbol url_symbols) (range_with_len 0 64)) url_symbols
+symbols_held : HoldsAffineSymbols (map (affine_symbol url_symbols) (range_with_len 0 64))
+    url_symbols
 symbols_held = record {
   agrees = λ value h.
       sym (get_or-map (affine_symbol url_symbols) (range_with_len 0 64) value 0 0

@@ -140,8 +140,8 @@ pub fn encode_eight<G: GroupSize>(
     store::<G>(look_up::<G>(symbols, values), output);
 }
 
-/// Writes the text of the first eight groups; symbols of six bits are found as sums. Up to six bytes
-/// after these groups are loaded too.
+/// Writes the text of the first eight groups; symbols of six bits are found as sums. Up to six
+/// bytes after these groups are loaded too.
 #[inline(always)]
 pub fn encode_eight_by_sums<G: GroupSize>(
     affine: &AffineSymbols,

@@ -20,7 +20,8 @@ loop-turn-preserved c =
     let next : 8 * (c.loop-turn.turn + 1) ≡ read + 8 = omega arith in (
       omega (arith, c.loop-turn.invariant.0, c.in-Some.ensures.few, length-part read 8 rest few),
       λ base holds.
-          rw next (gathered-further base rest c.loop-turn.block c.gather_eight-more.new.block read 8 c.loop-turn.count c.in-Some.more
+          rw next (gathered-further base rest c.loop-turn.block c.gather_eight-more.new.block read
+          8 c.loop-turn.count c.in-Some.more
           (c.loop-turn.invariant.1 base holds) room
           (rw (part-is read 8 rest) at (c.in-Some.ensures.bytes base holds))),
     )

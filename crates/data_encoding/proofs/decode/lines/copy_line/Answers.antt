@@ -26,7 +26,13 @@ returns c =
     omega (arith, c.loop-index.auto.room, c.requires.exact) in
     last-copied before 16 (at + 16 - at) line c.loop-index.room c.copy_from_slice-2.new.self exact
     c.requires.long
-    (omega (arith, c.loop-index-test.false, c.loop-index.auto.index-end, div-add-mod' (length line) 16))
+    (omega (
+      arith,
+      c.loop-index-test.false,
+      c.loop-index.auto.index-end,
+      div-add-mod' (length line)
+          16,
+    ))
     c.loop-index.invariant c.copy_from_slice-2.ensures.after
     (length-put_mid at (at + 16 - at) c.loop-index.room c.copy_from_slice-2.new.self
     (omega (arith, exact, c.requires.long))

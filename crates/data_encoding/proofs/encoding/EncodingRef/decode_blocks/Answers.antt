@@ -7,7 +7,8 @@ pub loop-init : goal.loop-init
 loop-init g c = record {
   so_far = so_far-none (c.args.from.ignored + c.args.len)
       (c.args.len / g.G.GroupSize.SYMBOLS * g.G.GroupSize.BYTES) c.requires.so_far;
-  front = front-none c.args.input.now c.args.from.read (c.args.from.ignored + c.args.len) c.requires.front;
+  front = front-none c.args.input.now c.args.from.read (c.args.from.ignored + c.args.len)
+      c.requires.front;
   fits = omega (arith, c.requires.line.few);
 }
 
@@ -36,21 +37,28 @@ after_lines-requires-clause-ignored g c =
 pub overflow_mul-block : goal.overflow_mul-block
 overflow_mul-block g c = record { fits = omega (arith, c.loop.invariant.fits) }
 
-pub decode_block_of_lines-more-requires-clause-so_far : goal.decode_block_of_lines-more-requires-clause-so_far
-decode_block_of_lines-more-requires-clause-so_far g c = rw c.after_lines.ensures c.loop.invariant.so_far
+pub decode_block_of_lines-more-requires-clause-so_far :
+    goal.decode_block_of_lines-more-requires-clause-so_far
+decode_block_of_lines-more-requires-clause-so_far g c = rw c.after_lines.ensures
+    c.loop.invariant.so_far
 
-pub decode_block_of_lines-more-requires-clause-front : goal.decode_block_of_lines-more-requires-clause-front
-decode_block_of_lines-more-requires-clause-front g c = rw c.after_lines.ensures c.loop.invariant.front
+pub decode_block_of_lines-more-requires-clause-front :
+    goal.decode_block_of_lines-more-requires-clause-front
+decode_block_of_lines-more-requires-clause-front g c = rw c.after_lines.ensures
+    c.loop.invariant.front
 
 pub overflow_add-lines : goal.overflow_add-lines
 overflow_add-lines g c =
     let further = rw c.after_lines.ensures at c.decode_block_of_lines-more.ensures.so_far in
-    let all = so_far-more c.args.from.read c.args.from.written (c.args.from.ignored + c.args.len) (c.args.len / g.G.GroupSize.SYMBOLS * g.G.GroupSize.BYTES) c.loop.lines c.decode_block_of_lines-more.result further in
+    let all = so_far-more c.args.from.read c.args.from.written (c.args.from.ignored + c.args.len)
+    (c.args.len / g.G.GroupSize.SYMBOLS * g.G.GroupSize.BYTES) c.loop.lines
+    c.decode_block_of_lines-more.result further in
     record {
       fits = omega (
         arith,
         lines-fit c.args.from.read (c.loop.lines + c.decode_block_of_lines-more.result)
-            c.args.from.ignored c.args.len (length c.args.input.now) c.requires.line.long all.within,
+            c.args.from.ignored c.args.len (length c.args.input.now) c.requires.line.long
+            all.within,
         c.requires.limit,
       );
     }
@@ -60,8 +68,11 @@ loop-preserved g c =
     let further = rw c.after_lines.ensures at c.decode_block_of_lines-more.ensures.so_far in
     let front = rw c.after_lines.ensures at c.decode_block_of_lines-more.ensures.front in
     record {
-      so_far = so_far-more c.args.from.read c.args.from.written (c.args.from.ignored + c.args.len) (c.args.len / g.G.GroupSize.SYMBOLS * g.G.GroupSize.BYTES) c.loop.lines c.decode_block_of_lines-more.result further;
-      front = front-more c.args.input.now c.args.from.read (c.args.from.ignored + c.args.len) c.loop.lines c.decode_block_of_lines-more.result front;
+      so_far = so_far-more c.args.from.read c.args.from.written (c.args.from.ignored + c.args.len)
+          (c.args.len / g.G.GroupSize.SYMBOLS * g.G.GroupSize.BYTES) c.loop.lines
+          c.decode_block_of_lines-more.result further;
+      front = front-more c.args.input.now c.args.from.read (c.args.from.ignored + c.args.len)
+          c.loop.lines c.decode_block_of_lines-more.result front;
       fits = c.more_lines-most.ensures;
     }
 
@@ -73,10 +84,13 @@ returns-after-loop-clause-front g c = c.loop.invariant.front
 
 pub returns-then-more-most-clause-so_far : goal.returns-then-more-most-clause-so_far
 returns-then-more-most-clause-so_far g c =
-    so_far-more c.args.from.read c.args.from.written (c.args.from.ignored + c.args.len) (c.args.len / g.G.GroupSize.SYMBOLS * g.G.GroupSize.BYTES) c.loop.lines c.decode_block_of_lines-more.result
+    so_far-more c.args.from.read c.args.from.written (c.args.from.ignored + c.args.len) (c.args.len
+    / g.G.GroupSize.SYMBOLS * g.G.GroupSize.BYTES) c.loop.lines
+    c.decode_block_of_lines-more.result
     (rw c.after_lines.ensures at c.decode_block_of_lines-more.ensures.so_far)
 
 pub returns-then-more-most-clause-front : goal.returns-then-more-most-clause-front
 returns-then-more-most-clause-front g c =
-    front-more c.args.input.now c.args.from.read (c.args.from.ignored + c.args.len) c.loop.lines c.decode_block_of_lines-more.result
+    front-more c.args.input.now c.args.from.read (c.args.from.ignored + c.args.len) c.loop.lines
+    c.decode_block_of_lines-more.result
     (rw c.after_lines.ensures at c.decode_block_of_lines-more.ensures.front)

@@ -91,6 +91,7 @@ returns-clause-reads c =
     (record old { len = old.len + n; fault = None; ended = c.has_final-self.result }) front bytes)
     front-is
     (reads-run base s.width old fresh front bytes None c.has_final-self.result
-    (run-sound base (is-specified s) c.pieces.ensures.sound front bytes c.has_final-self.result means
+    (run-sound base (is-specified s) c.pieces.ensures.sound front bytes c.has_final-self.result
+    means
     whole ends)
     few)))
