@@ -14,6 +14,7 @@ mod encodings;
 mod ignored;
 mod judge;
 mod judged;
+mod kept_after;
 mod keys;
 mod lanes_decoded;
 mod lanes_encoded;

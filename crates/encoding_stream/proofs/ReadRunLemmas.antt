@@ -27,21 +27,30 @@ nothing-held : (count : ℕ) (positions bytes : List ℕ) → count ≡ 0
     → at_positions count positions bytes ≡ []
 nothing-held count positions bytes none = ap (λ n. at_positions n positions bytes) none
 
+-- the positions and bytes that are not held may be any
 pub reads-run : (base : Base) → IsWidth base.width → (old : Kept) → IsFresh old
-    → (piece bytes : List ℕ) (error : Option DecodeError) (ended : Bool)
+    → (positions places : List ℕ) (piece bytes : List ℕ) (error : Option DecodeError)
+    (ended : Bool)
     → ReadsRun base piece bytes error ended
     → FillsGroups base 0 (length piece) 0 (length bytes)
     → ReadsOn base old
-    (record old { len = old.len + length piece; fault = further old.len error; ended = ended })
+    (record old {
+      len = old.len + length piece;
+      fault = further old.len error;
+      positions = positions;
+      bytes = places;
+      ended = ended;
+    })
     piece
     bytes
-reads-run base width old fresh piece bytes error ended run few =
+reads-run base width old fresh positions places piece bytes error ended run few =
     let sound = no-fault old.fault fresh.sound in
     let nothing = nothing-held old.count old.positions old.bytes fresh.none in
+    let none = nothing-held old.count positions places fresh.none in
     let next = λ (text : List ℕ) (keeps : Keeps base old text).
     run text old.len (rw (sound, nothing, fresh.goes_on) at keeps) in
     record {
-      keeps = λ text keeps. rw nothing (next text keeps).0;
+      keeps = λ text keeps. rw none (next text keeps).0;
       decodes = λ text keeps. (next text keeps).1;
       counted = refl;
       few =

@@ -1,0 +1,53 @@
+//! What a decoder keeps after a piece that ends in padding, also the bytes that it no longer holds.
+
+use super::rows::{bytes_of, row_of};
+use data_encoding::{DECODE_LIMIT, Encoding};
+use encoding_stream::BufferDecoder;
+use std::alloc::Global;
+use std::test::Fail;
+
+// Texts with a last group of fewer bytes than a group has.
+const ROWS: &str = "\
+base64|most|check|=||76|←↵|||AA==←↵
+base64|most|check|=||76|←↵|||QUJDAA=←↵=←↵
+base64|most|check|=||76|←↵|||AAA=←↵←↵QUJD←↵
+base64|most|single check|=||0||||QUJDAAA=
+base64|most|single check|=|-|0||||QUJD-A-A==-
+base32|least|check|=|-|0||||AA--======AAAA--A===";
+
+// Reads a piece of at most 64 bytes, if the text stays within its limit.
+fn read(decoder: &mut BufferDecoder<'_>, piece: &[u8]) -> bool {
+    let mut output = [0; 72];
+    let len = decoder.len();
+    if len > DECODE_LIMIT || piece.len() > DECODE_LIMIT - len {
+        return false;
+    }
+    if decoder.most(piece.len()) > output.len() {
+        return false;
+    }
+    decoder.read(piece, &mut output);
+    true
+}
+
+// Whether a piece leaves what its bytes leave one by one.
+fn is_kept_alike(alloc: Global, encoding: &Encoding, text: &[u8]) -> Result<bool, Fail> {
+    let mut whole = BufferDecoder::new(encoding);
+    let mut each = BufferDecoder::new(encoding);
+    let mut is_read = read(&mut whole, text);
+    for byte in text {
+        is_read = read(&mut each, &[*byte]) && is_read;
+    }
+    let (one, other) = (whole.kept(), each.kept());
+    Ok(is_read && format!(in alloc; "{one:?}")? == format!(in alloc; "{other:?}")?)
+}
+
+#[test]
+fn pieces_that_end_in_padding_leave_their_last_group(rt: HostRuntime) -> Result<(), Fail> {
+    for line in ROWS.split('\n') {
+        let row = row_of(rt.alloc(), line)?;
+        let encoding = row.specification.encoding()?;
+        let text = bytes_of(rt.alloc(), row.want)?;
+        assert!(rt; is_kept_alike(rt.alloc(), &encoding, &text)?, "{line}");
+    }
+    Ok(())
+}
