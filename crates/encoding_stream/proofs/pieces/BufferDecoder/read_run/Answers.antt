@@ -49,10 +49,12 @@ returns-in-Err-clause-reads c =
       fault = further old.len (Some partial.error);
       ended = false;
     }) text bytes) text-is
-    (reads-run base s.width old fresh old.positions old.bytes text bytes (Some partial.error) false c.in-Err.ensures.fault
+    (reads-run base s.width old fresh old.positions old.bytes text bytes (Some partial.error) false
+    c.in-Err.ensures.fault
     few)))
 
-pub returns-then-fills_groups-clause-reads : goal.returns-then-fills_groups-clause-reads
+pub returns-then-fills_groups-clause-reads :
+    goal.returns-then-fills_groups-clause-reads
 returns-then-fills_groups-clause-reads c =
     let s = c.args.self.now in
     let base = base_of_pieces s in
@@ -90,7 +92,8 @@ returns-then-fills_groups-clause-reads c =
     (subst (λ n. ReadsOn base old
     (record old { len = old.len + n; fault = None; ended = c.has_final-self.result }) front bytes)
     front-is
-    (reads-run base s.width old fresh old.positions old.bytes front bytes None c.has_final-self.result
+    (reads-run base s.width old fresh old.positions old.bytes front bytes None
+    c.has_final-self.result
     (run-sound base (is-specified s) c.pieces.ensures.sound front bytes c.has_final-self.result
     means
     whole ends)
@@ -146,7 +149,8 @@ returns-clause-reads c =
       ended = c.has_final-self.result;
     }) front bytes)
     front-is
-    (reads-run base s.width old fresh c.last_group.result.0 c.last_group.result.1 front bytes None c.has_final-self.result
+    (reads-run base s.width old fresh c.last_group.result.0 c.last_group.result.1 front bytes None
+    c.has_final-self.result
     (run-sound base (is-specified s) c.pieces.ensures.sound front bytes c.has_final-self.result
     means
     whole ends)
