@@ -2,6 +2,7 @@
 pub mod WordLemmas
 pub mod KernelLemmas
 pub mod LaneLemmas
+pub mod PairLemmas
 pub mod PlainAffineLemmas
 pub mod FieldLemmas
 pub mod HalfLemmas

@@ -8,4 +8,5 @@ pub mod digits;
 pub mod encode;
 pub mod groups;
 pub mod look_up;
+pub mod pairs;
 pub mod rows;

@@ -49,7 +49,7 @@ relaned p q n m xs h same =
     (subst (λ k. number_l p xs < k) same (number-below p xs h)))
 
 -- lanes of twice the size are pairs of the smaller ones
-pairs-of : (p n : ℕ) (xs : List ℕ) → AllByRecursion (λ x. x < p) xs → length xs ≡ n + n
+pub pairs-of : (p n : ℕ) (xs : List ℕ) → AllByRecursion (λ x. x < p) xs → length xs ≡ n + n
     → digits_l (p * p) n (number_l p xs) ≡ map (number_l p) (first_chunks 2 n xs)
 pairs-of p zero xs h e = refl
 pairs-of p (suc n) [] h e = absurd (omega (arith, e))

@@ -103,7 +103,7 @@ lane order size more loaded group =
 
 module _ (order : BitOrder) (size more : ℕ) (input : List ℕ) (long : 16 ≤ length input)
     (small : (k : ℕ) → get_or input k 0 < 256) where
-  lane-word : (group : ℕ) → size * group + size ≤ 16
+  pub lane-word : (group : ℕ) → size * group + size ≤ 16
       → number_l 256 (lane order size more (take 16 input) group)
       ≡ group_word order size input group
   lane-word group h =

@@ -11,7 +11,7 @@ use Rattle.data_encoding_kernel.specs.Lanes.{digits_of, group_words, spread_word
 use Rattle.data_encoding_kernel.proofs.digits.LaneLemmas.{bytes-of-lanes, digits_of-below, by_eight, all_pieces}
 
 -- which bytes of eight lanes are picked, repeated to fill 64 lanes
-abbrev from_first : ℕ → List ℕ
+abbrev pub from_first : ℕ → List ℕ
 from_first count = map (λ k. count * (k / count) % (8 * count) + k % count) (range_with_len 0 64)
 
 abbrev from_last : ℕ → List ℕ

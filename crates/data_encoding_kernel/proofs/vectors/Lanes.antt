@@ -10,6 +10,7 @@ use Rattle.data_encoding_kernel.specs.declared.lanes.affine_symbols.AffineSymbol
 use Rattle.data_encoding_kernel.specs.Affine.{HoldsAffine, affine_entry, affine_value, agrees, agrees_from, bits_of_rows, form_of, moved_byte, symbol_bit}
 use Rattle.data_encoding_kernel.specs.AffineSymbols.{HoldsAffineSymbols, affine_symbol, first_of}
 use Rattle.data_encoding_kernel.specs.Lanes.{digits_of, group_word, group_words, halved_lane, spread_word}
+use Rattle.data_encoding_kernel.specs.Pairs.{high_half, low_half, split_lanes}
 use Rattle.data_encoding_kernel.specs.Values.{HoldsRows, IsRow, chosen_by, in_row, joined}
 use Rattle.data_encoding_kernel.proofs.digits.PlainAffineLemmas.{agrees-holds}
 
@@ -22,6 +23,14 @@ lanes_spread :
     × (spread_word 6 4 4744556 ≡ 302388524)
     × (halved_lane 32 4095 16773120 4 4744556 ≡ 75892076)
 lanes_spread = (refl, refl, refl, refl, refl)
+
+-- `He` and `el`, which have two digits of `Hel` each: 18 and 6, and 21 and 44
+lanes_split :
+    (high_half 18432 65 ≡ 18)
+    × (low_half 18533 32784 ≡ 1616)
+    × (split_lanes (64512 ∷ 4032 ∷ []) (65 ∷ 1025 ∷ []) (32784 ∷ 33024 ∷ [])
+    (16128 ∷ 16128 ∷ []) (18533 ∷ 25964 ∷ []) ≡ 1554 ∷ 11285 ∷ [])
+lanes_split = (refl, refl, refl)
 
 -- the values 18 and 6 of `SG`, a byte each, as twelve bits
 lanes_joined : joined MostSignificantFirst 8 6 1554 ≡ 1158

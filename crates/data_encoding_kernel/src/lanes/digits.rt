@@ -7,6 +7,10 @@ ghost use Rattle.data_encoding_kernel.specs.Lanes.{group_words, digits_of, sprea
 
 use crate::group_size::GroupSize;
 use crate::lanes::groups::{eight_fives, eight_ones, eight_threes, four_threes, two_fives};
+use crate::lanes::pairs::{
+    five_bit_digits_of_eight, five_bit_digits_of_two, six_bit_digits_of_eight,
+    six_bit_digits_of_four,
+};
 use data_encoding_meaning::encoding::BitOrder;
 use std::simd::prelude::*;
 
@@ -209,7 +213,12 @@ fn five_bit_digits(order: BitOrder, input: &[u8]) -> u8x64
         ≡ flat_map (digits_of order 5 8) (group_words order 5 8 input.now) }
     ensures below { AllByRecursion (λ digit. digit < 2 ^ 5) result }
 {
-    join_eights(order, spread_five_bits(eight_fives(order, input)))
+    match order {
+        BitOrder::MostSignificantFirst => five_bit_digits_of_eight(input),
+        BitOrder::LeastSignificantFirst => {
+            join_eights(order, spread_five_bits(eight_fives(order, input)))
+        }
+    }
 }
 
 #[inline(always)]
@@ -219,7 +228,14 @@ fn six_bit_digits(order: BitOrder, input: &[u8]) -> u8x64
         ≡ flat_map (digits_of order 6 4) (group_words order 3 8 input.now) }
     ensures below { AllByRecursion (λ digit. digit < 2 ^ 6) result }
 {
-    join_fours(order, spread_six_bits(eight_threes(order, input)))
+    match order {
+        BitOrder::MostSignificantFirst => {
+            six_bit_digits_of_eight(input).swizzle::<64>(FOURS_FROM_FIRST)
+        }
+        BitOrder::LeastSignificantFirst => {
+            join_fours(order, spread_six_bits(eight_threes(order, input)))
+        }
+    }
 }
 
 /// Returns the digits of the first eight groups, one after another. Up to six bytes after them are
@@ -262,8 +278,15 @@ pub fn digits_of_four(order: BitOrder, input: &[u8]) -> u8x64
         ≡ flat_map (digits_of order 6 4) (group_words order 3 4 input.now) }
     ensures below { AllByRecursion (λ digit. digit < 2 ^ 6) result }
 {
-    let words = four_threes(order, input).swizzle::<8>([0, 1, 2, 3, 0, 1, 2, 3]);
-    join_fours(order, spread_six_bits(words))
+    match order {
+        BitOrder::MostSignificantFirst => {
+            six_bit_digits_of_four(input).swizzle::<64>(TWOS_FROM_FIRST)
+        }
+        BitOrder::LeastSignificantFirst => {
+            let words = four_threes(order, input).swizzle::<8>([0, 1, 2, 3, 0, 1, 2, 3]);
+            join_fours(order, spread_six_bits(words))
+        }
+    }
 }
 
 /// Returns the digits of the first four groups of three bits a digit, one after another, twice.
@@ -288,6 +311,13 @@ pub fn digits_of_two(order: BitOrder, input: &[u8]) -> u8x64
         ≡ flat_map (digits_of order 5 8) (group_words order 5 2 input.now) }
     ensures below { AllByRecursion (λ digit. digit < 2 ^ 5) result }
 {
-    let words = two_fives(order, input).swizzle::<8>([0, 1, 0, 1, 0, 1, 0, 1]);
-    join_eights(order, spread_five_bits(words))
+    match order {
+        BitOrder::MostSignificantFirst => {
+            five_bit_digits_of_two(input).swizzle::<64>(TWOS_FROM_FIRST)
+        }
+        BitOrder::LeastSignificantFirst => {
+            let words = two_fives(order, input).swizzle::<8>([0, 1, 0, 1, 0, 1, 0, 1]);
+            join_eights(order, spread_five_bits(words))
+        }
+    }
 }

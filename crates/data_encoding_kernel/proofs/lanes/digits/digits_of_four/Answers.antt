@@ -1,11 +1,12 @@
-use Rattle.std.proofs.Common.{◌≡◌, ℕ, List, [], ◌∷◌, ◌++◌, map, take, ap, ◌∙◌, arith, refl}
+use Rattle.std.proofs.Common.{◌≡◌, ℕ, List, [], ◌∷◌, ◌++◌, map, take, ap, sym, ◌∙◌, arith, refl}
 use Rattle.std.specs.Prelude.{flat_map}
 use Rattle.std.specs.Simd.Lanes.{pick_l}
 use Rattle.data_encoding_meaning.specs.declared.encoding.BitOrder.{BitOrder}
 use Rattle.data_encoding_kernel.specs.Lanes.{digits_of, group_word, group_words, spread_word}
 use Rattle.data_encoding_kernel.proofs.digits.GroupWordLemmas.{word-below}
-use Rattle.data_encoding_kernel.proofs.digits.JoinLemmas.{held-first}
+use Rattle.data_encoding_kernel.proofs.digits.JoinLemmas.{from_first, held-first}
 use Rattle.data_encoding_kernel.proofs.lanes.digits.digits_of_four.Goals as goal
+use Rattle.data_encoding_kernel.proofs.lanes.digits.digits_of_four.Goals.{in-MostSignificantFirst, in-LeastSignificantFirst}
 
 -- the words, repeated to eight
 abbrev eight : List ℕ → List ℕ
@@ -36,6 +37,16 @@ returns c =
     let words = group_words order 3 4 input in
     held-first order 6 4 4 3 input (eight words ++ eight words)
     (first order (word 0) (word 1) (word 2) (word 3))
-    (c.join_fours.ensures 6 (eight words) (omega arith)
-    (c.spread_six_bits.ensures
-    ∙ ap (map (spread_word 6 4)) (repeated _ order input c.four_threes.ensures)))
+    (elim c.match-order.branch [
+      | in-MostSignificantFirst w ↦
+          w.result-is
+          ∙ ap (λ l. pick_l 0 (l ++ l) (from_first 2)) w.six_bit_digits_of_four.ensures
+          ∙ ap (λ order. flat_map (digits_of order 6 4)
+          (eight (group_words order 3 4 input) ++ eight (group_words order 3 4 input)))
+          (sym w.in-MostSignificantFirst.is)
+      | in-LeastSignificantFirst w ↦
+          w.result-is
+          ∙ w.join_fours.ensures 6 (eight words) (omega arith)
+          (w.spread_six_bits.ensures
+          ∙ ap (map (spread_word 6 4)) (repeated _ order input w.four_threes.ensures))
+    ])

@@ -1,11 +1,12 @@
-use Rattle.std.proofs.Common.{◌≡◌, ℕ, List, [], ◌∷◌, ◌++◌, map, take, ap, ◌∙◌, arith, refl}
+use Rattle.std.proofs.Common.{◌≡◌, ℕ, List, [], ◌∷◌, ◌++◌, map, take, ap, sym, ◌∙◌, arith, refl}
 use Rattle.std.specs.Prelude.{flat_map}
 use Rattle.std.specs.Simd.Lanes.{pick_l}
 use Rattle.data_encoding_meaning.specs.declared.encoding.BitOrder.{BitOrder}
 use Rattle.data_encoding_kernel.specs.Lanes.{digits_of, group_word, group_words, spread_word}
 use Rattle.data_encoding_kernel.proofs.digits.GroupWordLemmas.{word-below}
-use Rattle.data_encoding_kernel.proofs.digits.JoinLemmas.{held-first}
+use Rattle.data_encoding_kernel.proofs.digits.JoinLemmas.{from_first, held-first}
 use Rattle.data_encoding_kernel.proofs.lanes.digits.digits_of_two.Goals as goal
+use Rattle.data_encoding_kernel.proofs.lanes.digits.digits_of_two.Goals.{in-MostSignificantFirst, in-LeastSignificantFirst}
 
 -- the words, repeated to eight
 abbrev eight : List ℕ → List ℕ
@@ -34,8 +35,16 @@ returns c =
     let input = c.args.input.now in
     let word = group_word order 5 input in
     let words = group_words order 5 2 input in
-    held-first order 5 8 2 5 input (eight words)
-    (first order (word 0) (word 1))
-    (c.join_eights.ensures 5 (eight words) (omega arith)
-    (c.spread_five_bits.ensures
-    ∙ ap (map (spread_word 5 8)) (repeated _ order input c.two_fives.ensures)))
+    held-first order 5 8 2 5 input (eight words) (first order (word 0) (word 1))
+    (elim c.match-order.branch [
+      | in-MostSignificantFirst w ↦
+          w.result-is
+          ∙ ap (λ l. pick_l 0 (l ++ l) (from_first 2)) w.five_bit_digits_of_two.ensures
+          ∙ ap (λ order. flat_map (digits_of order 5 8) (eight (group_words order 5 2 input)))
+          (sym w.in-MostSignificantFirst.is)
+      | in-LeastSignificantFirst w ↦
+          w.result-is
+          ∙ w.join_eights.ensures 5 (eight words) (omega arith)
+          (w.spread_five_bits.ensures
+          ∙ ap (map (spread_word 5 8)) (repeated _ order input w.two_fives.ensures))
+    ])

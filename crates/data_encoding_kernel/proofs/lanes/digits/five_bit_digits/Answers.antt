@@ -1,8 +1,10 @@
-use Rattle.std.proofs.Common.{map, ap, ◌∙◌, arith, refl}
-use Rattle.data_encoding_kernel.specs.Lanes.{group_words, spread_word}
+use Rattle.std.proofs.Common.{map, ap, sym, ◌∙◌, arith, refl}
+use Rattle.std.specs.Prelude.{flat_map}
+use Rattle.data_encoding_kernel.specs.Lanes.{digits_of, group_words, spread_word}
 use Rattle.data_encoding_kernel.proofs.digits.GroupWordLemmas.{words-below}
 use Rattle.data_encoding_kernel.proofs.digits.JoinLemmas.{held}
 use Rattle.data_encoding_kernel.proofs.lanes.digits.five_bit_digits.Goals as goal
+use Rattle.data_encoding_kernel.proofs.lanes.digits.five_bit_digits.Goals.{in-MostSignificantFirst, in-LeastSignificantFirst}
 
 pub spread_five_bits-requires : goal.spread_five_bits-requires
 spread_five_bits-requires c =
@@ -10,7 +12,16 @@ spread_five_bits-requires c =
 
 pub returns : goal.returns
 returns c =
-    held c.args.order 5 8 5 c.args.input.now (λ ws. ws)
-    (λ a b c d e f g h. refl)
-    (c.join_eights.ensures 5 (group_words c.args.order 5 8 c.args.input.now) (omega arith)
-    (c.spread_five_bits.ensures ∙ ap (map (spread_word 5 8)) c.eight_fives.ensures))
+    let order = c.args.order in
+    let input = c.args.input.now in
+    held order 5 8 5 input (λ ws. ws) (λ a b c d e f g h. refl)
+    (elim c.match-order.branch [
+      | in-MostSignificantFirst w ↦
+          w.result-is ∙ w.five_bit_digits_of_eight.ensures
+          ∙ ap (λ order. flat_map (digits_of order 5 8) (group_words order 5 8 input))
+          (sym w.in-MostSignificantFirst.is)
+      | in-LeastSignificantFirst w ↦
+          w.result-is
+          ∙ w.join_eights.ensures 5 (group_words order 5 8 input) (omega arith)
+          (w.spread_five_bits.ensures ∙ ap (map (spread_word 5 8)) w.eight_fives.ensures)
+    ])
