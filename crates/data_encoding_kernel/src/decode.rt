@@ -63,9 +63,28 @@ fn decode_by_several<L: LookUp, O: ConstantOrder, G: GroupSize>(
     let eight = 8 * G::SYMBOLS;
     // The eighth group may be padded; then decoding eight would be wasted.
     if input.len() < eight || 8 % G::WIDTH != 0 && entry_of(values, input[eight - 1]) >= 128 {
-        return decode_turns::<Few<L>, G>(&Few { look_up: *look_up }, O::ORDER, input, output);
+        return decode_by_few::<L, O, G>(values, look_up, input, output);
     }
     decode_by_lanes::<L, O, G>(values, look_up, input, output)
+}
+
+// By turns of sixteen symbols. The sixteenth may end a padded group; then a turn would be wasted.
+#[inline(always)]
+fn decode_by_few<L: LookUp, O: ConstantOrder, G: GroupSize>(
+    values: &[u8; 256],
+    look_up: &L,
+    input: &[u8],
+    output: &mut [u8],
+) -> usize
+    requires held { L.holds values.now look_up.now }
+    requires room { length input.now / G.SYMBOLS * G.BYTES ≤ length output.old }
+    ensures run { IsRunBy values.now G.WIDTH O.ORDER input.now result output.old output.new }
+    ensures within { result ≤ length input.now / G.SYMBOLS }
+{
+    if input.len() < 16 || entry_of(values, input[15]) >= 128 {
+        return 0;
+    }
+    decode_turns::<Few<L>, G>(&Few { look_up: *look_up }, O::ORDER, input, output)
 }
 
 // Not inlined, so that shorter texts do not pay for the stack that lanes take.

@@ -1,0 +1,10 @@
+use Rattle.data_encoding_kernel.proofs.decoding.SymbolRunLemmas.{run-none}
+use Rattle.data_encoding_kernel.proofs.decode.decode_by_few.Goals as goal
+
+pub returns-then-input-lt16-clause-run : goal.returns-then-input-lt16-clause-run
+returns-then-input-lt16-clause-run g c = λ base reads.
+    run-none base reads.holds.is_width c.args.input.now c.args.output.now c.args.output.now
+
+pub returns-clause-run : goal.returns-clause-run
+returns-clause-run g c = λ base reads.
+    c.decode_turns.ensures.run c.args.values.now c.requires.held base (rw c.ORDER.ensures reads)
