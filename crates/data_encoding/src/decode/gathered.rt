@@ -10,6 +10,7 @@ ghost use Rattle.data_encoding_kernel.specs.Tables.{HoldsValues, Reads};
 ghost use Rattle.data_encoding.specs.Gathered.{AreKept, EndsBefore};
 
 use crate::decode::DECODE_LIMIT;
+use crate::decode::lines::PAUSE;
 use crate::decode::next_group::Gathered;
 use crate::decode::steps::Reached;
 use crate::encoding::{EncodingRef, IGNORED};
@@ -24,15 +25,8 @@ const FIRST: usize = 64;
 
 const BLOCK: usize = 512;
 
-// Fewer bytes than these make no block. A longer run is better decoded in place, and a group among
-// more bytes by itself.
-pub(crate) const SHORT: usize = 32;
-
-/// Whether to go on by blocks, after groups with ignored bytes and a run of this length.
-#[inline(always)]
-pub(crate) fn is_for_blocks(run: usize, left: usize) -> bool {
-    run < SHORT && left >= SHORT
-}
+// Fewer bytes than these make no block, and a longer run is better decoded in place.
+const SHORT: usize = 32;
 
 // Whether a block like this one is worth its copy: at least one byte of 32 is ignored, and one of
 // four is not.
@@ -43,11 +37,45 @@ fn is_mixed(gathered: Gathered) -> bool {
 }
 
 impl EncodingRef<'_> {
-    /// Decodes whole groups of symbols only, with ignored bytes among them, block by block while
-    /// many bytes are ignored and many are not.
+    /// Goes on by blocks after groups with ignored bytes and a run of this length, if a block may
+    /// be worth it. Blocks are tried from a position on, which is put further after a try in vain.
+    #[inline(always)]
+    pub(crate) fn decode_expected_groups<L: LookUp, O: ConstantOrder, G: GroupSize>(
+        &self,
+        values: &[u8; 256],
+        look_up: &L,
+        run: usize,
+        at: Reached,
+        from: &mut usize,
+        input: &[u8],
+        output: &mut [u8],
+    ) -> Reached
+        requires reads { Reads self.now values.now G.WIDTH O.ORDER }
+        requires held { L.holds values.now look_up.now }
+        requires limit { length input.now ≤ DECODE_LIMIT }
+        requires exact { decoded_len self.now (length input.now) ≡ Ok (length output.old) }
+        requires so_far { HasDecodedTo self.now input.now at.read at.written false output.old }
+        requires front { IsIgnoredFront self.now (drop at.read input.now) at.ignored }
+        ensures so_far { HasDecodedTo self.now input.now result.read result.written false
+            output.new }
+        ensures front { IsIgnoredFront self.now (drop result.read input.now) result.ignored }
+        ensures further { at.read ≤ result.read }
+    {
+        if run >= SHORT || input.len() - at.read < SHORT || at.read < *from {
+            return at;
+        }
+        let next = self.decode_gathered::<L, O, G>(values, look_up, at, input, output);
+        if next.read == at.read {
+            *from = at.read + PAUSE;
+        }
+        next
+    }
+
+    // Decodes whole groups of symbols only, with ignored bytes among them, block by block while
+    // many bytes are ignored and many are not.
     // Not inlined, so that other texts do not pay for the stack that a block takes.
     #[inline(never)]
-    pub(crate) fn decode_gathered<L: LookUp, O: ConstantOrder, G: GroupSize>(
+    fn decode_gathered<L: LookUp, O: ConstantOrder, G: GroupSize>(
         &self,
         values: &[u8; 256],
         look_up: &L,

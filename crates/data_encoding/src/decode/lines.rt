@@ -30,14 +30,20 @@ const LONGEST_LINE: usize = 256;
 // Blocks are tried only if this many lines seem to follow.
 const LINES_AHEAD: usize = 3;
 
+/// How many bytes are read after a block was tried in vain, before another one is tried.
+pub(crate) const PAUSE: usize = 1024;
+
 impl EncodingRef<'_> {
-    /// Decodes the lines that follow, if lines of this length may follow.
+    /// Decodes the lines that follow, if lines of this length may follow. They are tried from a
+    /// position on, which is put further after a try in vain, so that all of these together cost a
+    /// small part of a text at most.
     #[inline(always)]
     pub(crate) fn decode_expected_lines<L: LookUp, O: ConstantOrder, G: GroupSize>(
         &self,
         values: &[u8; 256],
         len: usize,
         at: Reached,
+        from: &mut usize,
         input: &[u8],
         output: &mut [u8],
     ) -> Reached
@@ -53,12 +59,20 @@ impl EncodingRef<'_> {
         ensures front { IsIgnoredFront self.now (drop result.read input.now) result.ignored }
         ensures further { at.read ≤ result.read }
     {
-        if at.ignored == 0 || !expects_lines(values, len, at, input) {
+        if len < PIECE_LEN || len > LONGEST_LINE || at.read < *from {
+            return at;
+        }
+        let end = at.read + LINES_AHEAD * (at.ignored + len);
+        if end >= input.len() || values[input[end] as usize] != IGNORED {
+            *from = end;
             return at;
         }
         let lines = self.decode_lines::<L, O, G>(
             len, at.read, at.written, at.ignored, input, output,
         );
+        if lines < 2 {
+            *from = at.read + PAUSE;
+        }
         after_lines::<G>(len, lines, at)
     }
 
@@ -212,24 +226,6 @@ fn after_lines<G: GroupSize>(len: usize, lines: usize, from: Reached) -> Reached
         written: from.written + lines * (len / G::SYMBOLS * G::BYTES),
         ignored: from.ignored,
     }
-}
-
-// Whether lines of this length may follow: a byte is ignored where one would follow the last of
-// them.
-#[inline(always)]
-fn expects_lines(values: &[u8; 256], len: usize, at: Reached, input: &[u8]) -> bool
-    requires limit { length input.now ≤ DECODE_LIMIT }
-    requires read { at.read ≤ length input.now }
-    requires ignored { at.ignored ≤ length input.now }
-    requires few { len ≤ length input.now }
-    ensures long { IsTrue result → 16 ≤ len }
-    ensures short { IsTrue result → len ≤ LONGEST_LINE }
-{
-    let end = at.read + LINES_AHEAD * (at.ignored + len);
-    len >= PIECE_LEN
-        && len <= LONGEST_LINE
-        && end < input.len()
-        && values[input[end] as usize] == IGNORED
 }
 
 // Whether each of the first lines is followed by the separator.

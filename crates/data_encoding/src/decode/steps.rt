@@ -7,7 +7,6 @@ ghost use Rattle.data_encoding.specs.Steps.{HasEnded, HasStepped};
 ghost use Rattle.data_encoding_meaning.specs.text.Lengths.{decoded_len};
 ghost use Rattle.data_encoding_kernel.specs.Tables.{HoldsValues, Reads};
 
-use crate::decode::gathered::{SHORT, is_for_blocks};
 use crate::decode::{DECODE_LIMIT, Stop};
 use crate::encoding::{BitOrder, EncodingRef, IGNORED};
 use crate::error::DecodeKind;
@@ -59,31 +58,44 @@ impl EncodingRef<'_> {
     {
         let order = O::ORDER;
         let mut gathers = false;
+        let mut lines_from = 0;
+        let mut groups_from = 0;
         while stop.read < input.len() {
             let mut at = self.decode_runs::<L, O, G>(
                 values,
                 look_up,
                 stop.read,
                 stop.written,
+                &mut lines_from,
                 input,
                 output,
             );
-            if gathers && is_for_blocks(at.read - stop.read, input.len() - at.read) {
-                at = self.decode_gathered::<L, O, G>(values, look_up, at, input, output);
+            if gathers {
+                at = self.decode_expected_groups::<L, O, G>(
+                    values,
+                    look_up,
+                    at.read - stop.read,
+                    at,
+                    &mut groups_from,
+                    input,
+                    output,
+                );
             }
             match self.decode_next::<G>(order, self.fields.ignores, at, input, output, stop) {
                 Step::More => {}
                 Step::Ended => return true,
                 Step::Faulty => return false,
             }
-            // A group of symbols only is no run of its own if bytes are ignored among them.
+            // A group of symbols only is no run of its own if bytes are ignored among them. If these
+            // are many, the next group is not far faster in a block either.
             gathers = stop.written == at.written + G::BYTES;
-            gathers &= stop.read - at.read <= SHORT;
+            gathers &= (stop.read - at.read) / 4 <= G::SYMBOLS;
         }
         true
     }
 
-    /// Decodes runs of whole groups of symbols only, with ignored bytes between them.
+    /// Decodes runs of whole groups of symbols only, with ignored bytes between them. Lines are
+    /// tried from a position on.
     #[inline(always)]
     fn decode_runs<L: LookUp, O: ConstantOrder, G: GroupSize>(
         &self,
@@ -91,6 +103,7 @@ impl EncodingRef<'_> {
         look_up: &L,
         read: usize,
         written: usize,
+        lines_from: &mut usize,
         input: &[u8],
         output: &mut [u8],
     ) -> Reached
@@ -107,7 +120,7 @@ impl EncodingRef<'_> {
         let mut at = Reached {
             read,
             written,
-            ignored: self.count_ignored(read, input),
+            ignored: ignored_front(values, &input[read..]),
         };
         let mut goes_on = at.read + at.ignored < input.len();
         while goes_on {
@@ -119,10 +132,13 @@ impl EncodingRef<'_> {
             at = Reached {
                 read: next.read,
                 written: next.written,
-                ignored: self.count_ignored(next.read, input),
+                ignored: ignored_front(values, &input[next.read..]),
             };
-            at = self.decode_expected_lines::<L, O, G>(values, len, at, input, output);
-            goes_on = at.ignored != 0 && at.read + at.ignored < input.len();
+            if at.ignored == 0 {
+                return at;
+            }
+            at = self.decode_expected_lines::<L, O, G>(values, len, at, lines_from, input, output);
+            goes_on = at.read + at.ignored < input.len();
         }
         at
     }
@@ -166,18 +182,6 @@ impl EncodingRef<'_> {
             written: at.written + count * G::BYTES,
             ignored: 0,
         }
-    }
-
-    // Returns how many bytes are ignored after what was read.
-    #[inline(always)]
-    fn count_ignored(&self, read: usize, input: &[u8]) -> usize
-        requires within { read ≤ length input.now }
-        ensures { IsIgnoredFront self.now (drop read input.now) result }
-    {
-        if !self.fields.ignores {
-            return 0;
-        }
-        ignored_front(&self.fields.values.entries, &input[read..])
     }
 
     /// Decodes the group after what was read, and judges it alone.

@@ -3,7 +3,7 @@ use Rattle.data_encoding.proofs.decoding.StepLemmas.{decoded-all, under_way}
 use Rattle.data_encoding_meaning.proofs.decoding.WholeLengthLemmas.{most_bytes-few}
 use Rattle.data_encoding_meaning.proofs.digits.SizeLemmas.{IsSmall-group}
 use Rattle.data_encoding.proofs.encoding.EncodingRef.decode_steps.Goals as goal
-use Rattle.data_encoding.proofs.encoding.EncodingRef.decode_steps.Goals.{then-gathers+then-is_for_blocks, else-gathers}
+use Rattle.data_encoding.proofs.encoding.EncodingRef.decode_steps.Goals.{then-gathers, else-gathers}
 
 pub returns : goal.returns
 returns g c =
@@ -18,8 +18,8 @@ overflow_add-gathers g c =
     let room = most_bytes-few c.args.self.now first.width (length c.args.input.now) in
     let fits : c.if-gathers.at.written ≤ length c.if-gathers.output =
     elim c.if-gathers.branch [
-      | then-gathers+then-is_for_blocks w ↦
-          rw (w.at-is, w.output-is) w.decode_gathered-at.ensures.so_far.fits
+      | then-gathers w ↦
+          rw (w.at-is, w.output-is) w.decode_expected_groups-at.ensures.so_far.fits
       | else-gathers w ↦ rw (w.at-is, w.output-is) c.decode_runs-at.ensures.so_far.fits
     ] in
     record {
