@@ -50,11 +50,11 @@ is 'the version of the package' "$(sed -n 's/^## //p' "$OLDPWD/CHANGELOG.md" | h
 kernel=$OLDPWD/crates/data_encoding_kernel/src
 lines=$OLDPWD/crates/data_encoding/src/encode/lines.rt
 is 'what goes by words' '2 2 1 1 1 1' \
-    "$(grep -cF 'encode_by_order::<EightGroups, G>(&EightGroups,' "$kernel/encode.rt") \
-$(grep -cF 'EightGroups::encode_rest::<G>(' "$kernel/encode.rt") \
-$(grep -cF 'input.len() >= LONG' "$kernel/encode.rt") \
+    "$(grep -cF 'encode_eights::<EightByRows, G>(EightByRows,' "$kernel/encode.rt") \
+$(grep -cF 'encode_short::<G>(symbols,' "$kernel/encode.rt") \
+$(grep -cF 'input.len() >= LONG_DATA_LEN' "$kernel/encode.rt") \
 $(grep -cF 'if input.len() < eight ||' "$kernel/decode.rt") \
-$(grep -cF 'return decode_turns::<Few<L>, G>(&Few { look_up: ' "$kernel/decode.rt") \
+$(grep -cF 'return decode_by_few::<L, O, G>(values, look_up, ' "$kernel/decode.rt") \
 $(grep -cF 'line_bytes / 8 >= G::BYTES' "$lines")"
 
 wanted="the WebAssembly module is not here: \`bindings/javascript/build.sh DIR\` makes a package \

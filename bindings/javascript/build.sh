@@ -68,13 +68,14 @@ put() {
 # by_words: no turn of groups in lanes is taken.
 by_words() {
     local kernel=data_encoding_kernel
-    put $kernel encode.rt 'encode_by_order::<EightGroups, G>(&EightGroups,' \
+    put $kernel encode.rt 'encode_eights::<EightByRows, G>(EightByRows,' \
         'encode_by_order::<OneGroup, G>(\&OneGroup,'
-    put $kernel encode.rt 'EightGroups::encode_rest::<G>(' 'encode_by_order::<OneGroup, G>(\&OneGroup, '
-    put $kernel encode.rt 'input.len() >= LONG' 'input.len() >= LONG \&\& false'
+    put $kernel encode.rt 'encode_short::<G>(symbols,' \
+        'encode_by_order::<OneGroup, G>(\&OneGroup, symbols,'
+    put $kernel encode.rt 'input.len() >= LONG_DATA_LEN' 'input.len() >= LONG_DATA_LEN \&\& false'
     put $kernel decode.rt 'if input.len() < eight ||' 'if input.len() < eight || true ||'
-    put $kernel decode.rt 'return decode_turns::<Few<L>, G>(&Few { look_up: ' \
-        'return decode_turns::<[u8; 256], G>(values, O::ORDER, input, output); // '
+    put $kernel decode.rt 'return decode_by_few::<L, O, G>(values, look_up, ' \
+        'return decode_turns::<[u8; 256], G>(values, O::ORDER, '
     put data_encoding encode/lines.rt 'line_bytes / 8 >= G::BYTES' \
         'line_bytes / 8 >= G::BYTES \&\& false'
 }

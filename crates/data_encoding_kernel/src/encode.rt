@@ -2,23 +2,16 @@
 
 ghost use Rattle.std.specs.Prelude.{◌≡◌, ℕ, ◌+◌, ◌-◌, ◌*◌, ◌/◌, ◌<◌, ◌≤◌, ◌==◌, if◌then◌else◌, List, length, take};
 ghost use Rattle.data_encoding_meaning.specs.text.Base.{group_bytes};
-ghost use Rattle.data_encoding_kernel.specs.AffineSymbols.{HoldsAffineSymbols};
 ghost use Rattle.data_encoding_kernel.specs.Tables.{IsTextBy};
 
 use crate::group_size::GroupSize;
-use crate::lanes::affine_symbols::{AffineSymbols, affine_symbols_of};
-use crate::lanes::encode::{
-    encode_eight, encode_eight_by_sums, encode_four, encode_four_octal, encode_two,
-};
+use crate::lanes::affine_symbols::{AffineSymbols, LONG_DATA_LEN, affine_symbols_of};
+use crate::lanes::encode::{EightByRows, EncodeEight, encode_four, encode_four_octal, encode_two};
 use crate::words::encode_group;
 use data_encoding_meaning::encoding::BitOrder;
 use data_encoding_meaning::limits::ENCODE_LIMIT;
 
-// From this many bytes on, symbols of six bits are looked for as sums: the search takes as long as
-// it saves in half as many.
-const LONG: usize = 192;
-
-// The order is a constant from here on, so that each digit is at a known bit of its word.
+/// Writes the symbols of data.
 #[inline(always)]
 pub fn encode_plain<G: GroupSize>(
     symbols: &[u8; 256],
@@ -32,12 +25,12 @@ pub fn encode_plain<G: GroupSize>(
 {
     // The rest of longer data is encoded by this call too.
     if input.len() < 10 * G::BYTES - 2 {
-        return EightGroups::encode_rest::<G>(symbols, order, input, output);
+        return encode_short::<G>(symbols, order, input, output);
     }
-    if G::WIDTH == 6 && input.len() >= LONG {
+    if G::WIDTH == 6 && input.len() >= LONG_DATA_LEN {
         return encode_long::<G>(symbols, order, input, output);
     }
-    encode_by_order::<EightGroups, G>(&EightGroups, symbols, order, input, output);
+    encode_eights::<EightByRows, G>(EightByRows, symbols, order, input, output);
 }
 
 // The symbols as sums if they have that form. Not inlined, so that shorter data does not pay for
@@ -49,10 +42,41 @@ fn encode_long<G: GroupSize>(symbols: &[u8; 256], order: BitOrder, input: &[u8],
     ensures { IsTextBy symbols.now G.WIDTH order input.now output.new }
 {
     match affine_symbols_of(symbols) {
-        Some(affine) => {
-            encode_by_order::<EightSums, G>(&EightSums { affine }, symbols, order, input, output);
-        }
-        None => encode_by_order::<EightGroups, G>(&EightGroups, symbols, order, input, output),
+        Some(affine) => encode_eights::<AffineSymbols, G>(affine, symbols, order, input, output),
+        None => encode_eights::<EightByRows, G>(EightByRows, symbols, order, input, output),
+    }
+}
+
+// By eight groups in lanes, and then the rest.
+#[inline(always)]
+fn encode_eights<E: EncodeEight, G: GroupSize>(
+    way: E,
+    symbols: &[u8; 256],
+    order: BitOrder,
+    input: &[u8],
+    output: &mut [u8],
+)
+    requires held { E.holds symbols.now way }
+    requires limit { length input.now ≤ ENCODE_LIMIT }
+    requires exact { length output.old ≡ (8 * length input.now + (G.WIDTH - 1)) / G.WIDTH }
+    ensures { IsTextBy symbols.now G.WIDTH order input.now output.new }
+{
+    encode_by_order::<EightGroups<E>, G>(&EightGroups { way }, symbols, order, input, output);
+}
+
+// What is less than eight groups load. Not inlined, so that the loop over eight groups, which takes
+// most of the time, is small.
+#[inline(never)]
+fn encode_short<G: GroupSize>(symbols: &[u8; 256], order: BitOrder, input: &[u8], output: &mut [u8])
+    requires limit { length input.now ≤ ENCODE_LIMIT }
+    requires exact { length output.old ≡ (8 * length input.now + (G.WIDTH - 1)) / G.WIDTH }
+    ensures { IsTextBy symbols.now G.WIDTH order input.now output.new }
+{
+    // One by one, groups of several bytes take longer.
+    if G::BYTES > 1 && input.len() >= 16 {
+        encode_by_order::<FewGroups, G>(&FewGroups, symbols, order, input, output);
+    } else {
+        encode_by_order::<OneGroup, G>(&OneGroup, symbols, order, input, output);
     }
 }
 
@@ -142,65 +166,17 @@ trait EncodeTurn {
 }
 
 /// Eight groups in lanes.
-struct EightGroups;
-
-impl EncodeTurn for EightGroups {
-    ghost number = { λ width. 8 };
-
-    ghost further = { λ width. 2 * (group_bytes width - 1) };
-
-    ghost holds = { λ symbols turn. Unit {0} };
-
-    #[inline(always)]
-    fn groups<G: GroupSize>() -> usize {
-        8
-    }
-
-    #[inline(always)]
-    fn ahead<G: GroupSize>() -> usize {
-        2 * (G::BYTES - 1)
-    }
-
-    #[inline(always)]
-    fn encode<G: GroupSize>(
-        &self,
-        symbols: &[u8; 256],
-        order: BitOrder,
-        input: &[u8],
-        output: &mut [u8],
-    ) {
-        encode_eight::<G>(symbols, order, input, output);
-    }
-
-    // Not inlined, so that the loop over eight groups, which takes most of the time, is small.
-    #[inline(never)]
-    fn encode_rest<G: GroupSize>(
-        symbols: &[u8; 256],
-        order: BitOrder,
-        input: &[u8],
-        output: &mut [u8],
-    ) {
-        // One by one, groups of several bytes take longer.
-        if G::BYTES > 1 && input.len() >= 16 {
-            encode_by_order::<FewGroups, G>(&FewGroups, symbols, order, input, output);
-        } else {
-            encode_by_order::<OneGroup, G>(&OneGroup, symbols, order, input, output);
-        }
-    }
-}
-
-/// Eight groups in lanes, of which the symbols of six bits are sums.
 #[derive(Clone, Copy, Drop)]
-struct EightSums {
-    affine: AffineSymbols,
+struct EightGroups<E> {
+    way: E,
 }
 
-impl EncodeTurn for EightSums {
+impl<E: EncodeEight> EncodeTurn for EightGroups<E> {
     ghost number = { λ width. 8 };
 
     ghost further = { λ width. 2 * (group_bytes width - 1) };
 
-    ghost holds = { λ symbols turn. HoldsAffineSymbols symbols turn.affine };
+    ghost holds = { λ symbols turn. E.holds symbols turn.way };
 
     #[inline(always)]
     fn groups<G: GroupSize>() -> usize {
@@ -220,7 +196,7 @@ impl EncodeTurn for EightSums {
         input: &[u8],
         output: &mut [u8],
     ) {
-        encode_eight_by_sums::<G>(&self.affine, symbols, order, input, output);
+        self.way.encode_eight::<G>(symbols, order, input, output);
     }
 
     #[inline(always)]
@@ -230,11 +206,11 @@ impl EncodeTurn for EightSums {
         input: &[u8],
         output: &mut [u8],
     ) {
-        EightGroups::encode_rest::<G>(symbols, order, input, output);
+        encode_short::<G>(symbols, order, input, output);
     }
 }
 
-// With the order as a constant.
+// The order is a constant from here on, so that each digit is at a known bit of its word.
 #[inline(always)]
 fn encode_by_order<T: EncodeTurn, G: GroupSize>(
     turn: &T,

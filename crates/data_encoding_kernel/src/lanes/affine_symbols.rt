@@ -7,6 +7,10 @@ ghost use Rattle.data_encoding_kernel.specs.AffineSymbols.{HoldsAffineSymbols, a
 use crate::lanes::decode::are_below;
 use std::simd::prelude::*;
 
+/// From this many bytes of data on, symbols of six bits are looked for as sums: the search takes as
+/// long as it saves in half as many.
+pub const LONG_DATA_LEN: usize = 192;
+
 /// Symbols of which each is its value plus a number: the last sixteen have a number each, the
 /// values before them have that of the first of these, and those below a bound another one besides.
 #[derive(Clone, Copy, Drop)]

@@ -214,7 +214,7 @@ pub fn encode_four_octal<G: GroupSize>(
 }
 
 /// A way to find the symbols of eight groups.
-pub trait EncodeEight {
+pub trait EncodeEight: Copy {
     // Whether what is looked up is that of a table of symbols.
     ghost holds: { List ℕ → Self → Type 0 };
 
