@@ -36,9 +36,63 @@ fn is_mixed(gathered: Gathered) -> bool {
     gathered.count <= span - span / 32 && gathered.count >= span / 4
 }
 
+// Runs of fewer bytes than these, with no more ignored bytes between them, take less time in a block
+// if they are many.
+const SHORT_RUN: usize = 12;
+
+const MANY_RUNS: usize = 8;
+
+// Whether many runs of this length may follow, each after as many ignored bytes: a byte is ignored
+// where one would follow the first of them, and the last but one.
+#[inline(always)]
+fn expects_short_runs(values: &[u8; 256], run: usize, at: Reached, input: &[u8]) -> bool
+    requires limit { length input.now ≤ DECODE_LIMIT }
+    requires read { at.read ≤ length input.now }
+{
+    if run >= SHORT_RUN || at.ignored > run {
+        return false;
+    }
+    let step = run + at.ignored;
+    let end = at.read + (MANY_RUNS - 1) * step;
+    end < input.len()
+        && values[input[end] as usize] == IGNORED
+        && values[input[at.read + step] as usize] == IGNORED
+}
+
 impl EncodingRef<'_> {
+    /// Goes on by blocks after a run of this length, which ignored bytes follow, if it is short and
+    /// many like it may follow.
+    #[inline(always)]
+    pub(crate) fn decode_short_runs<L: LookUp, O: ConstantOrder, G: GroupSize>(
+        &self,
+        values: &[u8; 256],
+        look_up: &L,
+        run: usize,
+        at: Reached,
+        from: &mut usize,
+        input: &[u8],
+        output: &mut [u8],
+    ) -> Reached
+        requires reads { Reads self.now values.now G.WIDTH O.ORDER }
+        requires held { L.holds values.now look_up.now }
+        requires limit { length input.now ≤ DECODE_LIMIT }
+        requires exact { decoded_len self.now (length input.now) ≡ Ok (length output.old) }
+        requires so_far { HasDecodedTo self.now input.now at.read at.written false output.old }
+        requires front { IsIgnoredFront self.now (drop at.read input.now) at.ignored }
+        ensures so_far { HasDecodedTo self.now input.now result.read result.written false
+            output.new }
+        ensures front { IsIgnoredFront self.now (drop result.read input.now) result.ignored }
+        ensures further { at.read ≤ result.read }
+    {
+        if !expects_short_runs(values, run, at, input) {
+            return at;
+        }
+        self.decode_expected_groups::<L, O, G>(values, look_up, run, at, from, input, output)
+    }
+
     /// Goes on by blocks after groups with ignored bytes and a run of this length, if a block may
-    /// be worth it. Blocks are tried from a position on, which is put further after a try in vain.
+    /// be worth it. Blocks are tried from a position on, which is put further after each try, so that
+    /// those in vain cost a small part of a text at most.
     #[inline(always)]
     pub(crate) fn decode_expected_groups<L: LookUp, O: ConstantOrder, G: GroupSize>(
         &self,
@@ -65,9 +119,7 @@ impl EncodingRef<'_> {
             return at;
         }
         let next = self.decode_gathered::<L, O, G>(values, look_up, at, input, output);
-        if next.read == at.read {
-            *from = at.read + PAUSE;
-        }
+        *from = next.read + PAUSE;
         next
     }
 

@@ -19,7 +19,7 @@ use data_encoding_kernel::order::ConstantOrder;
 const BLOCK_LEN: usize = 1024;
 
 // A line is copied in pieces of this many bytes, since copying any number of bytes is a call.
-const PIECE_LEN: usize = 16;
+pub(crate) const PIECE_LEN: usize = 16;
 
 // The number of lines of the first block.
 const FIRST_LINES: usize = 4;

@@ -7,6 +7,7 @@ ghost use Rattle.data_encoding.specs.Steps.{HasEnded, HasStepped};
 ghost use Rattle.data_encoding_meaning.specs.text.Lengths.{decoded_len};
 ghost use Rattle.data_encoding_kernel.specs.Tables.{HoldsValues, Reads};
 
+use crate::decode::lines::PIECE_LEN;
 use crate::decode::{DECODE_LIMIT, Stop};
 use crate::encoding::{BitOrder, EncodingRef, IGNORED};
 use crate::error::DecodeKind;
@@ -67,6 +68,7 @@ impl EncodingRef<'_> {
                 stop.read,
                 stop.written,
                 &mut lines_from,
+                &mut groups_from,
                 input,
                 output,
             );
@@ -94,8 +96,8 @@ impl EncodingRef<'_> {
         true
     }
 
-    /// Decodes runs of whole groups of symbols only, with ignored bytes between them. Lines are
-    /// tried from a position on.
+    /// Decodes runs of whole groups of symbols only, with ignored bytes between them. Lines, and
+    /// blocks of short runs, are each tried from a position on.
     #[inline(always)]
     fn decode_runs<L: LookUp, O: ConstantOrder, G: GroupSize>(
         &self,
@@ -104,6 +106,7 @@ impl EncodingRef<'_> {
         read: usize,
         written: usize,
         lines_from: &mut usize,
+        groups_from: &mut usize,
         input: &[u8],
         output: &mut [u8],
     ) -> Reached
@@ -137,10 +140,60 @@ impl EncodingRef<'_> {
             if at.ignored == 0 {
                 return at;
             }
-            at = self.decode_expected_lines::<L, O, G>(values, len, at, lines_from, input, output);
+            at = self.decode_expected_runs::<L, O, G>(
+                values,
+                look_up,
+                len,
+                at,
+                lines_from,
+                groups_from,
+                input,
+                output,
+            );
             goes_on = at.read + at.ignored < input.len();
         }
         at
+    }
+
+    // Decodes the runs that follow one of this length, if more like it may follow: lines if it is
+    // long enough for one, or else a block.
+    #[inline(always)]
+    fn decode_expected_runs<L: LookUp, O: ConstantOrder, G: GroupSize>(
+        &self,
+        values: &[u8; 256],
+        look_up: &L,
+        len: usize,
+        at: Reached,
+        lines_from: &mut usize,
+        groups_from: &mut usize,
+        input: &[u8],
+        output: &mut [u8],
+    ) -> Reached
+        requires reads { Reads self.now values.now G.WIDTH O.ORDER }
+        requires held { L.holds values.now look_up.now }
+        requires limit { length input.now ≤ DECODE_LIMIT }
+        requires exact { decoded_len self.now (length input.now) ≡ Ok (length output.old) }
+        requires few { len ≤ length input.now }
+        requires whole { len % G.SYMBOLS ≡ 0 }
+        requires so_far { HasDecodedTo self.now input.now at.read at.written false output.old }
+        requires front { IsIgnoredFront self.now (drop at.read input.now) at.ignored }
+        ensures so_far { HasDecodedTo self.now input.now result.read result.written false
+            output.new }
+        ensures front { IsIgnoredFront self.now (drop result.read input.now) result.ignored }
+        ensures further { at.read ≤ result.read }
+    {
+        if len < PIECE_LEN {
+            return self.decode_short_runs::<L, O, G>(
+                values,
+                look_up,
+                len,
+                at,
+                groups_from,
+                input,
+                output,
+            );
+        }
+        self.decode_expected_lines::<L, O, G>(values, len, at, lines_from, input, output)
     }
 
     /// Decodes a run of whole groups of symbols only, which follows ignored bytes. The ignored
