@@ -21,12 +21,12 @@ use data_encoding_kernel::order::ConstantOrder;
 
 // The length of the first block, and that of the further ones. The first is short, since ignored
 // bytes that are few may follow.
-const FIRST: usize = 64;
+const FIRST_LEN: usize = 64;
 
-const BLOCK: usize = 512;
+const BLOCK_LEN: usize = 512;
 
 // Fewer bytes than these make no block, and a longer run is better decoded in place.
-const SHORT: usize = 32;
+const LEAST_LEN: usize = 32;
 
 // Whether a block like this one is worth its copy: at least one byte of 32 is ignored, and one of
 // four is not.
@@ -38,7 +38,8 @@ fn is_mixed(gathered: Gathered) -> bool {
 
 impl EncodingRef<'_> {
     /// Goes on by blocks after groups with ignored bytes and a run of this length, if a block may
-    /// be worth it. Blocks are tried from a position on, which is put further after a try in vain.
+    /// be worth it. Blocks are tried from a position on, and after one without a group only from a
+    /// later position on.
     #[inline(always)]
     pub(crate) fn decode_expected_groups<L: LookUp, O: ConstantOrder, G: GroupSize>(
         &self,
@@ -61,7 +62,7 @@ impl EncodingRef<'_> {
         ensures front { IsIgnoredFront self.now (drop result.read input.now) result.ignored }
         ensures further { at.read ≤ result.read }
     {
-        if run >= SHORT || input.len() - at.read < SHORT || at.read < *from {
+        if run >= LEAST_LEN || input.len() - at.read < LEAST_LEN || at.read < *from {
             return at;
         }
         let next = self.decode_gathered::<L, O, G>(values, look_up, at, input, output);
@@ -94,9 +95,9 @@ impl EncodingRef<'_> {
         ensures front { IsIgnoredFront self.now (drop result.read input.now) result.ignored }
         ensures further { at.read ≤ result.read }
     {
-        let mut block = [0; BLOCK];
+        let mut block = [0; BLOCK_LEN];
         let mut reached = at;
-        let mut len = FIRST;
+        let mut len = FIRST_LEN;
         let mut goes_on = true;
         while goes_on {
             let gathered = gather_symbols(values, &input[reached.read..], &mut block[..len]);
@@ -113,7 +114,7 @@ impl EncodingRef<'_> {
                 return next;
             }
             reached = next;
-            len = BLOCK;
+            len = BLOCK_LEN;
             goes_on = is_mixed(gathered);
         }
         reached
