@@ -36,6 +36,7 @@ asked_for='data_encoding/src/decode.rt:let mut output = zeros(alloc, len)?;
 data_encoding/src/encode.rt:let mut output = zeros(alloc, self.encode_len(input.len()))?;
 data_encoding/src/encode/append.rt:output.reserve(len)?;
 data_encoding/src/encode/append.rt:bytes.resize(start + len, 0).unwrap();
+data_encoding/src/encode/append.rt:bytes.resize(start + (first_len + second_len), 0).unwrap();
 data_encoding/src/encode/encoder.rt:let Ok(encoding) = self.clone() else {
 data_encoding/src/encode/encoder.rt:output.reserve(len + blocks_len)?;
 data_encoding/src/memory.rt:let mut bytes = Vec::with_capacity(alloc, len)?;

@@ -1,4 +1,5 @@
 -- The text of data, by the tables of an encoding.
+pub mod AppendLemmas
 pub mod LastTurnLemmas
 pub mod LinePieceLemmas
 pub mod LineTableLemmas

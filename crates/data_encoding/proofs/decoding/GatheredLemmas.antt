@@ -62,7 +62,7 @@ gathered-further base part block new read size count more are within next =
     (sym (take-rewritten count block new within more))
 
 -- Without the last of the gathered bytes, those before them are gathered.
-pub gathered-before : {base : Base} {part bytes : List ℕ} {span last short : ℕ}
+gathered-before : {base : Base} {part bytes : List ℕ} {span last short : ℕ}
     → AreKept base part span bytes → span ≤ length part → EndsBefore base (take span part) last
     short
     → short ≤ length (take span part) → (count : ℕ) → length bytes ≡ count + last
@@ -128,7 +128,7 @@ run_bytes-gathered base width ks =
 
 -- This many whole groups of symbols, gathered among ignored bytes that precede and separate them:
 -- a text is decoded to the end of the last, if their bytes were written.
-pub after-gathered : (base : Base) → IsWidth base.width → (text : List ℕ)
+after-gathered : (base : Base) → IsWidth base.width → (text : List ℕ)
     → {read written size span : ℕ} (count : ℕ) {bytes old : List ℕ} (new : List ℕ)
     → HasDecodedTo base text read written false old
     → IsGathered base size (drop read text) bytes span

@@ -218,7 +218,7 @@ module _ (base : Base) (width : IsWidth base.width) where
           ∙ drop_at _ _ (i * enc) (front-len i (count - i) (omega (arith, few)))
 
 -- Lines of which the last bytes are left out.
-pub lines-alone : (len n : ℕ) (separator rest block : List ℕ) → HasLines len separator rest n block
+lines-alone : (len n : ℕ) (separator rest block : List ℕ) → HasLines len separator rest n block
     → HasLines len separator rest n (take (n * len) block)
 lines-alone len n separator rest block has = record {
   within = has.within;
@@ -232,29 +232,34 @@ lines-alone len n separator rest block has = record {
   ends = has.ends;
 }
 
--- The lines after what was read, as they were copied.
-module _ (base : Base) (width : IsWidth base.width) (text : List ℕ) {read skip : ℕ}
-    (front : IsIgnoredFront base (drop read text) skip) (inside : read ≤ length text) (len g lines
-    : ℕ)
-    (block : List ℕ) (len_is : len ≡ g * group_symbols base.width) (some : 0 < g)
-    (has : HasLines len (take skip (drop read text)) (drop (read + skip) text) lines block) where
+-- Lines of whole groups after what was read, as they were copied to a block.
+record AreCopied (base : Base) (text : List ℕ) (read skip len g lines : ℕ) (block : List ℕ)
+    : Type 0 where
+  front : IsIgnoredFront base (drop read text) skip
+  inside : read ≤ length text
+  len_is : len ≡ g * group_symbols base.width
+  some : 0 < g
+  has : HasLines len (take skip (drop read text)) (drop (read + skip) text) lines block
+
+module _ {base : Base} (width : IsWidth base.width) {text : List ℕ} {read skip len g lines : ℕ}
+    {block : List ℕ} (copied : AreCopied base text read skip len g lines block) where
   -- the position after this many lines
   abbrev after : ℕ → ℕ
   after n = read + n * (skip + len)
 
   skip_is : length (take skip (drop read text)) ≡ skip
-  skip_is = length-take-le skip (drop read text) front.within
+  skip_is = length-take-le skip (drop read text) copied.front.within
 
   within-after : (n : ℕ) → n ≤ lines → after n + skip ≤ length text
   within-after n few =
       omega (
         arith,
         mul-le-mul_right (len + skip) few,
-        rw skip_is at has.within,
-        front.within,
+        rw skip_is at copied.has.within,
+        copied.front.within,
         length-drop read text,
         length-drop (read + skip) text,
-        inside,
+        copied.inside,
       )
 
   next : (n : ℕ) → read + skip + (n * (len + skip) + len) ≡ after (n + 1)
@@ -264,23 +269,23 @@ module _ (base : Base) (width : IsWidth base.width) (text : List ℕ) {read skip
   separators : (n : ℕ) → n ≤ lines → take skip (drop (after n) text) ≡ take skip (drop read text)
   separators zero few = ap (λ k. take skip (drop k text)) (omega arith)
   separators (suc n) few =
-      let ends = rw skip_is at (has.ends n (omega (arith, few))) in
+      let ends = rw skip_is at (copied.has.ends n (omega (arith, few))) in
       ap (λ k. take skip (drop k text)) (omega arith)
       ∙ ap (take skip) (sym (drop-drop (n * (len + skip) + len) (read + skip) text
       ∙ ap (λ k. drop k text) (next n)))
       ∙ ends
 
-  pub front-after : (n : ℕ) → n ≤ lines → IsIgnoredFront base (drop (after n) text) skip
+  front-after : (n : ℕ) → n ≤ lines → IsIgnoredFront base (drop (after n) text) skip
   front-after n few = record {
     within = omega (arith, within-after n few, length-drop (after n) text);
-    none = ap (kept base) (separators n few) ∙ front.none;
+    none = ap (kept base) (separators n few) ∙ copied.front.none;
   }
 
   -- a line in the text
   line-there : (n : ℕ) → n < lines
       → take len (drop (n * len) block) ≡ take len (drop (after n + skip) text)
   line-there n less =
-      rw skip_is at (has.same n less)
+      rw skip_is at (copied.has.same n less)
       ∙ ap (take len) (drop-drop (n * (len + skip)) (read + skip) text
       ∙ ap (λ k. drop k text) (omega arith))
 
@@ -308,7 +313,7 @@ module _ (base : Base) (width : IsWidth base.width) (text : List ℕ) {read skip
         ∙ ap (λ l. get_or l k 0) (line-there n less)
         ∙ get_or-take len (drop (after n + skip) text) k 0 inside in
         let place : (n + 1) * len ≡ (n + 1) * g * dec =
-        ap (λ m. (n + 1) * m) len_is ∙ sym (mul_assoc (n + 1) g dec) in
+        ap (λ m. (n + 1) * m) copied.len_is ∙ sym (mul_assoc (n + 1) g dec) in
         let far : n * len + k < count * dec =
         omega (arith, inside, place, add-mul n 1 len, mul-le-mul_right dec groups) in
         rw (← same) (run.are_symbols (n * len + k) far)
@@ -321,15 +326,16 @@ module _ (base : Base) (width : IsWidth base.width) (text : List ℕ) {read skip
         let enc = group_bytes base.width in
         let dec = group_symbols base.width in
         let few : n * g + g ≤ count = omega (arith, groups, add-mul n 1 g) in
-        let before : n * g * dec ≡ n * len = mul_assoc n g dec ∙ ap (λ m. n * m) (sym len_is) in
+        let before : n * g * dec ≡ n * len =
+        mul_assoc n g dec ∙ ap (λ m. n * m) (sym copied.len_is) in
         ap (take line_bytes)
         (sym (drop-drop (n * line_bytes) written new) ∙ ap (drop (n * line_bytes)) wrote
         ∙ ap (λ m. drop m rest) (sym (mul_assoc n g enc)))
         ∙ part-written base width block run room (n * g) g few
         ∙ ap (λ m. run_bytes base (take (g * dec) (drop m block))) before
-        ∙ ap (λ m. run_bytes base (take m (drop (n * len) block))) (sym len_is)
+        ∙ ap (λ m. run_bytes base (take m (drop (n * len) block))) (sym copied.len_is)
         ∙ ap (run_bytes base) (line-there n less)
-        ∙ ap (λ m. run_bytes base (take m (drop (after n + skip) text))) len_is
+        ∙ ap (λ m. run_bytes base (take m (drop (after n + skip) text))) copied.len_is
 
     -- one line more
     step : (n : ℕ) → n < lines → (n + 1) * g ≤ count
@@ -344,16 +350,17 @@ module _ (base : Base) (width : IsWidth base.width) (text : List ℕ) {read skip
         omega (arith, fits, total, add-mul n 1 line_bytes, mul-le-mul_right enc groups) in
         let more : n + 1 ≤ lines = omega (arith, less) in
         let within : g * dec ≤ length text - (after n + skip) =
-        omega (arith, within-after (n + 1) more, len_is) in
-        moved (omega (arith, len_is)) (omega (arith, add-mul n 1 line_bytes))
-        (after-run base width text g new far (front-after n (omega (arith, less))) some within
-        (λ k inside. symbols-there n less groups k (omega (arith, inside, len_is)))
+        omega (arith, within-after (n + 1) more, copied.len_is) in
+        moved (omega (arith, copied.len_is)) (omega (arith, add-mul n 1 line_bytes))
+        (after-run base width text g new far (front-after n (omega (arith, less))) copied.some
+        within
+        (λ k inside. symbols-there n less groups k (omega (arith, inside, copied.len_is)))
         few
         (take-add at line_bytes new
         ∙ ap (λ l. take at new ++ l) (bytes-there n less groups)))
 
     -- the text was read up to the end of any of the lines whose groups were decoded
-    pub lines-read : (n : ℕ) → n ≤ lines → n * g ≤ count
+    lines-read : (n : ℕ) → n ≤ lines → n * g ≤ count
         → HasDecodedTo base text (after n) (written + n * line_bytes) false new
     lines-read zero few groups = moved (omega arith) (omega arith) so_far
     lines-read (suc n) few groups =
@@ -471,13 +478,20 @@ module _ {base : Base} {text : List ℕ} {sizes : Sizes} {read written skip : �
     decoded-few =
         lines-decoded len (group_symbols base.width) lines count whole_len some groups-few
 
+    copied : AreCopied base text read skip len (len / group_symbols base.width) lines
+        (take (lines * len) block)
+    copied = record {
+      front = front;
+      inside = s.so_far.within;
+      len_is = line-groups len (group_symbols base.width) lines count whole_len some groups-few;
+      some = groups-some len (group_symbols base.width) lines count whole_len some groups-few;
+      has = there;
+    }
+
     pub front-lines : (n : ℕ) → n ≡ count / (len / sizes.symbols)
         → IsIgnoredFront base (drop (read + n * (skip + len)) text) skip
     front-lines n is =
-        front-after base s.width text front s.so_far.within len
-        (len / group_symbols base.width) lines (take (lines * len) block)
-        (line-groups len (group_symbols base.width) lines count whole_len some groups-few)
-        (groups-some len (group_symbols base.width) lines count whole_len some groups-few) there n
+        front-after s.width copied n
         (omega (arith, rw s.symbols_is at is, decoded-few))
 
     pub so_far-lines : (n : ℕ) → n ≡ count / (len / sizes.symbols)
@@ -496,9 +510,7 @@ module _ {base : Base} {text : List ℕ} {sizes : Sizes} {read written skip : �
           room-count s there part-few count groups-few,
         ) in
         rw (s.symbols_is, s.bytes_is)
-        (lines-read base s.width text front s.so_far.within len (len / size) lines
-        (take (lines * len) block) (line-groups len size lines count whole_len some groups-few)
-        (groups-some len size lines count whole_len some groups-few) there run room
+        (lines-read s.width copied run room
         (after_none s rest rest_len).so_far
         (omega (arith, room, length-rewritten written output rest s.so_far.fits))
         (drop-put_mid_at written output rest s.so_far.fits) n

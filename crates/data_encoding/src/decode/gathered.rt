@@ -21,12 +21,12 @@ use data_encoding_kernel::order::ConstantOrder;
 
 // The length of the first block, and that of the further ones. The first is short, since ignored
 // bytes that are few may follow.
-const FIRST: usize = 64;
+const FIRST_LEN: usize = 64;
 
-const BLOCK: usize = 512;
+const BLOCK_LEN: usize = 512;
 
 // Fewer bytes than these make no block, and a longer run is better decoded in place.
-const SHORT: usize = 32;
+const LEAST_LEN: usize = 32;
 
 // Whether a block like this one is worth its copy: at least one byte of 32 is ignored, and one of
 // four is not.
@@ -115,7 +115,7 @@ impl EncodingRef<'_> {
         ensures front { IsIgnoredFront self.now (drop result.read input.now) result.ignored }
         ensures further { at.read ≤ result.read }
     {
-        if run >= SHORT || input.len() - at.read < SHORT || at.read < *from {
+        if run >= LEAST_LEN || input.len() - at.read < LEAST_LEN || at.read < *from {
             return at;
         }
         let next = self.decode_gathered::<L, O, G>(values, look_up, at, input, output);
@@ -146,9 +146,9 @@ impl EncodingRef<'_> {
         ensures front { IsIgnoredFront self.now (drop result.read input.now) result.ignored }
         ensures further { at.read ≤ result.read }
     {
-        let mut block = [0; BLOCK];
+        let mut block = [0; BLOCK_LEN];
         let mut reached = at;
-        let mut len = FIRST;
+        let mut len = FIRST_LEN;
         let mut goes_on = true;
         while goes_on {
             let gathered = gather_symbols(values, &input[reached.read..], &mut block[..len]);
@@ -165,7 +165,7 @@ impl EncodingRef<'_> {
                 return next;
             }
             reached = next;
-            len = BLOCK;
+            len = BLOCK_LEN;
             goes_on = is_mixed(gathered);
         }
         reached

@@ -30,13 +30,13 @@ const LONGEST_LINE: usize = 256;
 // Blocks are tried only if this many lines seem to follow.
 const LINES_AHEAD: usize = 3;
 
-/// How many bytes are read after a block was tried in vain, before another one is tried.
+/// How many bytes are read after a block that decoded nothing, before another one is tried.
 pub(crate) const PAUSE: usize = 1024;
 
 impl EncodingRef<'_> {
     /// Decodes the lines that follow, if lines of this length may follow. They are tried from a
-    /// position on, which is put further after a try in vain, so that all of these together cost a
-    /// small part of a text at most.
+    /// position on, and after a try that decodes few of them only from a later position on, so that
+    /// all such tries cost a small part of a text at most.
     #[inline(always)]
     pub(crate) fn decode_expected_lines<L: LookUp, O: ConstantOrder, G: GroupSize>(
         &self,
@@ -123,8 +123,8 @@ impl EncodingRef<'_> {
     }
 
     // Decodes block after block, and returns the number of lines. Each block has twice as many
-    // lines as the one before it, as long as there is room, so that no more is copied in vain than
-    // was decoded before.
+    // lines as the one before it, as long as there is room: but for four lines, it has no more than
+    // were decoded before.
     #[inline(always)]
     fn decode_blocks<L: LookUp, O: ConstantOrder, G: GroupSize>(
         &self,

@@ -1,6 +1,6 @@
 //! Texts that are appended to a string.
 
-ghost use Rattle.std.specs.Prelude.{◌≡◌, ◌+◌, ◌≤◌, ◌++◌, length, IsOk, OnErr, OnOk};
+ghost use Rattle.std.specs.Prelude.{◌≡◌, ◌+◌, ◌<◌, ◌≤◌, ◌++◌, All, length, IsOk, OnErr, OnOk};
 ghost use Rattle.std.specs.String.{string_bytes, string_capacity, string_len};
 ghost use Rattle.data_encoding_meaning.specs.specification.Fields.{IsSpecified};
 ghost use Rattle.data_encoding_meaning.specs.text.Text.{text_of};
@@ -68,14 +68,53 @@ impl Encoding {
             ≡ string_len output.old + length (text_of self.now input.now) }
         ensures capacity { string_capacity output.old ≤ string_capacity output.new }
     {
-        if len == 0 {
-            return;
-        }
         let empty = String::new(*output.allocator());
         let mut bytes = mem::replace(output, empty).into_bytes();
         let start = bytes.len();
         bytes.resize(start + len, 0).unwrap();
         self.encode_mut(input, &mut bytes[start..]);
         *output = unsafe { String::from_utf8_unchecked(bytes) };
+    }
+
+    // Appends the texts of two inputs, one after the other, if there is room for both. The texts
+    // have these lengths.
+    pub(crate) fn append_both<A: Allocator + Copy>(
+        &self,
+        first: &[u8],
+        first_len: usize,
+        second: &[u8],
+        second_len: usize,
+        output: &mut String<A>,
+    )
+        requires first_limit { length first.now ≤ ENCODE_LIMIT }
+        requires second_limit { length second.now ≤ ENCODE_LIMIT }
+        requires first_len { first_len ≡ length (text_of self.now first.now) }
+        requires second_len { second_len ≡ length (text_of self.now second.now) }
+        requires room { string_len output.old + (first_len + second_len)
+            ≤ string_capacity output.old }
+        ensures { string_bytes output.new ≡ string_bytes output.old
+            ++ (text_of self.now first.now ++ text_of self.now second.now) }
+    {
+        let empty = String::new(*output.allocator());
+        let mut bytes = mem::replace(output, empty).into_bytes();
+        let start = bytes.len();
+        bytes.resize(start + (first_len + second_len), 0).unwrap();
+        self.encode_both(first, first_len, second, &mut bytes[start..]);
+        *output = unsafe { String::from_utf8_unchecked(bytes) };
+    }
+
+    // Writes the texts of two inputs one after the other. That of the first has this length.
+    fn encode_both(&self, first: &[u8], len: usize, second: &[u8], output: &mut [u8])
+        requires first { length first.now ≤ ENCODE_LIMIT }
+        requires second { length second.now ≤ ENCODE_LIMIT }
+        requires len { len ≡ length (text_of self.now first.now) }
+        requires exact { length output.old ≡ len + length (text_of self.now second.now) }
+        ensures text { output.new ≡ text_of self.now first.now ++ text_of self.now second.now }
+        ensures ascii { All (λ byte. byte < 128) output.new }
+    {
+        self.encode_mut(first, &mut output[..len]);
+        if len < output.len() {
+            self.encode_mut(second, &mut output[len..]);
+        }
     }
 }

@@ -81,8 +81,7 @@ impl Encoding {
         let blocks_len = self.encode_len(blocks.len());
         output.reserve(len + blocks_len)?;
         held.try_extend_from_slice(first).unwrap();
-        self.append_within(held.as_slice(), len, output);
-        self.append_within(blocks, blocks_len, output);
+        self.append_both(held.as_slice(), len, blocks, blocks_len, output);
         held.clear();
         held.try_extend_from_slice(left).unwrap();
         Ok(())

@@ -21,9 +21,9 @@ const MOST_AHEAD: usize = 8;
 const FEW_LINES: usize = 3;
 
 impl EncodingRef<'_> {
-    // Few lines are encoded one by one, and more of them in blocks. A single line is not a turn of
-    // a loop, which would first load all that lines use. Not inlined, so that texts without lines
-    // do not pay for it.
+    // Long lines are encoded where they stand; few shorter ones one by one, and more of them in
+    // blocks. A single line is not a turn of a loop, which would first load all that lines use. Not
+    // inlined, so that texts without lines do not pay for it.
     #[inline(never)]
     pub(super) fn encode_lines<G: GroupSize>(&self, input: &[u8], output: &mut [u8])
         requires width { self.now.width ≡ G.WIDTH }

@@ -1,4 +1,4 @@
-use Rattle.std.proofs.Common.{◌≡◌, ◌<◌, ◌-◌, ◌*◌, ◌/◌, ◌%◌, ℕ, length, sym, ap, ◌∙◌, arith, rules, take-append-drop, ◌++◌, length-append}
+use Rattle.std.proofs.Common.{◌≡◌, ◌<◌, ◌-◌, ◌*◌, ◌/◌, ◌%◌, ℕ, length, sym, ap, ◌∙◌, arith, rules, take-append-drop, ◌++◌, append_assoc, length-append, refl}
 use Rattle.std.proofs.Math.Nat.{mul-mod_left}
 use Rattle.std.proofs.lemmas.Nat.{div-add-mod', mod_below}
 use Rattle.std.specs.String.{string_bytes}
@@ -25,8 +25,8 @@ returns-clause-pieces g c =
     let blocks = c.split_at-2.result.0.now in
     let left = c.split_at-2.result.1.now in
     let old = string_bytes c.args.output.now in
-    let half = string_bytes c.append_within.new.output in
-    let whole = string_bytes c.append_within-2.new.output in
+    let half = old ++ text_of seen block in
+    let whole = string_bytes c.append_both.new.output in
     let cut : c.args.input.now ≡ first ++ rest =
     rw (c.split_at.ensures.front, c.split_at.ensures.back)
     (sym (take-append-drop _ c.args.input.now)) in
@@ -50,14 +50,15 @@ returns-clause-pieces g c =
       div-add-mod' (length rest) c.args.block_len,
       mod_below (length rest) c.args.block_len (omega (arith, c.requires.short)),
     )) in
-    let one : half ≡ old ++ text_of seen block =
-    c.append_within.ensures.text ∙ ap (λ l. l ++ text_of seen block) c.reserve.ensures.bytes in
-    let other : whole ≡ half ++ text_of seen blocks = c.append_within-2.ensures.text in
+    let other : whole ≡ half ++ text_of seen blocks =
+    c.append_both.ensures
+    ∙ ap (λ l. l ++ (text_of seen block ++ text_of seen blocks)) c.reserve.ensures.bytes
+    ∙ sym (append_assoc old (text_of seen block) (text_of seen blocks)) in
     let end : c.try_extend_from_slice-3.new.self.items ≡ left = search rules in
     λ before bytes has.
     rw end (HasEncoded-blocks seen ruled before bytes old c.args.held.now.items has
     c.args.input.now first rest block blocks left half whole cut parted filled full aligned short
-    one other)
+    refl other)
 
 pub unwrap-requires : goal.unwrap-requires
 unwrap-requires g c =
@@ -87,8 +88,8 @@ overflow_add-len g c =
       c.requires.most,
     )
 
-pub append_within-requires-clause-limit : goal.append_within-requires-clause-limit
-append_within-requires-clause-limit g c =
+pub append_both-requires-clause-first_limit : goal.append_both-requires-clause-first_limit
+append_both-requires-clause-first_limit g c =
     omega (
       arith,
       ap length c.as_slice.ensures.value,
@@ -97,8 +98,8 @@ append_within-requires-clause-limit g c =
       c.requires.most,
     )
 
-pub append_within-requires-2-clause-limit : goal.append_within-requires-2-clause-limit
-append_within-requires-2-clause-limit g c =
+pub append_both-requires-clause-second_limit : goal.append_both-requires-clause-second_limit
+append_both-requires-clause-second_limit g c =
     omega (
       arith,
       c.split_at-2.ensures.front_len,

@@ -1,36 +1,12 @@
-use Rattle.std.proofs.Common.{◌≡◌, ◌+◌, ◌-◌, ℕ, List, length, take, drop, rules, arith, sym, subst, ap, ◌∙◌, ◌++◌, append-nil, length-append, length-take-le}
+use Rattle.std.proofs.Common.{◌≡◌, ◌+◌, length, take, rules, arith, sym, subst}
 use Rattle.std.proofs.lemmas.Grind.{common_steps}
-use Rattle.std.proofs.lemmas.List.{nil_from_length, take_at}
 use Rattle.std.proofs.lemmas.Str.{IsUtf8-append, IsUtf8-from_ascii, IsUtf8-string_bytes}
 use Rattle.std.proofs.lemmas.Str.Ascii.{IsAscii-from_all}
 use Rattle.std.specs.Str.{IsUtf8}
 use Rattle.std.specs.String.{string_bytes}
-use borrow.Rule.Slice.PartMut.{put_mid}
 use Rattle.data_encoding_meaning.specs.text.Text.{text_of}
-use Rattle.data_encoding_meaning.proofs.lists.WriteLemmas.{put_mid-end}
+use Rattle.data_encoding.proofs.text.AppendLemmas.{written}
 use Rattle.data_encoding.proofs.encoding.Encoding.append_within.Goals as goal
-
--- the end of a list is overwritten, and what follows its length is dropped
-written : (old now text made items : List ℕ) (start added len : ℕ) → take start now ≡ old
-    → length now ≡ len → len ≡ start + added → length made ≡ added → text ≡ made
-    → take len (put_mid start (length now - start) now text
-    ++ drop (length (put_mid start (length now - start) now text)) items) ≡ old ++ text
-written old now text made items start added len front long sized as_long is =
-    let whole = put_mid-end start now text ∙ ap (λ l. l ++ text) front in
-    let before = ap length (sym front)
-    ∙ length-take-le start now (omega (arith, long, sized)) in
-    take_at (put_mid start (length now - start) now text) _ len
-    (ap length whole ∙ length-append old text
-    ∙ omega (arith, before, sized, ap length is, as_long))
-    ∙ whole
-
-pub returns-then-len-eq0-clause-text : goal.returns-then-len-eq0-clause-text
-returns-then-len-eq0-clause-text g c =
-    let input = c.args.input.now in
-    let old = string_bytes c.args.output.now in
-    let empty = nil_from_length (text_of c.args.self.now input)
-    (sym c.requires.len ∙ c.if-len-eq0.true) in
-    sym (ap (λ l. old ++ l) empty ∙ append-nil old)
 
 pub returns-clause-text : goal.returns-clause-text
 returns-clause-text g c =
