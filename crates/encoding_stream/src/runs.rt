@@ -7,7 +7,7 @@ ghost use Rattle.data_encoding.specs.Grammar.{Means};
 ghost use Rattle.data_encoding.specs.Lengths.{decoded_len, most_bytes};
 ghost use Rattle.data_encoding.specs.Pieces.{IsOfWholeGroup};
 ghost use Rattle.encoding_stream.specs.Pieces.{base_of_pieces, bytes_due, most_completed, FillsGroups};
-ghost use Rattle.encoding_stream.specs.Reading.{has_final, whole_len, AreWholeGroups, ReadsAllGroups, ReadsOn, ReadsRun};
+ghost use Rattle.encoding_stream.specs.Reading.{has_final, whole_len, AreWholeGroups, IsOfWholeGroups, ReadsAllGroups, ReadsOn, ReadsRun};
 
 use crate::pieces::BufferDecoder;
 use data_encoding::laws::steps::{pieces, whole_groups};
@@ -137,7 +137,7 @@ impl BufferDecoder<'_> {
         ensures read { IfOk result (λ run. run.0 ≤ length text.now) }
         ensures written { IfOk result (λ run. run.1 ≤ length output.new) }
         ensures fault { IfErr result (λ partial. ReadsRun (base_of_pieces self.now) text.now
-            (take partial.written output.new) (Some partial.error) false) }
+            (take partial.written output.new) (Some partial.error)) }
         ensures position { IfErr result (λ partial. partial.error.position < length text.now) }
         ensures within { IfErr result (λ partial. partial.written ≤ length output.new) }
         ensures len { length output.new ≡ length output.old }
@@ -168,7 +168,7 @@ impl BufferDecoder<'_> {
     fn are_whole(&self, read: usize, written: usize) -> bool
         ensures whole { result ≡ true → (text bytes : List ℕ) → length text ≡ read
             → length bytes ≡ written → Means (base_of_pieces self.now) text bytes
-            → AreWholeGroups (base_of_pieces self.now) text }
+            → IsOfWholeGroups (base_of_pieces self.now) text }
         ensures few { result ≡ true → written ≤ most_bytes (base_of_pieces self.now) read
             → FillsGroups (base_of_pieces self.now) 0 read 0 written }
         ensures by_padding { is_padded (base_of_pieces self.now) ≡ true → result ≡ true }
@@ -188,9 +188,13 @@ impl BufferDecoder<'_> {
     // Whether one of the groups of a text that means this many bytes is final. If texts may not be
     // concatenated, it is the group that does not mean a whole group of bytes.
     fn has_final(&self, written: usize) -> bool
-        ensures { (text bytes : List ℕ) → length bytes ≡ written
+        ensures ends { (text bytes : List ℕ) → length bytes ≡ written
             → Means (base_of_pieces self.now) text bytes
             → has_final (base_of_pieces self.now) text ≡ result }
+        ensures goes_on { result ≡ false → (text bytes : List ℕ) → length bytes ≡ written
+            → Means (base_of_pieces self.now) text bytes
+            → IsOfWholeGroups (base_of_pieces self.now) text
+            → AreWholeGroups (base_of_pieces self.now) text }
     {
         whole_groups();
         !self.encoding.concatenates() && written % self.encoding.group_bytes() != 0
