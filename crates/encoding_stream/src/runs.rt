@@ -1,6 +1,6 @@
 //! Whole groups of a text that is decoded piece by piece, which are decoded in place.
 
-ghost use Rattle.std.specs.Prelude.{◌≡◌, ℕ, ◌+◌, ◌≤◌, ◌<◌, ◌/◌, ◌%◌, true, false, List, length, take, IfOk, IfErr, None, Ok, Some};
+ghost use Rattle.std.specs.Prelude.{◌≡◌, ℕ, ◌+◌, ◌≤◌, ◌<◌, ◌/◌, ◌%◌, ◌==◌, true, false, List, length, take, IfOk, IfErr, None, Ok, Some};
 ghost use Rattle.data_encoding.specs.declared.decode.TheConstants.{DECODE_LIMIT};
 ghost use Rattle.data_encoding.specs.Base.{group_bytes, group_symbols, ignores_some, is_padded};
 ghost use Rattle.data_encoding.specs.Grammar.{Means};
@@ -95,8 +95,12 @@ impl BufferDecoder<'_> {
     // Whether the last group of a piece that means this many bytes is known to be whole symbols. If
     // not, the bytes of the last group are left where they are kept, as byte by byte.
     fn fills_groups(&self, written: usize) -> bool {
-        written % self.encoding.group_bytes() == 0
-            || self.encoding.concatenates() && !self.encoding.ignores_bytes()
+        let is_plain = self.encoding.concatenates() && !self.encoding.ignores_bytes();
+        match self.encoding.group_bytes() {
+            5 => is_plain || written % 5 == 0,
+            3 => is_plain || written % 3 == 0,
+            _ => true,
+        }
     }
 
     // Returns the positions and the bytes of the last group of a piece that was just read. Places
@@ -179,10 +183,24 @@ impl BufferDecoder<'_> {
     {
         pieces();
         whole_groups();
-        if !self.encoding.ignores_bytes() && read % self.size == 0 {
+        if !self.encoding.ignores_bytes() && self.has_whole_len(read) {
             return true;
         }
         self.encoding.is_padded() || written % self.encoding.group_bytes() == 0
+    }
+
+    // Whether this many bytes are as long as whole groups. It divides by constants, as
+    // `count_groups`.
+    fn has_whole_len(&self, len: usize) -> bool
+        ensures { result ≡ (len % self.now.size == 0) }
+    {
+        if self.size == 8 {
+            return len % 8 == 0;
+        }
+        if self.size == 4 {
+            return len % 4 == 0;
+        }
+        len % 2 == 0
     }
 
     // Whether one of the groups of a text that means this many bytes is final. If texts may not be
