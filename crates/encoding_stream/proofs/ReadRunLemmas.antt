@@ -11,7 +11,7 @@ use Rattle.data_encoding.specs.Lengths.{decoded_len, length_fault, most_bytes, u
 use Rattle.data_encoding.specs.Pieces.{CountsGroups, ReadsSound}
 use Rattle.encoding_stream.specs.declared.pieces.Kept.{Kept}
 use Rattle.encoding_stream.specs.Pieces.{at_positions, FillsGroups, Keeps}
-use Rattle.encoding_stream.specs.Reading.{has_final, IsOfWholeGroups, ReadsOn, ReadsRunTo}
+use Rattle.encoding_stream.specs.Reading.{has_final, HasOnlyWholeGroups, ReadsOn, ReadsRunTo}
 use Rattle.encoding_stream.proofs.PieceLemmas.{no-fault}
 use Rattle.encoding_stream.proofs.ReadPieceLemmas.{fills-few}
 use Rattle.encoding_stream.proofs.SizeLemmas.{bytes-some, due-most, symbols-some}
@@ -61,7 +61,7 @@ reads-run base width old fresh positions places piece bytes error ended run few 
 
 -- whole groups that mean bytes
 pub run-sound : (base : Base) → IsSpecified base → ReadsSound → (piece bytes : List ℕ)
-    (ended : Bool) → Means base piece bytes → IsOfWholeGroups base piece
+    (ended : Bool) → Means base piece bytes → HasOnlyWholeGroups base piece
     → has_final base piece ≡ ended → ReadsRunTo base piece bytes None ended
 run-sound base is law piece bytes ended means whole ends text len reads =
     let next = law base is text piece bytes len reads means whole in

@@ -15,7 +15,7 @@ use Rattle.data_encoding.specs.Pieces.{whole_bytes, HasRead}
 use Rattle.std.proofs.lemmas.List.{append-nil}
 use Rattle.encoding_stream.specs.Decoded.{JudgesText, DecodesAll, DecodesFront, DecodesJudged, result_of, EndsText}
 use Rattle.encoding_stream.specs.Judged.{fault_with_held, next_group, EndsFaulty, EndsSound, JudgesFaulty, JudgesSound}
-use Rattle.encoding_stream.specs.Reading.{has_final, whole_len, AppendsPiece, AreWholeGroups, CompletesNothing, HasNoLastBytes, HasVerdict, IsOfWholeGroups, ReadsAllGroups, ReadsOn, AppendsLast, HasLastBytes, ReadsRun, ReadsRunTo}
+use Rattle.encoding_stream.specs.Reading.{has_final, whole_len, AppendsPiece, AreWholeGroups, CompletesNothing, HasNoLastBytes, HasVerdict, HasOnlyWholeGroups, ReadsAllGroups, ReadsOn, AppendsLast, HasLastBytes, ReadsRun, ReadsRunTo}
 use Rattle.encoding_stream.specs.Pieces.{base_of_pieces, paired, at_positions, held, NoneIgnored, Keeps, FillsGroups, GoesOn, bytes_due, kept_by, most_completed, verdict_of}
 use Rattle.encoding_stream.specs.declared.pieces.BufferDecoder.{BufferDecoder}
 use Rattle.encoding_stream.specs.declared.decoder.Decoder.{Decoder}
@@ -222,8 +222,8 @@ one-over is = omega (arith, is)
 -- whole groups, also where the last one is final
 groups_and_final :
     Has (record base64_fields { concatenates = false }) (λ base.
-    IsOfWholeGroups base (codes "SGVsbG8="))
-    × Has base64_fields (λ base. IsOfWholeGroups base (codes "SGVsb") → ⊥)
+    HasOnlyWholeGroups base (codes "SGVsbG8="))
+    × Has base64_fields (λ base. HasOnlyWholeGroups base (codes "SGVsb") → ⊥)
 groups_and_final = (refl, one-over)
 
 -- padding ends a text only where texts may not be concatenated

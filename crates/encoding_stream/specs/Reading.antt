@@ -34,8 +34,8 @@ pub record AreWholeGroups (base : Base) (text : List ℕ) : Type 0 where
   pub not_final : list_any (is_final base) (groups base text) ≡ false
 
 -- The text is whole groups, of which one may be final.
-abbrev pub IsOfWholeGroups : Base → List ℕ → Type 0
-IsOfWholeGroups base text = length (kept base text) % group_symbols base.width ≡ 0
+abbrev pub HasOnlyWholeGroups : Base → List ℕ → Type 0
+HasOnlyWholeGroups base text = length (kept base text) % group_symbols base.width ≡ 0
 
 -- whether one of the groups is final
 abbrev pub has_final : Base → List ℕ → Bool

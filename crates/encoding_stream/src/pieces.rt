@@ -169,8 +169,8 @@ impl<'a> BufferDecoder<'a> {
         written + self.read_each(&piece[read..], &mut output[written..])
     }
 
-    // Completes the group of which bytes are held, if it is no long way there: reads byte by byte, up
-    // to a fault, while a byte is held.
+    // Reads byte by byte, up to a fault, while a byte is held, if the piece is long enough to
+    // complete the group of which bytes are held.
     #[inline(always)]
     fn read_held(&mut self, piece: &[u8], output: &mut [u8]) -> (usize, usize)
         requires limit { self.old.kept.len + length piece.now ≤ DECODE_LIMIT }
@@ -280,7 +280,8 @@ impl<'a> BufferDecoder<'a> {
         self.kept.fault.is_none() && len < self.size - self.kept.count
     }
 
-    // Reads bytes that complete no group.
+    // Reads bytes that complete no group. The tests of a fault and of a whole group, which `take`
+    // makes for each byte, are left out.
     fn hold_each(&mut self, piece: &[u8])
         requires limit { self.old.kept.len + length piece.now ≤ DECODE_LIMIT }
         requires sound { is_some self.old.kept.fault ≡ false }

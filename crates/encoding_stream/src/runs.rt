@@ -7,7 +7,7 @@ ghost use Rattle.data_encoding.specs.Grammar.{Means};
 ghost use Rattle.data_encoding.specs.Lengths.{decoded_len, most_bytes};
 ghost use Rattle.data_encoding.specs.Pieces.{IsOfWholeGroup};
 ghost use Rattle.encoding_stream.specs.Pieces.{base_of_pieces, bytes_due, most_completed, FillsGroups};
-ghost use Rattle.encoding_stream.specs.Reading.{has_final, whole_len, AreWholeGroups, IsOfWholeGroups, ReadsAllGroups, ReadsOn, ReadsRun};
+ghost use Rattle.encoding_stream.specs.Reading.{has_final, whole_len, AreWholeGroups, HasOnlyWholeGroups, ReadsAllGroups, ReadsOn, ReadsRun};
 
 use crate::pieces::BufferDecoder;
 use data_encoding::laws::steps::{pieces, whole_groups};
@@ -172,7 +172,7 @@ impl BufferDecoder<'_> {
     fn are_whole(&self, read: usize, written: usize) -> bool
         ensures whole { result ≡ true → (text bytes : List ℕ) → length text ≡ read
             → length bytes ≡ written → Means (base_of_pieces self.now) text bytes
-            → IsOfWholeGroups (base_of_pieces self.now) text }
+            → HasOnlyWholeGroups (base_of_pieces self.now) text }
         ensures few { result ≡ true → written ≤ most_bytes (base_of_pieces self.now) read
             → FillsGroups (base_of_pieces self.now) 0 read 0 written }
         ensures by_padding { is_padded (base_of_pieces self.now) ≡ true → result ≡ true }
@@ -211,7 +211,7 @@ impl BufferDecoder<'_> {
             → has_final (base_of_pieces self.now) text ≡ result }
         ensures goes_on { result ≡ false → (text bytes : List ℕ) → length bytes ≡ written
             → Means (base_of_pieces self.now) text bytes
-            → IsOfWholeGroups (base_of_pieces self.now) text
+            → HasOnlyWholeGroups (base_of_pieces self.now) text
             → AreWholeGroups (base_of_pieces self.now) text }
     {
         whole_groups();

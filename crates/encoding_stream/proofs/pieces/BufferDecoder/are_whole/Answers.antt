@@ -22,14 +22,16 @@ returns-then-has_whole_len-clause-whole c = λ _ text bytes same _ means.
     c.pieces.ensures.whole (base_of_pieces s) (is-specified s) text bytes means
     (inr (inr (
       sym c.ignores_bytes.ensures ∙ c.if-not-ignores_bytes.true,
-      rw (same, ← s.group) (eqb-true _ _ (sym c.has_whole_len.ensures ∙ c.if-has_whole_len.true)),
+      rw (same, ← s.group)
+      (eqb-true _ _ (sym c.has_whole_len.ensures ∙ c.if-has_whole_len.true)),
     )))
 
 pub returns-then-has_whole_len-clause-few : goal.returns-then-has_whole_len-clause-few
 returns-then-has_whole_len-clause-few c = λ _ most.
     let s = c.args.self.now in
     fills-by_length (base_of_pieces s) (is-specified s) c.whole_groups.ensures.bytes c.args.read
-    c.args.written (rw (← s.group) (eqb-true _ _ (sym c.has_whole_len.ensures ∙ c.if-has_whole_len.true)))
+    c.args.written
+    (rw (← s.group) (eqb-true _ _ (sym c.has_whole_len.ensures ∙ c.if-has_whole_len.true)))
     (symbols-some (base_of_pieces s).width s.width) most
 
 pub returns-else-is_padded-clause-whole : goal.returns-else-is_padded-clause-whole

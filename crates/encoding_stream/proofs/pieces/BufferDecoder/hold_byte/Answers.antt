@@ -1,4 +1,4 @@
-use Rattle.std.proofs.Common.{ℕ, false, is_some, All, ◌<◌, ◌≡◌, ◌+◌, ◌∙◌, arith, refl, ap, sym, subst, take, IfSome}
+use Rattle.std.proofs.Common.{ℕ, false, is_some, ◌<◌, ◌≡◌, ◌+◌, ◌∙◌, arith, refl, ap, sym, subst, take, IfSome}
 use Rattle.std.proofs.lemmas.List.Elements.{All-weaker}
 use Rattle.data_encoding.specs.declared.error.DecodeError.{DecodeError}
 use Rattle.data_encoding.specs.Base.{is_ignored}

@@ -1,5 +1,5 @@
 use Rattle.std.proofs.lemmas.List.Elements.{All-contains}
-use Rattle.std.proofs.Common.{All, set, ◌<◌, ◌≡◌, ◌+◌, ◌∙◌, arith, length, refl, ap, sym, subst, [], ◌∷◌, take, length-take-le}
+use Rattle.std.proofs.Common.{All, set, ◌<◌, ◌≡◌, ◌+◌, ◌∙◌, arith, refl, ap, sym, subst, [], ◌∷◌, take, length-take-le}
 use Rattle.data_encoding.specs.Base.{is_ignored}
 use Rattle.encoding_stream.specs.declared.pieces.BufferDecoder.{BufferDecoder}
 use Rattle.encoding_stream.specs.Reading.{ReadsOn}
