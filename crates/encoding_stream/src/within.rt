@@ -62,6 +62,9 @@ fn append_copied<A: Allocator + Copy>(
 {
     let mut buffer = [0; SHORT + MORE];
     let written = pieces.read(piece, &mut buffer);
+    if written == 0 {
+        return;
+    }
     output.extend_from_slice(&buffer[..written]).unwrap();
 }
 

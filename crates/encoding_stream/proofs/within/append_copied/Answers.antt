@@ -1,6 +1,7 @@
-use Rattle.std.proofs.Common.{◌≡◌, ◌+◌, length, take, refl, arith, length-take-le}
+use Rattle.std.proofs.Common.{◌≡◌, ◌+◌, [], length, take, refl, sym, subst, arith, length-take-le}
 use Rattle.std.proofs.lemmas.Slice.{pushed}
 use Rattle.encoding_stream.specs.Pieces.{base_of_pieces}
+use Rattle.encoding_stream.proofs.DecoderLemmas.{appends-none}
 use Rattle.encoding_stream.proofs.ReadPieceLemmas.{most-short}
 use Rattle.encoding_stream.proofs.SizeLemmas.{symbols-few}
 use Rattle.encoding_stream.proofs.within.append_copied.Goals as goal
@@ -43,3 +44,12 @@ returns-clause-appends g c =
       reads = c.read-written.ensures.reads;
       appended = pushed bytes refl c.unwrap.ensures c.extend_from_slice.ensures.items;
     }
+
+pub returns-then-written-eq0-clause-appends : goal.returns-then-written-eq0-clause-appends
+returns-then-written-eq0-clause-appends g c =
+    let read = c.read-written in
+    appends-none (base_of_pieces c.args.pieces.now) c.args.pieces.now.kept
+    read.new.self.kept c.args.piece.now (take read.result read.new.output)
+    c.args.output.now.items
+    (subst (λ n. take n read.new.output ≡ []) (sym c.if-written-eq0.true) refl)
+    read.ensures.reads

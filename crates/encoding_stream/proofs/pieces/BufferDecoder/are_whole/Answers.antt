@@ -23,7 +23,7 @@ returns-then-has_whole_len-clause-whole c = λ _ text bytes same _ means.
     (inr (inr (
       sym c.ignores_bytes.ensures ∙ c.if-not-ignores_bytes.true,
       rw (same, ← s.group)
-      (eqb-true _ _ (sym c.has_whole_len.ensures ∙ c.if-has_whole_len.true)),
+          (eqb-true _ _ (sym c.has_whole_len.ensures ∙ c.if-has_whole_len.true)),
     )))
 
 pub returns-then-has_whole_len-clause-few : goal.returns-then-has_whole_len-clause-few
