@@ -54,6 +54,8 @@ encoding_stream/src/decoder.rt:output.reserve(written + pieces.most(rest.len()))
 encoding_stream/src/decoder.rt:output.extend_from_slice(&buffer[..written]).unwrap();
 encoding_stream/src/decoder.rt:output.extend_from_slice(&bytes[..count])?;
 encoding_stream/src/decoder.rt:output.extend_from_slice(&buffer[..written]).unwrap();
+encoding_stream/src/within.rt:output.resize(start + pieces.most(piece.len()), 0).unwrap();
+encoding_stream/src/within.rt:output.extend_from_slice(&buffer[..written]).unwrap();
 data_encoding/src/decode.rt:let len = self.decode_len(input.len())?;
 data_encoding/src/decode.rt:let len = self.greatest_valid_length(rest.len());
 data_encoding/src/encode/append.rt:let len = self.encode_len(input.len());

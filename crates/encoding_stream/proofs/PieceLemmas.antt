@@ -273,3 +273,15 @@ module _ (base : Base) (kept : Kept) (is : IsKept base kept) (byte : ℕ)
           after.1 ∙ ap (λ f. whole_bytes base text ++ bytes_unless f base group) verdict,
         ))
         refl (fills-none base kept.count 1 0 (omega arith))
+
+-- what a decoder keeps
+pub is-kept : (pieces : BufferDecoder)
+    → length pieces.kept.positions ≡ 8 → length pieces.kept.bytes ≡ 8
+    → IsKept pieces.encoding.now pieces.kept
+is-kept pieces positions bytes = record {
+  specified = is-specified pieces;
+  width = pieces.width;
+  short = omega (arith, pieces.group, pieces.short);
+  positions = positions;
+  bytes = bytes;
+}

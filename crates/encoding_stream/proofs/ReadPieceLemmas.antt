@@ -1,6 +1,6 @@
 -- Lemmas on a piece of a text that is read slice by slice.
-use Rattle.std.proofs.Common.{Bool, true, false, if◌then◌else◌, ◌/◌, zero-add, Option, None, Some, is_some, ◌≡◌, ℕ, ◌+◌, ◌-◌, ◌*◌, ◌<◌, ◌≤◌, List, [], ◌∷◌, ◌++◌, length, get_or, take, drop, refl, sym, subst, ap, ◌∙◌, append_assoc, arith, length-append, length-take-le}
-use Rattle.std.proofs.lemmas.List.{append-nil, length-drop, take-append-drop, take-append-le, take_more, take_rest}
+use Rattle.std.proofs.Common.{Bool, true, false, if◌then◌else◌, ◌/◌, zero-add, Option, None, Some, is_some, ◌≡◌, ℕ, ◌+◌, ◌-◌, ◌*◌, ◌<◌, ◌≤◌, List, [], ◌∷◌, ◌++◌, length, get_or, take, drop, refl, sym, subst, ap, ◌∙◌, append_assoc, arith, length-append, length-take, length-take-le}
+use Rattle.std.proofs.lemmas.List.{append-nil, length-drop, take-append-drop, take-append-le, take-take, take_more, take_rest}
 use borrow.Rule.Slice.PartMut.{put_mid}
 use Rattle.std.proofs.Math.Seq.{take-add, take-append-add}
 use Rattle.std.proofs.Math.Nat.{add-mul, div-mul-le_self, div_self, le-div_iff_mul-le, mul-le-mul_right}
@@ -187,6 +187,21 @@ take-written written more output part fits few =
     ∙ take-append-add (take written output) (part ++ post) more
     ∙ ap (λ bs. take written output ++ bs) (take-append-le more part post few)
 
+-- what is written after a prefix of a list that is then cut off
+pub cut-written : (start more len : ℕ) (old now part items : List ℕ) → take start now ≡ old
+    → start ≤ length now → length now ≡ len
+    → length part ≡ length (take (length now - start) (drop start now)) → more ≤ length part
+    → take (start + more) (take len (put_mid start (length now - start) now part ++ items))
+    ≡ old ++ take more part
+cut-written start more len old now part items front fits whole same few =
+    let within = within-written start more now part fits same few in
+    let inside : start + more ≤ len =
+    omega (arith, few, same, fits, whole, length-left start now) in
+    take-take (start + more) len (put_mid start (length now - start) now part ++ items) inside
+    ∙ take-append-le (start + more) (put_mid start (length now - start) now part) items within
+    ∙ take-written start more now part fits few
+    ∙ ap (λ l. l ++ take more part) front
+
 -- This much of a piece was read, and the output starts with what it decodes to.
 pub record ReadsFront (base : Base) (old now : Kept) (piece output : List ℕ) (read written : ℕ)
     : Type 0 where
@@ -222,6 +237,19 @@ module _ {base : Base} {old now : Kept} {piece output : List ℕ} {read written 
       let one =
       most-grows base width now 1 (length left) (rw (length-left read piece) (omega (arith, some)))
       in omega (arith, one, rest-room room)
+
+  -- and for a slice
+  pub slice-room : IsWidth base.width → (end : ℕ) → read ≤ end → end ≤ length piece
+      → most_completed base old (length piece) ≤ length output
+      → most_completed base now (length (take (end - read) (drop read piece)))
+      ≤ length (take (length output - written) (drop written output))
+  slice-room width end next inside room =
+      let left = take (length piece - read) (drop read piece) in
+      let part =
+      most-grows base width now (length (take (end - read) (drop read piece))) (length left)
+      (rw (length-left read piece)
+      (omega (arith, length-take (end - read) (drop read piece), inside))) in
+      omega (arith, part, rest-room room)
 
   -- what follows decodes to nothing
   pub reads-after : {new : Kept}
@@ -270,6 +298,21 @@ module _ {base : Base} {old now : Kept} {piece output : List ℕ} {read written 
           rw (take-written written more output part front.fits few, take-add read count piece)
           (reads-join base old now new _ _ _ _ front.reads (rw (take_rest piece read) at other));
       begins = omega (arith, within, length-left read piece, front.begins);
+      fits = within-both;
+    }
+
+    -- up to a place
+    pub reads-up_to : {new : Kept} (end : ℕ) → read ≤ end → end ≤ length piece
+        → ReadsOn base now new (take (end - read) (drop read piece)) (take more part)
+        → ReadsFront base old new piece (put_mid written (length output - written) output part)
+        end (written + more)
+    reads-up_to {new} end next inside other = record {
+      reads =
+          rw (take-written written more output part front.fits few)
+          (subst (λ p. ReadsOn base old new p (take written output ++ take more part))
+          (sym (take-add read (end - read) piece) ∙ ap (λ n. take n piece) (omega (arith, next)))
+          (reads-join base old now new _ _ _ _ front.reads other));
+      begins = inside;
       fits = within-both;
     }
 

@@ -11,7 +11,7 @@ use Rattle.data_encoding.specs.Lengths.{decoded_len, length_fault, most_bytes, u
 use Rattle.data_encoding.specs.Pieces.{CountsGroups, ReadsSound}
 use Rattle.encoding_stream.specs.declared.pieces.Kept.{Kept}
 use Rattle.encoding_stream.specs.Pieces.{at_positions, FillsGroups, Keeps}
-use Rattle.encoding_stream.specs.Reading.{has_final, AreWholeGroups, ReadsOn, ReadsRun}
+use Rattle.encoding_stream.specs.Reading.{has_final, HasOnlyWholeGroups, ReadsOn, ReadsRunTo}
 use Rattle.encoding_stream.proofs.PieceLemmas.{no-fault}
 use Rattle.encoding_stream.proofs.ReadPieceLemmas.{fills-few}
 use Rattle.encoding_stream.proofs.SizeLemmas.{bytes-some, due-most, symbols-some}
@@ -31,7 +31,7 @@ nothing-held count positions bytes none = ap (λ n. at_positions n positions byt
 pub reads-run : (base : Base) → IsWidth base.width → (old : Kept) → IsFresh old
     → (positions places : List ℕ) (piece bytes : List ℕ) (error : Option DecodeError)
     (ended : Bool)
-    → ReadsRun base piece bytes error ended
+    → ReadsRunTo base piece bytes error ended
     → FillsGroups base 0 (length piece) 0 (length bytes)
     → ReadsOn base old
     (record old {
@@ -61,8 +61,8 @@ reads-run base width old fresh positions places piece bytes error ended run few 
 
 -- whole groups that mean bytes
 pub run-sound : (base : Base) → IsSpecified base → ReadsSound → (piece bytes : List ℕ)
-    (ended : Bool) → Means base piece bytes → AreWholeGroups base piece
-    → has_final base piece ≡ ended → ReadsRun base piece bytes None ended
+    (ended : Bool) → Means base piece bytes → HasOnlyWholeGroups base piece
+    → has_final base piece ≡ ended → ReadsRunTo base piece bytes None ended
 run-sound base is law piece bytes ended means whole ends text len reads =
     let next = law base is text piece bytes len reads means whole in
     (rw ends at next.0, next.1)

@@ -15,7 +15,7 @@ use Rattle.data_encoding.specs.Pieces.{whole_bytes, HasRead}
 use Rattle.std.proofs.lemmas.List.{append-nil}
 use Rattle.encoding_stream.specs.Decoded.{JudgesText, DecodesAll, DecodesFront, DecodesJudged, result_of, EndsText}
 use Rattle.encoding_stream.specs.Judged.{fault_with_held, next_group, EndsFaulty, EndsSound, JudgesFaulty, JudgesSound}
-use Rattle.encoding_stream.specs.Reading.{has_final, whole_len, AppendsPiece, AreWholeGroups, CompletesNothing, HasNoLastBytes, HasVerdict, ReadsAllGroups, ReadsOn, AppendsLast, HasLastBytes, ReadsRun}
+use Rattle.encoding_stream.specs.Reading.{has_final, whole_len, AppendsPiece, AreWholeGroups, CompletesNothing, HasNoLastBytes, HasVerdict, HasOnlyWholeGroups, ReadsAllGroups, ReadsOn, AppendsLast, HasLastBytes, ReadsRun, ReadsRunTo}
 use Rattle.encoding_stream.specs.Pieces.{base_of_pieces, paired, at_positions, held, NoneIgnored, Keeps, FillsGroups, GoesOn, bytes_due, kept_by, most_completed, verdict_of}
 use Rattle.encoding_stream.specs.declared.pieces.BufferDecoder.{BufferDecoder}
 use Rattle.encoding_stream.specs.declared.decoder.Decoder.{Decoder}
@@ -211,7 +211,20 @@ verdict_given verdict gives = gives _ kept_of_text.0
 whole_groups_alone :
     Has base64_fields (λ base. AreWholeGroups base (codes "SGVsbG8="))
     × Has base64_mime_fields (λ base. AreWholeGroups base (codes "SGVs" ++ 13 ∷ 10 ∷ []))
-whole_groups_alone = (refl, refl)
+whole_groups_alone = (
+  record { whole = refl; not_final = refl },
+  record { whole = refl; not_final = refl },
+)
+
+one-over : ◌≡◌ {A = ℕ} 1 0 → ⊥
+one-over is = omega (arith, is)
+
+-- whole groups, also where the last one is final
+groups_and_final :
+    Has (record base64_fields { concatenates = false }) (λ base.
+    HasOnlyWholeGroups base (codes "SGVsbG8="))
+    × Has base64_fields (λ base. HasOnlyWholeGroups base (codes "SGVsb") → ⊥)
+groups_and_final = (refl, one-over)
 
 -- padding ends a text only where texts may not be concatenated
 final_group :
@@ -703,25 +716,34 @@ piece_told new output appends =
     ∙ ap (λ bytes. codes "> " ++ bytes)
     (sym (ap (drop 3) (appends.reads.decodes _ kept_of_text.0)))
 
-one-over : ◌≡◌ {A = ℕ} 1 0 → ⊥
-one-over is = omega (arith, is)
-
 three-of-five : ◌≡◌ {A = ℕ} 5 3 → ⊥
 three-of-five is = omega (arith, is)
 
--- five bytes are no whole groups
-whole_told : Has base64_fields (λ base. AreWholeGroups base (codes "SGVsb") → ⊥)
-whole_told = one-over
+-- five bytes are no whole groups, and where texts are not concatenated, nothing follows padding
+whole_told :
+    Has base64_fields (λ base. AreWholeGroups base (codes "SGVsb") → ⊥)
+    × Has (record base64_fields { concatenates = false }) (λ base.
+    AreWholeGroups base (codes "SGVsbG8=") → ⊥)
+whole_told = (λ whole. one-over whole.whole, λ whole. never whole.not_final)
 
 first_group_read : Has base64_fields (λ base. HasRead base (codes "SGVs") 4 None [] false)
 first_group_read = record { counted = refl; first = refl; holds = λ h. refl; ends = λ h. refl }
 
 -- after `SGVs`, the groups of `bG8=` append `lo`, and eight bytes are read
 run_told :
+    Has base64_fields (λ base. (bytes : List ℕ) (fault : Option DecodeError)
+    → ReadsRun base (codes "bG8=") bytes fault
+    → HasRead base (codes "SGVsbG8=") 8 (further 4 fault) [] false × (bytes ≡ codes "lo"))
+run_told bytes fault reads =
+    let after = reads (codes "SGVs") 4 first_group_read in
+    (after.0, sym (ap (drop 3) after.1))
+
+-- the same, and one of the groups may be final
+run_to_told :
     Has base64_fields (λ base. (bytes : List ℕ) (fault : Option DecodeError) (ended : Bool)
-    → ReadsRun base (codes "bG8=") bytes fault ended
+    → ReadsRunTo base (codes "bG8=") bytes fault ended
     → HasRead base (codes "SGVsbG8=") 8 (further 4 fault) [] ended × (bytes ≡ codes "lo"))
-run_told bytes fault ended reads =
+run_to_told bytes fault ended reads =
     let after = reads (codes "SGVs") 4 first_group_read in
     (after.0, sym (ap (drop 3) after.1))
 

@@ -28,9 +28,14 @@ pub record AppendsPiece (base : Base) (old new : Kept) (piece output_old output_
   pub reads : ReadsOn base old new piece bytes
   pub appended : output_new ≡ output_old ++ bytes
 
--- The text is whole groups.
-abbrev pub AreWholeGroups : Base → List ℕ → Type 0
-AreWholeGroups base text = length (kept base text) % group_symbols base.width ≡ 0
+-- The text is whole groups, of which none is final.
+pub record AreWholeGroups (base : Base) (text : List ℕ) : Type 0 where
+  pub whole : length (kept base text) % group_symbols base.width ≡ 0
+  pub not_final : list_any (is_final base) (groups base text) ≡ false
+
+-- The text is whole groups, of which one may be final.
+abbrev pub HasOnlyWholeGroups : Base → List ℕ → Type 0
+HasOnlyWholeGroups base text = length (kept base text) % group_symbols base.width ≡ 0
 
 -- whether one of the groups is final
 abbrev pub has_final : Base → List ℕ → Bool
@@ -38,9 +43,16 @@ has_final base text = list_any (is_final base) (groups base text)
 
 -- After whole groups of which none is final or faulty, a piece of whole groups has this fault or
 -- none, with the length before it added to its position, and its groups before the fault append
--- these bytes. If it has none, this says whether one of its groups is final.
-abbrev pub ReadsRun : Base → List ℕ → List ℕ → Option DecodeError → Bool → Type 0
-ReadsRun base piece bytes fault ended =
+-- these bytes.
+abbrev pub ReadsRun : Base → List ℕ → List ℕ → Option DecodeError → Type 0
+ReadsRun base piece bytes fault =
+    (text : List ℕ) (len : ℕ) → HasRead base text len None [] false
+    → HasRead base (text ++ piece) (len + length piece) (further len fault) [] false
+    × (whole_bytes base (text ++ piece) ≡ whole_bytes base text ++ bytes)
+
+-- The same of a piece of which a group may be final: if it has no fault, this says whether one is.
+abbrev pub ReadsRunTo : Base → List ℕ → List ℕ → Option DecodeError → Bool → Type 0
+ReadsRunTo base piece bytes fault ended =
     (text : List ℕ) (len : ℕ) → HasRead base text len None [] false
     → HasRead base (text ++ piece) (len + length piece) (further len fault) [] ended
     × (whole_bytes base (text ++ piece) ≡ whole_bytes base text ++ bytes)

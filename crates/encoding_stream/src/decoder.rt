@@ -6,6 +6,7 @@ ghost use Rattle.encoding_stream.specs.Pieces.{base_of_pieces, most_completed, K
 ghost use Rattle.encoding_stream.specs.Reading.{AppendsLast, AppendsPiece, CompletesNothing, HasNoLastBytes, HasVerdict, ReadsOn};
 
 use crate::pieces::BufferDecoder;
+use crate::within::{LONG, MORE, append_within};
 use data_encoding::laws::steps;
 use data_encoding::{DECODE_LIMIT, DecodeError, Encoding};
 use std::alloc::{AllocError, Allocator};
@@ -86,6 +87,11 @@ impl<'a> Decoder<'a> {
         ensures no_group { (text : List ℕ) → StandsAfter self.old text
             → CompletesNothing (base_of_decoder self.old) text piece.now → IsOk result }
     {
+        let len = piece.len();
+        if len <= LONG && len + MORE <= output.capacity() - output.len() {
+            append_within(&mut self.pieces, piece, output);
+            return Ok(());
+        }
         let mut pieces = self.pieces;
         append_piece(&mut pieces, piece, output)?;
         self.pieces = pieces;

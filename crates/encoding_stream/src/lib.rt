@@ -17,6 +17,7 @@ mod pieces;
 mod resume;
 mod runs;
 mod watch;
+mod within;
 
 pub use blocks::BufferEncoder;
 pub use decode_reader::decode_stream;

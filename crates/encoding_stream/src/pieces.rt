@@ -1,7 +1,7 @@
 //! A text that is decoded piece by piece into buffers: what is kept of it, and how pieces are read.
 
 ghost use Rattle.std.proofs.Props.{props};
-ghost use Rattle.std.specs.Prelude.{◌≡◌, ℕ, ◌+◌, ◌<◌, ◌≤◌, ◌⊎◌, List, [], ◌∷◌, length, take, All, IfSome, IsSome};
+ghost use Rattle.std.specs.Prelude.{◌≡◌, ℕ, ◌+◌, ◌<◌, ◌≤◌, ◌⊎◌, true, false, List, [], ◌∷◌, length, take, All, is_some, IfSome, IsSome};
 ghost use Rattle.data_encoding.specs.declared.decode.TheConstants.{DECODE_LIMIT};
 ghost use Rattle.data_encoding.specs.Base.{IsWidth, group_symbols};
 ghost use Rattle.encoding_stream.specs.Specified.{IsBuiltAgain};
@@ -162,11 +162,31 @@ impl<'a> BufferDecoder<'a> {
         ensures within { result ≤ length output.new }
         ensures len { length output.new ≡ length output.old }
     {
-        let (first_read, first) = self.read_bytes(1, piece, output);
+        let (first_read, first) = self.read_held(piece, output);
         let (run_read, run) = self.read_run(&piece[first_read..], &mut output[first..]);
         let read = first_read + run_read;
         let written = first + run;
         written + self.read_each(&piece[read..], &mut output[written..])
+    }
+
+    // Reads byte by byte, up to a fault, while a byte is held, if the piece is long enough to
+    // complete the group of which bytes are held.
+    #[inline(always)]
+    fn read_held(&mut self, piece: &[u8], output: &mut [u8]) -> (usize, usize)
+        requires limit { self.old.kept.len + length piece.now ≤ DECODE_LIMIT }
+        requires room { most_completed (base_of_pieces self.old) self.old.kept
+            (length piece.now) ≤ length output.old }
+        ensures base { base_of_pieces self.new ≡ base_of_pieces self.old }
+        ensures reads { ReadsOn (base_of_pieces self.old) self.old.kept self.new.kept
+            (take result.0 piece.now) (take result.1 output.new) }
+        ensures read { result.0 ≤ length piece.now }
+        ensures within { result.1 ≤ length output.new }
+        ensures len { length output.new ≡ length output.old }
+    {
+        if self.kept.count == 0 || self.completes_none(piece.len()) {
+            return (0, 0);
+        }
+        self.read_bytes(1, piece, output)
     }
 
     // Reads byte by byte, up to a fault, while at least `least` bytes are held.
@@ -203,6 +223,10 @@ impl<'a> BufferDecoder<'a> {
         ensures within { result ≤ length output.new }
         ensures len { length output.new ≡ length output.old }
     {
+        if self.completes_none(piece.len()) {
+            self.hold_each(piece);
+            return 0;
+        }
         let (read, written) = self.read_bytes(0, piece, output);
         if read < piece.len() {
             self.pass(&piece[read..]);
@@ -246,6 +270,56 @@ impl<'a> BufferDecoder<'a> {
                 0
             }
         }
+    }
+
+    // Whether this many more bytes complete no group, and no group has a fault.
+    fn completes_none(&self, len: usize) -> bool
+        ensures sound { result ≡ true → is_some self.now.kept.fault ≡ false }
+        ensures few { result ≡ true → self.now.kept.count + len < self.now.size }
+    {
+        self.kept.fault.is_none() && len < self.size - self.kept.count
+    }
+
+    // Reads bytes that complete no group. The tests of a fault and of a whole group, which `take`
+    // makes for each byte, are left out.
+    fn hold_each(&mut self, piece: &[u8])
+        requires limit { self.old.kept.len + length piece.now ≤ DECODE_LIMIT }
+        requires sound { is_some self.old.kept.fault ≡ false }
+        requires few { self.old.kept.count + length piece.now < self.old.size }
+        ensures base { base_of_pieces self.new ≡ base_of_pieces self.old }
+        ensures reads { ReadsOn (base_of_pieces self.old) self.old.kept self.new.kept piece.now
+            [] }
+    {
+        let mut read = 0;
+        while read < piece.len() {
+            self.hold_byte(piece[read]);
+            read += 1;
+        }
+    }
+
+    // Reads a byte that completes no group, and holds it unless it is ignored.
+    fn hold_byte(&mut self, byte: u8)
+        requires limit { self.old.kept.len < DECODE_LIMIT }
+        requires sound { is_some self.old.kept.fault ≡ false }
+        requires few { self.old.kept.count + 1 < self.old.size }
+        ensures base { base_of_pieces self.new ≡ base_of_pieces self.old }
+        ensures size { self.new.size ≡ self.old.size }
+        ensures reads { ReadsOn (base_of_pieces self.old) self.old.kept self.new.kept (byte ∷ [])
+            [] }
+        ensures sound { is_some self.new.kept.fault ≡ false }
+        ensures count { self.new.kept.count ≤ self.old.kept.count + 1 }
+        ensures len { self.new.kept.len ≡ self.old.kept.len + 1 }
+    {
+        pieces();
+        let count = self.kept.count;
+        let end = self.kept.len;
+        self.kept.len = end + 1;
+        if self.encoding.interpret_byte(byte).is_ignored() {
+            return;
+        }
+        self.kept.positions[count] = end;
+        self.kept.bytes[count] = byte;
+        self.kept.count = count + 1;
     }
 
     // Counts the bytes after a fault.

@@ -1,13 +1,13 @@
 //! Whole groups of a text that is decoded piece by piece, which are decoded in place.
 
-ghost use Rattle.std.specs.Prelude.{◌≡◌, ℕ, ◌+◌, ◌≤◌, ◌<◌, ◌/◌, ◌%◌, true, false, List, length, take, IfOk, IfErr, None, Ok, Some};
+ghost use Rattle.std.specs.Prelude.{◌≡◌, ℕ, ◌+◌, ◌≤◌, ◌<◌, ◌/◌, ◌%◌, ◌==◌, true, false, List, length, take, IfOk, IfErr, None, Ok, Some};
 ghost use Rattle.data_encoding.specs.declared.decode.TheConstants.{DECODE_LIMIT};
 ghost use Rattle.data_encoding.specs.Base.{group_bytes, group_symbols, ignores_some, is_padded};
 ghost use Rattle.data_encoding.specs.Grammar.{Means};
 ghost use Rattle.data_encoding.specs.Lengths.{decoded_len, most_bytes};
 ghost use Rattle.data_encoding.specs.Pieces.{IsOfWholeGroup};
 ghost use Rattle.encoding_stream.specs.Pieces.{base_of_pieces, bytes_due, most_completed, FillsGroups};
-ghost use Rattle.encoding_stream.specs.Reading.{has_final, whole_len, AreWholeGroups, ReadsAllGroups, ReadsOn, ReadsRun};
+ghost use Rattle.encoding_stream.specs.Reading.{has_final, whole_len, AreWholeGroups, HasOnlyWholeGroups, ReadsAllGroups, ReadsOn, ReadsRun};
 
 use crate::pieces::BufferDecoder;
 use data_encoding::laws::steps::{pieces, whole_groups};
@@ -95,8 +95,12 @@ impl BufferDecoder<'_> {
     // Whether the last group of a piece that means this many bytes is known to be whole symbols. If
     // not, the bytes of the last group are left where they are kept, as byte by byte.
     fn fills_groups(&self, written: usize) -> bool {
-        written % self.encoding.group_bytes() == 0
-            || self.encoding.concatenates() && !self.encoding.ignores_bytes()
+        let is_plain = self.encoding.concatenates() && !self.encoding.ignores_bytes();
+        match self.encoding.group_bytes() {
+            5 => is_plain || written % 5 == 0,
+            3 => is_plain || written % 3 == 0,
+            _ => true,
+        }
     }
 
     // Returns the positions and the bytes of the last group of a piece that was just read. Places
@@ -137,7 +141,7 @@ impl BufferDecoder<'_> {
         ensures read { IfOk result (λ run. run.0 ≤ length text.now) }
         ensures written { IfOk result (λ run. run.1 ≤ length output.new) }
         ensures fault { IfErr result (λ partial. ReadsRun (base_of_pieces self.now) text.now
-            (take partial.written output.new) (Some partial.error) false) }
+            (take partial.written output.new) (Some partial.error)) }
         ensures position { IfErr result (λ partial. partial.error.position < length text.now) }
         ensures within { IfErr result (λ partial. partial.written ≤ length output.new) }
         ensures len { length output.new ≡ length output.old }
@@ -168,7 +172,7 @@ impl BufferDecoder<'_> {
     fn are_whole(&self, read: usize, written: usize) -> bool
         ensures whole { result ≡ true → (text bytes : List ℕ) → length text ≡ read
             → length bytes ≡ written → Means (base_of_pieces self.now) text bytes
-            → AreWholeGroups (base_of_pieces self.now) text }
+            → HasOnlyWholeGroups (base_of_pieces self.now) text }
         ensures few { result ≡ true → written ≤ most_bytes (base_of_pieces self.now) read
             → FillsGroups (base_of_pieces self.now) 0 read 0 written }
         ensures by_padding { is_padded (base_of_pieces self.now) ≡ true → result ≡ true }
@@ -179,18 +183,36 @@ impl BufferDecoder<'_> {
     {
         pieces();
         whole_groups();
-        if !self.encoding.ignores_bytes() && read % self.size == 0 {
+        if !self.encoding.ignores_bytes() && self.has_whole_len(read) {
             return true;
         }
         self.encoding.is_padded() || written % self.encoding.group_bytes() == 0
     }
 
+    // Whether this many bytes are as long as whole groups. It divides by constants, as
+    // `count_groups`.
+    fn has_whole_len(&self, len: usize) -> bool
+        ensures { result ≡ (len % self.now.size == 0) }
+    {
+        if self.size == 8 {
+            return len % 8 == 0;
+        }
+        if self.size == 4 {
+            return len % 4 == 0;
+        }
+        len % 2 == 0
+    }
+
     // Whether one of the groups of a text that means this many bytes is final. If texts may not be
     // concatenated, it is the group that does not mean a whole group of bytes.
     fn has_final(&self, written: usize) -> bool
-        ensures { (text bytes : List ℕ) → length bytes ≡ written
+        ensures ends { (text bytes : List ℕ) → length bytes ≡ written
             → Means (base_of_pieces self.now) text bytes
             → has_final (base_of_pieces self.now) text ≡ result }
+        ensures goes_on { result ≡ false → (text bytes : List ℕ) → length bytes ≡ written
+            → Means (base_of_pieces self.now) text bytes
+            → HasOnlyWholeGroups (base_of_pieces self.now) text
+            → AreWholeGroups (base_of_pieces self.now) text }
     {
         whole_groups();
         !self.encoding.concatenates() && written % self.encoding.group_bytes() != 0

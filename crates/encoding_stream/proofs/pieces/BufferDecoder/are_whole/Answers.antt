@@ -16,20 +16,22 @@ returns-then-is_padded-clause-few c = λ _ most.
     fills-by_padding (base_of_pieces c.args.self.now)
     (sym c.is_padded.ensures ∙ c.if-is_padded.true) c.args.read c.args.written most
 
-pub returns-then-read-self-eq0-clause-whole : goal.returns-then-read-self-eq0-clause-whole
-returns-then-read-self-eq0-clause-whole c = λ _ text bytes same _ means.
+pub returns-then-has_whole_len-clause-whole : goal.returns-then-has_whole_len-clause-whole
+returns-then-has_whole_len-clause-whole c = λ _ text bytes same _ means.
     let s = c.args.self.now in
     c.pieces.ensures.whole (base_of_pieces s) (is-specified s) text bytes means
     (inr (inr (
       sym c.ignores_bytes.ensures ∙ c.if-not-ignores_bytes.true,
-      rw (same, ← s.group) c.if-read-self-eq0.true,
+      rw (same, ← s.group)
+          (eqb-true _ _ (sym c.has_whole_len.ensures ∙ c.if-has_whole_len.true)),
     )))
 
-pub returns-then-read-self-eq0-clause-few : goal.returns-then-read-self-eq0-clause-few
-returns-then-read-self-eq0-clause-few c = λ _ most.
+pub returns-then-has_whole_len-clause-few : goal.returns-then-has_whole_len-clause-few
+returns-then-has_whole_len-clause-few c = λ _ most.
     let s = c.args.self.now in
     fills-by_length (base_of_pieces s) (is-specified s) c.whole_groups.ensures.bytes c.args.read
-    c.args.written (rw (← s.group) c.if-read-self-eq0.true)
+    c.args.written
+    (rw (← s.group) (eqb-true _ _ (sym c.has_whole_len.ensures ∙ c.if-has_whole_len.true)))
     (symbols-some (base_of_pieces s).width s.width) most
 
 pub returns-else-is_padded-clause-whole : goal.returns-else-is_padded-clause-whole

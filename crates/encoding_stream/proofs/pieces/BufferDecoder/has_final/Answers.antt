@@ -5,8 +5,8 @@ use Rattle.encoding_stream.specs.Pieces.{base_of_pieces}
 use Rattle.encoding_stream.proofs.PieceLemmas.{is-specified}
 use Rattle.encoding_stream.proofs.pieces.BufferDecoder.has_final.Goals as goal
 
-pub returns-then-not-concatenates : goal.returns-then-not-concatenates
-returns-then-not-concatenates c = λ text bytes same means.
+pub returns-then-not-concatenates-clause-ends : goal.returns-then-not-concatenates-clause-ends
+returns-then-not-concatenates-clause-ends c = λ text bytes same means.
     let s = c.args.self.now in
     let base = base_of_pieces s in
     c.whole_groups.ensures.ends base (is-specified s) text bytes means
@@ -15,9 +15,25 @@ returns-then-not-concatenates c = λ text bytes same means.
     ∙ ap (λ n. not (n % group_bytes base.width == 0)) same
     ∙ ap (λ n. not (c.args.written % n == 0)) (sym c.group_bytes.ensures.value)
 
-pub returns-else-not-concatenates : goal.returns-else-not-concatenates
-returns-else-not-concatenates c = λ text _ _ _.
+pub returns-else-not-concatenates-clause-ends : goal.returns-else-not-concatenates-clause-ends
+returns-else-not-concatenates-clause-ends c = λ text _ _ _.
     let base = base_of_pieces c.args.self.now in
     c.whole_groups.ensures.ends_nowhere base
     (sym c.concatenates.ensures ∙ c.if-not-concatenates.false) (groups base text)
     ∙ ap not (sym c.if-not-concatenates.false)
+
+pub returns-then-not-concatenates-clause-goes_on :
+    goal.returns-then-not-concatenates-clause-goes_on
+returns-then-not-concatenates-clause-goes_on c = λ no text bytes same means whole.
+    record {
+      whole = whole;
+      not_final = returns-then-not-concatenates-clause-ends c text bytes same means ∙ no;
+    }
+
+pub returns-else-not-concatenates-clause-goes_on :
+    goal.returns-else-not-concatenates-clause-goes_on
+returns-else-not-concatenates-clause-goes_on c = λ no text bytes same means whole.
+    record {
+      whole = whole;
+      not_final = returns-else-not-concatenates-clause-ends c text bytes same means ∙ no;
+    }

@@ -83,7 +83,7 @@ returns-then-fills_groups-clause-reads c =
       sound = search rules;
       goes_on = search rules;
     } in
-    let ends = c.has_final-self.ensures front bytes bytes-is means in
+    let ends = c.has_final-self.ensures.ends front bytes bytes-is means in
     rw (take-append-le written new (drop c.due-len.result.1 c.args.output.now)
     run.ensures.written)
     (subst (λ f. ReadsOn base old
@@ -128,7 +128,7 @@ returns-clause-reads c =
       sound = search rules;
       goes_on = search rules;
     } in
-    let ends = c.has_final-self.ensures front bytes bytes-is means in
+    let ends = c.has_final-self.ensures.ends front bytes bytes-is means in
     rw (take-append-le written new (drop c.due-len.result.1 c.args.output.now)
     run.ensures.written)
     (subst (λ f. ReadsOn base old

@@ -1,25 +1,14 @@
 use Rattle.std.proofs.lemmas.List.Elements.{All-contains}
-use Rattle.std.proofs.Common.{All, set, ◌<◌, ◌≡◌, ◌+◌, ◌∙◌, arith, length, refl, ap, sym, subst, [], ◌∷◌, take, length-take-le}
+use Rattle.std.proofs.Common.{All, set, ◌<◌, ◌≡◌, ◌+◌, ◌∙◌, arith, refl, ap, sym, subst, [], ◌∷◌, take, length-take-le}
 use Rattle.data_encoding.specs.Base.{is_ignored}
 use Rattle.encoding_stream.specs.declared.pieces.BufferDecoder.{BufferDecoder}
 use Rattle.encoding_stream.specs.Reading.{ReadsOn}
 use Rattle.encoding_stream.proofs.OrderLemmas.{inside-more}
-use Rattle.encoding_stream.proofs.PieceLemmas.{is-specified, take-faulty, take-held, take-ignored, take-sound, IsKept}
+use Rattle.encoding_stream.proofs.PieceLemmas.{is-kept, take-faulty, take-held, take-ignored, take-sound}
 use Rattle.encoding_stream.proofs.SizeLemmas.{symbols-few}
 use Rattle.encoding_stream.proofs.ReadPieceLemmas.{most-whole, reads-fault}
 use Rattle.encoding_stream.proofs.pieces.BufferDecoder.take.Goals.{then-is_some-via-then-is_some, then-is_some-via-else-is_some+then-is_ignored}
 use Rattle.encoding_stream.proofs.pieces.BufferDecoder.take.Goals as goal
-
-is-kept : (pieces : BufferDecoder)
-    → length pieces.kept.positions ≡ 8 → length pieces.kept.bytes ≡ 8
-    → IsKept pieces.encoding.now pieces.kept
-is-kept pieces positions bytes = record {
-  specified = is-specified pieces;
-  width = pieces.width;
-  short = omega (arith, pieces.group, pieces.short);
-  positions = positions;
-  bytes = bytes;
-}
 
 pub returns-then-is_some-clause-reads : goal.returns-then-is_some-clause-reads
 returns-then-is_some-clause-reads c =
