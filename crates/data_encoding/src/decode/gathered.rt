@@ -1,7 +1,7 @@
 //! Groups with ignored bytes among their symbols: the symbols of a block of the text are gathered,
 //! and decoded as one run.
 
-ghost use Rattle.std.specs.Prelude.{◌≡◌, ℕ, List, true, false, ◌+◌, ◌≤◌, length, take, drop, Ok, IfSome};
+ghost use Rattle.std.specs.Prelude.{◌≡◌, ℕ, List, true, false, ◌+◌, ◌<◌, ◌≤◌, length, take, drop, Ok, IfSome};
 ghost use Rattle.data_encoding_meaning.specs.text.Base.{Base};
 ghost use Rattle.data_encoding_meaning.specs.text.Grammar.{bytes_in, kept};
 ghost use Rattle.data_encoding_meaning.specs.text.Lengths.{decoded_len};
@@ -10,7 +10,7 @@ ghost use Rattle.data_encoding_kernel.specs.Tables.{HoldsValues, Reads};
 ghost use Rattle.data_encoding.specs.Gathered.{AreKept, EndsBefore};
 
 use crate::decode::DECODE_LIMIT;
-use crate::decode::lines::PAUSE;
+use crate::decode::lines::{PAUSE, PIECE_LEN};
 use crate::decode::next_group::Gathered;
 use crate::decode::steps::Reached;
 use crate::encoding::{EncodingRef, IGNORED};
@@ -36,10 +36,8 @@ fn is_mixed(gathered: Gathered) -> bool {
     gathered.count <= span - span / 32 && gathered.count >= span / 4
 }
 
-// Runs of fewer bytes than these, with no more ignored bytes between them, take less time in a block
-// if they are many.
-const SHORT_RUN: usize = 12;
-
+// Runs that are too short for lines, with no more ignored bytes between them, take less time in a
+// block if they are as many.
 const MANY_RUNS: usize = 8;
 
 // Whether many runs of this length may follow, each after as many ignored bytes: a byte is ignored
@@ -48,8 +46,9 @@ const MANY_RUNS: usize = 8;
 fn expects_short_runs(values: &[u8; 256], run: usize, at: Reached, input: &[u8]) -> bool
     requires limit { length input.now ≤ DECODE_LIMIT }
     requires read { at.read ≤ length input.now }
+    requires short { run < PIECE_LEN }
 {
-    if run >= SHORT_RUN || at.ignored > run {
+    if at.ignored > run {
         return false;
     }
     let step = run + at.ignored;
@@ -79,12 +78,13 @@ impl EncodingRef<'_> {
         requires exact { decoded_len self.now (length input.now) ≡ Ok (length output.old) }
         requires so_far { HasDecodedTo self.now input.now at.read at.written false output.old }
         requires front { IsIgnoredFront self.now (drop at.read input.now) at.ignored }
+        requires short { run < PIECE_LEN }
         ensures so_far { HasDecodedTo self.now input.now result.read result.written false
             output.new }
         ensures front { IsIgnoredFront self.now (drop result.read input.now) result.ignored }
         ensures further { at.read ≤ result.read }
     {
-        if !expects_short_runs(values, run, at, input) {
+        if input.len() - at.read < LEAST_LEN || !expects_short_runs(values, run, at, input) {
             return at;
         }
         self.decode_expected_groups::<L, O, G>(values, look_up, run, at, from, input, output)

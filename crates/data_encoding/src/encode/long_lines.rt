@@ -10,14 +10,13 @@ use crate::encode::ENCODE_LIMIT;
 use crate::encode::lines::write_separator;
 use crate::encoding::EncodingRef;
 use data_encoding_kernel::group_size::GroupSize;
-use data_encoding_kernel::lanes::affine_symbols::{AffineSymbols, affine_symbols_of};
+use data_encoding_kernel::lanes::affine_symbols::{
+    AffineSymbols, LONG_DATA_LEN, affine_symbols_of,
+};
 use data_encoding_kernel::lanes::encode::{
     EightByRows, EncodeEight, encode_four, encode_four_octal, encode_two,
 };
 use data_encoding_meaning::encoding::BitOrder;
-
-// From this many bytes on, symbols of six bits are looked for as sums.
-const LONG: usize = 192;
 
 impl EncodingRef<'_> {
     // By the symbols as sums if the data is long and they have that form.
@@ -31,7 +30,7 @@ impl EncodingRef<'_> {
         ensures { output.new ≡ text_of self.now input.now }
     {
         let symbols = &self.fields.symbols;
-        if G::WIDTH == 6 && input.len() >= LONG {
+        if G::WIDTH == 6 && input.len() >= LONG_DATA_LEN {
             if let Some(affine) = affine_symbols_of(symbols) {
                 self.encode_long_lines_by_sums::<G>(symbols, &affine, input, output);
                 return;
