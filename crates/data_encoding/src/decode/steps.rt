@@ -88,8 +88,8 @@ impl EncodingRef<'_> {
                 Step::Ended => return true,
                 Step::Faulty => return false,
             }
-            // A group of symbols only is no run of its own if bytes are ignored among them. If these
-            // are many, the next group is not far faster in a block either.
+            // A group of symbols only is no run of its own if bytes are ignored among them. If
+            // these are many, the next group is not far faster in a block either.
             gathers = stop.written == at.written + G::BYTES;
             gathers &= (stop.read - at.read) / 4 <= G::SYMBOLS;
         }

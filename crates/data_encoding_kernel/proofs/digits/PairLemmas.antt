@@ -206,7 +206,8 @@ pairs-are bytes pair masks downs ups kept long below two fit is =
     ∙ bytes-of-lanes 2 65536 16 refl pair (range_with_len 0 8) refl two fit
 
 -- the groups of the first sixteen bytes
-module _ (input : List ℕ) (long : 16 ≤ length input) (small : (k : ℕ) → get_or input k 0 < 256) where
+module _ (input : List ℕ) (long : 16 ≤ length input)
+    (small : (k : ℕ) → get_or input k 0 < 256) where
   abbrev pub byte : ℕ → ℕ
   byte k = get_or (take 16 input) k 0
 

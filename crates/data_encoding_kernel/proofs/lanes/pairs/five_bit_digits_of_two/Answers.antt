@@ -33,6 +33,7 @@ returns c =
     let second = of 1 (omega arith) in
     ap (λ l. digits_l 256 16 (number_l 65536 l)) c.split_pairs.ensures
     ∙ pairs-are (map (byte input long small) places) pair masks downs ups (replicate 8 7936) refl
-    (bytes-below input long small places few) (λ k. refl) (λ k. five-fits (group_word MostSignificantFirst 5 input (k / 4)) (2 * (k % 4)))
+    (bytes-below input long small places few) (λ k. refl)
+    (λ k. five-fits (group_word MostSignificantFirst 5 input (k / 4)) (2 * (k % 4)))
     (λ i. first.0 i ∷ first.1 i ∷ first.2 i ∷ first.3 i ∷ second.0 i ∷ second.1 i ∷ second.2 i
     ∷ second.3 i ∷ [])

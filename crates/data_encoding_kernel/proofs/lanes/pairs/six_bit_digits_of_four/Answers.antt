@@ -36,6 +36,7 @@ returns c =
     let fourth = of 3 (omega arith) in
     ap (λ l. digits_l 256 16 (number_l 65536 l)) c.split_pairs.ensures
     ∙ pairs-are (map (byte input long small) places) pair masks downs ups (replicate 8 16128) refl
-    (bytes-below input long small places few) (λ k. refl) (λ k. six-fits (group_word MostSignificantFirst 3 input (k / 2)) (2 * (k % 2)))
+    (bytes-below input long small places few) (λ k. refl)
+    (λ k. six-fits (group_word MostSignificantFirst 3 input (k / 2)) (2 * (k % 2)))
     (λ i. first.0 i ∷ first.1 i ∷ second.0 i ∷ second.1 i ∷ third.0 i ∷ third.1 i ∷ fourth.0 i
     ∷ fourth.1 i ∷ [])

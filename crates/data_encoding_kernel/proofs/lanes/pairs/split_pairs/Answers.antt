@@ -8,4 +8,5 @@ overflow_cast-result c = halves-fit 8 _ _
 pub returns : goal.returns
 returns c =
     let by = c.args.by.now in
-    split-are by.masks by.downs by.ups by.kept c.args.lanes c.fits-lanes.0 (omega arith) (omega arith)
+    split-are by.masks by.downs by.ups by.kept c.args.lanes c.fits-lanes.0 (omega arith)
+    (omega arith)
