@@ -6,22 +6,16 @@ ghost use Rattle.encoding_stream.specs.Pieces.{base_of_pieces, most_completed, K
 ghost use Rattle.encoding_stream.specs.Reading.{AppendsLast, AppendsPiece, CompletesNothing, HasNoLastBytes, HasVerdict, ReadsOn};
 
 use crate::pieces::BufferDecoder;
-use crate::within::{LONG, MORE, append_within};
+use crate::within::{CHUNK, LONG, MORE, SHORT, append_within};
 use data_encoding::laws::steps;
 use data_encoding::{DECODE_LIMIT, DecodeError, Encoding};
 use std::alloc::{AllocError, Allocator};
 
-// The number of bytes of a piece that are read at a time.
-const CHUNK: usize = 1024;
+// The room for what a part of a long piece decodes to.
+const ROOM: usize = CHUNK + MORE;
 
-// The room for what they decode to.
-const ROOM: usize = CHUNK + 8;
-
-// The most bytes of a short piece, for which less memory is filled with zeros.
-const SHORT: usize = 64;
-
-// The room for what they decode to.
-const SHORT_ROOM: usize = SHORT + 8;
+// The room for what a short piece decodes to.
+const SHORT_ROOM: usize = SHORT + MORE;
 
 /// Decodes a text that comes in pieces, cut anywhere.
 ///

@@ -14,15 +14,16 @@ use std::alloc::Allocator;
 /// filled with are still in the cache when they are written over.
 pub(crate) const LONG: usize = 8192;
 
-/// How many more bytes than a piece has may be decoded for it, and a few more.
+/// At most seven bytes more than a piece has are decoded for it; one is spare.
 pub(crate) const MORE: usize = 8;
 
-// The number of bytes of a piece that are read at a time.
-const CHUNK: usize = 1024;
+/// The number of bytes of a piece that are read at a time, with and without room, so that the same
+/// is kept after it.
+pub(crate) const CHUNK: usize = 1024;
 
-// The most bytes of a short piece: what it decodes to is copied, which takes less time than to
-// enlarge the output and to cut it off again.
-const SHORT: usize = 64;
+/// The most bytes of a short piece, which is read at once to a small buffer. To enlarge the output
+/// and to cut it off again would take more time than to copy what is decoded.
+pub(crate) const SHORT: usize = 64;
 
 /// Reads a piece, and appends the bytes of the groups that are then whole, for which the output has
 /// room.

@@ -1,8 +1,9 @@
-//! What a decoder keeps after a piece that ends in padding, also the bytes that it no longer holds.
+//! What a decoder keeps after a piece that ends in padding, also the bytes that it no longer holds,
+//! and after longer pieces, whether the output has room for them or not.
 
 use super::rows::{bytes_of, row_of};
 use data_encoding::{DECODE_LIMIT, Encoding};
-use encoding_stream::BufferDecoder;
+use encoding_stream::{BufferDecoder, Decoder};
 use std::alloc::Global;
 use std::test::Fail;
 
@@ -48,6 +49,53 @@ fn pieces_that_end_in_padding_leave_their_last_group(rt: HostRuntime) -> Result<
         let encoding = row.specification.encoding()?;
         let text = bytes_of(rt.alloc(), row.want)?;
         assert!(rt; is_kept_alike(rt.alloc(), &encoding, &text)?, "{line}");
+    }
+    Ok(())
+}
+
+// The lengths of longer pieces, around those that a decoder reads at a time.
+const LENGTHS: [usize; 7] = [65, 100, 1023, 1024, 1025, 2000, 3000];
+
+// What a decoder prints after each piece of this length. The output has room for each piece or, if
+// it is exchanged each time, for none.
+fn printed(
+    alloc: Global,
+    encoding: &Encoding,
+    text: &[u8],
+    len: usize,
+    has_room: bool,
+) -> Result<String, Fail> {
+    let mut decoder = Decoder::new(encoding);
+    let mut output = Vec::with_capacity(alloc, 8192)?;
+    let mut lines = String::new(alloc);
+    for piece in text.chunks(len.max(1)) {
+        if piece.len() > DECODE_LIMIT || decoder.len() > DECODE_LIMIT - piece.len() {
+            return Ok(lines);
+        }
+        if !has_room {
+            output = Vec::new(alloc);
+        }
+        decoder.push(piece, &mut output)?;
+        lines.push_str(format!(in alloc; "{decoder:?}\n")?.as_str())?;
+    }
+    Ok(lines)
+}
+
+#[test]
+fn pieces_leave_the_same_with_and_without_room(rt: HostRuntime) -> Result<(), Fail> {
+    for line in ROWS.split('\n') {
+        let row = row_of(rt.alloc(), line)?;
+        let encoding = row.specification.encoding()?;
+        let part = bytes_of(rt.alloc(), row.want)?;
+        let mut text = Vec::new(rt.alloc());
+        for _ in 0..300 {
+            text.extend_from_slice(&part)?;
+        }
+        for len in LENGTHS {
+            let one = printed(rt.alloc(), &encoding, &text, len, true)?;
+            let other = printed(rt.alloc(), &encoding, &text, len, false)?;
+            assert!(rt; one == other, "{line} {len}");
+        }
     }
     Ok(())
 }

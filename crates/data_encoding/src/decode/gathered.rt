@@ -90,9 +90,9 @@ impl EncodingRef<'_> {
         self.decode_expected_groups::<L, O, G>(values, look_up, run, at, from, input, output)
     }
 
-    /// Goes on by blocks after groups with ignored bytes and a run of this length, if a block may
-    /// be worth it. Blocks are tried from a position on, which is put further after each try, so
-    /// that those without a group cost a small part of a text at most.
+    /// Goes on by blocks after a group with ignored bytes, or after a run of this length, if a
+    /// block may be worth it. Blocks are tried from a position on, which is put further after each
+    /// try, so that those without a group cost a small part of a text at most.
     #[inline(always)]
     pub(crate) fn decode_expected_groups<L: LookUp, O: ConstantOrder, G: GroupSize>(
         &self,

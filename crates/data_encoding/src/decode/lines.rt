@@ -30,7 +30,8 @@ const LONGEST_LINE: usize = 256;
 // Blocks are tried only if this many lines seem to follow.
 const LINES_AHEAD: usize = 3;
 
-/// How many bytes are read after a block that decoded nothing, before another one is tried.
+/// How many bytes are read after blocks were tried, before another one is; after lines, only if
+/// there were fewer than two.
 pub(crate) const PAUSE: usize = 1024;
 
 impl EncodingRef<'_> {

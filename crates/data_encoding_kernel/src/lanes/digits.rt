@@ -269,8 +269,8 @@ pub fn digits<G: GroupSize>(order: BitOrder, input: &[u8]) -> u8x64
 
 /// Returns the digits of the first four groups of six bits a digit, one after another, repeatedly.
 /// Four bytes after them are loaded too.
-// As wide as for eight groups, so that the same steps serve both; the compiler drops lanes that are
-// not used.
+// As wide as for eight groups, so that the steps after this one serve both; the compiler drops
+// lanes that are not used.
 #[inline(always)]
 pub fn digits_of_four(order: BitOrder, input: &[u8]) -> u8x64
     requires { 16 ≤ length input.now }
